@@ -1,0 +1,4 @@
+pub mod MemoryTypes
+pub mod Memory
+pub mod MemoryMap
+pub mod Runs
