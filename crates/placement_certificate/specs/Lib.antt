@@ -1,0 +1,3 @@
+pub mod Placement
+pub mod Certificates
+pub mod Laws
