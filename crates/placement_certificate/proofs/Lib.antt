@@ -6,3 +6,6 @@ pub mod Places
 pub mod OneCertificate
 pub mod MapDecides
 pub mod BestBounds
+pub mod Tries
+pub mod Decided
+pub mod Samples

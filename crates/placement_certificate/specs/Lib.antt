@@ -1,3 +1,4 @@
 pub mod Placement
 pub mod Certificates
 pub mod Laws
+pub mod Search
