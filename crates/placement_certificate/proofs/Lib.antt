@@ -9,3 +9,5 @@ pub mod BestBounds
 pub mod Tries
 pub mod Decided
 pub mod Samples
+pub mod PlainMaps
+pub mod PlainPrices
