@@ -1,4 +1,6 @@
 //! The verbs of a trace.
+ghost use Rattle.std.specs.Prelude.{◌≡◌};
+ghost use Rattle.boot_trace.specs.Verbs.{name_of, verb_named};
 
 /// A verb.
 #[derive(Clone, Copy, Debug, PartialEq, Eq)]
@@ -7,29 +9,26 @@ pub enum Verb {
     List,
 }
 
-/// How a verb is written: its name, and how many words follow it.
-#[derive(Clone, Copy, Debug)]
-pub struct Row {
-    pub verb: Verb,
-    pub name: &'static str,
-    pub words: usize,
+/// All verbs.
+const VERBS: [Verb; 2] = [Verb::Pages, Verb::List];
+
+impl Verb {
+    /// How the verb is written.
+    pub fn name(self) -> &'static str
+        ensures { result.now ≡ name_of self }
+    {
+        match self {
+            Verb::Pages => "pages",
+            Verb::List => "list",
+        }
+    }
 }
 
-/// The verbs that there are.
-pub const VERBS: [Row; 2] = [
-    Row {
-        verb: Verb::Pages,
-        name: "pages",
-        words: 4,
-    },
-    Row {
-        verb: Verb::List,
-        name: "list",
-        words: 0,
-    },
-];
-
-/// The row of a name.
-pub fn row_named(name: &[u8]) -> Option<Row> {
-    VERBS.into_iter().find(|row| row.name.as_bytes() == name)
+/// The verb that is written so.
+pub fn verb_named(name: &[u8]) -> Option<Verb>
+    ensures { result ≡ verb_named name.now }
+{
+    VERBS
+        .into_iter()
+        .find(|verb| verb.name().as_bytes() == name)
 }

@@ -29,7 +29,7 @@ loop-byte-preserved c =
     let e : c.in_ok-number.number ≡ c.loop-byte.number * c.args.base + c.in_ok-digit.digit = omega arith in
     record {
       small = omega arith;
-      same = rw e (sym (digit-at _ _ _ _ c.loop-byte-test.true c.in_ok-digit.digit (sym c.digit_of.ensures ∙ c.in_ok-digit.was)) ∙ c.loop-byte.invariant.same)
+      same = rw e (sym (digit-at _ _ _ _ c.loop-byte-test.true c.in_ok-digit.digit (sym c.digit_of.ensures ∙ c.in_ok-digit.was)) ∙ c.loop-byte.invariant.same);
     }
 
 pub returns : goal.returns
