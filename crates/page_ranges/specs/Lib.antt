@@ -2,3 +2,4 @@ pub mod MemoryTypes
 pub mod Memory
 pub mod MemoryMap
 pub mod Runs
+pub mod Laws

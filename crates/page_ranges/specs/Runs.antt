@@ -1,12 +1,11 @@
 -- Runs: pages in a row of one type, one set of attributes and one owner. A list of them stands for a memory.
-use Rattle.std.specs.Prelude.{◌≡◌, ℕ, ◌+◌, ◌≤◌, ◌<◌, Bool, true, false, ◌&&◌, ◌==◌, List, [], ◌∷◌, flat_map, Some, if◌then◌else◌}
+use Rattle.std.specs.Prelude.{◌≡◌, ℕ, ◌+◌, ◌≤◌, ◌<◌, Bool, true, false, ◌&&◌, ◌==◌, List, [], ◌∷◌, flat_map, if◌then◌else◌}
 use Rattle.std.specs.List.{AllByRecursion}
 use Rattle.page_ranges.specs.declared.ranges.Owner.{Owner}
 use Rattle.page_ranges.specs.declared.ranges.Owner.TheVariants.{Given, Pages, Pool}
-use Rattle.page_ranges.specs.declared.ranges.PageRange.{PageRange}
 use Rattle.page_ranges.specs.declared.ranges.Run.{Run}
 use Rattle.page_ranges.specs.MemoryTypes.{is_machine_type}
-use Rattle.page_ranges.specs.Memory.{Page, page_at, row, IsProperMemory}
+use Rattle.page_ranges.specs.Memory.{Page, row, IsProperMemory}
 
 -- the page with a number, as one of a run
 abbrev pub page_in : ℕ → Run → Page

@@ -1,0 +1,11 @@
+pub mod Lookups
+pub mod Members
+pub mod Attributes
+pub mod Retyped
+pub mod Blocks
+pub mod Rows
+pub mod Maps
+pub mod RunLists
+pub mod MaximalRuns
+pub mod RunMaps
+pub mod Samples
