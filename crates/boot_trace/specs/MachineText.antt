@@ -7,6 +7,8 @@ use Rattle.serde_json.specs.Read.{read}
 use Rattle.serde_json.specs.Find.{get, as_array, as_number, as_str, as_u64}
 use Rattle.page_ranges.specs.declared.ranges.Owner.TheVariants.{Given}
 use Rattle.page_ranges.specs.declared.ranges.Run.{Run}
+use Rattle.page_ranges.specs.Memory.{Page}
+use Rattle.page_ranges.specs.Runs.{pages_of}
 use Rattle.page_ranges.specs.MemoryTypes.{page_size, page_count, conventional, has_runtime, is_machine_type}
 use Rattle.boot_trace.specs.declared.faults.MachineFault.{MachineFault}
 use Rattle.boot_trace.specs.declared.faults.MachineFault.TheVariants as fault
@@ -107,6 +109,32 @@ unfoldable pub file_runs : List ℕ → Result (List Run) MachineFault
 file_runs bytes = if nat_lt longest_file (length bytes) then Err fault.TooLong else (do
   root ← or_fault fault.NotJson (json_of bytes)
   root_runs root)
+
+-- ---- the machine
+
+-- the runs have a page in common
+abbrev pub shares_page : Run → Run → Bool
+shares_page r s = nat_lt r.range.first (s.range.first + s.range.pages) && nat_lt s.range.first (r.range.first + r.range.pages)
+
+-- some run has a page in common with more than one of the list, itself among them
+abbrev pub overlap : List Run → Bool
+overlap runs = list_any (λ r. nat_lt 1 (count_by (shares_page r) runs)) runs
+
+-- runs by ascending page, and one more of them
+abbrev pub with_run : Run → List Run → List Run
+with_run r [] = r ∷ []
+with_run r (s ∷ runs) = if nat_le r.range.first s.range.first then r ∷ s ∷ runs else s ∷ with_run r runs
+
+-- the runs by ascending page
+abbrev pub in_order : List Run → List Run
+in_order [] = []
+in_order (r ∷ runs) = with_run r (in_order runs)
+
+-- the memory that a file's descriptors make, whatever their order
+unfoldable pub machine_of : List ℕ → Result (List Page) MachineFault
+machine_of bytes = do
+  runs ← file_runs bytes
+  if overlap runs then Err fault.Overlap else Ok (pages_of (in_order runs))
 
 -- What a function returned, seen by view, is what the definition reads, unless memory ran out.
 abbrev pub Gives : {X Y : Type 0} → (X → Y) → Result X MachineFault → Result Y MachineFault → Type 0
