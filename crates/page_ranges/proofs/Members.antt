@@ -1,5 +1,5 @@
 -- Members of a list.
-use Rattle.std.proofs.Common.{◌≡◌, ◌⊎◌, zero, suc, List, [], ◌∷◌, ◌++◌, Contains, inl, inr, refl, subst, arith}
+use Rattle.std.proofs.Common.{◌≡◌, ◌⊎◌, ℕ, zero, suc, ◌<◌, List, [], ◌∷◌, ◌++◌, Contains, inl, inr, refl, sym, subst, arith}
 use Rattle.std.specs.List.{AllByRecursion}
 
 pub member_first : {X : Type 0} (x : X) (xs : List X) → Contains (x ∷ xs) x
@@ -35,3 +35,11 @@ all_append_left P (x ∷ xs) ys a = (a.0, all_append_left P xs ys a.1)
 pub all_append_right : {X : Type 0} (P : X → Type 0) (xs ys : List X) → AllByRecursion P (xs ++ ys) → AllByRecursion P ys
 all_append_right P [] ys a = a
 all_append_right P (x ∷ xs) ys a = all_append_right P xs ys a.1
+
+pub member_left : {X : Type 0} (xs ys : List X) (x : X) → Contains xs x → Contains (xs ++ ys) x
+member_left [] ys x h = absurd (member_none x h)
+member_left (y ∷ xs) ys x h = elim (member_cases y xs x h) [ inl e ↦ subst (λ z. Contains (z ∷ (xs ++ ys)) x) (sym e) (member_first x (xs ++ ys)) | inr t ↦ member_later y (xs ++ ys) x (member_left xs ys x t) ]
+
+pub member_right : {X : Type 0} (xs ys : List X) (x : X) → Contains ys x → Contains (xs ++ ys) x
+member_right [] ys x h = h
+member_right (y ∷ xs) ys x h = member_later y (xs ++ ys) x (member_right xs ys x h)

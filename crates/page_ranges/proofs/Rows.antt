@@ -1,7 +1,7 @@
 -- Pages in a row.
-use Rattle.std.proofs.Common.{◌≡◌, ℕ, zero, suc, ◌+◌, ◌-◌, ◌<◌, ◌≤◌, Bool, cond, ◌&&◌, eqb, List, [], ◌∷◌, ◌++◌, map, length, zero-add, add-zero, Some, inl, inr, refl, sym, ap, ap₂, subst, ◌∙◌, arith}
+use Rattle.std.proofs.Common.{◌≡◌, ℕ, zero, suc, ◌+◌, ◌-◌, ◌<◌, ◌≤◌, Bool, true, cond, ◌&&◌, eqb, List, [], ◌∷◌, ◌++◌, map, length, zero-add, add-zero, Some, inl, inr, refl, sym, ap, ap₂, subst, ◌∙◌, arith}
 use Rattle.std.specs.List.{AllByRecursion}
-use Rattle.std.proofs.lemmas.Bool.{cases_eq, cases_Bool, eq-eqb, cond-true, cond-false}
+use Rattle.std.proofs.lemmas.Bool.{and_parts, eqb-true, cases_eq, cases_Bool, eq-eqb, cond-true, cond-false}
 use Rattle.page_ranges.specs.declared.ranges.Descriptor.{Descriptor}
 use Rattle.page_ranges.specs.Memory.{Page, page_at, row, IsAscending}
 use Rattle.page_ranges.specs.MemoryMap.{with_page_below, memory_map}
@@ -86,6 +86,9 @@ block_from n x = record { mtype = x.mtype; first = x.number; pages = n; attribut
 -- the row ends where the block begins, and is like it
 abbrev pub row_goes_on_in : ℕ → Page → Descriptor → Bool
 row_goes_on_in n x b = eqb (x.number + n) b.first && eqb x.mtype b.mtype && eqb x.attributes b.attributes
+
+pub row_goes_on_first : (n : ℕ) (x : Page) (b : Descriptor) → row_goes_on_in n x b ≡ true → x.number + n ≡ b.first
+row_goes_on_first n x b t = eqb-true (x.number + n) b.first (and_parts (eqb (x.number + n) b.first) (eqb x.mtype b.mtype) (and_parts (eqb (x.number + n) b.first && eqb x.mtype b.mtype) (eqb x.attributes b.attributes) t).0).0
 
 -- the blocks of a row and of the pages above it, which make these blocks
 abbrev pub with_row_below : ℕ → Page → List Descriptor → List Descriptor

@@ -130,6 +130,19 @@ retyped-cut range t o r a b c e low in_low in_high high =
     ∙ retyped-append range t o (pages_of_run (part r.range.first a r) ++ pages_of_run (part (r.range.first + a) b r)) (pages_of_run (part (r.range.first + a + b) c r))
     ∙ ap₂ ◌++◌ (retyped-append range t o (pages_of_run (part r.range.first a r)) (pages_of_run (part (r.range.first + a) b r)) ∙ ap₂ ◌++◌ below inside) above
 
+-- the same by where the parts end
+pub retyped-cut_at : (range : PageRange) (t : ℕ) (o : Owner) (r : Run) (low high end : ℕ) → r.range.first ≤ low → low ≤ high → high ≤ end → end ≡ r.range.first + r.range.pages →
+    (r.range.first < low → low ≤ range.first) → (low < high → range.first ≤ low) → (low < high → high ≤ range.first + range.pages) → (high < end → range.first + range.pages ≤ high) →
+    retyped range t o (pages_of_run r) ≡ pages_of_run (part r.range.first (low - r.range.first) r) ++ pages_of_run (retyped_run t o (part low (high - low) r)) ++ pages_of_run (part high (end - high) r)
+retyped-cut_at range t o r low high end f g h e below in_low in_high above =
+    let a : ℕ = low - r.range.first in
+    let b : ℕ = high - low in
+    let c : ℕ = end - high in
+    let mid : r.range.first + a ≡ low = omega arith in
+    let top : r.range.first + a + b ≡ high = omega arith in
+    retyped-cut range t o r a b c (omega arith) (λ x. omega (arith, below (omega arith))) (λ x. omega (arith, in_low (omega arith))) (λ x. omega (arith, in_high (omega arith))) (λ x. omega (arith, above (omega arith)))
+    ∙ ap₂ (λ (u v : ℕ). pages_of_run (part r.range.first a r) ++ pages_of_run (retyped_run t o (part u b r)) ++ pages_of_run (part v c r)) mid top
+
 -- ---- runs of a proper memory
 
 -- A run of a proper memory: it ends where page numbers end, at most, and a conventional one is the machine's own and lacks RUNTIME.

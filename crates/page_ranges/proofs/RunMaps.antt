@@ -1,11 +1,12 @@
 -- The map of the memory that runs stand for.
 use Rattle.std.proofs.Common.{◌≡◌, ℕ, zero, suc, ◌+◌, ◌<◌, ◌≤◌, Bool, true, false, cond, ◌&&◌, eqb, List, [], ◌∷◌, length, get_or, drop, inl, inr, refl, ap, ◌∙◌, arith}
+use Rattle.std.specs.List.{AllByRecursion}
 use Rattle.std.proofs.lemmas.Bool.{cases_Bool, cond-true, cond-false}
 use Rattle.page_ranges.specs.declared.ranges.Descriptor.{Descriptor}
 use Rattle.page_ranges.specs.declared.ranges.Run.{Run}
 use Rattle.page_ranges.specs.MemoryMap.{memory_map}
 use Rattle.page_ranges.specs.Runs.{page_in, pages_of, AreRuns}
-use Rattle.page_ranges.proofs.Rows.{block_from, row_goes_on_in, with_row_below, memory_map-row}
+use Rattle.page_ranges.proofs.Rows.{block_from, row_goes_on_in, row_goes_on_first, with_row_below, memory_map-row}
 
 -- the second run begins where the first ends, with its type and attributes, whoever owns the two
 abbrev pub runs_join : Run → Run → Bool
@@ -98,3 +99,17 @@ pub entries_at_most : (rs : List Run) → AreRuns rs → length (memory_map (pag
 entries_at_most [] a = omega arith
 entries_at_most (r ∷ []) a = omega (arith, length_of_last r a.0)
 entries_at_most (r ∷ s ∷ rs) a = omega (arith, length_of_runs r s rs a.0 a.2.0, one_at_most (runs_join r s), entries_at_most (s ∷ rs) a.2)
+
+-- where all runs end by a number, all entries do
+row_ends_by : (r : Run) (bs : List Descriptor) (n : ℕ) → r.range.first + r.range.pages ≤ n → AllByRecursion (λ b. b.first + b.pages ≤ n) bs → AllByRecursion (λ b. b.first + b.pages ≤ n) (with_row_below r.range.pages (page_in r.range.first r) bs)
+row_ends_by r [] n h a = (h, tt)
+row_ends_by r (b ∷ bs) n h a = elim (cases_Bool (row_goes_on_in r.range.pages (page_in r.range.first r) b)) [
+  | inl t ↦
+      let first = row_goes_on_first r.range.pages (page_in r.range.first r) b t in
+      rw t (omega (arith, first, a.0), a.1)
+  | inr f ↦ rw f (h, a)
+]
+
+pub entries_end_by : (rs : List Run) (n : ℕ) → AreRuns rs → AllByRecursion (λ s. s.range.first + s.range.pages ≤ n) rs → AllByRecursion (λ b. b.first + b.pages ≤ n) (memory_map (pages_of rs))
+entries_end_by [] n a e = tt
+entries_end_by (r ∷ rs) n a e = rw (map_of_runs r rs a.0) (row_ends_by r (memory_map (pages_of rs)) n e.0 (entries_end_by rs n a.2 e.1))

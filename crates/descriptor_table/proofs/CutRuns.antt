@@ -1,0 +1,50 @@
+-- A run that a range cuts in up to three parts, of which the one inside gets a type and an owner.
+use Rattle.std.proofs.Common.{◌≡◌, ℕ, ◌+◌, ◌-◌, ◌<◌, ◌≤◌, List, [], ◌∷◌, ◌++◌, length, get_or, take, sym, ap, ap₂, ◌∙◌, append_assoc, append-nil, arith}
+use Rattle.std.proofs.lemmas.List.{take_more}
+use Rattle.page_ranges.specs.declared.ranges.Owner.{Owner}
+use Rattle.page_ranges.specs.declared.ranges.PageRange.{PageRange}
+use Rattle.page_ranges.specs.declared.ranges.Run.{Run}
+use Rattle.page_ranges.specs.Memory.{Page, row, retyped}
+use Rattle.page_ranges.specs.Runs.{page_in, pages_of, AreRuns}
+use Rattle.page_ranges.proofs.Retyped.{retyped-append}
+use Rattle.page_ranges.proofs.RunLists.{pages_of_run, retyped_run, retyped-cut, pages_of-append, pages_of-last, ends_before, EndBy-higher}
+use Rattle.descriptor_table.specs.Tables.{AreMaximalUpTo}
+
+pub row_none : (ms : List Page) (n : ℕ) (x : Page) → n ≡ 0 → ms ≡ ms ++ row n x
+unfolding row
+row_none ms n x e = sym (append-nil ms) ∙ ap (λ k. ms ++ row k x) (sym e)
+
+module _ (range : PageRange) (t : ℕ) (o : Owner) where
+  -- the three parts, by the pages between which the range lies in the run
+  pub three_parts : (r : Run) (low high : ℕ) → r.range.first ≤ low → low ≤ high → high ≤ r.range.first + r.range.pages
+      → (r.range.first < low → low ≤ range.first) → (low < high → (range.first ≤ low) × (high ≤ range.first + range.pages)) → (high < r.range.first + r.range.pages → range.first + range.pages ≤ high)
+      → retyped range t o (pages_of_run r) ≡ row (low - r.range.first) (page_in r.range.first r) ++ row (high - low) (page_in low (retyped_run t o r)) ++ row (r.range.first + r.range.pages - high) (page_in high r)
+  three_parts r low high a b c under inside over =
+      let p : r.range.first + (low - r.range.first) ≡ low = omega arith in
+      let q : r.range.first + (low - r.range.first) + (high - low) ≡ high = omega arith in
+      retyped-cut range t o r (low - r.range.first) (high - low) (r.range.first + r.range.pages - high) (omega arith)
+      (λ h. omega (arith, under (omega arith))) (λ h. omega (arith, (inside (omega arith)).0)) (λ h. omega (arith, (inside (omega arith)).1)) (λ h. omega (arith, over (omega arith)))
+      ∙ ap₂ (λ k l. row (low - r.range.first) (page_in r.range.first r) ++ row (high - low) (page_in k (retyped_run t o r)) ++ row (r.range.first + r.range.pages - high) (page_in l r)) p q
+
+  -- the pages of one more run, behind those of the runs before it
+  pub one_more : (rs : List Run) (i : ℕ) (r : Run) → i < length rs → r ≡ get_or rs i r → (ms a b c : List Page) → ms ≡ retyped range t o (pages_of (take i rs)) → retyped range t o (pages_of_run r) ≡ a ++ b ++ c
+      → ms ++ a ++ b ++ c ≡ retyped range t o (pages_of (take (i + 1) rs))
+  one_more rs i r h e ms a b c before parts =
+      let more = ap pages_of (take_more rs i r h) ∙ pages_of-last (take i rs) (get_or rs i r) in
+      ap (λ ys. ys ++ c) (append_assoc ms a b) ∙ append_assoc ms (a ++ b) c
+      ∙ ap₂ ◌++◌ before (sym parts) ∙ ap (λ s. retyped range t o (pages_of (take i rs)) ++ retyped range t o (pages_of_run s)) e
+      ∙ sym (ap (retyped range t o) more ∙ retyped-append range t o (pages_of (take i rs)) (pages_of_run (get_or rs i r)))
+
+-- three lists put behind a list, one after another
+pub put_behind : (p0 p1 p2 p3 a b b' c : List Page) → p1 ≡ p0 ++ a → p2 ≡ p1 ++ b' → b' ≡ b → p3 ≡ p2 ++ c → p3 ≡ p0 ++ a ++ b ++ c
+put_behind p0 p1 p2 p3 a b b' c e f g h = h ∙ ap (λ ys. ys ++ c) (f ∙ ap₂ ◌++◌ e g)
+
+-- what ends with a run ends by the next one
+pub up_to_next : (rs ss : List Run) (i : ℕ) (r s : Run) → AreRuns rs → r ≡ get_or rs i r → i + 1 < length rs → s ≡ get_or rs (i + 1) s → AreMaximalUpTo (r.range.first + r.range.pages) ss → AreMaximalUpTo s.range.first ss
+up_to_next rs ss i r s runs e h f a =
+    (a.0, EndBy-higher (r.range.first + r.range.pages) s.range.first ss (omega (arith, ends_before rs i (i + 1) r s runs (omega arith) h, ap (λ q. q.range.first + q.range.pages) e, ap (λ q. q.range.first) f)) a.1)
+
+-- the pages of one more run, behind those of the runs before it
+pub run_put_behind : (rs : List Run) (i : ℕ) (r : Run) → i < length rs → r ≡ get_or rs i r → (ms ns : List Page) → ns ≡ ms ++ pages_of (r ∷ []) → ms ≡ pages_of (take i rs) → ns ≡ pages_of (take (i + 1) rs)
+run_put_behind rs i r h e ms ns put before =
+    put ∙ ap₂ ◌++◌ before (ap (λ s. pages_of (s ∷ [])) e) ∙ sym (ap pages_of (take_more rs i r h) ∙ pages_of-append (take i rs) (get_or rs i r ∷ []))

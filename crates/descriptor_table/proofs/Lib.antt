@@ -1,0 +1,11 @@
+pub mod Order
+pub mod Joins
+pub mod CutRuns
+pub mod Counts
+pub mod Finding
+pub mod TableFacts
+pub mod Meetings
+pub mod Ends
+pub mod Splices
+pub mod Replaced
+pub mod EntryRuns

@@ -1,0 +1,8 @@
+use Rattle.descriptor_table.proofs.TableFacts.{table_runs, table_ends}
+use Rattle.descriptor_table.proofs.table.RunTable.all_conventional.Goals as goal
+
+pub all_in_range-requires-clause-runs : goal.all_in_range-requires-clause-runs
+all_in_range-requires-clause-runs g c = rw c.as_slice.ensures.value (table_runs c.self.inside.runs.items c.self.inside.entries c.self.invariant)
+
+pub all_in_range-requires-clause-ends : goal.all_in_range-requires-clause-ends
+all_in_range-requires-clause-ends g c = rw c.as_slice.ensures.value (table_ends c.self.inside.runs.items c.self.inside.entries c.self.invariant)

@@ -1,0 +1,32 @@
+use Rattle.std.proofs.Common.{sym, ap, subst, ◌∙◌, arith}
+use Rattle.std.proofs.lemmas.List.{take_all}
+use Rattle.page_ranges.specs.Memory.{IsProperMemory}
+use Rattle.page_ranges.specs.Runs.{pages_of}
+use Rattle.page_ranges.proofs.RunLists.{some_pages_at}
+use Rattle.descriptor_table.proofs.CutRuns.{run_put_behind, up_to_next}
+use Rattle.descriptor_table.proofs.TableFacts.{proper_end_at, proper_ends}
+use Rattle.page_ranges.proofs.MaximalRuns.{maximal_are_runs}
+use Rattle.descriptor_table.proofs.table.RunTable.from_runs.Goals as goal
+
+pub push_joined-requires-clause-order : goal.push_joined-requires-clause-order
+push_joined-requires-clause-order g c = c.loop-run.invariant.next c.run-item.result (omega arith) c.run-item.is
+
+pub push_joined-requires-clause-some : goal.push_joined-requires-clause-some
+push_joined-requires-clause-some g c = rw c.run-item.is (some_pages_at c.args.runs.now c.loop-run.run-index c.run-item.result c.requires.runs (omega arith))
+
+pub push_joined-requires-clause-within : goal.push_joined-requires-clause-within
+push_joined-requires-clause-within g c = proper_end_at c.args.runs.now c.loop-run.run-index c.run-item.result c.requires.runs c.requires.proper (omega arith) c.run-item.is
+
+pub loop-run-preserved : goal.loop-run-preserved
+loop-run-preserved g c =
+    record {
+      pages = run_put_behind c.args.runs.now c.loop-run.run-index c.run-item.result (omega arith) c.run-item.is (pages_of c.loop-run.joined.items) (pages_of c.push_joined.new.runs.items) c.in_ok-push_joined.ensures.pages c.loop-run.invariant.pages;
+      order = c.in_ok-push_joined.ensures.order.0;
+      next = λ s h e. up_to_next c.args.runs.now c.push_joined.new.runs.items c.loop-run.run-index c.run-item.result s c.requires.runs c.run-item.is h e c.in_ok-push_joined.ensures.order;
+    }
+
+pub count_entries-entries-requires-clause-runs : goal.count_entries-entries-requires-clause-runs
+count_entries-entries-requires-clause-runs g c = rw c.as_slice.ensures.value (maximal_are_runs c.loop-run.joined.items c.loop-run.invariant.order)
+
+pub count_entries-entries-requires-clause-ends : goal.count_entries-entries-requires-clause-ends
+count_entries-entries-requires-clause-ends g c = rw c.as_slice.ensures.value (proper_ends c.loop-run.joined.items (maximal_are_runs c.loop-run.joined.items c.loop-run.invariant.order) (let all = take_all c.loop-run.run-index c.args.runs.now (omega arith) in subst IsProperMemory (sym (c.loop-run.invariant.pages ∙ ap pages_of all)) c.requires.proper))

@@ -1,0 +1,13 @@
+use Rattle.std.proofs.Common.{◌≡◌, ◌<◌, length, get_or, take}
+use Rattle.page_ranges.specs.declared.ranges.Run.{Run}
+use Rattle.page_ranges.specs.Runs.{pages_of, AreMaximalRuns}
+use Rattle.descriptor_table.specs.Tables.{AreMaximalUpTo}
+use Rattle.descriptor_table.proofs.table.RunTable.from_runs.Given as goal
+
+-- the runs so far, and what is to come begins where they end or above
+abbrev pub invariant-loop-run : goal.invariant-loop-run
+invariant-loop-run g l = record {
+  pages : pages_of l.joined.items ≡ pages_of (take l.run-index l.runs);
+  order : AreMaximalRuns l.joined.items;
+  next : (r : Run) → l.run-index < length l.runs → r ≡ get_or l.runs l.run-index r → AreMaximalUpTo r.range.first l.joined.items;
+}

@@ -1,0 +1,8 @@
+use Rattle.descriptor_table.proofs.TableFacts.{table_runs_of}
+use Rattle.descriptor_table.proofs.table.RunTable.run.Goals as goal
+
+pub returns : goal.returns
+returns g c =
+    let e = table_runs_of c.self.inside.runs.items c.self.inside.entries c.self.invariant in
+    let r = rw c.as_slice.ensures.value at c.run_at_index.ensures in
+    rw (← c.self.view_is, e) r

@@ -1,0 +1,155 @@
+//! The table of runs.
+ghost use Rattle.std.specs.Prelude.{◌≡◌, ◌↔◌, ◌≤◌, ◌<◌, ◌^◌, ◌-◌, [], length, IsTrue, IfOk, OnOk, OnErr, slice_get};
+ghost use Rattle.std.specs.Option.{option_map};
+ghost use Rattle.page_ranges.specs.declared.ranges.Owner.TheVariants.{Given};
+ghost use Rattle.page_ranges.specs.MemoryTypes.{conventional, page_count};
+ghost use Rattle.page_ranges.specs.Memory.{page_at, page_below, IsProperMemory, IsPresent, IsConventional, IsOwnedBy, AllInRange, retyped};
+ghost use Rattle.page_ranges.specs.MemoryMap.{memory_map};
+ghost use Rattle.page_ranges.specs.Runs.{page_in, pages_of, runs_of, AreRuns};
+ghost use Rattle.descriptor_table.specs.Tables.{HoldsPage};
+
+use crate::cuts::push_joined;
+use crate::entries::{MapEntries, count_entries};
+use crate::retyping::retype_runs;
+use crate::searches::{PageTest, all_in_range, run_at_index, run_holding};
+use page_ranges::{Descriptor, MemoryType, Owner, PageRange, Run};
+use std::alloc::{AllocError, Allocator, Global};
+use std::marker::Model;
+
+/// The memory of a machine: its maximal runs of equal type, attributes and owner, by ascending page.
+#[derive(Drop)]
+pub struct RunTable<A: Allocator = Global> {
+    runs: Vec<Run, A>,
+    // How many entries the memory map has.
+    entries: usize,
+}
+
+impl<A: Allocator> Model for RunTable<A> {
+    ghost use Rattle.std.specs.Prelude.{List};
+    ghost use Rattle.page_ranges.specs.Memory.{Page};
+    ghost use Rattle.page_ranges.specs.Runs.{pages_of};
+    ghost use Rattle.descriptor_table.specs.Tables.{IsTable};
+
+    ghost Value = { List Page };
+
+    ghost view = { λ t. pages_of t.runs.items };
+
+    ghost invariant = { λ t. IsTable t.runs.items t.entries };
+}
+
+impl<A: Allocator + Copy> RunTable<A> {
+    /// The memory that runs stand for. Touching runs that are alike become one.
+    pub fn from_runs(alloc: A, runs: &[Run]) -> Result<RunTable<A>, AllocError>
+        requires runs { AreRuns runs.now }
+        requires proper { IsProperMemory (pages_of runs.now) }
+        ensures { IfOk result (λ t. t ≡ pages_of runs.now) }
+    {
+        let mut joined = Vec::new(alloc);
+        for run in runs {
+            push_joined(&mut joined, *run)?;
+        }
+        let entries = count_entries(joined.as_slice());
+        Ok(RunTable {
+            runs: joined,
+            entries,
+        })
+    }
+
+    /// Gives the pages of a range a type and an owner, and the attributes that go with the type.
+    /// On an `Err` the table is as it was.
+    pub fn retype(
+        &mut self,
+        range: PageRange,
+        mtype: MemoryType,
+        owner: Owner,
+    ) -> Result<(), AllocError>
+        requires present { AllInRange self.old range IsPresent }
+        requires owner { mtype ≡ conventional → owner ≡ Given }
+        ensures ok { OnOk result (self.new ≡ retyped range mtype owner self.old) }
+        ensures err { OnErr result (self.new ≡ self.old) }
+    {
+        if range.pages > 0 {
+            self.entries = retype_runs(&mut self.runs, self.entries, range, mtype, owner)?;
+        }
+        Ok(())
+    }
+
+    /// How many runs there are.
+    pub fn len(&self) -> usize
+        ensures len { result ≡ length (runs_of self.now) }
+        ensures proper { IsProperMemory self.now }
+    {
+        self.runs.len()
+    }
+
+    /// Whether no page is present.
+    pub fn is_empty(&self) -> bool
+        ensures { IsTrue result ↔ (self.now ≡ []) }
+    {
+        self.runs.is_empty()
+    }
+
+    /// The run at an index, by ascending page.
+    pub fn run(&self, index: usize) -> Option<Run>
+        ensures { result ≡ slice_get (runs_of self.now) index }
+    {
+        run_at_index(self.runs.as_slice(), index)
+    }
+
+    /// The run that holds a page.
+    pub fn run_at(&self, page: u64) -> Option<Run>
+        ensures page { page_at self.now page ≡ option_map (page_in page) result }
+        ensures maximal { HoldsPage self.now page result }
+    {
+        run_holding(self.runs.as_slice(), page)
+    }
+
+    /// The runs that hold the page below a page number and the page itself.
+    pub fn edge(&self, page: u64) -> (Option<Run>, Option<Run>)
+        ensures below { page_below self.now page ≡ option_map (page_in (page - 1)) result.0 }
+        ensures above { page_at self.now page ≡ option_map (page_in page) result.1 }
+        ensures above_maximal { HoldsPage self.now page result.1 }
+    {
+        let below = if page == 0 {
+            None
+        } else {
+            self.run_at(page - 1)
+        };
+        (below, self.run_at(page))
+    }
+
+    /// Whether all pages of a range are conventional.
+    pub fn all_conventional(&self, range: PageRange) -> bool
+        ensures { IsTrue result ↔ AllInRange self.now range IsConventional }
+    {
+        all_in_range(self.runs.as_slice(), range, PageTest::Conventional)
+    }
+
+    /// Whether all pages of a range have an owner.
+    pub fn all_owned(&self, range: PageRange, owner: Owner) -> bool
+        ensures { IsTrue result ↔ AllInRange self.now range (IsOwnedBy owner) }
+    {
+        all_in_range(self.runs.as_slice(), range, PageTest::OwnedBy(owner))
+    }
+
+    /// How many entries the memory map has.
+    pub fn descriptors(&self) -> usize
+        ensures { result ≡ length (memory_map self.now) }
+    {
+        self.entries
+    }
+
+    /// The entry of the memory map at an index.
+    pub fn descriptor(&self, index: usize) -> Option<Descriptor>
+        ensures { result ≡ slice_get (memory_map self.now) index }
+    {
+        self.map_entries().nth(index)
+    }
+
+    /// The entries of the memory map.
+    pub fn map_entries(&self) -> MapEntries<'_>
+        ensures { result ≡ memory_map self.now }
+    {
+        MapEntries::new(self.runs.as_slice())
+    }
+}

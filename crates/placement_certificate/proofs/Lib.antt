@@ -1,0 +1,13 @@
+pub mod Sums
+pub mod EntryStarts
+pub mod Prices
+pub mod Edges
+pub mod Places
+pub mod OneCertificate
+pub mod MapDecides
+pub mod BestBounds
+pub mod Tries
+pub mod Decided
+pub mod Samples
+pub mod PlainMaps
+pub mod PlainPrices

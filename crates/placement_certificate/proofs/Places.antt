@@ -1,0 +1,152 @@
+-- Where the best start stands in its entry.
+use Rattle.std.proofs.Common.{◌≡◌, ◌⊎◌, ◌↔◌, ℕ, zero, suc, ◌+◌, ◌-◌, ◌<◌, ◌≤◌, List, length, Contains, Option, Some, None, inl, inr, refl, arith}
+use Rattle.std.proofs.lemmas.Bool.{cases_lt}
+use Rattle.page_ranges.specs.declared.ranges.Descriptor.{Descriptor}
+use Rattle.page_ranges.specs.declared.ranges.Owner.TheVariants.{Pages}
+use Rattle.page_ranges.specs.MemoryTypes.{conventional}
+use Rattle.page_ranges.specs.Memory.{Page, page_at, page_below, IsProperMemory, IsConventional}
+use Rattle.page_ranges.specs.MemoryMap.{memory_map, IsLike, IsIn, IsMaximalBlock}
+use Rattle.page_ranges.proofs.Blocks.{entry_is_block, entry_of_page}
+use Rattle.placement_certificate.specs.declared.certificates.Request.{Request}
+use Rattle.placement_certificate.specs.Placement.{IsProperRequest, IsPermittedStart, price, IsBestIn}
+use Rattle.placement_certificate.specs.Laws.{IsStretch, EndsEntry, IsHighestIn, IsPlace}
+use Rattle.placement_certificate.proofs.Edges.{adds-one, adds-none, adds-most, takes-none, good_not_conventional, block_conventional, like_conventional, below_is_like}
+use Rattle.placement_certificate.proofs.Prices.{price_is}
+
+-- ---- stretches
+
+permitted_in_stretch : (m : List Page) (r : Request) (first stop p : ℕ) → IsStretch m first stop → first ≤ p → p < stop → IsPermittedStart m r p → (p + r.pages ≤ r.limit) × (p + r.pages ≤ stop)
+permitted_in_stretch m r first stop p is low high h =
+    (h.within, elim (cases_lt stop (p + r.pages)) [ inl l ↦ absurd (is.stops (h.conventional stop (omega arith) l)) | inr g ↦ g ])
+
+stretch_permits : (m : List Page) (r : Request) (first stop p : ℕ) → IsStretch m first stop → first ≤ p → (p + r.pages ≤ r.limit) × (p + r.pages ≤ stop) → IsPermittedStart m r p
+stretch_permits m r first stop p is low h = record { within = h.0; conventional = λ k l u. is.all k (omega arith) (omega (arith, h.1)) }
+
+pub stretch : (m : List Page) (r : Request) (first stop p : ℕ) → IsStretch m first stop → first ≤ p → p < stop → IsPermittedStart m r p ↔ ((p + r.pages ≤ r.limit) × (p + r.pages ≤ stop))
+stretch m r first stop p is low high = (permitted_in_stretch m r first stop p is low high, stretch_permits m r first stop p is low)
+
+-- ---- a permitted start
+
+-- no permitted start costs more than this
+pub price_most : (m : List Page) (r : Request) (p : ℕ) → IsProperMemory m → IsProperRequest r → IsPermittedStart m r p → price m r p ≤ length (memory_map m) + 2
+price_most m r p proper good permitted =
+    omega (arith, price_is m r Pages p proper good permitted, adds-most (page_below m p) (page_at m p), adds-most (page_below m (p + r.pages)) (page_at m (p + r.pages)))
+
+-- each page of the range is in an entry
+entry_in_range : (m : List Page) (r : Request) (p k : ℕ) → IsPermittedStart m r p → p ≤ k → k < p + r.pages → (b : Descriptor) × Contains (memory_map m) b × IsIn b k
+entry_in_range m r p k permitted h l = go (page_at m k) refl (permitted.conventional k h l)
+  where
+    go : (o : Option Page) → page_at m k ≡ o → IsConventional o → (b : Descriptor) × Contains (memory_map m) b × IsIn b k
+    go None q c = absurd c
+    go (Some x) q c = entry_of_page m k x q
+
+-- an entry that holds a page of the range is conventional
+pub entry_conventional : (m : List Page) (r : Request) (p k : ℕ) (b : Descriptor) → IsMaximalBlock m b → IsIn b k → IsPermittedStart m r p → p ≤ k → k < p + r.pages → b.mtype ≡ conventional
+entry_conventional m r p k b is i permitted h l = block_conventional b (page_at m k) (is.all k i) (permitted.conventional k h l)
+
+-- the entry of a permitted start
+pub start_entry : (m : List Page) (r : Request) (p : ℕ) → IsProperMemory m → IsProperRequest r → IsPermittedStart m r p → (b : Descriptor) × Contains (memory_map m) b × IsIn b p × (b.mtype ≡ conventional)
+start_entry m r p proper good permitted =
+    let some = good.some in
+    let c = entry_in_range m r p p permitted (omega arith) (omega arith) in
+    (c.0, c.1, c.2, entry_conventional m r p p c.0 (entry_is_block m proper.ascending c.0 c.1) c.2 permitted (omega arith) (omega arith))
+
+-- ---- an entry with a permitted start
+
+module _ (m : List Page) (r : Request) (e : Descriptor) (p : ℕ) (proper : IsProperMemory m) (good : IsProperRequest r) (entry : Contains (memory_map m) e) (in_entry : IsIn e p) (permitted : IsPermittedStart m r p) where
+  is_block : IsMaximalBlock m e
+  is_block = entry_is_block m proper.ascending e entry
+
+  free_entry : e.mtype ≡ conventional
+  free_entry = let some = good.some in entry_conventional m r p p e is_block in_entry permitted (omega arith) (omega arith)
+
+  pub first_permitted : IsPermittedStart m r e.first
+  first_permitted = record {
+    within = omega (arith, permitted.within, in_entry.low);
+    conventional = λ k l h. elim (cases_lt k p) [
+      | inl b ↦ like_conventional e (page_at m k) (is_block.all k (record { low = l; high = omega (arith, in_entry.high) })) free_entry
+      | inr a ↦ permitted.conventional k a (omega (arith, in_entry.low))
+    ];
+  }
+
+  pub first_price : price m r e.first ≤ length (memory_map m) + 1
+  first_price =
+      let some = is_block.some in
+      let low = adds-none e (page_below m e.first) (page_at m e.first) is_block.none_below (is_block.all e.first (record { low = omega arith; high = omega arith })) in
+      omega (arith, price_is m r Pages e.first proper good first_permitted, low, adds-most (page_below m (e.first + r.pages)) (page_at m (e.first + r.pages)))
+
+  -- a start whose two edges are inside entries
+  inner_price : (c : Descriptor) → IsMaximalBlock m c → e.first < p → IsIn c (p + r.pages - 1) → p + r.pages < c.first + c.pages → price m r p ≡ length (memory_map m) + 2
+  inner_price c is after last more =
+      let some = good.some in
+      let other = good_not_conventional r.mtype good.good in
+      let below : IsLike e (page_below m p) = below_is_like m e p is_block after (omega (arith, in_entry.high)) in
+      let high : IsLike c (page_below m (p + r.pages)) = below_is_like m c (p + r.pages) is (omega (arith, last.low)) (omega arith) in
+      let above : IsLike c (page_at m (p + r.pages)) = is.all (p + r.pages) (record { low = omega (arith, last.low); high = more }) in
+      let free : c.mtype ≡ conventional = entry_conventional m r p (p + r.pages - 1) c is last permitted (omega arith) (omega arith) in
+      omega (
+        arith,
+        price_is m r Pages p proper good permitted,
+        adds-one e (page_below m p) (page_at m p) below (is_block.all p in_entry),
+        adds-one c (page_below m (p + r.pages)) (page_at m (p + r.pages)) high above,
+        takes-none r.mtype (page_below m p) (page_at m p) (like_conventional e _ below free_entry) other,
+        takes-none r.mtype (page_at m (p + r.pages)) (page_below m (p + r.pages)) (like_conventional c _ above free) other,
+      )
+
+  pub edges : (p ≡ e.first) ⊎ EndsEntry m (p + r.pages) ⊎ (price m r p ≡ length (memory_map m) + 2)
+  edges =
+      let some = good.some in
+      elim (cases_lt e.first p) [
+        | inr g ↦ inl (omega (arith, in_entry.low))
+        | inl l ↦
+            let c = entry_in_range m r p (p + r.pages - 1) permitted (omega arith) (omega arith) in
+            elim (cases_lt (p + r.pages) (c.0.first + c.0.pages)) [
+              | inr g ↦ inr (inl (c.0, c.1, omega (arith, c.2.high)))
+              | inl h ↦ inr (inr (inner_price c.0 (entry_is_block m proper.ascending c.0 c.1) l c.2 h))
+            ]
+      ]
+
+-- ---- the best start in an entry
+
+pub best_place : (m : List Page) (r : Request) (e : Descriptor) (p : ℕ) → IsProperMemory m → IsProperRequest r → Contains (memory_map m) e → IsBestIn m r e p → IsPlace m r e p
+best_place m r e p proper good entry best = elim (edges m r e p proper good entry best.in_entry best.permitted) [
+  | inl a ↦ inl a
+  | inr (inl b) ↦ inr (inl b)
+  | inr (inr c) ↦ inr (inr (λ q i h. best.highest q i h (omega (arith, c, best.lowest q i h, price_most m r q proper good h))))
+]
+
+module _ (m : List Page) (r : Request) (e : Descriptor) (p : ℕ) (proper : IsProperMemory m) (good : IsProperRequest r) (entry : Contains (memory_map m) e) (in_entry : IsIn e p) (permitted : IsPermittedStart m r p)
+    (tried : (q : ℕ) → IsIn e q → IsPermittedStart m r q → IsPlace m r e q → (price m r p ≤ price m r q) × (price m r q ≡ price m r p → q ≤ p)) where
+  none_lower : (q : ℕ) → IsIn e q → IsPermittedStart m r q → price m r p ≤ price m r q
+  none_lower q i h = elim (edges m r e q proper good entry i h) [
+    | inl a ↦ (tried q i h (inl a)).0
+    | inr (inl b) ↦ (tried q i h (inr (inl b))).0
+    | inr (inr c) ↦ omega (arith, c, price_most m r p proper good permitted)
+  ]
+
+  -- by how many pages the entry goes on above the start
+  none_higher : (d q : ℕ) → IsIn e q → IsPermittedStart m r q → e.first + e.pages ≤ q + d → price m r q ≡ price m r p → q ≤ p
+  none_higher zero q i h l f = absurd (omega (arith, i.high))
+  none_higher (suc d) q i h l f = elim (edges m r e q proper good entry i h) [
+    | inl a ↦ (tried q i h (inl a)).1 f
+    | inr (inl b) ↦ (tried q i h (inr (inl b))).1 f
+    | inr (inr c) ↦ elim (cases_lt p q) [
+      | inr g ↦ g
+      | inl above ↦
+          let top : IsHighestIn m r e q = λ s j k. elim (cases_lt q s) [
+            | inr g ↦ g
+            | inl over ↦
+                let same : price m r s ≡ price m r p = omega (arith, c, f, none_lower s j k, price_most m r s proper good k) in
+                absurd (omega (arith, above, over, none_higher d s j k (omega arith) same))
+          ] in
+          (tried q i h (inr (inr top))).1 f
+    ]
+  ]
+
+  pub best_candidate : IsBestIn m r e p
+  best_candidate = record {
+    in_entry = in_entry;
+    permitted = permitted;
+    lowest = none_lower;
+    highest = λ q i h f. none_higher (e.first + e.pages) q i h (omega arith) f;
+  }

@@ -1,0 +1,4 @@
+pub mod Placement
+pub mod Certificates
+pub mod Laws
+pub mod Search

@@ -1,0 +1,46 @@
+-- Where a request may stand, what the memory is then, and which start is best.
+use Rattle.std.specs.Prelude.{◌≡◌, ℕ, ◌+◌, ◌<◌, ◌≤◌, false, List, length}
+use Rattle.page_ranges.specs.declared.ranges.Descriptor.{Descriptor}
+use Rattle.page_ranges.specs.declared.ranges.Owner.{Owner}
+use Rattle.page_ranges.specs.declared.ranges.Owner.TheVariants.{Pages}
+use Rattle.page_ranges.specs.declared.ranges.PageRange.{PageRange}
+use Rattle.page_ranges.specs.MemoryTypes.{is_bad_type}
+use Rattle.page_ranges.specs.Memory.{Page, IsConventional, AllInRange, retyped}
+use Rattle.page_ranges.specs.MemoryMap.{memory_map, IsIn}
+use Rattle.placement_certificate.specs.declared.certificates.Request.{Request}
+
+-- The request is for at least one page, of a type that requests may name.
+pub record IsProperRequest (r : Request) : Type 0 where
+  pub some : 0 < r.pages
+  pub good : is_bad_type r.mtype ≡ false
+
+-- the pages of a request that stands at a start
+abbrev pub range_at : Request → ℕ → PageRange
+range_at r p = record { first = p; pages = r.pages }
+
+-- A permitted start: the pages from there on end by the limit, and all of them are conventional. All that is said of
+-- permission is said here.
+pub record IsPermittedStart (m : List Page) (r : Request) (p : ℕ) : Type 0 where
+  pub within : p + r.pages ≤ r.limit
+  pub conventional : AllInRange m (range_at r p) IsConventional
+
+-- the memory after a placement: those pages have the request's type and their new owner
+abbrev pub after_placement : List Page → Request → Owner → ℕ → List Page
+after_placement m r o p = retyped (range_at r p) r.mtype o m
+
+-- the price of a start: how many entries the memory map then has, built anew
+abbrev pub price : List Page → Request → ℕ → ℕ
+price m r p = length (memory_map (after_placement m r Pages p))
+
+-- The best start: permitted, no permitted start has a lower price, and none of the same price is higher.
+pub record IsBestStart (m : List Page) (r : Request) (p : ℕ) : Type 0 where
+  pub permitted : IsPermittedStart m r p
+  pub lowest : (q : ℕ) → IsPermittedStart m r q → price m r p ≤ price m r q
+  pub highest : (q : ℕ) → IsPermittedStart m r q → price m r q ≡ price m r p → q ≤ p
+
+-- The best start in an entry: the best of the permitted starts there.
+pub record IsBestIn (m : List Page) (r : Request) (e : Descriptor) (p : ℕ) : Type 0 where
+  pub in_entry : IsIn e p
+  pub permitted : IsPermittedStart m r p
+  pub lowest : (q : ℕ) → IsIn e q → IsPermittedStart m r q → price m r p ≤ price m r q
+  pub highest : (q : ℕ) → IsIn e q → IsPermittedStart m r q → price m r q ≡ price m r p → q ≤ p

@@ -1,0 +1,58 @@
+//! The laws that the search for the best start rests on, each the contract of a function that does
+//! nothing.
+ghost use Rattle.placement_certificate.specs.Laws.{MapLengthLaw, InsideLaw, PriceLaw, FirstPageLaw, StretchLaw, EdgesLaw, BlockEndsLaw, CandidatesLaw, OneCertificateLaw, MapDecidesLaw, BestBoundLaw};
+
+/// The memory map has one entry for each page with no equal page just below it.
+pub fn map_length_law()
+    ensures { MapLengthLaw }
+{}
+
+/// What it is for an edge to lie inside an entry.
+pub fn inside_law()
+    ensures { InsideLaw }
+{}
+
+/// The price of a start, by the pages at its two edges.
+pub fn price_law()
+    ensures { PriceLaw }
+{}
+
+/// An entry's first page, where the entry has a permitted start.
+pub fn first_page_law()
+    ensures { FirstPageLaw }
+{}
+
+/// Which starts in a stretch of free pages are permitted.
+pub fn stretch_law()
+    ensures { StretchLaw }
+{}
+
+/// What a start costs, both edges of which lie inside entries.
+pub fn edges_law()
+    ensures { EdgesLaw }
+{}
+
+/// Where a best start stands in its entry.
+pub fn block_ends_law()
+    ensures { BlockEndsLaw }
+{}
+
+/// Which starts of an entry need to be tried.
+pub fn candidates_law()
+    ensures { CandidatesLaw }
+{}
+
+/// There is at most one true certificate, and none where no start is permitted.
+pub fn one_certificate_law()
+    ensures { OneCertificateLaw }
+{}
+
+/// The memory map alone decides which certificate is true.
+pub fn map_decides_law()
+    ensures { MapDecidesLaw }
+{}
+
+/// The best start of all is the best of the entries' best.
+pub fn best_bound_law()
+    ensures { BestBoundLaw }
+{}
