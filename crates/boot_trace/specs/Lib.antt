@@ -1,0 +1,5 @@
+pub mod Words
+pub mod Numbers
+pub mod Verbs
+pub mod TraceLine
+pub mod MachineText

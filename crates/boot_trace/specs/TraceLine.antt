@@ -1,0 +1,67 @@
+-- What a trace line asks for.
+use Rattle.std.specs.Prelude.{ℕ, ◌^◌, Bool, nat_lt, nat_eq, List, [], ◌∷◌, length, codes, Option, Some, None, Result, Ok, Err, if◌then◌else◌}
+use Rattle.std.specs.List.{starts_with}
+use Rattle.std.specs.Io.BufRead.{strip_last}
+use Rattle.boot_core.specs.declared.calls.Call.{Call}
+use Rattle.boot_core.specs.declared.calls.Call.TheVariants.{AllocatePages}
+use Rattle.boot_trace.specs.declared.calls.TraceCall.{TraceCall}
+use Rattle.boot_trace.specs.declared.calls.TraceCall.TheVariants as trace_call
+use Rattle.boot_trace.specs.declared.faults.TraceFault.{TraceFault}
+use Rattle.boot_trace.specs.declared.faults.TraceFault.TheVariants as fault
+use Rattle.boot_trace.specs.declared.verbs.Verb.{Verb}
+use Rattle.boot_trace.specs.declared.verbs.Verb.TheVariants as verb
+use Rattle.boot_trace.specs.Numbers.{number_of}
+use Rattle.boot_trace.specs.Verbs.{verb_named}
+use Rattle.boot_trace.specs.Words.{words_of}
+
+-- the first fault, or the last value
+infixl 10 ◌>>=◌
+abbrev pub ◌>>=◌ : {A B : Type 0} → Result A TraceFault → (A → Result B TraceFault) → Result B TraceFault
+(Ok x) >>= f = f x
+(Err e) >>= f = Err e
+
+-- what there is, or else the fault
+abbrev pub or_fault : {A : Type 0} → TraceFault → Option A → Result A TraceFault
+or_fault e None = Err e
+or_fault e (Some x) = Ok x
+
+-- ---- parameters
+
+-- a number below 2^64
+abbrev pub u64_of : List ℕ → Result ℕ TraceFault
+u64_of word = or_fault fault.Number (number_of word)
+
+-- a number below 2^32
+abbrev pub u32_of : List ℕ → Result ℕ TraceFault
+u32_of word = do
+  n ← u64_of word
+  if nat_lt n (2 ^ 32) then Ok n else Err fault.Number
+
+-- what a verb asks for with its parameters, each of its type, from left to right
+abbrev pub call_of : Verb → List (List ℕ) → Result TraceCall TraceFault
+call_of verb.Pages (kind ∷ mtype ∷ pages ∷ memory ∷ []) = do
+  k ← u32_of kind
+  t ← u32_of mtype
+  p ← u64_of pages
+  m ← u64_of memory
+  Ok (trace_call.Service (AllocatePages k t p m))
+call_of verb.List [] = Ok trace_call.List
+call_of v words = Err fault.Words
+
+-- ---- lines
+
+-- what words ask for: nothing where there are none, or where they are a comment
+abbrev pub request_of : List (List ℕ) → Result (Option TraceCall) TraceFault
+request_of [] = Ok None
+request_of (name ∷ parameters) = if starts_with nat_eq name (codes "#") then Ok None else (do
+  v ← or_fault fault.Verb (verb_named name)
+  call ← call_of v parameters
+  Ok (Some call))
+
+-- the most bytes of a line, without its line feed
+abbrev pub longest_line : ℕ
+longest_line = 65536
+
+-- what a line asks for, without its line feed: one carriage return at its end is dropped
+abbrev pub line_of : List ℕ → Result (Option TraceCall) TraceFault
+line_of line = if nat_lt longest_line (length line) then Err fault.Long else request_of (words_of (strip_last 13 line))

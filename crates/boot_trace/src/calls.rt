@@ -1,0 +1,103 @@
+//! Trace lines as calls.
+ghost use Rattle.std.specs.Prelude.{◌≡◌, ◌⊎◌, [], ◌∷◌, Err, map};
+ghost use Rattle.std.specs.Io.BufRead.{strip_last};
+ghost use Rattle.boot_trace.specs.TraceLine.{u64_of, u32_of, call_of, request_of, line_of};
+
+use crate::faults::TraceFault;
+use crate::numbers::number_of;
+use crate::verbs::{Verb, verb_named};
+use crate::words::words_of;
+use boot_core::Call;
+use std::alloc::Allocator;
+
+/// The most bytes of a line, without its line feed.
+pub const LONGEST_LINE: usize = 65_536;
+
+/// What a trace line asks for.
+#[derive(Clone, Copy, Debug, PartialEq, Eq)]
+pub enum TraceCall {
+    /// To print the memory map, which is no call.
+    List,
+    Service(Call),
+}
+
+/// What a line asks for, without its line feed: None for a line that is skipped.
+pub fn read_call<A: Allocator + Copy>(
+    alloc: A,
+    line: &[u8],
+) -> Result<Option<TraceCall>, TraceFault>
+    ensures { (result ≡ Err TraceFault.OutOfMemory) ⊎ (result ≡ line_of line.now) }
+{
+    if line.len() > LONGEST_LINE {
+        return Err(TraceFault::Long);
+    }
+    let words = words_of(alloc, without_carriage_return(line))?;
+    read_words(words.as_slice())
+}
+
+/// The line without one carriage return at its end.
+fn without_carriage_return(line: &[u8]) -> &[u8]
+    ensures { result.now ≡ strip_last 13 line.now }
+{
+    match line {
+        [front @ .., b'\r'] => front,
+        _ => line,
+    }
+}
+
+/// What the words of a line ask for.
+fn read_words(words: &[&[u8]]) -> Result<Option<TraceCall>, TraceFault>
+    ensures { result ≡ request_of (map (λ word. word.now) words.now) }
+{
+    let [name, parameters @ ..] = words else {
+        return Ok(None);
+    };
+    if name.starts_with(b"#") {
+        return Ok(None);
+    }
+    let verb = verb_named(name).ok_or(TraceFault::Verb)?;
+    Ok(Some(read_verb(verb, parameters)?))
+}
+
+/// What a verb asks for with its parameters.
+fn read_verb(verb: Verb, parameters: &[&[u8]]) -> Result<TraceCall, TraceFault>
+    ensures { result ≡ call_of verb (map (λ word. word.now) parameters.now) }
+{
+    match (verb, parameters) {
+        (Verb::Pages, [kind, mtype, pages, memory]) => read_pages(kind, mtype, pages, memory),
+        (Verb::List, []) => Ok(TraceCall::List),
+        _ => Err(TraceFault::Words),
+    }
+}
+
+/// What `pages` asks for.
+fn read_pages(
+    kind: &[u8],
+    mtype: &[u8],
+    pages: &[u8],
+    memory: &[u8],
+) -> Result<TraceCall, TraceFault>
+    ensures { result ≡ call_of Verb.Pages (kind.now ∷ mtype.now ∷ pages.now ∷ memory.now ∷ []) }
+{
+    Ok(TraceCall::Service(Call::AllocatePages {
+        kind: read_u32(kind)?,
+        mtype: read_u32(mtype)?,
+        pages: read_u64(pages)?,
+        memory: read_u64(memory)?,
+    }))
+}
+
+/// A parameter of 32 bits.
+fn read_u32(word: &[u8]) -> Result<u32, TraceFault>
+    ensures { result ≡ u32_of word.now }
+{
+    let number = read_u64(word)?;
+    u32::try_from(number).map_err(|_| TraceFault::Number)
+}
+
+/// A parameter of 64 bits.
+fn read_u64(word: &[u8]) -> Result<u64, TraceFault>
+    ensures { result ≡ u64_of word.now }
+{
+    number_of(word).ok_or(TraceFault::Number)
+}

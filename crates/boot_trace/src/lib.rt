@@ -1,0 +1,18 @@
+//! Machine files and traces as bytes: what they mean, and a run of one on the other.
+#![tactic(auto)]
+
+mod calls;
+mod faults;
+mod lines;
+mod machine_file;
+mod members;
+mod numbers;
+mod replies;
+mod runner;
+mod verbs;
+mod words;
+
+pub use calls::{TraceCall, read_call};
+pub use faults::{MachineFault, MemberField, RunFault, TraceFault};
+pub use machine_file::{MachineFile, read_machine};
+pub use runner::run;

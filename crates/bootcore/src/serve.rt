@@ -1,0 +1,106 @@
+//! A run of the program, over any readers and writers.
+use boot_core::Core;
+use boot_trace::{MachineFault, RunFault, read_machine};
+use std::alloc::{AllocError, AllocFailed, Global};
+use std::io::{Read, Write};
+use thiserror::Error;
+
+/// The status of a run that reached the end of its trace.
+pub const SUCCESS: u8 = 0;
+
+/// The status of a fault of input or output.
+pub const FAULT: u8 = 1;
+
+/// The status of a command line that is none.
+pub const USAGE: u8 = 2;
+
+/// How many bytes are asked of the machine file at a time.
+const PIECE: usize = 8192;
+
+/// The most bytes that are read of a machine file, one more than it may have.
+const MOST_BYTES: usize = 67_108_865;
+
+/// Why the program stopped.
+#[derive(Debug, Drop, Error)]
+pub enum Fault {
+    #[error("cannot read machine")]
+    CannotReadMachine,
+    #[error("cannot read trace")]
+    CannotReadTrace,
+    #[error("out of memory")]
+    OutOfMemory,
+    #[error(transparent)]
+    Machine(#[from] MachineFault),
+    #[error(transparent)]
+    Run(#[from] RunFault),
+}
+
+impl From<AllocError> for Fault {
+    fn from(_error: AllocError) -> Fault {
+        Fault::OutOfMemory
+    }
+}
+
+impl<T: Drop> From<AllocFailed<T>> for Fault {
+    fn from(_error: AllocFailed<T>) -> Fault {
+        Fault::OutOfMemory
+    }
+}
+
+/// Runs the trace on the machine, writes the replies to `out` and a fault's line to `err`, and
+/// answers the exit status.
+pub fn serve_run<M: Read + Drop, T: Read + Drop, W: Write, E: Write>(
+    alloc: Global,
+    machine: M,
+    trace: T,
+    out: &mut W,
+    err: &mut E,
+    certify: bool,
+) -> u8 {
+    match run_files(alloc, machine, trace, out, certify) {
+        Ok(()) => SUCCESS,
+        Err(fault) => serve_fault(err, &fault),
+    }
+}
+
+/// Writes the line of a fault, and answers its status. That the line could not be written changes
+/// nothing.
+pub fn serve_fault<E: Write>(err: &mut E, fault: &Fault) -> u8 {
+    let _ = writeln!(err, "bootcore: {fault}");
+    FAULT
+}
+
+/// Writes the text that says how the program is used, and answers the status.
+pub fn serve_usage<E: Write>(err: &mut E, text: &str) -> u8 {
+    let _ = err.write_all(text.as_bytes());
+    USAGE
+}
+
+/// Judges the machine file, and then runs the trace.
+fn run_files<M: Read + Drop, T: Read + Drop, W: Write>(
+    alloc: Global,
+    machine: M,
+    trace: T,
+    out: &mut W,
+    certify: bool,
+) -> Result<(), Fault> {
+    let bytes = read_whole(alloc, machine)?;
+    let file = read_machine(alloc, bytes.as_slice())?;
+    let mut core = Core::new(alloc, file.machine)?;
+    boot_trace::run(alloc, &mut core, trace, out, certify)?;
+    Ok(())
+}
+
+/// The bytes of a machine file, or so many of them that it shows that they are too many.
+fn read_whole<M: Read + Drop>(alloc: Global, mut machine: M) -> Result<Vec<u8>, Fault> {
+    let mut bytes = Vec::new(alloc);
+    let mut piece = [0u8; PIECE];
+    while bytes.len() < MOST_BYTES {
+        match machine.read(&mut piece) {
+            Ok(0) => break,
+            Ok(taken) => bytes.extend_from_slice(&piece[..taken])?,
+            Err(_) => return Err(Fault::CannotReadMachine),
+        }
+    }
+    Ok(bytes)
+}

@@ -1,0 +1,49 @@
+//! Runs of the program, as text in and text out.
+mod faults;
+mod rows;
+mod streams;
+
+use crate::serve::serve_run;
+use std::process::Abort;
+use std::test::Fail;
+
+/// A machine with two blocks of free memory above each other, runtime pages, and free memory.
+pub const MACHINE: &str = "{\"memory\":[
+{\"type\":7,\"start\":\"0x0\",\"pages\":160,\"attributes\":\"0xf\"},
+{\"type\":7,\"start\":\"0x100000\",\"pages\":768,\"attributes\":\"0xf\"},
+{\"type\":6,\"start\":\"0x400000\",\"pages\":16,\"attributes\":\"0x800000000000000f\"},
+{\"type\":7,\"start\":\"0x410000\",\"pages\":1008,\"attributes\":\"0xf\"}]}";
+
+/// What a run leaves: its status and what it wrote.
+#[derive(Debug, PartialEq, Drop)]
+pub struct Outcome {
+    pub status: u8,
+    pub out: Vec<u8>,
+    pub err: Vec<u8>,
+}
+
+/// A run over bytes in memory.
+pub fn outcome_of(rt: &impl AllocGlobal, machine: &[u8], trace: &[u8]) -> Outcome {
+    let mut out = Vec::new(rt.alloc());
+    let mut err = Vec::new(rt.alloc());
+    let status = serve_run(rt.alloc(), machine, trace, &mut out, &mut err, false);
+    Outcome { status, out, err }
+}
+
+/// Asserts that a run ends with the status, and writes just these texts.
+pub fn assert_run(
+    rt: &(impl AllocGlobal + Abort),
+    machine: &[u8],
+    trace: &[u8],
+    status: u8,
+    out: &str,
+    err: &str,
+) -> Result<(), Fail> {
+    let outcome = outcome_of(rt, machine, trace);
+    let said = String::from_utf8(outcome.err)?;
+    assert_eq!(rt; said.as_str(), err);
+    let printed = String::from_utf8(outcome.out)?;
+    assert_eq!(rt; printed.as_str(), out, "after {err:?}");
+    assert_eq!(rt; outcome.status, status, "after {err:?}");
+    Ok(())
+}
