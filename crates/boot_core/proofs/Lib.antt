@@ -1,1 +1,1 @@
-pub mod ValidMachines
+pub mod MachineRunLists

@@ -1,18 +1,8 @@
--- The machine that serves the calls: what a valid one is, and its state.
-use Rattle.std.specs.Prelude.{◌≡◌, ℕ, ◌+◌, ◌<◌, ◌≤◌, Bool, true, false, List}
-use Rattle.page_ranges.specs.declared.ranges.Owner.TheVariants.{Given}
+-- The state of the machine that serves the calls.
+use Rattle.std.specs.Prelude.{ℕ, ◌+◌, ◌≤◌, Bool, false, List}
 use Rattle.page_ranges.specs.declared.ranges.Run.{Run}
-use Rattle.page_ranges.specs.MemoryTypes.{page_count, conventional, has_runtime, is_machine_type}
 use Rattle.page_ranges.specs.Runs.{pages_of}
 use Rattle.page_services.specs.PageRules.{Book}
-
--- a run that a valid machine may have
-pub record IsValidRun (r : Run) : Type 0 where
-  pub some : 0 < r.range.pages
-  pub within : r.range.first + r.range.pages ≤ page_count
-  pub given : r.owner ≡ Given
-  pub mtype : is_machine_type r.mtype ≡ true
-  pub no_runtime : r.mtype ≡ conventional → has_runtime r.attributes ≡ false
 
 -- the memory with its key, whether the boot services have ended, and how many calls may still be made
 pub record State : Type 0 where
