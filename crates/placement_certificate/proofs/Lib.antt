@@ -11,3 +11,4 @@ pub mod Decided
 pub mod Samples
 pub mod PlainMaps
 pub mod PlainPrices
+pub mod PlainSearch

@@ -3,10 +3,10 @@ use Rattle.std.proofs.Common.{◌≡◌, ◌⊎◌, ◌↔◌, ℕ, zero, suc, �
 use Rattle.std.proofs.lemmas.Bool.{cases_lt}
 use Rattle.page_ranges.specs.declared.ranges.Descriptor.{Descriptor}
 use Rattle.page_ranges.specs.declared.ranges.Owner.TheVariants.{Pages}
-use Rattle.page_ranges.specs.MemoryTypes.{conventional}
+use Rattle.page_ranges.specs.MemoryTypes.{page_count, conventional}
 use Rattle.page_ranges.specs.Memory.{Page, page_at, page_below, IsProperMemory, IsConventional}
 use Rattle.page_ranges.specs.MemoryMap.{memory_map, IsLike, IsIn, IsMaximalBlock}
-use Rattle.page_ranges.proofs.Blocks.{entry_is_block, entry_of_page}
+use Rattle.page_ranges.proofs.Blocks.{entry_is_block, entry_of_page, entry_end}
 use Rattle.placement_certificate.specs.declared.certificates.Request.{Request}
 use Rattle.placement_certificate.specs.Placement.{IsProperRequest, IsPermittedStart, price, IsBestIn}
 use Rattle.placement_certificate.specs.Laws.{IsStretch, EndsEntry, IsHighestIn, IsPlace}
@@ -150,3 +150,10 @@ module _ (m : List Page) (r : Request) (e : Descriptor) (p : ℕ) (proper : IsPr
     lowest = none_lower;
     highest = λ q i h f. none_higher (e.first + e.pages) q i h (omega arith) f;
   }
+
+-- a permitted start ends where page numbers end, at most
+pub permitted_end : (m : List Page) (r : Request) (p : ℕ) → IsProperMemory m → IsProperRequest r → IsPermittedStart m r p → p + r.pages ≤ page_count
+permitted_end m r p proper good permitted =
+    let some = good.some in
+    let c = entry_in_range m r p (p + r.pages - 1) permitted (omega arith) (omega arith) in
+    omega (arith, c.2.high, entry_end m proper c.0 c.1)
