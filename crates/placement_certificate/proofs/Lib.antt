@@ -8,6 +8,7 @@ pub mod MapDecides
 pub mod BestBounds
 pub mod Tries
 pub mod Decided
+pub mod Machines
 pub mod Samples
 pub mod PlainMaps
 pub mod PlainPrices

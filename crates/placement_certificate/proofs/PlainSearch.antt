@@ -1,22 +1,21 @@
 -- The search over the starts of each entry.
-use Rattle.std.proofs.Common.{◌≡◌, ◌↔◌, ℕ, zero, suc, ◌+◌, ◌-◌, ◌<◌, ◌≤◌, Bool, true, false, IsTrue, eqb, List, [], ◌∷◌, ◌++◌, length, get_or, take, drop, filter, Contains, Option, Some, None, inl, inr, refl, sym, ap, ap₂, subst, ◌∙◌, arith}
-use Rattle.std.specs.List.{AllZip, AllByRecursion}
-use Rattle.std.proofs.lemmas.Bool.{cases_Bool, eqb-true, eq-eqb, cond-true, cond-false}
+use Rattle.std.proofs.Common.{◌≡◌, ◌↔◌, ℕ, ◌+◌, ◌<◌, ◌≤◌, Bool, true, false, IsTrue, eqb, List, [], ◌∷◌, ◌++◌, length, get_or, take, drop, filter, Contains, Option, Some, inl, inr, refl, sym, ap, subst, ◌∙◌}
+use Rattle.std.specs.List.{AllZip}
+use Rattle.std.proofs.lemmas.Bool.{cases_Bool, eqb-true, eq-eqb}
 use Rattle.std.proofs.lemmas.List.{at_drop_more, take_all, take_more, append-nil}
 use Rattle.page_ranges.specs.declared.ranges.Descriptor.{Descriptor}
 use Rattle.page_ranges.specs.declared.ranges.Run.{Run}
 use Rattle.page_ranges.specs.MemoryTypes.{page_count, conventional}
 use Rattle.page_ranges.specs.Memory.{Page, page_at, IsProperMemory, IsConventional}
 use Rattle.page_ranges.specs.MemoryMap.{memory_map}
-use Rattle.page_ranges.specs.Runs.{page_in, pages_of, IsInRun, AreRuns}
+use Rattle.page_ranges.specs.Runs.{page_in, pages_of, AreRuns}
 use Rattle.page_ranges.proofs.Blocks.{entry_end}
 use Rattle.page_ranges.proofs.Members.{all_implied}
 use Rattle.page_ranges.proofs.RunLists.{page_at-held, page_at-not_held, IsProperRun, proper_runs}
 use Rattle.placement_certificate.specs.declared.certificates.Request.{Request}
 use Rattle.placement_certificate.specs.declared.certificates.Bound.{Bound}
-use Rattle.placement_certificate.specs.Placement.{IsPermittedStart, price}
 use Rattle.placement_certificate.specs.Certificates.{IsTrueLeast, conventional_entries}
-use Rattle.placement_certificate.specs.Search.{AreRunsBy, better}
+use Rattle.placement_certificate.specs.Search.{AreRunsBy}
 use Rattle.placement_certificate.proofs.Tries.{first_pages}
 
 -- ---- the run that holds a page
