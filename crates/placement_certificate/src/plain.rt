@@ -1,13 +1,12 @@
 //! A plain search for the best start, which tries every start and builds the changed memory for
 //! each: slow, and meant for tests of faster ones.
-ghost use Rattle.std.specs.Prelude.{◌≡◌, ℕ, ◌+◌, ◌-◌, ◌<◌, ◌≤◌, ◌++◌, ◌↔◌, List, Some, None, IsTrue, IfSome, IfOk, OnOk};
+ghost use Rattle.std.specs.Prelude.{◌≡◌, ℕ, ◌+◌, ◌-◌, ◌≤◌, ◌++◌, ◌↔◌, None, IsTrue, IfSome, IfOk, OnOk};
 ghost use Rattle.page_ranges.specs.declared.ranges.Owner.TheVariants.{Pages};
-ghost use Rattle.page_ranges.specs.declared.ranges.Run.{Run};
 ghost use Rattle.page_ranges.specs.MemoryTypes.{page_count};
 ghost use Rattle.page_ranges.specs.Memory.{row, page_at, retyped, IsConventional, IsProperMemory};
 ghost use Rattle.page_ranges.specs.MemoryMap.{memory_map, should_be_one};
 ghost use Rattle.page_ranges.specs.Runs.{page_in, pages_of, AreRuns};
-ghost use Rattle.placement_certificate.specs.Placement.{IsProperRequest, IsPermittedStart, range_at, price};
+ghost use Rattle.placement_certificate.specs.Placement.{IsProperRequest, IsPermittedStart, price};
 ghost use Rattle.placement_certificate.specs.Certificates.{IsTrueLeast, IsTrueCertificate};
 ghost use Rattle.placement_certificate.specs.Search.{AreRunsBy, better};
 

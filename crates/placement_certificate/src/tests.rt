@@ -1,10 +1,10 @@
 //! Expected values worked out by hand.
-ghost use Rattle.std.specs.Prelude.{◌≡◌, ◌^◌, ◌∷◌, []};
+ghost use Rattle.std.specs.Prelude.{◌≡◌};
 ghost use Rattle.page_ranges.specs.declared.ranges.Owner.TheVariants.{Given};
-ghost use Rattle.page_ranges.specs.Memory.{IsProperMemory};
-ghost use Rattle.page_ranges.specs.Runs.{pages_of, AreRuns};
-ghost use Rattle.placement_certificate.specs.Search.{AreRunsBy};
 ghost use Rattle.page_ranges.specs.MemoryTypes.{page_count};
+ghost use Rattle.page_ranges.specs.Memory.{IsProperMemory};
+ghost use Rattle.page_ranges.specs.Runs.{pages_of};
+ghost use Rattle.placement_certificate.specs.Search.{AreRunsBy};
 
 use super::*;
 use page_ranges::{Descriptor, MemoryType, Owner, PageRange, Run};
