@@ -115,6 +115,18 @@ best_place m r e p proper good entry best = elim (edges m r e p proper good entr
   | inr (inr c) ↦ inr (inr (λ q i h. best.highest q i h (omega (arith, c, best.lowest q i h, price_most m r q proper good h))))
 ]
 
+-- the first page is cheaper than a start whose two edges are inside entries
+pub best_first_or_end : (m : List Page) (r : Request) (e : Descriptor) (p : ℕ) → IsProperMemory m → IsProperRequest r → Contains (memory_map m) e → IsBestIn m r e p → (p ≡ e.first) ⊎ EndsEntry m (p + r.pages)
+best_first_or_end m r e p proper good entry best = elim (edges m r e p proper good entry best.in_entry best.permitted) [
+  | inl a ↦ inl a
+  | inr (inl b) ↦ inr b
+  | inr (inr c) ↦
+      let some = (entry_is_block m proper.ascending e entry).some in
+      let first = first_permitted m r e p proper good entry best.in_entry best.permitted in
+      let cheap = first_price m r e p proper good entry best.in_entry best.permitted in
+      absurd (omega (arith, c, cheap, best.lowest e.first (record { low = omega arith; high = omega arith }) first))
+]
+
 module _ (m : List Page) (r : Request) (e : Descriptor) (p : ℕ) (proper : IsProperMemory m) (good : IsProperRequest r) (entry : Contains (memory_map m) e) (in_entry : IsIn e p) (permitted : IsPermittedStart m r p)
     (tried : (q : ℕ) → IsIn e q → IsPermittedStart m r q → IsPlace m r e q → (price m r p ≤ price m r q) × (price m r q ≡ price m r p → q ≤ p)) where
   none_lower : (q : ℕ) → IsIn e q → IsPermittedStart m r q → price m r p ≤ price m r q

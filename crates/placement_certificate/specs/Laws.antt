@@ -78,6 +78,10 @@ IsPlace m r e p = (p ≡ e.first) ⊎ EndsEntry m (p + r.pages) ⊎ IsHighestIn 
 abbrev pub BlockEndsLaw : Type 0
 BlockEndsLaw = (m : List Page) (r : Request) (e : Descriptor) (p : ℕ) → IsProperMemory m → IsProperRequest r → Contains (memory_map m) e → IsBestIn m r e p → IsPlace m r e p
 
+-- It is the entry's first page, or ends where an entry ends, since the first page is permitted where any start in the entry is.
+abbrev pub FirstOrEndLaw : Type 0
+FirstOrEndLaw = (m : List Page) (r : Request) (e : Descriptor) (p : ℕ) → IsProperMemory m → IsProperRequest r → Contains (memory_map m) e → IsBestIn m r e p → (p ≡ e.first) ⊎ EndsEntry m (p + r.pages)
+
 -- A permitted start in an entry is the best there if no permitted start at one of these places is better.
 abbrev pub CandidatesLaw : Type 0
 CandidatesLaw = (m : List Page) (r : Request) (e : Descriptor) (p : ℕ) → IsProperMemory m → IsProperRequest r → Contains (memory_map m) e → IsIn e p → IsPermittedStart m r p →

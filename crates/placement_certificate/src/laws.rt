@@ -1,6 +1,6 @@
 //! The laws that the search for the best start rests on, each the contract of a function that does
 //! nothing.
-ghost use Rattle.placement_certificate.specs.Laws.{MapLengthLaw, InsideLaw, PriceLaw, FirstPageLaw, StretchLaw, EdgesLaw, BlockEndsLaw, CandidatesLaw, OneCertificateLaw, MapDecidesLaw, BestBoundLaw};
+ghost use Rattle.placement_certificate.specs.Laws.{MapLengthLaw, InsideLaw, PriceLaw, FirstPageLaw, StretchLaw, EdgesLaw, BlockEndsLaw, FirstOrEndLaw, CandidatesLaw, OneCertificateLaw, MapDecidesLaw, BestBoundLaw};
 
 /// The memory map has one entry for each page with no equal page just below it.
 pub fn map_length_law()
@@ -35,6 +35,11 @@ pub fn edges_law()
 /// Where a best start stands in its entry.
 pub fn block_ends_law()
     ensures { BlockEndsLaw }
+{}
+
+/// Where a best start stands in its entry, given that the entry's first page is permitted.
+pub fn first_or_end_law()
+    ensures { FirstOrEndLaw }
 {}
 
 /// Which starts of an entry need to be tried.
