@@ -10,7 +10,7 @@ use Rattle.page_ranges.proofs.Blocks.{entry_is_block, entry_of_page, entry_end}
 use Rattle.placement_certificate.specs.declared.certificates.Request.{Request}
 use Rattle.placement_certificate.specs.Placement.{IsProperRequest, IsPermittedStart, price, IsBestIn}
 use Rattle.placement_certificate.specs.Laws.{IsStretch, EndsEntry, IsHighestIn, IsPlace}
-use Rattle.placement_certificate.proofs.Edges.{adds-one, adds-none, adds-most, takes-none, good_not_conventional, block_conventional, like_conventional, below_is_like}
+use Rattle.placement_certificate.proofs.Edges.{adds-one, adds-none, adds-most, saves-none, good_not_conventional, block_conventional, like_conventional, below_is_like}
 use Rattle.placement_certificate.proofs.Prices.{price_is}
 
 -- ---- stretches
@@ -89,8 +89,8 @@ module _ (m : List Page) (r : Request) (e : Descriptor) (p : ℕ) (proper : IsPr
         price_is m r Pages p proper good permitted,
         adds-one e (page_below m p) (page_at m p) below (is_block.all p in_entry),
         adds-one c (page_below m (p + r.pages)) (page_at m (p + r.pages)) high above,
-        takes-none r.mtype (page_below m p) (page_at m p) (like_conventional e _ below free_entry) other,
-        takes-none r.mtype (page_at m (p + r.pages)) (page_below m (p + r.pages)) (like_conventional c _ above free) other,
+        saves-none r.mtype (page_below m p) (page_at m p) (like_conventional e _ below free_entry) other,
+        saves-none r.mtype (page_at m (p + r.pages)) (page_below m (p + r.pages)) (like_conventional c _ above free) other,
       )
 
   pub edges : (p ≡ e.first) ⊎ EndsEntry m (p + r.pages) ⊎ (price m r p ≡ length (memory_map m) + 2)

@@ -47,12 +47,12 @@ pub fn candidates_law()
     ensures { CandidatesLaw }
 {}
 
-/// There is at most one true certificate, and none where no start is permitted.
+/// Two true certificates of one request are equal.
 pub fn one_certificate_law()
     ensures { OneCertificateLaw }
 {}
 
-/// The memory map alone decides which certificate is true.
+/// Memories with one memory map have the same true certificates.
 pub fn map_decides_law()
     ensures { MapDecidesLaw }
 {}
