@@ -70,19 +70,19 @@ one_order (y ∷ ys) (z ∷ zs) a b f g =
     let heads : y ≡ z = elim (member_cases z zs y (f y (member_first y ys))) [
       | inl e ↦ sym e
       | inr t ↦ elim (member_cases y ys z (g z (member_first z zs))) [
-          | inl e ↦ e
-          | inr u ↦ absurd (let p = above_z y t in let q = above_y z u in omega (arith, a.0, b.0))
-        ]
+        | inl e ↦ e
+        | inr u ↦ absurd (let p = above_z y t in let q = above_y z u in omega (arith, a.0, b.0))
+      ]
     ] in
     let tails : ys ≡ zs = one_order ys zs a.2 b.2
-      (λ x m. elim (member_cases z zs x (f x (member_later y ys x m))) [
-        | inl e ↦ absurd (let p : y.range.first + y.range.pages ≤ y.range.first = subst (λ (t : Run). y.range.first + y.range.pages ≤ t.range.first) (sym (heads ∙ e)) (above_y x m) in omega (arith, a.0))
-        | inr t ↦ t
-      ])
-      (λ x m. elim (member_cases y ys x (g x (member_later z zs x m))) [
-        | inl e ↦ absurd (let p : z.range.first + z.range.pages ≤ z.range.first = subst (λ (t : Run). z.range.first + z.range.pages ≤ t.range.first) (sym (sym heads ∙ e)) (above_z x m) in omega (arith, b.0))
-        | inr t ↦ t
-      ]) in
+    (λ x m. elim (member_cases z zs x (f x (member_later y ys x m))) [
+      | inl e ↦ absurd (let p : y.range.first + y.range.pages ≤ y.range.first = subst (λ (t : Run). y.range.first + y.range.pages ≤ t.range.first) (sym (heads ∙ e)) (above_y x m) in omega (arith, a.0))
+      | inr t ↦ t
+    ])
+    (λ x m. elim (member_cases y ys x (g x (member_later z zs x m))) [
+      | inl e ↦ absurd (let p : z.range.first + z.range.pages ≤ z.range.first = subst (λ (t : Run). z.range.first + z.range.pages ≤ t.range.first) (sym (sym heads ∙ e)) (above_z x m) in omega (arith, b.0))
+      | inr t ↦ t
+    ]) in
     ap₂ ◌∷◌ heads tails
 
 -- ---- pages in common
@@ -148,12 +148,14 @@ apart : (ys : List Run) → AreRuns ys → AllByRecursion (λ r. count_by (share
 apart [] a = tt
 apart (y ∷ ys) a =
     let none : count_by (shares_page y) ys ≡ 0 = none_counted (shares_page y) ys (all_implied (λ s. y.range.first + y.range.pages ≤ s.range.first) (λ s. shares_page y s ≡ false) (λ s h. (before y s h).0) ys a.1) in
-    let first : count_by (shares_page y) (y ∷ ys) ≡ 1 + count_by (shares_page y) ys = count-cons (shares_page y) y ys true (itself y a.0) in
-    (omega arith, all_implied
-      (λ s. (y.range.first + y.range.pages ≤ s.range.first) × (count_by (shares_page s) ys ≤ 1))
-      (λ s. count_by (shares_page s) (y ∷ ys) ≤ 1)
-      (λ s h. let more : count_by (shares_page s) (y ∷ ys) ≡ 0 + count_by (shares_page s) ys = count-cons (shares_page s) y ys false (before y s h.0).1 in omega (arith, h.1))
-      ys (all_both (λ s. y.range.first + y.range.pages ≤ s.range.first) (λ s. count_by (shares_page s) ys ≤ 1) ys a.1 (apart ys a.2)))
+    let first : count_by (shares_page y) (y ∷ ys) ≡ 1 + count_by (shares_page y) ys = count-cons (shares_page y) y ys true (itself y a.0) in (
+      omega arith,
+      all_implied
+          (λ s. (y.range.first + y.range.pages ≤ s.range.first) × (count_by (shares_page s) ys ≤ 1))
+          (λ s. count_by (shares_page s) (y ∷ ys) ≤ 1)
+          (λ s h. let more : count_by (shares_page s) (y ∷ ys) ≡ 0 + count_by (shares_page s) ys = count-cons (shares_page s) y ys false (before y s h.0).1 in omega (arith, h.1))
+          ys (all_both (λ s. y.range.first + y.range.pages ≤ s.range.first) (λ s. count_by (shares_page s) ys ≤ 1) ys a.1 (apart ys a.2)),
+    )
 
 pub overlap-in_order : (ys : List Run) → AreRuns ys → overlap ys ≡ false
 overlap-in_order ys a = not_any (λ r. nat_lt 1 (count_by (shares_page r) ys)) ys (all_implied (λ r. count_by (shares_page r) ys ≤ 1) (λ r. nat_lt 1 (count_by (shares_page r) ys) ≡ false) (λ r h. le-ltb 1 (count_by (shares_page r) ys) h) ys (apart ys a))
@@ -174,12 +176,15 @@ rising_apart (y ∷ ys) some a h =
     let first : count_by (shares_page y) (y ∷ ys) ≡ 1 + count_by (shares_page y) ys = count-cons (shares_page y) y ys true (itself y some.0) in
     let most : count_by (shares_page y) (y ∷ ys) ≤ 1 = h.0 in
     let none : AllByRecursion (λ s. shares_page y s ≡ false) ys = all_not (shares_page y) ys (any_counted (shares_page y) ys ∙ le-ltb 0 (count_by (shares_page y) ys) (omega arith)) in
-    let rest : AllByRecursion (λ s. count_by (shares_page s) ys ≤ 1) ys = all_implied (λ s. count_by (shares_page s) (y ∷ ys) ≤ 1) (λ s. count_by (shares_page s) ys ≤ 1) (λ s k. fewer (shares_page s) y ys k) ys h.1 in
-    (some.0, all_implied
-      (λ s. ((0 < s.range.pages) × (y.range.first ≤ s.range.first)) × (shares_page y s ≡ false))
-      (λ s. y.range.first + y.range.pages ≤ s.range.first)
-      (λ s k. ends_before y s k.0.0 k.0.1 k.1)
-      ys (all_both (λ s. (0 < s.range.pages) × (y.range.first ≤ s.range.first)) (λ s. shares_page y s ≡ false) ys (all_both (λ s. 0 < s.range.pages) (λ s. y.range.first ≤ s.range.first) ys some.1 a.0) none), rising_apart ys some.1 a.1 rest)
+    let rest : AllByRecursion (λ s. count_by (shares_page s) ys ≤ 1) ys = all_implied (λ s. count_by (shares_page s) (y ∷ ys) ≤ 1) (λ s. count_by (shares_page s) ys ≤ 1) (λ s k. fewer (shares_page s) y ys k) ys h.1 in (
+      some.0,
+      all_implied
+          (λ s. ((0 < s.range.pages) × (y.range.first ≤ s.range.first)) × (shares_page y s ≡ false))
+          (λ s. y.range.first + y.range.pages ≤ s.range.first)
+          (λ s k. ends_before y s k.0.0 k.0.1 k.1)
+          ys (all_both (λ s. (0 < s.range.pages) × (y.range.first ≤ s.range.first)) (λ s. shares_page y s ≡ false) ys (all_both (λ s. 0 < s.range.pages) (λ s. y.range.first ≤ s.range.first) ys some.1 a.0) none),
+      rising_apart ys some.1 a.1 rest,
+    )
 
 pub apart_in_order : (ys : List Run) → AllByRecursion (λ r. 0 < r.range.pages) ys → AreRising ys → overlap ys ≡ false → AreRuns ys
 apart_in_order ys some a e = rising_apart ys some a (all_implied (λ r. nat_lt 1 (count_by (shares_page r) ys) ≡ false) (λ r. count_by (shares_page r) ys ≤ 1) (λ r h. ltb-false 1 (count_by (shares_page r) ys) h) ys (all_not (λ r. nat_lt 1 (count_by (shares_page r) ys)) ys e))
