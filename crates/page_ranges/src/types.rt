@@ -1,6 +1,6 @@
 //! Memory types, and the attributes that go with them.
 ghost use Rattle.std.specs.Prelude.{◌≡◌, Ok, Err, if◌then◌else◌};
-ghost use Rattle.page_ranges.specs.MemoryTypes.{attributes_as, conventional, is_bad_type, is_machine_type};
+ghost use Rattle.page_ranges.specs.MemoryTypes.{attributes_as, conventional, has_runtime, is_bad_type, is_machine_type};
 
 use crate::statuses::Status;
 use std::marker::Model;
@@ -65,6 +65,13 @@ impl MemoryType {
             attributes & !RUNTIME
         }
     }
+}
+
+/// Whether attributes have RUNTIME set.
+pub fn has_runtime(attributes: u64) -> bool
+    ensures { result ≡ has_runtime attributes }
+{
+    attributes & RUNTIME != 0
 }
 
 /// The type of a request for pages: INVALID_PARAMETER for a type that no request may name.

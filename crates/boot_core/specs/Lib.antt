@@ -1,0 +1,3 @@
+pub mod MachineRuns
+pub mod Machines
+pub mod Steps

@@ -1,0 +1,14 @@
+-- The runs that a machine may have.
+use Rattle.std.specs.Prelude.{◌≡◌, ℕ, ◌+◌, ◌<◌, ◌≤◌, true, false}
+use Rattle.page_ranges.specs.declared.ranges.Owner.TheVariants.{Given}
+use Rattle.page_ranges.specs.declared.ranges.Run.{Run}
+use Rattle.page_ranges.specs.MemoryTypes.{page_count, conventional, has_runtime, is_machine_type}
+
+-- a nonempty run below the last page number, of the machine's own and of a type that a machine may have; a conventional
+-- one lacks RUNTIME
+pub record IsMachineRun (r : Run) : Type 0 where
+  pub some : 0 < r.range.pages
+  pub within : r.range.first + r.range.pages ≤ page_count
+  pub given : r.owner ≡ Given
+  pub mtype : is_machine_type r.mtype ≡ true
+  pub no_runtime : r.mtype ≡ conventional → has_runtime r.attributes ≡ false

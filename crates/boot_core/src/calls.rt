@@ -1,0 +1,26 @@
+//! The calls of the boot services, and the replies to them: a variant for each service.
+use page_ranges::Status;
+use page_services::Placed;
+use std::alloc::{Allocator, Global};
+
+/// A call of a boot service, its numbers as the caller gave them.
+#[derive(Clone, Copy, Debug, PartialEq, Eq)]
+pub enum Call {
+    AllocatePages {
+        kind: u32,
+        mtype: u32,
+        pages: u64,
+        memory: u64,
+    },
+    FreePages {
+        memory: u64,
+        pages: u64,
+    },
+}
+
+/// What a boot service answers.
+#[derive(Debug, Drop)]
+pub enum Reply<A: Allocator = Global> {
+    AllocatePages(Result<Placed<A>, Status>),
+    FreePages(Result<(), Status>),
+}

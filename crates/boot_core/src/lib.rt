@@ -1,0 +1,10 @@
+//! The boot services on a machine.
+#![tactic(auto)]
+
+mod calls;
+mod core_state;
+mod machines;
+
+pub use calls::{Call, Reply};
+pub use core_state::Core;
+pub use machines::Machine;

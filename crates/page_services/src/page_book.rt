@@ -1,0 +1,135 @@
+//! The book of a machine's pages.
+ghost use Rattle.std.specs.Prelude.{◌≡◌, ◌+◌, ◌<◌, ◌^◌, MatchResult, OnOk, OnErr, Err};
+ghost use Rattle.page_ranges.specs.declared.ranges.Owner.TheVariants.{Given};
+ghost use Rattle.page_ranges.specs.MemoryTypes.{conventional};
+ghost use Rattle.page_ranges.specs.Memory.{IsPresent, AllInRange};
+ghost use Rattle.page_services.specs.PageRules.{AllocatesPages, FreesPages, changed_book};
+
+use descriptor_table::RunTable;
+use page_ranges::{MemoryType, Owner, PAGE_COUNT, PAGE_SIZE, PageRange, Status, type_for_alloc};
+use placement_certificate::Certificate;
+use std::alloc::{Allocator, Global};
+use std::marker::Model;
+
+/// AllocateAddress: the range starts at the address of the request.
+const ALLOCATE_ADDRESS: u32 = 2;
+
+/// Where pages were placed.
+#[derive(Debug, Drop)]
+pub struct Placed<A: Allocator = Global> {
+    /// The address of the first page.
+    pub address: u64,
+    /// Why it is the best start, where the service chose it.
+    pub certificate: Option<Certificate<A>>,
+}
+
+/// The memory of a machine, and how often the type of a page has changed in it.
+#[derive(Drop)]
+pub struct PageBook<A: Allocator = Global> {
+    table: RunTable<A>,
+    key: u64,
+}
+
+impl<A: Allocator> Model for PageBook<A> {
+    ghost use Rattle.page_services.specs.PageRules.{Book};
+
+    ghost Value = { Book };
+
+    ghost view = { λ b. record { memory = b.table; key = b.key } };
+}
+
+impl<A: Allocator + Copy> PageBook<A> {
+    /// The book of a memory in which no type has changed.
+    pub fn new(table: RunTable<A>) -> PageBook<A>
+        ensures { result ≡ record { memory = table; key = 1 } }
+    {
+        PageBook { table, key: 1 }
+    }
+
+    /// AllocatePages of the kind `kind`, for the type `mtype`, so many `pages`, at or up to the
+    /// address `memory`. Kinds 0 and 1 are not served yet.
+    ///
+    /// INVALID_PARAMETER: another kind, a type that no request may name, or no pages. NOT_FOUND: an
+    /// unaligned address, or a range that is not all conventional. OUT_OF_RESOURCES: want of memory
+    /// for the table. On an `Err` the book is as it was.
+    pub fn allocate(
+        &mut self,
+        kind: u32,
+        mtype: u32,
+        pages: u64,
+        memory: u64,
+    ) -> Result<Placed<A>, Status>
+        requires { self.old.key < 2 ^ 62 }
+        ensures { AllocatesPages self.old kind mtype pages memory result self.new }
+    {
+        if kind != ALLOCATE_ADDRESS {
+            return Err(Status::InvalidParameter);
+        }
+        let mtype = type_for_alloc(mtype)?;
+        if pages == 0 {
+            return Err(Status::InvalidParameter);
+        }
+        let range = PageRange {
+            first: memory / PAGE_SIZE,
+            pages,
+        };
+        if memory % PAGE_SIZE != 0 || !self.table.all_conventional(range) {
+            return Err(Status::NotFound);
+        }
+        self.change(range, mtype, Owner::Pages)?;
+        Ok(Placed {
+            address: memory,
+            certificate: None,
+        })
+    }
+
+    /// FreePages of so many `pages` from the address `memory` on: they are conventional again.
+    ///
+    /// INVALID_PARAMETER: an unaligned address, no pages, or a range past the last page. NOT_FOUND:
+    /// a page that AllocatePages did not place. OUT_OF_RESOURCES: want of memory for the table. On
+    /// an `Err` the book is as it was.
+    pub fn free(&mut self, memory: u64, pages: u64) -> Result<(), Status>
+        requires { self.old.key < 2 ^ 62 }
+        ensures { FreesPages self.old memory pages result self.new }
+    {
+        let range = PageRange {
+            first: memory / PAGE_SIZE,
+            pages,
+        };
+        if memory % PAGE_SIZE != 0 || pages == 0 || pages > PAGE_COUNT - range.first {
+            return Err(Status::InvalidParameter);
+        }
+        if !self.table.all_owned(range, Owner::Pages) {
+            return Err(Status::NotFound);
+        }
+        self.change(range, MemoryType::conventional(), Owner::Given)
+    }
+
+    // Gives pages, of which some are of another type, a type and an owner.
+    fn change(&mut self, range: PageRange, mtype: MemoryType, owner: Owner) -> Result<(), Status>
+        requires key { self.old.key < 2 ^ 62 }
+        requires present { AllInRange self.old.memory range IsPresent }
+        requires owner { mtype ≡ conventional → owner ≡ Given }
+        ensures { MatchResult result (λ _. self.new ≡ changed_book range mtype owner self.old) (λ e. (e ≡ Status.OutOfResources) × (self.new ≡ self.old)) }
+    {
+        self.table
+            .retype(range, mtype, owner)
+            .map_err(|_| Status::OutOfResources)?;
+        self.key += 1;
+        Ok(())
+    }
+
+    /// The map key: 1 when new, and one more for each call that changed the type of a page.
+    pub fn key(&self) -> u64
+        ensures { result ≡ self.now.key }
+    {
+        self.key
+    }
+
+    /// The memory.
+    pub fn table(&self) -> &RunTable<A>
+        ensures { result.now ≡ self.now.memory }
+    {
+        &self.table
+    }
+}
