@@ -3,7 +3,7 @@ use Rattle.std.specs.Prelude.{ℕ, ◌^◌, Bool, nat_lt, nat_eq, List, [], ◌�
 use Rattle.std.specs.List.{starts_with}
 use Rattle.std.specs.Io.BufRead.{strip_last}
 use Rattle.boot_core.specs.declared.calls.Call.{Call}
-use Rattle.boot_core.specs.declared.calls.Call.TheVariants.{AllocatePages}
+use Rattle.boot_core.specs.declared.calls.Call.TheVariants.{AllocatePages, FreePages}
 use Rattle.boot_trace.specs.declared.calls.TraceCall.{TraceCall}
 use Rattle.boot_trace.specs.declared.calls.TraceCall.TheVariants as trace_call
 use Rattle.boot_trace.specs.declared.faults.TraceFault.{TraceFault}
@@ -45,6 +45,10 @@ call_of verb.Pages (kind ∷ mtype ∷ pages ∷ memory ∷ []) = do
   p ← u64_of pages
   m ← u64_of memory
   Ok (trace_call.Service (AllocatePages k t p m))
+call_of verb.FreePages (memory ∷ pages ∷ []) = do
+  m ← u64_of memory
+  p ← u64_of pages
+  Ok (trace_call.Service (FreePages m p))
 call_of verb.List [] = Ok trace_call.List
 call_of v words = Err fault.Words
 

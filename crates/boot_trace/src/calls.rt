@@ -65,6 +65,7 @@ fn read_verb(verb: Verb, parameters: &[&[u8]]) -> Result<TraceCall, TraceFault>
 {
     match (verb, parameters) {
         (Verb::Pages, [kind, mtype, pages, memory]) => read_pages(kind, mtype, pages, memory),
+        (Verb::FreePages, [memory, pages]) => read_free_pages(memory, pages),
         (Verb::List, []) => Ok(TraceCall::List),
         _ => Err(TraceFault::Words),
     }
@@ -84,6 +85,16 @@ fn read_pages(
         mtype: read_u32(mtype)?,
         pages: read_u64(pages)?,
         memory: read_u64(memory)?,
+    }))
+}
+
+/// What `free-pages` asks for.
+fn read_free_pages(memory: &[u8], pages: &[u8]) -> Result<TraceCall, TraceFault>
+    ensures { result ≡ call_of Verb.FreePages (memory.now ∷ pages.now ∷ []) }
+{
+    Ok(TraceCall::Service(Call::FreePages {
+        memory: read_u64(memory)?,
+        pages: read_u64(pages)?,
     }))
 }
 

@@ -5,14 +5,8 @@ ghost use Rattle.boot_trace.specs.MachineText.{hexadecimal_at, type_of, first_pa
 
 use crate::faults::MemberField;
 use crate::numbers::hexadecimal_of;
-use page_ranges::{MemoryType, Owner, PAGE_SIZE, PageRange, Run};
+use page_ranges::{MemoryType, Owner, PAGE_COUNT, PAGE_SIZE, PageRange, Run, has_runtime};
 use serde_json::Value;
-
-/// How many pages there can be: a page number is below this.
-const PAGE_COUNT: u64 = 1 << 52;
-
-/// The attribute bit EFI_MEMORY_RUNTIME.
-const RUNTIME: u64 = 0x8000_0000_0000_0000;
 
 /// The run of a member, or its first field that is missing, of another kind or out of its range. A
 /// member that is no object lacks them all.
@@ -63,7 +57,7 @@ fn attributes_of(member: &Value, mtype: MemoryType) -> Option<u64>
     ensures { result ≡ attributes_of mtype (view member.now) }
 {
     let attributes = hexadecimal_at(member, "attributes")?;
-    let is_refused = mtype == MemoryType::conventional() && attributes & RUNTIME != 0;
+    let is_refused = mtype == MemoryType::conventional() && has_runtime(attributes);
     (!is_refused).then_some(attributes)
 }
 

@@ -1,6 +1,6 @@
 //! The text of replies.
 use boot_core::{Core, Reply};
-use page_ranges::{Descriptor, PAGE_SIZE};
+use page_ranges::{Descriptor, PAGE_SIZE, Status};
 use std::alloc::{AllocError, Allocator};
 
 /// Appends the line of a reply.
@@ -14,11 +14,21 @@ pub fn print_reply<A: Allocator>(
             let address = placed.address;
             writeln!(text, "{number} pages SUCCESS address=0x{address:x}")
         }
-        Reply::AllocatePages(Err(status)) => {
-            let name = status.name();
-            writeln!(text, "{number} pages {name}")
-        }
+        Reply::AllocatePages(Err(status)) => print_refusal(text, number, "pages", *status),
+        Reply::FreePages(Ok(())) => writeln!(text, "{number} free-pages SUCCESS"),
+        Reply::FreePages(Err(status)) => print_refusal(text, number, "free-pages", *status),
     }
+}
+
+/// Appends the line of a refused call.
+fn print_refusal<A: Allocator>(
+    text: &mut String<A>,
+    number: u64,
+    verb: &str,
+    status: Status,
+) -> Result<(), AllocError> {
+    let name = status.name();
+    writeln!(text, "{number} {verb} {name}")
 }
 
 /// Appends the lines of a listing: the memory map's length, and its entries.

@@ -1,16 +1,18 @@
 //! The verbs of a trace.
-ghost use Rattle.std.specs.Prelude.{◌≡◌};
+ghost use Rattle.std.specs.Prelude.{◌≡◌, find};
+ghost use Rattle.std.specs.Str.{bytes_eq};
 ghost use Rattle.boot_trace.specs.Verbs.{name_of, verb_named};
 
 /// A verb.
 #[derive(Clone, Copy, Debug, PartialEq, Eq)]
 pub enum Verb {
     Pages,
+    FreePages,
     List,
 }
 
 /// All verbs.
-const VERBS: [Verb; 2] = [Verb::Pages, Verb::List];
+const VERBS: [Verb; 3] = [Verb::Pages, Verb::FreePages, Verb::List];
 
 impl Verb {
     /// How the verb is written.
@@ -19,6 +21,7 @@ impl Verb {
     {
         match self {
             Verb::Pages => "pages",
+            Verb::FreePages => "free-pages",
             Verb::List => "list",
         }
     }
@@ -28,7 +31,17 @@ impl Verb {
 pub fn verb_named(name: &[u8]) -> Option<Verb>
     ensures { result ≡ verb_named name.now }
 {
-    VERBS
-        .into_iter()
-        .find(|verb| verb.name().as_bytes() == name)
+    find_verb(&VERBS, name)
+}
+
+/// The first of the verbs that is written so.
+fn find_verb(verbs: &[Verb], name: &[u8]) -> Option<Verb>
+    ensures { result ≡ find (λ verb. bytes_eq (name_of verb) name.now) verbs.now }
+{
+    for verb in verbs {
+        if verb.name().as_bytes() == name {
+            return Some(*verb);
+        }
+    }
+    None
 }
