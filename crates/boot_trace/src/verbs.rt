@@ -31,17 +31,15 @@ impl Verb {
 pub fn verb_named(name: &[u8]) -> Option<Verb>
     ensures { result ≡ verb_named name.now }
 {
-    find_verb(&VERBS, name)
+    verb_among(&VERBS, name)
 }
 
 /// The first of the verbs that is written so.
-fn find_verb(verbs: &[Verb], name: &[u8]) -> Option<Verb>
-    ensures { result ≡ find (λ verb. bytes_eq (name_of verb) name.now) verbs.now }
+fn verb_among(verbs: &[Verb], name: &[u8]) -> Option<Verb>
+    ensures { result ≡ find (λ v. bytes_eq (name_of v) name.now) verbs.now }
 {
-    for verb in verbs {
-        if verb.name().as_bytes() == name {
-            return Some(*verb);
-        }
-    }
-    None
+    verbs
+        .iter()
+        .copied()
+        .find(|verb| verb.name().as_bytes() == name)
 }

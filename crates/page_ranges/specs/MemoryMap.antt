@@ -1,4 +1,4 @@
--- The memory map: the maximal blocks of consecutive present pages with equal type and attributes, ascending.
+-- The memory map: an entry for each stretch of neighbouring pages that agree in type and attributes, whoever owns them, by ascending page.
 use Rattle.std.specs.Prelude.{◌≡◌, ℕ, ◌+◌, ◌<◌, ◌≤◌, Bool, true, false, ◌&&◌, ◌==◌, List, [], ◌∷◌, flat_map, Option, Some, None, if◌then◌else◌}
 use Rattle.std.specs.List.{AllByRecursion}
 use Rattle.page_ranges.specs.declared.ranges.Descriptor.{Descriptor}

@@ -1,6 +1,6 @@
 -- The true certificate of a request, computed from the pages: each start of each conventional entry is tried.
-use Rattle.std.proofs.Common.{◌≡◌, ℕ, zero, suc, ◌+◌, ◌<◌, ◌≤◌, Bool, true, false, cond, ◌&&◌, eqb, leb, List, [], ◌∷◌, ◌++◌, map, Contains, Option, Some, None, inl, inr, true≢false, refl, sym, ap, subst, ◌∙◌, append_assoc, arith}
-use Rattle.std.specs.List.{AllZip, AllByRecursion}
+use Rattle.std.proofs.Common.{◌≡◌, ℕ, zero, suc, ◌+◌, ◌<◌, ◌≤◌, Bool, true, false, cond, ◌&&◌, eqb, leb, List, [], ◌∷◌, ◌++◌, map, Option, Some, None, inl, inr, true≢false, refl, sym, subst, ◌∙◌, append_assoc, arith}
+use Rattle.std.specs.List.{AllZip}
 use Rattle.std.proofs.lemmas.Bool.{cases_eq, cases_Bool, eqb-true, eq-eqb, leb-true, le-leb, and_parts, and_from}
 use Rattle.std.proofs.lemmas.List.{append-nil}
 use Rattle.page_ranges.specs.declared.ranges.Descriptor.{Descriptor}

@@ -7,7 +7,7 @@ use Rattle.page_ranges.specs.Memory.{Page, page_at, page_below, IsAscending, IsC
 use Rattle.page_ranges.specs.MemoryMap.{memory_map, IsLike, IsMaximalBlock}
 use Rattle.page_ranges.proofs.Lookups.{page_below-page_at}
 use Rattle.page_ranges.proofs.Blocks.{entry_is_block, entry_of_page}
-use Rattle.placement_certificate.specs.Laws.{are_alike, adds, takes}
+use Rattle.placement_certificate.specs.Laws.{are_alike, adds, saves}
 
 alike_parts : (x y : Page) → are_alike (Some x) (Some y) ≡ true → (x.mtype ≡ y.mtype) × (x.attributes ≡ y.attributes)
 alike_parts x y t =
@@ -39,10 +39,10 @@ pub adds-most : (x y : Option Page) → adds x y ≤ 1
 adds-most x y = elim (are_alike x y) as (λ c. cond c 1 0 ≤ 1) [ true ↦ omega arith | false ↦ omega arith ]
 
 -- a conventional neighbour has not the request's type
-pub takes-none : (t : ℕ) (o i : Option Page) → IsConventional o → t ≢ conventional → takes t o i ≡ 0
-takes-none t None i c n = refl
-takes-none t (Some x) None c n = refl
-takes-none t (Some x) (Some y) c n = ap (λ b. cond b 1 0) (and_left (eqb x.mtype t) (eqb x.attributes (attributes_as t y.attributes)) (ne_eqb x.mtype t (λ e. n (sym e ∙ c))))
+pub saves-none : (t : ℕ) (o i : Option Page) → IsConventional o → t ≢ conventional → saves t o i ≡ 0
+saves-none t None i c n = refl
+saves-none t (Some x) None c n = refl
+saves-none t (Some x) (Some y) c n = ap (λ b. cond b 1 0) (and_left (eqb x.mtype t) (eqb x.attributes (attributes_as t y.attributes)) (ne_eqb x.mtype t (λ e. n (sym e ∙ c))))
 
 pub good_not_conventional : (t : ℕ) → is_bad_type t ≡ false → t ≢ conventional
 good_not_conventional t f e =

@@ -8,6 +8,8 @@ pub mod MapDecides
 pub mod BestBounds
 pub mod Tries
 pub mod Decided
+pub mod Machines
 pub mod Samples
 pub mod PlainMaps
 pub mod PlainPrices
+pub mod PlainSearch

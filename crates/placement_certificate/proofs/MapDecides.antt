@@ -11,7 +11,7 @@ use Rattle.placement_certificate.specs.declared.certificates.Request.{Request}
 use Rattle.placement_certificate.specs.declared.certificates.Bound.{Bound}
 use Rattle.placement_certificate.specs.Placement.{IsProperRequest, IsPermittedStart, price, IsBestStart, IsBestIn}
 use Rattle.placement_certificate.specs.Certificates.{CertificateValue, IsTrueLeast, IsTrueBound, conventional_entries, IsTrueCertificate}
-use Rattle.placement_certificate.specs.Laws.{adds, takes}
+use Rattle.placement_certificate.specs.Laws.{adds, saves}
 use Rattle.placement_certificate.proofs.Prices.{price_is}
 
 -- both are absent, or they have equal type and attributes
@@ -59,14 +59,14 @@ adds-look (Some x) (Some x') None (Some y') k l = absurd l
 adds-look (Some x) (Some x') (Some y) None k l = absurd l
 adds-look (Some x) (Some x') (Some y) (Some y') k l = rw (k.0, k.1, l.0, l.1)
 
-takes-look : (t : ℕ) (x x' y y' : Option Page) → LookAlike x x' → LookAlike y y' → takes t x y ≡ takes t x' y'
-takes-look t None None y y' k l = refl
-takes-look t None (Some x') y y' k l = absurd k
-takes-look t (Some x) None y y' k l = absurd k
-takes-look t (Some x) (Some x') None None k l = refl
-takes-look t (Some x) (Some x') None (Some y') k l = absurd l
-takes-look t (Some x) (Some x') (Some y) None k l = absurd l
-takes-look t (Some x) (Some x') (Some y) (Some y') k l = rw (k.0, k.1, l.1)
+saves-look : (t : ℕ) (x x' y y' : Option Page) → LookAlike x x' → LookAlike y y' → saves t x y ≡ saves t x' y'
+saves-look t None None y y' k l = refl
+saves-look t None (Some x') y y' k l = absurd k
+saves-look t (Some x) None y y' k l = absurd k
+saves-look t (Some x) (Some x') None None k l = refl
+saves-look t (Some x) (Some x') None (Some y') k l = absurd l
+saves-look t (Some x) (Some x') (Some y) None k l = absurd l
+saves-look t (Some x) (Some x') (Some y) (Some y') k l = rw (k.0, k.1, l.1)
 
 conventional_look : (x y : Option Page) → LookAlike x y → IsConventional x → IsConventional y
 conventional_look None y l c = absurd c
@@ -98,8 +98,8 @@ module _ (m n : List Page) (r : Request) (proper : IsProperMemory m) (proper_too
         ap length same,
         adds-look _ _ _ _ (below p) (at p),
         adds-look _ _ _ _ (below end) (at end),
-        takes-look r.mtype _ _ _ _ (below p) (at p),
-        takes-look r.mtype _ _ _ _ (at end) (below end),
+        saves-look r.mtype _ _ _ _ (below p) (at p),
+        saves-look r.mtype _ _ _ _ (at end) (below end),
       )
 
   best_in_too : (e : Descriptor) (p : ℕ) → IsBestIn m r e p → IsBestIn n r e p

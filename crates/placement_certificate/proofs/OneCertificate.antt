@@ -1,4 +1,4 @@
--- A memory and a request have at most one true certificate.
+-- True certificates of one request in one memory are equal.
 use Rattle.std.proofs.Common.{◌≡◌, ℕ, List, [], ◌∷◌, Option, Some, None, refl, sym, ap, ap₂, ◌∙◌, arith}
 use Rattle.std.specs.List.{AllZip}
 use Rattle.page_ranges.specs.declared.ranges.Descriptor.{Descriptor}

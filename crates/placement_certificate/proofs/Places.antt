@@ -3,14 +3,14 @@ use Rattle.std.proofs.Common.{◌≡◌, ◌⊎◌, ◌↔◌, ℕ, zero, suc, �
 use Rattle.std.proofs.lemmas.Bool.{cases_lt}
 use Rattle.page_ranges.specs.declared.ranges.Descriptor.{Descriptor}
 use Rattle.page_ranges.specs.declared.ranges.Owner.TheVariants.{Pages}
-use Rattle.page_ranges.specs.MemoryTypes.{conventional}
+use Rattle.page_ranges.specs.MemoryTypes.{page_count, conventional}
 use Rattle.page_ranges.specs.Memory.{Page, page_at, page_below, IsProperMemory, IsConventional}
 use Rattle.page_ranges.specs.MemoryMap.{memory_map, IsLike, IsIn, IsMaximalBlock}
-use Rattle.page_ranges.proofs.Blocks.{entry_is_block, entry_of_page}
+use Rattle.page_ranges.proofs.Blocks.{entry_is_block, entry_of_page, entry_end}
 use Rattle.placement_certificate.specs.declared.certificates.Request.{Request}
 use Rattle.placement_certificate.specs.Placement.{IsProperRequest, IsPermittedStart, price, IsBestIn}
 use Rattle.placement_certificate.specs.Laws.{IsStretch, EndsEntry, IsHighestIn, IsPlace}
-use Rattle.placement_certificate.proofs.Edges.{adds-one, adds-none, adds-most, takes-none, good_not_conventional, block_conventional, like_conventional, below_is_like}
+use Rattle.placement_certificate.proofs.Edges.{adds-one, adds-none, adds-most, saves-none, good_not_conventional, block_conventional, like_conventional, below_is_like}
 use Rattle.placement_certificate.proofs.Prices.{price_is}
 
 -- ---- stretches
@@ -89,8 +89,8 @@ module _ (m : List Page) (r : Request) (e : Descriptor) (p : ℕ) (proper : IsPr
         price_is m r Pages p proper good permitted,
         adds-one e (page_below m p) (page_at m p) below (is_block.all p in_entry),
         adds-one c (page_below m (p + r.pages)) (page_at m (p + r.pages)) high above,
-        takes-none r.mtype (page_below m p) (page_at m p) (like_conventional e _ below free_entry) other,
-        takes-none r.mtype (page_at m (p + r.pages)) (page_below m (p + r.pages)) (like_conventional c _ above free) other,
+        saves-none r.mtype (page_below m p) (page_at m p) (like_conventional e _ below free_entry) other,
+        saves-none r.mtype (page_at m (p + r.pages)) (page_below m (p + r.pages)) (like_conventional c _ above free) other,
       )
 
   pub edges : (p ≡ e.first) ⊎ EndsEntry m (p + r.pages) ⊎ (price m r p ≡ length (memory_map m) + 2)
@@ -113,6 +113,18 @@ best_place m r e p proper good entry best = elim (edges m r e p proper good entr
   | inl a ↦ inl a
   | inr (inl b) ↦ inr (inl b)
   | inr (inr c) ↦ inr (inr (λ q i h. best.highest q i h (omega (arith, c, best.lowest q i h, price_most m r q proper good h))))
+]
+
+-- the first page is cheaper than a start whose two edges are inside entries
+pub best_first_or_end : (m : List Page) (r : Request) (e : Descriptor) (p : ℕ) → IsProperMemory m → IsProperRequest r → Contains (memory_map m) e → IsBestIn m r e p → (p ≡ e.first) ⊎ EndsEntry m (p + r.pages)
+best_first_or_end m r e p proper good entry best = elim (edges m r e p proper good entry best.in_entry best.permitted) [
+  | inl a ↦ inl a
+  | inr (inl b) ↦ inr b
+  | inr (inr c) ↦
+      let some = (entry_is_block m proper.ascending e entry).some in
+      let first = first_permitted m r e p proper good entry best.in_entry best.permitted in
+      let cheap = first_price m r e p proper good entry best.in_entry best.permitted in
+      absurd (omega (arith, c, cheap, best.lowest e.first (record { low = omega arith; high = omega arith }) first))
 ]
 
 module _ (m : List Page) (r : Request) (e : Descriptor) (p : ℕ) (proper : IsProperMemory m) (good : IsProperRequest r) (entry : Contains (memory_map m) e) (in_entry : IsIn e p) (permitted : IsPermittedStart m r p)
@@ -150,3 +162,10 @@ module _ (m : List Page) (r : Request) (e : Descriptor) (p : ℕ) (proper : IsPr
     lowest = none_lower;
     highest = λ q i h f. none_higher (e.first + e.pages) q i h (omega arith) f;
   }
+
+-- a permitted start ends where page numbers end, at most
+pub permitted_end : (m : List Page) (r : Request) (p : ℕ) → IsProperMemory m → IsProperRequest r → IsPermittedStart m r p → p + r.pages ≤ page_count
+permitted_end m r p proper good permitted =
+    let some = good.some in
+    let c = entry_in_range m r p (p + r.pages - 1) permitted (omega arith) (omega arith) in
+    omega (arith, c.2.high, entry_end m proper c.0 c.1)

@@ -1,6 +1,5 @@
 -- The runs of a memory after a placement.
-use Rattle.std.proofs.Common.{◌≡◌, ℕ, zero, suc, ◌+◌, ◌-◌, ◌<◌, ◌≤◌, List, [], ◌∷◌, ◌++◌, length, get_or, take, append_assoc, refl, sym, ap, ap₂, subst, ◌∙◌, arith}
-use Rattle.std.specs.List.{AllByRecursion}
+use Rattle.std.proofs.Common.{◌≡◌, ℕ, ◌+◌, ◌-◌, ◌<◌, ◌≤◌, List, [], ◌∷◌, ◌++◌, length, get_or, take, append_assoc, sym, ap, ap₂, ◌∙◌, arith}
 use Rattle.std.proofs.lemmas.List.{append-nil, take_more}
 use Rattle.page_ranges.specs.declared.ranges.Owner.{Owner}
 use Rattle.page_ranges.specs.declared.ranges.PageRange.{PageRange}
@@ -10,7 +9,7 @@ use Rattle.page_ranges.specs.Memory.{Page, row, retyped}
 use Rattle.page_ranges.specs.Runs.{page_in, pages_of, AreRuns}
 use Rattle.page_ranges.proofs.Members.{all_append}
 use Rattle.page_ranges.proofs.Retyped.{retyped-append}
-use Rattle.page_ranges.proofs.RunLists.{pages_of_run, pages_of-append, pages_of-last, part, retyped_run, retyped-cut_at, runs-append, EndBy-higher, ends_before}
+use Rattle.page_ranges.proofs.RunLists.{pages_of_run, pages_of-last, part, retyped_run, retyped-cut_at, runs-append, EndBy-higher, ends_before}
 use Rattle.placement_certificate.specs.Search.{AreRunsBy}
 
 -- ---- one part more

@@ -13,7 +13,7 @@ use Rattle.page_ranges.proofs.Lookups.{AllFrom, AllFrom-lower, page_at-hit, page
 use Rattle.page_ranges.proofs.Retyped.{changed, changed-number, changed_in, changed_below, changed_above, page_below-retyped, retyped-ascending}
 use Rattle.placement_certificate.specs.declared.certificates.Request.{Request}
 use Rattle.placement_certificate.specs.Placement.{IsProperRequest, IsPermittedStart, range_at, after_placement}
-use Rattle.placement_certificate.specs.Laws.{are_alike, starts_entry, adds, takes}
+use Rattle.placement_certificate.specs.Laws.{are_alike, starts_entry, adds, saves}
 use Rattle.placement_certificate.proofs.EntryStarts.{map_length}
 use Rattle.placement_certificate.proofs.Sums.{sum_by-map, sum_by-add, sum_by-equal}
 
@@ -29,14 +29,14 @@ one_of_two false = refl
 old_edge : (b : Option Page) (x : Page) → one_unless (are_alike b (Some x)) + adds b (Some x) ≡ 1
 old_edge b x = one_of_two (are_alike b (Some x))
 
-low_edge : (t : ℕ) (o : Owner) (b : Option Page) (x : Page) → one_unless (are_alike b (Some (retyped_page t o x))) + takes t b (Some x) ≡ 1
+low_edge : (t : ℕ) (o : Owner) (b : Option Page) (x : Page) → one_unless (are_alike b (Some (retyped_page t o x))) + saves t b (Some x) ≡ 1
 low_edge t o None x = refl
 low_edge t o (Some y) x = one_of_two _
 
 eqb_comm : (a b : ℕ) → eqb a b ≡ eqb b a
 eqb_comm a b = grind (arith, nat_tests)
 
-high_edge : (t : ℕ) (o : Owner) (y x : Page) → one_unless (are_alike (Some (retyped_page t o y)) (Some x)) + takes t (Some x) (Some y) ≡ 1
+high_edge : (t : ℕ) (o : Owner) (y x : Page) → one_unless (are_alike (Some (retyped_page t o y)) (Some x)) + saves t (Some x) (Some y) ≡ 1
 high_edge t o y x = rw (eqb_comm t x.mtype, eqb_comm (attributes_as t y.attributes) x.attributes) (one_of_two _)
 
 -- ---- a term of one number only
@@ -61,15 +61,15 @@ spots k c (x ∷ m) a = elim (cases_eq x.number k) [
   | inr n ↦ omega (arith, sum_by-cons (spot k c) x m, spot-miss k c x n, spots k c m a.1, ap (λ v. cond (is_some v) c 0) (page_at-miss x m k n))
 ]
 
-takes-inside : (t : ℕ) (o i : Option Page) → cond (is_some i) (takes t o i) 0 ≡ takes t o i
-takes-inside t None None = refl
-takes-inside t None (Some x) = refl
-takes-inside t (Some y) None = refl
-takes-inside t (Some y) (Some x) = refl
+saves-inside : (t : ℕ) (o i : Option Page) → cond (is_some i) (saves t o i) 0 ≡ saves t o i
+saves-inside t None None = refl
+saves-inside t None (Some x) = refl
+saves-inside t (Some y) None = refl
+saves-inside t (Some y) (Some x) = refl
 
-takes-outside : (t : ℕ) (o i : Option Page) → cond (is_some o) (takes t o i) 0 ≡ takes t o i
-takes-outside t None i = refl
-takes-outside t (Some y) i = refl
+saves-outside : (t : ℕ) (o i : Option Page) → cond (is_some o) (saves t o i) 0 ≡ saves t o i
+saves-outside t None i = refl
+saves-outside t (Some y) i = refl
 
 adds-above : (b i : Option Page) → cond (is_some i) (adds b i) 0 ≡ adds b i
 adds-above None None = refl
@@ -108,7 +108,7 @@ module _ (m : List Page) (r : Request) (o : Owner) (p : ℕ) (proper : IsProperM
   high_neighbor k h (Some y) e = ap Some (changed_above (range_at r p) r.mtype o y (omega (arith, page_below-number m k y e)))
 
   -- the page at the lower edge
-  at_start : (x : Page) → x.number ≡ p → page_at m p ≡ Some x → (new_term x + takes r.mtype (page_below m p) (page_at m p) ≡ 1) × (old_term x + adds (page_below m p) (page_at m p) ≡ 1)
+  at_start : (x : Page) → x.number ≡ p → page_at m p ≡ Some x → (new_term x + saves r.mtype (page_below m p) (page_at m p) ≡ 1) × (old_term x + adds (page_below m p) (page_at m p) ≡ 1)
   at_start x e here =
       let some = good.some in
       let after = new_term_is x (page_below m p) (ap (λ k. option_map new (page_below m k)) e ∙ low_neighbor p (omega arith) (page_below m p) refl) (retyped_page r.mtype o x)
@@ -118,7 +118,7 @@ module _ (m : List Page) (r : Request) (o : Owner) (p : ℕ) (proper : IsProperM
 
   -- the page just above the range, where one is present
   at_end : (x y : Page) → x.number ≡ end → page_at m end ≡ Some x → page_below m end ≡ Some y →
-      (new_term x + takes r.mtype (page_at m end) (page_below m end) ≡ 1) × (old_term x + adds (page_below m end) (page_at m end) ≡ 1)
+      (new_term x + saves r.mtype (page_at m end) (page_below m end) ≡ 1) × (old_term x + adds (page_below m end) (page_at m end) ≡ 1)
   at_end x y e here below =
       let some = good.some in
       let is = page_below-number m end y below in
@@ -167,11 +167,11 @@ module _ (m : List Page) (r : Request) (o : Owner) (p : ℕ) (proper : IsProperM
   last_page None e = let some = good.some in absurd (absent_below end (omega arith) (omega arith) e)
   last_page (Some y) e = (y, e)
 
-  abbrev low_taken : ℕ
-  low_taken = takes r.mtype (page_below m p) (page_at m p)
+  abbrev low_saved : ℕ
+  low_saved = saves r.mtype (page_below m p) (page_at m p)
 
-  abbrev high_taken : ℕ
-  high_taken = takes r.mtype (page_at m end) (page_below m end)
+  abbrev high_saved : ℕ
+  high_saved = saves r.mtype (page_at m end) (page_below m end)
 
   abbrev low_added : ℕ
   low_added = adds (page_below m p) (page_at m p)
@@ -180,47 +180,47 @@ module _ (m : List Page) (r : Request) (o : Owner) (p : ℕ) (proper : IsProperM
   high_added = adds (page_below m end) (page_at m end)
 
   -- the terms of one page
-  at_page : (x : Page) → page_at m x.number ≡ Some x → new_term x + (spot p low_taken x + spot end high_taken x) ≡ old_term x + (spot p low_added x + spot end high_added x)
+  at_page : (x : Page) → page_at m x.number ≡ Some x → new_term x + (spot p low_saved x + spot end high_saved x) ≡ old_term x + (spot p low_added x + spot end high_added x)
   at_page x here =
       let some = good.some in
       elim (cases_order x.number p) [
         | inl e ↦
             let t = at_start x e (ap (page_at m) (sym e) ∙ here) in
-            omega (arith, t, spot-hit p low_taken x e, spot-hit p low_added x e, spot-miss end high_taken x (omega arith), spot-miss end high_added x (omega arith))
+            omega (arith, t, spot-hit p low_saved x e, spot-hit p low_added x e, spot-miss end high_saved x (omega arith), spot-miss end high_added x (omega arith))
         | inr (inl l) ↦ omega (arith, below_start x l, apart x (omega arith) (omega arith))
         | inr (inr g) ↦ elim (cases_order x.number end) [
           | inl e ↦
               let y = last_page (page_below m end) refl in
               let t = at_end x y.0 e (ap (page_at m) (sym e) ∙ here) y.1 in
-              omega (arith, t, spot-hit end high_taken x e, spot-hit end high_added x e, spot-miss p low_taken x (omega arith), spot-miss p low_added x (omega arith))
+              omega (arith, t, spot-hit end high_saved x e, spot-hit end high_added x e, spot-miss p low_saved x (omega arith), spot-miss p low_added x (omega arith))
           | inr (inl l) ↦ omega (arith, inside x g l here (page_below m x.number) refl, apart x (omega arith) (omega arith))
           | inr (inr h) ↦ omega (arith, above_end x h, apart x (omega arith) (omega arith))
         ]
       ]
     where
-      apart : (x : Page) → ¬ x.number ≡ p → ¬ x.number ≡ end → (spot p low_taken x ≡ 0) × (spot end high_taken x ≡ 0) × (spot p low_added x ≡ 0) × (spot end high_added x ≡ 0)
-      apart x a b = (spot-miss p low_taken x a, spot-miss end high_taken x b, spot-miss p low_added x a, spot-miss end high_added x b)
+      apart : (x : Page) → ¬ x.number ≡ p → ¬ x.number ≡ end → (spot p low_saved x ≡ 0) × (spot end high_saved x ≡ 0) × (spot p low_added x ≡ 0) × (spot end high_added x ≡ 0)
+      apart x a b = (spot-miss p low_saved x a, spot-miss end high_saved x b, spot-miss p low_added x a, spot-miss end high_added x b)
 
   two_spots : (a b : ℕ) → sum_by (λ x. spot p a x + spot end b x) m ≡ cond (is_some (page_at m p)) a 0 + cond (is_some (page_at m end)) b 0
   two_spots a b = omega (arith, sum_by-add (spot p a) (spot end b) m, spots p a m proper.ascending, spots end b m proper.ascending)
 
   -- the terms of all pages
-  summed : sum_by new_term m + (low_taken + high_taken) ≡ sum_by old_term m + (low_added + high_added)
+  summed : sum_by new_term m + (low_saved + high_saved) ≡ sum_by old_term m + (low_added + high_added)
   summed = omega (
     arith,
-    sum_by-equal (λ x. page_at m x.number ≡ Some x) (λ x. new_term x + (spot p low_taken x + spot end high_taken x)) (λ x. old_term x + (spot p low_added x + spot end high_added x)) at_page m (all_found m proper.ascending),
-    sum_by-add new_term (λ x. spot p low_taken x + spot end high_taken x) m,
-    two_spots low_taken high_taken,
+    sum_by-equal (λ x. page_at m x.number ≡ Some x) (λ x. new_term x + (spot p low_saved x + spot end high_saved x)) (λ x. old_term x + (spot p low_added x + spot end high_added x)) at_page m (all_found m proper.ascending),
+    sum_by-add new_term (λ x. spot p low_saved x + spot end high_saved x) m,
+    two_spots low_saved high_saved,
     sum_by-add old_term (λ x. spot p low_added x + spot end high_added x) m,
     two_spots low_added high_added,
-    takes-inside r.mtype (page_below m p) (page_at m p),
-    takes-outside r.mtype (page_at m end) (page_below m end),
+    saves-inside r.mtype (page_below m p) (page_at m p),
+    saves-outside r.mtype (page_at m end) (page_below m end),
     adds-above (page_below m p) (page_at m p),
     adds-above (page_below m end) (page_at m end),
   )
 
   -- whoever then owns the pages
-  pub price_is : length (memory_map (after_placement m r o p)) + (low_taken + high_taken) ≡ length (memory_map m) + (low_added + high_added)
+  pub price_is : length (memory_map (after_placement m r o p)) + (low_saved + high_saved) ≡ length (memory_map m) + (low_added + high_added)
   price_is = omega (
     arith,
     map_length (after_placement m r o p) (retyped-ascending (range_at r p) r.mtype o m proper.ascending),

@@ -1,20 +1,15 @@
 -- The definitions on small machines, by computing.
-use Rattle.std.proofs.Common.{◌≡◌, ◌≢◌, ℕ, ◌+◌, ◌^◌, ◌<◌, ◌≤◌, List, [], ◌∷◌, length, Option, Some, None, refl, ap, arith}
-use Rattle.std.proofs.lemmas.Option.{same_Some}
-use Rattle.page_ranges.specs.declared.ranges.Owner.TheVariants.{Given}
+use Rattle.std.proofs.Common.{◌≡◌, ◌≢◌, ℕ, ◌^◌, List, [], ◌∷◌, length, Option, Some, None, refl, ap, arith}
 use Rattle.page_ranges.specs.declared.ranges.Run.{Run}
 use Rattle.page_ranges.specs.Memory.{Page, IsProperMemory, row}
 use Rattle.page_ranges.specs.Runs.{pages_of}
-use Rattle.page_ranges.proofs.RunLists.{proper_pages}
 use Rattle.placement_certificate.specs.declared.certificates.Request.{Request}
 use Rattle.placement_certificate.specs.declared.certificates.Bound.{Bound}
 use Rattle.placement_certificate.specs.Placement.{IsProperRequest, IsPermittedStart, price, IsBestStart}
 use Rattle.placement_certificate.specs.Certificates.{CertificateValue, IsTrueCertificate}
+use Rattle.placement_certificate.proofs.Machines.{run, runs_b, proper_b}
 use Rattle.placement_certificate.proofs.OneCertificate.{one_certificate}
 use Rattle.placement_certificate.proofs.Decided.{certificate_of, certificate_true, no_certificate}
-
-abbrev run : ℕ → ℕ → ℕ → ℕ → Run
-run first pages t a = record { range = record { first = first; pages = pages }; mtype = t; attributes = a; owner = Given }
 
 abbrev request : ℕ → ℕ → ℕ → Request
 request t pages limit = record { mtype = t; pages = pages; limit = limit }
@@ -30,18 +25,15 @@ certificate bounds answer = record { bounds = bounds; answer = answer }
 
 -- ---- sixteen free pages in two entries
 
-abbrev runs_b : List Run
-runs_b = run 0 8 7 0xf ∷ run 8 8 7 0x7 ∷ []
-
 machine_b : List Page
 machine_b = pages_of runs_b
 
 abbrev twelve : Request
 twelve = request 2 12 (2 ^ 52)
 
-proper_b : IsProperMemory machine_b
+proper : IsProperMemory machine_b
 unfolding machine_b
-proper_b = proper_pages runs_b (omega arith) (record { within = omega arith; given = λ e. refl; no_runtime = λ e. refl }, (record { within = omega arith; given = λ e. refl; no_runtime = λ e. refl }, tt))
+proper = proper_b
 
 proper_twelve : IsProperRequest twelve
 proper_twelve = record { some = omega arith; good = refl }
@@ -66,7 +58,7 @@ unfolding machine_b row
 computed_b = refl
 
 true_b : IsTrueCertificate machine_b twelve best_of_b
-true_b = certificate_true machine_b twelve best_of_b proper_b proper_twelve computed_b
+true_b = certificate_true machine_b twelve best_of_b proper proper_twelve computed_b
 
 best_b : IsBestStart machine_b twelve 4
 best_b = true_b.answer
@@ -98,7 +90,7 @@ lower_start = not_true _ (λ e. let f : 0 ≡ 4 = ap (λ (c : CertificateValue).
 -- seventeen pages are not there
 none_for_17 : (p : ℕ) → ¬ IsPermittedStart machine_b (request 2 17 (2 ^ 52)) p
 unfolding machine_b row
-none_for_17 = no_certificate machine_b (request 2 17 (2 ^ 52)) proper_b (record { some = omega arith; good = refl }) refl
+none_for_17 = no_certificate machine_b (request 2 17 (2 ^ 52)) proper (record { some = omega arith; good = refl }) refl
 
 -- ---- pages that join a neighbor
 

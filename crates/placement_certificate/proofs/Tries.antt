@@ -1,14 +1,13 @@
 -- The best start so far, as one start after the other is tried.
-use Rattle.std.proofs.Common.{◌≡◌, ◌⊎◌, ℕ, zero, suc, ◌+◌, ◌<◌, ◌≤◌, Bool, true, false, cond, ◌&&◌, ◌||◌, eqb, ltb, List, [], ◌∷◌, ◌++◌, Contains, Option, Some, None, inl, inr, refl, sym, ap, subst, ◌∙◌, arith}
-use Rattle.std.specs.List.{AllByRecursion}
-use Rattle.std.proofs.lemmas.Bool.{cases_eq, cases_lt, cases_order, cond-true, cond-false, lt-ltb, le-ltb, ne_eqb, eq-eqb, or_from, and_right, and_left}
+use Rattle.std.proofs.Common.{◌≡◌, ◌⊎◌, ℕ, ◌+◌, ◌<◌, ◌≤◌, List, [], ◌∷◌, ◌++◌, Option, Some, None, inl, inr, refl, sym, ap, subst, arith}
+use Rattle.std.proofs.lemmas.Bool.{cases_eq, cases_lt, cases_order, lt-ltb, le-ltb, ne_eqb, eq-eqb}
 use Rattle.page_ranges.specs.declared.ranges.Descriptor.{Descriptor}
 use Rattle.page_ranges.specs.Memory.{Page}
 use Rattle.page_ranges.specs.MemoryMap.{IsIn}
 use Rattle.page_ranges.proofs.Members.{member_first, member_left, member_right, all_implied, all_append}
 use Rattle.placement_certificate.specs.declared.certificates.Request.{Request}
 use Rattle.placement_certificate.specs.declared.certificates.Bound.{Bound}
-use Rattle.placement_certificate.specs.Placement.{IsPermittedStart, price, IsBestIn}
+use Rattle.placement_certificate.specs.Placement.{IsPermittedStart, price}
 use Rattle.placement_certificate.specs.Certificates.{IsTrueLeast}
 use Rattle.placement_certificate.specs.Laws.{IsNoWorse}
 use Rattle.placement_certificate.specs.Search.{better, IsBestOf}
@@ -52,12 +51,15 @@ start_passed m r e k j p l at more n s = go l s
 
     go : (o : Option (ℕ × ℕ)) → IsTrueLeast m r (first_pages k e) o → IsTrueLeast m r (first_pages j e) o
     go None t = λ q i h. t q (before q i h) h
-    go (Some (count, top)) t = (record {
-      in_entry = record { low = t.0.in_entry.low; high = omega (arith, t.0.in_entry.high) };
-      permitted = t.0.permitted;
-      lowest = λ q i h. t.0.lowest q (before q i h) h;
-      highest = λ q i h f. t.0.highest q (before q i h) h f;
-    }, t.1)
+    go (Some (count, top)) t = (
+      record {
+        in_entry = record { low = t.0.in_entry.low; high = omega (arith, t.0.in_entry.high) };
+        permitted = t.0.permitted;
+        lowest = λ q i h. t.0.lowest q (before q i h) h;
+        highest = λ q i h f. t.0.highest q (before q i h) h f;
+      },
+      t.1,
+    )
 
 -- the start is permitted
 pub start_tried : (m : List Page) (r : Request) (e : Descriptor) (k j p count : ℕ) (l : Option (ℕ × ℕ)) → p ≡ e.first + k → j ≡ k + 1 → IsPermittedStart m r p → count ≡ price m r p → IsTrueLeast m r (first_pages k e) l →
@@ -74,27 +76,36 @@ start_tried m r e k j p count l at more permitted paid s = go l s
     here = record { low = omega arith; high = omega arith }
 
     go : (o : Option (ℕ × ℕ)) → IsTrueLeast m r (first_pages k e) o → IsTrueLeast m r (first_pages j e) (better o (Some (count, p)))
-    go None t = (record {
-      in_entry = here;
-      permitted = permitted;
-      lowest = λ q i h. elim (split q i) [ inl f ↦ omega (arith, ap (price m r) f) | inr b ↦ absurd (t q b h) ];
-      highest = λ q i h f. elim (split q i) [ inl g ↦ omega arith | inr b ↦ absurd (t q b h) ];
-    }, sym paid)
+    go None t = (
+      record {
+        in_entry = here;
+        permitted = permitted;
+        lowest = λ q i h. elim (split q i) [ inl f ↦ omega (arith, ap (price m r) f) | inr b ↦ absurd (t q b h) ];
+        highest = λ q i h f. elim (split q i) [ inl g ↦ omega arith | inr b ↦ absurd (t q b h) ];
+      },
+      sym paid,
+    )
     go (Some (c, u)) t = elim (better_cases c u count p) [
-      | inl new ↦ rw new.0 (record {
+      | inl new ↦ rw new.0 (
+        record {
           in_entry = here;
           permitted = permitted;
           lowest = λ q i h. elim (split q i) [ inl f ↦ omega (arith, ap (price m r) f) | inr b ↦ omega (arith, t.0.lowest q b h, t.1, new.1) ];
           highest = λ q i h f. omega (arith, i.high);
-        }, sym paid)
+        },
+        sym paid,
+      )
       | inr old ↦
           let less : c < count = elim (cases_lt c count) [ inl l ↦ l | inr g ↦ absurd (omega (arith, old.2 (omega (arith, old.1)), t.0.in_entry.high)) ] in
-          rw old.0 (record {
-            in_entry = record { low = t.0.in_entry.low; high = omega (arith, t.0.in_entry.high) };
-            permitted = t.0.permitted;
-            lowest = λ q i h. elim (split q i) [ inl f ↦ omega (arith, ap (price m r) f, t.1) | inr b ↦ t.0.lowest q b h ];
-            highest = λ q i h f. elim (split q i) [ inl g ↦ absurd (omega (arith, ap (price m r) g, t.1, f)) | inr b ↦ t.0.highest q b h f ];
-          }, t.1)
+          rw old.0 (
+            record {
+              in_entry = record { low = t.0.in_entry.low; high = omega (arith, t.0.in_entry.high) };
+              permitted = t.0.permitted;
+              lowest = λ q i h. elim (split q i) [ inl f ↦ omega (arith, ap (price m r) f, t.1) | inr b ↦ t.0.lowest q b h ];
+              highest = λ q i h f. elim (split q i) [ inl g ↦ absurd (omega (arith, ap (price m r) g, t.1, f)) | inr b ↦ t.0.highest q b h f ];
+            },
+            t.1,
+          )
     ]
 
 -- ---- one bound more
@@ -121,12 +132,12 @@ bound_more (Some (c, t)) None bs b e s = (
 )
 bound_more (Some (c, t)) (Some (d, u)) bs b e s = elim (better_cases c t d u) [
   | inl new ↦ rw new.0 (
-      (b, member_right bs (b ∷ []) b (member_first b []), e),
-      all_append (λ z. IsNoWorse d u z.least) bs (b ∷ []) (all_implied (λ z. IsNoWorse c t z.least) (λ z. IsNoWorse d u z.least) (λ z n. still_no_worse c t d u new.1 (λ f. let g = new.2 (sym f) in omega arith) z.least n) bs s.1)
-      (subst (IsNoWorse d u) (sym e) (omega arith, λ f. omega arith), tt),
-    )
+    (b, member_right bs (b ∷ []) b (member_first b []), e),
+    all_append (λ z. IsNoWorse d u z.least) bs (b ∷ []) (all_implied (λ z. IsNoWorse c t z.least) (λ z. IsNoWorse d u z.least) (λ z n. still_no_worse c t d u new.1 (λ f. let g = new.2 (sym f) in omega arith) z.least n) bs s.1)
+        (subst (IsNoWorse d u) (sym e) (omega arith, λ f. omega arith), tt),
+  )
   | inr old ↦ rw old.0 (
-      (s.0.0, member_left bs (b ∷ []) s.0.0 s.0.1, s.0.2),
-      all_append (λ z. IsNoWorse c t z.least) bs (b ∷ []) s.1 (subst (IsNoWorse c t) (sym e) (old.1, old.2), tt),
-    )
+    (s.0.0, member_left bs (b ∷ []) s.0.0 s.0.1, s.0.2),
+    all_append (λ z. IsNoWorse c t z.least) bs (b ∷ []) s.1 (subst (IsNoWorse c t) (sym e) (old.1, old.2), tt),
+  )
 ]

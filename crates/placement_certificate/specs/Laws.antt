@@ -31,19 +31,19 @@ InsideLaw = (m : List Page) (k : ℕ) → IsAscending m → (are_alike (page_bel
 abbrev pub adds : Option Page → Option Page → ℕ
 adds below above = if are_alike below above then 1 else 0
 
--- what an edge takes away: 1 where the page outside has the type t, and the attributes that the page inside then has
-abbrev pub takes : ℕ → Option Page → Option Page → ℕ
-takes t (Some x) (Some y) = if (x.mtype == t) && (x.attributes == attributes_as t y.attributes) then 1 else 0
-takes t x y = 0
+-- what an edge saves: 1 where the page outside it is of the type t, and shares its entry with the page inside once that has the type t too
+abbrev pub saves : ℕ → Option Page → Option Page → ℕ
+saves t (Some x) (Some y) = if (x.mtype == t) && (x.attributes == attributes_as t y.attributes) then 1 else 0
+saves t x y = 0
 
--- The price of a permitted start is the map's length, with what its two edges add and without what they take away.
+-- The price of a permitted start is the map's length, with what its two edges add and without what they save.
 abbrev pub PriceLaw : Type 0
 PriceLaw = (m : List Page) (r : Request) (p : ℕ) → IsProperMemory m → IsProperRequest r → IsPermittedStart m r p →
     let end = p + r.pages in
-    price m r p + (takes r.mtype (page_below m p) (page_at m p) + takes r.mtype (page_at m end) (page_below m end))
+    price m r p + (saves r.mtype (page_below m p) (page_at m p) + saves r.mtype (page_at m end) (page_below m end))
     ≡ length (memory_map m) + (adds (page_below m p) (page_at m p) + adds (page_below m end) (page_at m end))
 
--- Where an entry has a permitted start, its first page is one, at a price of at most the map's length plus 1.
+-- An entry that holds a permitted start may also be placed in from its first page on, and that makes the map longer by 1 at most.
 abbrev pub FirstPageLaw : Type 0
 FirstPageLaw = (m : List Page) (r : Request) (e : Descriptor) (p : ℕ) → IsProperMemory m → IsProperRequest r → Contains (memory_map m) e → IsIn e p → IsPermittedStart m r p →
     IsPermittedStart m r e.first × (price m r e.first ≤ length (memory_map m) + 1)
@@ -78,16 +78,20 @@ IsPlace m r e p = (p ≡ e.first) ⊎ EndsEntry m (p + r.pages) ⊎ IsHighestIn 
 abbrev pub BlockEndsLaw : Type 0
 BlockEndsLaw = (m : List Page) (r : Request) (e : Descriptor) (p : ℕ) → IsProperMemory m → IsProperRequest r → Contains (memory_map m) e → IsBestIn m r e p → IsPlace m r e p
 
+-- It is the entry's first page, or ends where an entry ends, since the first page is permitted where any start in the entry is.
+abbrev pub FirstOrEndLaw : Type 0
+FirstOrEndLaw = (m : List Page) (r : Request) (e : Descriptor) (p : ℕ) → IsProperMemory m → IsProperRequest r → Contains (memory_map m) e → IsBestIn m r e p → (p ≡ e.first) ⊎ EndsEntry m (p + r.pages)
+
 -- A permitted start in an entry is the best there if no permitted start at one of these places is better.
 abbrev pub CandidatesLaw : Type 0
 CandidatesLaw = (m : List Page) (r : Request) (e : Descriptor) (p : ℕ) → IsProperMemory m → IsProperRequest r → Contains (memory_map m) e → IsIn e p → IsPermittedStart m r p →
     ((q : ℕ) → IsIn e q → IsPermittedStart m r q → IsPlace m r e q → (price m r p ≤ price m r q) × (price m r q ≡ price m r p → q ≤ p)) → IsBestIn m r e p
 
--- A memory and a request have at most one true certificate, and none where no start is permitted.
+-- Two true certificates of one request in one memory are equal, and their answer is permitted.
 abbrev pub OneCertificateLaw : Type 0
 OneCertificateLaw = (m : List Page) (r : Request) (c d : CertificateValue) → IsTrueCertificate m r c → IsTrueCertificate m r d → (c ≡ d) × IsPermittedStart m r c.answer
 
--- A certificate that is true for a memory is true for each memory with the same map.
+-- Memories with the same map have the same true certificates.
 abbrev pub MapDecidesLaw : Type 0
 MapDecidesLaw = (m n : List Page) (r : Request) (c : CertificateValue) → IsProperMemory m → IsProperMemory n → IsProperRequest r → memory_map m ≡ memory_map n → IsTrueCertificate m r c → IsTrueCertificate n r c
 

@@ -28,17 +28,17 @@ pub record IsPermittedStart (m : List Page) (r : Request) (p : ℕ) : Type 0 whe
 abbrev pub after_placement : List Page → Request → Owner → ℕ → List Page
 after_placement m r o p = retyped (range_at r p) r.mtype o m
 
--- the price of a start: how many entries the memory map then has, built anew
+-- the price of a start: how many entries the memory map has after the placement
 abbrev pub price : List Page → Request → ℕ → ℕ
 price m r p = length (memory_map (after_placement m r Pages p))
 
--- The best start: permitted, no permitted start has a lower price, and none of the same price is higher.
+-- The best start: the highest of the permitted starts at the lowest price.
 pub record IsBestStart (m : List Page) (r : Request) (p : ℕ) : Type 0 where
   pub permitted : IsPermittedStart m r p
   pub lowest : (q : ℕ) → IsPermittedStart m r q → price m r p ≤ price m r q
   pub highest : (q : ℕ) → IsPermittedStart m r q → price m r q ≡ price m r p → q ≤ p
 
--- The best start in an entry: the best of the permitted starts there.
+-- The best start in an entry: the same among the permitted starts there.
 pub record IsBestIn (m : List Page) (r : Request) (e : Descriptor) (p : ℕ) : Type 0 where
   pub in_entry : IsIn e p
   pub permitted : IsPermittedStart m r p

@@ -1,6 +1,6 @@
 //! The laws that the search for the best start rests on, each the contract of a function that does
 //! nothing.
-ghost use Rattle.placement_certificate.specs.Laws.{MapLengthLaw, InsideLaw, PriceLaw, FirstPageLaw, StretchLaw, EdgesLaw, BlockEndsLaw, CandidatesLaw, OneCertificateLaw, MapDecidesLaw, BestBoundLaw};
+ghost use Rattle.placement_certificate.specs.Laws.{MapLengthLaw, InsideLaw, PriceLaw, FirstPageLaw, StretchLaw, EdgesLaw, BlockEndsLaw, FirstOrEndLaw, CandidatesLaw, OneCertificateLaw, MapDecidesLaw, BestBoundLaw};
 
 /// The memory map has one entry for each page with no equal page just below it.
 pub fn map_length_law()
@@ -37,17 +37,22 @@ pub fn block_ends_law()
     ensures { BlockEndsLaw }
 {}
 
+/// Where a best start stands in its entry, given that the entry's first page is permitted.
+pub fn first_or_end_law()
+    ensures { FirstOrEndLaw }
+{}
+
 /// Which starts of an entry need to be tried.
 pub fn candidates_law()
     ensures { CandidatesLaw }
 {}
 
-/// There is at most one true certificate, and none where no start is permitted.
+/// Two true certificates of one request are equal.
 pub fn one_certificate_law()
     ensures { OneCertificateLaw }
 {}
 
-/// The memory map alone decides which certificate is true.
+/// Memories with one memory map have the same true certificates.
 pub fn map_decides_law()
     ensures { MapDecidesLaw }
 {}

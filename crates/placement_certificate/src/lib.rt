@@ -4,10 +4,12 @@
 mod certificates;
 mod laws;
 mod plain;
+#[cfg(test)]
+mod tests;
 
 pub use certificates::{Bound, Certificate, Request};
-pub use plain::{plain_map, plain_price};
 pub use laws::{
-    best_bound_law, block_ends_law, candidates_law, edges_law, first_page_law, inside_law,
-    map_decides_law, map_length_law, one_certificate_law, price_law, stretch_law,
+    best_bound_law, block_ends_law, candidates_law, edges_law, first_or_end_law, first_page_law,
+    inside_law, map_decides_law, map_length_law, one_certificate_law, price_law, stretch_law,
 };
+pub use plain::{plain_certificate, plain_map, plain_price};

@@ -1,13 +1,12 @@
 //! A plain search for the best start, which tries every start and builds the changed memory for
 //! each: slow, and meant for tests of faster ones.
-ghost use Rattle.std.specs.Prelude.{◌≡◌, ℕ, ◌+◌, ◌-◌, ◌<◌, ◌≤◌, ◌++◌, ◌↔◌, List, Some, None, IsTrue, IfSome, IfOk, OnOk};
+ghost use Rattle.std.specs.Prelude.{◌≡◌, ℕ, ◌+◌, ◌-◌, ◌≤◌, ◌++◌, ◌↔◌, None, IsTrue, IfSome, IfOk, OnOk};
 ghost use Rattle.page_ranges.specs.declared.ranges.Owner.TheVariants.{Pages};
-ghost use Rattle.page_ranges.specs.declared.ranges.Run.{Run};
 ghost use Rattle.page_ranges.specs.MemoryTypes.{page_count};
 ghost use Rattle.page_ranges.specs.Memory.{row, page_at, retyped, IsConventional, IsProperMemory};
 ghost use Rattle.page_ranges.specs.MemoryMap.{memory_map, should_be_one};
 ghost use Rattle.page_ranges.specs.Runs.{page_in, pages_of, AreRuns};
-ghost use Rattle.placement_certificate.specs.Placement.{IsProperRequest, IsPermittedStart, range_at, price};
+ghost use Rattle.placement_certificate.specs.Placement.{IsProperRequest, IsPermittedStart, price};
 ghost use Rattle.placement_certificate.specs.Certificates.{IsTrueLeast, IsTrueCertificate};
 ghost use Rattle.placement_certificate.specs.Search.{AreRunsBy, better};
 
@@ -128,4 +127,101 @@ fn push_part<A: Allocator>(
         })?;
     }
     Ok(())
+}
+
+/// The true certificate of a request, `None` where no start is permitted.
+pub fn plain_certificate<A: Allocator + Copy>(
+    alloc: A,
+    runs: &[Run],
+    request: &Request,
+) -> Result<Option<Certificate<A>>, AllocError>
+    requires runs { AreRuns runs.now }
+    requires proper { IsProperMemory (pages_of runs.now) }
+    requires good { IsProperRequest request.now }
+    ensures certificate { IfOk result (λ o. IfSome o (λ c. IsTrueCertificate (pages_of runs.now) request.now c)) }
+    ensures none { IfOk result (λ o. o ≡ None → (p : ℕ) → ¬ IsPermittedStart (pages_of runs.now) request.now p) }
+{
+    let entries = plain_map(alloc, runs)?;
+    let mut bounds = Vec::new(alloc);
+    let mut best = None;
+    for entry in &entries {
+        if entry.mtype.number() == 7 {
+            let least = least_in(alloc, runs, request, entry)?;
+            bounds.push(Bound {
+                first: entry.first,
+                pages: entry.pages,
+                least,
+            })?;
+            best = better_of(best, least);
+        }
+    }
+    match best {
+        Some((_, answer)) => Ok(Some(Certificate { bounds, answer })),
+        None => Ok(None),
+    }
+}
+
+// The best start in an entry with its price, by trying each of the entry's pages.
+fn least_in<A: Allocator + Copy>(
+    alloc: A,
+    runs: &[Run],
+    request: &Request,
+    entry: &Descriptor,
+) -> Result<Option<(u64, u64)>, AllocError>
+    requires runs { AreRuns runs.now }
+    requires proper { IsProperMemory (pages_of runs.now) }
+    requires good { IsProperRequest request.now }
+    requires within { entry.now.first + entry.now.pages ≤ page_count }
+    ensures { IfOk result (λ l. IsTrueLeast (pages_of runs.now) request.now entry.now l) }
+{
+    let mut found = None;
+    for start in entry.first..entry.first + entry.pages {
+        if is_permitted(runs, request, start) {
+            let count = plain_price(alloc, runs, request, start)?;
+            found = better_of(found, Some((count, start)));
+        }
+    }
+    Ok(found)
+}
+
+// The better of two starts with their prices.
+fn better_of(x: Option<(u64, u64)>, y: Option<(u64, u64)>) -> Option<(u64, u64)>
+    ensures { result ≡ better x y }
+{
+    match (x, y) {
+        (None, y) => y,
+        (Some(x), None) => Some(x),
+        (Some(x), Some(y)) => {
+            if y.0 < x.0 || (y.0 == x.0 && x.1 < y.1) {
+                Some(y)
+            } else {
+                Some(x)
+            }
+        }
+    }
+}
+
+fn is_permitted(runs: &[Run], request: &Request, start: u64) -> bool
+    ensures { IsTrue result ↔ IsPermittedStart (pages_of runs.now) request.now start }
+{
+    if start > request.limit || request.pages > request.limit - start {
+        return false;
+    }
+    for page in start..start + request.pages {
+        if !is_free(runs, page) {
+            return false;
+        }
+    }
+    true
+}
+
+fn is_free(runs: &[Run], page: u64) -> bool
+    ensures { IsTrue result ↔ IsConventional (page_at (pages_of runs.now) page) }
+{
+    for run in runs {
+        if run.range.first <= page && page - run.range.first < run.range.pages {
+            return run.mtype.number() == 7;
+        }
+    }
+    false
 }

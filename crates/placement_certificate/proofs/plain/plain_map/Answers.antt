@@ -1,4 +1,4 @@
-use Rattle.std.proofs.Common.{◌-◌, ◌≡◌, ◌<◌, false, sym, ◌∙◌, ap, length, arith, rules}
+use Rattle.std.proofs.Common.{◌-◌, ◌≡◌, ◌<◌, sym, ◌∙◌, length, arith}
 use Rattle.std.proofs.lemmas.Grind.{common_steps}
 use Rattle.placement_certificate.proofs.PlainMaps.{map_grown, map_first, map_apart, pages_at_most, run_end}
 use Rattle.placement_certificate.proofs.plain.plain_map.Goals as goal
