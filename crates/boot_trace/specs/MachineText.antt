@@ -7,8 +7,6 @@ use Rattle.serde_json.specs.Read.{read}
 use Rattle.serde_json.specs.Find.{get, as_array, as_number, as_str, as_u64}
 use Rattle.page_ranges.specs.declared.ranges.Owner.TheVariants.{Given}
 use Rattle.page_ranges.specs.declared.ranges.Run.{Run}
-use Rattle.page_ranges.specs.Memory.{Page}
-use Rattle.page_ranges.specs.Runs.{pages_of}
 use Rattle.page_ranges.specs.MemoryTypes.{page_size, page_count, conventional, has_runtime, is_machine_type}
 use Rattle.boot_trace.specs.declared.faults.MachineFault.{MachineFault}
 use Rattle.boot_trace.specs.declared.faults.MachineFault.TheVariants as fault
@@ -130,11 +128,11 @@ abbrev pub in_order : List Run → List Run
 in_order [] = []
 in_order (r ∷ runs) = with_run r (in_order runs)
 
--- the memory that a file's descriptors make, whatever their order
-unfoldable pub machine_of : List ℕ → Result (List Page) MachineFault
+-- the machine that a file's descriptors make, whatever their order
+unfoldable pub machine_of : List ℕ → Result (List Run) MachineFault
 machine_of bytes = do
   runs ← file_runs bytes
-  if overlap runs then Err fault.Overlap else Ok (pages_of (in_order runs))
+  if overlap runs then Err fault.Overlap else Ok (in_order runs)
 
 -- What a function returned, seen by view, is what the definition reads, unless memory ran out.
 abbrev pub Gives : {X Y : Type 0} → (X → Y) → Result X MachineFault → Result Y MachineFault → Type 0

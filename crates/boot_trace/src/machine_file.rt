@@ -1,7 +1,10 @@
 //! Machine files.
+ghost use Rattle.std.specs.Prelude.{◌≡◌, Some, None, if◌then◌else◌};
+ghost use Rattle.std.specs.List.{AllByRecursion};
+ghost use Rattle.boot_core.specs.MachineRuns.{IsMachineRun};
 ghost use Rattle.serde_json.specs.Read.{read};
 ghost use Rattle.serde_json.specs.View.{view, items_view};
-ghost use Rattle.boot_trace.specs.MachineText.{Gives, or_fault, json_of, runs_from, root_runs, file_runs};
+ghost use Rattle.boot_trace.specs.MachineText.{Gives, or_fault, json_of, runs_from, root_runs, file_runs, overlap, in_order, machine_of};
 
 use crate::faults::MachineFault;
 use crate::members::run_of;
@@ -23,11 +26,23 @@ pub struct MachineFile {
 }
 
 /// The machine of a file's bytes, or the first fault.
-pub fn read_machine(alloc: Global, bytes: &[u8]) -> Result<MachineFile, MachineFault> {
-    let mut runs = file_runs(alloc, bytes)?;
+#[tactic(auto, unfolding(crate::specs::MachineText::machine_of))]
+pub fn read_machine(alloc: Global, bytes: &[u8]) -> Result<MachineFile, MachineFault>
+    ensures { Gives (λ file. file.machine) result (machine_of bytes.now) }
+{
+    match machine_of(file_runs(alloc, bytes)?) {
+        Some(machine) => Ok(MachineFile { machine }),
+        None => Err(MachineFault::Overlap),
+    }
+}
+
+/// The machine of the runs in order, None where two of them have a page in common.
+fn machine_of(mut runs: Vec<Run>) -> Option<Machine>
+    requires { AllByRecursion IsMachineRun runs.items }
+    ensures { result ≡ (if overlap runs.items then None else Some (in_order runs.items)) }
+{
     runs.sort_unstable_by_key(|run| run.range.first);
-    let machine = Machine::new(runs).ok_or(MachineFault::Overlap)?;
-    Ok(MachineFile { machine })
+    Machine::new(runs)
 }
 
 /// The runs of a file, in its order.
