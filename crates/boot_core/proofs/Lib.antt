@@ -1,1 +1,2 @@
 pub mod MachineRunLists
+pub mod AnySteps

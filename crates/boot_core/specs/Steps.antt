@@ -1,8 +1,8 @@
--- What a call does: one step of the machine.
-use Rattle.std.specs.Prelude.{◌≡◌, ℕ, ◌+◌, Bool, true, false, Result, Ok, Err}
+-- What a call does: one step of the machine; and what calls do one after another: a run.
+use Rattle.std.specs.Prelude.{◌≡◌, ℕ, ◌+◌, Bool, true, false, List, [], ◌∷◌, Result, Ok, Err}
 use Rattle.page_ranges.specs.declared.statuses.Status.{Status}
 use Rattle.page_ranges.specs.declared.statuses.Status.TheVariants.{Unsupported}
-use Rattle.page_services.specs.PageRules.{Book, AllocatesPages, FreesPages}
+use Rattle.page_services.specs.PageRules.{Book, Choice, IsAnyStart, IsBestChoice, AllocatesPages, FreesPages}
 use Rattle.boot_core.specs.declared.calls.Call.{Call}
 use Rattle.boot_core.specs.declared.calls.Call.TheVariants as call
 use Rattle.boot_core.specs.declared.calls.Reply.{Reply}
@@ -14,14 +14,33 @@ abbrev pub ServesBook : {R : Type 0} → Bool → Book → Result R Status → B
 ServesBook true old result new Rule = (result ≡ Err Unsupported) × (new ≡ old)
 ServesBook false old result new Rule = Rule result new
 
--- what a call answers and how it leaves the book
-abbrev pub Answers : {A : Type 0} → Bool → Book → Call → Reply A → Book → Type 0
-Answers exited old (call.AllocatePages kind t pages address) (reply.AllocatePages result) new = ServesBook exited old result new (AllocatesPages old kind t pages address)
-Answers exited old (call.FreePages address pages) (reply.FreePages result) new = ServesBook exited old result new (FreesPages old address pages)
-Answers exited old call reply new = ⊥
+-- what a call answers and how it leaves the book, where starts are chosen so
+abbrev pub Answers : {A : Type 0} → Choice → Bool → Book → Call → Reply A → Book → Type 0
+Answers Chosen exited old (call.AllocatePages kind t pages address) (reply.AllocatePages result) new = ServesBook exited old result new (AllocatesPages Chosen old kind t pages address)
+Answers Chosen exited old (call.FreePages address pages) (reply.FreePages result) new = ServesBook exited old result new (FreesPages old address pages)
+Answers Chosen exited old call reply new = ⊥
 
--- The machine may go from one state to another by the call, with the reply. Each call takes one from the calls left.
-pub record Step {A : Type 0} (old : State) (call : Call) (reply : Reply A) (new : State) : Type 0 where
-  pub answers : Answers old.exited old.book call reply new.book
+-- The machine may go from one state to another by the call, with the reply, where starts are chosen so. Each call takes one
+-- from the calls left.
+pub record StepBy {A : Type 0} (Chosen : Choice) (old : State) (call : Call) (reply : Reply A) (new : State) : Type 0 where
+  pub answers : Answers Chosen old.exited old.book call reply new.book
   pub exited : new.exited ≡ old.exited
   pub calls_left : new.calls_left + 1 ≡ old.calls_left
+
+-- a step in which each start is the best
+abbrev pub Step : {A : Type 0} → State → Call → Reply A → State → Type 0
+Step old call reply new = StepBy IsBestChoice old call reply new
+
+-- a step in which each start is any permitted one
+abbrev pub StepAny : {A : Type 0} → State → Call → Reply A → State → Type 0
+StepAny old call reply new = StepBy IsAnyStart old call reply new
+
+-- the machine may go from one state to another by the calls, with these replies in order, where starts are chosen so
+abbrev pub RunsBy : {A : Type 0} → Choice → State → List Call → List (Reply A) → State → Type 0
+RunsBy Chosen old [] [] new = new ≡ old
+RunsBy Chosen old (call ∷ calls) (reply ∷ replies) new = (next : State) × StepBy Chosen old call reply next × RunsBy Chosen next calls replies new
+RunsBy Chosen old calls replies new = ⊥
+
+-- A step with the best start is a step with any permitted start.
+abbrev pub AnyStepLaw : Type 0 → Type 0
+AnyStepLaw A = (old : State) (call : Call) (reply : Reply A) (new : State) → Step old call reply new → StepAny old call reply new

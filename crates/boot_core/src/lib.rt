@@ -3,8 +3,10 @@
 
 mod calls;
 mod core_state;
+mod laws;
 mod machines;
 
 pub use calls::{Call, Reply};
 pub use core_state::Core;
+pub use laws::any_step_law;
 pub use machines::Machine;

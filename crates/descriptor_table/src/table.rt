@@ -55,6 +55,11 @@ impl<A: Allocator + Copy> RunTable<A> {
         })
     }
 
+    /// The allocator that the table takes its memory from.
+    pub fn allocator(&self) -> A {
+        *self.runs.allocator()
+    }
+
     /// Gives the pages of a range a type and an owner, and the attributes that go with the type.
     /// On an `Err` the table is as it was.
     pub fn retype(

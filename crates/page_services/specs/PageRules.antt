@@ -1,12 +1,15 @@
 -- The rules of AllocatePages and FreePages on a memory.
-use Rattle.std.specs.Prelude.{◌≡◌, ◌≢◌, ◌⊎◌, ℕ, ◌+◌, ◌<◌, ◌≤◌, ◌/◌, ◌%◌, true, false, List, Option, None, Result, Ok, Err}
+use Rattle.std.specs.Prelude.{◌≡◌, ◌⊎◌, ℕ, ◌+◌, ◌*◌, ◌<◌, ◌≤◌, ◌/◌, ◌%◌, ◌==◌, true, false, List, Option, Some, None, Result, Ok, Err, MatchBool, if◌then◌else◌}
 use Rattle.page_ranges.specs.declared.ranges.Owner.{Owner}
 use Rattle.page_ranges.specs.declared.ranges.Owner.TheVariants.{Given, Pages, Pool}
 use Rattle.page_ranges.specs.declared.ranges.PageRange.{PageRange}
 use Rattle.page_ranges.specs.declared.statuses.Status.{Status}
 use Rattle.page_ranges.specs.declared.statuses.Status.TheVariants.{InvalidParameter, NotFound, OutOfResources}
-use Rattle.page_ranges.specs.MemoryTypes.{page_size, page_count, conventional, is_bad_type}
+use Rattle.page_ranges.specs.MemoryTypes.{page_size, page_count, pages_below, conventional, is_bad_type}
 use Rattle.page_ranges.specs.Memory.{Page, IsConventional, IsOwnedBy, AllInRange, retyped}
+use Rattle.placement_certificate.specs.declared.certificates.Request.{Request}
+use Rattle.placement_certificate.specs.Placement.{IsPermittedStart}
+use Rattle.placement_certificate.specs.Certificates.{CertificateValue, IsTrueCertificate}
 use Rattle.page_services.specs.declared.page_book.Placed.{Placed}
 
 -- the memory, and the map key: 1 at first, and one more after each call that changed some page's type
@@ -25,31 +28,54 @@ IsAligned address = address % page_size ≡ 0
 abbrev pub changed_book : PageRange → ℕ → Owner → Book → Book
 changed_book range t o b = record { memory = retyped range t o b.memory; key = b.key + 1 }
 
+-- ---- how a start is chosen
+
+-- what is said of a memory, a request, the start that was chosen for it and the certificate that came with it
+abbrev pub Choice : Type 1
+Choice = List Page → Request → ℕ → Option CertificateValue → Type 0
+
+-- any permitted start
+abbrev pub IsAnyStart : Choice
+IsAnyStart m r p certificate = IsPermittedStart m r p
+
+-- the best start, with the true certificate
+abbrev pub IsBestChoice : Choice
+IsBestChoice m r p None = ⊥
+IsBestChoice m r p (Some c) = IsTrueCertificate m r c × (c.answer ≡ p)
+
 -- ---- AllocatePages
 
 -- the kind of a request that names its address
 abbrev pub fixed_address : ℕ
 fixed_address = 2
 
--- A request that every memory refuses: of a kind that is not served, of a bad type, or for no pages.
+-- the request of a kind that names no address: 0 is any pages, 1 those up to the uppermost byte that it names
+abbrev pub request_of : ℕ → ℕ → ℕ → ℕ → Request
+request_of kind t pages memory = record { mtype = t; pages = pages; limit = if kind == 1 then pages_below memory else page_count }
+
+-- A request that every memory refuses: of a kind that is none, of a bad type, or for no pages.
 abbrev pub IsInvalidRequest : ℕ → ℕ → ℕ → Type 0
-IsInvalidRequest kind t pages = (kind ≢ fixed_address) ⊎ ((is_bad_type t ≡ true) ⊎ (pages ≡ 0))
+IsInvalidRequest kind t pages = (fixed_address < kind) ⊎ ((is_bad_type t ≡ true) ⊎ (pages ≡ 0))
 
 abbrev pub IsValidRequest : ℕ → ℕ → ℕ → Type 0
-IsValidRequest kind t pages = (kind ≡ fixed_address) × (is_bad_type t ≡ false) × (0 < pages)
+IsValidRequest kind t pages = (kind ≤ fixed_address) × (is_bad_type t ≡ false) × (0 < pages)
 
 -- the pages at an address may be allocated
 abbrev pub IsFree : List Page → ℕ → ℕ → Type 0
 IsFree m address pages = IsAligned address × AllInRange m (range_at address pages) IsConventional
 
--- What AllocatePages answers, and the book after it. A refusal leaves the book; want of memory is the only one that the
--- rule does not name.
-abbrev pub AllocatesPages : {A : Type 0} → Book → ℕ → ℕ → ℕ → ℕ → Result (Placed A) Status → Book → Type 0
-AllocatesPages b kind t pages address (Ok placed) new = IsValidRequest kind t pages × IsFree b.memory address pages × (placed.address ≡ address) × (placed.certificate ≡ None) × (new ≡ changed_book (range_at address pages) t Pages b)
-AllocatesPages b kind t pages address (Err InvalidParameter) new = IsInvalidRequest kind t pages × (new ≡ b)
-AllocatesPages b kind t pages address (Err NotFound) new = IsValidRequest kind t pages × (¬ IsFree b.memory address pages) × (new ≡ b)
-AllocatesPages b kind t pages address (Err OutOfResources) new = IsValidRequest kind t pages × IsFree b.memory address pages × (new ≡ b)
-AllocatesPages b kind t pages address (Err status) new = ⊥
+-- Where the pages were placed: at the address of the request, or at the start that was chosen.
+abbrev pub IsPlaced : {A : Type 0} → Choice → List Page → ℕ → ℕ → ℕ → ℕ → Placed A → Type 0
+IsPlaced Chosen m kind t pages memory placed = MatchBool (kind == fixed_address) (IsFree m memory pages × (placed.address ≡ memory) × (placed.certificate ≡ None)) ((start : ℕ) × Chosen m (request_of kind t pages memory) start placed.certificate × (placed.address ≡ start * page_size))
+
+-- What AllocatePages answers, and the book after it. A refusal leaves the book. OUT_OF_RESOURCES is want of memory, and of
+-- the kinds that name no address also that no start is permitted.
+abbrev pub AllocatesPages : {A : Type 0} → Choice → Book → ℕ → ℕ → ℕ → ℕ → Result (Placed A) Status → Book → Type 0
+AllocatesPages Chosen b kind t pages memory (Ok placed) new = IsValidRequest kind t pages × IsPlaced Chosen b.memory kind t pages memory placed × (new ≡ changed_book (range_at placed.address pages) t Pages b)
+AllocatesPages Chosen b kind t pages memory (Err InvalidParameter) new = IsInvalidRequest kind t pages × (new ≡ b)
+AllocatesPages Chosen b kind t pages memory (Err NotFound) new = IsValidRequest kind t pages × (kind ≡ fixed_address) × (¬ IsFree b.memory memory pages) × (new ≡ b)
+AllocatesPages Chosen b kind t pages memory (Err OutOfResources) new = IsValidRequest kind t pages × (kind ≡ fixed_address → IsFree b.memory memory pages) × (new ≡ b)
+AllocatesPages Chosen b kind t pages memory (Err status) new = ⊥
 
 -- ---- FreePages
 

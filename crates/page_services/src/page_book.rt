@@ -1,15 +1,21 @@
 //! The book of a machine's pages.
-ghost use Rattle.std.specs.Prelude.{◌≡◌, ◌+◌, ◌<◌, ◌^◌, MatchResult, OnOk, OnErr, Err};
+ghost use Rattle.std.specs.Prelude.{◌≡◌, ℕ, false, ◌+◌, ◌<◌, ◌≤◌, ◌^◌, MatchResult, OnOk, OnErr, Err};
 ghost use Rattle.page_ranges.specs.declared.ranges.Owner.TheVariants.{Given};
-ghost use Rattle.page_ranges.specs.MemoryTypes.{conventional};
+ghost use Rattle.page_ranges.specs.MemoryTypes.{conventional, is_bad_type, page_count};
 ghost use Rattle.page_ranges.specs.Memory.{IsPresent, AllInRange};
-ghost use Rattle.page_services.specs.PageRules.{AllocatesPages, FreesPages, changed_book};
+ghost use Rattle.page_services.specs.PageRules.{AllocatesPages, IsBestChoice, FreesPages, changed_book, fixed_address, request_of};
 
 use descriptor_table::RunTable;
-use page_ranges::{MemoryType, Owner, PAGE_COUNT, PAGE_SIZE, PageRange, Status, type_for_alloc};
-use placement_certificate::Certificate;
+use page_ranges::{
+    MemoryType, Owner, PAGE_COUNT, PAGE_SIZE, PageRange, Status, pages_below, type_for_alloc,
+};
+use placement_certificate::{Certificate, Request};
+use placement_chooser::choose;
 use std::alloc::{Allocator, Global};
 use std::marker::Model;
+
+/// AllocateMaxAddress: the range ends by the byte at the address of the request.
+const ALLOCATE_MAX_ADDRESS: u32 = 1;
 
 /// AllocateAddress: the range starts at the address of the request.
 const ALLOCATE_ADDRESS: u32 = 2;
@@ -46,12 +52,14 @@ impl<A: Allocator + Copy> PageBook<A> {
         PageBook { table, key: 1 }
     }
 
-    /// AllocatePages of the kind `kind`, for the type `mtype`, so many `pages`, at or up to the
-    /// address `memory`. Kinds 0 and 1 are not served yet.
+    /// AllocatePages of the kind `kind`, for the type `mtype`, so many `pages`: anywhere (0), up to
+    /// the byte at the address `memory` (1), or at that address (2). Of the places that kinds 0 and
+    /// 1 permit it takes the highest after which the memory map has the fewest entries, and
+    /// answers a certificate of that.
     ///
     /// INVALID_PARAMETER: another kind, a type that no request may name, or no pages. NOT_FOUND: an
-    /// unaligned address, or a range that is not all conventional. OUT_OF_RESOURCES: want of memory
-    /// for the table. On an `Err` the book is as it was.
+    /// unaligned address, or a range there that is not all conventional. OUT_OF_RESOURCES: no place
+    /// of kind 0 or 1, or want of memory. On an `Err` the book is as it was.
     pub fn allocate(
         &mut self,
         kind: u32,
@@ -60,15 +68,29 @@ impl<A: Allocator + Copy> PageBook<A> {
         memory: u64,
     ) -> Result<Placed<A>, Status>
         requires { self.old.key < 2 ^ 62 }
-        ensures { AllocatesPages self.old kind mtype pages memory result self.new }
+        ensures { AllocatesPages IsBestChoice self.old kind mtype pages memory result self.new }
     {
-        if kind != ALLOCATE_ADDRESS {
+        if kind > ALLOCATE_ADDRESS {
             return Err(Status::InvalidParameter);
         }
         let mtype = type_for_alloc(mtype)?;
         if pages == 0 {
             return Err(Status::InvalidParameter);
         }
+        match kind {
+            ALLOCATE_ADDRESS => self.place_at(mtype, pages, memory),
+            ALLOCATE_MAX_ADDRESS => self.place_below(mtype, pages, pages_below(memory)),
+            _ => self.place_below(mtype, pages, PAGE_COUNT),
+        }
+    }
+
+    // Places pages at an address.
+    fn place_at(&mut self, mtype: MemoryType, pages: u64, memory: u64) -> Result<Placed<A>, Status>
+        requires key { self.old.key < 2 ^ 62 }
+        requires good { is_bad_type mtype ≡ false }
+        requires some { 0 < pages }
+        ensures { AllocatesPages IsBestChoice self.old fixed_address mtype pages memory result self.new }
+    {
         let range = PageRange {
             first: memory / PAGE_SIZE,
             pages,
@@ -80,6 +102,35 @@ impl<A: Allocator + Copy> PageBook<A> {
         Ok(Placed {
             address: memory,
             certificate: None,
+        })
+    }
+
+    // Places pages at the best start below a page limit.
+    fn place_below(
+        &mut self,
+        mtype: MemoryType,
+        pages: u64,
+        limit: u64,
+    ) -> Result<Placed<A>, Status>
+        requires key { self.old.key < 2 ^ 62 }
+        requires good { is_bad_type mtype ≡ false }
+        requires some { 0 < pages }
+        requires limit { limit ≤ page_count }
+        ensures { (kind memory : ℕ) → kind < fixed_address → (request_of kind mtype pages memory).limit ≡ limit → AllocatesPages IsBestChoice self.old kind mtype pages memory result self.new }
+    {
+        let request = Request {
+            mtype,
+            pages,
+            limit,
+        };
+        let Ok(Some(certificate)) = choose(self.table.allocator(), &self.table, &request) else {
+            return Err(Status::OutOfResources);
+        };
+        let first = certificate.answer;
+        self.change(PageRange { first, pages }, mtype, Owner::Pages)?;
+        Ok(Placed {
+            address: first * PAGE_SIZE,
+            certificate: Some(certificate),
         })
     }
 

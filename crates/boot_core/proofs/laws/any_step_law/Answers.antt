@@ -1,0 +1,5 @@
+use Rattle.boot_core.proofs.AnySteps.{step_any}
+use Rattle.boot_core.proofs.laws.any_step_law.Goals as goal
+
+pub returns : goal.returns
+returns g c = λ old call reply new s. step_any old call reply new s
