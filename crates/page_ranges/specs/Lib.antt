@@ -3,3 +3,4 @@ pub mod Memory
 pub mod MemoryMap
 pub mod Runs
 pub mod Laws
+pub mod Statuses

@@ -1,4 +1,7 @@
 //! The statuses that services answer.
+ghost use Rattle.std.specs.Prelude.{◌≡◌};
+ghost use Rattle.page_ranges.specs.Statuses.{name_of};
+
 use std::fmt;
 
 /// A status of the services (EFI_STATUS), as far as these services answer it.
@@ -17,7 +20,9 @@ pub enum Status {
 
 impl Status {
     /// The standard's name, without `EFI_`.
-    pub fn name(self) -> &'static str {
+    pub fn name(self) -> &'static str
+        ensures { result.now ≡ name_of self }
+    {
         match self {
             Status::Success => "SUCCESS",
             Status::InvalidParameter => "INVALID_PARAMETER",
