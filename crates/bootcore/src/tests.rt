@@ -1,5 +1,6 @@
 //! Runs of the program, as text in and text out.
 mod faults;
+mod placements;
 mod rows;
 mod streams;
 

@@ -1,0 +1,95 @@
+//! Where requests that name no address are placed, and how many entries the memory map then has.
+use super::{MACHINE, outcome_of};
+use std::test::Fail;
+
+/// Two blocks of free memory side by side that differ in one attribute.
+const TWO_BLOCKS: &str = "{\"memory\":[
+{\"type\":7,\"start\":\"0x0\",\"pages\":8,\"attributes\":\"0xf\"},
+{\"type\":7,\"start\":\"0x8000\",\"pages\":8,\"attributes\":\"0x7\"}]}";
+
+/// The last eight pages of all.
+const LAST_PAGES: &str = "{\"memory\":[
+{\"type\":7,\"start\":\"0xffffffffffff8000\",\"pages\":8,\"attributes\":\"0xf\"}]}";
+
+const NO_MEMORY: &str = "{\"memory\":[]}";
+
+/// Each a name, a machine, a trace, and the lines that it prints, without those of entries.
+const ROWS: [(&str, &str, &str, &str); 10] = [
+    (
+        "best fit high",
+        MACHINE,
+        "pages 0 4 10 0\nlist\n",
+        "1 pages SUCCESS address=0x7f6000\n2 list descriptors=5\n",
+    ),
+    (
+        "free joins again",
+        MACHINE,
+        "pages 0 4 10 0\nlist\npages 0 4 5 0\nlist\nfree-pages 0x7f1000 15\nlist\n",
+        "1 pages SUCCESS address=0x7f6000\n2 list descriptors=5\n3 pages SUCCESS address=0x7f1000\n4 list descriptors=5\n5 free-pages SUCCESS\n6 list descriptors=4\n",
+    ),
+    (
+        "runtime joins below",
+        MACHINE,
+        "pages 0 6 4 0\nlist\n",
+        "1 pages SUCCESS address=0x410000\n2 list descriptors=4\n",
+    ),
+    (
+        "whole entry",
+        MACHINE,
+        "pages 0 4 160 0\nlist\n",
+        "1 pages SUCCESS address=0x0\n2 list descriptors=4\n",
+    ),
+    (
+        "below a limit",
+        MACHINE,
+        "pages 1 4 10 0x4ffff\nlist\n",
+        "1 pages SUCCESS address=0x0\n2 list descriptors=5\n",
+    ),
+    (
+        "last pages of all",
+        LAST_PAGES,
+        "pages 0 4 8 0\nlist\n",
+        "1 pages SUCCESS address=0xffffffffffff8000\n2 list descriptors=1\n",
+    ),
+    (
+        "one of two attributes",
+        TWO_BLOCKS,
+        "pages 0 2 8 0\nlist\n",
+        "1 pages SUCCESS address=0x8000\n2 list descriptors=2\n",
+    ),
+    (
+        "across attributes",
+        TWO_BLOCKS,
+        "pages 0 2 12 0\nlist\n",
+        "1 pages SUCCESS address=0x4000\n2 list descriptors=3\n",
+    ),
+    (
+        "limit is the last byte",
+        TWO_BLOCKS,
+        "pages 1 2 8 0x7ffe\npages 1 2 8 0x7fff\n",
+        "1 pages OUT_OF_RESOURCES\n2 pages SUCCESS address=0x0\n",
+    ),
+    (
+        "no memory at all",
+        NO_MEMORY,
+        "pages 0 4 1 0\npages 0 4 0 0\n",
+        "1 pages OUT_OF_RESOURCES\n2 pages INVALID_PARAMETER\n",
+    ),
+];
+
+#[test]
+fn placements(rt: HostRuntime) -> Result<(), Fail> {
+    for (name, machine, trace, lines) in ROWS {
+        let outcome = outcome_of(&rt, machine.as_bytes(), trace.as_bytes());
+        let printed = String::from_utf8(outcome.out)?;
+        let mut told = String::new(rt.alloc());
+        for line in printed.as_str().lines() {
+            if !line.starts_with("  ") {
+                told.push_str(line)?;
+                told.push_str("\n")?;
+            }
+        }
+        assert_eq!(rt; told.as_str(), lines, "{name}");
+    }
+    Ok(())
+}
