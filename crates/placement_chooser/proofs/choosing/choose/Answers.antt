@@ -1,0 +1,57 @@
+use Rattle.std.proofs.Common.{◌≡◌, ◌∷◌, [], ◌++◌, eqb, true, filter, length, refl, sym, ap, subst, ◌∙◌, append_assoc, append-nil, rules, arith}
+use Rattle.std.proofs.lemmas.Bool.{eq-eqb}
+use Rattle.std.specs.List.{AllZip}
+use Rattle.page_ranges.specs.MemoryTypes.{conventional}
+use Rattle.page_ranges.specs.MemoryMap.{memory_map}
+use Rattle.page_ranges.specs.Runs.{runs_of}
+use Rattle.placement_certificate.specs.declared.certificates.Bound.{Bound}
+use Rattle.placement_certificate.specs.Certificates.{IsTrueBound, conventional_entries}
+use Rattle.placement_certificate.specs.Search.{IsBestOf}
+use Rattle.placement_certificate.proofs.BestBounds.{no_bound}
+use Rattle.placement_certificate.proofs.Decided.{best_is}
+use Rattle.placement_certificate.proofs.Tries.{bound_more}
+use Rattle.placement_chooser.proofs.Entries.{bounded_more, passed_above}
+use Rattle.placement_chooser.proofs.choosing.choose.Goals as goal
+
+pub loop-entry-preserved-then-eq : goal.loop-entry-preserved-then-eq
+loop-entry-preserved-then-eq g c =
+    let m = c.args.table.now in
+    let r = c.args.request.now in
+    let ys = c.loop-entry.yielded in
+    let e = c.in-Some.entry in
+    let es = c.next.new.self in
+    let bs = c.loop-entry.bounds.items in
+    let least = c.least_in-least.result.0 in
+    let b : Bound = record { first = e.first; pages = e.pages; least = least } in
+    let free : eqb e.mtype conventional ≡ true = eq-eqb e.mtype conventional (search rules) in
+    let steps : c.loop-entry.entry-iterator ≡ e ∷ es = c.in-Some.ensures.steps in
+    let same : ys ++ e ∷ es ≡ memory_map m = ap (λ ds. ys ++ ds) (sym steps) ∙ c.loop-entry.invariant.entries in
+    rw (c.push_reserved.ensures.items, c.better_of-best.ensures) (record {
+      can_next = tt;
+      is_finite = tt;
+      entries = append_assoc ys (e ∷ []) es ∙ same;
+      bounds = bounded_more (IsTrueBound m r) ys bs e b free c.loop-entry.invariant.bounds (record { first = refl; pages = refl; least = c.least_in-least.ensures.least });
+      best = bound_more c.loop-entry.best least bs b refl c.loop-entry.invariant.best;
+      passed = passed_above m (runs_of m) c.least_in-least.result.1 r.pages ys e es c.len-runs.ensures.proper same c.least_in-least.ensures.passed;
+      room = omega (arith, c.loop-entry.invariant.room, ap length steps, c.push_reserved.ensures.len, c.push_reserved.ensures.capacity);
+    })
+
+pub returns-in-Some-best-clause-certificate : goal.returns-in-Some-best-clause-certificate
+returns-in-Some-best-clause-certificate g c =
+    let m = c.args.table.now in
+    let r = c.args.request.now in
+    let bs = c.loop-entry.bounds.items in
+    let empty : c.loop-entry.entry-iterator ≡ [] = c.in-None.ensures.steps.0 in
+    let all : c.loop-entry.yielded ≡ memory_map m = sym (append-nil c.loop-entry.yielded) ∙ ap (λ ds. c.loop-entry.yielded ++ ds) (sym empty) ∙ c.loop-entry.invariant.entries in
+    let bounds : AllZip (IsTrueBound m r) (conventional_entries m) bs = subst (λ es. AllZip (IsTrueBound m r) (filter (λ e. eqb e.mtype conventional) es) bs) all c.loop-entry.invariant.bounds in
+    record { bounds = bounds; answer = best_is m r bs c.len-runs.ensures.proper c.requires bounds c.in-Some-best.field-0-0 c.in-Some-best.answer (subst (λ x. IsBestOf x bs) c.in-Some-best.is c.loop-entry.invariant.best) }
+
+pub returns-in-None-best-clause-none : goal.returns-in-None-best-clause-none
+returns-in-None-best-clause-none g c =
+    let m = c.args.table.now in
+    let r = c.args.request.now in
+    let bs = c.loop-entry.bounds.items in
+    let empty : c.loop-entry.entry-iterator ≡ [] = c.in-None.ensures.steps.0 in
+    let all : c.loop-entry.yielded ≡ memory_map m = sym (append-nil c.loop-entry.yielded) ∙ ap (λ ds. c.loop-entry.yielded ++ ds) (sym empty) ∙ c.loop-entry.invariant.entries in
+    let bounds : AllZip (IsTrueBound m r) (conventional_entries m) bs = subst (λ es. AllZip (IsTrueBound m r) (filter (λ e. eqb e.mtype conventional) es) bs) all c.loop-entry.invariant.bounds in
+    λ h. no_bound m r bs c.len-runs.ensures.proper c.requires bounds (subst (λ x. IsBestOf x bs) c.in-None-best.is c.loop-entry.invariant.best)

@@ -1,0 +1,45 @@
+//! The best start of all.
+ghost use Rattle.std.specs.Prelude.{◌≡◌, ℕ, None, IfSome, IfOk};
+ghost use Rattle.placement_certificate.specs.Placement.{IsProperRequest, IsPermittedStart};
+ghost use Rattle.placement_certificate.specs.Certificates.{IsTrueCertificate};
+
+use crate::starts::{better_of, least_in};
+use descriptor_table::RunTable;
+use page_ranges::MemoryType;
+use placement_certificate::{Bound, Certificate, Request};
+use std::alloc::{AllocError, Allocator};
+
+/// The true certificate of a request, whose answer is the best start; `None` where no start is
+/// permitted. An `Err` is want of memory for the certificate.
+pub fn choose<A: Allocator + Copy, B: Allocator + Copy>(
+    alloc: A,
+    table: &RunTable<B>,
+    request: &Request,
+) -> Result<Option<Certificate<A>>, AllocError>
+    requires { IsProperRequest request.now }
+    ensures certificate { IfOk result (λ o. IfSome o (λ c. IsTrueCertificate table.now request.now c)) }
+    ensures none { IfOk result (λ o. o ≡ None → (p : ℕ) → ¬ IsPermittedStart table.now request.now p) }
+{
+    let _runs = table.len();
+    // Room for a bound of each entry.
+    let mut bounds = Vec::with_capacity(alloc, table.descriptors())?;
+    let mut best = None;
+    // The runs before this index end too low for starts in the entries left.
+    let mut passed = 0;
+    for entry in table.map_entries() {
+        if entry.mtype == MemoryType::conventional() {
+            let (least, next) = least_in(table, request, &entry, passed);
+            bounds.push_reserved(Bound {
+                first: entry.first,
+                pages: entry.pages,
+                least,
+            });
+            best = better_of(best, least);
+            passed = next;
+        }
+    }
+    match best {
+        Some((_, answer)) => Ok(Some(Certificate { bounds, answer })),
+        None => Ok(None),
+    }
+}

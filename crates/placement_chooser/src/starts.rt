@@ -1,0 +1,128 @@
+//! The best start in one entry of the memory map.
+ghost use Rattle.std.specs.Prelude.{◌≡◌, ◌↔◌, ℕ, ◌+◌, ◌≤◌, length, Contains, IsTrue};
+ghost use Rattle.page_ranges.specs.MemoryTypes.{page_count};
+ghost use Rattle.page_ranges.specs.MemoryMap.{memory_map};
+ghost use Rattle.page_ranges.specs.Runs.{runs_of};
+ghost use Rattle.placement_certificate.specs.Placement.{IsProperRequest, IsPermittedStart};
+ghost use Rattle.placement_certificate.specs.Certificates.{IsTrueLeast};
+ghost use Rattle.placement_certificate.specs.Search.{better};
+ghost use Rattle.placement_chooser.specs.Starts.{IsFound, IsTried, EndBelow, EndsTried};
+
+use crate::prices::price_of;
+use descriptor_table::RunTable;
+use page_ranges::{Descriptor, PageRange};
+use placement_certificate::Request;
+use std::alloc::Allocator;
+
+/// A start with its price before it.
+pub(crate) type PricedStart = (u64, u64);
+
+/// The better of two starts: the one with the lower price, and at equal prices the higher one.
+pub(crate) fn better_of(x: Option<PricedStart>, y: Option<PricedStart>) -> Option<PricedStart>
+    ensures { result ≡ better x y }
+{
+    match (x, y) {
+        (Some((price, start)), Some((other_price, other_start))) => {
+            if other_price < price || (other_price == price && start < other_start) {
+                y
+            } else {
+                x
+            }
+        }
+        (None, y) => y,
+        (x, None) => x,
+    }
+}
+
+fn is_permitted<A: Allocator + Copy>(table: &RunTable<A>, request: &Request, start: u64) -> bool
+    ensures { IsTrue result ↔ IsPermittedStart table.now request.now start }
+{
+    if start > request.limit || request.pages > request.limit - start {
+        return false;
+    }
+    table.all_conventional(PageRange {
+        first: start,
+        pages: request.pages,
+    })
+}
+
+// The better of what was found in an entry and of a start, if that is a permitted start there.
+fn try_start<A: Allocator + Copy>(
+    table: &RunTable<A>,
+    request: &Request,
+    entry: &Descriptor,
+    found: Option<PricedStart>,
+    start: u64,
+) -> Option<PricedStart>
+    requires good { IsProperRequest request.now }
+    requires found { IsFound table.now request.now entry.now found }
+    ensures found { IsFound table.now request.now entry.now result }
+    ensures tried { IsTried table.now request.now entry.now result start }
+    ensures still { (q : ℕ) → IsTried table.now request.now entry.now found q → IsTried table.now request.now entry.now result q }
+{
+    if start < entry.first
+        || start - entry.first >= entry.pages
+        || !is_permitted(table, request, start)
+    {
+        return found;
+    }
+    better_of(found, Some((price_of(table, request, start), start)))
+}
+
+// Tries the starts in an entry that end where a run ends, from the run at the index `passed` on.
+// Answers also the index of the first run that ends above all of these.
+fn try_ends<A: Allocator + Copy>(
+    table: &RunTable<A>,
+    request: &Request,
+    entry: &Descriptor,
+    mut found: Option<PricedStart>,
+    passed: usize,
+) -> (Option<PricedStart>, usize)
+    requires good { IsProperRequest request.now }
+    requires within { entry.now.first + entry.now.pages ≤ page_count }
+    requires found { IsFound table.now request.now entry.now found }
+    requires passed { EndBelow (runs_of table.now) passed (entry.now.first + request.now.pages) }
+    ensures found { IsFound table.now request.now entry.now result.0 }
+    ensures still { (q : ℕ) → IsTried table.now request.now entry.now found q → IsTried table.now request.now entry.now result.0 q }
+    ensures ends { EndsTried table.now request.now entry.now (runs_of table.now) (length (runs_of table.now)) result.0 }
+    ensures passed { EndBelow (runs_of table.now) result.1 (entry.now.first + entry.now.pages + request.now.pages) }
+{
+    let _runs = table.len();
+    let mut index = passed;
+    while let Some(run) = table.run(index) {
+        let end = run.range.first + run.range.pages;
+        if end >= request.pages {
+            let start = end - request.pages;
+            if start >= entry.first + entry.pages {
+                return (found, index);
+            }
+            found = try_start(table, request, entry, found, start);
+        }
+        index += 1;
+    }
+    (found, index)
+}
+
+/// The best start in a conventional entry. The runs before the index `passed` end too low for a start
+/// there; answers also such an index for the entries above.
+pub(crate) fn least_in<A: Allocator + Copy>(
+    table: &RunTable<A>,
+    request: &Request,
+    entry: &Descriptor,
+    passed: usize,
+) -> (Option<PricedStart>, usize)
+    requires good { IsProperRequest request.now }
+    requires entry { Contains (memory_map table.now) entry.now }
+    requires passed { EndBelow (runs_of table.now) passed (entry.now.first + request.now.pages) }
+    ensures least { IsTrueLeast table.now request.now entry.now result.0 }
+    ensures passed { EndBelow (runs_of table.now) result.1 (entry.now.first + entry.now.pages + request.now.pages) }
+{
+    let _runs = table.len();
+    let first_tried = try_start(table, request, entry, None, entry.first);
+    let (ended, passed) = try_ends(table, request, entry, first_tried, passed);
+    let last = entry.first + (entry.pages - 1);
+    let last_tried = try_start(table, request, entry, ended, last);
+    let by_limit = request.limit.saturating_sub(request.pages);
+    let found = try_start(table, request, entry, last_tried, by_limit);
+    (found, passed)
+}
