@@ -1,5 +1,5 @@
 -- A step with the best start is a step with any permitted start.
-use Rattle.std.proofs.Common.{◌≡◌, ℕ, ◌*◌, eqb, Bool, true, false, List, Option, Some, None, Result, Ok, Err, MatchBool, subst}
+use Rattle.std.proofs.Common.{◌≡◌, ℕ, ◌*◌, eqb, Bool, true, false, List, [], ◌∷◌, Option, Some, None, Result, Ok, Err, MatchBool, subst}
 use Rattle.page_ranges.specs.declared.statuses.Status.{Status}
 use Rattle.page_ranges.specs.declared.statuses.Status.TheVariants as status
 use Rattle.page_ranges.specs.MemoryTypes.{page_size}
@@ -14,7 +14,7 @@ use Rattle.boot_core.specs.declared.calls.Call.TheVariants as call
 use Rattle.boot_core.specs.declared.calls.Reply.{Reply}
 use Rattle.boot_core.specs.declared.calls.Reply.TheVariants as reply
 use Rattle.boot_core.specs.Machines.{State}
-use Rattle.boot_core.specs.Steps.{Answers, Step, StepAny}
+use Rattle.boot_core.specs.Steps.{Answers, Step, StepAny, RunsBy}
 
 best_is_permitted : (m : List Page) (r : Request) (p : ℕ) (c : Option CertificateValue) → IsBestChoice m r p c → IsAnyStart m r p c
 best_is_permitted m r p None h = absurd h
@@ -47,3 +47,9 @@ answers_any exited old (call.FreePages memory pages) (reply.AllocatePages result
 
 pub step_any : {A : Type 0} (old : State) (call : Call) (reply : Reply A) (new : State) → Step old call reply new → StepAny old call reply new
 step_any old call reply new s = record { answers = answers_any old.exited old.book call reply new.book s.answers; exited = s.exited; calls_left = s.calls_left }
+
+pub run_any : {A : Type 0} (old : State) (calls : List Call) (replies : List (Reply A)) (new : State) → RunsBy IsBestChoice old calls replies new → RunsBy IsAnyStart old calls replies new
+run_any old [] [] new r = r
+run_any old (c ∷ calls) (r ∷ replies) new run = (run.0, step_any old c r run.0 run.1, run_any run.0 calls replies new run.2)
+run_any old [] (r ∷ replies) new run = absurd run
+run_any old (c ∷ calls) [] new run = absurd run

@@ -44,3 +44,7 @@ RunsBy Chosen old calls replies new = ⊥
 -- A step with the best start is a step with any permitted start.
 abbrev pub AnyStepLaw : Type 0 → Type 0
 AnyStepLaw A = (old : State) (call : Call) (reply : Reply A) (new : State) → Step old call reply new → StepAny old call reply new
+
+-- A run with the best starts is a run with any permitted starts.
+abbrev pub AnyRunLaw : Type 0 → Type 0
+AnyRunLaw A = (old : State) (calls : List Call) (replies : List (Reply A)) (new : State) → RunsBy IsBestChoice old calls replies new → RunsBy IsAnyStart old calls replies new
