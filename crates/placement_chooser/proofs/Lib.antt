@@ -1,3 +1,4 @@
 pub mod Tries
 pub mod Ends
 pub mod Entries
+pub mod Drawn

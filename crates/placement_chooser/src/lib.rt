@@ -4,5 +4,7 @@
 mod choosing;
 mod prices;
 mod starts;
+#[cfg(test)]
+mod tests;
 
 pub use choosing::choose;

@@ -1,4 +1,4 @@
-use Rattle.std.proofs.Common.{subst, ◌≡◌, ◌∙◌, ◌+◌, ◌-◌, arith}
+use Rattle.std.proofs.Common.{subst, ◌≡◌, ◌+◌, ◌-◌, arith}
 use Rattle.page_ranges.proofs.Blocks.{entry_is_block, entry_end}
 use Rattle.placement_chooser.specs.Starts.{IsTried}
 use Rattle.placement_chooser.proofs.Tries.{least_found}
@@ -25,5 +25,5 @@ returns-clause-least g c =
     least_found m r e l proper c.requires.good c.requires.entry c.try_start-found.ensures.found
     (c.try_start-found.ensures.still _ (c.try_start-last_tried.ensures.still _ (c.try_ends-ended.ensures.still _ c.try_start-first_tried.ensures.tried)))
     (λ q at. let same : e.first + (e.pages - 1) ≡ q = omega arith in subst (IsTried m r e l) same (c.try_start-found.ensures.still _ c.try_start-last_tried.ensures.tried))
-    (λ q at. let same : r.limit - r.pages ≡ q = omega arith in subst (λ p. IsTried m r e l p) (c.saturating_sub-by_limit.ensures ∙ same) c.try_start-found.ensures.tried)
+    (λ q at. let same : c.saturating_sub-by_limit.result ≡ q = omega (arith, c.saturating_sub-by_limit.ensures) in subst (IsTried m r e l) same c.try_start-found.ensures.tried)
     (λ q at. c.try_start-found.ensures.still q (c.try_start-last_tried.ensures.still q (entries_tried m r e c.try_ends-ended.result.0 proper c.try_ends-ended.ensures.ends q at)))
