@@ -1,13 +1,24 @@
 //! Lines, read one at a time.
+ghost use Rattle.std.specs.Prelude.{◌≡◌, ◌⊎◌, ℕ, List, [], ◌∷◌, MatchBool, MatchOption, Some, IfOk, IfErr, IfSome};
+ghost use Rattle.std.specs.Io.Buffered.{reader_remaining};
+ghost use Rattle.boot_trace.specs.Lines.{TakesLine};
+
 use crate::calls::LONGEST_LINE;
 use crate::faults::RunFault;
 use std::alloc::Allocator;
 use std::io::{BufReader, Read};
 
+/// The most bytes that are taken of a line that is too long.
+const LONGEST_FRONT: usize = LONGEST_LINE + 1;
+
 /// The next byte, None at the end.
 pub fn next_byte<R: Read, A: Allocator>(
     reader: &mut BufReader<R, A>,
-) -> Result<Option<u8>, RunFault> {
+) -> Result<Option<u8>, RunFault>
+    ensures known { IfSome (reader_remaining R.remaining reader.old) (λ bytes. IfOk result (λ next. MatchOption next (bytes ≡ [])
+        (λ byte. (rest : List ℕ) × (bytes ≡ byte ∷ rest) × (reader_remaining R.remaining reader.new ≡ Some rest)))) }
+    ensures err { IfErr result (λ fault. fault ≡ RunFault.Read) }
+{
     let mut byte = [0u8; 1];
     match reader.read(&mut byte) {
         Ok(0) => Ok(None),
@@ -21,13 +32,22 @@ pub fn next_byte<R: Read, A: Allocator>(
 pub fn next_line<R: Read, A: Allocator>(
     reader: &mut BufReader<R, A>,
     line: &mut Vec<u8, A>,
-) -> Result<bool, RunFault> {
+) -> Result<bool, RunFault>
+    ensures known { IfSome (reader_remaining R.remaining reader.old) (λ bytes. IfOk result (λ more.
+        MatchBool more (TakesLine bytes line.new.items (reader_remaining R.remaining reader.new)) (bytes ≡ []))) }
+    ensures err { IfErr result (λ fault. (fault ≡ RunFault.Read) ⊎ (fault ≡ RunFault.OutOfMemory)) }
+{
     line.clear();
-    for _ in 0..=LONGEST_LINE {
-        match next_byte(reader)? {
-            None => return Ok(!line.is_empty()),
-            Some(b'\n') => return Ok(true),
-            Some(byte) => line.push(byte)?,
+    for _taken in 0..LONGEST_FRONT {
+        match next_byte(reader) {
+            Ok(None) => return Ok(!line.is_empty()),
+            Ok(Some(b'\n')) => return Ok(true),
+            Ok(Some(byte)) => {
+                if line.push(byte).is_err() {
+                    return Err(RunFault::OutOfMemory);
+                }
+            }
+            Err(fault) => return Err(fault),
         }
     }
     Ok(true)
