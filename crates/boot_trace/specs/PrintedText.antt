@@ -3,6 +3,7 @@ use Rattle.std.specs.Prelude.{ℕ, ◌*◌, List, [], ◌∷◌, ◌++◌, lengt
 use Rattle.std.specs.Fmt.{decimal, digits}
 use Rattle.page_ranges.specs.declared.ranges.Descriptor.{Descriptor}
 use Rattle.page_ranges.specs.MemoryTypes.{page_size}
+use Rattle.page_ranges.specs.declared.statuses.Status.TheVariants.{Success}
 use Rattle.page_ranges.specs.Statuses.{name_of as status_of}
 use Rattle.boot_core.specs.declared.calls.Reply.{Reply}
 use Rattle.boot_core.specs.declared.calls.Reply.TheVariants as reply
@@ -24,20 +25,20 @@ line_feed = 10 ∷ []
 abbrev pub reply_start : ℕ → Verb → List ℕ
 reply_start number v = decimal number ++ space ++ name_of v
 
--- the line of a call that succeeded, with its fields
-abbrev pub success_line : ℕ → Verb → List ℕ → List ℕ
-success_line number v fields = reply_start number v ++ codes " SUCCESS" ++ fields ++ line_feed
+-- the line of a reply without fields
+abbrev pub status_line : ℕ → Verb → List ℕ → List ℕ
+status_line number v status = reply_start number v ++ space ++ status ++ line_feed
 
--- the line of a refused call
-abbrev pub refusal_line : ℕ → Verb → List ℕ → List ℕ
-refusal_line number v status = reply_start number v ++ space ++ status ++ line_feed
+-- the line of a call that succeeded with a value
+abbrev pub value_line : ℕ → Verb → List ℕ → ℕ → List ℕ
+value_line number v name value = reply_start number v ++ codes " SUCCESS " ++ name ++ codes "=" ++ hexadecimal value ++ line_feed
 
 -- what is printed of a call's reply
 abbrev pub reply_text : {A : Type 0} → ℕ → Reply A → List ℕ
-reply_text number (reply.AllocatePages (Ok placed)) = success_line number verb.Pages (codes " address=" ++ hexadecimal placed.address)
-reply_text number (reply.AllocatePages (Err status)) = refusal_line number verb.Pages (status_of status)
-reply_text number (reply.FreePages (Ok done)) = success_line number verb.FreePages []
-reply_text number (reply.FreePages (Err status)) = refusal_line number verb.FreePages (status_of status)
+reply_text number (reply.AllocatePages (Ok placed)) = value_line number verb.Pages (codes "address") placed.address
+reply_text number (reply.AllocatePages (Err status)) = status_line number verb.Pages (status_of status)
+reply_text number (reply.FreePages (Ok done)) = status_line number verb.FreePages (status_of Success)
+reply_text number (reply.FreePages (Err status)) = status_line number verb.FreePages (status_of status)
 
 -- the line of an entry of the memory map: two spaces, and its type, address, pages and attributes
 abbrev pub descriptor_line : Descriptor → List ℕ

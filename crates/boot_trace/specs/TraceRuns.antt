@@ -23,6 +23,14 @@ Prints A number (Ok (Some trace_call.List)) old text new = (text ≡ list_text n
 Prints A number (Ok (Some (trace_call.Service call))) old text new = (reply : Reply A) × Step old call reply new × (text ≡ reply_text number reply)
 Prints A number (Err e) old text new = ⊥
 
+-- Why a line that is read so stops a run, and how it leaves the machine: as it was, or for want of memory after the
+-- call was made.
+abbrev pub StopsAt : Type 0 → RunFault → ℕ → Result (Option TraceCall) TraceFault → State → State → Type 0
+StopsAt A (fault.Line n e) number asks old new = (n ≡ number) × (asks ≡ Err e) × (new ≡ old)
+StopsAt A fault.NoCallsLeft number asks old new = (old.calls_left ≡ 0) × (new ≡ old)
+StopsAt A fault.OutOfMemory number asks old new = (new ≡ old) ⊎ ((text : List ℕ) × Prints A number asks old text new)
+StopsAt A e number asks old new = ⊥
+
 -- The lines, the first of which has this number, print this text, one after another.
 abbrev pub PrintsAll : Type 0 → ℕ → List (List ℕ) → State → List ℕ → State → Type 0
 PrintsAll A number [] old text new = (text ≡ []) × (new ≡ old)

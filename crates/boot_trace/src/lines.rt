@@ -1,7 +1,7 @@
 //! Lines, read one at a time.
-ghost use Rattle.std.specs.Prelude.{◌≡◌, ◌⊎◌, ℕ, List, [], ◌∷◌, MatchBool, MatchOption, Some, IfOk, IfErr, IfSome};
+ghost use Rattle.std.specs.Prelude.{◌≡◌, ◌⊎◌, IfOk, IfErr};
 ghost use Rattle.std.specs.Io.Buffered.{reader_remaining};
-ghost use Rattle.boot_trace.specs.Lines.{TakesLine};
+ghost use Rattle.boot_trace.specs.Lines.{TakesByte, TakesLine};
 
 use crate::calls::LONGEST_LINE;
 use crate::faults::RunFault;
@@ -15,8 +15,7 @@ const LONGEST_FRONT: usize = LONGEST_LINE + 1;
 pub fn next_byte<R: Read, A: Allocator>(
     reader: &mut BufReader<R, A>,
 ) -> Result<Option<u8>, RunFault>
-    ensures known { IfSome (reader_remaining R.remaining reader.old) (λ bytes. IfOk result (λ next. MatchOption next (bytes ≡ [])
-        (λ byte. (rest : List ℕ) × (bytes ≡ byte ∷ rest) × (reader_remaining R.remaining reader.new ≡ Some rest)))) }
+    ensures known { IfOk result (λ next. TakesByte (reader_remaining R.remaining reader.old) next (reader_remaining R.remaining reader.new)) }
     ensures err { IfErr result (λ fault. fault ≡ RunFault.Read) }
 {
     let mut byte = [0u8; 1];
@@ -33,8 +32,7 @@ pub fn next_line<R: Read, A: Allocator>(
     reader: &mut BufReader<R, A>,
     line: &mut Vec<u8, A>,
 ) -> Result<bool, RunFault>
-    ensures known { IfSome (reader_remaining R.remaining reader.old) (λ bytes. IfOk result (λ more.
-        MatchBool more (TakesLine bytes line.new.items (reader_remaining R.remaining reader.new)) (bytes ≡ []))) }
+    ensures known { IfOk result (λ more. TakesLine (reader_remaining R.remaining reader.old) more line.new.items (reader_remaining R.remaining reader.new)) }
     ensures err { IfErr result (λ fault. (fault ≡ RunFault.Read) ⊎ (fault ≡ RunFault.OutOfMemory)) }
 {
     line.clear();

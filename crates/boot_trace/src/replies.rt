@@ -2,7 +2,7 @@
 ghost use Rattle.std.specs.Prelude.{◌≡◌, ◌++◌, ◌<◌, OnOk, string_bytes};
 ghost use Rattle.page_ranges.specs.MemoryTypes.{page_count};
 ghost use Rattle.page_ranges.specs.MemoryMap.{memory_map};
-ghost use Rattle.boot_trace.specs.PrintedText.{reply_text, refusal_line, list_text, descriptor_line};
+ghost use Rattle.boot_trace.specs.PrintedText.{value_line, reply_text, status_line, list_text, descriptor_line};
 ghost use Rattle.page_ranges.specs.Statuses.{name_of};
 
 use crate::verbs::Verb;
@@ -20,27 +20,36 @@ pub fn print_reply<A: Allocator>(
 {
     match reply {
         Reply::AllocatePages(Ok(placed)) => {
-            let verb = Verb::Pages.name();
-            let address = placed.address;
-            writeln!(text, "{number} {verb} SUCCESS address=0x{address:x}")
+            print_value(text, number, Verb::Pages, "address", placed.address)
         }
-        Reply::AllocatePages(Err(status)) => print_refusal(text, number, Verb::Pages, *status),
-        Reply::FreePages(Ok(())) => {
-            let verb = Verb::FreePages.name();
-            writeln!(text, "{number} {verb} SUCCESS")
-        }
-        Reply::FreePages(Err(status)) => print_refusal(text, number, Verb::FreePages, *status),
+        Reply::AllocatePages(Err(status)) => print_status(text, number, Verb::Pages, *status),
+        Reply::FreePages(Ok(())) => print_status(text, number, Verb::FreePages, Status::Success),
+        Reply::FreePages(Err(status)) => print_status(text, number, Verb::FreePages, *status),
     }
 }
 
-/// Appends the line of a refused call.
-fn print_refusal<A: Allocator>(
+/// Appends the line of a call that succeeded with a value.
+fn print_value<A: Allocator>(
+    text: &mut String<A>,
+    number: u64,
+    verb: Verb,
+    name: &str,
+    value: u64,
+) -> Result<(), AllocError>
+    ensures { OnOk result (string_bytes text.new ≡ string_bytes text.old ++ value_line number verb name.now value) }
+{
+    let verb = verb.name();
+    writeln!(text, "{number} {verb} SUCCESS {name}=0x{value:x}")
+}
+
+/// Appends the line of a reply without fields.
+fn print_status<A: Allocator>(
     text: &mut String<A>,
     number: u64,
     verb: Verb,
     status: Status,
 ) -> Result<(), AllocError>
-    ensures { OnOk result (string_bytes text.new ≡ string_bytes text.old ++ refusal_line number verb (name_of status)) }
+    ensures { OnOk result (string_bytes text.new ≡ string_bytes text.old ++ status_line number verb (name_of status)) }
 {
     let verb = verb.name();
     let status = status.name();
