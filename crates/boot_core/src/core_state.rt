@@ -1,5 +1,6 @@
 //! The core: the state of the boot services.
 ghost use Rattle.std.specs.Prelude.{◌≡◌, ◌<◌, length, IfOk, slice_get};
+ghost use Rattle.page_ranges.specs.Memory.{IsProperMemory};
 ghost use Rattle.page_ranges.specs.MemoryMap.{memory_map};
 ghost use Rattle.boot_core.specs.Machines.{first_state};
 ghost use Rattle.boot_core.specs.Steps.{Step};
@@ -97,7 +98,8 @@ impl<A: Allocator + Copy> Core<A> {
 
     /// How many entries the memory map has.
     pub fn descriptors(&self) -> usize
-        ensures { result ≡ length (memory_map self.now.book.memory) }
+        ensures count { result ≡ length (memory_map self.now.book.memory) }
+        ensures proper { IsProperMemory self.now.book.memory }
     {
         self.book.table().descriptors()
     }

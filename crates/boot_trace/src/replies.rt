@@ -1,4 +1,11 @@
 //! The text of replies.
+ghost use Rattle.std.specs.Prelude.{◌≡◌, ◌++◌, ◌<◌, OnOk, string_bytes};
+ghost use Rattle.page_ranges.specs.MemoryTypes.{page_count};
+ghost use Rattle.page_ranges.specs.MemoryMap.{memory_map};
+ghost use Rattle.boot_trace.specs.PrintedText.{value_line, reply_text, status_line, list_text, descriptor_line};
+ghost use Rattle.page_ranges.specs.Statuses.{name_of};
+
+use crate::verbs::Verb;
 use boot_core::{Core, Reply};
 use page_ranges::{Descriptor, PAGE_SIZE, Status};
 use std::alloc::{AllocError, Allocator};
@@ -8,27 +15,45 @@ pub fn print_reply<A: Allocator>(
     text: &mut String<A>,
     number: u64,
     reply: &Reply<A>,
-) -> Result<(), AllocError> {
+) -> Result<(), AllocError>
+    ensures { OnOk result (string_bytes text.new ≡ string_bytes text.old ++ reply_text number reply.now) }
+{
     match reply {
         Reply::AllocatePages(Ok(placed)) => {
-            let address = placed.address;
-            writeln!(text, "{number} pages SUCCESS address=0x{address:x}")
+            print_value(text, number, Verb::Pages, "address", placed.address)
         }
-        Reply::AllocatePages(Err(status)) => print_refusal(text, number, "pages", *status),
-        Reply::FreePages(Ok(())) => writeln!(text, "{number} free-pages SUCCESS"),
-        Reply::FreePages(Err(status)) => print_refusal(text, number, "free-pages", *status),
+        Reply::AllocatePages(Err(status)) => print_status(text, number, Verb::Pages, *status),
+        Reply::FreePages(Ok(())) => print_status(text, number, Verb::FreePages, Status::Success),
+        Reply::FreePages(Err(status)) => print_status(text, number, Verb::FreePages, *status),
     }
 }
 
-/// Appends the line of a refused call.
-fn print_refusal<A: Allocator>(
+/// Appends the line of a call that succeeded with a value.
+fn print_value<A: Allocator>(
     text: &mut String<A>,
     number: u64,
-    verb: &str,
+    verb: Verb,
+    name: &str,
+    value: u64,
+) -> Result<(), AllocError>
+    ensures { OnOk result (string_bytes text.new ≡ string_bytes text.old ++ value_line number verb name.now value) }
+{
+    let verb = verb.name();
+    writeln!(text, "{number} {verb} SUCCESS {name}=0x{value:x}")
+}
+
+/// Appends the line of a reply without fields.
+fn print_status<A: Allocator>(
+    text: &mut String<A>,
+    number: u64,
+    verb: Verb,
     status: Status,
-) -> Result<(), AllocError> {
-    let name = status.name();
-    writeln!(text, "{number} {verb} {name}")
+) -> Result<(), AllocError>
+    ensures { OnOk result (string_bytes text.new ≡ string_bytes text.old ++ status_line number verb (name_of status)) }
+{
+    let verb = verb.name();
+    let status = status.name();
+    writeln!(text, "{number} {verb} {status}")
 }
 
 /// Appends the lines of a listing: the memory map's length, and its entries.
@@ -36,9 +61,12 @@ pub fn print_list<A: Allocator + Copy>(
     text: &mut String<A>,
     number: u64,
     core: &Core<A>,
-) -> Result<(), AllocError> {
+) -> Result<(), AllocError>
+    ensures { OnOk result (string_bytes text.new ≡ string_bytes text.old ++ list_text number (memory_map core.now.book.memory)) }
+{
+    let verb = Verb::List.name();
     let descriptors = core.descriptors();
-    writeln!(text, "{number} list descriptors={descriptors}")?;
+    writeln!(text, "{number} {verb} descriptors={descriptors}")?;
     for entry in core.map_entries() {
         print_descriptor(text, &entry)?;
     }
@@ -49,9 +77,12 @@ pub fn print_list<A: Allocator + Copy>(
 fn print_descriptor<A: Allocator>(
     text: &mut String<A>,
     entry: &Descriptor,
-) -> Result<(), AllocError> {
+) -> Result<(), AllocError>
+    requires { entry.now.first < page_count }
+    ensures { OnOk result (string_bytes text.new ≡ string_bytes text.old ++ descriptor_line entry.now) }
+{
     let mtype = entry.mtype.number();
-    let address = u128::from(entry.first) * u128::from(PAGE_SIZE);
+    let address = entry.first * PAGE_SIZE;
     let pages = entry.pages;
     let attributes = entry.attributes;
     writeln!(text, "  {mtype} 0x{address:x} {pages} 0x{attributes:x}")

@@ -1,4 +1,9 @@
 //! A trace, run.
+ghost use Rattle.std.specs.Prelude.{◌≡◌, ℕ, [], take, Ok, Some, OnOk, IfErr, string_bytes};
+ghost use Rattle.std.specs.Io.KnownBytes.{Appends};
+ghost use Rattle.boot_trace.specs.TraceLine.{line_of};
+ghost use Rattle.boot_trace.specs.TraceRuns.{Prints, StopsAt};
+
 use crate::calls::{TraceCall, read_call};
 use crate::faults::{RunFault, TraceFault};
 use crate::lines::{next_byte, next_line};
@@ -18,20 +23,29 @@ pub fn run<A: Allocator + Copy, R: Read + Drop, W: Write>(
     writer: &mut W,
     _certify: bool,
 ) -> Result<(), RunFault> {
-    let mut reader = BufReader::new(alloc, reader).map_err(|_| RunFault::OutOfMemory)?;
+    let Ok(mut reader) = BufReader::new(alloc, reader) else {
+        return Err(RunFault::OutOfMemory);
+    };
     let mut line = Vec::new(alloc);
     let mut text = String::new(alloc);
-    for number in 1..=MOST_LINES {
-        if !next_line(&mut reader, &mut line)? {
-            return Ok(());
+    for done in 0..MOST_LINES {
+        match next_line(&mut reader, &mut line) {
+            Ok(true) => {}
+            Ok(false) => return Ok(()),
+            Err(fault) => return Err(fault),
         }
         text.clear();
-        run_line(alloc, core, number, line.as_slice(), &mut text)?;
-        write_text(writer, text.as_bytes())?;
+        if let Err(fault) = run_line(alloc, core, done + 1, line.as_slice(), &mut text) {
+            return Err(fault);
+        }
+        if let Err(fault) = write_text(writer, text.as_bytes()) {
+            return Err(fault);
+        }
     }
-    match next_byte(&mut reader)? {
-        Some(_) => Err(RunFault::TooManyLines),
-        None => Ok(()),
+    match next_byte(&mut reader) {
+        Ok(None) => Ok(()),
+        Ok(Some(_)) => Err(RunFault::TooManyLines),
+        Err(fault) => Err(fault),
     }
 }
 
@@ -42,13 +56,21 @@ fn run_line<A: Allocator + Copy>(
     number: u64,
     line: &[u8],
     text: &mut String<A>,
-) -> Result<(), RunFault> {
-    match read_call(alloc, line).map_err(|fault| fault_at(number, fault))? {
-        None => {}
-        Some(TraceCall::List) => print_list(text, number, core)?,
-        Some(TraceCall::Service(call)) => make_call(core, number, &call, text)?,
+) -> Result<(), RunFault>
+    requires { string_bytes text.old ≡ [] }
+    ensures ok { OnOk result (Prints A number (line_of line.now) core.old (string_bytes text.new) core.new) }
+    ensures err { IfErr result (λ fault. StopsAt A fault number (line_of line.now) core.old core.new) }
+{
+    match read_call(alloc, line) {
+        Ok(None) => Ok(()),
+        Ok(Some(TraceCall::List)) => match print_list(text, number, core) {
+            Ok(()) => Ok(()),
+            Err(_) => Err(RunFault::OutOfMemory),
+        },
+        Ok(Some(TraceCall::Service(call))) => make_call(core, number, &call, text),
+        Err(TraceFault::OutOfMemory) => Err(RunFault::OutOfMemory),
+        Err(fault) => Err(RunFault::Line { number, fault }),
     }
-    Ok(())
 }
 
 /// Makes a call, and appends its reply.
@@ -57,34 +79,40 @@ fn make_call<A: Allocator + Copy>(
     number: u64,
     call: &Call,
     text: &mut String<A>,
-) -> Result<(), RunFault> {
+) -> Result<(), RunFault>
+    requires { string_bytes text.old ≡ [] }
+    ensures ok { OnOk result (Prints A number (Ok (Some (TraceCall.Service call.now))) core.old (string_bytes text.new) core.new) }
+    ensures err { IfErr result (λ fault. StopsAt A fault number (Ok (Some (TraceCall.Service call.now))) core.old core.new) }
+{
     if core.calls_left() == 0 {
         return Err(RunFault::NoCallsLeft);
     }
     let reply = core.call(call);
-    print_reply(text, number, &reply)?;
-    Ok(())
-}
-
-/// The fault of a run at a line.
-fn fault_at(number: u64, fault: TraceFault) -> RunFault {
-    match fault {
-        TraceFault::OutOfMemory => RunFault::OutOfMemory,
-        _ => RunFault::Line { number, fault },
+    match print_reply(text, number, &reply) {
+        Ok(()) => Ok(()),
+        Err(_) => Err(RunFault::OutOfMemory),
     }
 }
 
-/// Writes all the bytes, if there are any. Any error is a fault, and so is a write that takes no byte.
-fn write_text<W: Write>(writer: &mut W, bytes: &[u8]) -> Result<(), RunFault> {
-    if bytes.is_empty() {
-        return Ok(());
-    }
-    let mut rest = bytes;
-    while !rest.is_empty() {
-        match writer.write(rest) {
+/// Writes all the bytes, if there are any. Any error is a fault, and so is a write that takes no
+/// byte; some bytes from the front on have then been written.
+fn write_text<W: Write>(writer: &mut W, bytes: &[u8]) -> Result<(), RunFault>
+    ensures ok { OnOk result (Appends (W.contents writer.old) (W.contents writer.new) bytes.now) }
+    ensures err { IfErr result (λ fault. (fault ≡ RunFault.Write)
+        × ((count : ℕ) × Appends (W.contents writer.old) (W.contents writer.new) (take count bytes.now))) }
+{
+    let mut written = 0;
+    while written < bytes.len() {
+        match writer.write(&bytes[written..]) {
             Ok(0) | Err(_) => return Err(RunFault::Write),
-            Ok(taken) => rest = &rest[taken..],
+            Ok(taken) => written += taken,
         }
     }
-    writer.flush().map_err(|_| RunFault::Write)
+    if written == 0 {
+        return Ok(());
+    }
+    match writer.flush() {
+        Ok(()) => Ok(()),
+        Err(_) => Err(RunFault::Write),
+    }
 }

@@ -139,7 +139,8 @@ impl<A: Allocator + Copy> RunTable<A> {
 
     /// How many entries the memory map has.
     pub fn descriptors(&self) -> usize
-        ensures { result ≡ length (memory_map self.now) }
+        ensures count { result ≡ length (memory_map self.now) }
+        ensures proper { IsProperMemory self.now }
     {
         self.entries
     }

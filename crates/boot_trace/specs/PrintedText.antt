@@ -1,0 +1,49 @@
+-- What is printed of a trace line.
+use Rattle.std.specs.Prelude.{ℕ, ◌*◌, List, [], ◌∷◌, ◌++◌, length, flat_map, codes, false, Result, Ok, Err}
+use Rattle.std.specs.Fmt.{decimal, digits}
+use Rattle.page_ranges.specs.declared.ranges.Descriptor.{Descriptor}
+use Rattle.page_ranges.specs.MemoryTypes.{page_size}
+use Rattle.page_ranges.specs.declared.statuses.Status.TheVariants.{Success}
+use Rattle.page_ranges.specs.Statuses.{name_of as status_of}
+use Rattle.boot_core.specs.declared.calls.Reply.{Reply}
+use Rattle.boot_core.specs.declared.calls.Reply.TheVariants as reply
+use Rattle.boot_trace.specs.declared.verbs.Verb.{Verb}
+use Rattle.boot_trace.specs.declared.verbs.Verb.TheVariants as verb
+use Rattle.boot_trace.specs.Verbs.{name_of}
+
+-- an address, a value or attributes: `0x` and lower-case digits with no leading zeros
+abbrev pub hexadecimal : ℕ → List ℕ
+hexadecimal n = codes "0x" ++ digits 16 false n
+
+abbrev pub space : List ℕ
+space = 32 ∷ []
+
+abbrev pub line_feed : List ℕ
+line_feed = 10 ∷ []
+
+-- the start of each reply: the line number and the verb
+abbrev pub reply_start : ℕ → Verb → List ℕ
+reply_start number v = decimal number ++ space ++ name_of v
+
+-- the line of a reply without fields
+abbrev pub status_line : ℕ → Verb → List ℕ → List ℕ
+status_line number v status = reply_start number v ++ space ++ status ++ line_feed
+
+-- the line of a call that succeeded with a value
+abbrev pub value_line : ℕ → Verb → List ℕ → ℕ → List ℕ
+value_line number v name value = reply_start number v ++ codes " SUCCESS " ++ name ++ codes "=" ++ hexadecimal value ++ line_feed
+
+-- what is printed of a call's reply
+abbrev pub reply_text : {A : Type 0} → ℕ → Reply A → List ℕ
+reply_text number (reply.AllocatePages (Ok placed)) = value_line number verb.Pages (codes "address") placed.address
+reply_text number (reply.AllocatePages (Err status)) = status_line number verb.Pages (status_of status)
+reply_text number (reply.FreePages (Ok done)) = status_line number verb.FreePages (status_of Success)
+reply_text number (reply.FreePages (Err status)) = status_line number verb.FreePages (status_of status)
+
+-- the line of an entry of the memory map: two spaces, and its type, address, pages and attributes
+abbrev pub descriptor_line : Descriptor → List ℕ
+descriptor_line d = codes "  " ++ decimal d.mtype ++ space ++ hexadecimal (d.first * page_size) ++ space ++ decimal d.pages ++ space ++ hexadecimal d.attributes ++ line_feed
+
+-- what is printed of a listing of these entries
+abbrev pub list_text : ℕ → List Descriptor → List ℕ
+list_text number entries = reply_start number verb.List ++ codes " descriptors=" ++ decimal (length entries) ++ line_feed ++ flat_map descriptor_line entries

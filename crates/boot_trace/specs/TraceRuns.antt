@@ -1,0 +1,54 @@
+-- What a trace prints, and how it leaves the machine.
+use Rattle.std.specs.Prelude.{◌≡◌, ◌⊎◌, ℕ, ◌+◌, ◌-◌, ◌<◌, ◌≤◌, List, [], ◌∷◌, ◌++◌, length, take, slice_get, Option, Some, None, Result, Ok, Err}
+use Rattle.std.specs.Io.KnownBytes.{Appends}
+use Rattle.page_ranges.specs.MemoryMap.{memory_map}
+use Rattle.boot_core.specs.declared.calls.Call.{Call}
+use Rattle.boot_core.specs.declared.calls.Reply.{Reply}
+use Rattle.boot_core.specs.Machines.{State}
+use Rattle.boot_core.specs.Steps.{Step}
+use Rattle.boot_trace.specs.declared.calls.TraceCall.{TraceCall}
+use Rattle.boot_trace.specs.declared.calls.TraceCall.TheVariants as trace_call
+use Rattle.boot_trace.specs.declared.faults.RunFault.{RunFault}
+use Rattle.boot_trace.specs.declared.faults.RunFault.TheVariants as fault
+use Rattle.boot_trace.specs.declared.faults.TraceFault.{TraceFault}
+use Rattle.boot_trace.specs.Lines.{lines_of}
+use Rattle.boot_trace.specs.PrintedText.{reply_text, list_text}
+use Rattle.boot_trace.specs.TraceLine.{line_of}
+
+-- What a line asks for prints this text, and takes the machine from one state to another: a call, by a step of the
+-- machine with the reply that is printed; a listing and a skipped line leave it as it is.
+abbrev pub Prints : Type 0 → ℕ → Result (Option TraceCall) TraceFault → State → List ℕ → State → Type 0
+Prints A number (Ok None) old text new = (text ≡ []) × (new ≡ old)
+Prints A number (Ok (Some trace_call.List)) old text new = (text ≡ list_text number (memory_map old.book.memory)) × (new ≡ old)
+Prints A number (Ok (Some (trace_call.Service call))) old text new = (reply : Reply A) × Step old call reply new × (text ≡ reply_text number reply)
+Prints A number (Err e) old text new = ⊥
+
+-- Why a line that is read so stops a run, and how it leaves the machine: as it was, or for want of memory after the
+-- call was made.
+abbrev pub StopsAt : Type 0 → RunFault → ℕ → Result (Option TraceCall) TraceFault → State → State → Type 0
+StopsAt A (fault.Line n e) number asks old new = (n ≡ number) × (asks ≡ Err e) × (new ≡ old)
+StopsAt A fault.NoCallsLeft number asks old new = (old.calls_left ≡ 0) × (new ≡ old)
+StopsAt A fault.OutOfMemory number asks old new = (new ≡ old) ⊎ ((text : List ℕ) × Prints A number asks old text new)
+StopsAt A e number asks old new = ⊥
+
+-- The lines, the first of which has this number, print this text, one after another.
+abbrev pub PrintsAll : Type 0 → ℕ → List (List ℕ) → State → List ℕ → State → Type 0
+PrintsAll A number [] old text new = (text ≡ []) × (new ≡ old)
+PrintsAll A number (line ∷ lines) old text new = (mid : State) × (first : List ℕ) × (rest : List ℕ) × Prints A number (line_of line) old first mid × PrintsAll A (number + 1) lines mid rest new × (text ≡ first ++ rest)
+
+-- The text of the first so many lines of the bytes was written, and nothing else.
+pub record Wrote (A : Type 0) (bytes : List ℕ) (count : ℕ) (old new : State) (before after : Option (List ℕ)) : Type 0 where
+  pub text : List ℕ
+  pub prints : PrintsAll A 1 (take count (lines_of bytes)) old text new
+  pub written : Appends before after text
+
+-- the most lines of a trace
+abbrev pub most_lines : ℕ
+most_lines = 1000000
+
+-- a line, by its number, is the first that has a fault
+pub record IsFaulty (bytes : List ℕ) (number : ℕ) (e : TraceFault) : Type 0 where
+  pub line : List ℕ
+  pub counted : 0 < number
+  pub here : slice_get (lines_of bytes) (number - 1) ≡ Some line
+  pub faulty : line_of line ≡ Err e
