@@ -4,7 +4,7 @@ use Rattle.page_ranges.specs.declared.ranges.Owner.TheVariants.{Given}
 use Rattle.page_ranges.specs.declared.ranges.Run.{Run}
 use Rattle.page_ranges.specs.MemoryTypes.{page_count, conventional, has_runtime, is_machine_type}
 
--- a nonempty run below the last page number, of the machine's own and of a type that a machine may have; a conventional
+-- a nonempty run of pages that exist, of the machine's own and of a type that a machine may have; a conventional
 -- one lacks RUNTIME
 pub record IsMachineRun (r : Run) : Type 0 where
   pub some : 0 < r.range.pages

@@ -1,4 +1,6 @@
 //! A run of the program, over any readers and writers.
+ghost use Rattle.std.specs.Prelude.{◌≡◌, ◌⊎◌};
+
 use boot_core::Core;
 use boot_trace::{MachineFault, RunFault, read_machine};
 use std::alloc::{AllocError, AllocFailed, Global};
@@ -56,7 +58,9 @@ pub fn serve_run<M: Read + Drop, T: Read + Drop, W: Write, E: Write>(
     out: &mut W,
     err: &mut E,
     certify: bool,
-) -> u8 {
+) -> u8
+    ensures { (result ≡ SUCCESS) ⊎ (result ≡ FAULT) }
+{
     match run_files(alloc, machine, trace, out, certify) {
         Ok(()) => SUCCESS,
         Err(fault) => serve_fault(err, &fault),
@@ -65,13 +69,17 @@ pub fn serve_run<M: Read + Drop, T: Read + Drop, W: Write, E: Write>(
 
 /// Writes the line of a fault, and answers its status. That the line could not be written changes
 /// nothing.
-pub fn serve_fault<E: Write>(err: &mut E, fault: &Fault) -> u8 {
+pub fn serve_fault<E: Write>(err: &mut E, fault: &Fault) -> u8
+    ensures { result ≡ FAULT }
+{
     let _ = writeln!(err, "bootcore: {fault}");
     FAULT
 }
 
 /// Writes the text that says how the program is used, and answers the status.
-pub fn serve_usage<E: Write>(err: &mut E, text: &str) -> u8 {
+pub fn serve_usage<E: Write>(err: &mut E, text: &str) -> u8
+    ensures { result ≡ USAGE }
+{
     let _ = err.write_all(text.as_bytes());
     USAGE
 }
