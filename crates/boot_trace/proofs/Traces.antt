@@ -1,5 +1,5 @@
 -- Traces, line after line.
-use Rattle.std.proofs.Common.{◌≡◌, ◌⊎◌, ℕ, suc, ◌+◌, ◌<◌, ◌≤◌, List, [], ◌∷◌, ◌++◌, length, take, Option, Some, None, Result, Ok, Err, IfSome, refl, sym, ap, subst, ◌∙◌, inl, inr, arith, cond, ◌==◌, true, false, add-zero, add-one, append_assoc, append-nil, length-append, take_all, lt-ltb}
+use Rattle.std.proofs.Common.{◌≡◌, ◌⊎◌, ℕ, ◌+◌, ◌<◌, ◌≤◌, List, [], ◌∷◌, ◌++◌, length, take, Option, Some, None, Result, Ok, Err, IfSome, refl, sym, ap, subst, ◌∙◌, inl, inr, arith, cond, ◌==◌, true, false, add-zero, add-one, append_assoc, append-nil, length-append, take_all, lt-ltb}
 use Rattle.std.proofs.lemmas.List.{take-append-le}
 use Rattle.std.specs.Io.KnownBytes.{Appends, prepend_known}
 use Rattle.std.specs.Io.Buffered.{reader_remaining, reader_inner, reader_buffer, reader_capacity}
@@ -12,7 +12,7 @@ use Rattle.boot_trace.specs.declared.faults.TraceFault.{TraceFault}
 use Rattle.boot_trace.specs.declared.faults.TraceFault.TheVariants as trace_fault
 use Rattle.boot_trace.specs.Lines.{lines_of, first_line, after_line, TakesByte, IsFirstLine, TakesLine}
 use Rattle.boot_trace.specs.TraceLine.{line_of, longest_line}
-use Rattle.boot_trace.specs.TraceRuns.{Prints, PrintsAll, StopsAt, Wrote, HasLine, WroteFront, WroteBefore, Ends, most_lines}
+use Rattle.boot_trace.specs.TraceRuns.{Prints, PrintsAll, StopsAt, Wrote, HasLine, Ends, most_lines}
 use Rattle.boot_trace.proofs.LineBytes.{lines_of-none, lines_of-some}
 use Rattle.boot_trace.proofs.Written.{appends_none, appends_more}
 
