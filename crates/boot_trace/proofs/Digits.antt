@@ -1,5 +1,5 @@
 -- Digits, read from the left.
-use Rattle.std.proofs.Common.{◌≡◌, ℕ, zero, suc, ◌+◌, ◌*◌, ◌^◌, ◌<◌, ◌≤◌, List, [], ◌∷◌, length, drop, get_or, Option, Some, None, option_map, option_and_then, refl, sym, ap, ◌∙◌, add-one, add_assoc, zero-add, arith, Bool, true, false, nat_lt, cond, lit≤, lt-ltb, le-ltb}
+use Rattle.std.proofs.Common.{◌≡◌, ℕ, zero, suc, ◌+◌, ◌*◌, ◌^◌, ◌<◌, ◌≤◌, List, [], ◌∷◌, length, drop, get_or, Option, Some, None, option_map, option_and_then, refl, ap, ◌∙◌, add-one, add_assoc, zero-add, arith, false, nat_lt, lit≤, lt-ltb, le-ltb}
 use Rattle.std.proofs.Math.Nat.{zero-mul, mul_assoc, add-mul, one-le-mul, mul-le-mul_left, pow-zero, pow-succ'}
 use Rattle.std.proofs.Math.Seq.{drop-cons}
 use Rattle.boot_trace.specs.Numbers.{digit_of, value_of_digits, within_64_bits, number_of_digits}

@@ -1,5 +1,5 @@
 -- Entries of the memory map.
-use Rattle.std.proofs.Common.{◌≡◌, ℕ, ◌+◌, ◌<◌, List, [], ◌∷◌, ◌++◌, Contains, subst, arith}
+use Rattle.std.proofs.Common.{◌≡◌, ◌<◌, List, [], ◌∷◌, ◌++◌, Contains, subst, arith}
 use Rattle.page_ranges.specs.declared.ranges.Descriptor.{Descriptor}
 use Rattle.page_ranges.specs.MemoryTypes.{page_count}
 use Rattle.page_ranges.specs.Memory.{Page, IsProperMemory}

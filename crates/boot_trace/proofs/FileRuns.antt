@@ -1,5 +1,5 @@
 -- The runs that a machine file lists.
-use Rattle.std.proofs.Common.{◌≡◌, ◌≢◌, ℕ, zero, suc, ◌+◌, ◌<◌, ◌≤◌, ◌^◌, Bool, true, false, cond, ◌&&◌, ◌==◌, not, nat_lt, nat_le, List, [], ◌∷◌, length, Option, Some, None, option_and_then, Result, Ok, Err, refl, sym, ap, ◌∙◌, subst, arith, leb-true, eq-eqb, codes}
+use Rattle.std.proofs.Common.{◌≡◌, ℕ, zero, suc, ◌+◌, ◌<◌, ◌≤◌, ◌^◌, Bool, true, false, cond, ◌&&◌, ◌==◌, not, nat_lt, nat_le, List, [], ◌∷◌, length, Option, Some, None, option_and_then, Result, Ok, Err, refl, ap, subst, arith, leb-true, eq-eqb, codes}
 use Rattle.std.specs.List.{AllByRecursion}
 use Rattle.serde_json.specs.Data.{Data, Items, no_items, item}
 use Rattle.serde_json.specs.Find.{get, as_array}
@@ -7,7 +7,6 @@ use Rattle.page_ranges.specs.declared.ranges.Owner.TheVariants.{Given}
 use Rattle.page_ranges.specs.declared.ranges.Run.{Run}
 use Rattle.page_ranges.specs.MemoryTypes.{page_count, conventional, has_runtime, is_machine_type}
 use Rattle.boot_core.specs.MachineRuns.{IsMachineRun}
-use Rattle.boot_trace.specs.declared.faults.MachineFault.{MachineFault}
 use Rattle.boot_trace.specs.declared.faults.MachineFault.TheVariants as fault
 use Rattle.boot_trace.specs.declared.faults.MemberField.{MemberField}
 use Rattle.boot_trace.specs.declared.faults.MemberField.TheVariants as field

@@ -1,5 +1,5 @@
 -- Lines as they are read.
-use Rattle.std.proofs.Common.{◌≡◌, ℕ, suc, ◌+◌, ◌<◌, ◌≤◌, Bool, true, false, cond, ◌==◌, List, [], ◌∷◌, ◌++◌, length, Option, Some, None, refl, sym, ap, ◌∙◌, subst, inl, inr, arith, append_assoc, append-nil, length-append, IfSome, MatchBool, not, ne_eqb}
+use Rattle.std.proofs.Common.{◌≡◌, ℕ, suc, ◌<◌, Bool, true, false, cond, ◌==◌, List, [], ◌∷◌, ◌++◌, length, Option, Some, None, refl, sym, ap, ◌∙◌, inl, inr, arith, append_assoc, append-nil, length-append, IfSome, MatchBool, not, ne_eqb}
 use Rattle.std.specs.List.{AllByRecursion, slice_split, onto_first}
 use Rattle.boot_trace.specs.TraceLine.{longest_line}
 use Rattle.boot_trace.specs.Lines.{is_line_feed, without_empty_end, lines_of, first_line, after_line, TakesByte, IsFirstLine, TakesLine}

@@ -1,8 +1,7 @@
 -- What a trace prints, and how it leaves the machine.
-use Rattle.std.specs.Prelude.{◌≡◌, ◌⊎◌, ℕ, ◌+◌, ◌-◌, ◌<◌, ◌≤◌, List, [], ◌∷◌, ◌++◌, length, take, slice_get, Option, Some, None, Result, Ok, Err}
+use Rattle.std.specs.Prelude.{◌≡◌, ◌⊎◌, ℕ, ◌+◌, ◌<◌, ◌≤◌, List, [], ◌∷◌, ◌++◌, length, take, Option, Some, None, Result, Ok, Err}
 use Rattle.std.specs.Io.KnownBytes.{Appends}
 use Rattle.page_ranges.specs.MemoryMap.{memory_map}
-use Rattle.boot_core.specs.declared.calls.Call.{Call}
 use Rattle.boot_core.specs.declared.calls.Reply.{Reply}
 use Rattle.boot_core.specs.Machines.{State}
 use Rattle.boot_core.specs.Steps.{Step}
@@ -46,9 +45,38 @@ pub record Wrote (A : Type 0) (bytes : List ℕ) (count : ℕ) (old new : State)
 abbrev pub most_lines : ℕ
 most_lines = 1000000
 
--- a line, by its number, is the first that has a fault
-pub record IsFaulty (bytes : List ℕ) (number : ℕ) (e : TraceFault) : Type 0 where
+-- the line that so many lines stand before
+pub record HasLine (bytes : List ℕ) (count : ℕ) (line : List ℕ) : Type 0 where
+  pub front : List (List ℕ)
+  pub rest : List (List ℕ)
+  pub whole : lines_of bytes ≡ front ++ line ∷ rest
+  pub counted : length front ≡ count
+
+-- The text of the first so many lines was written whole, and of the text of the next a front.
+pub record WroteFront (A : Type 0) (bytes : List ℕ) (count : ℕ) (old new : State) (before after : Option (List ℕ)) : Type 0 where
+  pub mid : State
+  pub middle : Option (List ℕ)
+  pub whole : Wrote A bytes count old mid before middle
   pub line : List ℕ
-  pub counted : 0 < number
-  pub here : slice_get (lines_of bytes) (number - 1) ≡ Some line
-  pub faulty : line_of line ≡ Err e
+  pub here : HasLine bytes count line
+  pub text : List ℕ
+  pub prints : Prints A (count + 1) (line_of line) mid text new
+  pub taken : ℕ
+  pub written : Appends middle after (take taken text)
+
+-- The text of the first so many lines was written; the next line's call may have been made, and nothing of it is written.
+pub record WroteBefore (A : Type 0) (bytes : List ℕ) (count : ℕ) (old new : State) (before after : Option (List ℕ)) : Type 0 where
+  pub mid : State
+  pub whole : Wrote A bytes count old mid before after
+  pub next : (new ≡ mid) ⊎ ((line : List ℕ) × HasLine bytes count line × ((text : List ℕ) × Prints A (count + 1) (line_of line) mid text new))
+
+-- How a run on a trace of known bytes ends. What is written is the text of all its lines, or of those before the one
+-- that stopped the run, and the machine is in the state after their calls.
+abbrev pub Ends : Type 0 → List ℕ → State → State → Option (List ℕ) → Option (List ℕ) → Result (Unit {0}) RunFault → Type 0
+Ends A bytes old new before after (Ok done) = (length (lines_of bytes) ≤ most_lines) × Wrote A bytes (length (lines_of bytes)) old new before after
+Ends A bytes old new before after (Err (fault.Line number e)) = (count : ℕ) × (number ≡ count + 1) × ((line : List ℕ) × HasLine bytes count line × (line_of line ≡ Err e)) × Wrote A bytes count old new before after
+Ends A bytes old new before after (Err fault.TooManyLines) = (most_lines < length (lines_of bytes)) × Wrote A bytes most_lines old new before after
+Ends A bytes old new before after (Err fault.NoCallsLeft) = (count : ℕ) × (new.calls_left ≡ 0) × Wrote A bytes count old new before after
+Ends A bytes old new before after (Err fault.Read) = (count : ℕ) × Wrote A bytes count old new before after
+Ends A bytes old new before after (Err fault.Write) = (count : ℕ) × WroteFront A bytes count old new before after
+Ends A bytes old new before after (Err fault.OutOfMemory) = (count : ℕ) × WroteBefore A bytes count old new before after

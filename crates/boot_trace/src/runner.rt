@@ -1,8 +1,8 @@
 //! A trace, run.
-ghost use Rattle.std.specs.Prelude.{◌≡◌, ℕ, [], take, Ok, Some, OnOk, IfErr, string_bytes};
+ghost use Rattle.std.specs.Prelude.{◌≡◌, ℕ, [], take, Ok, Some, OnOk, IfErr, IfSome, string_bytes};
 ghost use Rattle.std.specs.Io.KnownBytes.{Appends};
 ghost use Rattle.boot_trace.specs.TraceLine.{line_of};
-ghost use Rattle.boot_trace.specs.TraceRuns.{Prints, StopsAt};
+ghost use Rattle.boot_trace.specs.TraceRuns.{Prints, StopsAt, Ends};
 
 use crate::calls::{TraceCall, read_call};
 use crate::faults::{RunFault, TraceFault};
@@ -22,7 +22,9 @@ pub fn run<A: Allocator + Copy, R: Read + Drop, W: Write>(
     reader: R,
     writer: &mut W,
     _certify: bool,
-) -> Result<(), RunFault> {
+) -> Result<(), RunFault>
+    ensures { IfSome (R.remaining reader) (λ bytes. Ends A bytes core.old core.new (W.contents writer.old) (W.contents writer.new) result) }
+{
     let Ok(mut reader) = BufReader::new(alloc, reader) else {
         return Err(RunFault::OutOfMemory);
     };
@@ -35,11 +37,13 @@ pub fn run<A: Allocator + Copy, R: Read + Drop, W: Write>(
             Err(fault) => return Err(fault),
         }
         text.clear();
-        if let Err(fault) = run_line(alloc, core, done + 1, line.as_slice(), &mut text) {
-            return Err(fault);
+        match run_line(alloc, core, done + 1, line.as_slice(), &mut text) {
+            Ok(()) => {}
+            Err(fault) => return Err(fault),
         }
-        if let Err(fault) = write_text(writer, text.as_bytes()) {
-            return Err(fault);
+        match write_text(writer, text.as_bytes()) {
+            Ok(()) => {}
+            Err(fault) => return Err(fault),
         }
     }
     match next_byte(&mut reader) {

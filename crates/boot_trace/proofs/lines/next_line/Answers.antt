@@ -1,5 +1,5 @@
-use Rattle.std.proofs.Common.{◌≡◌, ◌==◌, ◌++◌, ◌∷◌, [], refl, sym, ◌∙◌, ap, arith, rules, length, length-append, vec_len, ne_eqb}
-use Rattle.boot_trace.proofs.LineBytes.{taken-none, taken-more, none-more, line-ended, bytes-ended, line-too-long}
+use Rattle.std.proofs.Common.{◌≡◌, ◌++◌, ◌∷◌, [], arith, rules, length, length-append, vec_len, ne_eqb}
+use Rattle.boot_trace.proofs.LineBytes.{taken-more, none-more, line-ended, bytes-ended, line-too-long}
 use Rattle.boot_trace.proofs.lines.next_line.Goals as goal
 
 pub returns-in-Ok-None-clause-known : goal.returns-in-Ok-None-clause-known

@@ -1,6 +1,4 @@
-use Rattle.std.proofs.Common.{◌≡◌, inr, rules, refl}
-use Rattle.serde_json.specs.Read.{read}
-use Rattle.boot_trace.specs.MachineText.{json_of}
+use Rattle.std.proofs.Common.{inr, refl}
 use Rattle.boot_trace.proofs.MemberRuns.{no_text, text_read}
 use Rattle.boot_trace.proofs.machine_file.json_of.Goals as goal
 

@@ -1,7 +1,6 @@
-use Rattle.std.proofs.Common.{◌≡◌, ℕ, ◌+◌, ◌*◌, ◌≤◌, ◌<◌, ◌^◌, sym, ◌∙◌, drop, get_or, length, List, [], Some, None, rules, arith, refl, ap, lit<}
+use Rattle.std.proofs.Common.{◌≡◌, ◌+◌, ◌*◌, sym, ◌∙◌, drop, [], arith, lit<}
 use Rattle.std.proofs.Math.ListN.{drop_of_length-le}
-use Rattle.boot_trace.specs.Numbers.{digit_of}
-use Rattle.boot_trace.proofs.Digits.{number_from, number_from-zero, number_from-end, none-at, digit-at, beyond-at}
+use Rattle.boot_trace.proofs.Digits.{number_from-zero, number_from-end, none-at, digit-at, beyond-at}
 use Rattle.boot_trace.proofs.numbers.number_of_digits.Goals as goal
 
 pub loop-byte-init : goal.loop-byte-init
