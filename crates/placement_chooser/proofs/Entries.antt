@@ -28,11 +28,14 @@ bounded_more R es bs e b free z s =
     subst (λ ds. AllZip R ds (bs ++ b ∷ [])) (sym (filter-append is_free es (e ∷ []) ∙ ap (λ ds. filter is_free es ++ ds) one)) (zip_more R (filter is_free es) bs e b z s)
 
 -- the entries after one begin at its end or above it
-entries_above : (ys : List Descriptor) (e : Descriptor) (es : List Descriptor) → AreInOrder (ys ++ e ∷ es) → AllByRecursion (λ d. e.first + e.pages ≤ d.first) es
+pub entries_above : (ys : List Descriptor) (e : Descriptor) (es : List Descriptor) → AreInOrder (ys ++ e ∷ es) → AllByRecursion (λ d. e.first + e.pages ≤ d.first) es
 entries_above [] e es order = order.0
 entries_above (y ∷ ys) e es order = entries_above ys e es order.1
 
+pub map_order : (m : List Page) (es : List Descriptor) → IsProperMemory m → es ≡ memory_map m → AreInOrder es
+map_order m es proper same = subst AreInOrder (sym same) (map_blocks m proper.ascending).1
+
 pub passed_above : (m : List Page) (rs : List Run) (i n : ℕ) (ys : List Descriptor) (e : Descriptor) (es : List Descriptor) → IsProperMemory m → ys ++ e ∷ es ≡ memory_map m → EndBelow rs i (e.first + e.pages + n) → AllByRecursion (λ d. EndBelow rs i (d.first + n)) es
 passed_above m rs i n ys e es proper same below =
-    let order : AreInOrder (ys ++ e ∷ es) = subst AreInOrder (sym same) (map_blocks m proper.ascending).1 in
+    let order = map_order m (ys ++ e ∷ es) proper same in
     all_implied (λ d. e.first + e.pages ≤ d.first) (λ d. EndBelow rs i (d.first + n)) (λ d above j s h at. omega (arith, below j s h at)) es (entries_above ys e es order)

@@ -10,7 +10,8 @@ use Rattle.placement_certificate.specs.Search.{IsBestOf}
 use Rattle.placement_certificate.proofs.BestBounds.{no_bound}
 use Rattle.placement_certificate.proofs.Decided.{best_is}
 use Rattle.placement_certificate.proofs.Tries.{bound_more}
-use Rattle.placement_chooser.proofs.Entries.{bounded_more, passed_above}
+use Rattle.placement_chooser.proofs.Entries.{bounded_more, map_order, passed_above}
+use Rattle.placement_chooser.proofs.Stretches.{still_stretch}
 use Rattle.placement_chooser.proofs.choosing.choose.Goals as goal
 
 pub loop-entry-preserved-then-eq : goal.loop-entry-preserved-then-eq
@@ -33,6 +34,7 @@ loop-entry-preserved-then-eq g c =
       bounds = bounded_more (IsTrueBound m r) ys bs e b free c.loop-entry.invariant.bounds (record { first = refl; pages = refl; least = c.least_in-least.ensures.least });
       best = bound_more c.loop-entry.best least bs b refl c.loop-entry.invariant.best;
       passed = passed_above m (runs_of m) c.least_in-least.result.1 r.pages ys e es c.len-runs.ensures.proper same c.least_in-least.ensures.passed;
+      stop = still_stretch m c.next_stop-stop.result ys e es (map_order m (ys ++ e ∷ es) c.len-runs.ensures.proper same) c.next_stop-stop.ensures;
       room = omega (arith, c.loop-entry.invariant.room, ap length steps, c.push_reserved.ensures.len, c.push_reserved.ensures.capacity);
     })
 
