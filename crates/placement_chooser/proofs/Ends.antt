@@ -10,7 +10,7 @@ use Rattle.page_ranges.specs.Memory.{Page, page_at, IsProperMemory}
 use Rattle.page_ranges.specs.MemoryMap.{memory_map, IsLike}
 use Rattle.page_ranges.specs.Runs.{page_in, pages_of, runs_of, AreRuns, IsInRun}
 use Rattle.page_ranges.proofs.Blocks.{entry_is_block}
-use Rattle.page_ranges.proofs.Members.{member_first, member_later}
+use Rattle.page_ranges.proofs.Members.{member_first, member_later, member_all}
 use Rattle.page_ranges.proofs.RunLists.{page_at-not_held, ends_before}
 use Rattle.page_ranges.proofs.MaximalRuns.{runs_of-maximal, pages_of-runs_of, maximal_are_runs}
 use Rattle.descriptor_table.proofs.Finding.{held_by_member}
@@ -81,6 +81,9 @@ pub run_end_at : (m : List Page) (i : ℕ) (s : Run) → IsProperMemory m → sl
 run_end_at m i s proper at =
     let same = pages_of-runs_of m in
     proper_end_at (runs_of m) i s (are_runs m proper) (subst IsProperMemory (sym same) proper) (slice_get_within (runs_of m) i s at) (sym (get_or_from_slice_get (runs_of m) i s s at))
+
+pub run_end_of : (m : List Page) (s : Run) → IsProperMemory m → Contains (runs_of m) s → s.range.first + s.range.pages ≤ page_count
+run_end_of m s proper member = member_all (λ t. t.range.first + t.range.pages ≤ page_count) (runs_of m) s (proper_ends (runs_of m) (are_runs m proper) (subst IsProperMemory (sym (pages_of-runs_of m)) proper)) member
 
 -- runs further up end further up
 ends_rise : (m : List Page) (i j : ℕ) (s t : Run) → IsProperMemory m → i ≤ j → slice_get (runs_of m) i ≡ Some s → slice_get (runs_of m) j ≡ Some t → s.range.first + s.range.pages ≤ t.range.first + t.range.pages

@@ -1,4 +1,5 @@
 pub mod Tries
 pub mod Ends
 pub mod Entries
+pub mod Stretches
 pub mod Drawn

@@ -1,77 +1,52 @@
 -- Starts that are tried.
-use Rattle.std.proofs.Common.{◌≡◌, ◌⊎◌, ℕ, ◌+◌, ◌-◌, Contains, List, Option, Some, None, inl, inr, refl, sym, subst, ◌∙◌, arith}
-use Rattle.std.proofs.lemmas.Bool.{cases_Bool, cases_lt, true≢false}
+use Rattle.std.proofs.Common.{◌≡◌, ◌≤◌, ◌||◌, ◌&&◌, eqb, ltb, min, ℕ, ◌+◌, ◌-◌, Contains, List, Option, Some, None, inl, inr, sym, subst, ◌∙◌, arith}
+use Rattle.std.proofs.lemmas.Bool.{cases_Bool}
 use Rattle.page_ranges.specs.declared.ranges.Descriptor.{Descriptor}
-use Rattle.page_ranges.specs.MemoryTypes.{conventional}
-use Rattle.page_ranges.specs.Memory.{Page, page_at, IsProperMemory, IsConventional}
+use Rattle.page_ranges.specs.Memory.{Page, IsProperMemory}
 use Rattle.page_ranges.specs.MemoryMap.{memory_map, IsIn}
-use Rattle.page_ranges.proofs.Blocks.{entry_is_block, entry_of_page}
 use Rattle.placement_certificate.specs.declared.certificates.Request.{Request}
-use Rattle.placement_certificate.specs.Placement.{IsProperRequest, IsPermittedStart}
+use Rattle.placement_certificate.specs.Placement.{IsProperRequest, IsPermittedStart, price}
+use Rattle.placement_certificate.specs.Search.{better}
 use Rattle.placement_certificate.specs.Certificates.{IsTrueLeast}
 use Rattle.placement_certificate.specs.Laws.{EndsEntry, IsHighestIn, IsPlace}
-use Rattle.placement_certificate.proofs.Decided.{is_free, free_is, free_from}
-use Rattle.placement_certificate.proofs.Edges.{like_conventional, block_conventional}
 use Rattle.placement_certificate.proofs.Places.{first_permitted, best_candidate}
-use Rattle.placement_chooser.specs.Starts.{IsFound, IsTried}
+use Rattle.placement_chooser.specs.Starts.{IsFound, IsTried, PermitsUpTo}
 
 -- a start outside the entry
 pub tried_outside : (m : List Page) (r : Request) (e : Descriptor) (l : Option (ℕ × ℕ)) (q : ℕ) → ¬ IsIn e q → IsTried m r e l q
 tried_outside m r e None q out = λ i. absurd (out i)
 tried_outside m r e (Some (count, top)) q out = λ i. absurd (out i)
 
+-- a start that is not permitted
+pub tried_unless : (m : List Page) (r : Request) (e : Descriptor) (l : Option (ℕ × ℕ)) (end q : ℕ) → PermitsUpTo m r e end → (IsIn e q × (q + r.pages ≤ end) → ⊥) → IsTried m r e l q
+tried_unless m r e None end q up out = λ i h. out (i, (up q i).0 h)
+tried_unless m r e (Some (count, top)) end q up out = λ i h. absurd (out (i, (up q i).0 h))
+
+-- one start more is found
+pub found_more : (m : List Page) (r : Request) (e : Descriptor) (l : Option (ℕ × ℕ)) (count q : ℕ) → IsFound m r e l → IsIn e q → IsPermittedStart m r q → count ≡ price m r q → IsFound m r e (better l (Some (count, q)))
+found_more m r e None count q found i h paid = (i, h, sym paid)
+found_more m r e (Some (c, t)) count q found i h paid = elim (cases_Bool (ltb count c || (eqb count c && ltb t q))) [
+  | inl y ↦ rw y (i, h, sym paid)
+  | inr n ↦ rw n found
+]
+
 -- ---- the highest permitted start
 
-page_entry : (m : List Page) (k : ℕ) (o : Option Page) → page_at m k ≡ o → IsConventional o → (b : Descriptor) × Contains (memory_map m) b × IsIn b k
-page_entry m k None q c = absurd c
-page_entry m k (Some x) q c = entry_of_page m k x q
-
--- a permitted start with no conventional page just above its pages
-ends_entry : (m : List Page) (r : Request) (q : ℕ) → IsProperMemory m → IsProperRequest r → IsPermittedStart m r q → ¬ IsConventional (page_at m (q + r.pages)) → EndsEntry m (q + r.pages)
-ends_entry m r q proper good permitted stops =
-    let some = good.some in
-    let last = permitted.conventional (q + r.pages - 1) (omega arith) (omega arith) in
-    let b = page_entry m (q + r.pages - 1) (page_at m (q + r.pages - 1)) refl last in
-    let is = entry_is_block m proper.ascending b.0 b.1 in
-    let free : b.0.mtype ≡ conventional = block_conventional b.0 (page_at m (q + r.pages - 1)) (is.all (q + r.pages - 1) b.2) last in
-    elim (cases_lt (q + r.pages) (b.0.first + b.0.pages)) [
-      | inl h ↦ absurd (stops (like_conventional b.0 (page_at m (q + r.pages)) (is.all (q + r.pages) (record { low = omega (arith, b.2.low); high = h })) free))
-      | inr g ↦ (b.0, b.1, omega (arith, b.2.high))
-    ]
-
--- The highest permitted start is the entry's last page, or its pages end at the limit or where an entry ends.
-pub highest_place : (m : List Page) (r : Request) (e : Descriptor) (q : ℕ) → IsProperMemory m → IsProperRequest r → IsIn e q → IsPermittedStart m r q → IsHighestIn m r e q → (q + 1 ≡ e.first + e.pages) ⊎ (q + r.pages ≡ r.limit) ⊎ EndsEntry m (q + r.pages)
-highest_place m r e q proper good i permitted top = elim (cases_lt (q + 1) (e.first + e.pages)) [
-  | inr g ↦ inl (omega (arith, i.high))
-  | inl more ↦ elim (cases_lt (q + r.pages) r.limit) [
-    | inr g ↦ inr (inl (omega (arith, permitted.within)))
-    | inl below ↦ elim (cases_Bool (is_free (page_at m (q + r.pages)))) [
-      | inl t ↦
-          let next : IsPermittedStart m r (q + 1) = record {
-            within = omega arith;
-            conventional = λ k l u. elim (cases_lt k (q + r.pages)) [
-              | inl lower ↦ permitted.conventional k (omega arith) lower
-              | inr at ↦ let same : q + r.pages ≡ k = omega arith in subst (λ j. IsConventional (page_at m j)) same (free_from (page_at m (q + r.pages)) t)
-            ];
-          } in
-          absurd (omega (arith, top (q + 1) (record { low = omega (arith, i.low); high = more }) next))
-      | inr f ↦ inr (inr (ends_entry m r q proper good permitted (λ c. true≢false (sym (free_is (page_at m (q + r.pages)) c) ∙ f))))
-    ]
-  ]
-]
+-- Where starts of the entry are permitted up to a number, the highest permitted one is its last page or ends there.
+pub highest_is : (m : List Page) (r : Request) (e : Descriptor) (end h q : ℕ) → PermitsUpTo m r e end → h ≡ min (e.first + (e.pages - 1)) (end - r.pages) → IsIn e q → IsPermittedStart m r q → IsHighestIn m r e q → h ≡ q
+highest_is m r e end h q up is i permitted top =
+    let by = (up q i).0 permitted in
+    let in_entry : IsIn e h = record { low = omega (arith, i.low, i.high); high = omega (arith, i.low, i.high) } in
+    omega (arith, i.high, top h in_entry ((up h in_entry).1 (omega arith)))
 
 -- ---- all places of an entry tried
 
-places_tried : (m : List Page) (r : Request) (e : Descriptor) (l : Option (ℕ × ℕ)) → IsProperMemory m → IsProperRequest r → IsTried m r e l e.first → ((q : ℕ) → q + 1 ≡ e.first + e.pages → IsTried m r e l q) → ((q : ℕ) → q + r.pages ≡ r.limit → IsTried m r e l q)
-    → ((q : ℕ) → EndsEntry m (q + r.pages) → IsTried m r e l q) → (q : ℕ) → IsIn e q → IsPermittedStart m r q → IsPlace m r e q → IsTried m r e l q
-places_tried m r e l proper good first last limit ends q i h place = elim place [
+places_tried : (m : List Page) (r : Request) (e : Descriptor) (l : Option (ℕ × ℕ)) (end h : ℕ) → PermitsUpTo m r e end → h ≡ min (e.first + (e.pages - 1)) (end - r.pages) → IsTried m r e l e.first → IsTried m r e l h → ((q : ℕ) → EndsEntry m (q + r.pages) → IsTried m r e l q)
+    → (q : ℕ) → IsIn e q → IsPermittedStart m r q → IsPlace m r e q → IsTried m r e l q
+places_tried m r e l end h up is first highest ends q i permitted place = elim place [
   | inl f ↦ subst (IsTried m r e l) (sym f) first
   | inr (inl b) ↦ ends q b
-  | inr (inr top) ↦ elim (highest_place m r e q proper good i h top) [
-    | inl a ↦ last q a
-    | inr (inl b) ↦ limit q b
-    | inr (inr c) ↦ ends q c
-  ]
+  | inr (inr top) ↦ subst (IsTried m r e l) (highest_is m r e end h q up is i permitted top) highest
 ]
 
 best_found : (m : List Page) (r : Request) (e : Descriptor) (l : Option (ℕ × ℕ)) → IsProperMemory m → IsProperRequest r → Contains (memory_map m) e → IsFound m r e l → IsTried m r e l e.first → ((q : ℕ) → IsIn e q → IsPermittedStart m r q → IsPlace m r e q → IsTried m r e l q) → IsTrueLeast m r e l
@@ -81,6 +56,6 @@ best_found m r e (Some (count, top)) proper good entry found first tried = (
   found.2,
 )
 
-pub least_found : (m : List Page) (r : Request) (e : Descriptor) (l : Option (ℕ × ℕ)) → IsProperMemory m → IsProperRequest r → Contains (memory_map m) e → IsFound m r e l → IsTried m r e l e.first → ((q : ℕ) → q + 1 ≡ e.first + e.pages → IsTried m r e l q) → ((q : ℕ) → q + r.pages ≡ r.limit → IsTried m r e l q)
+pub least_found : (m : List Page) (r : Request) (e : Descriptor) (l : Option (ℕ × ℕ)) (end h : ℕ) → IsProperMemory m → IsProperRequest r → Contains (memory_map m) e → PermitsUpTo m r e end → h ≡ min (e.first + (e.pages - 1)) (end - r.pages) → IsFound m r e l → IsTried m r e l e.first → IsTried m r e l h
     → ((q : ℕ) → EndsEntry m (q + r.pages) → IsTried m r e l q) → IsTrueLeast m r e l
-least_found m r e l proper good entry found first last limit ends = best_found m r e l proper good entry found first (places_tried m r e l proper good first last limit ends)
+least_found m r e l end h proper good entry up is found first highest ends = best_found m r e l proper good entry found first (places_tried m r e l end h up is first highest ends)

@@ -3,7 +3,7 @@ ghost use Rattle.std.specs.Prelude.{◌≡◌, ℕ, None, IfSome, IfOk};
 ghost use Rattle.placement_certificate.specs.Placement.{IsProperRequest, IsPermittedStart};
 ghost use Rattle.placement_certificate.specs.Certificates.{IsTrueCertificate};
 
-use crate::starts::{better_of, least_in};
+use crate::starts::{better_of, least_in, next_stop};
 use descriptor_table::RunTable;
 use page_ranges::MemoryType;
 use placement_certificate::{Bound, Certificate, Request};
@@ -26,9 +26,12 @@ pub fn choose<A: Allocator + Copy, B: Allocator + Copy>(
     let mut best = None;
     // The runs before this index end too low for starts in the entries left.
     let mut passed = 0;
+    // Where the last stretch of conventional pages that was met ends.
+    let mut stop = 0;
     for entry in table.map_entries() {
         if entry.mtype == MemoryType::conventional() {
-            let (least, next) = least_in(table, request, &entry, passed);
+            stop = next_stop(table, &entry, stop);
+            let (least, next) = least_in(table, request, &entry, stop, passed);
             bounds.push_reserved(Bound {
                 first: entry.first,
                 pages: entry.pages,

@@ -1,16 +1,16 @@
-use Rattle.std.proofs.Common.{◌≡◌, ◌∷◌, [], ◌++◌, eqb, true, filter, length, refl, sym, ap, subst, ◌∙◌, append_assoc, append-nil, rules, arith}
+use Rattle.std.proofs.Common.{◌≡◌, ◌∷◌, [], ◌++◌, eqb, true, length, refl, sym, ap, subst, ◌∙◌, append_assoc, rules, arith}
 use Rattle.std.proofs.lemmas.Bool.{eq-eqb}
-use Rattle.std.specs.List.{AllZip}
 use Rattle.page_ranges.specs.MemoryTypes.{conventional}
 use Rattle.page_ranges.specs.MemoryMap.{memory_map}
 use Rattle.page_ranges.specs.Runs.{runs_of}
 use Rattle.placement_certificate.specs.declared.certificates.Bound.{Bound}
-use Rattle.placement_certificate.specs.Certificates.{IsTrueBound, conventional_entries}
+use Rattle.placement_certificate.specs.Certificates.{IsTrueBound}
 use Rattle.placement_certificate.specs.Search.{IsBestOf}
 use Rattle.placement_certificate.proofs.BestBounds.{no_bound}
 use Rattle.placement_certificate.proofs.Decided.{best_is}
 use Rattle.placement_certificate.proofs.Tries.{bound_more}
-use Rattle.placement_chooser.proofs.Entries.{bounded_more, passed_above}
+use Rattle.placement_chooser.proofs.Entries.{bounded_more, map_order, passed_above, all_bounded}
+use Rattle.placement_chooser.proofs.Stretches.{still_stretch}
 use Rattle.placement_chooser.proofs.choosing.choose.Goals as goal
 
 pub loop-entry-preserved-then-eq : goal.loop-entry-preserved-then-eq
@@ -33,6 +33,7 @@ loop-entry-preserved-then-eq g c =
       bounds = bounded_more (IsTrueBound m r) ys bs e b free c.loop-entry.invariant.bounds (record { first = refl; pages = refl; least = c.least_in-least.ensures.least });
       best = bound_more c.loop-entry.best least bs b refl c.loop-entry.invariant.best;
       passed = passed_above m (runs_of m) c.least_in-least.result.1 r.pages ys e es c.len-runs.ensures.proper same c.least_in-least.ensures.passed;
+      stop = still_stretch m c.next_stop-stop.result ys e es (map_order m (ys ++ e ∷ es) c.len-runs.ensures.proper same) c.next_stop-stop.ensures;
       room = omega (arith, c.loop-entry.invariant.room, ap length steps, c.push_reserved.ensures.len, c.push_reserved.ensures.capacity);
     })
 
@@ -41,9 +42,7 @@ returns-in-Some-best-clause-certificate g c =
     let m = c.args.table.now in
     let r = c.args.request.now in
     let bs = c.loop-entry.bounds.items in
-    let empty : c.loop-entry.entry-iterator ≡ [] = c.in-None.ensures.steps.0 in
-    let all : c.loop-entry.yielded ≡ memory_map m = sym (append-nil c.loop-entry.yielded) ∙ ap (λ ds. c.loop-entry.yielded ++ ds) (sym empty) ∙ c.loop-entry.invariant.entries in
-    let bounds : AllZip (IsTrueBound m r) (conventional_entries m) bs = subst (λ es. AllZip (IsTrueBound m r) (filter (λ e. eqb e.mtype conventional) es) bs) all c.loop-entry.invariant.bounds in
+    let bounds = all_bounded m (IsTrueBound m r) c.loop-entry.yielded c.loop-entry.entry-iterator bs c.in-None.ensures.steps.0 c.loop-entry.invariant.entries c.loop-entry.invariant.bounds in
     record { bounds = bounds; answer = best_is m r bs c.len-runs.ensures.proper c.requires bounds c.in-Some-best.field-0-0 c.in-Some-best.answer (subst (λ x. IsBestOf x bs) c.in-Some-best.is c.loop-entry.invariant.best) }
 
 pub returns-in-None-best-clause-none : goal.returns-in-None-best-clause-none
@@ -51,7 +50,5 @@ returns-in-None-best-clause-none g c =
     let m = c.args.table.now in
     let r = c.args.request.now in
     let bs = c.loop-entry.bounds.items in
-    let empty : c.loop-entry.entry-iterator ≡ [] = c.in-None.ensures.steps.0 in
-    let all : c.loop-entry.yielded ≡ memory_map m = sym (append-nil c.loop-entry.yielded) ∙ ap (λ ds. c.loop-entry.yielded ++ ds) (sym empty) ∙ c.loop-entry.invariant.entries in
-    let bounds : AllZip (IsTrueBound m r) (conventional_entries m) bs = subst (λ es. AllZip (IsTrueBound m r) (filter (λ e. eqb e.mtype conventional) es) bs) all c.loop-entry.invariant.bounds in
+    let bounds = all_bounded m (IsTrueBound m r) c.loop-entry.yielded c.loop-entry.entry-iterator bs c.in-None.ensures.steps.0 c.loop-entry.invariant.entries c.loop-entry.invariant.bounds in
     λ h. no_bound m r bs c.len-runs.ensures.proper c.requires bounds (subst (λ x. IsBestOf x bs) c.in-None-best.is c.loop-entry.invariant.best)
