@@ -10,9 +10,9 @@ use Rattle.placement_certificate.specs.declared.certificates.Request.{Request}
 use Rattle.placement_certificate.specs.declared.certificates.Bound.{Bound}
 use Rattle.placement_certificate.specs.Placement.{IsProperRequest, IsPermittedStart, price, IsBestStart}
 use Rattle.placement_certificate.specs.Certificates.{CertificateValue, IsTrueLeast, IsTrueBound, conventional_entries, IsTrueCertificate}
-use Rattle.placement_certificate.specs.Search.{better, IsBestOf}
+use Rattle.placement_certificate.specs.Search.{better}
 use Rattle.placement_certificate.proofs.BestBounds.{best_bound, no_bound}
-use Rattle.placement_certificate.proofs.Tries.{first_pages, none_tried, start_passed, start_tried, bound_more}
+use Rattle.placement_certificate.proofs.Tries.{IsBestOf, first_pages, none_tried, start_passed, start_tried, bound_more}
 
 -- ---- a permitted start
 

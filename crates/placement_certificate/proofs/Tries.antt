@@ -1,5 +1,7 @@
 -- The best start so far, as one start after the other is tried.
 use Rattle.std.proofs.Common.{◌≡◌, ◌⊎◌, ℕ, ◌+◌, ◌<◌, ◌≤◌, List, [], ◌∷◌, ◌++◌, Option, Some, None, inl, inr, refl, sym, ap, subst, arith}
+use Rattle.std.specs.Prelude.{Contains}
+use Rattle.std.specs.List.{AllByRecursion}
 use Rattle.std.proofs.lemmas.Bool.{cases_eq, cases_lt, cases_order, lt-ltb, le-ltb, ne_eqb, eq-eqb}
 use Rattle.page_ranges.specs.declared.ranges.Descriptor.{Descriptor}
 use Rattle.page_ranges.specs.Memory.{Page}
@@ -10,7 +12,7 @@ use Rattle.placement_certificate.specs.declared.certificates.Bound.{Bound}
 use Rattle.placement_certificate.specs.Placement.{IsPermittedStart, price}
 use Rattle.placement_certificate.specs.Certificates.{IsTrueLeast}
 use Rattle.placement_certificate.specs.Laws.{IsNoWorse}
-use Rattle.placement_certificate.specs.Search.{better, IsBestOf}
+use Rattle.placement_certificate.specs.Search.{better}
 
 -- ---- the better of two
 
@@ -116,6 +118,13 @@ no_worse_than_none count top l e = subst (IsNoWorse count top) (sym e) tt
 still_no_worse : (c t d u : ℕ) → d ≤ c → (c ≡ d → t ≤ u) → (l : Option (ℕ × ℕ)) → IsNoWorse c t l → IsNoWorse d u l
 still_no_worse c t d u h g None n = tt
 still_no_worse c t d u h g (Some (x, y)) n = (omega (arith, n.0), λ e. omega (arith, n.0, n.1 (omega (arith, n.0)), g (omega (arith, n.0))))
+
+-- ---- the best of some bounds
+
+-- the best start of some bounds, with its price
+abbrev pub IsBestOf : Option (ℕ × ℕ) → List Bound → Type 0
+IsBestOf None bs = AllByRecursion (λ b. b.least ≡ None) bs
+IsBestOf (Some (count, top)) bs = ((b : Bound) × Contains bs b × (b.least ≡ Some (count, top))) × AllByRecursion (λ b. IsNoWorse count top b.least) bs
 
 pub none_bounded : IsBestOf None []
 none_bounded = tt

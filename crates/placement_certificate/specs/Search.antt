@@ -1,10 +1,8 @@
 -- Words for the contracts of the plain search.
-use Rattle.std.specs.Prelude.{◌≡◌, ℕ, ◌+◌, ◌≤◌, ◌&&◌, ◌||◌, ◌==◌, nat_lt, List, Contains, Option, Some, None, if◌then◌else◌}
+use Rattle.std.specs.Prelude.{◌≡◌, ℕ, ◌+◌, ◌≤◌, ◌&&◌, ◌||◌, ◌==◌, nat_lt, List, Option, Some, None, if◌then◌else◌}
 use Rattle.std.specs.List.{AllByRecursion}
 use Rattle.page_ranges.specs.declared.ranges.Run.{Run}
 use Rattle.page_ranges.specs.Runs.{AreRuns}
-use Rattle.placement_certificate.specs.declared.certificates.Bound.{Bound}
-use Rattle.placement_certificate.specs.Laws.{IsNoWorse}
 
 -- runs in order, all of which end by a number
 pub record AreRunsBy (n : ℕ) (rs : List Run) : Type 0 where
@@ -16,8 +14,3 @@ abbrev pub better : Option (ℕ × ℕ) → Option (ℕ × ℕ) → Option (ℕ 
 better None y = y
 better (Some x) None = Some x
 better (Some (c, t)) (Some (d, u)) = if nat_lt d c || (d == c && nat_lt t u) then Some (d, u) else Some (c, t)
-
--- the best start of some bounds, with its price
-abbrev pub IsBestOf : Option (ℕ × ℕ) → List Bound → Type 0
-IsBestOf None bs = AllByRecursion (λ b. b.least ≡ None) bs
-IsBestOf (Some (count, top)) bs = ((b : Bound) × Contains bs b × (b.least ≡ Some (count, top))) × AllByRecursion (λ b. IsNoWorse count top b.least) bs
