@@ -1,2 +1,5 @@
 pub mod MachineRunLists
 pub mod AnySteps
+pub mod Running
+pub mod Outcomes
+pub mod Keys

@@ -1,3 +1,4 @@
 pub mod MachineRuns
 pub mod Machines
 pub mod Steps
+pub mod Laws

@@ -16,6 +16,9 @@ pub enum Call {
         memory: u64,
         pages: u64,
     },
+    ExitBootServices {
+        key: u64,
+    },
 }
 
 /// What a boot service answers.
@@ -23,4 +26,5 @@ pub enum Call {
 pub enum Reply<A: Allocator = Global> {
     AllocatePages(Result<Placed<A>, Status>),
     FreePages(Result<(), Status>),
+    ExitBootServices(Result<(), Status>),
 }

@@ -1,9 +1,9 @@
 //! The core: the state of the boot services.
-ghost use Rattle.std.specs.Prelude.{◌≡◌, ◌<◌, length, IfOk, slice_get};
+ghost use Rattle.std.specs.Prelude.{◌≡◌, ◌<◌, ◌≤◌, length, IfOk, OnErr, slice_get};
 ghost use Rattle.page_ranges.specs.Memory.{IsProperMemory};
 ghost use Rattle.page_ranges.specs.MemoryMap.{memory_map};
 ghost use Rattle.boot_core.specs.Machines.{first_state};
-ghost use Rattle.boot_core.specs.Steps.{Step};
+ghost use Rattle.boot_core.specs.Steps.{Step, Runs};
 
 use crate::calls::{Call, Reply};
 use crate::machines::Machine;
@@ -73,6 +73,24 @@ impl<A: Allocator + Copy> Core<A> {
         })
     }
 
+    /// ExitBootServices: with the map key, after which all services answer UNSUPPORTED.
+    ///
+    /// INVALID_PARAMETER: another key.
+    pub fn exit_boot_services(&mut self, key: u64) -> Reply<A>
+        requires { 0 < self.old.calls_left }
+        ensures { Step self.old (Call.ExitBootServices key) result self.new }
+    {
+        self.calls_left -= 1;
+        Reply::ExitBootServices(if self.exited {
+            Err(Status::Unsupported)
+        } else if key != self.book.key() {
+            Err(Status::InvalidParameter)
+        } else {
+            self.exited = true;
+            Ok(())
+        })
+    }
+
     /// The service that a call names.
     pub fn call(&mut self, call: &Call) -> Reply<A>
         requires { 0 < self.old.calls_left }
@@ -86,7 +104,27 @@ impl<A: Allocator + Copy> Core<A> {
                 memory,
             } => self.allocate_pages(kind, mtype, pages, memory),
             Call::FreePages { memory, pages } => self.free_pages(memory, pages),
+            Call::ExitBootServices { key } => self.exit_boot_services(key),
         }
+    }
+
+    /// Makes the calls in order, and answers the reply to each.
+    ///
+    /// An `Err` is want of memory for the replies; then no call was made.
+    pub fn run(&mut self, calls: &[Call]) -> Result<Vec<Reply<A>, A>, AllocError>
+        requires { length calls.now ≤ self.old.calls_left }
+        ensures runs { IfOk result (λ replies. Runs self.old calls.now replies.items self.new) }
+        ensures refused { OnErr result (self.new ≡ self.old) }
+    {
+        let mut replies = Vec::with_capacity(self.book.table().allocator(), calls.len())?;
+        for call in calls {
+            let reply = self.call(call);
+            match replies.push(reply) {
+                Ok(()) => {}
+                Err(_) => unreachable!(),
+            }
+        }
+        Ok(replies)
     }
 
     /// How many calls may still be made: 2^31 at first, one less after each.

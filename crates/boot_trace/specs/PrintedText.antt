@@ -39,6 +39,8 @@ reply_text number (reply.AllocatePages (Ok placed)) = value_line number verb.Pag
 reply_text number (reply.AllocatePages (Err status)) = status_line number verb.Pages (status_of status)
 reply_text number (reply.FreePages (Ok done)) = status_line number verb.FreePages (status_of Success)
 reply_text number (reply.FreePages (Err status)) = status_line number verb.FreePages (status_of status)
+reply_text number (reply.ExitBootServices (Ok done)) = status_line number verb.Exit (status_of Success)
+reply_text number (reply.ExitBootServices (Err status)) = status_line number verb.Exit (status_of status)
 
 -- the line of an entry of the memory map: two spaces, and its type, address, pages and attributes
 abbrev pub descriptor_line : Descriptor → List ℕ

@@ -2,7 +2,7 @@
 use Rattle.std.specs.Prelude.{ℕ, ◌^◌, nat_lt, nat_eq, List, [], ◌∷◌, length, codes, Option, Some, None, Result, Ok, Err, if◌then◌else◌}
 use Rattle.std.specs.List.{starts_with}
 use Rattle.std.specs.Io.BufRead.{strip_last}
-use Rattle.boot_core.specs.declared.calls.Call.TheVariants.{AllocatePages, FreePages}
+use Rattle.boot_core.specs.declared.calls.Call.TheVariants.{AllocatePages, FreePages, ExitBootServices}
 use Rattle.boot_trace.specs.declared.calls.TraceCall.{TraceCall}
 use Rattle.boot_trace.specs.declared.calls.TraceCall.TheVariants as trace_call
 use Rattle.boot_trace.specs.declared.faults.TraceFault.{TraceFault}
@@ -48,6 +48,9 @@ call_of verb.FreePages (memory ∷ pages ∷ []) = do
   m ← u64_of memory
   p ← u64_of pages
   Ok (trace_call.Service (FreePages m p))
+call_of verb.Exit (key ∷ []) = do
+  k ← u64_of key
+  Ok (trace_call.Service (ExitBootServices k))
 call_of verb.List [] = Ok trace_call.List
 call_of v words = Err fault.Words
 

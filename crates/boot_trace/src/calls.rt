@@ -66,6 +66,7 @@ fn read_verb(verb: Verb, parameters: &[&[u8]]) -> Result<TraceCall, TraceFault>
     match (verb, parameters) {
         (Verb::Pages, [kind, mtype, pages, memory]) => read_pages(kind, mtype, pages, memory),
         (Verb::FreePages, [memory, pages]) => read_free_pages(memory, pages),
+        (Verb::Exit, [key]) => read_exit(key),
         (Verb::List, []) => Ok(TraceCall::List),
         _ => Err(TraceFault::Words),
     }
@@ -95,6 +96,15 @@ fn read_free_pages(memory: &[u8], pages: &[u8]) -> Result<TraceCall, TraceFault>
     Ok(TraceCall::Service(Call::FreePages {
         memory: read_u64(memory)?,
         pages: read_u64(pages)?,
+    }))
+}
+
+/// What `exit` asks for.
+fn read_exit(key: &[u8]) -> Result<TraceCall, TraceFault>
+    ensures { result ≡ call_of Verb.Exit (key.now ∷ []) }
+{
+    Ok(TraceCall::Service(Call::ExitBootServices {
+        key: read_u64(key)?,
     }))
 }
 

@@ -25,6 +25,8 @@ pub fn print_reply<A: Allocator>(
         Reply::AllocatePages(Err(status)) => print_status(text, number, Verb::Pages, *status),
         Reply::FreePages(Ok(())) => print_status(text, number, Verb::FreePages, Status::Success),
         Reply::FreePages(Err(status)) => print_status(text, number, Verb::FreePages, *status),
+        Reply::ExitBootServices(Ok(())) => print_status(text, number, Verb::Exit, Status::Success),
+        Reply::ExitBootServices(Err(status)) => print_status(text, number, Verb::Exit, *status),
     }
 }
 

@@ -8,11 +8,12 @@ ghost use Rattle.boot_trace.specs.Verbs.{name_of, verb_named};
 pub enum Verb {
     Pages,
     FreePages,
+    Exit,
     List,
 }
 
 /// All verbs.
-const VERBS: [Verb; 3] = [Verb::Pages, Verb::FreePages, Verb::List];
+const VERBS: [Verb; 4] = [Verb::Pages, Verb::FreePages, Verb::Exit, Verb::List];
 
 impl Verb {
     /// How the verb is written.
@@ -22,6 +23,7 @@ impl Verb {
         match self {
             Verb::Pages => "pages",
             Verb::FreePages => "free-pages",
+            Verb::Exit => "exit",
             Verb::List => "list",
         }
     }

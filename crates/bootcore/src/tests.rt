@@ -1,4 +1,5 @@
 //! Runs of the program, as text in and text out.
+mod core_runs;
 mod faults;
 mod placements;
 mod rows;
