@@ -20,12 +20,25 @@ least_words None = codes "none" ∷ []
 abbrev pub bound_words : Bound → List (List ℕ)
 bound_words b = decimal b.first ∷ decimal b.pages ∷ least_words b.least
 
+-- the words of the lines that say the map
+abbrev pub map_lines : List Descriptor → List (List (List ℕ))
+map_lines entries = (codes "map" ∷ decimal (length entries) ∷ []) ∷ map entry_words entries
+
+-- the words of the request's line
+abbrev pub request_words : Request → List (List ℕ)
+request_words r = codes "request" ∷ decimal r.mtype ∷ decimal r.pages ∷ decimal r.limit ∷ []
+
+-- the words of the lines that say the bounds
+abbrev pub bound_lines : List Bound → List (List (List ℕ))
+bound_lines bounds = (codes "bounds" ∷ decimal (length bounds) ∷ []) ∷ map bound_words bounds
+
+-- the words of the lines that say the answer, and that end the block
+abbrev pub answer_lines : ℕ → List (List (List ℕ))
+answer_lines answer = (codes "answer" ∷ decimal answer ∷ []) ∷ (codes "end" ∷ []) ∷ []
+
 -- the words of each line of a block
 abbrev pub block_lines : List Descriptor → Request → CertificateValue → List (List (List ℕ))
-block_lines entries r c =
-    ((codes "certificate" ∷ []) ∷ (codes "map" ∷ decimal (length entries) ∷ []) ∷ map entry_words entries)
-    ++ ((codes "request" ∷ decimal r.mtype ∷ decimal r.pages ∷ decimal r.limit ∷ []) ∷ (codes "bounds" ∷ decimal (length c.bounds) ∷ []) ∷ map bound_words c.bounds)
-    ++ (codes "answer" ∷ decimal c.answer ∷ []) ∷ (codes "end" ∷ []) ∷ []
+block_lines entries r c = (codes "certificate" ∷ []) ∷ map_lines entries ++ (request_words r ∷ bound_lines c.bounds) ++ answer_lines c.answer
 
 -- words as a line, with single spaces between them
 abbrev pub printed_line : List (List ℕ) → List ℕ
