@@ -3,3 +3,4 @@ pub mod AnySteps
 pub mod Running
 pub mod Outcomes
 pub mod Keys
+pub mod Acceptances

@@ -8,9 +8,9 @@ use Rattle.page_ranges.specs.declared.ranges.PageRange.{PageRange}
 use Rattle.page_ranges.specs.declared.statuses.Status.{Status}
 use Rattle.page_ranges.specs.declared.statuses.Status.TheVariants as status
 use Rattle.page_ranges.specs.MemoryTypes.{page_size, conventional, is_bad_type}
-use Rattle.page_ranges.specs.Memory.{Page, page_at, IsProperPage, IsProperMemory, IsConventional, IsOwnedBy, retyped}
+use Rattle.page_ranges.specs.Memory.{Page, page_at, IsProperPage, IsProperMemory, HasMachineTypes, IsConventional, IsOwnedBy, retyped}
 use Rattle.page_ranges.proofs.Lookups.{page_at-number, page_at-all}
-use Rattle.page_ranges.proofs.Retyped.{changed, changed_in, page_at-retyped, retyped-proper}
+use Rattle.page_ranges.proofs.Retyped.{changed, changed_in, page_at-retyped, retyped-proper, retyped-typed, machine_type}
 use Rattle.placement_certificate.specs.declared.certificates.Request.{Request}
 use Rattle.placement_certificate.specs.Placement.{IsPermittedStart}
 use Rattle.placement_certificate.specs.Certificates.{CertificateValue}
@@ -47,19 +47,19 @@ same_type range t o m x here some same =
 
 -- The book after a step from a book of proper memory: as it was, or with a key that is 1 higher and a page of another type.
 abbrev pub Outcome : Book → Book → Type 0
-Outcome old new = (new ≡ old) ⊎ ((new.key ≡ old.key + 1) × IsProperMemory new.memory × (¬ HaveSameTypes old.memory new.memory))
+Outcome old new = (new ≡ old) ⊎ ((new.key ≡ old.key + 1) × IsProperMemory new.memory × (¬ HaveSameTypes old.memory new.memory) × (HasMachineTypes old.memory → HasMachineTypes new.memory))
 
 allocated : (b : Book) (range : PageRange) (t : ℕ) → IsProperMemory b.memory → is_bad_type t ≡ false → 0 < range.pages → IsConventional (page_at b.memory range.first) → Outcome b (changed_book range t Pages b)
 allocated b range t proper good some free =
     let (x, here, was) = conventional_page (page_at b.memory range.first) free in
     let other : ¬ (t ≡ conventional) = λ (e : t ≡ conventional). let h : is_bad_type conventional ≡ false = subst (λ (u : ℕ). is_bad_type u ≡ false) e good in cc in
-    inr (refl, retyped-proper range t Pages (λ e. absurd (other e)) b.memory proper, λ same. other (sym (same_type range t Pages b.memory x here some same) ∙ was))
+    inr (refl, retyped-proper range t Pages (λ e. absurd (other e)) b.memory proper, λ same. other (sym (same_type range t Pages b.memory x here some same) ∙ was), retyped-typed range t Pages (machine_type t (inl good)) b.memory)
 
 freed : (b : Book) (range : PageRange) → IsProperMemory b.memory → 0 < range.pages → IsOwnedBy Pages (page_at b.memory range.first) → Outcome b (changed_book range conventional Given b)
 freed b range proper some owned =
     let (x, here, owner) = owned_page Pages (page_at b.memory range.first) owned in
     let is = page_at-all IsProperPage b.memory range.first x proper.each here in
-    inr (refl, retyped-proper range conventional Given (λ e. refl) b.memory proper, λ same. let given = is.given (same_type range conventional Given b.memory x here some same) in cc)
+    inr (refl, retyped-proper range conventional Given (λ e. refl) b.memory proper, λ same. let given = is.given (same_type range conventional Given b.memory x here some same) in cc, retyped-typed range conventional Given (machine_type conventional (inr refl)) b.memory)
 
 frees : (b : Book) (address pages : ℕ) (result : Result (Unit {0}) Status) (new : Book) → IsProperMemory b.memory → FreesPages b address pages result new → Outcome b new
 frees b address pages (Ok done) new proper (valid, owned, e) = subst (Outcome b) (sym e) (freed b (range_at address pages) proper valid.1 (owned (address / page_size) (omega arith) (omega arith)))
@@ -79,19 +79,23 @@ served false old result new Rule f h = f h
 
 pub key_rises : (old new : Book) → Outcome old new → old.key ≤ new.key
 key_rises old new (inl e) = omega (arith, ap (λ (b : Book). b.key) e)
-key_rises old new (inr (up, proper, differs)) = omega arith
+key_rises old new (inr (up, proper, differs, typed)) = omega arith
 
 pub stays_proper : (old new : Book) → IsProperMemory old.memory → Outcome old new → IsProperMemory new.memory
 stays_proper old new proper (inl e) = subst (λ (b : Book). IsProperMemory b.memory) (sym e) proper
-stays_proper old new proper (inr (up, still, differs)) = still
+stays_proper old new proper (inr (up, still, differs, typed)) = still
+
+pub stays_typed : (old new : Book) → HasMachineTypes old.memory → Outcome old new → HasMachineTypes new.memory
+stays_typed old new typed (inl e) = subst (λ (b : Book). HasMachineTypes b.memory) (sym e) typed
+stays_typed old new typed (inr (up, proper, differs, still)) = still typed
 
 pub same_types : (old new : Book) → Outcome old new → new.key ≡ old.key → HaveSameTypes old.memory new.memory
 same_types old new (inl e) k = λ n. ap (λ (b : Book). type_at b.memory n) (sym e)
-same_types old new (inr (up, proper, differs)) k = absurd (omega arith)
+same_types old new (inr (up, proper, differs, typed)) k = absurd (omega arith)
 
 pub same_key : (old new : Book) → Outcome old new → HaveSameTypes old.memory new.memory → new.key ≡ old.key
 same_key old new (inl e) same = ap (λ (b : Book). b.key) e
-same_key old new (inr (up, proper, differs)) same = absurd (differs same)
+same_key old new (inr (up, proper, differs, typed)) same = absurd (differs same)
 
 module _ (Chosen : Choice) (permits : (m : List Page) (r : Request) (p : ℕ) (c : Option CertificateValue) → Chosen m r p c → IsPermittedStart m r p) where
   first_is_free : (fixed : Bool) (m : List Page) (r : Request) (memory pages address : ℕ) (c : Option CertificateValue) (P : Type 0) → 0 < pages → 0 < r.pages → MatchBool fixed (IsFree m memory pages × (address ≡ memory) × P) ((start : ℕ) × Chosen m r start c × (address ≡ start * page_size)) → IsConventional (page_at m (address / page_size))

@@ -1,13 +1,17 @@
 -- The laws of the machine. Each is the contract of a public function.
-use Rattle.std.specs.Prelude.{◌≡◌, ◌↔◌, ℕ, false, List, [], ◌∷◌, Option, Ok}
+use Rattle.std.specs.Prelude.{◌≡◌, ◌↔◌, ℕ, false, List, [], ◌∷◌, Option, Ok, IfSome}
 use Rattle.std.specs.Option.{option_map}
+use Rattle.page_ranges.specs.declared.ranges.Run.{Run}
 use Rattle.page_ranges.specs.Memory.{Page, page_at, IsProperMemory}
-use Rattle.page_services.specs.PageRules.{Choice, IsAnyStart, IsBestChoice}
+use Rattle.page_ranges.specs.MemoryMap.{memory_map}
+use Rattle.page_ranges.specs.Runs.{IsValidMachine}
+use Rattle.placement_certificate.specs.Acceptance.{IsAccepted}
+use Rattle.page_services.specs.PageRules.{Choice, IsAnyStart, request_of}
 use Rattle.boot_core.specs.declared.calls.Call.{Call}
 use Rattle.boot_core.specs.declared.calls.Call.TheVariants as call
 use Rattle.boot_core.specs.declared.calls.Reply.{Reply}
 use Rattle.boot_core.specs.declared.calls.Reply.TheVariants as reply
-use Rattle.boot_core.specs.Machines.{State}
+use Rattle.boot_core.specs.Machines.{State, first_state}
 use Rattle.boot_core.specs.Steps.{Step, StepAny, StepBy, Runs, RunsBy}
 
 -- A step with the best start is a step with any permitted start.
@@ -38,3 +42,19 @@ abbrev pub KeyLaw : Choice → Type 0 → Type 0
 KeyLaw Chosen A = (old : State) (calls : List Call) (replies : List (Reply A)) (new : State) (run : RunsBy Chosen old calls replies new) (answer : Reply A) (after : State) →
     IsProperMemory old.book.memory → new.exited ≡ false → StepBy Chosen new (call.ExitBootServices old.book.key) answer after →
     (answer ≡ reply.ExitBootServices (Ok tt)) ↔ ChangesNoType Chosen old calls replies new run
+
+-- ---- certificates
+
+-- The certificate of a reply, where it has one, is accepted by the checker with the memory map before the call.
+abbrev pub IsAcceptedReply : {A : Type 0} → State → Call → Reply A → Type 0
+IsAcceptedReply old (call.AllocatePages kind t pages memory) (reply.AllocatePages (Ok placed)) = IfSome placed.certificate (λ certificate. IsAccepted (memory_map old.book.memory) (request_of kind t pages memory) certificate)
+IsAcceptedReply old call reply = Unit {0}
+
+-- so is the certificate of each reply of the run
+abbrev pub AllAccepted : {A : Type 0} (old : State) (calls : List Call) (replies : List (Reply A)) (new : State) → Runs old calls replies new → Type 0
+AllAccepted old (call ∷ calls) (reply ∷ replies) new (next, step, run) = IsAcceptedReply old call reply × AllAccepted next calls replies new run
+AllAccepted old calls replies new run = Unit {0}
+
+-- On a valid machine the checker accepts each certificate of a run.
+abbrev pub AcceptanceLaw : Type 0 → Type 0
+AcceptanceLaw A = (machine : List Run) (calls : List Call) (replies : List (Reply A)) (new : State) (run : Runs (first_state machine) calls replies new) → IsValidMachine machine → AllAccepted (first_state machine) calls replies new run

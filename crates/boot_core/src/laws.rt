@@ -1,6 +1,6 @@
 //! The laws of the machine, each the contract of a function that does nothing.
 ghost use Rattle.page_services.specs.PageRules.{IsAnyStart, IsBestChoice};
-ghost use Rattle.boot_core.specs.Laws.{AnyRunLaw, AnyStepLaw, KeyLaw};
+ghost use Rattle.boot_core.specs.Laws.{AcceptanceLaw, AnyRunLaw, AnyStepLaw, KeyLaw};
 
 use std::alloc::Allocator;
 
@@ -19,4 +19,10 @@ pub fn any_run_law<A: Allocator>()
 pub fn key_law<A: Allocator>()
     ensures best { KeyLaw IsBestChoice A }
     ensures any { KeyLaw IsAnyStart A }
+{}
+
+/// On a valid machine the checker accepts the certificate of each placement of a run, with the
+/// memory map before the call.
+pub fn acceptance_law<A: Allocator>()
+    ensures { AcceptanceLaw A }
 {}
