@@ -1,4 +1,7 @@
 //! Lists of calls through `Core::run`.
+ghost use Rattle.std.specs.Prelude.{◌≡◌, IfOk};
+ghost use Rattle.boot_core.specs.Machines.{all_calls};
+
 use super::MACHINE;
 use boot_core::{Call, Core, Reply};
 use boot_trace::read_machine;
@@ -7,7 +10,9 @@ use std::process::Abort;
 use std::test::Fail;
 
 /// A core of the machine.
-fn core_of_machine(rt: &(impl AllocGlobal + Abort)) -> Result<Core, Fail> {
+fn core_of_machine(rt: &(impl AllocGlobal + Abort)) -> Result<Core, Fail>
+    ensures { IfOk result (λ core. core.calls_left ≡ all_calls) }
+{
     let file = read_machine(rt.alloc(), MACHINE.as_bytes()).expect(rt, "a machine");
     Ok(Core::new(rt.alloc(), file.machine)?)
 }
@@ -55,7 +60,12 @@ fn replies_in_order(rt: HostRuntime) -> Result<(), Fail> {
     assert_eq!(rt; replies.len(), 5);
     assert!(rt; matches!(replies[0], Reply::FreePages(Err(Status::NotFound))));
     assert_eq!(rt; address_of(&replies[1]), Some(0x9e000));
-    assert!(rt; matches!(replies[2], Reply::ExitBootServices(Err(Status::InvalidParameter))));
+    assert!(rt;
+        matches!(
+            replies[2],
+            Reply::ExitBootServices(Err(Status::InvalidParameter))
+        )
+    );
     assert!(rt; matches!(replies[3], Reply::ExitBootServices(Ok(()))));
     assert!(rt; matches!(replies[4], Reply::FreePages(Err(Status::Unsupported))));
     assert_eq!(rt; core.calls_left(), 0x8000_0000 - 5);
