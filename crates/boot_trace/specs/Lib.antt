@@ -4,5 +4,6 @@ pub mod Verbs
 pub mod TraceLine
 pub mod MachineText
 pub mod PrintedText
+pub mod BlockText
 pub mod Lines
 pub mod TraceRuns

@@ -1,6 +1,7 @@
 //! Machine files and traces as bytes: what they mean, and a run of one on the other.
 #![tactic(auto)]
 
+mod blocks;
 mod calls;
 mod faults;
 mod lines;
@@ -12,6 +13,7 @@ mod runner;
 mod verbs;
 mod words;
 
+pub use blocks::print_block;
 pub use calls::{TraceCall, read_call};
 pub use faults::{MachineFault, MemberField, RunFault, TraceFault};
 pub use machine_file::{MachineFile, read_machine};

@@ -1,14 +1,14 @@
 -- A memory once a range has a type and an owner.
-use Rattle.std.proofs.Common.{◌≡◌, ℕ, ◌+◌, ◌<◌, ◌≤◌, true, false, cond, List, [], ◌∷◌, ◌++◌, refl}
+use Rattle.std.proofs.Common.{◌≡◌, ℕ, ◌+◌, ◌<◌, ◌≤◌, true, false, cond, ◌⊎◌, List, [], ◌∷◌, ◌++◌, inl, inr, true≢false, refl, sym, ap, ◌∙◌, arith}
 use Rattle.std.specs.List.{AllByRecursion}
 use Rattle.std.specs.Option.{option_map}
-use Rattle.std.proofs.lemmas.Bool.{cond_both, cond-true, cond-false, and_from, and_left, and_right, le-leb, lt-leb, lt-ltb, le-ltb}
+use Rattle.std.proofs.lemmas.Bool.{cond_both, cond-true, cond-false, and_from, and_left, and_right, le-leb, lt-leb, lt-ltb, le-ltb, cases_lt, or_left, or_right}
 use Rattle.std.proofs.lemmas.List.{map-append}
 use Rattle.page_ranges.specs.declared.ranges.Owner.{Owner}
 use Rattle.page_ranges.specs.declared.ranges.Owner.TheVariants.{Given}
 use Rattle.page_ranges.specs.declared.ranges.PageRange.{PageRange}
-use Rattle.page_ranges.specs.MemoryTypes.{conventional}
-use Rattle.page_ranges.specs.Memory.{Page, page_at, page_below, IsAscending, IsProperPage, IsProperMemory, is_in_range, retyped_page, retyped}
+use Rattle.page_ranges.specs.MemoryTypes.{conventional, is_bad_type, is_machine_type}
+use Rattle.page_ranges.specs.Memory.{Page, page_at, page_below, IsAscending, IsProperPage, IsProperMemory, HasMachineTypes, is_in_range, retyped_page, retyped}
 use Rattle.page_ranges.proofs.Attributes.{conventional_lacks_runtime}
 use Rattle.page_ranges.proofs.Lookups.{page_at-map, page_below-map, IsAscending-map}
 
@@ -63,3 +63,24 @@ module _ (range : PageRange) (t : ℕ) (o : Owner) (given : t ≡ conventional �
 
   pub retyped-proper : (m : List Page) → IsProperMemory m → IsProperMemory (retyped range t o m)
   retyped-proper m is = record { ascending = retyped-ascending range t o m is.ascending; each = each_proper m is.each }
+
+-- ---- a memory keeps to types of machines
+
+-- a number that is no type of machines is a bad type
+pub good_type : (t : ℕ) → is_bad_type t ≡ false → is_machine_type t ≡ true
+good_type t good = elim (cases_lt 15 t) [
+  | inr low ↦ or_left _ _ (le-leb t 15 low)
+  | inl above ↦ elim (cases_lt t 0x70000000) [
+    | inr high ↦ or_right _ _ (le-leb 0x70000000 t high)
+    | inl below ↦ absurd (true≢false (sym (or_right _ _ (and_from _ _ (le-leb 16 t (omega arith)) (le-leb t 0x6fffffff (omega arith)))) ∙ good))
+  ]
+]
+
+module _ (range : PageRange) (t : ℕ) (o : Owner) (typed : is_machine_type t ≡ true) where
+  pub retyped-typed : (m : List Page) → HasMachineTypes m → HasMachineTypes (retyped range t o m)
+  retyped-typed [] a = tt
+  retyped-typed (x ∷ m) a = (cond_both (is_in_range range x.number) (retyped_page t o x) x (λ y. is_machine_type y.mtype ≡ true) (λ b. typed) (λ b. a.0), retyped-typed m a.1)
+
+pub machine_type : (t : ℕ) → (is_bad_type t ≡ false) ⊎ (t ≡ conventional) → is_machine_type t ≡ true
+machine_type t (inl good) = good_type t good
+machine_type t (inr free) = ap is_machine_type free

@@ -1,11 +1,11 @@
 -- The laws of memories, maps and runs. Each is the contract of a public function.
-use Rattle.std.specs.Prelude.{◌≡◌, ◌↔◌, ℕ, List, Contains}
+use Rattle.std.specs.Prelude.{◌≡◌, ◌⊎◌, ◌↔◌, ℕ, false, List, Contains}
 use Rattle.page_ranges.specs.declared.ranges.Descriptor.{Descriptor}
 use Rattle.page_ranges.specs.declared.ranges.PageRange.{PageRange}
 use Rattle.page_ranges.specs.declared.ranges.Owner.{Owner}
 use Rattle.page_ranges.specs.declared.ranges.Owner.TheVariants.{Given}
 use Rattle.page_ranges.specs.declared.ranges.Run.{Run}
-use Rattle.page_ranges.specs.MemoryTypes.{conventional}
+use Rattle.page_ranges.specs.MemoryTypes.{conventional, is_bad_type}
 use Rattle.page_ranges.specs.Memory.{Page, IsAscending, IsProperMemory, HasMachineTypes, retyped}
 use Rattle.page_ranges.specs.MemoryMap.{memory_map, IsMaximalBlock, AreInOrder, IsMap, memory_of}
 use Rattle.page_ranges.specs.Runs.{pages_of, AreMaximalRuns, runs_of}
@@ -29,3 +29,7 @@ MaximalRunsLaw = ((m : List Page) → IsAscending m → AreMaximalRuns (runs_of 
 -- A memory stays proper when the pages of a range get a type and an owner, if conventional pages get the owner Given.
 abbrev pub RetypedLaw : Type 0
 RetypedLaw = (m : List Page) (range : PageRange) (t : ℕ) (o : Owner) → (t ≡ conventional → o ≡ Given) → IsProperMemory m → IsProperMemory (retyped range t o m)
+
+-- A memory still has machine types when the pages of a range get a type that requests may name, or the conventional one.
+abbrev pub RetypedTypesLaw : Type 0
+RetypedTypesLaw = (m : List Page) (range : PageRange) (t : ℕ) (o : Owner) → (is_bad_type t ≡ false) ⊎ (t ≡ conventional) → HasMachineTypes m → HasMachineTypes (retyped range t o m)

@@ -1,5 +1,5 @@
 //! The laws of memories, maps and runs, each the contract of a function that does nothing.
-ghost use Rattle.page_ranges.specs.Laws.{MaximalBlocksLaw, MapMemoryLaw, MemoryMapLaw, MaximalRunsLaw, RetypedLaw};
+ghost use Rattle.page_ranges.specs.Laws.{MaximalBlocksLaw, MapMemoryLaw, MemoryMapLaw, MaximalRunsLaw, RetypedLaw, RetypedTypesLaw};
 
 /// The memory map is the list of the maximal blocks of equal type and attributes.
 pub fn maximal_blocks_law()
@@ -24,4 +24,10 @@ pub fn maximal_runs_law()
 /// A memory stays proper when a range of it gets a type and an owner.
 pub fn retyped_law()
     ensures { RetypedLaw }
+{}
+
+/// A memory keeps to types of machines when a range of it gets a type that a request may name, or
+/// the conventional one.
+pub fn retyped_types_law()
+    ensures { RetypedTypesLaw }
 {}

@@ -8,7 +8,10 @@ mod statuses;
 mod types;
 
 pub use addresses::{PAGE_COUNT, PAGE_SIZE, pages_below};
-pub use laws::{map_memory_law, maximal_blocks_law, maximal_runs_law, memory_map_law, retyped_law};
+pub use laws::{
+    map_memory_law, maximal_blocks_law, maximal_runs_law, memory_map_law, retyped_law,
+    retyped_types_law,
+};
 pub use ranges::{Descriptor, Owner, PageRange, Run};
 pub use statuses::Status;
 pub use types::{MemoryType, has_runtime, type_for_alloc};

@@ -13,3 +13,4 @@ pub mod Samples
 pub mod PlainMaps
 pub mod PlainPrices
 pub mod PlainSearch
+pub mod Accepted

@@ -1,4 +1,5 @@
 pub mod Placement
 pub mod Certificates
 pub mod Laws
+pub mod Acceptance
 pub mod Search

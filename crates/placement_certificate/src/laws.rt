@@ -1,6 +1,7 @@
 //! The laws that the search for the best start rests on, each the contract of a function that does
 //! nothing.
 ghost use Rattle.placement_certificate.specs.Laws.{MapLengthLaw, InsideLaw, PriceLaw, FirstPageLaw, StretchLaw, EdgesLaw, BlockEndsLaw, FirstOrEndLaw, CandidatesLaw, OneCertificateLaw, MapDecidesLaw, BestBoundLaw};
+ghost use Rattle.placement_certificate.specs.Acceptance.{AcceptedLaw, TrueIsAcceptedLaw};
 
 /// The memory map has one entry for each page with no equal page just below it.
 pub fn map_length_law()
@@ -60,4 +61,14 @@ pub fn map_decides_law()
 /// The best start of all is the best of the entries' best.
 pub fn best_bound_law()
     ensures { BestBoundLaw }
+{}
+
+/// An accepted certificate is true in each memory with that map.
+pub fn accepted_law()
+    ensures { AcceptedLaw }
+{}
+
+/// Each true certificate is accepted with the memory's map.
+pub fn true_is_accepted_law()
+    ensures { TrueIsAcceptedLaw }
 {}

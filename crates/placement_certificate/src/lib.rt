@@ -9,7 +9,8 @@ mod tests;
 
 pub use certificates::{Bound, Certificate, Request};
 pub use laws::{
-    best_bound_law, block_ends_law, candidates_law, edges_law, first_or_end_law, first_page_law,
-    inside_law, map_decides_law, map_length_law, one_certificate_law, price_law, stretch_law,
+    accepted_law, best_bound_law, block_ends_law, candidates_law, edges_law, first_or_end_law,
+    first_page_law, inside_law, map_decides_law, map_length_law, one_certificate_law, price_law,
+    stretch_law, true_is_accepted_law,
 };
 pub use plain::{plain_certificate, plain_map, plain_price};
