@@ -44,6 +44,7 @@ served_as false old result new P Q f h = f h
 answers_any : {A : Type 0} (exited : Bool) (old : Book) (call : Call) (reply : Reply A) (new : Book) → Answers IsBestChoice exited old call reply new → Answers IsAnyStart exited old call reply new
 answers_any exited old (call.AllocatePages kind t pages memory) (reply.AllocatePages result) new h = served_as exited old result new (AllocatesPages IsBestChoice old kind t pages memory) (AllocatesPages IsAnyStart old kind t pages memory) (allocates_any old kind t pages memory result new) h
 answers_any exited old (call.FreePages memory pages) (reply.FreePages result) new h = h
+answers_any exited old (call.GetMemoryMap size) (reply.GetMemoryMap answer bytes) new h = h
 answers_any exited old (call.ExitBootServices key) (reply.ExitBootServices result) new h = h
 answers_any exited old call reply new h = absurd h
 

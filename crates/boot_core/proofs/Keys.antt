@@ -1,5 +1,5 @@
 -- Keys, along runs.
-use Rattle.std.proofs.Common.{◌≡◌, ◌↔◌, ℕ, ◌≤◌, Bool, true, false, List, [], ◌∷◌, Option, Ok, Err, refl, sym, ap, ◌∙◌, arith}
+use Rattle.std.proofs.Common.{◌≡◌, ◌↔◌, ℕ, ◌≤◌, Bool, true, false, List, [], ◌∷◌, Option, Ok, Err, refl, sym, ap, subst, ◌∙◌, arith}
 use Rattle.page_ranges.specs.declared.statuses.Status.TheVariants as status
 use Rattle.page_ranges.specs.Memory.{Page, IsProperMemory}
 use Rattle.placement_certificate.specs.declared.certificates.Request.{Request}
@@ -12,8 +12,14 @@ use Rattle.boot_core.specs.declared.calls.Reply.{Reply}
 use Rattle.boot_core.specs.declared.calls.Reply.TheVariants as reply
 use Rattle.boot_core.specs.Machines.{State}
 use Rattle.boot_core.specs.Steps.{Answers, StepBy, RunsBy}
-use Rattle.boot_core.specs.Laws.{ChangesNoType}
+use Rattle.boot_core.specs.Laws.{ChangesNoType, TellsKey}
+use Rattle.boot_core.proofs.MapReplies.{told_key}
 use Rattle.boot_core.proofs.Outcomes.{key_rises, stays_proper, same_types, same_key, outcome}
+
+-- what a successful reply of GetMemoryMap says of its key, and of the book after it
+key_told : {A : Type 0} (Chosen : Choice) (exited : Bool) (b : Book) (size key : ℕ) (told : Reply A) (new : Book) → Answers Chosen exited b (call.GetMemoryMap size) told new → TellsKey told key → (key ≡ b.key) × (new ≡ b)
+key_told Chosen exited b size key (reply.GetMemoryMap told bytes) new h t = (sym t.1 ∙ told_key exited b size told bytes.items h.0 t.0, h.1)
+key_told Chosen exited b size key told new h t = absurd h
 
 -- what an answer to ExitBootServices says of the key
 exit_answer : {A : Type 0} (Chosen : Choice) (exited : Bool) (b : Book) (key : ℕ) (answer : Reply A) (new : Book) → exited ≡ false → Answers Chosen exited b (call.ExitBootServices key) answer new → (answer ≡ reply.ExitBootServices (Ok tt)) ↔ (key ≡ b.key)
@@ -51,9 +57,12 @@ module _ (Chosen : Choice) (permits : (m : List Page) (r : Request) (p : ℕ) (c
   key_stays old [] (r ∷ replies) new run proper same = absurd run
   key_stays old (c ∷ calls) [] new run proper same = absurd run
 
-  pub key_law : {A : Type 0} (old : State) (calls : List Call) (replies : List (Reply A)) (new : State) (run : RunsBy Chosen old calls replies new) (answer : Reply A) (after : State) →
-      IsProperMemory old.book.memory → new.exited ≡ false → StepBy Chosen new (call.ExitBootServices old.book.key) answer after →
+  pub key_law : {A : Type 0} (first old : State) (size key : ℕ) (told : Reply A) (calls : List Call) (replies : List (Reply A)) (new : State) (run : RunsBy Chosen old calls replies new) (answer : Reply A) (after : State) →
+      IsProperMemory first.book.memory → StepBy Chosen first (call.GetMemoryMap size) told old → TellsKey told key → new.exited ≡ false → StepBy Chosen new (call.ExitBootServices key) answer after →
       (answer ≡ reply.ExitBootServices (Ok tt)) ↔ ChangesNoType Chosen old calls replies new run
-  key_law old calls replies new run answer after proper open_still step =
-      let (to, from) = exit_answer Chosen new.exited new.book old.book.key answer after.book open_still step.answers in
-      (λ e. unchanged old calls replies new run proper (to e), λ same. from (key_stays old calls replies new run proper same))
+  key_law first old size key told calls replies new run answer after proper map tells open_still step =
+      let (is_key, same) = key_told Chosen first.exited first.book size key told old.book map.answers tells in
+      let still : IsProperMemory old.book.memory = subst (λ (b : Book). IsProperMemory b.memory) (sym same) proper in
+      let at_first : key ≡ old.book.key = is_key ∙ sym (ap (λ (b : Book). b.key) same) in
+      let (to, from) = exit_answer Chosen new.exited new.book key answer after.book open_still step.answers in
+      (λ e. unchanged old calls replies new run still (sym at_first ∙ to e), λ h. from (at_first ∙ key_stays old calls replies new run still h))

@@ -116,5 +116,6 @@ module _ (Chosen : Choice) (permits : (m : List Page) (r : Request) (p : ℕ) (c
   pub outcome : {A : Type 0} (exited : Bool) (old : Book) (call : Call) (reply : Reply A) (new : Book) → IsProperMemory old.memory → Answers Chosen exited old call reply new → Outcome old new
   outcome exited old (call.AllocatePages kind t pages memory) (reply.AllocatePages result) new proper h = served exited old result new (AllocatesPages Chosen old kind t pages memory) (allocates old kind t pages memory result new proper) h
   outcome exited old (call.FreePages memory pages) (reply.FreePages result) new proper h = served exited old result new (FreesPages old memory pages) (frees old memory pages result new proper) h
+  outcome exited old (call.GetMemoryMap size) (reply.GetMemoryMap answer bytes) new proper h = inl h.1
   outcome exited old (call.ExitBootServices key) (reply.ExitBootServices result) new proper h = served exited old result new (Exits old key) (exits old key result new) h
   outcome exited old call reply new proper h = absurd h

@@ -2,6 +2,7 @@
 use Rattle.std.specs.Prelude.{◌≡◌, ◌↔◌, ℕ, false, List, [], ◌∷◌, Option, Ok, IfSome}
 use Rattle.std.specs.Option.{option_map}
 use Rattle.page_ranges.specs.declared.ranges.Run.{Run}
+use Rattle.page_ranges.specs.declared.statuses.Status.TheVariants.{Success}
 use Rattle.page_ranges.specs.Memory.{Page, page_at, IsProperMemory}
 use Rattle.page_ranges.specs.MemoryMap.{memory_map}
 use Rattle.page_ranges.specs.Runs.{IsValidMachine}
@@ -37,10 +38,15 @@ abbrev pub ChangesNoType : {A : Type 0} (Chosen : Choice) (old : State) (calls :
 ChangesNoType Chosen old (call ∷ calls) (reply ∷ replies) new (next, step, run) = HaveSameTypes old.book.memory next.book.memory × ChangesNoType Chosen next calls replies new run
 ChangesNoType Chosen old calls replies new run = Unit {0}
 
--- Before an exit, the key of an earlier state is accepted exactly where no call since has changed the type of a page.
+-- the reply is of a GetMemoryMap that succeeded, with this key
+abbrev pub TellsKey : {A : Type 0} → Reply A → ℕ → Type 0
+TellsKey (reply.GetMemoryMap told bytes) key = (told.status ≡ Success) × (told.key ≡ key)
+TellsKey answer key = ⊥
+
+-- Before an exit, a key that GetMemoryMap told is accepted exactly where no call since has changed the type of a page.
 abbrev pub KeyLaw : Choice → Type 0 → Type 0
-KeyLaw Chosen A = (old : State) (calls : List Call) (replies : List (Reply A)) (new : State) (run : RunsBy Chosen old calls replies new) (answer : Reply A) (after : State) →
-    IsProperMemory old.book.memory → new.exited ≡ false → StepBy Chosen new (call.ExitBootServices old.book.key) answer after →
+KeyLaw Chosen A = (first old : State) (size key : ℕ) (told : Reply A) (calls : List Call) (replies : List (Reply A)) (new : State) (run : RunsBy Chosen old calls replies new) (answer : Reply A) (after : State) →
+    IsProperMemory first.book.memory → StepBy Chosen first (call.GetMemoryMap size) told old → TellsKey told key → new.exited ≡ false → StepBy Chosen new (call.ExitBootServices key) answer after →
     (answer ≡ reply.ExitBootServices (Ok tt)) ↔ ChangesNoType Chosen old calls replies new run
 
 -- ---- certificates

@@ -8,6 +8,7 @@ use Rattle.boot_core.specs.declared.calls.Call.TheVariants as call
 use Rattle.boot_core.specs.declared.calls.Reply.{Reply}
 use Rattle.boot_core.specs.declared.calls.Reply.TheVariants as reply
 use Rattle.boot_core.specs.Machines.{State}
+use Rattle.boot_core.specs.MapCalls.{AnswersMap}
 
 -- A service of the book. After the exit it answers UNSUPPORTED and leaves the book; before it, its own rule holds.
 abbrev pub ServesBook : {R : Type 0} → Bool → Book → Result R Status → Book → (Result R Status → Book → Type 0) → Type 0
@@ -29,6 +30,7 @@ exited_after exited reply = exited
 abbrev pub Answers : {A : Type 0} → Choice → Bool → Book → Call → Reply A → Book → Type 0
 Answers Chosen exited old (call.AllocatePages kind t pages address) (reply.AllocatePages result) new = ServesBook exited old result new (AllocatesPages Chosen old kind t pages address)
 Answers Chosen exited old (call.FreePages address pages) (reply.FreePages result) new = ServesBook exited old result new (FreesPages old address pages)
+Answers Chosen exited old (call.GetMemoryMap size) (reply.GetMemoryMap told bytes) new = AnswersMap exited old size told bytes.items × (new ≡ old)
 Answers Chosen exited old (call.ExitBootServices key) (reply.ExitBootServices result) new = ServesBook exited old result new (Exits old key)
 Answers Chosen exited old call reply new = ⊥
 

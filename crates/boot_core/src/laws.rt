@@ -14,8 +14,8 @@ pub fn any_run_law<A: Allocator>()
     ensures { AnyRunLaw A }
 {}
 
-/// Before an exit, a key is accepted exactly while no call since it was the key has changed the
-/// type of a page, however permitted starts are chosen.
+/// Before an exit, a key that GetMemoryMap gave is accepted exactly while no call since has changed
+/// the type of a page, however permitted starts are chosen.
 pub fn key_law<A: Allocator>()
     ensures best { KeyLaw IsBestChoice A }
     ensures any { KeyLaw IsAnyStart A }

@@ -1,22 +1,25 @@
 //! The text of replies.
-ghost use Rattle.std.specs.Prelude.{◌≡◌, ◌++◌, ◌<◌, OnOk, string_bytes};
+ghost use Rattle.std.specs.Prelude.{◌≡◌, ◌++◌, ◌<◌, [], OnOk, flat_map, string_bytes};
+ghost use Rattle.map_keys.specs.declared.memory_maps.MapReply.{MapReply};
 ghost use Rattle.page_ranges.specs.MemoryTypes.{page_count};
 ghost use Rattle.page_ranges.specs.MemoryMap.{memory_map};
-ghost use Rattle.boot_trace.specs.PrintedText.{value_line, reply_text, status_line, list_text, descriptor_line};
+ghost use Rattle.boot_trace.specs.PrintedText.{value_line, reply_text, status_line, map_text, list_text, descriptor_line};
 ghost use Rattle.page_ranges.specs.Statuses.{name_of};
 
 use crate::verbs::Verb;
 use boot_core::{Core, Reply};
+use map_keys::MapReply;
 use page_ranges::{Descriptor, PAGE_SIZE, Status};
 use std::alloc::{AllocError, Allocator};
 
-/// Appends the line of a reply.
-pub fn print_reply<A: Allocator>(
+/// Appends the line of a reply, and of a reply with the memory map the lines of its entries.
+pub fn print_reply<A: Allocator + Copy>(
     text: &mut String<A>,
     number: u64,
+    core: &Core<A>,
     reply: &Reply<A>,
 ) -> Result<(), AllocError>
-    ensures { OnOk result (string_bytes text.new ≡ string_bytes text.old ++ reply_text number reply.now) }
+    ensures { OnOk result (string_bytes text.new ≡ string_bytes text.old ++ reply_text number (memory_map core.now.book.memory) reply.now) }
 {
     match reply {
         Reply::AllocatePages(Ok(placed)) => {
@@ -25,6 +28,7 @@ pub fn print_reply<A: Allocator>(
         Reply::AllocatePages(Err(status)) => print_status(text, number, Verb::Pages, *status),
         Reply::FreePages(Ok(())) => print_status(text, number, Verb::FreePages, Status::Success),
         Reply::FreePages(Err(status)) => print_status(text, number, Verb::FreePages, *status),
+        Reply::GetMemoryMap { reply, .. } => print_map(text, number, core, reply),
         Reply::ExitBootServices(Ok(())) => print_status(text, number, Verb::Exit, Status::Success),
         Reply::ExitBootServices(Err(status)) => print_status(text, number, Verb::Exit, *status),
     }
@@ -58,6 +62,56 @@ fn print_status<A: Allocator>(
     writeln!(text, "{number} {verb} {status}")
 }
 
+/// Appends the lines of a reply of GetMemoryMap.
+fn print_map<A: Allocator + Copy>(
+    text: &mut String<A>,
+    number: u64,
+    core: &Core<A>,
+    reply: &MapReply,
+) -> Result<(), AllocError>
+    ensures { OnOk result (string_bytes text.new ≡ string_bytes text.old ++ map_text number (memory_map core.now.book.memory) reply.now reply.now.status) }
+{
+    match reply.status {
+        Status::Success => {
+            print_map_fields(text, number, reply)?;
+            print_entries(text, core)
+        }
+        Status::BufferTooSmall => print_size_needed(text, number, reply.size),
+        status => print_status(text, number, Verb::Map, status),
+    }
+}
+
+/// Appends the line of a map that was written.
+fn print_map_fields<A: Allocator>(
+    text: &mut String<A>,
+    number: u64,
+    reply: &MapReply,
+) -> Result<(), AllocError>
+    ensures { OnOk result (string_bytes text.new ≡ string_bytes text.old ++ map_text number [] reply.now Status.Success) }
+{
+    let verb = Verb::Map.name();
+    let size = reply.size;
+    let key = reply.key;
+    let record = reply.descriptor_size;
+    let version = reply.version;
+    writeln!(
+        text,
+        "{number} {verb} SUCCESS size={size} key={key} descriptor-size={record} version={version}"
+    )
+}
+
+/// Appends the line of a buffer that is too small for the map.
+fn print_size_needed<A: Allocator>(
+    text: &mut String<A>,
+    number: u64,
+    size: u64,
+) -> Result<(), AllocError>
+    ensures { OnOk result ((told : MapReply) → told.size ≡ size → string_bytes text.new ≡ string_bytes text.old ++ map_text number [] told Status.BufferTooSmall) }
+{
+    let verb = Verb::Map.name();
+    writeln!(text, "{number} {verb} BUFFER_TOO_SMALL size={size}")
+}
+
 /// Appends the lines of a listing: the memory map's length, and its entries.
 pub fn print_list<A: Allocator + Copy>(
     text: &mut String<A>,
@@ -69,6 +123,16 @@ pub fn print_list<A: Allocator + Copy>(
     let verb = Verb::List.name();
     let descriptors = core.descriptors();
     writeln!(text, "{number} {verb} descriptors={descriptors}")?;
+    print_entries(text, core)
+}
+
+/// Appends the lines of the memory map's entries.
+fn print_entries<A: Allocator + Copy>(
+    text: &mut String<A>,
+    core: &Core<A>,
+) -> Result<(), AllocError>
+    ensures { OnOk result (string_bytes text.new ≡ string_bytes text.old ++ flat_map descriptor_line (memory_map core.now.book.memory)) }
+{
     for entry in core.map_entries() {
         print_descriptor(text, &entry)?;
     }

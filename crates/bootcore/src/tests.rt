@@ -1,6 +1,7 @@
 //! Runs of the program, as text in and text out.
 mod core_runs;
 mod faults;
+mod maps;
 mod placements;
 mod rows;
 mod streams;
