@@ -31,6 +31,10 @@ reply_start number v = decimal number ++ space ++ name_of v
 abbrev pub status_line : ℕ → Verb → List ℕ → List ℕ
 status_line number v status = reply_start number v ++ space ++ status ++ line_feed
 
+-- the line of a call that was given too small a buffer: the size needed
+abbrev pub size_line : ℕ → Verb → ℕ → List ℕ
+size_line number v size = reply_start number v ++ codes " BUFFER_TOO_SMALL size=" ++ decimal size ++ line_feed
+
 -- the line of a call that succeeded with a value
 abbrev pub value_line : ℕ → Verb → List ℕ → ℕ → List ℕ
 value_line number v name value = reply_start number v ++ codes " SUCCESS " ++ name ++ codes "=" ++ hexadecimal value ++ line_feed
@@ -39,11 +43,14 @@ value_line number v name value = reply_start number v ++ codes " SUCCESS " ++ na
 abbrev pub descriptor_line : Descriptor → List ℕ
 descriptor_line d = codes "  " ++ decimal d.mtype ++ space ++ hexadecimal (d.first * page_size) ++ space ++ decimal d.pages ++ space ++ hexadecimal d.attributes ++ line_feed
 
--- What is printed of a GetMemoryMap with this reply, of this status: on success all its fields and the lines of the entries,
--- and where the buffer is too small the size needed.
+-- the line of a memory map that was written
+abbrev pub map_line : ℕ → MapReply → List ℕ
+map_line number told = reply_start number verb.Map ++ codes " SUCCESS size=" ++ decimal told.size ++ codes " key=" ++ decimal told.key ++ codes " descriptor-size=" ++ decimal told.descriptor_size ++ codes " version=" ++ decimal told.version ++ line_feed
+
+-- What is printed of a GetMemoryMap with this reply, of this status: on success its line and those of the entries.
 abbrev pub map_text : ℕ → List Descriptor → MapReply → Status → List ℕ
-map_text number entries told Success = reply_start number verb.Map ++ codes " SUCCESS size=" ++ decimal told.size ++ codes " key=" ++ decimal told.key ++ codes " descriptor-size=" ++ decimal told.descriptor_size ++ codes " version=" ++ decimal told.version ++ line_feed ++ flat_map descriptor_line entries
-map_text number entries told BufferTooSmall = reply_start number verb.Map ++ codes " BUFFER_TOO_SMALL size=" ++ decimal told.size ++ line_feed
+map_text number entries told Success = map_line number told ++ flat_map descriptor_line entries
+map_text number entries told BufferTooSmall = size_line number verb.Map told.size
 map_text number entries told status = status_line number verb.Map (status_of status)
 
 -- what is printed of a call's reply, the memory map having these entries

@@ -1,9 +1,8 @@
 //! The text of replies.
-ghost use Rattle.std.specs.Prelude.{◌≡◌, ◌++◌, ◌<◌, [], OnOk, flat_map, string_bytes};
-ghost use Rattle.map_keys.specs.declared.memory_maps.MapReply.{MapReply};
+ghost use Rattle.std.specs.Prelude.{◌≡◌, ◌++◌, ◌<◌, OnOk, flat_map, string_bytes};
 ghost use Rattle.page_ranges.specs.MemoryTypes.{page_count};
 ghost use Rattle.page_ranges.specs.MemoryMap.{memory_map};
-ghost use Rattle.boot_trace.specs.PrintedText.{value_line, reply_text, status_line, map_text, list_text, descriptor_line};
+ghost use Rattle.boot_trace.specs.PrintedText.{value_line, reply_text, status_line, size_line, map_line, map_text, list_text, descriptor_line};
 ghost use Rattle.page_ranges.specs.Statuses.{name_of};
 
 use crate::verbs::Verb;
@@ -73,21 +72,21 @@ fn print_map<A: Allocator + Copy>(
 {
     match reply.status {
         Status::Success => {
-            print_map_fields(text, number, reply)?;
+            print_map_line(text, number, reply)?;
             print_entries(text, core)
         }
-        Status::BufferTooSmall => print_size_needed(text, number, reply.size),
+        Status::BufferTooSmall => print_size(text, number, Verb::Map, reply.size),
         status => print_status(text, number, Verb::Map, status),
     }
 }
 
 /// Appends the line of a map that was written.
-fn print_map_fields<A: Allocator>(
+fn print_map_line<A: Allocator>(
     text: &mut String<A>,
     number: u64,
     reply: &MapReply,
 ) -> Result<(), AllocError>
-    ensures { OnOk result (string_bytes text.new ≡ string_bytes text.old ++ map_text number [] reply.now Status.Success) }
+    ensures { OnOk result (string_bytes text.new ≡ string_bytes text.old ++ map_line number reply.now) }
 {
     let verb = Verb::Map.name();
     let size = reply.size;
@@ -100,15 +99,16 @@ fn print_map_fields<A: Allocator>(
     )
 }
 
-/// Appends the line of a buffer that is too small for the map.
-fn print_size_needed<A: Allocator>(
+/// Appends the line of a call that was given too small a buffer.
+fn print_size<A: Allocator>(
     text: &mut String<A>,
     number: u64,
+    verb: Verb,
     size: u64,
 ) -> Result<(), AllocError>
-    ensures { OnOk result ((told : MapReply) → told.size ≡ size → string_bytes text.new ≡ string_bytes text.old ++ map_text number [] told Status.BufferTooSmall) }
+    ensures { OnOk result (string_bytes text.new ≡ string_bytes text.old ++ size_line number verb size) }
 {
-    let verb = Verb::Map.name();
+    let verb = verb.name();
     writeln!(text, "{number} {verb} BUFFER_TOO_SMALL size={size}")
 }
 

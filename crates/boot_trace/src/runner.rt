@@ -92,7 +92,7 @@ fn make_call<A: Allocator + Copy>(
         return Err(RunFault::NoCallsLeft);
     }
     let reply = core.call(call);
-    match print_reply(text, number, &reply) {
+    match print_reply(text, number, core, &reply) {
         Ok(()) => Ok(()),
         Err(_) => Err(RunFault::OutOfMemory),
     }
