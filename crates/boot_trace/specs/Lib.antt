@@ -5,5 +5,7 @@ pub mod TraceLine
 pub mod MachineText
 pub mod PrintedText
 pub mod BlockText
+pub mod BlockLines
+pub mod Blocks
 pub mod Lines
 pub mod TraceRuns
