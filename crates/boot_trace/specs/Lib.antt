@@ -7,5 +7,6 @@ pub mod PrintedText
 pub mod BlockText
 pub mod BlockLines
 pub mod Blocks
+pub mod BlockReads
 pub mod Lines
 pub mod TraceRuns

@@ -2,6 +2,7 @@
 #![tactic(auto)]
 
 mod block_lines;
+mod block_reader;
 mod blocks;
 mod calls;
 mod faults;
