@@ -1,5 +1,5 @@
 //! The table of runs.
-ghost use Rattle.std.specs.Prelude.{◌≡◌, ◌↔◌, ◌≤◌, ◌<◌, ◌^◌, ◌-◌, [], length, IsTrue, IfOk, OnOk, OnErr, slice_get};
+ghost use Rattle.std.specs.Prelude.{◌≡◌, ◌≢◌, ◌↔◌, ◌≤◌, ◌<◌, ◌^◌, ◌-◌, [], length, IsTrue, IfOk, OnOk, OnErr, slice_get};
 ghost use Rattle.std.specs.Option.{option_map};
 ghost use Rattle.page_ranges.specs.declared.ranges.Owner.TheVariants.{Given};
 ghost use Rattle.page_ranges.specs.MemoryTypes.{conventional, page_count};
@@ -112,6 +112,7 @@ impl<A: Allocator + Copy> RunTable<A> {
     /// The runs that hold the page below a page number and the page itself.
     pub fn edge(&self, page: u64) -> (Option<Run>, Option<Run>)
         ensures below { page_below self.now page ≡ option_map (page_in (page - 1)) result.0 }
+        ensures below_maximal { page ≢ 0 → HoldsPage self.now (page - 1) result.0 }
         ensures above { page_at self.now page ≡ option_map (page_in page) result.1 }
         ensures above_maximal { HoldsPage self.now page result.1 }
     {
