@@ -8,7 +8,8 @@ use Rattle.page_services.specs.PageRules.{Book}
 use Rattle.map_keys.specs.declared.memory_maps.MapReply.{MapReply}
 use Rattle.map_keys.specs.MapReplies.{map_size, map_reply, buffer_with_map}
 use Rattle.map_keys.specs.Records.{records}
-use Rattle.boot_core.specs.MapCalls.{map_answer, map_buffer, map_bytes, room_for_map, AnswersMap}
+use Rattle.boot_core.specs.Machines.{State}
+use Rattle.boot_core.specs.MapCalls.{map_answer, map_buffer, map_bytes, room_for_map, MapStep, AnswersMap}
 
 -- a buffer as long as what is used of one of so many bytes fits where that one fits
 fits_too : (needed size : ℕ) → leb needed (cond (leb needed size) needed 0) ≡ leb needed size
@@ -36,6 +37,18 @@ used_bytes false b size buffer long = elim (cases_lt size (map_size b)) [
       ∙ append-nil (records (memory_map b.memory))
       ∙ sym (cond-true _ _ _ (le-leb (map_size b) size fits))
 ]
+
+-- What is answered through a call where the buffer is as long as what is used of one of so many bytes.
+pub answers_map : (old new : State) (size : ℕ) (buffer after : List ℕ) (told : MapReply) → length buffer ≡ room_for_map old.exited old.book size → MapStep old buffer told after new → AnswersMap old.exited old.book size told after
+answers_map old new size buffer after told long step = inl (
+  step.answer ∙ ap (map_answer old.exited old.book) long ∙ same_answer old.exited old.book size,
+  step.written ∙ used_bytes old.exited old.book size buffer long,
+)
+
+-- each reply tells the size
+pub told_size : (fits : Bool) (size key : ℕ) (told : MapReply) → told ≡ cond fits (record { status = Success; size = size; key = key; descriptor_size = 48; version = 1 }) (record { status = BufferTooSmall; size = size; key = 0; descriptor_size = 0; version = 0 }) → told.size ≡ size
+told_size true size key told e = ap (λ (r : MapReply). r.size) e
+told_size false size key told e = ap (λ (r : MapReply). r.size) e
 
 -- a successful reply tells the key
 told_if : (fits : Bool) (size key : ℕ) (told : MapReply) → told ≡ cond fits (record { status = Success; size = size; key = key; descriptor_size = 48; version = 1 }) (record { status = BufferTooSmall; size = size; key = 0; descriptor_size = 0; version = 0 }) → told.status ≡ Success → told.key ≡ key

@@ -30,8 +30,7 @@ map_bytes false b room = if nat_le (map_size b) room then records (memory_map b.
 
 -- how many bytes these are
 abbrev pub room_for_map : Bool → Book → ℕ → ℕ
-room_for_map true b room = 0
-room_for_map false b room = if nat_le (map_size b) room then map_size b else 0
+room_for_map exited b room = if exited then 0 else (if nat_le (map_size b) room then map_size b else 0)
 
 -- What GetMemoryMap does with a buffer of the caller's: its reply, the buffer after it, and the machine, which is as it was but
 -- for one call less.

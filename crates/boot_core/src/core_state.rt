@@ -1,5 +1,5 @@
 //! The core: the state of the boot services.
-ghost use Rattle.std.specs.Prelude.{◌≡◌, ◌<◌, ◌≤◌, false, length, IfOk, OnErr, slice_get};
+ghost use Rattle.std.specs.Prelude.{◌≡◌, ◌<◌, ◌≤◌, false, length, vec_len, IfOk, OnErr, slice_get};
 ghost use Rattle.page_ranges.specs.Memory.{IsProperMemory};
 ghost use Rattle.page_ranges.specs.MemoryMap.{memory_map};
 ghost use Rattle.boot_core.specs.Machines.{first_state};
@@ -114,16 +114,26 @@ impl<A: Allocator + Copy> Core<A> {
     // A buffer that is as long as the map, where the map is served and fits into so many bytes; else
     // an empty one.
     fn room_for_map(&self, size: u64) -> Result<Vec<u8, A>, AllocError>
-        ensures room { IfOk result (λ bytes. length bytes.items ≡ room_for_map self.now.exited self.now.book size) }
+        ensures room { IfOk result (λ bytes. vec_len bytes ≡ room_for_map self.now.exited self.now.book size) }
         ensures needed { OnErr result ((self.now.exited ≡ false) × (map_size self.now.book ≤ size)) }
     {
         let alloc = self.book.table().allocator();
-        let mut none = [0u8; 0];
-        let needed = get_memory_map(&self.book, &mut none).size;
-        if self.exited || size < needed {
+        if self.exited {
+            return Ok(Vec::new(alloc));
+        }
+        let needed = self.map_size();
+        if size < needed {
             return Ok(Vec::new(alloc));
         }
         vec![in alloc; 0u8; needed as usize]
+    }
+
+    // How many bytes the map takes: what is told where there is no buffer.
+    fn map_size(&self) -> u64
+        ensures { result ≡ map_size self.now.book }
+    {
+        let mut none = [0u8; 0];
+        get_memory_map(&self.book, &mut none).size
     }
 
     /// ExitBootServices: with the map key, after which all services answer UNSUPPORTED.
