@@ -5,5 +5,6 @@ pub mod TraceLine
 pub mod MachineText
 pub mod PrintedText
 pub mod BlockText
+pub mod CallText
 pub mod Lines
 pub mod TraceRuns

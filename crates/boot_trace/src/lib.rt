@@ -3,6 +3,7 @@
 
 mod blocks;
 mod calls;
+mod certified;
 mod faults;
 mod lines;
 mod machine_file;
