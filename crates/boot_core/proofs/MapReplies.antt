@@ -1,6 +1,6 @@
 -- Replies of GetMemoryMap.
-use Rattle.std.proofs.Common.{◌≡◌, ℕ, ◌<◌, ◌≤◌, Bool, true, false, cond, nat_le, leb, List, [], ◌∷◌, ◌++◌, length, drop, inl, inr, refl, sym, ap, ◌∙◌, arith, append-nil}
-use Rattle.std.proofs.lemmas.List.{drop_all, nil_from_length}
+use Rattle.std.proofs.Common.{◌≡◌, ℕ, ◌<◌, ◌≤◌, Bool, true, false, cond, nat_le, leb, List, [], ◌∷◌, ◌++◌, length, take, take_all, drop, inl, inr, refl, sym, ap, ◌∙◌, arith, append-nil}
+use Rattle.std.proofs.lemmas.List.{drop_all, nil_from_length, take-append-le}
 use Rattle.std.proofs.lemmas.Bool.{cases_lt, le-leb, lt-leb, cond-true, cond-false}
 use Rattle.page_ranges.specs.declared.statuses.Status.TheVariants.{Success, BufferTooSmall, Unsupported, OutOfResources}
 use Rattle.page_ranges.specs.MemoryMap.{memory_map}
@@ -44,6 +44,10 @@ answers_map old new size buffer after told long step = inl (
   step.answer ∙ ap (map_answer old.exited old.book) long ∙ same_answer old.exited old.book size,
   step.written ∙ used_bytes old.exited old.book size buffer long,
 )
+
+-- the bytes of a vector once its slice has been written
+pub written_back : (n : ℕ) (slice old : List ℕ) → n ≡ length slice → take n (slice ++ old) ≡ slice
+written_back n slice old e = take-append-le n slice old (omega arith) ∙ take_all n slice (omega arith)
 
 -- each reply tells the size
 pub told_size : (fits : Bool) (size key : ℕ) (told : MapReply) → told ≡ cond fits (record { status = Success; size = size; key = key; descriptor_size = 48; version = 1 }) (record { status = BufferTooSmall; size = size; key = 0; descriptor_size = 0; version = 0 }) → told.size ≡ size
