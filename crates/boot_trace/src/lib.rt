@@ -1,8 +1,11 @@
 //! Machine files and traces as bytes: what they mean, and a run of one on the other.
 #![tactic(auto)]
 
+mod block_lines;
+mod block_reader;
 mod blocks;
 mod calls;
+mod certified;
 mod faults;
 mod lines;
 mod machine_file;
