@@ -8,5 +8,6 @@ pub mod BlockText
 pub mod BlockLines
 pub mod Blocks
 pub mod BlockReads
+pub mod BlockLaws
 pub mod Lines
 pub mod TraceRuns
