@@ -5,6 +5,7 @@ pub mod TraceLine
 pub mod MachineText
 pub mod PrintedText
 pub mod BlockText
+pub mod CallText
 pub mod BlockLines
 pub mod Blocks
 pub mod BlockReads

@@ -5,6 +5,7 @@ mod block_lines;
 mod block_reader;
 mod blocks;
 mod calls;
+mod certified;
 mod faults;
 mod laws;
 mod lines;
