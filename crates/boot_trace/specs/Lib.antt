@@ -9,5 +9,7 @@ pub mod CallText
 pub mod BlockLines
 pub mod Blocks
 pub mod BlockReads
+pub mod BlockLaws
+pub mod BlockChecks
 pub mod Lines
 pub mod TraceRuns

@@ -108,7 +108,7 @@ fn make_call<A: Allocator + Copy>(
 
 /// Writes all the bytes, if there are any. Any error is a fault, and so is a write that takes no
 /// byte; some bytes from the front on have then been written.
-fn write_text<W: Write>(writer: &mut W, bytes: &[u8]) -> Result<(), RunFault>
+pub fn write_text<W: Write>(writer: &mut W, bytes: &[u8]) -> Result<(), RunFault>
     ensures ok { OnOk result (Appends (W.contents writer.old) (W.contents writer.new) bytes.now) }
     ensures err { IfErr result (λ fault. (fault ≡ RunFault.Write)
         × ((count : ℕ) × Appends (W.contents writer.old) (W.contents writer.new) (take count bytes.now))) }
