@@ -5,5 +5,8 @@ pub mod TraceLine
 pub mod MachineText
 pub mod PrintedText
 pub mod BlockText
+pub mod BlockLines
+pub mod Blocks
+pub mod BlockReads
 pub mod Lines
 pub mod TraceRuns

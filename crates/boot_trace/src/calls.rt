@@ -36,7 +36,7 @@ pub fn read_call<A: Allocator + Copy>(
 }
 
 /// The line without one carriage return at its end.
-fn without_carriage_return(line: &[u8]) -> &[u8]
+pub fn without_carriage_return(line: &[u8]) -> &[u8]
     ensures { result.now ≡ strip_last 13 line.now }
 {
     match line {

@@ -1,6 +1,8 @@
 //! Machine files and traces as bytes: what they mean, and a run of one on the other.
 #![tactic(auto)]
 
+mod block_lines;
+mod block_reader;
 mod blocks;
 mod calls;
 mod faults;

@@ -1,4 +1,4 @@
--- The rules of AllocatePages and FreePages on a memory.
+-- The rules of AllocatePages, of FreePages and of the pool's pages on a memory.
 use Rattle.std.specs.Prelude.{◌≡◌, ◌⊎◌, ℕ, ◌+◌, ◌*◌, ◌<◌, ◌≤◌, ◌/◌, ◌%◌, ◌==◌, true, false, List, Option, Some, None, Result, Ok, Err, MatchBool, if◌then◌else◌}
 use Rattle.page_ranges.specs.declared.ranges.Owner.{Owner}
 use Rattle.page_ranges.specs.declared.ranges.Owner.TheVariants.{Given, Pages, Pool}
@@ -43,6 +43,18 @@ abbrev pub IsBestChoice : Choice
 IsBestChoice m r p None = ⊥
 IsBestChoice m r p (Some c) = IsTrueCertificate m r c × (c.answer ≡ p)
 
+-- The pages were placed at a start that was chosen for a request.
+abbrev pub IsChosenPlace : {A : Type 0} → Choice → List Page → Request → Placed A → Type 0
+IsChosenPlace Chosen m r placed = (start : ℕ) × Chosen m r start placed.certificate × (placed.address ≡ start * page_size)
+
+-- What is answered where pages of an owner are placed for a request, and the book after it: they stand at a start that was
+-- chosen, with the type of the request and the owner. OUT_OF_RESOURCES, which leaves the book, is want of memory or that no
+-- start is permitted.
+abbrev pub PlacesPages : {A : Type 0} → Choice → Book → Request → Owner → Result (Placed A) Status → Book → Type 0
+PlacesPages Chosen b r o (Ok placed) new = IsChosenPlace Chosen b.memory r placed × (new ≡ changed_book (range_at placed.address r.pages) r.mtype o b)
+PlacesPages Chosen b r o (Err OutOfResources) new = new ≡ b
+PlacesPages Chosen b r o (Err status) new = ⊥
+
 -- ---- AllocatePages
 
 -- the kind of a request that names its address
@@ -66,7 +78,7 @@ IsFree m address pages = IsAligned address × AllInRange m (range_at address pag
 
 -- Where the pages were placed: at the address of the request, or at the start that was chosen.
 abbrev pub IsPlaced : {A : Type 0} → Choice → List Page → ℕ → ℕ → ℕ → ℕ → Placed A → Type 0
-IsPlaced Chosen m kind t pages memory placed = MatchBool (kind == fixed_address) (IsFree m memory pages × (placed.address ≡ memory) × (placed.certificate ≡ None)) ((start : ℕ) × Chosen m (request_of kind t pages memory) start placed.certificate × (placed.address ≡ start * page_size))
+IsPlaced Chosen m kind t pages memory placed = MatchBool (kind == fixed_address) (IsFree m memory pages × (placed.address ≡ memory) × (placed.certificate ≡ None)) (IsChosenPlace Chosen m (request_of kind t pages memory) placed)
 
 -- What AllocatePages answers, and the book after it. A refusal leaves the book. OUT_OF_RESOURCES is want of memory, and of
 -- the kinds that name no address also that no start is permitted.
@@ -97,3 +109,24 @@ FreesPages b address pages (Err InvalidParameter) new = IsInvalidRange address p
 FreesPages b address pages (Err NotFound) new = IsValidRange address pages × (¬ IsAllocated b.memory address pages) × (new ≡ b)
 FreesPages b address pages (Err OutOfResources) new = IsValidRange address pages × IsAllocated b.memory address pages × (new ≡ b)
 FreesPages b address pages (Err status) new = ⊥
+
+-- ---- the pages of the pool
+
+-- the request of the pool: any pages
+abbrev pub pool_request : ℕ → ℕ → Request
+pool_request t pages = record { mtype = t; pages = pages; limit = page_count }
+
+-- what the pool is answered that takes pages, and the book after it: they are placed with the owner Pool
+abbrev pub TakesForPool : {A : Type 0} → Choice → Book → ℕ → ℕ → Result (Placed A) Status → Book → Type 0
+TakesForPool Chosen b t pages result new = PlacesPages Chosen b (pool_request t pages) Pool result new
+
+-- the book after the pool gave a range back: its pages are conventional; of no pages no type changes, and the key stays
+abbrev pub given_back : PageRange → Book → Book
+given_back range b = if range.pages == 0 then b else changed_book range conventional Given b
+
+-- what the pool is answered that gives pages back, and the book after it: OUT_OF_RESOURCES, which leaves the book, is want
+-- of memory
+abbrev pub GivesFromPool : Book → PageRange → Result (Unit {0}) Status → Book → Type 0
+GivesFromPool b range (Ok done) new = new ≡ given_back range b
+GivesFromPool b range (Err OutOfResources) new = new ≡ b
+GivesFromPool b range (Err status) new = ⊥

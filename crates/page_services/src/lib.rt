@@ -1,6 +1,8 @@
-//! The page services: AllocatePages and FreePages on a memory.
+//! The page services: AllocatePages, FreePages and the pages of the pool on a memory.
 #![tactic(auto)]
 
 mod page_book;
+#[cfg(test)]
+mod tests;
 
 pub use page_book::{PageBook, Placed};

@@ -1,9 +1,10 @@
 //! The book of a machine's pages.
 ghost use Rattle.std.specs.Prelude.{◌≡◌, ℕ, false, ◌+◌, ◌<◌, ◌≤◌, ◌^◌, MatchResult, OnOk, OnErr, Err};
-ghost use Rattle.page_ranges.specs.declared.ranges.Owner.TheVariants.{Given};
+ghost use Rattle.page_ranges.specs.declared.ranges.Owner.TheVariants.{Given, Pool};
 ghost use Rattle.page_ranges.specs.MemoryTypes.{conventional, is_bad_type, page_count};
-ghost use Rattle.page_ranges.specs.Memory.{IsPresent, AllInRange};
-ghost use Rattle.page_services.specs.PageRules.{AllocatesPages, IsBestChoice, FreesPages, changed_book, fixed_address, request_of};
+ghost use Rattle.page_ranges.specs.Memory.{IsPresent, IsOwnedBy, AllInRange};
+ghost use Rattle.placement_certificate.specs.Placement.{IsProperRequest};
+ghost use Rattle.page_services.specs.PageRules.{AllocatesPages, IsBestChoice, PlacesPages, FreesPages, TakesForPool, GivesFromPool, changed_book, fixed_address};
 
 use descriptor_table::RunTable;
 use page_ranges::{
@@ -77,11 +78,17 @@ impl<A: Allocator + Copy> PageBook<A> {
         if pages == 0 {
             return Err(Status::InvalidParameter);
         }
-        match kind {
-            ALLOCATE_ADDRESS => self.place_at(mtype, pages, memory),
-            ALLOCATE_MAX_ADDRESS => self.place_below(mtype, pages, pages_below(memory)),
-            _ => self.place_below(mtype, pages, PAGE_COUNT),
-        }
+        let limit = match kind {
+            ALLOCATE_ADDRESS => return self.place_at(mtype, pages, memory),
+            ALLOCATE_MAX_ADDRESS => pages_below(memory),
+            _ => PAGE_COUNT,
+        };
+        let request = Request {
+            mtype,
+            pages,
+            limit,
+        };
+        self.place_best(request, Owner::Pages)
     }
 
     // Places pages at an address.
@@ -105,29 +112,22 @@ impl<A: Allocator + Copy> PageBook<A> {
         })
     }
 
-    // Places pages at the best start below a page limit.
-    fn place_below(
-        &mut self,
-        mtype: MemoryType,
-        pages: u64,
-        limit: u64,
-    ) -> Result<Placed<A>, Status>
+    // Places pages of an owner at the best start for a request.
+    fn place_best(&mut self, request: Request, owner: Owner) -> Result<Placed<A>, Status>
         requires key { self.old.key < 2 ^ 62 }
-        requires good { is_bad_type mtype ≡ false }
-        requires some { 0 < pages }
-        requires limit { limit ≤ page_count }
-        ensures { (kind memory : ℕ) → kind < fixed_address → (request_of kind mtype pages memory).limit ≡ limit → AllocatesPages IsBestChoice self.old kind mtype pages memory result self.new }
+        requires proper { IsProperRequest request }
+        requires limit { request.limit ≤ page_count }
+        ensures { PlacesPages IsBestChoice self.old request owner result self.new }
     {
-        let request = Request {
-            mtype,
-            pages,
-            limit,
-        };
         let Ok(Some(certificate)) = choose(self.table.allocator(), &self.table, &request) else {
             return Err(Status::OutOfResources);
         };
         let first = certificate.answer;
-        self.change(PageRange { first, pages }, mtype, Owner::Pages)?;
+        let range = PageRange {
+            first,
+            pages: request.pages,
+        };
+        self.change(range, request.mtype, owner)?;
         Ok(Placed {
             address: first * PAGE_SIZE,
             certificate: Some(certificate),
@@ -154,6 +154,38 @@ impl<A: Allocator + Copy> PageBook<A> {
             return Err(Status::NotFound);
         }
         self.change(range, MemoryType::conventional(), Owner::Given)
+    }
+
+    /// Pages of the type `mtype` for the pool: so many `pages` at the best place of all, with a certificate
+    /// of that.
+    ///
+    /// OUT_OF_RESOURCES: no place is permitted, or want of memory. The book is then as it was.
+    pub fn take_for_pool(&mut self, mtype: MemoryType, pages: u64) -> Result<Placed<A>, Status>
+        requires key { self.old.key < 2 ^ 62 }
+        requires good { is_bad_type mtype ≡ false }
+        requires some { 0 < pages }
+        ensures { TakesForPool IsBestChoice self.old mtype pages result self.new }
+    {
+        let request = Request {
+            mtype,
+            pages,
+            limit: PAGE_COUNT,
+        };
+        self.place_best(request, Owner::Pool)
+    }
+
+    /// Gives pages of the pool back, as those of an extent that ends: they are conventional again.
+    ///
+    /// OUT_OF_RESOURCES: want of memory for the table. The book is then as it was.
+    pub fn give_from_pool(&mut self, extent: PageRange) -> Result<(), Status>
+        requires key { self.old.key < 2 ^ 62 }
+        requires owned { AllInRange self.old.memory extent (IsOwnedBy Pool) }
+        ensures { GivesFromPool self.old extent result self.new }
+    {
+        if extent.pages == 0 {
+            return Ok(());
+        }
+        self.change(extent, MemoryType::conventional(), Owner::Given)
     }
 
     // Gives pages, of which some are of another type, a type and an owner.

@@ -1,0 +1,10 @@
+use Rattle.std.proofs.Common.{List, ℕ, map, length, inl, inr, sym, arith}
+use Rattle.std.proofs.lemmas.List.{length-map}
+use Rattle.boot_trace.proofs.BlockWords.{bound_other}
+use Rattle.boot_trace.proofs.block_lines.bound_of.Goals as goal
+
+pub returns-in_default : goal.returns-in_default
+returns-in_default c = sym (bound_other (map (λ word. word.now) c.args.words.now) (inl (rw length-map (omega arith))))
+
+pub returns-in_default-2 : goal.returns-in_default-2
+returns-in_default-2 c = sym (bound_other (map (λ word. word.now) c.args.words.now) (inr (rw length-map (omega arith))))

@@ -1,0 +1,7 @@
+//! The memory map as bytes: GetMemoryMap, and the reader of what it wrote.
+#![tactic(auto)]
+
+mod memory_maps;
+mod records;
+
+pub use memory_maps::{MapReply, get_memory_map};
