@@ -1,5 +1,5 @@
 -- Traces, line after line.
-use Rattle.std.proofs.Common.{◌≡◌, ◌⊎◌, ℕ, ◌+◌, ◌<◌, ◌≤◌, List, [], ◌∷◌, ◌++◌, length, take, Option, Some, None, Result, Ok, Err, IfSome, refl, sym, ap, subst, ◌∙◌, inl, inr, arith, cond, ◌==◌, true, false, add-zero, add-one, append_assoc, append-nil, length-append, take_all, lt-ltb}
+use Rattle.std.proofs.Common.{◌≡◌, ◌⊎◌, ℕ, ◌+◌, ◌<◌, ◌≤◌, List, [], ◌∷◌, ◌++◌, length, take, Option, Some, None, Result, Ok, Err, IfSome, refl, sym, ap, subst, ◌∙◌, inl, inr, arith, Bool, cond, ◌==◌, true, false, add-zero, add-one, append_assoc, append-nil, length-append, take_all, lt-ltb}
 use Rattle.std.proofs.lemmas.List.{take-append-le}
 use Rattle.std.specs.Io.KnownBytes.{Appends, prepend_known}
 use Rattle.std.specs.Io.Buffered.{reader_remaining, reader_inner, reader_buffer, reader_capacity}
@@ -16,31 +16,31 @@ use Rattle.boot_trace.specs.TraceRuns.{Prints, PrintsAll, StopsAt, Wrote, HasLin
 use Rattle.boot_trace.proofs.LineBytes.{lines_of-none, lines_of-some}
 use Rattle.boot_trace.proofs.Written.{appends_none, appends_more}
 
-prints_more : (A : Type 0) (number : ℕ) (lines : List (List ℕ)) (line : List ℕ) (old mid new : State) (text more : List ℕ) → PrintsAll A number lines old text mid → Prints A (number + length lines) (line_of line) mid more new → PrintsAll A number (lines ++ line ∷ []) old (text ++ more) new
-prints_more A number [] line old mid new text more (e, s) p =
-    let here : Prints A number (line_of line) old more new = subst (λ (m : State). Prints A number (line_of line) m more new) s (subst (λ (n : ℕ). Prints A n (line_of line) mid more new) (add-zero number) p) in
+prints_more : (A : Type 0) (certify : Bool) (number : ℕ) (lines : List (List ℕ)) (line : List ℕ) (old mid new : State) (text more : List ℕ) → PrintsAll A certify number lines old text mid → Prints A certify (number + length lines) (line_of line) mid more new → PrintsAll A certify number (lines ++ line ∷ []) old (text ++ more) new
+prints_more A certify number [] line old mid new text more (e, s) p =
+    let here : Prints A certify number (line_of line) old more new = subst (λ (m : State). Prints A certify number (line_of line) m more new) s (subst (λ (n : ℕ). Prints A certify n (line_of line) mid more new) (add-zero number) p) in
     (new, more, [], here, (refl, refl), ap (λ (t : List ℕ). t ++ more) e ∙ sym (append-nil more))
-prints_more A number (l ∷ lines) line old mid new text more h p =
+prints_more A certify number (l ∷ lines) line old mid new text more h p =
     let next : number + length (l ∷ lines) ≡ number + 1 + length lines = omega arith in
-    let rest = prints_more A (number + 1) lines line h.0 mid new h.2 more h.4 (subst (λ (n : ℕ). Prints A n (line_of line) mid more new) next p) in
+    let rest = prints_more A certify (number + 1) lines line h.0 mid new h.2 more h.4 (subst (λ (n : ℕ). Prints A certify n (line_of line) mid more new) next p) in
     (h.0, h.1, h.2 ++ more, h.3, rest, ap (λ (t : List ℕ). t ++ more) h.5 ∙ append_assoc h.1 h.2 more)
 
 -- So many lines have been read, and their text is written; these bytes are left.
-pub record AtLine (A : Type 0) (bytes : List ℕ) (count : ℕ) (old new : State) (before after left : Option (List ℕ)) : Type 0 where
+pub record AtLine (A : Type 0) (certify : Bool) (bytes : List ℕ) (count : ℕ) (old new : State) (before after left : Option (List ℕ)) : Type 0 where
   pub rest : List ℕ
   pub left_is : left ≡ Some rest
   pub lines : List (List ℕ)
   pub counted : length lines ≡ count
   pub split : lines_of bytes ≡ lines ++ lines_of rest
   pub text : List ℕ
-  pub prints : PrintsAll A 1 lines old text new
+  pub prints : PrintsAll A certify 1 lines old text new
   pub written : Appends before after text
 
-module _ (A : Type 0) (bytes : List ℕ) (old : State) (before : Option (List ℕ)) where
-  pub at_start : (left : Option (List ℕ)) → left ≡ Some bytes → AtLine A bytes 0 old old before before left
+module _ (A : Type 0) (certify : Bool) (bytes : List ℕ) (old : State) (before : Option (List ℕ)) where
+  pub at_start : (left : Option (List ℕ)) → left ≡ Some bytes → AtLine A certify bytes 0 old old before before left
   at_start left e = record { rest = bytes; left_is = e; lines = []; counted = refl; split = refl; text = []; prints = (refl, refl); written = appends_none before }
 
-  wrote : (count : ℕ) (new : State) (after left : Option (List ℕ)) → AtLine A bytes count old new before after left → Wrote A bytes count old new before after
+  wrote : (count : ℕ) (new : State) (after left : Option (List ℕ)) → AtLine A certify bytes count old new before after left → Wrote A certify bytes count old new before after
   wrote count new after left a =
       let taken : take count (lines_of bytes) ≡ a.lines = rw (a.split, ← a.counted) (take-append-le (length a.lines) a.lines (lines_of a.rest) (omega arith) ∙ take_all (length a.lines) a.lines (omega arith)) in
       record { text = a.text; prints = rw taken a.prints; written = a.written }
@@ -52,26 +52,26 @@ module _ (A : Type 0) (bytes : List ℕ) (old : State) (before : Option (List �
   same_line rest line left (some, inl h) = ap line_of h.0
   same_line rest line left (some, inr h) = long_line line h.0 ∙ sym (long_line (first_line rest) h.1)
 
-  here : (count : ℕ) (new : State) (after left : Option (List ℕ)) (a : AtLine A bytes count old new before after left) → 0 < length a.rest → HasLine bytes count (first_line a.rest)
+  here : (count : ℕ) (new : State) (after left : Option (List ℕ)) (a : AtLine A certify bytes count old new before after left) → 0 < length a.rest → HasLine bytes count (first_line a.rest)
   here count new after left a some = record { front = a.lines; rest = lines_of (after_line a.rest); whole = a.split ∙ ap (λ (ls : List (List ℕ)). a.lines ++ ls) (lines_of-some a.rest some); counted = a.counted }
 
   -- no line is left
-  pub at_end : (count : ℕ) (new : State) (after left : Option (List ℕ)) → count ≤ most_lines → (a : AtLine A bytes count old new before after left) → a.rest ≡ [] → Ends A bytes old new before after (Ok tt)
+  pub at_end : (count : ℕ) (new : State) (after left : Option (List ℕ)) → count ≤ most_lines → (a : AtLine A certify bytes count old new before after left) → a.rest ≡ [] → Ends A certify bytes old new before after (Ok tt)
   at_end count new after left most a e =
       let whole : lines_of bytes ≡ a.lines = a.split ∙ ap (λ (xs : List ℕ). a.lines ++ lines_of xs) e ∙ ap (λ (ls : List (List ℕ)). a.lines ++ ls) lines_of-none ∙ append-nil a.lines in
       let all : length (lines_of bytes) ≡ count = ap length whole ∙ a.counted in
       (omega (arith, most, all), rw all (wrote count new after left a))
 
   -- a read failed
-  pub read_failed : (count : ℕ) (new : State) (after left : Option (List ℕ)) → AtLine A bytes count old new before after left → Ends A bytes old new before after (Err fault.Read)
+  pub read_failed : (count : ℕ) (new : State) (after left : Option (List ℕ)) → AtLine A certify bytes count old new before after left → Ends A certify bytes old new before after (Err fault.Read)
   read_failed count new after left a = (count, wrote count new after left a)
 
   -- the next line was taken, and stops the run
-  pub stopped : (e : RunFault) (count : ℕ) (mid new : State) (after left : Option (List ℕ)) (line : List ℕ) (next : Option (List ℕ)) (a : AtLine A bytes count old mid before after left) → IsFirstLine a.rest line next → StopsAt A e (count + 1) (line_of line) mid new → Ends A bytes old new before after (Err e)
+  pub stopped : (e : RunFault) (count : ℕ) (mid new : State) (after left : Option (List ℕ)) (line : List ℕ) (next : Option (List ℕ)) (a : AtLine A certify bytes count old mid before after left) → IsFirstLine a.rest line next → StopsAt A certify e (count + 1) (line_of line) mid new → Ends A certify bytes old new before after (Err e)
   stopped (fault.Line n f) count mid new after left line next a first (p, q, r) =
-      (count, p, (first_line a.rest, here count mid after left a first.0, sym (same_line a.rest line next first) ∙ q), subst (λ (s : State). Wrote A bytes count old s before after) (sym r) (wrote count mid after left a))
+      (count, p, (first_line a.rest, here count mid after left a first.0, sym (same_line a.rest line next first) ∙ q), subst (λ (s : State). Wrote A certify bytes count old s before after) (sym r) (wrote count mid after left a))
   stopped fault.NoCallsLeft count mid new after left line next a first (p, r) =
-      (count, ap (λ (s : State). s.calls_left) r ∙ p, subst (λ (s : State). Wrote A bytes count old s before after) (sym r) (wrote count mid after left a))
+      (count, ap (λ (s : State). s.calls_left) r ∙ p, subst (λ (s : State). Wrote A certify bytes count old s before after) (sym r) (wrote count mid after left a))
   stopped fault.OutOfMemory count mid new after left line next a first (inl r) =
       (count, record { mid = mid; whole = wrote count mid after left a; next = inl r })
   stopped fault.OutOfMemory count mid new after left line next a first (inr (text, p)) = (
@@ -79,7 +79,7 @@ module _ (A : Type 0) (bytes : List ℕ) (old : State) (before : Option (List �
     record {
       mid = mid;
       whole = wrote count mid after left a;
-      next = inr (first_line a.rest, here count mid after left a first.0, (text, subst (λ (asks : Result (Option TraceCall) TraceFault). Prints A (count + 1) asks mid text new) (same_line a.rest line next first) p));
+      next = inr (first_line a.rest, here count mid after left a first.0, (text, subst (λ (asks : Result (Option TraceCall) TraceFault). Prints A certify (count + 1) asks mid text new) (same_line a.rest line next first) p));
     },
   )
   stopped fault.Read count mid new after left line next a first s = absurd s
@@ -87,7 +87,7 @@ module _ (A : Type 0) (bytes : List ℕ) (old : State) (before : Option (List �
   stopped fault.TooManyLines count mid new after left line next a first s = absurd s
 
   -- the next line's text was not written whole
-  pub write_failed : (count : ℕ) (mid new : State) (middle after left : Option (List ℕ)) (line : List ℕ) (next : Option (List ℕ)) (text : List ℕ) (taken : ℕ) (a : AtLine A bytes count old mid before middle left) → IsFirstLine a.rest line next → Prints A (count + 1) (line_of line) mid text new → Appends middle after (take taken text) → Ends A bytes old new before after (Err fault.Write)
+  pub write_failed : (count : ℕ) (mid new : State) (middle after left : Option (List ℕ)) (line : List ℕ) (next : Option (List ℕ)) (text : List ℕ) (taken : ℕ) (a : AtLine A certify bytes count old mid before middle left) → IsFirstLine a.rest line next → Prints A certify (count + 1) (line_of line) mid text new → Appends middle after (take taken text) → Ends A certify bytes old new before after (Err fault.Write)
   write_failed count mid new middle after left line next text taken a first p w = (
     count,
     record {
@@ -97,18 +97,18 @@ module _ (A : Type 0) (bytes : List ℕ) (old : State) (before : Option (List �
       line = first_line a.rest;
       here = here count mid middle left a first.0;
       text = text;
-      prints = subst (λ (asks : Result (Option TraceCall) TraceFault). Prints A (count + 1) asks mid text new) (same_line a.rest line next first) p;
+      prints = subst (λ (asks : Result (Option TraceCall) TraceFault). Prints A certify (count + 1) asks mid text new) (same_line a.rest line next first) p;
       taken = taken;
       written = w;
     },
   )
 
   -- the next line's text was written
-  pub next_line : (count : ℕ) (mid new : State) (middle after left : Option (List ℕ)) (line : List ℕ) (next : Option (List ℕ)) (text : List ℕ) (a : AtLine A bytes count old mid before middle left) → IsFirstLine a.rest line next → Prints A (count + 1) (line_of line) mid text new → Appends middle after text → AtLine A bytes (count + 1) old new before after next
+  pub next_line : (count : ℕ) (mid new : State) (middle after left : Option (List ℕ)) (line : List ℕ) (next : Option (List ℕ)) (text : List ℕ) (a : AtLine A certify bytes count old mid before middle left) → IsFirstLine a.rest line next → Prints A certify (count + 1) (line_of line) mid text new → Appends middle after text → AtLine A certify bytes (count + 1) old new before after next
   next_line count mid new middle after left line next text a (some, inl (e, l)) p w =
       let first = first_line a.rest in
       let number : count + 1 ≡ 1 + length a.lines = omega (arith, a.counted) in
-      let printed : Prints A (1 + length a.lines) (line_of first) mid text new = subst (λ (n : ℕ). Prints A n (line_of first) mid text new) number (subst (λ (bs : List ℕ). Prints A (count + 1) (line_of bs) mid text new) e p) in
+      let printed : Prints A certify (1 + length a.lines) (line_of first) mid text new = subst (λ (n : ℕ). Prints A certify n (line_of first) mid text new) number (subst (λ (bs : List ℕ). Prints A certify (count + 1) (line_of bs) mid text new) e p) in
       record {
         rest = after_line a.rest;
         left_is = l;
@@ -116,22 +116,22 @@ module _ (A : Type 0) (bytes : List ℕ) (old : State) (before : Option (List �
         counted = length-append a.lines (first ∷ []) ∙ ap (λ (n : ℕ). n + 1) a.counted;
         split = a.split ∙ ap (λ (ls : List (List ℕ)). a.lines ++ ls) (lines_of-some a.rest some) ∙ sym (append_assoc a.lines (first ∷ []) (lines_of (after_line a.rest)));
         text = a.text ++ text;
-        prints = prints_more A 1 a.lines first old mid new a.text text a.prints printed;
+        prints = prints_more A certify 1 a.lines first old mid new a.text text a.prints printed;
         written = appends_more before middle after a.text text a.written w;
       }
   next_line count mid new middle after left line next text a (some, inr (long, more)) p w =
-      absurd (subst (λ (asks : Result (Option TraceCall) TraceFault). Prints A (count + 1) asks mid text new) (long_line line long) p)
+      absurd (subst (λ (asks : Result (Option TraceCall) TraceFault). Prints A certify (count + 1) asks mid text new) (long_line line long) p)
 
   -- there is a line after the last that may be
-  pub too_many : (count : ℕ) → count ≡ most_lines → (new : State) (after left : Option (List ℕ)) (b : ℕ) (more : List ℕ) (a : AtLine A bytes count old new before after left) → a.rest ≡ b ∷ more → Ends A bytes old new before after (Err fault.TooManyLines)
+  pub too_many : (count : ℕ) → count ≡ most_lines → (new : State) (after left : Option (List ℕ)) (b : ℕ) (more : List ℕ) (a : AtLine A certify bytes count old new before after left) → a.rest ≡ b ∷ more → Ends A certify bytes old new before after (Err fault.TooManyLines)
   too_many count m new after left b more a e =
       let some : 0 < length a.rest = rw e (omega arith) in
       let whole : length (lines_of bytes) ≡ length a.lines + length (lines_of a.rest) = ap length a.split ∙ length-append a.lines (lines_of a.rest) in
       let rest : length (lines_of a.rest) ≡ length (lines_of (after_line a.rest)) + 1 = ap length (lines_of-some a.rest some) ∙ sym (add-one (length (lines_of (after_line a.rest)))) in
-      (omega (arith, whole, rest, a.counted, m), subst (λ (n : ℕ). Wrote A bytes n old new before after) m (wrote count new after left a))
+      (omega (arith, whole, rest, a.counted, m), subst (λ (n : ℕ). Wrote A certify bytes n old new before after) m (wrote count new after left a))
 
   -- there was no memory for the next line
-  pub memory_failed : (count : ℕ) (new : State) (after left : Option (List ℕ)) → AtLine A bytes count old new before after left → Ends A bytes old new before after (Err fault.OutOfMemory)
+  pub memory_failed : (count : ℕ) (new : State) (after left : Option (List ℕ)) → AtLine A certify bytes count old new before after left → Ends A certify bytes old new before after (Err fault.OutOfMemory)
   memory_failed count new after left a = (count, record { mid = new; whole = wrote count new after left a; next = inl refl })
 
 pub line_taken : (rest line : List ℕ) (left next : Option (List ℕ)) → left ≡ Some rest → TakesLine left true line next → IsFirstLine rest line next
@@ -148,49 +148,49 @@ one_byte rest left next b e t = let h = rw e at t in (h.0, h.1)
 
 -- ---- where the trace's bytes are known
 
-module _ (A : Type 0) (o : Option (List ℕ)) (old : State) (before : Option (List ℕ)) where
+module _ (A : Type 0) (certify : Bool) (o : Option (List ℕ)) (old : State) (before : Option (List ℕ)) where
   -- so many lines have been read, if the bytes are known
   abbrev pub AtLineIf : ℕ → State → Option (List ℕ) → Option (List ℕ) → Type 0
-  AtLineIf count new after left = IfSome o (λ bytes. AtLine A bytes count old new before after left)
+  AtLineIf count new after left = IfSome o (λ bytes. AtLine A certify bytes count old new before after left)
 
   abbrev pub EndsIf : State → Option (List ℕ) → Result (Unit {0}) RunFault → Type 0
-  EndsIf new after result = IfSome o (λ bytes. Ends A bytes old new before after result)
+  EndsIf new after result = IfSome o (λ bytes. Ends A certify bytes old new before after result)
 
-pub start_if : (A : Type 0) (o : Option (List ℕ)) (old : State) (before left : Option (List ℕ)) → left ≡ o → AtLineIf A o old before 0 old before left
-start_if A None old before left e = tt
-start_if A (Some bytes) old before left e = at_start A bytes old before left e
+pub start_if : (A : Type 0) (certify : Bool) (o : Option (List ℕ)) (old : State) (before left : Option (List ℕ)) → left ≡ o → AtLineIf A certify o old before 0 old before left
+start_if A certify None old before left e = tt
+start_if A certify (Some bytes) old before left e = at_start A certify bytes old before left e
 
-module _ (A : Type 0) (old : State) (before : Option (List ℕ)) (count : ℕ) (mid : State) (middle left : Option (List ℕ)) where
-  pub ended_if : (o : Option (List ℕ)) (line : List ℕ) (next : Option (List ℕ)) → AtLineIf A o old before count mid middle left → count ≤ most_lines → TakesLine left false line next → EndsIf A o old before mid middle (Ok tt)
+module _ (A : Type 0) (certify : Bool) (old : State) (before : Option (List ℕ)) (count : ℕ) (mid : State) (middle left : Option (List ℕ)) where
+  pub ended_if : (o : Option (List ℕ)) (line : List ℕ) (next : Option (List ℕ)) → AtLineIf A certify o old before count mid middle left → count ≤ most_lines → TakesLine left false line next → EndsIf A certify o old before mid middle (Ok tt)
   ended_if None line next a most t = tt
-  ended_if (Some bytes) line next a most t = at_end A bytes old before count mid middle left most a (none_taken a.rest line left next a.left_is t)
+  ended_if (Some bytes) line next a most t = at_end A certify bytes old before count mid middle left most a (none_taken a.rest line left next a.left_is t)
 
-  pub failed_if : (o : Option (List ℕ)) (e : RunFault) → AtLineIf A o old before count mid middle left → (e ≡ fault.Read) ⊎ (e ≡ fault.OutOfMemory) → EndsIf A o old before mid middle (Err e)
+  pub failed_if : (o : Option (List ℕ)) (e : RunFault) → AtLineIf A certify o old before count mid middle left → (e ≡ fault.Read) ⊎ (e ≡ fault.OutOfMemory) → EndsIf A certify o old before mid middle (Err e)
   failed_if None e a h = tt
-  failed_if (Some bytes) e a (inl h) = rw h (read_failed A bytes old before count mid middle left a)
-  failed_if (Some bytes) e a (inr h) = rw h (memory_failed A bytes old before count mid middle left a)
+  failed_if (Some bytes) e a (inl h) = rw h (read_failed A certify bytes old before count mid middle left a)
+  failed_if (Some bytes) e a (inr h) = rw h (memory_failed A certify bytes old before count mid middle left a)
 
-  pub stopped_if : (o : Option (List ℕ)) (e : RunFault) (new : State) (line : List ℕ) (next : Option (List ℕ)) → AtLineIf A o old before count mid middle left → TakesLine left true line next → StopsAt A e (count + 1) (line_of line) mid new → EndsIf A o old before new middle (Err e)
+  pub stopped_if : (o : Option (List ℕ)) (e : RunFault) (new : State) (line : List ℕ) (next : Option (List ℕ)) → AtLineIf A certify o old before count mid middle left → TakesLine left true line next → StopsAt A certify e (count + 1) (line_of line) mid new → EndsIf A certify o old before new middle (Err e)
   stopped_if None e new line next a t s = tt
-  stopped_if (Some bytes) e new line next a t s = stopped A bytes old before e count mid new middle left line next a (line_taken a.rest line left next a.left_is t) s
+  stopped_if (Some bytes) e new line next a t s = stopped A certify bytes old before e count mid new middle left line next a (line_taken a.rest line left next a.left_is t) s
 
-  pub write_failed_if : (o : Option (List ℕ)) (e : RunFault) (new : State) (after : Option (List ℕ)) (line : List ℕ) (next : Option (List ℕ)) (text : List ℕ) → AtLineIf A o old before count mid middle left → TakesLine left true line next → Prints A (count + 1) (line_of line) mid text new → (e ≡ fault.Write) × ((taken : ℕ) × Appends middle after (take taken text)) → EndsIf A o old before new after (Err e)
+  pub write_failed_if : (o : Option (List ℕ)) (e : RunFault) (new : State) (after : Option (List ℕ)) (line : List ℕ) (next : Option (List ℕ)) (text : List ℕ) → AtLineIf A certify o old before count mid middle left → TakesLine left true line next → Prints A certify (count + 1) (line_of line) mid text new → (e ≡ fault.Write) × ((taken : ℕ) × Appends middle after (take taken text)) → EndsIf A certify o old before new after (Err e)
   write_failed_if None e new after line next text a t p w = tt
-  write_failed_if (Some bytes) e new after line next text a t p (h, (taken, w)) = rw h (write_failed A bytes old before count mid new middle after left line next text taken a (line_taken a.rest line left next a.left_is t) p w)
+  write_failed_if (Some bytes) e new after line next text a t p (h, (taken, w)) = rw h (write_failed A certify bytes old before count mid new middle after left line next text taken a (line_taken a.rest line left next a.left_is t) p w)
 
-  pub next_if : (o : Option (List ℕ)) (new : State) (after : Option (List ℕ)) (line : List ℕ) (next : Option (List ℕ)) (text : List ℕ) → AtLineIf A o old before count mid middle left → TakesLine left true line next → Prints A (count + 1) (line_of line) mid text new → Appends middle after text → AtLineIf A o old before (count + 1) new after next
+  pub next_if : (o : Option (List ℕ)) (new : State) (after : Option (List ℕ)) (line : List ℕ) (next : Option (List ℕ)) (text : List ℕ) → AtLineIf A certify o old before count mid middle left → TakesLine left true line next → Prints A certify (count + 1) (line_of line) mid text new → Appends middle after text → AtLineIf A certify o old before (count + 1) new after next
   next_if None new after line next text a t p w = tt
-  next_if (Some bytes) new after line next text a t p w = next_line A bytes old before count mid new middle after left line next text a (line_taken a.rest line left next a.left_is t) p w
+  next_if (Some bytes) new after line next text a t p w = next_line A certify bytes old before count mid new middle after left line next text a (line_taken a.rest line left next a.left_is t) p w
 
-  pub no_more_if : (o : Option (List ℕ)) (next : Option (List ℕ)) → AtLineIf A o old before count mid middle left → count ≤ most_lines → TakesByte left None next → EndsIf A o old before mid middle (Ok tt)
+  pub no_more_if : (o : Option (List ℕ)) (next : Option (List ℕ)) → AtLineIf A certify o old before count mid middle left → count ≤ most_lines → TakesByte left None next → EndsIf A certify o old before mid middle (Ok tt)
   no_more_if None next a most t = tt
-  no_more_if (Some bytes) next a most t = at_end A bytes old before count mid middle left most a (no_byte a.rest left next a.left_is t)
+  no_more_if (Some bytes) next a most t = at_end A certify bytes old before count mid middle left most a (no_byte a.rest left next a.left_is t)
 
-  pub too_many_if : (o : Option (List ℕ)) (next : Option (List ℕ)) (b : ℕ) → AtLineIf A o old before count mid middle left → count ≡ most_lines → TakesByte left (Some b) next → EndsIf A o old before mid middle (Err fault.TooManyLines)
+  pub too_many_if : (o : Option (List ℕ)) (next : Option (List ℕ)) (b : ℕ) → AtLineIf A certify o old before count mid middle left → count ≡ most_lines → TakesByte left (Some b) next → EndsIf A certify o old before mid middle (Err fault.TooManyLines)
   too_many_if None next b a e t = tt
   too_many_if (Some bytes) next b a e t =
       let (more, h) = one_byte a.rest left next b a.left_is t in
-      too_many A bytes old before count e mid middle left b more a h
+      too_many A certify bytes old before count e mid middle left b more a h
 
 -- ---- a reader with an empty buffer
 

@@ -5,8 +5,11 @@ pub mod TraceLine
 pub mod MachineText
 pub mod PrintedText
 pub mod BlockText
+pub mod CallText
 pub mod BlockLines
 pub mod Blocks
 pub mod BlockReads
+pub mod BlockLaws
+pub mod BlockChecks
 pub mod Lines
 pub mod TraceRuns

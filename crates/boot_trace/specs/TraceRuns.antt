@@ -1,5 +1,5 @@
 -- What a trace prints, and how it leaves the machine.
-use Rattle.std.specs.Prelude.{◌≡◌, ◌⊎◌, ℕ, ◌+◌, ◌<◌, ◌≤◌, List, [], ◌∷◌, ◌++◌, length, take, Option, Some, None, Result, Ok, Err}
+use Rattle.std.specs.Prelude.{◌≡◌, ◌⊎◌, ℕ, ◌+◌, ◌<◌, ◌≤◌, Bool, List, [], ◌∷◌, ◌++◌, length, take, Option, Some, None, Result, Ok, Err}
 use Rattle.std.specs.Io.KnownBytes.{Appends}
 use Rattle.page_ranges.specs.MemoryMap.{memory_map}
 use Rattle.boot_core.specs.declared.calls.Reply.{Reply}
@@ -11,34 +11,35 @@ use Rattle.boot_trace.specs.declared.faults.RunFault.{RunFault}
 use Rattle.boot_trace.specs.declared.faults.RunFault.TheVariants as fault
 use Rattle.boot_trace.specs.declared.faults.TraceFault.{TraceFault}
 use Rattle.boot_trace.specs.Lines.{lines_of}
-use Rattle.boot_trace.specs.PrintedText.{reply_text, list_text}
+use Rattle.boot_trace.specs.CallText.{printed}
+use Rattle.boot_trace.specs.PrintedText.{list_text}
 use Rattle.boot_trace.specs.TraceLine.{line_of}
 
 -- What a line asks for prints this text, and takes the machine from one state to another: a call, by a step of the
 -- machine with the reply that is printed; a listing and a skipped line leave it as it is.
-abbrev pub Prints : Type 0 → ℕ → Result (Option TraceCall) TraceFault → State → List ℕ → State → Type 0
-Prints A number (Ok None) old text new = (text ≡ []) × (new ≡ old)
-Prints A number (Ok (Some trace_call.List)) old text new = (text ≡ list_text number (memory_map old.book.memory)) × (new ≡ old)
-Prints A number (Ok (Some (trace_call.Service call))) old text new = (reply : Reply A) × Step old call reply new × (text ≡ reply_text number reply)
-Prints A number (Err e) old text new = ⊥
+abbrev pub Prints : Type 0 → Bool → ℕ → Result (Option TraceCall) TraceFault → State → List ℕ → State → Type 0
+Prints A certify number (Ok None) old text new = (text ≡ []) × (new ≡ old)
+Prints A certify number (Ok (Some trace_call.List)) old text new = (text ≡ list_text number (memory_map old.book.memory)) × (new ≡ old)
+Prints A certify number (Ok (Some (trace_call.Service call))) old text new = (reply : Reply A) × Step old call reply new × (text ≡ printed certify number old.book.memory call reply)
+Prints A certify number (Err e) old text new = ⊥
 
 -- Why a line that is read so stops a run, and how it leaves the machine: as it was, or for want of memory after the
 -- call was made.
-abbrev pub StopsAt : Type 0 → RunFault → ℕ → Result (Option TraceCall) TraceFault → State → State → Type 0
-StopsAt A (fault.Line n e) number asks old new = (n ≡ number) × (asks ≡ Err e) × (new ≡ old)
-StopsAt A fault.NoCallsLeft number asks old new = (old.calls_left ≡ 0) × (new ≡ old)
-StopsAt A fault.OutOfMemory number asks old new = (new ≡ old) ⊎ ((text : List ℕ) × Prints A number asks old text new)
-StopsAt A e number asks old new = ⊥
+abbrev pub StopsAt : Type 0 → Bool → RunFault → ℕ → Result (Option TraceCall) TraceFault → State → State → Type 0
+StopsAt A certify (fault.Line n e) number asks old new = (n ≡ number) × (asks ≡ Err e) × (new ≡ old)
+StopsAt A certify fault.NoCallsLeft number asks old new = (old.calls_left ≡ 0) × (new ≡ old)
+StopsAt A certify fault.OutOfMemory number asks old new = (new ≡ old) ⊎ ((text : List ℕ) × Prints A certify number asks old text new)
+StopsAt A certify e number asks old new = ⊥
 
 -- The lines, the first of which has this number, print this text, one after another.
-abbrev pub PrintsAll : Type 0 → ℕ → List (List ℕ) → State → List ℕ → State → Type 0
-PrintsAll A number [] old text new = (text ≡ []) × (new ≡ old)
-PrintsAll A number (line ∷ lines) old text new = (mid : State) × (first : List ℕ) × (rest : List ℕ) × Prints A number (line_of line) old first mid × PrintsAll A (number + 1) lines mid rest new × (text ≡ first ++ rest)
+abbrev pub PrintsAll : Type 0 → Bool → ℕ → List (List ℕ) → State → List ℕ → State → Type 0
+PrintsAll A certify number [] old text new = (text ≡ []) × (new ≡ old)
+PrintsAll A certify number (line ∷ lines) old text new = (mid : State) × (first : List ℕ) × (rest : List ℕ) × Prints A certify number (line_of line) old first mid × PrintsAll A certify (number + 1) lines mid rest new × (text ≡ first ++ rest)
 
 -- The text of the first so many lines of the bytes was written, and nothing else.
-pub record Wrote (A : Type 0) (bytes : List ℕ) (count : ℕ) (old new : State) (before after : Option (List ℕ)) : Type 0 where
+pub record Wrote (A : Type 0) (certify : Bool) (bytes : List ℕ) (count : ℕ) (old new : State) (before after : Option (List ℕ)) : Type 0 where
   pub text : List ℕ
-  pub prints : PrintsAll A 1 (take count (lines_of bytes)) old text new
+  pub prints : PrintsAll A certify 1 (take count (lines_of bytes)) old text new
   pub written : Appends before after text
 
 -- the most lines of a trace
@@ -53,30 +54,30 @@ pub record HasLine (bytes : List ℕ) (count : ℕ) (line : List ℕ) : Type 0 w
   pub counted : length front ≡ count
 
 -- The text of the first so many lines was written whole, and of the text of the next a front.
-pub record WroteFront (A : Type 0) (bytes : List ℕ) (count : ℕ) (old new : State) (before after : Option (List ℕ)) : Type 0 where
+pub record WroteFront (A : Type 0) (certify : Bool) (bytes : List ℕ) (count : ℕ) (old new : State) (before after : Option (List ℕ)) : Type 0 where
   pub mid : State
   pub middle : Option (List ℕ)
-  pub whole : Wrote A bytes count old mid before middle
+  pub whole : Wrote A certify bytes count old mid before middle
   pub line : List ℕ
   pub here : HasLine bytes count line
   pub text : List ℕ
-  pub prints : Prints A (count + 1) (line_of line) mid text new
+  pub prints : Prints A certify (count + 1) (line_of line) mid text new
   pub taken : ℕ
   pub written : Appends middle after (take taken text)
 
 -- The text of the first so many lines was written; the next line's call may have been made, and nothing of it is written.
-pub record WroteBefore (A : Type 0) (bytes : List ℕ) (count : ℕ) (old new : State) (before after : Option (List ℕ)) : Type 0 where
+pub record WroteBefore (A : Type 0) (certify : Bool) (bytes : List ℕ) (count : ℕ) (old new : State) (before after : Option (List ℕ)) : Type 0 where
   pub mid : State
-  pub whole : Wrote A bytes count old mid before after
-  pub next : (new ≡ mid) ⊎ ((line : List ℕ) × HasLine bytes count line × ((text : List ℕ) × Prints A (count + 1) (line_of line) mid text new))
+  pub whole : Wrote A certify bytes count old mid before after
+  pub next : (new ≡ mid) ⊎ ((line : List ℕ) × HasLine bytes count line × ((text : List ℕ) × Prints A certify (count + 1) (line_of line) mid text new))
 
 -- How a run on a trace of known bytes ends. What is written is the text of all its lines, or of those before the one
 -- that stopped the run, and the machine is in the state after their calls.
-abbrev pub Ends : Type 0 → List ℕ → State → State → Option (List ℕ) → Option (List ℕ) → Result (Unit {0}) RunFault → Type 0
-Ends A bytes old new before after (Ok done) = (length (lines_of bytes) ≤ most_lines) × Wrote A bytes (length (lines_of bytes)) old new before after
-Ends A bytes old new before after (Err (fault.Line number e)) = (count : ℕ) × (number ≡ count + 1) × ((line : List ℕ) × HasLine bytes count line × (line_of line ≡ Err e)) × Wrote A bytes count old new before after
-Ends A bytes old new before after (Err fault.TooManyLines) = (most_lines < length (lines_of bytes)) × Wrote A bytes most_lines old new before after
-Ends A bytes old new before after (Err fault.NoCallsLeft) = (count : ℕ) × (new.calls_left ≡ 0) × Wrote A bytes count old new before after
-Ends A bytes old new before after (Err fault.Read) = (count : ℕ) × Wrote A bytes count old new before after
-Ends A bytes old new before after (Err fault.Write) = (count : ℕ) × WroteFront A bytes count old new before after
-Ends A bytes old new before after (Err fault.OutOfMemory) = (count : ℕ) × WroteBefore A bytes count old new before after
+abbrev pub Ends : Type 0 → Bool → List ℕ → State → State → Option (List ℕ) → Option (List ℕ) → Result (Unit {0}) RunFault → Type 0
+Ends A certify bytes old new before after (Ok done) = (length (lines_of bytes) ≤ most_lines) × Wrote A certify bytes (length (lines_of bytes)) old new before after
+Ends A certify bytes old new before after (Err (fault.Line number e)) = (count : ℕ) × (number ≡ count + 1) × ((line : List ℕ) × HasLine bytes count line × (line_of line ≡ Err e)) × Wrote A certify bytes count old new before after
+Ends A certify bytes old new before after (Err fault.TooManyLines) = (most_lines < length (lines_of bytes)) × Wrote A certify bytes most_lines old new before after
+Ends A certify bytes old new before after (Err fault.NoCallsLeft) = (count : ℕ) × (new.calls_left ≡ 0) × Wrote A certify bytes count old new before after
+Ends A certify bytes old new before after (Err fault.Read) = (count : ℕ) × Wrote A certify bytes count old new before after
+Ends A certify bytes old new before after (Err fault.Write) = (count : ℕ) × WroteFront A certify bytes count old new before after
+Ends A certify bytes old new before after (Err fault.OutOfMemory) = (count : ℕ) × WroteBefore A certify bytes count old new before after

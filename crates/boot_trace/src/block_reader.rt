@@ -1,11 +1,12 @@
 //! Certificate blocks, read line by line.
-ghost use Rattle.std.specs.Prelude.{◌≡◌, IfOk, IfErr, map};
+ghost use Rattle.std.specs.Prelude.{◌≡◌, IfOk, IfErr, IfSome, MatchResult, Ok, map};
 ghost use Rattle.std.specs.Io.BufRead.{strip_last};
 ghost use Rattle.std.specs.Io.Buffered.{reader_remaining};
+ghost use Rattle.boot_trace.specs.Lines.{lines_of};
 ghost use Rattle.boot_trace.specs.Words.{words_of};
 ghost use Rattle.boot_trace.specs.BlockLines.{name_alone, number_after, entry_of, request_of, bound_of};
-ghost use Rattle.boot_trace.specs.Blocks.{next_line, line, times, no_line, block};
-ghost use Rattle.boot_trace.specs.BlockReads.{lines_left, Reads};
+ghost use Rattle.boot_trace.specs.Blocks.{next_line, line, times, no_line, block, block_of};
+ghost use Rattle.boot_trace.specs.BlockReads.{lines_left, IsReadFault, Reads};
 
 use crate::block_lines::{bound_of, entry_of, name_alone, number_after, request_of};
 use crate::calls::{LONGEST_LINE, without_carriage_return};
@@ -166,4 +167,25 @@ impl<R: Read + Drop, A: Allocator + Copy> BlockReader<R, A> {
             certificate: Certificate { bounds, answer },
         })
     }
+}
+
+/// Reads one block, and that nothing follows it.
+pub fn read_block<A: Allocator + Copy, R: Read + Drop>(
+    alloc: A,
+    reader: R,
+) -> Result<Block<A>, BlockFault>
+    ensures { IfSome (R.remaining reader) (λ bytes. MatchResult result
+        (λ b. block_of bytes ≡ Ok (b.map.items, b.request, b.certificate))
+        (IsReadFault (block (record { number = 1; lines = lines_of bytes })))) }
+{
+    let Ok(reader) = BufReader::new(alloc, reader) else {
+        return Err(BlockFault::OutOfMemory);
+    };
+    let mut lines = BlockReader {
+        reader,
+        line: Vec::new(alloc),
+        number: 1,
+        alloc,
+    };
+    lines.block()
 }

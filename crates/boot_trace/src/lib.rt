@@ -5,7 +5,9 @@ mod block_lines;
 mod block_reader;
 mod blocks;
 mod calls;
+mod certified;
 mod faults;
+mod laws;
 mod lines;
 mod machine_file;
 mod members;
@@ -17,6 +19,7 @@ mod words;
 
 pub use blocks::print_block;
 pub use calls::{TraceCall, read_call};
-pub use faults::{MachineFault, MemberField, RunFault, TraceFault};
+pub use faults::{BlockFault, MachineFault, MemberField, RunFault, TraceFault};
+pub use laws::block_read_back_law;
 pub use machine_file::{MachineFile, read_machine};
 pub use runner::run;

@@ -5,9 +5,10 @@ ghost use Rattle.boot_trace.specs.TraceLine.{line_of};
 ghost use Rattle.boot_trace.specs.TraceRuns.{Prints, StopsAt, Ends};
 
 use crate::calls::{TraceCall, read_call};
+use crate::certified::{block_start, print_call};
 use crate::faults::{RunFault, TraceFault};
 use crate::lines::{next_byte, next_line};
-use crate::replies::{print_list, print_reply};
+use crate::replies::print_list;
 use boot_core::{Call, Core};
 use std::alloc::Allocator;
 use std::io::{BufReader, Read, Write};
@@ -15,15 +16,16 @@ use std::io::{BufReader, Read, Write};
 /// The most lines of a trace.
 pub const MOST_LINES: u64 = 1_000_000;
 
-/// Makes the calls of a trace, and writes the reply to each before the next line is read.
+/// Makes the calls of a trace, and writes the reply to each before the next line is read; with
+/// `certify`, the block of a reply's certificate after it.
 pub fn run<A: Allocator + Copy, R: Read + Drop, W: Write>(
     alloc: A,
     core: &mut Core<A>,
     reader: R,
     writer: &mut W,
-    _certify: bool,
+    certify: bool,
 ) -> Result<(), RunFault>
-    ensures { IfSome (R.remaining reader) (λ bytes. Ends A bytes core.old core.new (W.contents writer.old) (W.contents writer.new) result) }
+    ensures { IfSome (R.remaining reader) (λ bytes. Ends A certify bytes core.old core.new (W.contents writer.old) (W.contents writer.new) result) }
 {
     let Ok(mut reader) = BufReader::new(alloc, reader) else {
         return Err(RunFault::OutOfMemory);
@@ -37,7 +39,7 @@ pub fn run<A: Allocator + Copy, R: Read + Drop, W: Write>(
             Err(fault) => return Err(fault),
         }
         text.clear();
-        match run_line(alloc, core, done + 1, line.as_slice(), &mut text) {
+        match run_line(alloc, core, done + 1, line.as_slice(), certify, &mut text) {
             Ok(()) => {}
             Err(fault) => return Err(fault),
         }
@@ -59,11 +61,12 @@ fn run_line<A: Allocator + Copy>(
     core: &mut Core<A>,
     number: u64,
     line: &[u8],
+    certify: bool,
     text: &mut String<A>,
 ) -> Result<(), RunFault>
     requires { string_bytes text.old ≡ [] }
-    ensures ok { OnOk result (Prints A number (line_of line.now) core.old (string_bytes text.new) core.new) }
-    ensures err { IfErr result (λ fault. StopsAt A fault number (line_of line.now) core.old core.new) }
+    ensures ok { OnOk result (Prints A certify number (line_of line.now) core.old (string_bytes text.new) core.new) }
+    ensures err { IfErr result (λ fault. StopsAt A certify fault number (line_of line.now) core.old core.new) }
 {
     match read_call(alloc, line) {
         Ok(None) => Ok(()),
@@ -71,28 +74,33 @@ fn run_line<A: Allocator + Copy>(
             Ok(()) => Ok(()),
             Err(_) => Err(RunFault::OutOfMemory),
         },
-        Ok(Some(TraceCall::Service(call))) => make_call(core, number, &call, text),
+        Ok(Some(TraceCall::Service(call))) => make_call(alloc, core, number, &call, certify, text),
         Err(TraceFault::OutOfMemory) => Err(RunFault::OutOfMemory),
         Err(fault) => Err(RunFault::Line { number, fault }),
     }
 }
 
-/// Makes a call, and appends its reply.
+/// Makes a call, and appends what is printed of it.
 fn make_call<A: Allocator + Copy>(
+    alloc: A,
     core: &mut Core<A>,
     number: u64,
     call: &Call,
+    certify: bool,
     text: &mut String<A>,
 ) -> Result<(), RunFault>
     requires { string_bytes text.old ≡ [] }
-    ensures ok { OnOk result (Prints A number (Ok (Some (TraceCall.Service call.now))) core.old (string_bytes text.new) core.new) }
-    ensures err { IfErr result (λ fault. StopsAt A fault number (Ok (Some (TraceCall.Service call.now))) core.old core.new) }
+    ensures ok { OnOk result (Prints A certify number (Ok (Some (TraceCall.Service call.now))) core.old (string_bytes text.new) core.new) }
+    ensures err { IfErr result (λ fault. StopsAt A certify fault number (Ok (Some (TraceCall.Service call.now))) core.old core.new) }
 {
     if core.calls_left() == 0 {
         return Err(RunFault::NoCallsLeft);
     }
+    let Ok(start) = block_start(alloc, core, call, certify) else {
+        return Err(RunFault::OutOfMemory);
+    };
     let reply = core.call(call);
-    match print_reply(text, number, &reply) {
+    match print_call(text, number, &start, &reply) {
         Ok(()) => Ok(()),
         Err(_) => Err(RunFault::OutOfMemory),
     }
@@ -100,7 +108,7 @@ fn make_call<A: Allocator + Copy>(
 
 /// Writes all the bytes, if there are any. Any error is a fault, and so is a write that takes no
 /// byte; some bytes from the front on have then been written.
-fn write_text<W: Write>(writer: &mut W, bytes: &[u8]) -> Result<(), RunFault>
+pub fn write_text<W: Write>(writer: &mut W, bytes: &[u8]) -> Result<(), RunFault>
     ensures ok { OnOk result (Appends (W.contents writer.old) (W.contents writer.new) bytes.now) }
     ensures err { IfErr result (λ fault. (fault ≡ RunFault.Write)
         × ((count : ℕ) × Appends (W.contents writer.old) (W.contents writer.new) (take count bytes.now))) }

@@ -10,9 +10,9 @@ use Rattle.placement_certificate.specs.declared.certificates.Request.{Request}
 use Rattle.placement_certificate.specs.declared.certificates.Bound.{Bound}
 use Rattle.placement_certificate.specs.Placement.{IsProperRequest, IsPermittedStart, price, IsBestStart}
 use Rattle.placement_certificate.specs.Certificates.{CertificateValue, IsTrueLeast, IsTrueBound, conventional_entries, IsTrueCertificate}
-use Rattle.placement_certificate.specs.Search.{better}
+use Rattle.placement_certificate.specs.Search.{better, IsBestOf}
 use Rattle.placement_certificate.proofs.BestBounds.{best_bound, no_bound}
-use Rattle.placement_certificate.proofs.Tries.{IsBestOf, first_pages, none_tried, start_passed, start_tried, bound_more}
+use Rattle.placement_certificate.proofs.Tries.{first_pages, none_tried, start_passed, start_tried, bound_more}
 
 -- ---- a permitted start
 
@@ -79,11 +79,11 @@ bounds_true m r (e ∷ es) = (record { first = refl; pages = refl; least = least
 
 -- ---- the certificate
 
-abbrev best_of : Option (ℕ × ℕ) → List Bound → Option (ℕ × ℕ)
+abbrev pub best_of : Option (ℕ × ℕ) → List Bound → Option (ℕ × ℕ)
 best_of x [] = x
 best_of x (b ∷ bs) = best_of (better x b.least) bs
 
-best_of_is : (x : Option (ℕ × ℕ)) (done bs : List Bound) → IsBestOf x done → IsBestOf (best_of x bs) (done ++ bs)
+pub best_of_is : (x : Option (ℕ × ℕ)) (done bs : List Bound) → IsBestOf x done → IsBestOf (best_of x bs) (done ++ bs)
 best_of_is x done [] s = subst (IsBestOf x) (sym (append-nil done)) s
 best_of_is x done (b ∷ bs) s = subst (IsBestOf (best_of (better x b.least) bs)) (append_assoc done (b ∷ []) bs) (best_of_is (better x b.least) (done ++ b ∷ []) bs (bound_more x b.least done b refl s))
 

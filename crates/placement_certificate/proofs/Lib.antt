@@ -14,3 +14,8 @@ pub mod PlainMaps
 pub mod PlainPrices
 pub mod PlainSearch
 pub mod Accepted
+pub mod FoundStarts
+pub mod FreeStretches
+pub mod MapLists
+pub mod EntryEnds
+pub mod CheckedBounds

@@ -12,7 +12,7 @@ use Rattle.placement_certificate.specs.declared.certificates.Bound.{Bound}
 use Rattle.placement_certificate.specs.Placement.{IsPermittedStart, price}
 use Rattle.placement_certificate.specs.Certificates.{IsTrueLeast}
 use Rattle.placement_certificate.specs.Laws.{IsNoWorse}
-use Rattle.placement_certificate.specs.Search.{better}
+use Rattle.placement_certificate.specs.Search.{better, IsBestOf}
 
 -- ---- the better of two
 
@@ -120,11 +120,6 @@ still_no_worse c t d u h g None n = tt
 still_no_worse c t d u h g (Some (x, y)) n = (omega (arith, n.0), λ e. omega (arith, n.0, n.1 (omega (arith, n.0)), g (omega (arith, n.0))))
 
 -- ---- the best of some bounds
-
--- the best start of some bounds, with its price
-abbrev pub IsBestOf : Option (ℕ × ℕ) → List Bound → Type 0
-IsBestOf None bs = AllByRecursion (λ b. b.least ≡ None) bs
-IsBestOf (Some (count, top)) bs = ((b : Bound) × Contains bs b × (b.least ≡ Some (count, top))) × AllByRecursion (λ b. IsNoWorse count top b.least) bs
 
 pub none_bounded : IsBestOf None []
 none_bounded = tt

@@ -1,8 +1,15 @@
--- Words for the contracts of the plain search.
-use Rattle.std.specs.Prelude.{◌≡◌, ℕ, ◌+◌, ◌≤◌, ◌&&◌, ◌||◌, ◌==◌, nat_lt, List, Option, Some, None, if◌then◌else◌}
+-- Words for the contracts of searches.
+use Rattle.std.specs.Prelude.{◌≡◌, ◌↔◌, ℕ, ◌+◌, ◌<◌, ◌≤◌, false, ◌&&◌, ◌||◌, ◌==◌, nat_lt, List, Option, Some, None, if◌then◌else◌, slice_get, Contains}
 use Rattle.std.specs.List.{AllByRecursion}
+use Rattle.page_ranges.specs.declared.ranges.Descriptor.{Descriptor}
 use Rattle.page_ranges.specs.declared.ranges.Run.{Run}
+use Rattle.page_ranges.specs.Memory.{Page}
+use Rattle.page_ranges.specs.MemoryMap.{IsLike, IsIn, should_be_one}
 use Rattle.page_ranges.specs.Runs.{AreRuns}
+use Rattle.placement_certificate.specs.declared.certificates.Request.{Request}
+use Rattle.placement_certificate.specs.declared.certificates.Bound.{Bound}
+use Rattle.placement_certificate.specs.Placement.{IsPermittedStart, price}
+use Rattle.placement_certificate.specs.Laws.{IsStretch, IsNoWorse}
 
 -- runs in order, all of which end by a number
 pub record AreRunsBy (n : ℕ) (rs : List Run) : Type 0 where
@@ -14,3 +21,49 @@ abbrev pub better : Option (ℕ × ℕ) → Option (ℕ × ℕ) → Option (ℕ 
 better None y = y
 better (Some x) None = Some x
 better (Some (c, t)) (Some (d, u)) = if nat_lt d c || (d == c && nat_lt t u) then Some (d, u) else Some (c, t)
+
+-- the best start of some bounds, with its price; or that none of them has a start
+abbrev pub IsBestOf : Option (ℕ × ℕ) → List Bound → Type 0
+IsBestOf None bs = AllByRecursion (λ b. b.least ≡ None) bs
+IsBestOf (Some (count, top)) bs = ((b : Bound) × Contains bs b × (b.least ≡ Some (count, top))) × AllByRecursion (λ b. IsNoWorse count top b.least) bs
+
+-- ---- the starts in an entry
+
+-- what was found in the entry: a permitted start with its price, or nothing yet
+abbrev pub IsFound : List Page → Request → Descriptor → Option (ℕ × ℕ) → Type 0
+IsFound m r e None = Unit {0}
+IsFound m r e (Some (count, top)) = IsIn e top × IsPermittedStart m r top × (price m r top ≡ count)
+
+-- what was found is no worse than a start, if that is a permitted start in the entry
+abbrev pub IsTried : List Page → Request → Descriptor → Option (ℕ × ℕ) → ℕ → Type 0
+IsTried m r e None q = IsIn e q → ¬ IsPermittedStart m r q
+IsTried m r e (Some (count, top)) q = IsIn e q → IsPermittedStart m r q → (count ≤ price m r q) × (price m r q ≡ count → q ≤ top)
+
+-- the stretch of conventional pages that an entry lies in ends at a page number
+pub record IsStop (m : List Page) (e : Descriptor) (stop : ℕ) : Type 0 where
+  pub within : e.first + e.pages ≤ stop
+  pub stretch : IsStretch m e.first stop
+
+-- a start in the entry is permitted just where its pages end by a page number
+abbrev pub PermitsUpTo : List Page → Request → Descriptor → ℕ → Type 0
+PermitsUpTo m r e end = (q : ℕ) → IsIn e q → IsPermittedStart m r q ↔ (q + r.pages ≤ end)
+
+-- ---- a list of entries
+
+-- the next entry, if there is one, begins where an entry ends or above, and should not be one with it
+abbrev pub MayStandBelow : Descriptor → Option Descriptor → Type 0
+MayStandBelow d None = Unit {0}
+MayStandBelow d (Some e) = (d.first + d.pages ≤ e.first) × (should_be_one d e ≡ false)
+
+-- a page has the type and attributes of an entry, or is absent where there is none
+abbrev pub IsOnPage : Option Descriptor → Option Page → Type 0
+IsOnPage None o = o ≡ None
+IsOnPage (Some e) o = IsLike e o
+
+-- the entries before an index end below a page number
+abbrev pub EntriesEndBelow : List Descriptor → ℕ → ℕ → Type 0
+EntriesEndBelow ds i k = (j : ℕ) (d : Descriptor) → j < i → slice_get ds j ≡ Some d → d.first + d.pages < k
+
+-- the starts that end where an entry before an index ends are tried
+abbrev pub EntryEndsTried : List Page → Request → Descriptor → List Descriptor → ℕ → Option (ℕ × ℕ) → Type 0
+EntryEndsTried m r e ds i l = (j q : ℕ) (d : Descriptor) → j < i → slice_get ds j ≡ Some d → q + r.pages ≡ d.first + d.pages → IsTried m r e l q

@@ -8,8 +8,9 @@ ghost use Rattle.page_ranges.specs.MemoryMap.{memory_map, should_be_one};
 ghost use Rattle.page_ranges.specs.Runs.{page_in, pages_of, AreRuns};
 ghost use Rattle.placement_certificate.specs.Placement.{IsProperRequest, IsPermittedStart, price};
 ghost use Rattle.placement_certificate.specs.Certificates.{IsTrueLeast, IsTrueCertificate};
-ghost use Rattle.placement_certificate.specs.Search.{AreRunsBy, better};
+ghost use Rattle.placement_certificate.specs.Search.{AreRunsBy};
 
+use crate::better::better_of;
 use crate::certificates::{Bound, Certificate, Request};
 use page_ranges::{Descriptor, MemoryType, Owner, PageRange, Run};
 use std::alloc::{AllocError, Allocator};
@@ -41,8 +42,8 @@ pub fn plain_map<A: Allocator + Copy>(
     Ok(entries)
 }
 
-// The second entry begins where the first ends, and has its type and attributes.
-fn goes_on(entry: &Descriptor, above: &Descriptor) -> bool
+/// The second entry begins where the first ends, and has its type and attributes.
+pub(crate) fn goes_on(entry: &Descriptor, above: &Descriptor) -> bool
     requires { entry.now.first + entry.now.pages ≤ page_count }
     ensures { result ≡ should_be_one entry.now above.now }
 {
@@ -182,23 +183,6 @@ fn least_in<A: Allocator + Copy>(
         }
     }
     Ok(found)
-}
-
-// The better of two starts with their prices.
-fn better_of(x: Option<(u64, u64)>, y: Option<(u64, u64)>) -> Option<(u64, u64)>
-    ensures { result ≡ better x y }
-{
-    match (x, y) {
-        (None, y) => y,
-        (Some(x), None) => Some(x),
-        (Some(x), Some(y)) => {
-            if y.0 < x.0 || (y.0 == x.0 && x.1 < y.1) {
-                Some(y)
-            } else {
-                Some(x)
-            }
-        }
-    }
 }
 
 fn is_permitted(runs: &[Run], request: &Request, start: u64) -> bool

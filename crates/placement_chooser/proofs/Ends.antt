@@ -17,8 +17,9 @@ use Rattle.descriptor_table.proofs.Finding.{held_by_member}
 use Rattle.descriptor_table.proofs.TableFacts.{proper_end_at, few_entries, proper_ends}
 use Rattle.placement_certificate.specs.declared.certificates.Request.{Request}
 use Rattle.placement_certificate.specs.Laws.{EndsEntry}
-use Rattle.placement_chooser.specs.Starts.{IsTried, EndsTried}
-use Rattle.placement_chooser.proofs.Tries.{tried_outside}
+use Rattle.placement_certificate.specs.Search.{IsTried}
+use Rattle.placement_chooser.specs.Starts.{EndsTried}
+use Rattle.placement_certificate.proofs.FoundStarts.{tried_outside}
 
 -- the run of a present page
 run_of_page : (b : Descriptor) (rs : List Run) (k : ℕ) → IsLike b (page_at (pages_of rs) k) → (s : Run) × Contains rs s × IsInRun s k

@@ -1,4 +1,3 @@
-pub mod Tries
 pub mod Ends
 pub mod Entries
 pub mod Stretches

@@ -16,20 +16,10 @@ use Rattle.placement_certificate.specs.declared.certificates.Request.{Request}
 use Rattle.placement_certificate.specs.Laws.{IsStretch}
 use Rattle.placement_certificate.proofs.Edges.{like_conventional}
 use Rattle.placement_certificate.proofs.Places.{stretch}
-use Rattle.placement_chooser.specs.Starts.{IsStop, PermitsUpTo}
+use Rattle.placement_certificate.specs.Search.{IsStop}
+use Rattle.placement_certificate.proofs.FreeStretches.{begins_in_stretch}
 use Rattle.placement_chooser.proofs.Ends.{are_runs}
 use Rattle.placement_chooser.proofs.Entries.{entries_above}
-
--- the pages of a conventional entry
-pub entry_free : (m : List Page) (e : Descriptor) → IsProperMemory m → Contains (memory_map m) e → e.mtype ≡ conventional → (k : ℕ) → e.first ≤ k → k < e.first + e.pages → IsConventional (page_at m k)
-entry_free m e proper entry free k low high = like_conventional e (page_at m k) ((entry_is_block m proper.ascending e entry).all k (record { low = low; high = high })) free
-
--- a stretch from an entry's first page holds the entry
-pub entry_stop : (m : List Page) (e : Descriptor) (stop : ℕ) → IsProperMemory m → Contains (memory_map m) e → e.mtype ≡ conventional → e.first < stop → IsStretch m e.first stop → IsStop m e stop
-entry_stop m e stop proper entry free some is = record {
-  within = elim (cases_lt stop (e.first + e.pages)) [ inl l ↦ absurd (is.stops (entry_free m e proper entry free stop (omega arith) l)) | inr g ↦ g ];
-  stretch = is;
-}
 
 -- the pages of a conventional run go on with those below it
 pub free_up_to : (m : List Page) (first next : ℕ) (s : Run) → IsProperMemory m → Contains (runs_of m) s → IsInRun s next → s.mtype ≡ conventional → ((k : ℕ) → first ≤ k → k < next → IsConventional (page_at m k)) → (k : ℕ) → first ≤ k → k < s.range.first + s.range.pages → IsConventional (page_at m k)
@@ -38,13 +28,7 @@ free_up_to m first next s proper member held free below k low high =
     subst (λ n. IsConventional (page_at n k)) same
     (below_end IsConventional (runs_of m) first next s (are_runs m proper) member held (λ j l u. subst (λ n. IsConventional (page_at n j)) (sym same) (below j l u)) (λ j. free) k low high)
 
--- which starts of the entry are permitted
-pub permits_up_to : (m : List Page) (r : Request) (e : Descriptor) (stop end : ℕ) → IsStop m e stop → end ≡ min stop r.limit → PermitsUpTo m r e end
-permits_up_to m r e stop end is at q i =
-    let both = stretch m r e.first stop q is.stretch i.low (omega (arith, i.high, is.within)) in
-    (λ h. let t = both.0 h in omega (arith, t.0, t.1), λ h. both.1 (omega arith, omega arith))
-
 -- the stretch is that of the entries above which begin in it
 pub still_stretch : (m : List Page) (stop : ℕ) (ys : List Descriptor) (e : Descriptor) (es : List Descriptor) → AreInOrder (ys ++ e ∷ es) → IsStop m e stop → AllByRecursion (λ d. d.first < stop → IsStretch m d.first stop) es
 still_stretch m stop ys e es order is =
-    all_implied (λ d. e.first + e.pages ≤ d.first) (λ d. d.first < stop → IsStretch m d.first stop) (λ d above h. record { all = λ k l u. is.stretch.all k (omega arith) u; stops = is.stretch.stops }) es (entries_above ys e es order)
+    all_implied (λ d. e.first + e.pages ≤ d.first) (λ d. d.first < stop → IsStretch m d.first stop) (λ d above. begins_in_stretch m stop e d is above) es (entries_above ys e es order)

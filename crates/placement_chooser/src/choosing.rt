@@ -3,10 +3,10 @@ ghost use Rattle.std.specs.Prelude.{◌≡◌, ℕ, None, IfSome, IfOk};
 ghost use Rattle.placement_certificate.specs.Placement.{IsProperRequest, IsPermittedStart};
 ghost use Rattle.placement_certificate.specs.Certificates.{IsTrueCertificate};
 
-use crate::starts::{better_of, least_in, next_stop};
+use crate::starts::{least_in, next_stop};
 use descriptor_table::RunTable;
 use page_ranges::MemoryType;
-use placement_certificate::{Bound, Certificate, Request};
+use placement_certificate::{Bound, Certificate, Request, better_of};
 use std::alloc::{AllocError, Allocator};
 
 /// The true certificate of a request, whose answer is the best start; `None` where no start is

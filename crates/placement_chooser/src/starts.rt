@@ -6,34 +6,14 @@ ghost use Rattle.page_ranges.specs.Runs.{runs_of};
 ghost use Rattle.placement_certificate.specs.Placement.{IsProperRequest};
 ghost use Rattle.placement_certificate.specs.Certificates.{IsTrueLeast};
 ghost use Rattle.placement_certificate.specs.Laws.{IsStretch};
-ghost use Rattle.placement_certificate.specs.Search.{better};
-ghost use Rattle.placement_chooser.specs.Starts.{IsFound, IsTried, IsStop, PermitsUpTo, EndBelow, EndsTried};
+ghost use Rattle.placement_certificate.specs.Search.{IsFound, IsTried, IsStop, PermitsUpTo};
+ghost use Rattle.placement_chooser.specs.Starts.{EndBelow, EndsTried};
 
 use crate::prices::price_of;
 use descriptor_table::RunTable;
 use page_ranges::{Descriptor, MemoryType};
-use placement_certificate::Request;
+use placement_certificate::{PricedStart, Request, better_of};
 use std::alloc::Allocator;
-
-/// A start with its price before it.
-pub(crate) type PricedStart = (u64, u64);
-
-/// The better of two starts: the one with the lower price, and at equal prices the higher one.
-pub(crate) fn better_of(x: Option<PricedStart>, y: Option<PricedStart>) -> Option<PricedStart>
-    ensures { result ≡ better x y }
-{
-    match (x, y) {
-        (Some((price, start)), Some((other_price, other_start))) => {
-            if other_price < price || (other_price == price && start < other_start) {
-                y
-            } else {
-                x
-            }
-        }
-        (None, y) => y,
-        (x, None) => x,
-    }
-}
 
 // Where the stretch of conventional pages that an entry lies in ends.
 fn stretch_end<A: Allocator + Copy>(table: &RunTable<A>, entry: &Descriptor) -> u64

@@ -4,10 +4,11 @@ use Rattle.page_ranges.specs.MemoryTypes.{conventional}
 use Rattle.page_ranges.specs.Runs.{pages_of}
 use Rattle.placement_certificate.specs.declared.certificates.Bound.{Bound}
 use Rattle.placement_certificate.specs.Certificates.{IsTrueBound}
+use Rattle.placement_certificate.specs.Search.{IsBestOf}
 use Rattle.placement_certificate.proofs.BestBounds.{no_bound}
 use Rattle.placement_certificate.proofs.Decided.{best_is}
 use Rattle.placement_certificate.proofs.PlainSearch.{runs_by, entry_within, entry_passed, entry_bounded, all_bounded}
-use Rattle.placement_certificate.proofs.Tries.{IsBestOf, bound_more}
+use Rattle.placement_certificate.proofs.Tries.{bound_more}
 use Rattle.placement_certificate.proofs.plain.plain_certificate.Goals as goal
 use Rattle.placement_certificate.proofs.plain.plain_certificate.Goals.{then-number-eq7+in_ok-least+in_ok-push, else-number-eq7}
 

@@ -3,7 +3,7 @@ use Rattle.std.specs.List.{AllZip}
 use Rattle.page_ranges.specs.MemoryTypes.{conventional}
 use Rattle.page_ranges.specs.Runs.{pages_of}
 use Rattle.placement_certificate.specs.Certificates.{IsTrueBound}
-use Rattle.placement_certificate.proofs.Tries.{IsBestOf}
+use Rattle.placement_certificate.specs.Search.{IsBestOf}
 use Rattle.placement_certificate.proofs.plain.plain_certificate.Given as goal
 
 -- the bounds of the entries so far, and the best of them

@@ -5,9 +5,10 @@ use Rattle.page_ranges.specs.MemoryMap.{memory_map}
 use Rattle.page_ranges.specs.Runs.{runs_of}
 use Rattle.placement_certificate.specs.declared.certificates.Bound.{Bound}
 use Rattle.placement_certificate.specs.Certificates.{IsTrueBound}
+use Rattle.placement_certificate.specs.Search.{IsBestOf}
 use Rattle.placement_certificate.proofs.BestBounds.{no_bound}
 use Rattle.placement_certificate.proofs.Decided.{best_is}
-use Rattle.placement_certificate.proofs.Tries.{IsBestOf, bound_more}
+use Rattle.placement_certificate.proofs.Tries.{bound_more}
 use Rattle.placement_chooser.proofs.Entries.{bounded_more, map_order, passed_above, all_bounded}
 use Rattle.placement_chooser.proofs.Stretches.{still_stretch}
 use Rattle.placement_chooser.proofs.choosing.choose.Goals as goal

@@ -6,7 +6,7 @@ use Rattle.page_ranges.specs.MemoryMap.{memory_map}
 use Rattle.page_ranges.specs.Runs.{runs_of}
 use Rattle.placement_certificate.specs.Certificates.{IsTrueBound}
 use Rattle.placement_certificate.specs.Laws.{IsStretch}
-use Rattle.placement_certificate.proofs.Tries.{IsBestOf}
+use Rattle.placement_certificate.specs.Search.{IsBestOf}
 use Rattle.placement_chooser.specs.Starts.{EndBelow}
 use Rattle.placement_chooser.proofs.choosing.choose.Given as goal
 

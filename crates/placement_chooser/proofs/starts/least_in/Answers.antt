@@ -1,8 +1,8 @@
 use Rattle.std.proofs.Common.{arith}
 use Rattle.page_ranges.proofs.Blocks.{entry_is_block, entry_end}
-use Rattle.placement_chooser.proofs.Tries.{least_found}
+use Rattle.placement_certificate.proofs.FoundStarts.{least_found}
 use Rattle.placement_chooser.proofs.Ends.{entries_tried}
-use Rattle.placement_chooser.proofs.Stretches.{permits_up_to}
+use Rattle.placement_certificate.proofs.FreeStretches.{permits_up_to}
 use Rattle.placement_chooser.proofs.starts.least_in.Goals as goal
 
 pub try_ends-ended-requires-clause-within : goal.try_ends-ended-requires-clause-within

@@ -1,4 +1,4 @@
-use Rattle.placement_chooser.proofs.Stretches.{entry_stop}
+use Rattle.placement_certificate.proofs.FreeStretches.{entry_stop}
 use Rattle.placement_chooser.proofs.starts.next_stop.Goals as goal
 
 pub returns-then-entry-stop : goal.returns-then-entry-stop

@@ -1,7 +1,8 @@
 use Rattle.std.proofs.Common.{rules, arith}
 use Rattle.page_ranges.proofs.Blocks.{entry_end}
 use Rattle.placement_chooser.proofs.Ends.{run_end_of}
-use Rattle.placement_chooser.proofs.Stretches.{entry_free, free_up_to}
+use Rattle.placement_certificate.proofs.FreeStretches.{entry_free}
+use Rattle.placement_chooser.proofs.Stretches.{free_up_to}
 use Rattle.placement_chooser.proofs.starts.stretch_end.Goals as goal
 
 pub overflow_add-end : goal.overflow_add-end

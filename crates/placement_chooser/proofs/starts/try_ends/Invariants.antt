@@ -1,6 +1,7 @@
 use Rattle.std.proofs.Common.{ℕ, ◌+◌, ◌-◌, length}
 use Rattle.page_ranges.specs.Runs.{runs_of}
-use Rattle.placement_chooser.specs.Starts.{IsFound, IsTried, EndBelow, EndsTried}
+use Rattle.placement_certificate.specs.Search.{IsFound, IsTried}
+use Rattle.placement_chooser.specs.Starts.{EndBelow, EndsTried}
 use Rattle.placement_chooser.proofs.starts.try_ends.Given as goal
 
 -- the ends of the runs so far are tried, and are low

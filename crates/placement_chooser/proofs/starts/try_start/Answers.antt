@@ -1,5 +1,5 @@
 use Rattle.std.proofs.Common.{sym, true≢false, ◌∙◌}
-use Rattle.placement_chooser.proofs.Tries.{tried_unless, found_more}
+use Rattle.placement_certificate.proofs.FoundStarts.{tried_unless, found_more}
 use Rattle.placement_chooser.proofs.starts.try_start.Goals as goal
 
 pub returns-then-not-ends_by-clause-tried : goal.returns-then-not-ends_by-clause-tried

@@ -6,11 +6,10 @@ use Rattle.page_ranges.specs.Memory.{Page, IsProperMemory}
 use Rattle.page_ranges.specs.MemoryMap.{memory_map, IsIn}
 use Rattle.placement_certificate.specs.declared.certificates.Request.{Request}
 use Rattle.placement_certificate.specs.Placement.{IsProperRequest, IsPermittedStart, price}
-use Rattle.placement_certificate.specs.Search.{better}
+use Rattle.placement_certificate.specs.Search.{better, IsFound, IsTried, PermitsUpTo}
 use Rattle.placement_certificate.specs.Certificates.{IsTrueLeast}
 use Rattle.placement_certificate.specs.Laws.{EndsEntry, IsHighestIn, IsPlace}
 use Rattle.placement_certificate.proofs.Places.{first_permitted, best_candidate}
-use Rattle.placement_chooser.specs.Starts.{IsFound, IsTried, PermitsUpTo}
 
 -- a start outside the entry
 pub tried_outside : (m : List Page) (r : Request) (e : Descriptor) (l : Option (ℕ × ℕ)) (q : ℕ) → ¬ IsIn e q → IsTried m r e l q

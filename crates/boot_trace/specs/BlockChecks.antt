@@ -1,0 +1,31 @@
+-- What the check of a certificate block says.
+use Rattle.std.specs.Prelude.{◌≡◌, ◌↔◌, ℕ, Bool, List, ◌++◌, take, codes, IsTrue, Option, Result, Ok, Err, if◌then◌else◌}
+use Rattle.std.specs.Io.KnownBytes.{Appends, Keeps}
+use Rattle.page_ranges.specs.declared.ranges.Descriptor.{Descriptor}
+use Rattle.placement_certificate.specs.declared.certificates.Request.{Request}
+use Rattle.placement_certificate.specs.Certificates.{CertificateValue}
+use Rattle.placement_certificate.specs.Acceptance.{IsAccepted}
+use Rattle.boot_trace.specs.declared.faults.BlockFault.{BlockFault}
+use Rattle.boot_trace.specs.declared.faults.BlockFault.TheVariants as fault
+use Rattle.boot_trace.specs.PrintedText.{line_feed}
+use Rattle.boot_trace.specs.Blocks.{block_of}
+
+-- the line that is written
+abbrev pub verdict_text : Bool → List ℕ
+verdict_text accepted = (if accepted then codes "accepted" else codes "refused") ++ line_feed
+
+-- The bytes are a block, and this is whether its certificate is accepted.
+pub record IsVerdict (bytes : List ℕ) (accepted : Bool) : Type 0 where
+  pub map : List Descriptor
+  pub request : Request
+  pub certificate : CertificateValue
+  pub block : block_of bytes ≡ Ok (map, request, certificate)
+  pub accepts : IsTrue accepted ↔ IsAccepted map request certificate
+
+-- How the check of known bytes ends. On a fault nothing is written, but for a write that fails: then a front of the line.
+abbrev pub Judges : List ℕ → Option (List ℕ) → Option (List ℕ) → Result Bool BlockFault → Type 0
+Judges bytes before after (Ok accepted) = IsVerdict bytes accepted × Appends before after (verdict_text accepted)
+Judges bytes before after (Err (fault.Line number)) = (block_of bytes ≡ Err number) × Keeps before after
+Judges bytes before after (Err fault.Write) = (accepted : Bool) × IsVerdict bytes accepted × ((taken : ℕ) × Appends before after (take taken (verdict_text accepted)))
+Judges bytes before after (Err fault.Read) = Keeps before after
+Judges bytes before after (Err fault.OutOfMemory) = Keeps before after

@@ -1,0 +1,34 @@
+-- Stretches of conventional pages.
+use Rattle.std.proofs.Common.{◌≡◌, ℕ, ◌+◌, ◌<◌, ◌≤◌, min, List, Contains, inl, inr, arith}
+use Rattle.std.proofs.lemmas.Bool.{cases_lt}
+use Rattle.page_ranges.specs.declared.ranges.Descriptor.{Descriptor}
+use Rattle.page_ranges.specs.MemoryTypes.{conventional}
+use Rattle.page_ranges.specs.Memory.{Page, page_at, IsProperMemory, IsConventional}
+use Rattle.page_ranges.specs.MemoryMap.{memory_map}
+use Rattle.page_ranges.proofs.Blocks.{entry_is_block}
+use Rattle.placement_certificate.specs.declared.certificates.Request.{Request}
+use Rattle.placement_certificate.specs.Laws.{IsStretch}
+use Rattle.placement_certificate.specs.Search.{IsStop, PermitsUpTo}
+use Rattle.placement_certificate.proofs.Edges.{like_conventional}
+use Rattle.placement_certificate.proofs.Places.{stretch}
+
+-- the pages of a conventional entry
+pub entry_free : (m : List Page) (e : Descriptor) → IsProperMemory m → Contains (memory_map m) e → e.mtype ≡ conventional → (k : ℕ) → e.first ≤ k → k < e.first + e.pages → IsConventional (page_at m k)
+entry_free m e proper entry free k low high = like_conventional e (page_at m k) ((entry_is_block m proper.ascending e entry).all k (record { low = low; high = high })) free
+
+-- a stretch from an entry's first page holds the entry
+pub entry_stop : (m : List Page) (e : Descriptor) (stop : ℕ) → IsProperMemory m → Contains (memory_map m) e → e.mtype ≡ conventional → e.first < stop → IsStretch m e.first stop → IsStop m e stop
+entry_stop m e stop proper entry free some is = record {
+  within = elim (cases_lt stop (e.first + e.pages)) [ inl l ↦ absurd (is.stops (entry_free m e proper entry free stop (omega arith) l)) | inr g ↦ g ];
+  stretch = is;
+}
+
+-- which starts of the entry are permitted
+pub permits_up_to : (m : List Page) (r : Request) (e : Descriptor) (stop end : ℕ) → IsStop m e stop → end ≡ min stop r.limit → PermitsUpTo m r e end
+permits_up_to m r e stop end is at q i =
+    let both = stretch m r e.first stop q is.stretch i.low (omega (arith, i.high, is.within)) in
+    (λ h. let t = both.0 h in omega (arith, t.0, t.1), λ h. both.1 (omega arith, omega arith))
+
+-- the stretch is that of an entry above which begins in it
+pub begins_in_stretch : (m : List Page) (stop : ℕ) (e d : Descriptor) → IsStop m e stop → e.first + e.pages ≤ d.first → d.first < stop → IsStretch m d.first stop
+begins_in_stretch m stop e d is above h = record { all = λ k l u. is.stretch.all k (omega arith) u; stops = is.stretch.stops }
