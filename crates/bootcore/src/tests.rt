@@ -1,6 +1,8 @@
 //! Runs of the program, as text in and text out.
 mod core_runs;
 mod faults;
+mod firmware;
+mod firmware_maps;
 mod maps;
 mod placements;
 mod rows;
