@@ -1,6 +1,7 @@
 //! Machine files and traces as bytes: what they mean, and a run of one on the other.
 #![tactic(auto)]
 
+mod block_checks;
 mod block_lines;
 mod block_reader;
 mod blocks;
@@ -17,6 +18,7 @@ mod runner;
 mod verbs;
 mod words;
 
+pub use block_checks::check_block;
 pub use blocks::print_block;
 pub use calls::{TraceCall, read_call};
 pub use faults::{BlockFault, MachineFault, MemberField, RunFault, TraceFault};

@@ -1,5 +1,7 @@
 //! Runs of the program, as text in and text out.
 mod faults;
+mod firmware;
+mod firmware_maps;
 mod placements;
 mod rows;
 mod streams;

@@ -6,6 +6,8 @@ mod entries;
 mod retyping;
 mod searches;
 mod table;
+#[cfg(test)]
+mod tests;
 
 pub use entries::MapEntries;
 pub use table::RunTable;

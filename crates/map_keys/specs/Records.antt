@@ -26,7 +26,16 @@ pub record IsRecordEntry (d : Descriptor) : Type 0 where
   pub within : d.first + d.pages ≤ page_count
   pub attributes : d.attributes < 2 ^ 64
 
+-- What is read of the bytes of one record: the entry that they spell, or `None` where they spell none.
+abbrev pub ReadsRecord : List ℕ → Option Descriptor → Type 0
+ReadsRecord bytes (Some d) = IsRecordEntry d × (record_of d ≡ bytes)
+ReadsRecord bytes None = (d : Descriptor) → IsRecordEntry d → ¬ (record_of d ≡ bytes)
+
 -- What is read of bytes: the entries whose records they are, or `None` where they are the records of no entries.
 abbrev pub ReadsRecords : List ℕ → Option (List Descriptor) → Type 0
 ReadsRecords bytes (Some ds) = AllByRecursion IsRecordEntry ds × (records ds ≡ bytes)
 ReadsRecords bytes None = (ds : List Descriptor) → AllByRecursion IsRecordEntry ds → ¬ (records ds ≡ bytes)
+
+-- What is read of the records of entries is those entries.
+abbrev pub ReadBackLaw : Type 0
+ReadBackLaw = (ds : List Descriptor) (found : Option (List Descriptor)) → AllByRecursion IsRecordEntry ds → ReadsRecords (records ds) found → found ≡ Some ds

@@ -1,11 +1,13 @@
 //! Records of 48 bytes, each of which spells an entry of a memory map.
-ghost use Rattle.std.specs.Prelude.{◌≡◌, ◌<◌, ◌≤◌, ◌+◌, ◌++◌, length, take, drop};
+ghost use Rattle.std.specs.Prelude.{◌≡◌, ◌<◌, ◌≤◌, ◌+◌, ◌++◌, length, take, drop, IfOk};
+ghost use Rattle.std.specs.Option.{option_map};
 ghost use Rattle.byteorder.specs.Endian.{little_bytes};
 ghost use Rattle.page_ranges.specs.MemoryTypes.{page_count};
-ghost use Rattle.map_keys.specs.Records.{record_of, record_size};
+ghost use Rattle.map_keys.specs.Records.{ReadBackLaw, ReadsRecord, ReadsRecords, record_of, record_size};
 
 use byteorder::{ByteOrder, LittleEndian};
-use page_ranges::{Descriptor, PAGE_SIZE};
+use page_ranges::{Descriptor, MemoryType, PAGE_COUNT, PAGE_SIZE};
+use std::alloc::{AllocError, Allocator};
 
 /// The bytes of a record (EFI_MEMORY_DESCRIPTOR, with 8 bytes more).
 pub(crate) const RECORD_SIZE: usize = 48;
@@ -40,3 +42,56 @@ pub(crate) fn write_record(bytes: &mut [u8], entry: &Descriptor)
     put_u64(bytes, 32, entry.attributes);
     put_u64(bytes, 40, 0);
 }
+
+/// The entry of a record, if the bytes are one.
+fn read_record(bytes: &[u8]) -> Option<Descriptor>
+    requires { length bytes.now ≡ record_size }
+    ensures { ReadsRecord bytes.now result }
+{
+    let padding = LittleEndian::read_u32(&bytes[4..]);
+    let start = LittleEndian::read_u64(&bytes[8..]);
+    let virtual_start = LittleEndian::read_u64(&bytes[16..]);
+    let pages = LittleEndian::read_u64(&bytes[24..]);
+    let rest = LittleEndian::read_u64(&bytes[40..]);
+    if padding != 0 || virtual_start != 0 || rest != 0 {
+        return None;
+    }
+    let first = start / PAGE_SIZE;
+    if start % PAGE_SIZE != 0 || pages == 0 || pages > PAGE_COUNT - first {
+        return None;
+    }
+    Some(Descriptor {
+        mtype: MemoryType::new(LittleEndian::read_u32(bytes)),
+        first,
+        pages,
+        attributes: LittleEndian::read_u64(&bytes[32..]),
+    })
+}
+
+/// The entries whose records some bytes are, in order. They need not make a memory map.
+///
+/// `None` unless the bytes are records of 48 bytes, each with its padding and its VirtualStart 0,
+/// an aligned start, and at least one page and none past the last. `Err` on want of memory.
+pub fn read_descriptors<A: Allocator>(
+    alloc: A,
+    bytes: &[u8],
+) -> Result<Option<Vec<Descriptor, A>>, AllocError>
+    ensures { IfOk result (λ found. ReadsRecords bytes.now (option_map (λ entries. entries.items) found)) }
+{
+    if bytes.len() % RECORD_SIZE != 0 {
+        return Ok(None);
+    }
+    let mut entries = Vec::new(alloc);
+    for record in bytes.chunks_exact(RECORD_SIZE) {
+        let Some(entry) = read_record(record) else {
+            return Ok(None);
+        };
+        entries.push(entry)?;
+    }
+    Ok(Some(entries))
+}
+
+/// What is read of the records of entries is those entries, and no others have these records.
+pub fn read_back_law()
+    ensures { ReadBackLaw }
+{}

@@ -1,5 +1,5 @@
 //! The statuses that services answer.
-ghost use Rattle.std.specs.Prelude.{◌≡◌};
+ghost use Rattle.std.specs.Prelude.{◌≡◌, Some};
 ghost use Rattle.page_ranges.specs.Statuses.{name_of};
 
 use std::fmt;
@@ -38,6 +38,8 @@ impl Status {
 }
 
 impl fmt::Display for Status {
+    ghost output = { λ s. Some (name_of s) };
+
     fn fmt<W: fmt::Write>(&self, f: &mut fmt::Formatter<W>) -> fmt::Result {
         f.write_str(self.name())
     }

@@ -1,14 +1,14 @@
 -- Bounds that are checked one after the other, against the entries of a map.
-use Rattle.std.proofs.Common.{◌≡◌, ◌↔◌, ℕ, zero, suc, ◌+◌, ◌<◌, ◌≤◌, Bool, true, false, IsTrue, eqb, List, [], ◌∷◌, ◌++◌, length, get_or, take, drop, filter, Contains, Option, Some, None, inl, inr, refl, sym, ap, subst, ◌∙◌, arith}
+use Rattle.std.proofs.Common.{◌≡◌, ◌↔◌, ℕ, zero, suc, ◌+◌, ◌<◌, ◌≤◌, Bool, true, false, IsTrue, eqb, List, [], ◌∷◌, length, get_or, take, drop, filter, Contains, Option, Some, None, inl, inr, refl, sym, ap, subst, ◌∙◌, arith}
 use Rattle.std.specs.Prelude.{slice_get}
 use Rattle.std.specs.List.{AllZip, AllByRecursion}
-use Rattle.std.proofs.lemmas.Bool.{cases_lt, eqb-true, eq-eqb}
+use Rattle.std.proofs.lemmas.Bool.{cases_lt}
 use Rattle.std.proofs.lemmas.List.{drop_more, drop_all, take_more, take_all}
-use Rattle.std.proofs.lemmas.Option.{same_Some, slice_get-get_or, slice_get_within, get_or_from_slice_get}
+use Rattle.std.proofs.lemmas.Option.{slice_get_within, get_or_from_slice_get}
 use Rattle.page_ranges.specs.declared.ranges.Descriptor.{Descriptor}
 use Rattle.page_ranges.specs.MemoryTypes.{conventional}
 use Rattle.page_ranges.specs.Memory.{Page, IsProperMemory}
-use Rattle.page_ranges.specs.MemoryMap.{memory_map, IsMap, memory_of}
+use Rattle.page_ranges.specs.MemoryMap.{IsMap, memory_of}
 use Rattle.page_ranges.proofs.Maps.{memory_of-proper, map_of_memory_of}
 use Rattle.page_ranges.proofs.Members.{member_all, all_implied}
 use Rattle.placement_certificate.specs.declared.certificates.Request.{Request}
@@ -23,7 +23,7 @@ use Rattle.placement_certificate.proofs.Decided.{best_of, best_of_is, best_is}
 use Rattle.placement_certificate.proofs.FreeStretches.{begins_in_stretch}
 use Rattle.placement_certificate.proofs.MapLists.{map_drop, drop_entry}
 use Rattle.placement_certificate.proofs.OneCertificate.{same_best}
-use Rattle.placement_certificate.proofs.Tries.{none_bounded, bound_more}
+use Rattle.placement_certificate.proofs.Tries.{bound_more}
 
 abbrev pub is_free_entry : Descriptor → Bool
 is_free_entry e = eqb e.mtype conventional

@@ -7,7 +7,7 @@ use Rattle.std.proofs.lemmas.Bool.{cases_lt}
 use Rattle.std.proofs.lemmas.List.{drop_more, get_or_default}
 use Rattle.page_ranges.specs.declared.ranges.Descriptor.{Descriptor}
 use Rattle.page_ranges.specs.MemoryTypes.{page_count}
-use Rattle.page_ranges.specs.Memory.{Page, page_at, page_below, IsProperMemory}
+use Rattle.page_ranges.specs.Memory.{Page, page_at, page_below}
 use Rattle.page_ranges.specs.MemoryMap.{memory_map, IsLike, IsIn, IsEntry, IsMap, memory_of}
 use Rattle.page_ranges.proofs.Blocks.{entry_is_block, entry_of_page}
 use Rattle.page_ranges.proofs.Lookups.{page_below-page_at}

@@ -6,6 +6,8 @@ ghost use Rattle.page_ranges.specs.Memory.{IsProperMemory};
 ghost use Rattle.page_ranges.specs.Runs.{pages_of};
 ghost use Rattle.placement_certificate.specs.Search.{AreRunsBy};
 
+mod checks;
+
 use super::*;
 use page_ranges::{Descriptor, MemoryType, Owner, PageRange, Run};
 use std::alloc::AllocError;

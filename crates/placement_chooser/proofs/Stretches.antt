@@ -1,21 +1,16 @@
 -- Stretches of conventional pages.
-use Rattle.std.proofs.Common.{◌≡◌, ℕ, ◌+◌, ◌<◌, ◌≤◌, min, List, ◌∷◌, ◌++◌, Contains, inl, inr, sym, subst, arith}
+use Rattle.std.proofs.Common.{◌≡◌, ℕ, ◌+◌, ◌<◌, ◌≤◌, List, ◌∷◌, ◌++◌, Contains, sym, subst}
 use Rattle.std.specs.List.{AllByRecursion}
-use Rattle.std.proofs.lemmas.Bool.{cases_lt}
 use Rattle.page_ranges.specs.declared.ranges.Descriptor.{Descriptor}
 use Rattle.page_ranges.specs.declared.ranges.Run.{Run}
 use Rattle.page_ranges.specs.MemoryTypes.{conventional}
 use Rattle.page_ranges.specs.Memory.{Page, page_at, IsProperMemory, IsConventional}
-use Rattle.page_ranges.specs.MemoryMap.{memory_map, AreInOrder}
+use Rattle.page_ranges.specs.MemoryMap.{AreInOrder}
 use Rattle.page_ranges.specs.Runs.{runs_of, IsInRun}
-use Rattle.page_ranges.proofs.Blocks.{entry_is_block}
 use Rattle.page_ranges.proofs.MaximalRuns.{pages_of-runs_of}
 use Rattle.page_ranges.proofs.Members.{all_implied}
 use Rattle.descriptor_table.proofs.Finding.{below_end}
-use Rattle.placement_certificate.specs.declared.certificates.Request.{Request}
 use Rattle.placement_certificate.specs.Laws.{IsStretch}
-use Rattle.placement_certificate.proofs.Edges.{like_conventional}
-use Rattle.placement_certificate.proofs.Places.{stretch}
 use Rattle.placement_certificate.specs.Search.{IsStop}
 use Rattle.placement_certificate.proofs.FreeStretches.{begins_in_stretch}
 use Rattle.placement_chooser.proofs.Ends.{are_runs}

@@ -1,5 +1,5 @@
 //! Expected values worked out by hand, and small machines on which a plain search judges.
-ghost use Rattle.std.specs.Prelude.{◌≡◌, ◌+◌, ◌<◌, ◌≤◌, false, IfOk, OnOk};
+ghost use Rattle.std.specs.Prelude.{◌≡◌, ◌+◌, ◌<◌, ◌≤◌, false, IsTrue, IfOk, OnOk};
 ghost use Rattle.page_ranges.specs.declared.ranges.Owner.TheVariants.{Given};
 ghost use Rattle.page_ranges.specs.MemoryTypes.{conventional, has_runtime, is_bad_type, page_count};
 ghost use Rattle.page_ranges.specs.Memory.{IsProperMemory};
@@ -9,9 +9,10 @@ ghost use Rattle.placement_certificate.specs.Search.{AreRunsBy};
 
 use super::*;
 use descriptor_table::RunTable;
-use page_ranges::{MemoryType, Owner, PAGE_COUNT, PageRange, Run};
+use page_ranges::{MemoryType, Owner, PAGE_COUNT, PageRange, Run, has_runtime};
 use placement_certificate::{Bound, Certificate, Request, plain_certificate};
 use std::alloc::{AllocError, Global};
+use std::process::Abort;
 
 fn run(first: u64, pages: u64, number: u32, attributes: u64) -> Run
     ensures { result ≡ record { range = record { first = first; pages = pages }; mtype = number; attributes = attributes; owner = Given } }
@@ -24,25 +25,59 @@ fn run(first: u64, pages: u64, number: u32, attributes: u64) -> Run
     }
 }
 
+/// A run of the machine's own: its first page, pages, type and attributes.
+type Row = (u64, u64, u32, u64);
+
 // Free memory with a hole, and runtime data in its upper part.
-fn machine_a() -> [Run; 4]
-    ensures runs { AreRuns result }
-    ensures proper { IsProperMemory (pages_of result) }
-{
-    [
-        run(0, 160, 7, 0xf),
-        run(256, 768, 7, 0xf),
-        run(1024, 16, 6, 0x8000_0000_0000_000f),
-        run(1040, 1008, 7, 0xf),
-    ]
-}
+const MACHINE_A: [Row; 4] = [
+    (0, 160, 7, 0xf),
+    (256, 768, 7, 0xf),
+    (1024, 16, 6, 0x8000_0000_0000_000f),
+    (1040, 1008, 7, 0xf),
+];
+
+// The same once ten pages at its end are placed.
+const MACHINE_A_PLACED: [Row; 5] = [
+    (0, 160, 7, 0xf),
+    (256, 768, 7, 0xf),
+    (1024, 16, 6, 0x8000_0000_0000_000f),
+    (1040, 998, 7, 0xf),
+    (2038, 10, 4, 0xf),
+];
 
 // Free memory with two sets of attributes.
-fn machine_b() -> [Run; 2]
-    ensures runs { AreRuns result }
-    ensures proper { IsProperMemory (pages_of result) }
+const MACHINE_B: [Row; 2] = [(0, 8, 7, 0xf), (8, 8, 7, 0x7)];
+
+// The last eight pages of all.
+const LAST_PAGES: [Row; 1] = [(PAGE_COUNT - 8, 8, 7, 0xf)];
+
+// A machine may have the run.
+fn may_stand(first: u64, pages: u64, kind: (u32, u64)) -> bool
+    ensures { IsTrue result → (0 < pages) × (first + pages ≤ page_count) × (kind.0 ≡ conventional → has_runtime kind.1 ≡ false) }
 {
-    [run(0, 8, 7, 0xf), run(8, 8, 7, 0x7)]
+    let (number, attributes) = kind;
+    pages > 0
+        && first < PAGE_COUNT
+        && pages <= PAGE_COUNT - first
+        && !(number == 7 && has_runtime(attributes))
+}
+
+// The runs of rows, up to the first that is no run above those before it.
+fn machine_of(alloc: Global, rows: &[Row]) -> Result<Vec<Run>, AllocError>
+    ensures runs { IfOk result (λ v. AreRuns v.items) }
+    ensures proper { IfOk result (λ v. IsProperMemory (pages_of v.items)) }
+{
+    let mut runs = Vec::new(alloc);
+    let mut end = 0;
+    for &(first, pages, number, attributes) in rows {
+        let kind = (number, attributes);
+        if first < end || !may_stand(first, pages, kind) {
+            return Ok(runs);
+        }
+        push_run(&mut runs, first, pages, kind)?;
+        end = first + pages;
+    }
+    Ok(runs)
 }
 
 fn chosen(alloc: Global, runs: &[Run], request: &Request) -> Result<Option<Certificate>, AllocError>
@@ -54,50 +89,156 @@ fn chosen(alloc: Global, runs: &[Run], request: &Request) -> Result<Option<Certi
     choose(alloc, &table, request)
 }
 
-fn bound(first: u64, pages: u64, least: Option<(u64, u64)>) -> Bound {
-    Bound {
-        first,
+fn request(number: u32, pages: u64, limit: u64) -> Request
+    ensures { result ≡ record { mtype = number; pages = pages; limit = limit } }
+{
+    Request {
+        mtype: MemoryType::new(number),
         pages,
-        least,
+        limit,
     }
 }
 
-#[test]
-fn chooses_beside_its_own_type(rt: HostRuntime) -> Result<(), AllocError> {
-    let request = Request {
-        mtype: MemoryType::new(4),
-        pages: 10,
-        limit: PAGE_COUNT,
-    };
-    let want = [
-        bound(0, 160, Some((5, 150))),
-        bound(256, 768, Some((5, 1014))),
-        bound(1040, 1008, Some((5, 2038))),
-    ];
-    match chosen(rt.alloc(), &machine_a(), &request)? {
+fn bound(first: u64, pages: u64, count: u64, top: u64) -> Bound {
+    Bound {
+        first,
+        pages,
+        least: Some((count, top)),
+    }
+}
+
+fn no_start(first: u64, pages: u64) -> Bound {
+    Bound {
+        first,
+        pages,
+        least: None,
+    }
+}
+
+// Asserts the certificate of a request on a machine.
+fn assert_certified(
+    rt: &(impl AllocGlobal + Abort),
+    rows: &[Row],
+    request: &Request,
+    bounds: &[Bound],
+    answer: u64,
+) -> Result<(), AllocError>
+    requires { IsProperRequest request.now }
+{
+    let runs = machine_of(rt.alloc(), rows)?;
+    match chosen(rt.alloc(), runs.as_slice(), request)? {
         Some(certificate) => {
-            assert_eq!(rt; certificate.bounds.as_slice(), want.as_slice());
-            assert_eq!(rt; certificate.answer, 2038);
+            assert_eq!(rt; certificate.bounds.as_slice(), bounds, "for {answer}");
+            assert_eq!(rt; certificate.answer, answer);
         }
-        None => panic!(rt; "no certificate"),
+        None => panic!(rt; "no certificate for {answer}"),
     }
     Ok(())
 }
 
 #[test]
-fn chooses_across_entries(rt: HostRuntime) -> Result<(), AllocError> {
-    let request = Request {
-        mtype: MemoryType::new(2),
-        pages: 12,
-        limit: PAGE_COUNT,
-    };
-    let want = [bound(0, 8, Some((3, 4))), bound(8, 8, None)];
-    match chosen(rt.alloc(), &machine_b(), &request)? {
-        Some(certificate) => {
-            assert_eq!(rt; certificate.bounds.as_slice(), want.as_slice());
-            assert_eq!(rt; certificate.answer, 4);
-        }
-        None => panic!(rt; "no certificate"),
+fn best_fit_high(rt: HostRuntime) -> Result<(), AllocError> {
+    let bounds = [
+        bound(0, 160, 5, 150),
+        bound(256, 768, 5, 1014),
+        bound(1040, 1008, 5, 2038),
+    ];
+    assert_certified(&rt, &MACHINE_A, &request(4, 10, PAGE_COUNT), &bounds, 2038)
+}
+
+#[test]
+fn free_joins_again(rt: HostRuntime) -> Result<(), AllocError> {
+    let bounds = [
+        bound(0, 160, 6, 155),
+        bound(256, 768, 6, 1019),
+        bound(1040, 998, 5, 2033),
+    ];
+    assert_certified(
+        &rt,
+        &MACHINE_A_PLACED,
+        &request(4, 5, PAGE_COUNT),
+        &bounds,
+        2033,
+    )
+}
+
+#[test]
+fn runtime_joins_below(rt: HostRuntime) -> Result<(), AllocError> {
+    let bounds = [
+        bound(0, 160, 5, 156),
+        bound(256, 768, 4, 1020),
+        bound(1040, 1008, 4, 1040),
+    ];
+    assert_certified(&rt, &MACHINE_A, &request(6, 4, PAGE_COUNT), &bounds, 1040)
+}
+
+#[test]
+fn whole_entry(rt: HostRuntime) -> Result<(), AllocError> {
+    let bounds = [
+        bound(0, 160, 4, 0),
+        bound(256, 768, 5, 864),
+        bound(1040, 1008, 5, 1888),
+    ];
+    assert_certified(&rt, &MACHINE_A, &request(4, 160, PAGE_COUNT), &bounds, 0)
+}
+
+#[test]
+fn below_a_limit(rt: HostRuntime) -> Result<(), AllocError> {
+    let bounds = [
+        bound(0, 160, 5, 0),
+        no_start(256, 768),
+        no_start(1040, 1008),
+    ];
+    assert_certified(&rt, &MACHINE_A, &request(4, 10, 80), &bounds, 0)
+}
+
+#[test]
+fn last_pages_of_all(rt: HostRuntime) -> Result<(), AllocError> {
+    let first = PAGE_COUNT - 8;
+    for (pages, limit, count, top) in [
+        (8, PAGE_COUNT, 1, first),
+        (8, u64::MAX, 1, first),
+        (1, PAGE_COUNT, 2, PAGE_COUNT - 1),
+        (1, PAGE_COUNT - 1, 2, first),
+    ] {
+        let bounds = [bound(first, 8, count, top)];
+        assert_certified(&rt, &LAST_PAGES, &request(4, pages, limit), &bounds, top)?;
+    }
+    Ok(())
+}
+
+#[test]
+fn one_of_two_attributes(rt: HostRuntime) -> Result<(), AllocError> {
+    let bounds = [bound(0, 8, 2, 0), bound(8, 8, 2, 8)];
+    assert_certified(&rt, &MACHINE_B, &request(2, 8, PAGE_COUNT), &bounds, 8)
+}
+
+#[test]
+fn across_attributes(rt: HostRuntime) -> Result<(), AllocError> {
+    let bounds = [bound(0, 8, 3, 4), no_start(8, 8)];
+    assert_certified(&rt, &MACHINE_B, &request(2, 12, PAGE_COUNT), &bounds, 4)
+}
+
+#[test]
+fn limit_is_the_last_byte(rt: HostRuntime) -> Result<(), AllocError> {
+    let bounds = [bound(0, 8, 2, 0), no_start(8, 8)];
+    assert_certified(&rt, &MACHINE_B, &request(2, 8, 8), &bounds, 0)
+}
+
+#[test]
+fn no_start_is_permitted(rt: HostRuntime) -> Result<(), AllocError> {
+    let runs = machine_of(rt.alloc(), &LAST_PAGES)?;
+    for (pages, limit) in [
+        (1, 0),
+        (1, PAGE_COUNT - 8),
+        (8, PAGE_COUNT - 1),
+        (9, PAGE_COUNT),
+        (PAGE_COUNT, PAGE_COUNT),
+        (u64::MAX, PAGE_COUNT),
+        (u64::MAX, u64::MAX),
+    ] {
+        let found = chosen(rt.alloc(), runs.as_slice(), &request(4, pages, limit))?;
+        assert!(rt; found.is_none(), "{pages} by {limit}");
     }
     Ok(())
 }
@@ -197,7 +338,7 @@ fn disagreements(alloc: Global, runs: &[Run]) -> Result<usize, AllocError>
 
 #[test]
 fn agrees_with_the_plain_search(rt: HostRuntime) -> Result<(), AllocError> {
-    for seed in 0..40 {
+    for seed in 0..200 {
         let runs = drawn_machine(rt.alloc(), seed)?;
         assert_eq!(rt; disagreements(rt.alloc(), runs.as_slice())?, 0, "at {seed}");
     }

@@ -14,7 +14,7 @@ const LAST_PAGES: &str = "{\"memory\":[
 const NO_MEMORY: &str = "{\"memory\":[]}";
 
 /// Each a name, a machine, a trace, and the lines that it prints, without those of entries.
-const ROWS: [(&str, &str, &str, &str); 10] = [
+const ROWS: [(&str, &str, &str, &str); 13] = [
     (
         "best fit high",
         MACHINE,
@@ -68,6 +68,24 @@ const ROWS: [(&str, &str, &str, &str); 10] = [
         TWO_BLOCKS,
         "pages 1 2 8 0x7ffe\npages 1 2 8 0x7fff\n",
         "1 pages OUT_OF_RESOURCES\n2 pages SUCCESS address=0x0\n",
+    ),
+    (
+        "lowest limits",
+        MACHINE,
+        "pages 1 4 1 0\npages 1 4 1 0xffe\npages 1 4 1 0xfff\npages 1 4 1 0x1000\npages 1 4 1 0x1fff\n",
+        "1 pages OUT_OF_RESOURCES\n2 pages OUT_OF_RESOURCES\n3 pages SUCCESS address=0x0\n4 pages OUT_OF_RESOURCES\n5 pages SUCCESS address=0x1000\n",
+    ),
+    (
+        "highest limits",
+        LAST_PAGES,
+        "pages 1 4 8 0xfffffffffffffffe\npages 1 4 1 0xffffffffffffefff\npages 1 4 1 0xffffffffffffffff\nfree-pages 0xfffffffffffff000 2\nfree-pages 0xfffffffffffff000 1\n",
+        "1 pages OUT_OF_RESOURCES\n2 pages SUCCESS address=0xffffffffffff8000\n3 pages SUCCESS address=0xffffffffffff9000\n4 free-pages INVALID_PARAMETER\n5 free-pages NOT_FOUND\n",
+    ),
+    (
+        "most pages",
+        LAST_PAGES,
+        "pages 0 4 18446744073709551615 0\npages 1 4 18446744073709551615 0xffffffffffffffff\npages 2 4 18446744073709551615 0xffffffffffff8000\npages 2 4 9 0xffffffffffff8000\nfree-pages 0xffffffffffff8000 18446744073709551615\npages 2 4 8 0xffffffffffff8000\n",
+        "1 pages OUT_OF_RESOURCES\n2 pages OUT_OF_RESOURCES\n3 pages NOT_FOUND\n4 pages NOT_FOUND\n5 free-pages INVALID_PARAMETER\n6 pages SUCCESS address=0xffffffffffff8000\n",
     ),
     (
         "no memory at all",

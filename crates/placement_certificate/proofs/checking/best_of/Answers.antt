@@ -1,4 +1,3 @@
-use Rattle.std.proofs.Common.{arith}
 use Rattle.placement_certificate.proofs.CheckedBounds.{best_more}
 use Rattle.placement_certificate.proofs.checking.best_of.Goals as goal
 
