@@ -28,9 +28,9 @@ Writes before after (Ok accepted) = Appends before after (verdict_text accepted)
 Writes before after (Err fault.Write) = (accepted : Bool) × ((taken : ℕ) × Appends before after (take taken (verdict_text accepted)))
 Writes before after (Err e) = Keeps before after
 
--- What the answer says of known bytes: whether the block is accepted, or the first line that is not as stated.
-abbrev pub Judges : List ℕ → Result Bool BlockFault → Type 0
-Judges bytes (Ok accepted) = IsVerdict bytes accepted
-Judges bytes (Err (fault.Line number)) = block_of bytes ≡ Err number
-Judges bytes (Err fault.Write) = (accepted : Bool) × IsVerdict bytes accepted
-Judges bytes (Err e) = Unit {0}
+-- What the answer says of known bytes: whether the block is accepted, or the first line that is not as stated. A write that fails has written a front of the block's own verdict.
+abbrev pub Judges : List ℕ → Option (List ℕ) → Option (List ℕ) → Result Bool BlockFault → Type 0
+Judges bytes before after (Ok accepted) = IsVerdict bytes accepted
+Judges bytes before after (Err (fault.Line number)) = block_of bytes ≡ Err number
+Judges bytes before after (Err fault.Write) = (accepted : Bool) × IsVerdict bytes accepted × ((taken : ℕ) × Appends before after (take taken (verdict_text accepted)))
+Judges bytes before after (Err e) = Unit {0}

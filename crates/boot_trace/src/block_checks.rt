@@ -18,7 +18,7 @@ pub fn check_block<A: Allocator + Copy, R: Read + Drop, W: Write>(
     reader: R,
     writer: &mut W,
 ) -> Result<bool, BlockFault>
-    ensures judged { IfSome (R.remaining reader) (λ bytes. Judges bytes result) }
+    ensures judged { IfSome (R.remaining reader) (λ bytes. Judges bytes (W.contents writer.old) (W.contents writer.new) result) }
     ensures written { Writes (W.contents writer.old) (W.contents writer.new) result }
 {
     let block = match read_block(alloc, reader) {
