@@ -1,5 +1,5 @@
 -- Reading a part of a certificate block after another.
-use Rattle.std.proofs.Common.{◌≡◌, ◌⊎◌, IfSome, ℕ, suc, ◌+◌, ◌-◌, ◌<◌, ◌≤◌, Bool, true, false, ◌||◌, nat_lt, List, [], ◌∷◌, ◌++◌, length, Option, Some, None, Result, Ok, Err, IsErr, IsErrAnd, refl, sym, ap, subst, ◌∙◌, inl, inr, arith, lt-ltb, le-ltb, append_assoc, append-nil}
+use Rattle.std.proofs.Common.{◌≡◌, IfSome, ℕ, suc, ◌+◌, ◌-◌, ◌<◌, ◌≤◌, Bool, true, false, ◌||◌, nat_lt, List, [], ◌∷◌, ◌++◌, length, Option, Some, None, Result, Ok, Err, IsErr, IsErrAnd, refl, sym, ap, ◌∙◌, inl, inr, arith, lt-ltb, le-ltb, append_assoc, append-nil}
 use Rattle.boot_trace.specs.declared.faults.BlockFault.{BlockFault}
 use Rattle.boot_trace.specs.declared.faults.BlockFault.TheVariants as fault
 use Rattle.boot_trace.specs.Lines.{lines_of, first_line, after_line, TakesByte, IsFirstLine, TakesLine}

@@ -1,5 +1,5 @@
 -- What is printed of a call, from how its block was begun.
-use Rattle.std.proofs.Common.{◌≡◌, ℕ, ◌*◌, ◌≤◌, Bool, true, false, cond, List, [], ◌++◌, Option, Some, None, Result, Ok, Err, MatchBool, refl, ap, ◌∙◌, arith, eq-eqb, nat_eq, nat_lt, option_map}
+use Rattle.std.proofs.Common.{◌≡◌, ℕ, ◌*◌, ◌≤◌, Bool, true, false, cond, List, [], ◌++◌, Option, Some, None, Ok, Err, MatchBool, refl, ap, ◌∙◌, arith, eq-eqb, nat_eq, nat_lt, option_map}
 use Rattle.std.proofs.lemmas.Bool.{ltb-false}
 use Rattle.page_ranges.specs.MemoryTypes.{page_size}
 use Rattle.page_ranges.specs.Memory.{Page}

@@ -1,13 +1,13 @@
 -- Lines as they are printed, read back.
-use Rattle.std.proofs.Common.{◌≡◌, ℕ, zero, suc, ◌+◌, ◌-◌, ◌*◌, ◌<◌, ◌≤◌, Bool, true, false, cond, not, ◌==◌, ◌&&◌, ◌||◌, nat_lt, List, [], ◌∷◌, ◌++◌, length, map, flat_map, filter, take, get_or, Option, Some, None, Result, Ok, Err, refl, sym, ap, subst, ◌∙◌, arith, lt-ltb, le-ltb, ne_eqb, append_assoc, append-nil, length-append, inl, inr}
-use Rattle.std.specs.List.{AllByRecursion, slice_split, onto_first, slice_index}
-use Rattle.std.specs.Io.BufRead.{strip_last, ends_with_byte}
+use Rattle.std.proofs.Common.{◌≡◌, ℕ, zero, suc, ◌+◌, ◌-◌, ◌*◌, ◌<◌, ◌≤◌, false, not, ◌==◌, nat_lt, List, [], ◌∷◌, ◌++◌, length, map, flat_map, filter, Option, Some, Ok, refl, sym, ap, ◌∙◌, arith, le-ltb, ne_eqb, append_assoc, append-nil, length-append}
+use Rattle.std.specs.List.{AllByRecursion, slice_split, slice_index}
+use Rattle.std.specs.Io.BufRead.{strip_last}
 use Rattle.boot_trace.specs.Words.{is_blank, words_of}
-use Rattle.boot_trace.specs.Lines.{is_line_feed, lines_of, first_line, after_line}
+use Rattle.boot_trace.specs.Lines.{lines_of, after_line}
 use Rattle.boot_trace.specs.TraceLine.{longest_line}
 use Rattle.boot_trace.specs.PrintedText.{space, line_feed}
 use Rattle.boot_trace.specs.BlockText.{printed_line}
-use Rattle.boot_trace.specs.Blocks.{LinesLeft, line, said, times, most_block_lines}
+use Rattle.boot_trace.specs.Blocks.{line, said, times, most_block_lines}
 use Rattle.boot_trace.proofs.LineBytes.{HasNone, lines_of-none, lines_of-some, first_line-front}
 use Rattle.boot_trace.proofs.PrintedNumbers.{IsPlain, and_false}
 

@@ -1,10 +1,10 @@
 -- Numbers as they are printed, read back.
-use Rattle.std.proofs.Common.{◌≡◌, ℕ, zero, suc, ◌+◌, ◌-◌, ◌*◌, ◌/◌, ◌%◌, ◌^◌, ◌<◌, ◌≤◌, Bool, true, false, cond, ◌==◌, nat_lt, nat_le, nat_eq, List, [], ◌∷◌, ◌++◌, length, Option, Some, None, codes, refl, sym, ap, subst, ◌∙◌, arith, lt-ltb, ltb-true, ltb-false, eqb-true, eq-eqb, ne_eqb, ◌&&◌, lit<, lit≤}
+use Rattle.std.proofs.Common.{◌≡◌, ℕ, zero, suc, ◌+◌, ◌-◌, ◌*◌, ◌/◌, ◌%◌, ◌^◌, ◌<◌, ◌≤◌, Bool, true, false, cond, ◌==◌, nat_lt, nat_eq, List, [], ◌∷◌, length, Some, codes, refl, sym, ap, ◌∙◌, arith, lt-ltb, ltb-true, ltb-false, eqb-true, eq-eqb, ne_eqb, ◌&&◌, lit<, lit≤}
 use Rattle.std.specs.List.{AllByRecursion, starts_with}
 use Rattle.std.specs.Fmt.{decimal, digits, digits_onto, digit_glyph}
 use Rattle.std.proofs.Math.Nat.{mod-lt, pow-zero, pow-suc, div-add-mod', div-lt_iff_lt-mul}
 use Rattle.std.proofs.lemmas.Bool.{le-leb, lt-leb}
-use Rattle.boot_trace.specs.Numbers.{digit, digit_of, number_of_digits, within_64_bits, hexadecimal_of, decimal_of, number_of, is_some_at_most}
+use Rattle.boot_trace.specs.Numbers.{digit, digit_of, number_of_digits, number_of, is_some_at_most}
 use Rattle.boot_trace.specs.PrintedText.{hexadecimal}
 use Rattle.boot_trace.proofs.Digits.{number_from, number_from-zero, number_from-digit, number_from-end}
 

@@ -22,10 +22,15 @@ pub record IsVerdict (bytes : List ℕ) (accepted : Bool) : Type 0 where
   pub block : block_of bytes ≡ Ok (map, request, certificate)
   pub accepts : IsTrue accepted ↔ IsAccepted map request certificate
 
--- How the check of known bytes ends. On a fault nothing is written, but for a write that fails: then a front of the line.
+-- What is written, whatever is read: one of the two lines; on a fault nothing, but for a write that fails: then a front of one.
+abbrev pub Writes : Option (List ℕ) → Option (List ℕ) → Result Bool BlockFault → Type 0
+Writes before after (Ok accepted) = Appends before after (verdict_text accepted)
+Writes before after (Err fault.Write) = (accepted : Bool) × ((taken : ℕ) × Appends before after (take taken (verdict_text accepted)))
+Writes before after (Err e) = Keeps before after
+
+-- What the answer says of known bytes: whether the block is accepted, or the first line that is not as stated. A write that fails has written a front of the block's own verdict.
 abbrev pub Judges : List ℕ → Option (List ℕ) → Option (List ℕ) → Result Bool BlockFault → Type 0
-Judges bytes before after (Ok accepted) = IsVerdict bytes accepted × Appends before after (verdict_text accepted)
-Judges bytes before after (Err (fault.Line number)) = (block_of bytes ≡ Err number) × Keeps before after
+Judges bytes before after (Ok accepted) = IsVerdict bytes accepted
+Judges bytes before after (Err (fault.Line number)) = block_of bytes ≡ Err number
 Judges bytes before after (Err fault.Write) = (accepted : Bool) × IsVerdict bytes accepted × ((taken : ℕ) × Appends before after (take taken (verdict_text accepted)))
-Judges bytes before after (Err fault.Read) = Keeps before after
-Judges bytes before after (Err fault.OutOfMemory) = Keeps before after
+Judges bytes before after (Err e) = Unit {0}

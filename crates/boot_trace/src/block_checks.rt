@@ -1,9 +1,7 @@
 //! The check of a certificate block.
-ghost use Rattle.std.specs.Prelude.{◌≡◌, ◌↔◌, IfSome, IsTrue, MatchResult, [], OnOk, IfErr, ℕ, take, IfOk};
+ghost use Rattle.std.specs.Prelude.{◌≡◌, ℕ, take, IfSome, IfErr, OnOk};
 ghost use Rattle.std.specs.Io.KnownBytes.{Appends};
-ghost use Rattle.placement_certificate.specs.Acceptance.{IsAccepted};
-ghost use Rattle.boot_trace.specs.Blocks.{block_of};
-ghost use Rattle.boot_trace.specs.BlockChecks.{verdict_text, Judges};
+ghost use Rattle.boot_trace.specs.BlockChecks.{verdict_text, Judges, Writes};
 
 use crate::block_reader::read_block;
 use crate::faults::BlockFault;
@@ -20,7 +18,8 @@ pub fn check_block<A: Allocator + Copy, R: Read + Drop, W: Write>(
     reader: R,
     writer: &mut W,
 ) -> Result<bool, BlockFault>
-    ensures { IfSome (R.remaining reader) (λ bytes. Judges bytes (W.contents writer.old) (W.contents writer.new) result) }
+    ensures judged { IfSome (R.remaining reader) (λ bytes. Judges bytes (W.contents writer.old) (W.contents writer.new) result) }
+    ensures written { Writes (W.contents writer.old) (W.contents writer.new) result }
 {
     let block = match read_block(alloc, reader) {
         Ok(block) => block,

@@ -1,4 +1,4 @@
-use Rattle.std.proofs.Common.{List, ℕ, map, length, inl, inr, sym, arith}
+use Rattle.std.proofs.Common.{map, inl, inr, sym, arith}
 use Rattle.std.proofs.lemmas.List.{length-map}
 use Rattle.boot_trace.proofs.BlockWords.{bound_other}
 use Rattle.boot_trace.proofs.block_lines.bound_of.Goals as goal

@@ -1,4 +1,4 @@
-use Rattle.std.proofs.Common.{List, ℕ, map, length, inl, inr, sym, arith, rules}
+use Rattle.std.proofs.Common.{map, inl, inr, sym, rules}
 use Rattle.std.proofs.lemmas.List.{length-map}
 use Rattle.boot_trace.proofs.BlockWords.{entry_other}
 use Rattle.boot_trace.proofs.block_lines.entry_of.Goals.{in_default-via-then-words-lt4, in_default-via-else-words-lt4+else-words-lt5}

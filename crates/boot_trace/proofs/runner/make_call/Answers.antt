@@ -1,5 +1,4 @@
 use Rattle.std.proofs.Common.{inr, refl}
-use Rattle.boot_trace.proofs.CallTexts.{prints_call}
 use Rattle.boot_trace.proofs.runner.make_call.Goals as goal
 
 pub returns-clause-err : goal.returns-clause-err

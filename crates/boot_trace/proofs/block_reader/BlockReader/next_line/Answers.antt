@@ -1,4 +1,4 @@
-use Rattle.std.proofs.Common.{refl, arith}
+use Rattle.std.proofs.Common.{arith}
 use Rattle.std.specs.Io.Buffered.{reader_remaining}
 use Rattle.boot_trace.proofs.BlockSteps.{line_missing, line_too_long, line_taken}
 use Rattle.boot_trace.proofs.block_reader.BlockReader.next_line.Goals as goal
