@@ -14,9 +14,9 @@ use Rattle.boot_core.specs.declared.calls.Call.TheVariants as call
 use Rattle.boot_core.specs.declared.calls.Reply.{Reply}
 use Rattle.boot_core.specs.declared.calls.Reply.TheVariants as reply
 use Rattle.boot_core.specs.Machines.{State}
-use Rattle.boot_core.specs.Steps.{Answers, Step, StepAny, RunsBy}
+use Rattle.boot_core.specs.Steps.{ServesBook, Answers, Step, StepAny, RunsBy, Runs}
 
-best_is_permitted : (m : List Page) (r : Request) (p : ℕ) (c : Option CertificateValue) → IsBestChoice m r p c → IsAnyStart m r p c
+pub best_is_permitted : (m : List Page) (r : Request) (p : ℕ) (c : Option CertificateValue) → IsBestChoice m r p c → IsAnyStart m r p c
 best_is_permitted m r p None h = absurd h
 best_is_permitted m r p (Some c) h = subst (IsPermittedStart m r) h.1 h.0.answer.permitted
 
@@ -37,18 +37,21 @@ allocates_any b kind t pages memory (Err status.DeviceError) new h = absurd h
 allocates_any b kind t pages memory (Err status.AccessDenied) new h = absurd h
 allocates_any b kind t pages memory (Err status.AlreadyStarted) new h = absurd h
 
+served_as : {R : Type 0} (exited : Bool) (old : Book) (result : Result R Status) (new : Book) (P Q : Result R Status → Book → Type 0) → (P result new → Q result new) → ServesBook exited old result new P → ServesBook exited old result new Q
+served_as true old result new P Q f h = h
+served_as false old result new P Q f h = f h
+
 answers_any : {A : Type 0} (exited : Bool) (old : Book) (call : Call) (reply : Reply A) (new : Book) → Answers IsBestChoice exited old call reply new → Answers IsAnyStart exited old call reply new
-answers_any true old (call.AllocatePages kind t pages memory) (reply.AllocatePages result) new h = h
-answers_any false old (call.AllocatePages kind t pages memory) (reply.AllocatePages result) new h = allocates_any old kind t pages memory result new h
-answers_any true old (call.FreePages memory pages) (reply.FreePages result) new h = h
-answers_any false old (call.FreePages memory pages) (reply.FreePages result) new h = h
-answers_any exited old (call.AllocatePages kind t pages memory) (reply.FreePages result) new h = absurd h
-answers_any exited old (call.FreePages memory pages) (reply.AllocatePages result) new h = absurd h
+answers_any exited old (call.AllocatePages kind t pages memory) (reply.AllocatePages result) new h = served_as exited old result new (AllocatesPages IsBestChoice old kind t pages memory) (AllocatesPages IsAnyStart old kind t pages memory) (allocates_any old kind t pages memory result new) h
+answers_any exited old (call.FreePages memory pages) (reply.FreePages result) new h = h
+answers_any exited old (call.GetMemoryMap size) (reply.GetMemoryMap answer bytes) new h = h
+answers_any exited old (call.ExitBootServices key) (reply.ExitBootServices result) new h = h
+answers_any exited old call reply new h = absurd h
 
 pub step_any : {A : Type 0} (old : State) (call : Call) (reply : Reply A) (new : State) → Step old call reply new → StepAny old call reply new
 step_any old call reply new s = record { answers = answers_any old.exited old.book call reply new.book s.answers; exited = s.exited; calls_left = s.calls_left }
 
-pub run_any : {A : Type 0} (old : State) (calls : List Call) (replies : List (Reply A)) (new : State) → RunsBy IsBestChoice old calls replies new → RunsBy IsAnyStart old calls replies new
+pub run_any : {A : Type 0} (old : State) (calls : List Call) (replies : List (Reply A)) (new : State) → Runs old calls replies new → RunsBy IsAnyStart old calls replies new
 run_any old [] [] new r = r
 run_any old (c ∷ calls) (r ∷ replies) new run = (run.0, step_any old c r run.0 run.1, run_any run.0 calls replies new run.2)
 run_any old [] (r ∷ replies) new run = absurd run

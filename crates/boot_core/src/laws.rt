@@ -1,5 +1,6 @@
 //! The laws of the machine, each the contract of a function that does nothing.
-ghost use Rattle.boot_core.specs.Steps.{AnyRunLaw, AnyStepLaw};
+ghost use Rattle.page_services.specs.PageRules.{IsAnyStart, IsBestChoice};
+ghost use Rattle.boot_core.specs.Laws.{AcceptanceLaw, AnyRunLaw, AnyStepLaw, KeyLaw};
 
 use std::alloc::Allocator;
 
@@ -11,4 +12,17 @@ pub fn any_step_law<A: Allocator>()
 /// A run in which each start is the best is one in which each start is a permitted one.
 pub fn any_run_law<A: Allocator>()
     ensures { AnyRunLaw A }
+{}
+
+/// Before an exit, a key that GetMemoryMap gave is accepted exactly while no call since has changed
+/// the type of a page, however permitted starts are chosen.
+pub fn key_law<A: Allocator>()
+    ensures best { KeyLaw IsBestChoice A }
+    ensures any { KeyLaw IsAnyStart A }
+{}
+
+/// On a valid machine the checker accepts the certificate of each placement of a run, with the
+/// memory map before the call.
+pub fn acceptance_law<A: Allocator>()
+    ensures { AcceptanceLaw A }
 {}

@@ -39,14 +39,16 @@ module _ {A : Type 0} where
   certificate_none : (exited : Bool) (b new : Book) (k t p a : ℕ) (answer : Reply A) → Answers IsBestChoice exited b (call.AllocatePages k t p a) answer new → fixed_address ≤ k → certificate_of answer ≡ None
   certificate_none exited b new k t p a (reply.AllocatePages (Ok placed)) h big = served_without exited b new k t p a placed h big
   certificate_none exited b new k t p a (reply.AllocatePages (Err e)) h big = refl
-  certificate_none exited b new k t p a (reply.FreePages r) h big = refl
+  certificate_none exited b new k t p a answer h big = refl
 
   started : (certify : Bool) (old new : State) (c : Call) (answer : Reply A) → Step old c answer new → started_block (block_start certify old.book.memory c) (certificate_of answer) ≡ cond certify (certificate_text old.book.memory c (certificate_of answer)) []
   started false old new c answer s = refl
   started true old new (call.FreePages a p) answer s = refl
+  started true old new (call.GetMemoryMap size) answer s = refl
+  started true old new (call.ExitBootServices key) answer s = refl
   started true old new (call.AllocatePages k t p a) answer s =
       begun (nat_lt k fixed_address) (certificate_of answer) old.book.memory k t p a (λ e. certificate_none old.exited old.book new.book k t p a answer s.answers (ltb-false k fixed_address e))
 
   -- the line of the reply and the block that was begun are what is printed of the call
-  pub prints_call : (certify : Bool) (number : ℕ) (old new : State) (c : Call) (answer : Reply A) (text : List ℕ) → Step old c answer new → text ≡ reply_text number answer ++ started_block (block_start certify old.book.memory c) (certificate_of answer) → text ≡ printed certify number old.book.memory c answer
-  prints_call certify number old new c answer text s e = e ∙ ap (λ (more : List ℕ). reply_text number answer ++ more) (started certify old new c answer s)
+  pub prints_call : (certify : Bool) (number : ℕ) (old new : State) (c : Call) (answer : Reply A) (text : List ℕ) → Step old c answer new → text ≡ reply_text number (memory_map new.book.memory) answer ++ started_block (block_start certify old.book.memory c) (certificate_of answer) → text ≡ printed certify number old.book.memory new.book.memory c answer
+  prints_call certify number old new c answer text s e = e ∙ ap (λ (more : List ℕ). reply_text number (memory_map new.book.memory) answer ++ more) (started certify old new c answer s)

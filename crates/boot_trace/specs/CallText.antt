@@ -23,10 +23,10 @@ abbrev pub certificate_text : List Page → Call → Option CertificateValue →
 certificate_text before (AllocatePages kind t pages memory) (Some c) = block_text (memory_map before) (request_of kind t pages memory) c
 certificate_text before call certificate = []
 
--- What is printed of a call on this memory with this reply: the reply's line and, where certificates are asked for, the
+-- What is printed of a call with this reply, with the memory before and after it: the reply's lines and, where certificates are asked for, the
 -- block of the one that it carries.
-abbrev pub printed : {A : Type 0} → Bool → ℕ → List Page → Call → Reply A → List ℕ
-printed certify number before call answer = reply_text number answer ++ (if certify then certificate_text before call (certificate_of answer) else [])
+abbrev pub printed : {A : Type 0} → Bool → ℕ → List Page → List Page → Call → Reply A → List ℕ
+printed certify number before after call answer = reply_text number (memory_map after) answer ++ (if certify then certificate_text before call (certificate_of answer) else [])
 
 -- ---- how a block is begun before the call
 

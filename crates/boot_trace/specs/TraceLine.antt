@@ -1,8 +1,8 @@
 -- What a trace line asks for.
-use Rattle.std.specs.Prelude.{ℕ, ◌^◌, nat_lt, nat_eq, List, [], ◌∷◌, length, codes, Option, Some, None, Result, Ok, Err, if◌then◌else◌}
+use Rattle.std.specs.Prelude.{ℕ, ◌^◌, nat_le, nat_lt, nat_eq, List, [], ◌∷◌, length, codes, Option, Some, None, Result, Ok, Err, if◌then◌else◌}
 use Rattle.std.specs.List.{starts_with}
 use Rattle.std.specs.Io.BufRead.{strip_last}
-use Rattle.boot_core.specs.declared.calls.Call.TheVariants.{AllocatePages, FreePages}
+use Rattle.boot_core.specs.declared.calls.Call.TheVariants.{AllocatePages, FreePages, GetMemoryMap, ExitBootServices}
 use Rattle.boot_trace.specs.declared.calls.TraceCall.{TraceCall}
 use Rattle.boot_trace.specs.declared.calls.TraceCall.TheVariants as trace_call
 use Rattle.boot_trace.specs.declared.faults.TraceFault.{TraceFault}
@@ -36,6 +36,16 @@ u32_of word = do
   n ← u64_of word
   if nat_lt n (2 ^ 32) then Ok n else Err fault.Number
 
+-- the most bytes of a buffer for the memory map
+abbrev pub largest_buffer : ℕ
+largest_buffer = 16777216
+
+-- the size of a buffer for the memory map
+abbrev pub buffer_size_of : List ℕ → Result ℕ TraceFault
+buffer_size_of word = do
+  n ← u64_of word
+  if nat_le n largest_buffer then Ok n else Err fault.Number
+
 -- what a verb asks for with its parameters, each of its type, from left to right
 abbrev pub call_of : Verb → List (List ℕ) → Result TraceCall TraceFault
 call_of verb.Pages (kind ∷ mtype ∷ pages ∷ memory ∷ []) = do
@@ -48,6 +58,12 @@ call_of verb.FreePages (memory ∷ pages ∷ []) = do
   m ← u64_of memory
   p ← u64_of pages
   Ok (trace_call.Service (FreePages m p))
+call_of verb.Map (size ∷ []) = do
+  n ← buffer_size_of size
+  Ok (trace_call.Service (GetMemoryMap n))
+call_of verb.Exit (key ∷ []) = do
+  k ← u64_of key
+  Ok (trace_call.Service (ExitBootServices k))
 call_of verb.List [] = Ok trace_call.List
 call_of v words = Err fault.Words
 

@@ -20,7 +20,7 @@ use Rattle.boot_trace.specs.TraceLine.{line_of}
 abbrev pub Prints : Type 0 → Bool → ℕ → Result (Option TraceCall) TraceFault → State → List ℕ → State → Type 0
 Prints A certify number (Ok None) old text new = (text ≡ []) × (new ≡ old)
 Prints A certify number (Ok (Some trace_call.List)) old text new = (text ≡ list_text number (memory_map old.book.memory)) × (new ≡ old)
-Prints A certify number (Ok (Some (trace_call.Service call))) old text new = (reply : Reply A) × Step old call reply new × (text ≡ printed certify number old.book.memory call reply)
+Prints A certify number (Ok (Some (trace_call.Service call))) old text new = (reply : Reply A) × Step old call reply new × (text ≡ printed certify number old.book.memory new.book.memory call reply)
 Prints A certify number (Err e) old text new = ⊥
 
 -- Why a line that is read so stops a run, and how it leaves the machine: as it was, or for want of memory after the

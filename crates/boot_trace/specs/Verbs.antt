@@ -8,11 +8,13 @@ use Rattle.boot_trace.specs.declared.verbs.Verb.TheVariants as verb
 abbrev pub name_of : Verb → List ℕ
 name_of verb.Pages = codes "pages"
 name_of verb.FreePages = codes "free-pages"
+name_of verb.Map = codes "map"
+name_of verb.Exit = codes "exit"
 name_of verb.List = codes "list"
 
 -- all verbs
 abbrev pub verbs : List Verb
-verbs = verb.Pages ∷ verb.FreePages ∷ verb.List ∷ []
+verbs = verb.Pages ∷ verb.FreePages ∷ verb.Map ∷ verb.Exit ∷ verb.List ∷ []
 
 -- the verb that is written so
 abbrev pub verb_named : List ℕ → Option Verb

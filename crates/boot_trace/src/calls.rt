@@ -1,7 +1,7 @@
 //! Trace lines as calls.
 ghost use Rattle.std.specs.Prelude.{◌≡◌, ◌⊎◌, [], ◌∷◌, Err, map};
 ghost use Rattle.std.specs.Io.BufRead.{strip_last};
-ghost use Rattle.boot_trace.specs.TraceLine.{u64_of, u32_of, call_of, request_of, line_of};
+ghost use Rattle.boot_trace.specs.TraceLine.{u64_of, u32_of, buffer_size_of, call_of, request_of, line_of};
 
 use crate::faults::TraceFault;
 use crate::numbers::number_of;
@@ -12,6 +12,9 @@ use std::alloc::Allocator;
 
 /// The most bytes of a line, without its line feed.
 pub const LONGEST_LINE: usize = 65_536;
+
+/// The most bytes of a buffer for the memory map.
+const LARGEST_BUFFER: u64 = 16_777_216;
 
 /// What a trace line asks for.
 #[derive(Clone, Copy, Debug, PartialEq, Eq)]
@@ -66,6 +69,8 @@ fn read_verb(verb: Verb, parameters: &[&[u8]]) -> Result<TraceCall, TraceFault>
     match (verb, parameters) {
         (Verb::Pages, [kind, mtype, pages, memory]) => read_pages(kind, mtype, pages, memory),
         (Verb::FreePages, [memory, pages]) => read_free_pages(memory, pages),
+        (Verb::Map, [size]) => read_map(size),
+        (Verb::Exit, [key]) => read_exit(key),
         (Verb::List, []) => Ok(TraceCall::List),
         _ => Err(TraceFault::Words),
     }
@@ -96,6 +101,36 @@ fn read_free_pages(memory: &[u8], pages: &[u8]) -> Result<TraceCall, TraceFault>
         memory: read_u64(memory)?,
         pages: read_u64(pages)?,
     }))
+}
+
+/// What `map` asks for.
+fn read_map(size: &[u8]) -> Result<TraceCall, TraceFault>
+    ensures { result ≡ call_of Verb.Map (size.now ∷ []) }
+{
+    Ok(TraceCall::Service(Call::GetMemoryMap {
+        size: read_buffer_size(size)?,
+    }))
+}
+
+/// What `exit` asks for.
+fn read_exit(key: &[u8]) -> Result<TraceCall, TraceFault>
+    ensures { result ≡ call_of Verb.Exit (key.now ∷ []) }
+{
+    Ok(TraceCall::Service(Call::ExitBootServices {
+        key: read_u64(key)?,
+    }))
+}
+
+/// The size of a buffer for the memory map.
+fn read_buffer_size(word: &[u8]) -> Result<u64, TraceFault>
+    ensures { result ≡ buffer_size_of word.now }
+{
+    let size = read_u64(word)?;
+    if size <= LARGEST_BUFFER {
+        Ok(size)
+    } else {
+        Err(TraceFault::Number)
+    }
 }
 
 /// A parameter of 32 bits.

@@ -89,17 +89,18 @@ fn entries_of<A: Allocator + Copy>(alloc: A, core: &Core<A>) -> Result<Vec<Descr
     Ok(entries)
 }
 
-/// Appends the line of a reply, and the block of the certificate that it carries, if the block was
+/// Appends the lines of a reply, and the block of the certificate that it carries, if the block was
 /// begun.
-pub fn print_call<A: Allocator>(
+pub fn print_call<A: Allocator + Copy>(
     text: &mut String<A>,
     number: u64,
+    core: &Core<A>,
     start: &Option<BlockStart<A>>,
     reply: &Reply<A>,
 ) -> Result<(), AllocError>
-    ensures { OnOk result (string_bytes text.new ≡ string_bytes text.old ++ (reply_text number reply.now ++ started_block start.now (certificate_of reply.now))) }
+    ensures { OnOk result (string_bytes text.new ≡ string_bytes text.old ++ (reply_text number (memory_map core.now.book.memory) reply.now ++ started_block start.now (certificate_of reply.now))) }
 {
-    print_reply(text, number, reply)?;
+    print_reply(text, number, core, reply)?;
     match (start, certificate_of(reply)) {
         (Some(start), Some(certificate)) => print_block(
             text,

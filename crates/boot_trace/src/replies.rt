@@ -1,22 +1,24 @@
 //! The text of replies.
-ghost use Rattle.std.specs.Prelude.{◌≡◌, ◌++◌, ◌<◌, OnOk, string_bytes};
+ghost use Rattle.std.specs.Prelude.{◌≡◌, ◌++◌, ◌<◌, OnOk, flat_map, string_bytes};
 ghost use Rattle.page_ranges.specs.MemoryTypes.{page_count};
 ghost use Rattle.page_ranges.specs.MemoryMap.{memory_map};
-ghost use Rattle.boot_trace.specs.PrintedText.{value_line, reply_text, status_line, list_text, descriptor_line};
+ghost use Rattle.boot_trace.specs.PrintedText.{value_line, reply_text, status_line, size_line, map_start, map_end, map_text, list_text, descriptor_line};
 ghost use Rattle.page_ranges.specs.Statuses.{name_of};
 
 use crate::verbs::Verb;
 use boot_core::{Core, Reply};
+use map_keys::MapReply;
 use page_ranges::{Descriptor, PAGE_SIZE, Status};
 use std::alloc::{AllocError, Allocator};
 
-/// Appends the line of a reply.
-pub fn print_reply<A: Allocator>(
+/// Appends the line of a reply, and of a reply with the memory map the lines of its entries.
+pub fn print_reply<A: Allocator + Copy>(
     text: &mut String<A>,
     number: u64,
+    core: &Core<A>,
     reply: &Reply<A>,
 ) -> Result<(), AllocError>
-    ensures { OnOk result (string_bytes text.new ≡ string_bytes text.old ++ reply_text number reply.now) }
+    ensures { OnOk result (string_bytes text.new ≡ string_bytes text.old ++ reply_text number (memory_map core.now.book.memory) reply.now) }
 {
     match reply {
         Reply::AllocatePages(Ok(placed)) => {
@@ -25,6 +27,9 @@ pub fn print_reply<A: Allocator>(
         Reply::AllocatePages(Err(status)) => print_status(text, number, Verb::Pages, *status),
         Reply::FreePages(Ok(())) => print_status(text, number, Verb::FreePages, Status::Success),
         Reply::FreePages(Err(status)) => print_status(text, number, Verb::FreePages, *status),
+        Reply::GetMemoryMap { reply, .. } => print_map(text, number, core, reply),
+        Reply::ExitBootServices(Ok(())) => print_status(text, number, Verb::Exit, Status::Success),
+        Reply::ExitBootServices(Err(status)) => print_status(text, number, Verb::Exit, *status),
     }
 }
 
@@ -56,6 +61,62 @@ fn print_status<A: Allocator>(
     writeln!(text, "{number} {verb} {status}")
 }
 
+/// Appends the lines of a reply of GetMemoryMap.
+fn print_map<A: Allocator + Copy>(
+    text: &mut String<A>,
+    number: u64,
+    core: &Core<A>,
+    reply: &MapReply,
+) -> Result<(), AllocError>
+    ensures { OnOk result (string_bytes text.new ≡ string_bytes text.old ++ map_text number (memory_map core.now.book.memory) reply.now reply.now.status) }
+{
+    match reply.status {
+        Status::Success => {
+            print_map_start(text, number, reply)?;
+            print_map_end(text, reply)?;
+            print_entries(text, core)
+        }
+        Status::BufferTooSmall => print_size(text, number, Verb::Map, reply.size),
+        status => print_status(text, number, Verb::Map, status),
+    }
+}
+
+/// Appends the line of a map that was written, up to its key.
+fn print_map_start<A: Allocator>(
+    text: &mut String<A>,
+    number: u64,
+    reply: &MapReply,
+) -> Result<(), AllocError>
+    ensures { OnOk result (string_bytes text.new ≡ string_bytes text.old ++ map_start number reply.now) }
+{
+    let verb = Verb::Map.name();
+    let size = reply.size;
+    let key = reply.key;
+    write!(text, "{number} {verb} SUCCESS size={size} key={key}")
+}
+
+/// Appends the rest of that line.
+fn print_map_end<A: Allocator>(text: &mut String<A>, reply: &MapReply) -> Result<(), AllocError>
+    ensures { OnOk result (string_bytes text.new ≡ string_bytes text.old ++ map_end reply.now) }
+{
+    let record = reply.descriptor_size;
+    let version = reply.version;
+    writeln!(text, " descriptor-size={record} version={version}")
+}
+
+/// Appends the line of a call that was given too small a buffer.
+fn print_size<A: Allocator>(
+    text: &mut String<A>,
+    number: u64,
+    verb: Verb,
+    size: u64,
+) -> Result<(), AllocError>
+    ensures { OnOk result (string_bytes text.new ≡ string_bytes text.old ++ size_line number verb size) }
+{
+    let verb = verb.name();
+    writeln!(text, "{number} {verb} BUFFER_TOO_SMALL size={size}")
+}
+
 /// Appends the lines of a listing: the memory map's length, and its entries.
 pub fn print_list<A: Allocator + Copy>(
     text: &mut String<A>,
@@ -67,6 +128,16 @@ pub fn print_list<A: Allocator + Copy>(
     let verb = Verb::List.name();
     let descriptors = core.descriptors();
     writeln!(text, "{number} {verb} descriptors={descriptors}")?;
+    print_entries(text, core)
+}
+
+/// Appends the lines of the memory map's entries.
+fn print_entries<A: Allocator + Copy>(
+    text: &mut String<A>,
+    core: &Core<A>,
+) -> Result<(), AllocError>
+    ensures { OnOk result (string_bytes text.new ≡ string_bytes text.old ++ flat_map descriptor_line (memory_map core.now.book.memory)) }
+{
     for entry in core.map_entries() {
         print_descriptor(text, &entry)?;
     }

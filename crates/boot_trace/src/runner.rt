@@ -100,7 +100,7 @@ fn make_call<A: Allocator + Copy>(
         return Err(RunFault::OutOfMemory);
     };
     let reply = core.call(call);
-    match print_call(text, number, &start, &reply) {
+    match print_call(text, number, core, &start, &reply) {
         Ok(()) => Ok(()),
         Err(_) => Err(RunFault::OutOfMemory),
     }

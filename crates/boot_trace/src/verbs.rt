@@ -8,11 +8,19 @@ ghost use Rattle.boot_trace.specs.Verbs.{name_of, verb_named};
 pub enum Verb {
     Pages,
     FreePages,
+    Map,
+    Exit,
     List,
 }
 
 /// All verbs.
-const VERBS: [Verb; 3] = [Verb::Pages, Verb::FreePages, Verb::List];
+const VERBS: [Verb; 5] = [
+    Verb::Pages,
+    Verb::FreePages,
+    Verb::Map,
+    Verb::Exit,
+    Verb::List,
+];
 
 impl Verb {
     /// How the verb is written.
@@ -22,6 +30,8 @@ impl Verb {
         match self {
             Verb::Pages => "pages",
             Verb::FreePages => "free-pages",
+            Verb::Map => "map",
+            Verb::Exit => "exit",
             Verb::List => "list",
         }
     }

@@ -2,10 +2,12 @@
 mod blocks;
 mod certificates;
 mod commands;
+mod core_runs;
 mod faults;
 mod firmware;
 mod firmware_blocks;
 mod firmware_maps;
+mod maps;
 mod placements;
 mod rows;
 mod streams;

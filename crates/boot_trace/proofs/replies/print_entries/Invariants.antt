@@ -2,7 +2,7 @@ use Rattle.std.proofs.Common.{◌≡◌, ◌++◌, string_bytes}
 use Rattle.std.specs.List.{flat_map}
 use Rattle.page_ranges.specs.MemoryMap.{memory_map}
 use Rattle.boot_trace.specs.PrintedText.{descriptor_line}
-use Rattle.boot_trace.proofs.replies.print_list.Given as goal
+use Rattle.boot_trace.proofs.replies.print_entries.Given as goal
 
 abbrev pub invariant-loop-entry : goal.invariant-loop-entry
 invariant-loop-entry g l = record {

@@ -1,0 +1,5 @@
+use Rattle.boot_core.proofs.Acceptances.{accepted_run}
+use Rattle.boot_core.proofs.laws.acceptance_law.Goals as goal
+
+pub returns : goal.returns
+returns g c = λ machine calls replies new run valid. accepted_run machine calls replies new run valid
