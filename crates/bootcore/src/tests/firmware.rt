@@ -246,7 +246,7 @@ fn place(
             assert!(rt; drawn.kind == 1 && !has_place(stretches, drawn));
             Ok(None)
         }
-        Reply::FreePages(_) => Err("the reply to another call")?,
+        _ => Err("the reply to another call")?,
     }
 }
 
@@ -277,7 +277,7 @@ fn free(
             assert!(rt; !are_placed, "not freed from {first}");
             Ok(None)
         }
-        Reply::AllocatePages(_) => Err("the reply to another call")?,
+        _ => Err("the reply to another call")?,
     }
 }
 
