@@ -43,17 +43,13 @@ value_line number v name value = reply_start number v ++ codes " SUCCESS " ++ na
 abbrev pub descriptor_line : Descriptor → List ℕ
 descriptor_line d = codes "  " ++ decimal d.mtype ++ space ++ hexadecimal (d.first * page_size) ++ space ++ decimal d.pages ++ space ++ hexadecimal d.attributes ++ line_feed
 
--- the line of a memory map that was written, up to its key
-abbrev pub map_start : ℕ → MapReply → List ℕ
-map_start number told = reply_start number verb.Map ++ codes " SUCCESS size=" ++ decimal told.size ++ codes " key=" ++ decimal told.key
-
--- the rest of that line
-abbrev pub map_end : MapReply → List ℕ
-map_end told = codes " descriptor-size=" ++ decimal told.descriptor_size ++ codes " version=" ++ decimal told.version ++ line_feed
+-- the line of a memory map that was written
+abbrev pub map_line : ℕ → MapReply → List ℕ
+map_line number told = reply_start number verb.Map ++ codes " SUCCESS size=" ++ decimal told.size ++ codes " key=" ++ decimal told.key ++ codes " descriptor-size=" ++ decimal told.descriptor_size ++ codes " version=" ++ decimal told.version ++ line_feed
 
 -- What is printed of a GetMemoryMap with this reply, of this status: on success its line and those of the entries.
 abbrev pub map_text : ℕ → List Descriptor → MapReply → Status → List ℕ
-map_text number entries told Success = map_start number told ++ map_end told ++ flat_map descriptor_line entries
+map_text number entries told Success = map_line number told ++ flat_map descriptor_line entries
 map_text number entries told BufferTooSmall = size_line number verb.Map told.size
 map_text number entries told status = status_line number verb.Map (status_of status)
 

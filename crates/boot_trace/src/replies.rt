@@ -2,7 +2,7 @@
 ghost use Rattle.std.specs.Prelude.{◌≡◌, ◌++◌, ◌<◌, OnOk, flat_map, string_bytes};
 ghost use Rattle.page_ranges.specs.MemoryTypes.{page_count};
 ghost use Rattle.page_ranges.specs.MemoryMap.{memory_map};
-ghost use Rattle.boot_trace.specs.PrintedText.{value_line, reply_text, status_line, size_line, map_start, map_end, map_text, list_text, descriptor_line};
+ghost use Rattle.boot_trace.specs.PrintedText.{value_line, reply_text, status_line, size_line, map_line, map_text, list_text, descriptor_line};
 ghost use Rattle.page_ranges.specs.Statuses.{name_of};
 
 use crate::verbs::Verb;
@@ -72,8 +72,7 @@ fn print_map<A: Allocator + Copy>(
 {
     match reply.status {
         Status::Success => {
-            print_map_start(text, number, reply)?;
-            print_map_end(text, reply)?;
+            print_map_line(text, number, reply)?;
             print_entries(text, core)
         }
         Status::BufferTooSmall => print_size(text, number, Verb::Map, reply.size),
@@ -81,27 +80,23 @@ fn print_map<A: Allocator + Copy>(
     }
 }
 
-/// Appends the line of a map that was written, up to its key.
-fn print_map_start<A: Allocator>(
+/// Appends the line of a memory map that was written.
+fn print_map_line<A: Allocator>(
     text: &mut String<A>,
     number: u64,
     reply: &MapReply,
 ) -> Result<(), AllocError>
-    ensures { OnOk result (string_bytes text.new ≡ string_bytes text.old ++ map_start number reply.now) }
+    ensures { OnOk result (string_bytes text.new ≡ string_bytes text.old ++ map_line number reply.now) }
 {
     let verb = Verb::Map.name();
     let size = reply.size;
     let key = reply.key;
-    write!(text, "{number} {verb} SUCCESS size={size} key={key}")
-}
-
-/// Appends the rest of that line.
-fn print_map_end<A: Allocator>(text: &mut String<A>, reply: &MapReply) -> Result<(), AllocError>
-    ensures { OnOk result (string_bytes text.new ≡ string_bytes text.old ++ map_end reply.now) }
-{
     let record = reply.descriptor_size;
     let version = reply.version;
-    writeln!(text, " descriptor-size={record} version={version}")
+    writeln!(
+        text,
+        "{number} {verb} SUCCESS size={size} key={key} descriptor-size={record} version={version}"
+    )
 }
 
 /// Appends the line of a call that was given too small a buffer.
