@@ -16,18 +16,23 @@ pages 1 2 64 0xffffffff
 fn machine_of(rt: &impl AllocGlobal, words: &str) -> Result<String, Fail> {
     let mut file = String::from_str(rt.alloc(), "{\"memory\":[")?;
     let mut first = 0_u64;
-    let mut comma = "";
+    let mut has_entry = false;
     for word in words.split_whitespace() {
         let mut parts = word.split(':');
         let mtype = parts.next().ok_or("type")?;
         let pages: u64 = parts.next().ok_or("pages")?.parse()?;
         if mtype != "-" {
-            let attributes = parts.next().ok_or("attributes")?;
+            let number: u32 = mtype.parse()?;
+            let attributes = u64::from_str_radix(parts.next().ok_or("attributes")?, 16)?;
+            if has_entry {
+                file.push_str(",")?;
+            }
+            has_entry = true;
+            write!(file, "{{\"type\":{number},\"start\":\"0x{first:x}000\",")?;
             write!(
                 file,
-                "{comma}{{\"type\":{mtype},\"start\":\"0x{first:x}000\",\"pages\":{pages},\"attributes\":\"0x{attributes}\"}}"
+                "\"pages\":{pages},\"attributes\":\"0x{attributes:x}\"}}"
             )?;
-            comma = ",";
         }
         first = first.saturating_add(pages);
     }
