@@ -1,4 +1,9 @@
 //! The command line.
+ghost use Rattle.std.specs.Prelude.{◌≡◌, false, IfOk, codes, map};
+ghost use Rattle.clap.specs.Words.{app_of, found_of, rows_of, rule_of, subcommand_rows_of};
+ghost use Rattle.clap.specs.declared.builder.command.Command.TheViews.{out-Command as fields_of};
+ghost use Rattle.bootcore.specs.CommandLine.{file_option, flag, run_words, program_words, IsNamed, IsFound, IsCommandOf};
+
 use clap::error::ErrorKind;
 use clap::{Arg, ArgAction, ArgMatches};
 use std::alloc::{AllocError, Global};
@@ -13,6 +18,8 @@ pub enum Command<'a> {
         trace: &'a str,
         certify: bool,
     },
+    /// To check the certificate block on standard input.
+    Check,
 }
 
 /// Why the words are no command.
@@ -32,55 +39,86 @@ impl From<AllocError> for CommandFault {
 }
 
 /// The command of the words, the first of which is the program's name.
-pub fn command_of<'a>(alloc: Global, words: &'a [&'a str]) -> Result<Command<'a>, CommandFault> {
-    let matches = application(alloc)?
-        .try_get_matches_from(words)
-        .map_err(|error| fault_of(alloc, &error))?;
-    match matches.subcommand_matches("run") {
-        Some(options) => run_of(alloc, options),
+pub fn command_of<'a>(alloc: Global, words: &'a [&'a str]) -> Result<Command<'a>, CommandFault>
+    ensures { IfOk result (λ command. IsCommandOf (map (λ word. word.now) words.entry.now) command) }
+{
+    let program = program(alloc)?;
+    match program.try_get_matches_from(words) {
+        Ok(matches) => command_in(alloc, &matches),
+        Err(error) => Err(fault_of(alloc, &error)),
+    }
+}
+
+/// The command that was found in the words.
+fn command_in<'a>(alloc: Global, matches: &ArgMatches<'a>) -> Result<Command<'a>, CommandFault>
+    ensures { IfOk result (λ command. IsFound (subcommand_rows_of matches.now) command) }
+{
+    if let Some(options) = matches.subcommand_matches("run") {
+        return run_of(alloc, options);
+    }
+    match matches.subcommand_matches("check") {
+        Some(_) => Ok(Command::Check),
         None => Err(usage(alloc, "no command")),
     }
 }
 
 /// A trace's run, by its options.
-fn run_of<'a>(alloc: Global, options: &ArgMatches<'a>) -> Result<Command<'a>, CommandFault> {
+fn run_of<'a>(alloc: Global, options: &ArgMatches<'a>) -> Result<Command<'a>, CommandFault>
+    ensures { IfOk result (λ command. IsNamed (codes "run") (rows_of (found_of options.now)) command) }
+{
+    let certify = options.get_one::<bool>("certify").unwrap_or(false);
     match (options.get_str("machine"), options.get_str("trace")) {
         (Some(machine), Some(trace)) => Ok(Command::Run {
             machine,
             trace,
-            certify: options.get_flag("certify"),
+            certify,
         }),
         _ => Err(usage(alloc, "a file is missing")),
     }
 }
 
 /// The words that the program understands.
-fn application<'a>(alloc: Global) -> Result<clap::Command<'a>, AllocError> {
-    let machine = Arg::new(alloc, "machine")
-        .long("machine")
-        .value_name("FILE")
-        .help("The machine's memory, as JSON")
-        .required(true)
-        .action(ArgAction::Set);
-    let trace = Arg::new(alloc, "trace")
-        .long("trace")
-        .value_name("FILE")
-        .help("The calls, one a line")
-        .required(true)
-        .action(ArgAction::Set);
+fn program<'a>(alloc: Global) -> Result<clap::Command<'a>, AllocError>
+    ensures { IfOk result (λ program. app_of program ≡ program_words) }
+{
+    let run = run_words(alloc)?;
+    let check = clap::Command::new(alloc, "check").about(
+        "Judges the certificate block on standard input",
+    );
+    clap::Command::new(alloc, "bootcore")
+        .about("The memory and protocol services that firmware boots by")
+        .subcommand_required(true)
+        .subcommand(run)?
+        .subcommand(check)
+}
+
+/// The words of `run`.
+fn run_words<'a>(alloc: Global) -> Result<clap::Command<'a>, AllocError>
+    ensures words { IfOk result (λ run. app_of run ≡ run_words) }
+    ensures local { IfOk result (λ run. (fields_of run).has_globals ≡ false) }
+{
     let certify = Arg::new(alloc, "certify")
         .long("certify")
         .help("Print the certificate of each placement")
         .action(ArgAction::SetTrue);
-    let run = clap::Command::new(alloc, "run")
+    clap::Command::new(alloc, "run")
         .about("Runs a trace on a machine, and prints the replies")
-        .arg(machine)?
-        .arg(trace)?
-        .arg(certify)?;
-    clap::Command::new(alloc, "bootcore")
-        .about("The memory and protocol services that firmware boots by")
-        .subcommand_required(true)
-        .subcommand(run)
+        .arg(file_option(alloc, "machine", "The machine's memory, as JSON"))?
+        .arg(file_option(alloc, "trace", "The calls, one a line"))?
+        .arg(certify)
+}
+
+/// An option that must be given, with a file.
+fn file_option<'a>(alloc: Global, name: &'a str, help: &'a str) -> Arg<'a>
+    ensures rule { rule_of result ≡ file_option name.entry.now }
+    ensures local { result.global ≡ false }
+{
+    Arg::new(alloc, name)
+        .long(name)
+        .value_name("FILE")
+        .help(help)
+        .required(true)
+        .action(ArgAction::Set)
 }
 
 /// The fault of an error of `clap`.

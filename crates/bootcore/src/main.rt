@@ -5,7 +5,7 @@ mod command;
 mod serve;
 
 use command::{Command, CommandFault, command_of};
-use serve::{Fault, serve_fault, serve_run, serve_usage};
+use serve::{Fault, serve_check, serve_fault, serve_run, serve_usage};
 use std::alloc::{AllocError, Global};
 use std::fs::File;
 use std::process::ExitCode;
@@ -35,6 +35,7 @@ fn status_of(rt: &HostRuntime) -> u8 {
                 certify,
             },
         ) => run_paths(rt, machine, trace, certify),
+        Ok(Command::Check) => serve_check(alloc, rt.stdin(), &mut rt.stdout(), &mut err),
         Err(CommandFault::Usage(text)) => serve_usage(&mut err, text.as_str()),
         Err(CommandFault::OutOfMemory) => serve_fault(&mut err, &Fault::OutOfMemory),
     }

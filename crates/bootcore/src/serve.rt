@@ -1,8 +1,10 @@
 //! A run of the program, over any readers and writers.
-ghost use Rattle.std.specs.Prelude.{◌≡◌, ◌⊎◌};
+ghost use Rattle.std.specs.Prelude.{◌≡◌, ◌⊎◌, IfOk, IfErr, IfSome};
+ghost use Rattle.boot_trace.specs.BlockChecks.{Judges, Writes};
+ghost use Rattle.bootcore.specs.Serving.{IsRead, RunsFiles, check_status, status_of};
 
 use boot_core::Core;
-use boot_trace::{MachineFault, RunFault, read_machine};
+use boot_trace::{BlockFault, MachineFault, RunFault, check_block, read_machine};
 use std::alloc::{AllocError, AllocFailed, Global};
 use std::io::{Read, Write};
 use thiserror::Error;
@@ -15,6 +17,9 @@ pub const FAULT: u8 = 1;
 
 /// The status of a command line that is none.
 pub const USAGE: u8 = 2;
+
+/// The status of a block that is refused.
+pub const REFUSED: u8 = 3;
 
 /// How many bytes are asked of the machine file at a time.
 const PIECE: usize = 8192;
@@ -35,6 +40,8 @@ pub enum Fault {
     Machine(#[from] MachineFault),
     #[error(transparent)]
     Run(#[from] RunFault),
+    #[error(transparent)]
+    Block(#[from] BlockFault),
 }
 
 impl From<AllocError> for Fault {
@@ -59,11 +66,30 @@ pub fn serve_run<M: Read + Drop, T: Read + Drop, W: Write, E: Write>(
     err: &mut E,
     certify: bool,
 ) -> u8
-    ensures { (result ≡ SUCCESS) ⊎ (result ≡ FAULT) }
+    ensures status { (result ≡ SUCCESS) ⊎ (result ≡ FAULT) }
+    ensures run { IfSome (M.remaining machine) (λ file. IfSome (T.remaining trace) (λ lines. (end : _) × (result ≡ status_of end) × RunsFiles certify file lines (W.contents out.old) (W.contents out.new) end)) }
 {
     match run_files(alloc, machine, trace, out, certify) {
         Ok(()) => SUCCESS,
         Err(fault) => serve_fault(err, &fault),
+    }
+}
+
+/// Judges the block, writes `accepted` or `refused` to `out` or a fault's line to `err`, and answers
+/// the exit status.
+pub fn serve_check<R: Read + Drop, W: Write, E: Write>(
+    alloc: Global,
+    input: R,
+    out: &mut W,
+    err: &mut E,
+) -> u8
+    ensures status { (result ≡ SUCCESS) ⊎ ((result ≡ REFUSED) ⊎ (result ≡ FAULT)) }
+    ensures check { IfSome (R.remaining input) (λ bytes. (end : _) × (result ≡ check_status end) × Judges bytes (W.contents out.old) (W.contents out.new) end × Writes (W.contents out.old) (W.contents out.new) end) }
+{
+    match check_block(alloc, input, out) {
+        Ok(true) => SUCCESS,
+        Ok(false) => REFUSED,
+        Err(fault) => serve_fault(err, &Fault::Block(fault)),
     }
 }
 
@@ -91,22 +117,41 @@ fn run_files<M: Read + Drop, T: Read + Drop, W: Write>(
     trace: T,
     out: &mut W,
     certify: bool,
-) -> Result<(), Fault> {
-    let bytes = read_whole(alloc, machine)?;
-    let file = read_machine(alloc, bytes.as_slice())?;
-    let mut core = Core::new(alloc, file.machine)?;
-    boot_trace::run(alloc, &mut core, trace, out, certify)?;
-    Ok(())
+) -> Result<(), Fault>
+    ensures { IfSome (M.remaining machine) (λ file. IfSome (T.remaining trace) (λ lines. RunsFiles certify file lines (W.contents out.old) (W.contents out.new) result)) }
+{
+    let bytes = match read_whole(alloc, machine) {
+        Ok(bytes) => bytes,
+        Err(fault) => return Err(fault),
+    };
+    let file = match read_machine(alloc, bytes.as_slice()) {
+        Ok(file) => file,
+        Err(fault) => return Err(Fault::Machine(fault)),
+    };
+    let Ok(mut core) = Core::new(alloc, file.machine) else {
+        return Err(Fault::OutOfMemory);
+    };
+    match boot_trace::run(alloc, &mut core, trace, out, certify) {
+        Ok(()) => Ok(()),
+        Err(fault) => Err(Fault::Run(fault)),
+    }
 }
 
 /// The bytes of a machine file, or so many of them that it shows that they are too many.
-fn read_whole<M: Read + Drop>(alloc: Global, mut machine: M) -> Result<Vec<u8>, Fault> {
+fn read_whole<M: Read + Drop>(alloc: Global, mut machine: M) -> Result<Vec<u8>, Fault>
+    ensures ok { IfOk result (λ bytes. IfSome (M.remaining machine) (λ file. IsRead file bytes.items)) }
+    ensures err { IfErr result (λ fault. (fault ≡ Fault.CannotReadMachine) ⊎ (fault ≡ Fault.OutOfMemory)) }
+{
     let mut bytes = Vec::new(alloc);
     let mut piece = [0u8; PIECE];
     while bytes.len() < MOST_BYTES {
         match machine.read(&mut piece) {
-            Ok(0) => break,
-            Ok(taken) => bytes.extend_from_slice(&piece[..taken])?,
+            Ok(0) => return Ok(bytes),
+            Ok(taken) => {
+                if bytes.extend_from_slice(&piece[..taken]).is_err() {
+                    return Err(Fault::OutOfMemory);
+                }
+            }
             Err(_) => return Err(Fault::CannotReadMachine),
         }
     }

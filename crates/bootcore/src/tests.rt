@@ -1,14 +1,18 @@
 //! Runs of the program, as text in and text out.
+mod blocks;
+mod certificates;
+mod commands;
 mod core_runs;
 mod faults;
 mod firmware;
+mod firmware_blocks;
 mod firmware_maps;
 mod maps;
 mod placements;
 mod rows;
 mod streams;
 
-use crate::serve::serve_run;
+use crate::serve::{serve_check, serve_run};
 use std::process::Abort;
 use std::test::Fail;
 
@@ -32,6 +36,14 @@ pub fn outcome_of(rt: &impl AllocGlobal, machine: &[u8], trace: &[u8]) -> Outcom
     let mut out = Vec::new(rt.alloc());
     let mut err = Vec::new(rt.alloc());
     let status = serve_run(rt.alloc(), machine, trace, &mut out, &mut err, false);
+    Outcome { status, out, err }
+}
+
+/// The judging of a block in memory.
+pub fn outcome_of_block(rt: &impl AllocGlobal, block: &[u8]) -> Outcome {
+    let mut out = Vec::new(rt.alloc());
+    let mut err = Vec::new(rt.alloc());
+    let status = serve_check(rt.alloc(), block, &mut out, &mut err);
     Outcome { status, out, err }
 }
 

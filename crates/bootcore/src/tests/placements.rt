@@ -3,12 +3,12 @@ use super::{MACHINE, outcome_of};
 use std::test::Fail;
 
 /// Two blocks of free memory side by side that differ in one attribute.
-const TWO_BLOCKS: &str = "{\"memory\":[
+pub const TWO_BLOCKS: &str = "{\"memory\":[
 {\"type\":7,\"start\":\"0x0\",\"pages\":8,\"attributes\":\"0xf\"},
 {\"type\":7,\"start\":\"0x8000\",\"pages\":8,\"attributes\":\"0x7\"}]}";
 
 /// The last eight pages of all.
-const LAST_PAGES: &str = "{\"memory\":[
+pub const LAST_PAGES: &str = "{\"memory\":[
 {\"type\":7,\"start\":\"0xffffffffffff8000\",\"pages\":8,\"attributes\":\"0xf\"}]}";
 
 const NO_MEMORY: &str = "{\"memory\":[]}";

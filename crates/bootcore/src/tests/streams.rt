@@ -157,3 +157,34 @@ fn write_fails(rt: HostRuntime) {
         assert!(rt; 30 < stopped && stopped < 60, "{stopped} writes");
     }
 }
+
+/// A writer that takes all bytes, and fails when it is to pass them on.
+#[derive(Drop)]
+struct Stuck {
+    taken: Vec<u8>,
+}
+
+impl Write for Stuck {
+    fn write(&mut self, buf: &[u8]) -> Result<usize> {
+        self.taken.extend_from_slice(buf)?;
+        Ok(buf.len())
+    }
+
+    fn flush(&mut self) -> Result<()> {
+        Err(Error::from(ErrorKind::Interrupted))
+    }
+}
+
+#[test]
+fn flush_fails(rt: HostRuntime) {
+    let mut sink = Stuck {
+        taken: Vec::new(rt.alloc()),
+    };
+    let mut err = Vec::new(rt.alloc());
+    let machine = MACHINE.as_bytes();
+    let status = serve_run(rt.alloc(), machine, TRACE, &mut sink, &mut err, false);
+    assert_eq!(rt; status, 1);
+    assert_eq!(rt; err.as_slice(), b"bootcore: cannot write\n".as_slice());
+    let first = b"1 pages SUCCESS address=0x9e000\n";
+    assert_eq!(rt; sink.taken.as_slice(), first.as_slice());
+}

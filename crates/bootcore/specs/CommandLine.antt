@@ -1,0 +1,40 @@
+-- What the words of a command line ask for, as `clap` reads them.
+use Rattle.std.specs.Prelude.{◌≡◌, ◌≢◌, MatchBool, List, codes, Option, Some, true}
+use Rattle.clap.specs.declared.builder.action.ArgAction.TheVariants.{Set, SetTrue}
+use Rattle.clap.specs.Words.{App, Row, Rule, Text, first_of, new_app, new_rule, one_of, subcommand_of, with_rule, with_subcommand}
+use Rattle.clap.specs.Simple.{on_top}
+use Rattle.bootcore.specs.declared.command.Command.{Command}
+use Rattle.bootcore.specs.declared.command.Command.TheVariants as command
+
+-- an option that must be given, with a file
+abbrev pub file_option : Text → Rule
+file_option name = record (new_rule name) { long = Some name; action = Some Set; value_names = 1; required = true }
+
+-- an option that may be given, without a value
+abbrev pub flag : Text → Rule
+flag name = record (new_rule name) { long = Some name; action = Some SetTrue }
+
+-- `run`, with its options
+abbrev pub run_words : App
+run_words = with_rule (with_rule (with_rule (new_app (codes "run")) (file_option (codes "machine"))) (file_option (codes "trace"))) (flag (codes "certify"))
+
+-- `check`, which has none
+abbrev pub check_words : App
+check_words = new_app (codes "check")
+
+-- the program, of which one of the two must be asked
+abbrev pub program_words : App
+program_words = with_subcommand (with_subcommand (on_top (λ s. record s { subcommand_required = true }) (new_app (codes "bootcore"))) run_words.top) check_words.top
+
+-- the command is the subcommand of this name, with its options' values
+abbrev pub IsNamed : Text → List Row → Command → Type 0
+IsNamed name options (command.Run machine trace certify) = (name ≡ codes "run") × (first_of (codes "machine") options ≡ Some machine.now) × (first_of (codes "trace") options ≡ Some trace.now) × MatchBool certify (one_of (codes "certify") options ≡ Some (codes "true")) (one_of (codes "certify") options ≢ Some (codes "true"))
+IsNamed name options command.Check = name ≡ codes "check"
+
+-- the command is the subcommand that was found, if one was, with its options' values
+abbrev pub IsFound : Option (Text × List Row) → Command → Type 0
+IsFound found command = (name : Text) × (options : List Row) × (found ≡ Some (name, options)) × IsNamed name options command
+
+-- the command is what `clap` states of the words
+abbrev pub IsCommandOf : List Text → Command → Type 0
+IsCommandOf words command = IsFound (subcommand_of program_words words) command
