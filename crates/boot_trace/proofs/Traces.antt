@@ -12,7 +12,7 @@ use Rattle.boot_trace.specs.declared.faults.TraceFault.{TraceFault}
 use Rattle.boot_trace.specs.declared.faults.TraceFault.TheVariants as trace_fault
 use Rattle.boot_trace.specs.Lines.{lines_of, first_line, after_line, TakesByte, IsFirstLine, TakesLine}
 use Rattle.boot_trace.specs.TraceLine.{line_of, longest_line}
-use Rattle.boot_trace.specs.TraceRuns.{Prints, PrintsAll, StopsAt, Wrote, HasLine, Ends, most_lines}
+use Rattle.boot_trace.specs.TraceRuns.{Prints, PrintsAll, AsksForCall, StopsAt, Wrote, HasLine, Ends, most_lines}
 use Rattle.boot_trace.proofs.LineBytes.{lines_of-none, lines_of-some}
 use Rattle.boot_trace.proofs.Written.{appends_none, appends_more}
 
@@ -63,33 +63,40 @@ module _ (A : Type 0) (certify : Bool) (bytes : List ℕ) (old : State) (before 
       (omega (arith, most, all), rw all (wrote count new after left a))
 
   -- a read failed
-  pub read_failed : (count : ℕ) (new : State) (after left : Option (List ℕ)) → AtLine A certify bytes count old new before after left → Ends A certify bytes old new before after (Err fault.Read)
-  read_failed count new after left a = (count, wrote count new after left a)
+  pub read_failed : (count : ℕ) (new : State) (after left : Option (List ℕ)) → count ≤ most_lines → AtLine A certify bytes count old new before after left → Ends A certify bytes old new before after (Err fault.Read)
+  read_failed count new after left most a = (count, most, wrote count new after left a)
 
   -- the next line was taken, and stops the run
-  pub stopped : (e : RunFault) (count : ℕ) (mid new : State) (after left : Option (List ℕ)) (line : List ℕ) (next : Option (List ℕ)) (a : AtLine A certify bytes count old mid before after left) → IsFirstLine a.rest line next → StopsAt A certify e (count + 1) (line_of line) mid new → Ends A certify bytes old new before after (Err e)
-  stopped (fault.Line n f) count mid new after left line next a first (p, q, r) =
-      (count, p, (first_line a.rest, here count mid after left a first.0, sym (same_line a.rest line next first) ∙ q), subst (λ (s : State). Wrote A certify bytes count old s before after) (sym r) (wrote count mid after left a))
-  stopped fault.NoCallsLeft count mid new after left line next a first (p, r) =
-      (count, ap (λ (s : State). s.calls_left) r ∙ p, subst (λ (s : State). Wrote A certify bytes count old s before after) (sym r) (wrote count mid after left a))
-  stopped fault.OutOfMemory count mid new after left line next a first (inl r) =
-      (count, record { mid = mid; whole = wrote count mid after left a; next = inl r })
-  stopped fault.OutOfMemory count mid new after left line next a first (inr (text, p)) = (
+  pub stopped : (e : RunFault) (count : ℕ) (mid new : State) (after left : Option (List ℕ)) (line : List ℕ) (next : Option (List ℕ)) → count < most_lines → (a : AtLine A certify bytes count old mid before after left) → IsFirstLine a.rest line next → StopsAt A certify e (count + 1) (line_of line) mid new → Ends A certify bytes old new before after (Err e)
+  stopped (fault.Line n f) count mid new after left line next below a first (p, q, r) =
+      (count, below, p, (first_line a.rest, here count mid after left a first.0, sym (same_line a.rest line next first) ∙ q), subst (λ (s : State). Wrote A certify bytes count old s before after) (sym r) (wrote count mid after left a))
+  stopped fault.NoCallsLeft count mid new after left line next below a first (asked, p, r) = (
     count,
+    below,
+    (first_line a.rest, here count mid after left a first.0, subst AsksForCall (same_line a.rest line next first) asked),
+    ap (λ (s : State). s.calls_left) r ∙ p,
+    subst (λ (s : State). Wrote A certify bytes count old s before after) (sym r) (wrote count mid after left a),
+  )
+  stopped fault.OutOfMemory count mid new after left line next below a first (inl r) =
+      (count, below, record { mid = mid; whole = wrote count mid after left a; next = inl r })
+  stopped fault.OutOfMemory count mid new after left line next below a first (inr (text, p)) = (
+    count,
+    below,
     record {
       mid = mid;
       whole = wrote count mid after left a;
       next = inr (first_line a.rest, here count mid after left a first.0, (text, subst (λ (asks : Result (Option TraceCall) TraceFault). Prints A certify (count + 1) asks mid text new) (same_line a.rest line next first) p));
     },
   )
-  stopped fault.Read count mid new after left line next a first s = absurd s
-  stopped fault.Write count mid new after left line next a first s = absurd s
-  stopped fault.TooManyLines count mid new after left line next a first s = absurd s
+  stopped fault.Read count mid new after left line next below a first s = absurd s
+  stopped fault.Write count mid new after left line next below a first s = absurd s
+  stopped fault.TooManyLines count mid new after left line next below a first s = absurd s
 
   -- the next line's text was not written whole
-  pub write_failed : (count : ℕ) (mid new : State) (middle after left : Option (List ℕ)) (line : List ℕ) (next : Option (List ℕ)) (text : List ℕ) (taken : ℕ) (a : AtLine A certify bytes count old mid before middle left) → IsFirstLine a.rest line next → Prints A certify (count + 1) (line_of line) mid text new → Appends middle after (take taken text) → Ends A certify bytes old new before after (Err fault.Write)
-  write_failed count mid new middle after left line next text taken a first p w = (
+  pub write_failed : (count : ℕ) (mid new : State) (middle after left : Option (List ℕ)) (line : List ℕ) (next : Option (List ℕ)) (text : List ℕ) (taken : ℕ) → count < most_lines → (a : AtLine A certify bytes count old mid before middle left) → IsFirstLine a.rest line next → Prints A certify (count + 1) (line_of line) mid text new → Appends middle after (take taken text) → Ends A certify bytes old new before after (Err fault.Write)
+  write_failed count mid new middle after left line next text taken below a first p w = (
     count,
+    below,
     record {
       mid = mid;
       middle = middle;
@@ -131,8 +138,8 @@ module _ (A : Type 0) (certify : Bool) (bytes : List ℕ) (old : State) (before 
       (omega (arith, whole, rest, a.counted, m), subst (λ (n : ℕ). Wrote A certify bytes n old new before after) m (wrote count new after left a))
 
   -- there was no memory for the next line
-  pub memory_failed : (count : ℕ) (new : State) (after left : Option (List ℕ)) → AtLine A certify bytes count old new before after left → Ends A certify bytes old new before after (Err fault.OutOfMemory)
-  memory_failed count new after left a = (count, record { mid = new; whole = wrote count new after left a; next = inl refl })
+  pub memory_failed : (count : ℕ) (new : State) (after left : Option (List ℕ)) → count < most_lines → AtLine A certify bytes count old new before after left → Ends A certify bytes old new before after (Err fault.OutOfMemory)
+  memory_failed count new after left below a = (count, below, record { mid = new; whole = wrote count new after left a; next = inl refl })
 
 pub line_taken : (rest line : List ℕ) (left next : Option (List ℕ)) → left ≡ Some rest → TakesLine left true line next → IsFirstLine rest line next
 line_taken rest line left next e t = rw e at t
@@ -165,18 +172,22 @@ module _ (A : Type 0) (certify : Bool) (old : State) (before : Option (List ℕ)
   ended_if None line next a most t = tt
   ended_if (Some bytes) line next a most t = at_end A certify bytes old before count mid middle left most a (none_taken a.rest line left next a.left_is t)
 
-  pub failed_if : (o : Option (List ℕ)) (e : RunFault) → AtLineIf A certify o old before count mid middle left → (e ≡ fault.Read) ⊎ (e ≡ fault.OutOfMemory) → EndsIf A certify o old before mid middle (Err e)
-  failed_if None e a h = tt
-  failed_if (Some bytes) e a (inl h) = rw h (read_failed A certify bytes old before count mid middle left a)
-  failed_if (Some bytes) e a (inr h) = rw h (memory_failed A certify bytes old before count mid middle left a)
+  pub read_failed_if : (o : Option (List ℕ)) (e : RunFault) → AtLineIf A certify o old before count mid middle left → count ≤ most_lines → e ≡ fault.Read → EndsIf A certify o old before mid middle (Err e)
+  read_failed_if None e a most h = tt
+  read_failed_if (Some bytes) e a most h = rw h (read_failed A certify bytes old before count mid middle left most a)
 
-  pub stopped_if : (o : Option (List ℕ)) (e : RunFault) (new : State) (line : List ℕ) (next : Option (List ℕ)) → AtLineIf A certify o old before count mid middle left → TakesLine left true line next → StopsAt A certify e (count + 1) (line_of line) mid new → EndsIf A certify o old before new middle (Err e)
-  stopped_if None e new line next a t s = tt
-  stopped_if (Some bytes) e new line next a t s = stopped A certify bytes old before e count mid new middle left line next a (line_taken a.rest line left next a.left_is t) s
+  pub failed_if : (o : Option (List ℕ)) (e : RunFault) → AtLineIf A certify o old before count mid middle left → count < most_lines → (e ≡ fault.Read) ⊎ (e ≡ fault.OutOfMemory) → EndsIf A certify o old before mid middle (Err e)
+  failed_if None e a below h = tt
+  failed_if (Some bytes) e a below (inl h) = rw h (read_failed A certify bytes old before count mid middle left (omega (arith, below)) a)
+  failed_if (Some bytes) e a below (inr h) = rw h (memory_failed A certify bytes old before count mid middle left below a)
 
-  pub write_failed_if : (o : Option (List ℕ)) (e : RunFault) (new : State) (after : Option (List ℕ)) (line : List ℕ) (next : Option (List ℕ)) (text : List ℕ) → AtLineIf A certify o old before count mid middle left → TakesLine left true line next → Prints A certify (count + 1) (line_of line) mid text new → (e ≡ fault.Write) × ((taken : ℕ) × Appends middle after (take taken text)) → EndsIf A certify o old before new after (Err e)
-  write_failed_if None e new after line next text a t p w = tt
-  write_failed_if (Some bytes) e new after line next text a t p (h, (taken, w)) = rw h (write_failed A certify bytes old before count mid new middle after left line next text taken a (line_taken a.rest line left next a.left_is t) p w)
+  pub stopped_if : (o : Option (List ℕ)) (e : RunFault) (new : State) (line : List ℕ) (next : Option (List ℕ)) → AtLineIf A certify o old before count mid middle left → count < most_lines → TakesLine left true line next → StopsAt A certify e (count + 1) (line_of line) mid new → EndsIf A certify o old before new middle (Err e)
+  stopped_if None e new line next a below t s = tt
+  stopped_if (Some bytes) e new line next a below t s = stopped A certify bytes old before e count mid new middle left line next below a (line_taken a.rest line left next a.left_is t) s
+
+  pub write_failed_if : (o : Option (List ℕ)) (e : RunFault) (new : State) (after : Option (List ℕ)) (line : List ℕ) (next : Option (List ℕ)) (text : List ℕ) → AtLineIf A certify o old before count mid middle left → count < most_lines → TakesLine left true line next → Prints A certify (count + 1) (line_of line) mid text new → (e ≡ fault.Write) × ((taken : ℕ) × Appends middle after (take taken text)) → EndsIf A certify o old before new after (Err e)
+  write_failed_if None e new after line next text a below t p w = tt
+  write_failed_if (Some bytes) e new after line next text a below t p (h, (taken, w)) = rw h (write_failed A certify bytes old before count mid new middle after left line next text taken below a (line_taken a.rest line left next a.left_is t) p w)
 
   pub next_if : (o : Option (List ℕ)) (new : State) (after : Option (List ℕ)) (line : List ℕ) (next : Option (List ℕ)) (text : List ℕ) → AtLineIf A certify o old before count mid middle left → TakesLine left true line next → Prints A certify (count + 1) (line_of line) mid text new → Appends middle after text → AtLineIf A certify o old before (count + 1) new after next
   next_if None new after line next text a t p w = tt

@@ -23,11 +23,16 @@ Prints A certify number (Ok (Some trace_call.List)) old text new = (text ≡ lis
 Prints A certify number (Ok (Some (trace_call.Service call))) old text new = (reply : Reply A) × Step old call reply new × (text ≡ printed certify number old.book.memory new.book.memory call reply)
 Prints A certify number (Err e) old text new = ⊥
 
+-- the line asks for a call
+abbrev pub AsksForCall : Result (Option TraceCall) TraceFault → Type 0
+AsksForCall (Ok (Some (trace_call.Service call))) = Unit {0}
+AsksForCall asks = ⊥
+
 -- Why a line that is read so stops a run, and how it leaves the machine: as it was, or for want of memory after the
 -- call was made.
 abbrev pub StopsAt : Type 0 → Bool → RunFault → ℕ → Result (Option TraceCall) TraceFault → State → State → Type 0
 StopsAt A certify (fault.Line n e) number asks old new = (n ≡ number) × (asks ≡ Err e) × (new ≡ old)
-StopsAt A certify fault.NoCallsLeft number asks old new = (old.calls_left ≡ 0) × (new ≡ old)
+StopsAt A certify fault.NoCallsLeft number asks old new = AsksForCall asks × (old.calls_left ≡ 0) × (new ≡ old)
 StopsAt A certify fault.OutOfMemory number asks old new = (new ≡ old) ⊎ ((text : List ℕ) × Prints A certify number asks old text new)
 StopsAt A certify e number asks old new = ⊥
 
@@ -72,12 +77,12 @@ pub record WroteBefore (A : Type 0) (certify : Bool) (bytes : List ℕ) (count :
   pub next : (new ≡ mid) ⊎ ((line : List ℕ) × HasLine bytes count line × ((text : List ℕ) × Prints A certify (count + 1) (line_of line) mid text new))
 
 -- How a run on a trace of known bytes ends. What is written is the text of all its lines, or of those before the one
--- that stopped the run, and the machine is in the state after their calls.
+-- that stopped the run, and the machine is in the state after their calls. No line after the last that may be is looked at.
 abbrev pub Ends : Type 0 → Bool → List ℕ → State → State → Option (List ℕ) → Option (List ℕ) → Result (Unit {0}) RunFault → Type 0
 Ends A certify bytes old new before after (Ok done) = (length (lines_of bytes) ≤ most_lines) × Wrote A certify bytes (length (lines_of bytes)) old new before after
-Ends A certify bytes old new before after (Err (fault.Line number e)) = (count : ℕ) × (number ≡ count + 1) × ((line : List ℕ) × HasLine bytes count line × (line_of line ≡ Err e)) × Wrote A certify bytes count old new before after
+Ends A certify bytes old new before after (Err (fault.Line number e)) = (count : ℕ) × (count < most_lines) × (number ≡ count + 1) × ((line : List ℕ) × HasLine bytes count line × (line_of line ≡ Err e)) × Wrote A certify bytes count old new before after
 Ends A certify bytes old new before after (Err fault.TooManyLines) = (most_lines < length (lines_of bytes)) × Wrote A certify bytes most_lines old new before after
-Ends A certify bytes old new before after (Err fault.NoCallsLeft) = (count : ℕ) × (new.calls_left ≡ 0) × Wrote A certify bytes count old new before after
-Ends A certify bytes old new before after (Err fault.Read) = (count : ℕ) × Wrote A certify bytes count old new before after
-Ends A certify bytes old new before after (Err fault.Write) = (count : ℕ) × WroteFront A certify bytes count old new before after
-Ends A certify bytes old new before after (Err fault.OutOfMemory) = (count : ℕ) × WroteBefore A certify bytes count old new before after
+Ends A certify bytes old new before after (Err fault.NoCallsLeft) = (count : ℕ) × (count < most_lines) × ((line : List ℕ) × HasLine bytes count line × AsksForCall (line_of line)) × (new.calls_left ≡ 0) × Wrote A certify bytes count old new before after
+Ends A certify bytes old new before after (Err fault.Read) = (count : ℕ) × (count ≤ most_lines) × Wrote A certify bytes count old new before after
+Ends A certify bytes old new before after (Err fault.Write) = (count : ℕ) × (count < most_lines) × WroteFront A certify bytes count old new before after
+Ends A certify bytes old new before after (Err fault.OutOfMemory) = (count : ℕ) × (count < most_lines) × WroteBefore A certify bytes count old new before after

@@ -1,6 +1,6 @@
-use Rattle.std.proofs.Common.{inl, arith}
+use Rattle.std.proofs.Common.{arith}
 use Rattle.std.specs.Io.Buffered.{reader_remaining}
-use Rattle.boot_trace.proofs.Traces.{start_if, ended_if, failed_if, stopped_if, write_failed_if, next_if, no_more_if, too_many_if, fresh}
+use Rattle.boot_trace.proofs.Traces.{start_if, ended_if, read_failed_if, failed_if, stopped_if, write_failed_if, next_if, no_more_if, too_many_if, fresh}
 use Rattle.boot_trace.proofs.runner.run.Goals as goal
 
 pub loop-done-init : goal.loop-done-init
@@ -10,17 +10,17 @@ pub returns-in-Ok-false : goal.returns-in-Ok-false
 returns-in-Ok-false g c = ended_if _ _ _ _ _ _ _ _ _ c.next_line.new.line.items (reader_remaining g.R.Read.remaining c.next_line.new.reader) c.loop-done.invariant (omega arith) (rw c.in-Ok-false.field-0-test at c.in-Ok-false.ensures.known)
 
 pub returns-in-Err : goal.returns-in-Err
-returns-in-Err g c = failed_if _ _ _ _ _ _ _ _ _ c.in-Err.fault c.loop-done.invariant c.in-Err.ensures.err
+returns-in-Err g c = failed_if _ _ _ _ _ _ _ _ _ c.in-Err.fault c.loop-done.invariant (omega arith) c.in-Err.ensures.err
 
 pub returns-in-Err-run_line : goal.returns-in-Err-run_line
 returns-in-Err-run_line g c =
-    stopped_if _ _ _ _ _ _ _ _ _ c.in-Err-run_line.fault _ c.next_line.new.line.items _ c.loop-done.invariant
+    stopped_if _ _ _ _ _ _ _ _ _ c.in-Err-run_line.fault _ c.next_line.new.line.items _ c.loop-done.invariant (omega arith)
     (rw c.in-Ok-true.field-0-test at c.in-Ok-true.ensures.known)
     (rw c.as_slice.ensures.value at c.in-Err-run_line.ensures.err)
 
 pub returns-in-Err-write_text : goal.returns-in-Err-write_text
 returns-in-Err-write_text g c =
-    write_failed_if _ _ _ _ _ _ _ _ _ c.in-Err-write_text.fault _ _ c.next_line.new.line.items _ _ c.loop-done.invariant
+    write_failed_if _ _ _ _ _ _ _ _ _ c.in-Err-write_text.fault _ _ c.next_line.new.line.items _ _ c.loop-done.invariant (omega arith)
     (rw c.in-Ok-true.field-0-test at c.in-Ok-true.ensures.known)
     (rw c.as_slice.ensures.value at c.in-Ok-run_line.ensures.ok)
     (rw c.as_bytes.ensures.value at c.in-Err-write_text.ensures.err)
@@ -39,4 +39,4 @@ pub returns-in-Ok-Some : goal.returns-in-Ok-Some
 returns-in-Ok-Some g c = too_many_if _ _ _ _ _ _ _ _ _ _ c.in-Ok-Some.field-0-0 c.loop-done.invariant (omega arith) (rw c.in-Ok-Some.field-0-is at c.in-Ok-Some.ensures.known)
 
 pub returns : goal.returns
-returns g c = failed_if _ _ _ _ _ _ _ _ _ c.in-Err-next_byte.fault c.loop-done.invariant (inl c.in-Err-next_byte.ensures.err)
+returns g c = read_failed_if _ _ _ _ _ _ _ _ _ c.in-Err-next_byte.fault c.loop-done.invariant (omega arith) c.in-Err-next_byte.ensures.err
