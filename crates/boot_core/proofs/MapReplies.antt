@@ -8,6 +8,7 @@ use Rattle.page_services.specs.PageRules.{Book}
 use Rattle.map_keys.specs.declared.memory_maps.MapReply.{MapReply}
 use Rattle.map_keys.specs.MapReplies.{map_size, map_reply, buffer_with_map}
 use Rattle.map_keys.specs.Records.{records}
+use Rattle.map_keys.proofs.RecordLists.{length_records}
 use Rattle.boot_core.specs.Machines.{State}
 use Rattle.boot_core.specs.MapCalls.{map_answer, map_buffer, map_bytes, room_for_map, MapStep, AnswersMap}
 
@@ -44,6 +45,20 @@ answers_map old new size buffer after told long step = inl (
   step.answer ∙ ap (map_answer old.exited old.book) long ∙ same_answer old.exited old.book size,
   step.written ∙ used_bytes old.exited old.book size buffer long,
 )
+
+-- the bytes that are used stand in the front of the buffer
+pub used_in_front : (exited : Bool) (b : Book) (buffer : List ℕ) → map_buffer exited b buffer ≡ map_bytes exited b (length buffer) ++ drop (length (map_bytes exited b (length buffer))) buffer
+used_in_front true b buffer = refl
+used_in_front false b buffer = elim (cases_lt (length buffer) (map_size b)) [
+  | inl short ↦
+      let none = cond-false (leb (map_size b) (length buffer)) (records (memory_map b.memory)) [] (lt-leb (map_size b) (length buffer) short) in
+      cond-false _ _ _ (lt-leb (map_size b) (length buffer) short) ∙ sym (ap (λ (used : List ℕ). used ++ drop (length used) buffer) none)
+  | inr fits ↦
+      let all = cond-true (leb (map_size b) (length buffer)) (records (memory_map b.memory)) [] (le-leb (map_size b) (length buffer) fits) in
+      cond-true _ _ _ (le-leb (map_size b) (length buffer) fits)
+      ∙ ap (λ (n : ℕ). records (memory_map b.memory) ++ drop n buffer) (sym (length_records (memory_map b.memory)))
+      ∙ sym (ap (λ (used : List ℕ). used ++ drop (length used) buffer) all)
+]
 
 -- the bytes of a vector once its slice has been written
 pub written_back : (n : ℕ) (slice old : List ℕ) → n ≡ length slice → take n (slice ++ old) ≡ slice

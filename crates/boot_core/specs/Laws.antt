@@ -1,5 +1,5 @@
 -- The laws of the machine. Each is the contract of a public function.
-use Rattle.std.specs.Prelude.{◌≡◌, ◌↔◌, ℕ, false, List, [], ◌∷◌, Option, Ok, IfSome}
+use Rattle.std.specs.Prelude.{◌≡◌, ◌↔◌, ℕ, false, List, [], ◌∷◌, ◌++◌, length, drop, Option, Ok, IfSome, Vec}
 use Rattle.std.specs.Option.{option_map}
 use Rattle.page_ranges.specs.declared.ranges.Run.{Run}
 use Rattle.page_ranges.specs.declared.statuses.Status.TheVariants.{Success}
@@ -7,12 +7,14 @@ use Rattle.page_ranges.specs.Memory.{Page, page_at, IsProperMemory}
 use Rattle.page_ranges.specs.MemoryMap.{memory_map}
 use Rattle.page_ranges.specs.Runs.{IsValidMachine}
 use Rattle.placement_certificate.specs.Acceptance.{IsAccepted}
+use Rattle.map_keys.specs.declared.memory_maps.MapReply.{MapReply}
 use Rattle.page_services.specs.PageRules.{Choice, IsAnyStart, request_of}
 use Rattle.boot_core.specs.declared.calls.Call.{Call}
 use Rattle.boot_core.specs.declared.calls.Call.TheVariants as call
 use Rattle.boot_core.specs.declared.calls.Reply.{Reply}
 use Rattle.boot_core.specs.declared.calls.Reply.TheVariants as reply
 use Rattle.boot_core.specs.Machines.{State, first_state}
+use Rattle.boot_core.specs.MapCalls.{MapStep, map_bytes}
 use Rattle.boot_core.specs.Steps.{Step, StepAny, StepBy, Runs, RunsBy}
 
 -- A step with the best start is a step with any permitted start.
@@ -48,6 +50,13 @@ abbrev pub KeyLaw : Choice → Type 0 → Type 0
 KeyLaw Chosen A = (first old : State) (size key : ℕ) (told : Reply A) (calls : List Call) (replies : List (Reply A)) (new : State) (run : RunsBy Chosen old calls replies new) (answer : Reply A) (after : State) →
     IsProperMemory first.book.memory → StepBy Chosen first (call.GetMemoryMap size) told old → TellsKey told key → new.exited ≡ false → StepBy Chosen new (call.ExitBootServices key) answer after →
     (answer ≡ reply.ExitBootServices (Ok tt)) ↔ ChangesNoType Chosen old calls replies new run
+
+-- GetMemoryMap with a buffer of the caller's is a step of the machine, with the reply that a call tells, and the bytes used are
+-- those that stand in the front of the buffer.
+abbrev pub MapStepLaw : Type 0 → Type 0
+MapStepLaw A = (old : State) (buffer : List ℕ) (told : MapReply) (after : List ℕ) (new : State) (used : Vec ℕ A) →
+    MapStep old buffer told after new → used.items ≡ map_bytes old.exited old.book (length buffer) →
+    Step old (call.GetMemoryMap (length buffer)) (reply.GetMemoryMap told used) new × (after ≡ used.items ++ drop (length used.items) buffer)
 
 -- ---- certificates
 

@@ -1,6 +1,6 @@
 //! The laws of the machine, each the contract of a function that does nothing.
 ghost use Rattle.page_services.specs.PageRules.{IsAnyStart, IsBestChoice};
-ghost use Rattle.boot_core.specs.Laws.{AcceptanceLaw, AnyRunLaw, AnyStepLaw, KeyLaw};
+ghost use Rattle.boot_core.specs.Laws.{AcceptanceLaw, AnyRunLaw, AnyStepLaw, KeyLaw, MapStepLaw};
 
 use std::alloc::Allocator;
 
@@ -12,6 +12,12 @@ pub fn any_step_law<A: Allocator>()
 /// A run in which each start is the best is one in which each start is a permitted one.
 pub fn any_run_law<A: Allocator>()
     ensures { AnyRunLaw A }
+{}
+
+/// GetMemoryMap with a buffer of the caller's is a step of the machine, whose reply tells the bytes
+/// that are used of the buffer, its front.
+pub fn map_step_law<A: Allocator>()
+    ensures { MapStepLaw A }
 {}
 
 /// Before an exit, a key that GetMemoryMap gave is accepted exactly while no call since has changed

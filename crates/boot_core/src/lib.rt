@@ -8,5 +8,5 @@ mod machines;
 
 pub use calls::{Call, Reply};
 pub use core_state::Core;
-pub use laws::{acceptance_law, any_run_law, any_step_law, key_law};
+pub use laws::{acceptance_law, any_run_law, any_step_law, key_law, map_step_law};
 pub use machines::Machine;

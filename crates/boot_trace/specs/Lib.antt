@@ -3,6 +3,7 @@ pub mod Numbers
 pub mod Verbs
 pub mod TraceLine
 pub mod MachineText
+pub mod FaultText
 pub mod PrintedText
 pub mod BlockText
 pub mod CallText

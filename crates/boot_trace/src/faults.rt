@@ -1,4 +1,7 @@
 //! What can be wrong with a machine file, a trace line, a run and a certificate block.
+ghost use Rattle.std.specs.Prelude.{Some};
+ghost use Rattle.boot_trace.specs.FaultText.{field_name};
+
 use std::alloc::{AllocError, AllocFailed};
 use std::fmt;
 use thiserror::Error;
@@ -13,6 +16,8 @@ pub enum MemberField {
 }
 
 impl fmt::Display for MemberField {
+    ghost output = { λ field. Some (field_name field) };
+
     fn fmt<W: fmt::Write>(&self, f: &mut fmt::Formatter<W>) -> fmt::Result {
         f.write_str(match self {
             MemberField::Type => "type",
