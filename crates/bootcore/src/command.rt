@@ -33,6 +33,11 @@ pub enum CommandFault {
 }
 
 impl From<AllocError> for CommandFault {
+    ghost use Rattle.std.specs.Prelude.{◌≡◌};
+    ghost use Rattle.bootcore.specs.declared.command.CommandFault.TheVariants.{OutOfMemory};
+
+    ghost from_gives = { λ _ e. e ≡ OutOfMemory };
+
     fn from(_error: AllocError) -> CommandFault {
         CommandFault::OutOfMemory
     }
