@@ -1,10 +1,13 @@
 -- What the words of a command line ask for, as `clap` reads them.
-use Rattle.std.specs.Prelude.{◌≡◌, ◌≢◌, MatchBool, List, codes, Option, Some, true}
+use Rattle.std.specs.Prelude.{◌≡◌, ◌≢◌, MatchBool, List, [], codes, Option, Some, true}
 use Rattle.clap.specs.declared.builder.action.ArgAction.TheVariants.{Set, SetTrue}
 use Rattle.clap.specs.Words.{App, Row, Rule, Text, first_of, new_app, new_rule, one_of, subcommand_of, with_rule, with_subcommand}
+use Rattle.clap.specs.Faults.{fault_of as clap_fault}
 use Rattle.clap.specs.Simple.{on_top}
 use Rattle.bootcore.specs.declared.command.Command.{Command}
 use Rattle.bootcore.specs.declared.command.Command.TheVariants as command
+use Rattle.bootcore.specs.declared.command.CommandFault.{CommandFault}
+use Rattle.bootcore.specs.declared.command.CommandFault.TheVariants as fault
 
 -- an option that must be given, with a file
 abbrev pub file_option : Text → Rule
@@ -35,6 +38,19 @@ IsNamed name options command.Check = name ≡ codes "check"
 abbrev pub IsFound : Option (Text × List Row) → Command → Type 0
 IsFound found command = (name : Text) × (options : List Row) × (found ≡ Some (name, options)) × IsNamed name options command
 
--- the command is what `clap` states of the words
+-- `clap` finds no fault with the words, and the command is what it states of them
 abbrev pub IsCommandOf : List Text → Command → Type 0
-IsCommandOf words command = IsFound (subcommand_of program_words words) command
+IsCommandOf words command = (clap_fault program_words words ≡ []) × IsFound (subcommand_of program_words words) command
+
+-- no command is such
+abbrev pub IsNone : (Command → Type 0) → Type 0
+IsNone IsOne = (command : Command) → IsOne command → ⊥
+
+-- a fault of the words has this reason; one of memory needs none
+abbrev pub HasReason : Type 0 → CommandFault → Type 0
+HasReason Reason (fault.Usage text) = Reason
+HasReason Reason fault.OutOfMemory = Unit {0}
+
+-- no command is that of the words, or memory ran out
+abbrev pub IsRefusedBy : List Text → CommandFault → Type 0
+IsRefusedBy words = HasReason (IsNone (IsCommandOf words))

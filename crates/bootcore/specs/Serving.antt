@@ -19,12 +19,15 @@ abbrev pub RunsTrace : Bool → List ℕ → List ℕ → Option (List ℕ) → 
 RunsTrace certify file trace before after end = (runs : List Run) × (machine_of file ≡ Ok runs) × ((new : State) × Ends Global certify trace (first_state runs) new before after end)
 
 -- How the program ends on a machine file and a trace, and what it wrote. It runs the trace on the machine; where there
--- is a fault before that, nothing is written.
+-- is a fault before that, nothing is written. No such run ends on a trace that was not opened, or on a block.
 abbrev pub RunsFiles : Bool → List ℕ → List ℕ → Option (List ℕ) → Option (List ℕ) → Result (Unit {0}) Fault → Type 0
 RunsFiles certify file trace before after (Ok done) = RunsTrace certify file trace before after (Ok done)
 RunsFiles certify file trace before after (Err (fault.Run e)) = RunsTrace certify file trace before after (Err e)
 RunsFiles certify file trace before after (Err (fault.Machine e)) = ((e ≡ machine_fault.OutOfMemory) ⊎ (machine_of file ≡ Err e)) × (after ≡ before)
-RunsFiles certify file trace before after (Err e) = after ≡ before
+RunsFiles certify file trace before after (Err fault.CannotReadMachine) = after ≡ before
+RunsFiles certify file trace before after (Err fault.OutOfMemory) = after ≡ before
+RunsFiles certify file trace before after (Err fault.CannotReadTrace) = ⊥
+RunsFiles certify file trace before after (Err (fault.Block e)) = ⊥
 
 -- 0 where there was no fault, 1 where there was one
 abbrev pub status_of : {A E : Type 0} → Result A E → ℕ

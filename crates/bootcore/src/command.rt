@@ -1,8 +1,8 @@
 //! The command line.
-ghost use Rattle.std.specs.Prelude.{◌≡◌, false, IfOk, codes, map};
-ghost use Rattle.clap.specs.Words.{app_of, found_of, rows_of, rule_of, subcommand_rows_of};
+ghost use Rattle.std.specs.Prelude.{◌≡◌, ◌≢◌, false, IfErr, IfOk, codes, map, string_bytes};
+ghost use Rattle.clap.specs.Words.{app_of, found_of, kind_of, rows_of, rule_of, subcommand_rows_of};
 ghost use Rattle.clap.specs.declared.builder.command.Command.TheViews.{out-Command as fields_of};
-ghost use Rattle.bootcore.specs.CommandLine.{file_option, flag, run_words, program_words, IsNamed, IsFound, IsCommandOf};
+ghost use Rattle.bootcore.specs.CommandLine.{file_option, flag, run_words, program_words, HasReason, IsNamed, IsNone, IsFound, IsCommandOf, IsRefusedBy};
 
 use clap::error::ErrorKind;
 use clap::{Arg, ArgAction, ArgMatches};
@@ -33,6 +33,11 @@ pub enum CommandFault {
 }
 
 impl From<AllocError> for CommandFault {
+    ghost use Rattle.std.specs.Prelude.{◌≡◌};
+    ghost use Rattle.bootcore.specs.declared.command.CommandFault.TheVariants.{OutOfMemory};
+
+    ghost from_gives = { λ _ e. e ≡ OutOfMemory };
+
     fn from(_error: AllocError) -> CommandFault {
         CommandFault::OutOfMemory
     }
@@ -40,7 +45,8 @@ impl From<AllocError> for CommandFault {
 
 /// The command of the words, the first of which is the program's name.
 pub fn command_of<'a>(alloc: Global, words: &'a [&'a str]) -> Result<Command<'a>, CommandFault>
-    ensures { IfOk result (λ command. IsCommandOf (map (λ word. word.now) words.entry.now) command) }
+    ensures ok { IfOk result (IsCommandOf (map (λ word. word.now) words.entry.now)) }
+    ensures err { IfErr result (IsRefusedBy (map (λ word. word.now) words.entry.now)) }
 {
     let program = program(alloc)?;
     match program.try_get_matches_from(words) {
@@ -51,7 +57,8 @@ pub fn command_of<'a>(alloc: Global, words: &'a [&'a str]) -> Result<Command<'a>
 
 /// The command that was found in the words.
 fn command_in<'a>(alloc: Global, matches: &ArgMatches<'a>) -> Result<Command<'a>, CommandFault>
-    ensures { IfOk result (λ command. IsFound (subcommand_rows_of matches.now) command) }
+    ensures ok { IfOk result (IsFound (subcommand_rows_of matches.now)) }
+    ensures err { IfErr result (HasReason (IsNone (IsFound (subcommand_rows_of matches.now)))) }
 {
     if let Some(options) = matches.subcommand_matches("run") {
         return run_of(alloc, options);
@@ -64,7 +71,8 @@ fn command_in<'a>(alloc: Global, matches: &ArgMatches<'a>) -> Result<Command<'a>
 
 /// A trace's run, by its options.
 fn run_of<'a>(alloc: Global, options: &ArgMatches<'a>) -> Result<Command<'a>, CommandFault>
-    ensures { IfOk result (λ command. IsNamed (codes "run") (rows_of (found_of options.now)) command) }
+    ensures ok { IfOk result (IsNamed (codes "run") (rows_of (found_of options.now))) }
+    ensures err { IfErr result (HasReason (IsNone (IsNamed (codes "run") (rows_of (found_of options.now))))) }
 {
     let certify = options.get_one::<bool>("certify").unwrap_or(false);
     match (options.get_str("machine"), options.get_str("trace")) {
@@ -122,7 +130,9 @@ fn file_option<'a>(alloc: Global, name: &'a str, help: &'a str) -> Arg<'a>
 }
 
 /// The fault of an error of `clap`.
-fn fault_of(alloc: Global, error: &clap::Error) -> CommandFault {
+fn fault_of(alloc: Global, error: &clap::Error) -> CommandFault
+    ensures { HasReason (kind_of error.now ≢ ErrorKind.OutOfMemory) result }
+{
     if error.kind() == ErrorKind::OutOfMemory {
         return CommandFault::OutOfMemory;
     }
@@ -133,7 +143,9 @@ fn fault_of(alloc: Global, error: &clap::Error) -> CommandFault {
 }
 
 /// A fault of the words with this text.
-fn usage(alloc: Global, text: &str) -> CommandFault {
+fn usage(alloc: Global, text: &str) -> CommandFault
+    ensures { (said : _) → result ≡ CommandFault.Usage said → string_bytes said ≡ text.now }
+{
     match String::from_str(alloc, text) {
         Ok(text) => CommandFault::Usage(text),
         Err(_) => CommandFault::OutOfMemory,
