@@ -1,9 +1,11 @@
 -- What is printed of a call, from how its block was begun.
 use Rattle.std.proofs.Common.{◌≡◌, ℕ, ◌*◌, ◌≤◌, Bool, true, false, cond, List, [], ◌++◌, Option, Some, None, Ok, Err, MatchBool, refl, ap, ◌∙◌, arith, eq-eqb, nat_eq, nat_lt, option_map}
 use Rattle.std.proofs.lemmas.Bool.{ltb-false}
+use Rattle.page_ranges.specs.declared.ranges.Descriptor.{Descriptor}
 use Rattle.page_ranges.specs.MemoryTypes.{page_size}
 use Rattle.page_ranges.specs.Memory.{Page}
 use Rattle.page_ranges.specs.MemoryMap.{memory_map}
+use Rattle.placement_certificate.specs.declared.certificates.Request.{Request}
 use Rattle.placement_certificate.specs.Certificates.{CertificateValue}
 use Rattle.page_services.specs.declared.page_book.Placed.{Placed}
 use Rattle.page_services.specs.PageRules.{Book, IsBestChoice, IsFree, AllocatesPages, fixed_address, request_of}
@@ -49,6 +51,11 @@ module _ {A : Type 0} where
   started true old new (call.AllocatePages k t p a) answer s =
       begun (nat_lt k fixed_address) (certificate_of answer) old.book.memory k t p a (λ e. certificate_none old.exited old.book new.book k t p a answer s.answers (ltb-false k fixed_address e))
 
-  -- the line of the reply and the block that was begun are what is printed of the call
-  pub prints_call : (certify : Bool) (number : ℕ) (old new : State) (c : Call) (answer : Reply A) (text : List ℕ) → Step old c answer new → text ≡ reply_text number (memory_map new.book.memory) answer ++ started_block (block_start certify old.book.memory c) (certificate_of answer) → text ≡ printed certify number old.book.memory new.book.memory c answer
-  prints_call certify number old new c answer text s e = e ∙ ap (λ (more : List ℕ). reply_text number (memory_map new.book.memory) answer ++ more) (started certify old new c answer s)
+  -- the line of the reply and the block that was begun, after no other text, are what is printed of the call
+  pub prints_call : (certify : Bool) (number : ℕ) (old new : State) (c : Call) (answer : Reply A) (front text : List ℕ) (start : Option (List Descriptor × Request)) → Step old c answer new → front ≡ [] → start ≡ block_start certify old.book.memory c → text ≡ front ++ (reply_text number (memory_map new.book.memory) answer ++ started_block start (certificate_of answer)) → text ≡ printed certify number old.book.memory new.book.memory c answer
+  prints_call certify number old new c answer front text start s none begins e =
+      let reply = reply_text number (memory_map new.book.memory) answer in
+      e
+      ∙ ap (λ (f : List ℕ). f ++ (reply ++ started_block start (certificate_of answer))) none
+      ∙ ap (λ (b : Option (List Descriptor × Request)). reply ++ started_block b (certificate_of answer)) begins
+      ∙ ap (λ (more : List ℕ). reply ++ more) (started certify old new c answer s)

@@ -1,4 +1,5 @@
-use Rattle.std.proofs.Common.{map, inl, inr, sym, rules}
+use Rattle.std.proofs.Common.{map, inl, inr, sym, rules, arith}
+use Rattle.std.proofs.lemmas.Grind.{common_steps}
 use Rattle.std.proofs.lemmas.List.{length-map}
 use Rattle.boot_trace.proofs.BlockWords.{entry_other}
 use Rattle.boot_trace.proofs.block_lines.entry_of.Goals.{in_default-via-then-words-lt4, in_default-via-else-words-lt4+else-words-lt5}
@@ -9,3 +10,6 @@ returns-in_default c = elim c.in_default.branch [
   | in_default-via-then-words-lt4 w ↦ sym (entry_other (map (λ word. word.now) c.args.words.now) (inl (rw length-map (search rules))))
   | in_default-via-else-words-lt4+else-words-lt5 w ↦ sym (entry_other (map (λ word. word.now) c.args.words.now) (inr (rw length-map (search rules))))
 ]
+
+pub returns-in-len4 : goal.returns-in-len4
+returns-in-len4 c = grind (arith, common_steps)

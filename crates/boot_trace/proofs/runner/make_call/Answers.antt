@@ -7,8 +7,26 @@ pub returns-in-Ok-print_call-clause-ok : goal.returns-in-Ok-print_call-clause-ok
 returns-in-Ok-print_call-clause-ok g c = (
   c.call-reply.result,
   c.call-reply.ensures,
-  prints_call c.args.certify c.args.number c.args.core.now c.call-reply.new.self c.args.call.now c.call-reply.result (string_bytes c.print_call.new.text) c.call-reply.ensures (rw (c.requires, c.in-Ok.ensures) at c.in-Ok-print_call.ensures),
+  prints_call c.args.certify c.args.number c.args.core.now c.call-reply.new.self c.args.call.now c.call-reply.result (string_bytes c.args.text.now) (string_bytes c.print_call.new.text) _ c.call-reply.ensures c.requires c.in-Ok.ensures c.in-Ok-print_call.ensures,
 )
 
 pub returns-clause-err : goal.returns-clause-err
 returns-clause-err g c = inr (_, (c.call-reply.result, c.call-reply.ensures, refl))
+
+pub returns-then-calls_left-eq0-clause-ok : goal.returns-then-calls_left-eq0-clause-ok
+returns-then-calls_left-eq0-clause-ok g c = search rules
+
+pub returns-then-calls_left-eq0-clause-err : goal.returns-then-calls_left-eq0-clause-err
+returns-then-calls_left-eq0-clause-err g c = search rules
+
+pub returns-in_default-clause-ok : goal.returns-in_default-clause-ok
+returns-in_default-clause-ok g c = search rules
+
+pub returns-in_default-clause-err : goal.returns-in_default-clause-err
+returns-in_default-clause-err g c = search rules
+
+pub returns-in-Ok-print_call-clause-err : goal.returns-in-Ok-print_call-clause-err
+returns-in-Ok-print_call-clause-err g c = search rules
+
+pub returns-clause-ok : goal.returns-clause-ok
+returns-clause-ok g c = search rules

@@ -1,4 +1,4 @@
-use Rattle.std.proofs.Common.{arith}
+use Rattle.std.proofs.Common.{arith, rules}
 use Rattle.std.specs.Io.Buffered.{reader_remaining}
 use Rattle.boot_trace.proofs.BlockSteps.{line_missing, line_too_long, line_taken}
 use Rattle.boot_trace.proofs.block_reader.BlockReader.next_line.Goals as goal
@@ -17,3 +17,12 @@ pub returns : goal.returns
 returns g c =
     line_taken c.args.self.now.number c.next_line.new.line.items (reader_remaining g.R.Read.remaining c.args.self.now.reader) (reader_remaining g.R.Read.remaining c.next_line.new.reader) (omega arith) (omega arith)
     (rw c.in-Ok-true.field-0-test at c.in-Ok-true.ensures.known)
+
+pub returns-then-number-gt-MOST_BLOCK_LINES : goal.returns-then-number-gt-MOST_BLOCK_LINES
+returns-then-number-gt-MOST_BLOCK_LINES g c = search rules
+
+pub returns-in-Err-OutOfMemory : goal.returns-in-Err-OutOfMemory
+returns-in-Err-OutOfMemory g c = search rules
+
+pub returns-in-Err : goal.returns-in-Err
+returns-in-Err g c = search rules
