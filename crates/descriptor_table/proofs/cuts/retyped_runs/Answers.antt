@@ -1,5 +1,6 @@
 use Rattle.std.proofs.Common.{◌+◌, ◌-◌, ap, ◌∙◌, arith}
-use Rattle.page_ranges.specs.Memory.{row}
+use Rattle.std.proofs.lemmas.List.{take_all}
+use Rattle.page_ranges.specs.Memory.{row, retyped}
 use Rattle.page_ranges.specs.Runs.{page_in, pages_of}
 use Rattle.page_ranges.proofs.RunLists.{retyped_run}
 use Rattle.descriptor_table.proofs.CutRuns.{three_parts, one_more, put_behind, up_to_next}
@@ -25,3 +26,12 @@ loop-run-preserved g c =
       order = c.in_ok-push_part-3.ensures.order.0;
       next = λ s h e. up_to_next c.args.runs.now c.push_part-in-loop-run-2.new.runs.items c.loop-run.run-index r s c.requires.runs c.run-item.is h e c.in_ok-push_part-3.ensures.order;
     }
+
+pub push_part-requires-clause-order : goal.push_part-requires-clause-order
+push_part-requires-clause-order g c = c.loop-run.invariant.next c.run-item.result (omega arith) c.run-item.is
+
+pub returns : goal.returns
+returns g c = record {
+  pages = c.loop-run.invariant.pages ∙ ap (λ rs. retyped c.args.range c.args.mtype c.args.owner (pages_of rs)) (take_all c.loop-run.run-index c.args.runs.now (omega arith));
+  order = c.loop-run.invariant.order;
+}

@@ -1,4 +1,4 @@
-use Rattle.std.proofs.Common.{sym, ◌∙◌, arith}
+use Rattle.std.proofs.Common.{sym, ◌∙◌, arith, rules}
 use Rattle.std.proofs.lemmas.Option.{slice_get_within}
 use Rattle.page_ranges.specs.Runs.{runs_of}
 use Rattle.placement_chooser.proofs.Ends.{run_end_at, tried_up_to, tried_all}
@@ -19,3 +19,6 @@ returns-then-start-entry-clause-ends g c =
 
 pub returns-clause-ends : goal.returns-clause-ends
 returns-clause-ends g c = tried_all c.args.table.now c.args.request.now c.args.entry.now c.loop-run.found c.loop-run.index (sym c.run.ensures ∙ c.in_default.is) c.loop-run.invariant.ends
+
+pub loop-run-preserved : goal.loop-run-preserved
+loop-run-preserved g c = search rules

@@ -6,3 +6,6 @@ all_in_range-requires-clause-runs g c = rw c.as_slice.ensures.value (table_runs 
 
 pub all_in_range-requires-clause-ends : goal.all_in_range-requires-clause-ends
 all_in_range-requires-clause-ends g c = rw c.as_slice.ensures.value (table_ends c.self.inside.runs.items c.self.inside.entries c.self.invariant)
+
+pub returns : goal.returns
+returns g c = rw (← c.self.view_is) (rw c.as_slice.ensures.value at c.all_in_range.ensures)

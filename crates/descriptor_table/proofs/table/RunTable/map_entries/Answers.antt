@@ -6,3 +6,6 @@ new-requires-clause-runs g c = rw c.as_slice.ensures.value (table_runs c.self.in
 
 pub new-requires-clause-ends : goal.new-requires-clause-ends
 new-requires-clause-ends g c = rw c.as_slice.ensures.value (table_ends c.self.inside.runs.items c.self.inside.entries c.self.invariant)
+
+pub returns : goal.returns
+returns g c = rw (← c.self.view_is) (rw c.as_slice.ensures.value at c.new.ensures)
