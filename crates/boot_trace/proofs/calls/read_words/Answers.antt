@@ -1,4 +1,4 @@
--- One search and no second tactic after it: a body that is wrong is then refused sooner.
+-- One tactic and no second after it: a body that is wrong is then refused sooner.
 use Rattle.std.proofs.Common.{rules, tests, arith}
 use Rattle.std.proofs.lemmas.Grind.{common_steps}
 use Rattle.boot_trace.proofs.calls.read_words.Goals as goal

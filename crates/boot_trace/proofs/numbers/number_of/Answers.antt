@@ -1,4 +1,4 @@
--- One search and no second tactic after it: a body that is wrong is then refused sooner.
+-- One tactic and no second after it: a body that is wrong is then refused sooner.
 use Rattle.std.proofs.Common.{rules, tests}
 use Rattle.boot_trace.proofs.numbers.number_of.Goals as goal
 
