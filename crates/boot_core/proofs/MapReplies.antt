@@ -77,4 +77,4 @@ told_if false size key told e s = let short = ap (λ (r : MapReply). r.status) e
 pub told_key : (exited : Bool) (b : Book) (size : ℕ) (told : MapReply) (bytes : List ℕ) → AnswersMap exited b size told bytes → told.status ≡ Success → told.key ≡ b.key
 told_key true b size told bytes (inl h) s = let refused = ap (λ (r : MapReply). r.status) h.0 in absurd (cc)
 told_key false b size told bytes (inl h) s = told_if (leb (map_size b) size) (map_size b) b.key told h.0 s
-told_key exited b size told bytes (inr h) s = let refused = ap (λ (r : MapReply). r.status) h.2 in absurd (cc)
+told_key exited b size told bytes (inr h) s = let refused = ap (λ (r : MapReply). r.status) h.3 in absurd (cc)

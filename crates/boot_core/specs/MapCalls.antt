@@ -1,5 +1,5 @@
 -- What GetMemoryMap answers, before and after the exit, and through a call.
-use Rattle.std.specs.Prelude.{◌≡◌, ◌⊎◌, ℕ, ◌+◌, ◌≤◌, Bool, true, false, nat_le, List, [], length, if◌then◌else◌}
+use Rattle.std.specs.Prelude.{◌≡◌, ◌⊎◌, ℕ, ◌+◌, ◌<◌, ◌≤◌, Bool, true, false, nat_le, List, [], length, if◌then◌else◌}
 use Rattle.page_ranges.specs.declared.statuses.Status.{Status}
 use Rattle.page_ranges.specs.declared.statuses.Status.TheVariants.{Unsupported, OutOfResources}
 use Rattle.page_ranges.specs.MemoryMap.{memory_map}
@@ -41,8 +41,8 @@ pub record MapStep (old : State) (buffer : List ℕ) (reply : MapReply) (after :
   pub exited : new.exited ≡ old.exited
   pub calls_left : new.calls_left + 1 ≡ old.calls_left
 
--- What it answers through a call, with the bytes used. A buffer is made for these where the map is served and fits; only there
--- may memory be wanting.
+-- What it answers through a call, with the bytes used. A buffer is made for these where the map is served, has entries and fits;
+-- only there may memory be wanting.
 abbrev pub AnswersMap : Bool → Book → ℕ → MapReply → List ℕ → Type 0
 AnswersMap exited b room reply bytes =
-    ((reply ≡ map_answer exited b room) × (bytes ≡ map_bytes exited b room)) ⊎ ((exited ≡ false) × (map_size b ≤ room) × (reply ≡ refused_map OutOfResources) × (bytes ≡ []))
+    ((reply ≡ map_answer exited b room) × (bytes ≡ map_bytes exited b room)) ⊎ ((exited ≡ false) × (0 < map_size b) × (map_size b ≤ room) × (reply ≡ refused_map OutOfResources) × (bytes ≡ []))

@@ -111,18 +111,18 @@ impl<A: Allocator + Copy> Core<A> {
         }
     }
 
-    // A buffer that is as long as the map, where the map is served and fits into so many bytes; else
-    // an empty one.
+    // A buffer that is as long as the map, where the map is served, has entries and fits into so many
+    // bytes; else an empty one.
     fn room_for_map(&self, size: u64) -> Result<Vec<u8, A>, AllocError>
         ensures room { IfOk result (λ bytes. vec_len bytes ≡ room_for_map self.now.exited self.now.book size) }
-        ensures needed { OnErr result ((self.now.exited ≡ false) × (map_size self.now.book ≤ size)) }
+        ensures needed { OnErr result ((self.now.exited ≡ false) × (0 < map_size self.now.book) × (map_size self.now.book ≤ size)) }
     {
         let alloc = self.book.table().allocator();
         if self.exited {
             return Ok(Vec::new(alloc));
         }
         let needed = self.map_size();
-        if size < needed {
+        if needed == 0 || size < needed {
             return Ok(Vec::new(alloc));
         }
         vec![in alloc; 0u8; needed as usize]

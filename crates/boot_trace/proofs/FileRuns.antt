@@ -10,6 +10,7 @@ use Rattle.boot_core.specs.MachineRuns.{IsMachineRun}
 use Rattle.boot_trace.specs.declared.faults.MachineFault.TheVariants as fault
 use Rattle.boot_trace.specs.declared.faults.MemberField.{MemberField}
 use Rattle.boot_trace.specs.declared.faults.MemberField.TheVariants as field
+use Rattle.boot_trace.specs.FaultText.{field_name}
 use Rattle.boot_trace.specs.MachineText.{◌>>=◌, or_fault, if_passes, number_at, hexadecimal_at, type_of, first_page_of, page_count_of, attributes_of, run_of, or_descriptor, runs_from, root_runs, file_runs, json_of, most_descriptors, longest_file, item_count}
 
 -- ---- steps that went well
@@ -63,16 +64,16 @@ abbrev from_type : Data → ℕ → Result Run MemberField
 from_type d t = or_fault field.Start (first_page_of d) >>= from_first d t
 
 type_found : (d : Data) (t : ℕ) → type_of d ≡ Some t → is_machine_type t ≡ true
-type_found d t e = (both (nat_lt t (2 ^ 32)) (is_machine_type t) (passed (λ t. nat_lt t (2 ^ 32) && is_machine_type t) (number_at (codes "type") d) t e)).1
+type_found d t e = (both (nat_lt t (2 ^ 32)) (is_machine_type t) (passed (λ t. nat_lt t (2 ^ 32) && is_machine_type t) (number_at (field_name field.Type) d) t e)).1
 
 count_found : (d : Data) (first pages : ℕ) → page_count_of first d ≡ Some pages → (0 < pages) × (first + pages ≤ page_count)
 count_found d first pages e =
-    let h = both (not (pages == 0)) (nat_le (first + pages) page_count) (passed (λ pages. not (pages == 0) && nat_le (first + pages) page_count) (number_at (codes "pages") d) pages e) in
+    let h = both (not (pages == 0)) (nat_le (first + pages) page_count) (passed (λ pages. not (pages == 0) && nat_le (first + pages) page_count) (number_at (field_name field.Pages) d) pages e) in
     (not_zero pages h.0, leb-true (first + pages) page_count h.1)
 
 attributes_found : (d : Data) (t attributes : ℕ) → attributes_of t d ≡ Some attributes → t ≡ conventional → has_runtime attributes ≡ false
 attributes_found d t attributes e h =
-    second_not (t == conventional) (has_runtime attributes) (passed (λ attributes. not ((t == conventional) && has_runtime attributes)) (hexadecimal_at (codes "attributes") d) attributes e) (eq-eqb t conventional h)
+    second_not (t == conventional) (has_runtime attributes) (passed (λ attributes. not ((t == conventional) && has_runtime attributes)) (hexadecimal_at (field_name field.Attributes) d) attributes e) (eq-eqb t conventional h)
 
 listed_made : (d : Data) (t first pages attributes : ℕ) → type_of d ≡ Some t → page_count_of first d ≡ Some pages → attributes_of t d ≡ Some attributes → IsMachineRun (made t first pages attributes)
 listed_made d t first pages attributes te pe ae =

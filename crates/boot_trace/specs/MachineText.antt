@@ -12,6 +12,7 @@ use Rattle.boot_trace.specs.declared.faults.MachineFault.{MachineFault}
 use Rattle.boot_trace.specs.declared.faults.MachineFault.TheVariants as fault
 use Rattle.boot_trace.specs.declared.faults.MemberField.{MemberField}
 use Rattle.boot_trace.specs.declared.faults.MemberField.TheVariants as field
+use Rattle.boot_trace.specs.FaultText.{field_name}
 use Rattle.boot_trace.specs.Numbers.{hexadecimal_of}
 
 -- the first fault, or the last value
@@ -41,19 +42,19 @@ hexadecimal_at key d = option_and_then hexadecimal_of (option_and_then as_str (g
 
 -- a type that a machine may have
 abbrev pub type_of : Data → Option ℕ
-type_of d = option_and_then (if_passes (λ t. nat_lt t (2 ^ 32) && is_machine_type t)) (number_at (codes "type") d)
+type_of d = option_and_then (if_passes (λ t. nat_lt t (2 ^ 32) && is_machine_type t)) (number_at (field_name field.Type) d)
 
 -- the page that begins at the start
 abbrev pub first_page_of : Data → Option ℕ
-first_page_of d = option_and_then (λ start. if start % page_size == 0 then Some (start / page_size) else None) (hexadecimal_at (codes "start") d)
+first_page_of d = option_and_then (λ start. if start % page_size == 0 then Some (start / page_size) else None) (hexadecimal_at (field_name field.Start) d)
 
 -- a number of pages, not 0, the last of which exists
 abbrev pub page_count_of : ℕ → Data → Option ℕ
-page_count_of first d = option_and_then (if_passes (λ pages. not (pages == 0) && nat_le (first + pages) page_count)) (number_at (codes "pages") d)
+page_count_of first d = option_and_then (if_passes (λ pages. not (pages == 0) && nat_le (first + pages) page_count)) (number_at (field_name field.Pages) d)
 
 -- attributes, without RUNTIME where the type is conventional
 abbrev pub attributes_of : ℕ → Data → Option ℕ
-attributes_of t d = option_and_then (if_passes (λ attributes. not ((t == conventional) && has_runtime attributes))) (hexadecimal_at (codes "attributes") d)
+attributes_of t d = option_and_then (if_passes (λ attributes. not ((t == conventional) && has_runtime attributes))) (hexadecimal_at (field_name field.Attributes) d)
 
 -- The run of a member, or its first field that is missing, of another kind or out of its range. A member that is no
 -- object lacks each field.

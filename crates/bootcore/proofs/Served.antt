@@ -22,16 +22,17 @@ read_means file bytes (rest, whole, inr long) =
     let size : length file ≡ length bytes + length rest = ap length whole ∙ length-append bytes rest in
     too_long file (omega (arith, size, long)) ∙ sym (too_long bytes long)
 
-module _ (certify : Bool) where
-  -- what ran on the bytes that were read ran on the file
-  pub runs_file : (file trace : Option (List ℕ)) (bytes : List ℕ) (runs : List Run) (core new : State) (before after : Option (List ℕ)) (end : Result (Unit {0}) RunFault) → IfSome file (λ f. IsRead f bytes) → machine_of bytes ≡ Ok runs → core ≡ first_state runs → IfSome trace (λ t. Ends Global certify t core new before after end) → IfSome file (λ f. IfSome trace (λ t. RunsTrace certify f t before after end))
-  runs_file None trace bytes runs core new before after end r m e h = tt
-  runs_file (Some f) None bytes runs core new before after end r m e h = tt
-  runs_file (Some f) (Some t) bytes runs core new before after end r m e h = (runs, read_means f bytes r ∙ m, (new, subst (λ (s : State). Ends Global certify t s new before after end) e h))
+-- what ran on the bytes that were read ran on the file
+pub runs_file : (certify : Bool) (file trace : Option (List ℕ)) (bytes : List ℕ) (runs : List Run) (core new : State) (before after : Option (List ℕ)) (end : Result (Unit {0}) RunFault) → IfSome file (λ f. IsRead f bytes) → machine_of bytes ≡ Ok runs → core ≡ first_state runs → IfSome trace (λ t. Ends Global certify t core new before after end) → IfSome file (λ f. RunsTrace certify f trace before after end)
+runs_file certify None trace bytes runs core new before after end r m e h = tt
+runs_file certify (Some f) trace bytes runs core new before after end r m e h = (runs, read_means f bytes r ∙ m, ran trace h)
+  where
+    ran : (t : Option (List ℕ)) → IfSome t (λ lines. Ends Global certify lines core new before after end) → IfSome t (λ lines. (last : State) × Ends Global certify lines (first_state runs) last before after end)
+    ran None k = tt
+    ran (Some lines) k = (new, subst (λ (s : State). Ends Global certify lines s new before after end) e k)
 
-  -- what is wrong with the bytes that were read is wrong with the file
-  pub faults_file : (file trace : Option (List ℕ)) (bytes : List ℕ) (e : MachineFault) (before after : Option (List ℕ)) → IfSome file (λ f. IsRead f bytes) → (e ≡ machine_fault.OutOfMemory) ⊎ (machine_of bytes ≡ Err e) → after ≡ before → IfSome file (λ f. IfSome trace (λ t. ((e ≡ machine_fault.OutOfMemory) ⊎ (machine_of f ≡ Err e)) × (after ≡ before)))
-  faults_file None trace bytes e before after r h k = tt
-  faults_file (Some f) None bytes e before after r h k = tt
-  faults_file (Some f) (Some t) bytes e before after r (inl h) k = (inl h, k)
-  faults_file (Some f) (Some t) bytes e before after r (inr h) k = (inr (read_means f bytes r ∙ h), k)
+-- what is wrong with the bytes that were read is wrong with the file
+pub faults_file : (file : Option (List ℕ)) (bytes : List ℕ) (e : MachineFault) (before after : Option (List ℕ)) → IfSome file (λ f. IsRead f bytes) → (e ≡ machine_fault.OutOfMemory) ⊎ (machine_of bytes ≡ Err e) → after ≡ before → IfSome file (λ f. ((e ≡ machine_fault.OutOfMemory) ⊎ (machine_of f ≡ Err e)) × (after ≡ before))
+faults_file None bytes e before after r h k = tt
+faults_file (Some f) bytes e before after r (inl h) k = (inl h, k)
+faults_file (Some f) bytes e before after r (inr h) k = (inr (read_means f bytes r ∙ h), k)

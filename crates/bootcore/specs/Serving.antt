@@ -1,5 +1,5 @@
 -- What the program does on the bytes that it is given.
-use Rattle.std.specs.Prelude.{◌≡◌, ◌⊎◌, ℕ, ◌<◌, Bool, List, [], ◌++◌, length, Option, Result, Ok, Err, true, false}
+use Rattle.std.specs.Prelude.{◌≡◌, ◌⊎◌, ℕ, ◌<◌, Bool, List, [], ◌++◌, length, Option, IfSome, Result, Ok, Err, true, false}
 use Rattle.std.specs.declared.alloc.Global.{Global}
 use Rattle.page_ranges.specs.declared.ranges.Run.{Run}
 use Rattle.boot_core.specs.Machines.{State, first_state}
@@ -14,13 +14,13 @@ use Rattle.bootcore.specs.declared.serve.Fault.TheVariants as fault
 abbrev pub IsRead : List ℕ → List ℕ → Type 0
 IsRead file bytes = (rest : List ℕ) × (file ≡ bytes ++ rest) × ((rest ≡ []) ⊎ (longest_file < length bytes))
 
--- the file is a machine's, and the run of the trace on that machine ends so
-abbrev pub RunsTrace : Bool → List ℕ → List ℕ → Option (List ℕ) → Option (List ℕ) → Result (Unit {0}) RunFault → Type 0
-RunsTrace certify file trace before after end = (runs : List Run) × (machine_of file ≡ Ok runs) × ((new : State) × Ends Global certify trace (first_state runs) new before after end)
+-- the file is a machine's, and the run of a trace of known bytes on that machine ends so
+abbrev pub RunsTrace : Bool → List ℕ → Option (List ℕ) → Option (List ℕ) → Option (List ℕ) → Result (Unit {0}) RunFault → Type 0
+RunsTrace certify file trace before after end = (runs : List Run) × (machine_of file ≡ Ok runs) × IfSome trace (λ bytes. (new : State) × Ends Global certify bytes (first_state runs) new before after end)
 
 -- How the program ends on a machine file and a trace, and what it wrote. It runs the trace on the machine; where there
 -- is a fault before that, nothing is written. No such run ends on a trace that was not opened, or on a block.
-abbrev pub RunsFiles : Bool → List ℕ → List ℕ → Option (List ℕ) → Option (List ℕ) → Result (Unit {0}) Fault → Type 0
+abbrev pub RunsFiles : Bool → List ℕ → Option (List ℕ) → Option (List ℕ) → Option (List ℕ) → Result (Unit {0}) Fault → Type 0
 RunsFiles certify file trace before after (Ok done) = RunsTrace certify file trace before after (Ok done)
 RunsFiles certify file trace before after (Err (fault.Run e)) = RunsTrace certify file trace before after (Err e)
 RunsFiles certify file trace before after (Err (fault.Machine e)) = ((e ≡ machine_fault.OutOfMemory) ⊎ (machine_of file ≡ Err e)) × (after ≡ before)

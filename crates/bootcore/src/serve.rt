@@ -77,7 +77,7 @@ pub fn serve_run<M: Read + Drop, T: Read + Drop, W: Write, E: Write>(
     certify: bool,
 ) -> u8
     ensures status { (result ≡ SUCCESS) ⊎ (result ≡ FAULT) }
-    ensures run { IfSome (M.remaining machine) (λ file. IfSome (T.remaining trace) (λ lines. (end : _) × (result ≡ status_of end) × RunsFiles certify file lines (W.contents out.old) (W.contents out.new) end)) }
+    ensures run { IfSome (M.remaining machine) (λ file. (end : _) × (result ≡ status_of end) × RunsFiles certify file (T.remaining trace) (W.contents out.old) (W.contents out.new) end) }
 {
     match run_files(alloc, machine, trace, out, certify) {
         Ok(()) => SUCCESS,
@@ -94,7 +94,7 @@ pub fn serve_check<R: Read + Drop, W: Write, E: Write>(
     err: &mut E,
 ) -> u8
     ensures status { (result ≡ SUCCESS) ⊎ ((result ≡ REFUSED) ⊎ (result ≡ FAULT)) }
-    ensures check { IfSome (R.remaining input) (λ bytes. (end : _) × (result ≡ check_status end) × Judges bytes (W.contents out.old) (W.contents out.new) end × Writes (W.contents out.old) (W.contents out.new) end) }
+    ensures check { (end : _) × (result ≡ check_status end) × Writes (W.contents out.old) (W.contents out.new) end × IfSome (R.remaining input) (λ bytes. Judges bytes (W.contents out.old) (W.contents out.new) end) }
 {
     match check_block(alloc, input, out) {
         Ok(true) => SUCCESS,
@@ -128,7 +128,7 @@ fn run_files<M: Read + Drop, T: Read + Drop, W: Write>(
     out: &mut W,
     certify: bool,
 ) -> Result<(), Fault>
-    ensures { IfSome (M.remaining machine) (λ file. IfSome (T.remaining trace) (λ lines. RunsFiles certify file lines (W.contents out.old) (W.contents out.new) result)) }
+    ensures { IfSome (M.remaining machine) (λ file. RunsFiles certify file (T.remaining trace) (W.contents out.old) (W.contents out.new) result) }
 {
     let bytes = match read_whole(alloc, machine) {
         Ok(bytes) => bytes,

@@ -1,5 +1,5 @@
 -- The map of a memory is the list of its maximal blocks.
-use Rattle.std.proofs.Common.{◌≡◌, ℕ, suc, ◌+◌, ◌-◌, ◌<◌, ◌≤◌, true, false, cond, ◌&&◌, eqb, List, [], ◌∷◌, Contains, Option, Some, None, inl, inr, true≢false, refl, sym, subst, ◌∙◌, arith}
+use Rattle.std.proofs.Common.{◌≡◌, ℕ, suc, ◌+◌, ◌-◌, ◌<◌, ◌≤◌, true, false, cond, ◌&&◌, eqb, List, [], ◌∷◌, ◌++◌, Contains, Option, Some, None, inl, inr, true≢false, refl, sym, subst, ◌∙◌, arith}
 use Rattle.std.specs.List.{AllByRecursion}
 use Rattle.std.proofs.lemmas.Bool.{ne_eqb, eq-eqb, eqb-true, cases_eq, cases_lt, cases_Bool, and_parts, and_from, and_left}
 use Rattle.page_ranges.specs.declared.ranges.Descriptor.{Descriptor}
@@ -7,7 +7,7 @@ use Rattle.page_ranges.specs.MemoryTypes.{page_count}
 use Rattle.page_ranges.specs.Memory.{Page, page_at, page_below, IsAscending, IsProperPage, IsProperMemory}
 use Rattle.page_ranges.specs.MemoryMap.{block_of, goes_on_in, with_page_below, memory_map, IsLike, IsIn, IsMaximalBlock, AreInOrder}
 use Rattle.page_ranges.proofs.Lookups.{AllFrom, AllFrom-lower, page_at-hit, page_at-miss, page_at-absent, page_below-hit, page_below-miss, page_below-absent, page_below-page_at, page_at-number, page_at-all}
-use Rattle.page_ranges.proofs.Members.{member_first, member_later, member_cases, member_none, member_all, all_implied}
+use Rattle.page_ranges.proofs.Members.{member_first, member_later, member_behind, member_cases, member_none, member_all, all_implied}
 
 -- ---- a page that goes on in a block
 
@@ -209,3 +209,10 @@ entry_end m proper b h =
     let k = b.first + b.pages - 1 in
     let x = like_present b (page_at m k) (is.all k (record { low = omega (arith, is.some); high = omega (arith, is.some) })) in
     omega (arith, is.some, page_at-number m k x.0 x.1, (page_at-all IsProperPage m k x.0 proper.each x.1).number)
+
+-- each entry begins at a page number
+pub entry_within : (m : List Page) → IsProperMemory m → (front : List Descriptor) (b : Descriptor) (rest : List Descriptor) → front ++ b ∷ rest ≡ memory_map m → b.first < page_count
+entry_within m proper front b rest e =
+    let here : Contains (memory_map m) b = subst (λ (bs : List Descriptor). Contains bs b) e (member_behind front b rest) in
+    let is = entry_is_block m proper.ascending b here in
+    omega (arith, is.some, entry_end m proper b here)

@@ -8,6 +8,10 @@ member_first x xs = (0, omega arith, refl)
 pub member_later : {X : Type 0} (y : X) (xs : List X) (x : X) → Contains xs x → Contains (y ∷ xs) x
 member_later y xs x h = (suc h.0, omega (arith, h.1), h.2)
 
+pub member_behind : {X : Type 0} (front : List X) (x : X) (rest : List X) → Contains (front ++ x ∷ rest) x
+member_behind [] x rest = member_first x rest
+member_behind (y ∷ front) x rest = member_later y (front ++ x ∷ rest) x (member_behind front x rest)
+
 pub member_cases : {X : Type 0} (y : X) (xs : List X) (x : X) → Contains (y ∷ xs) x → (y ≡ x) ⊎ Contains xs x
 member_cases y xs x (zero, l, e) = inl e
 member_cases y xs x (suc k, l, e) = inr (k, omega (arith, l), e)

@@ -1,7 +1,7 @@
 use Rattle.std.proofs.Common.{List, ◌++◌, ap, sym, ◌∙◌, arith}
 use Rattle.std.proofs.lemmas.Grind.{common_steps}
 use Rattle.page_ranges.specs.declared.ranges.Descriptor.{Descriptor}
-use Rattle.boot_trace.proofs.Entries.{entry_within}
+use Rattle.page_ranges.proofs.Blocks.{entry_within}
 use Rattle.boot_trace.proofs.replies.print_entries.Goals as goal
 
 pub print_descriptor-requires : goal.print_descriptor-requires

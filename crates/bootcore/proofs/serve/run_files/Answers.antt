@@ -4,7 +4,7 @@ use Rattle.bootcore.proofs.serve.run_files.Goals as goal
 
 pub returns-in-Err-read_machine : goal.returns-in-Err-read_machine
 returns-in-Err-read_machine g c =
-    faults_file c.args.certify (g.M.Read.remaining c.args.machine) (g.T.Read.remaining c.args.trace) c.in-Ok.bytes.items c.in-Err-read_machine.fault _ _ c.in-Ok.ensures.ok (rw c.as_slice.ensures.value at c.in-Err-read_machine.ensures) refl
+    faults_file (g.M.Read.remaining c.args.machine) c.in-Ok.bytes.items c.in-Err-read_machine.fault _ _ c.in-Ok.ensures.ok (rw c.as_slice.ensures.value at c.in-Err-read_machine.ensures) refl
 
 pub returns-in-Ok-run : goal.returns-in-Ok-run
 returns-in-Ok-run g c =

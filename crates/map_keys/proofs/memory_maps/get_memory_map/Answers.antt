@@ -6,7 +6,8 @@ use Rattle.map_keys.specs.MapReplies.{map_reply}
 use Rattle.page_ranges.specs.declared.ranges.Descriptor.{Descriptor}
 use Rattle.page_ranges.specs.Memory.{Page, IsProperMemory}
 use Rattle.map_keys.specs.Records.{record_of, records}
-use Rattle.map_keys.proofs.Bounds.{few_entries_of, entry_within}
+use Rattle.page_ranges.proofs.Blocks.{entry_within}
+use Rattle.map_keys.proofs.Bounds.{few_entries_of}
 use Rattle.map_keys.proofs.Fields.{put_from, field_behind}
 use Rattle.map_keys.proofs.RecordLists.{records-more, length_records}
 use Rattle.map_keys.proofs.memory_maps.get_memory_map.Goals as goal
