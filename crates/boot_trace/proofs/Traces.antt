@@ -10,11 +10,12 @@ use Rattle.boot_trace.specs.declared.faults.RunFault.{RunFault}
 use Rattle.boot_trace.specs.declared.faults.RunFault.TheVariants as fault
 use Rattle.boot_trace.specs.declared.faults.TraceFault.{TraceFault}
 use Rattle.boot_trace.specs.declared.faults.TraceFault.TheVariants as trace_fault
-use Rattle.boot_trace.specs.Lines.{lines_of, first_line, after_line, TakesByte, IsFirstLine, TakesLine}
-use Rattle.boot_trace.specs.TraceLine.{line_of, longest_line}
+use Rattle.text_lines.specs.Lines.{lines_of, first_line, after_line, TakesByte, IsFirstLine, TakesLine}
+use Rattle.text_lines.specs.Lines.{longest_line}
+use Rattle.boot_trace.specs.TraceLine.{line_of}
 use Rattle.boot_trace.specs.TraceRuns.{Prints, PrintsAll, AsksForCall, StopsAt, Wrote, HasLine, Ends, most_lines}
-use Rattle.boot_trace.proofs.LineBytes.{lines_of-none, lines_of-some}
-use Rattle.boot_trace.proofs.Written.{appends_none, appends_more}
+use Rattle.text_lines.proofs.LineBytes.{lines_of-none, lines_of-some}
+use Rattle.text_lines.proofs.Written.{appends_none, appends_more}
 
 prints_more : (A : Type 0) (certify : Bool) (number : ℕ) (lines : List (List ℕ)) (line : List ℕ) (old mid new : State) (text more : List ℕ) → PrintsAll A certify number lines old text mid → Prints A certify (number + length lines) (line_of line) mid more new → PrintsAll A certify number (lines ++ line ∷ []) old (text ++ more) new
 prints_more A certify number [] line old mid new text more (e, s) p =
@@ -172,22 +173,21 @@ module _ (A : Type 0) (certify : Bool) (old : State) (before : Option (List ℕ)
   ended_if None line next a most t = tt
   ended_if (Some bytes) line next a most t = at_end A certify bytes old before count mid middle left most a (none_taken a.rest line left next a.left_is t)
 
-  pub read_failed_if : (o : Option (List ℕ)) (e : RunFault) → AtLineIf A certify o old before count mid middle left → count ≤ most_lines → e ≡ fault.Read → EndsIf A certify o old before mid middle (Err e)
-  read_failed_if None e a most h = tt
-  read_failed_if (Some bytes) e a most h = rw h (read_failed A certify bytes old before count mid middle left most a)
+  pub read_failed_if : (o : Option (List ℕ)) → AtLineIf A certify o old before count mid middle left → count ≤ most_lines → EndsIf A certify o old before mid middle (Err fault.Read)
+  read_failed_if None a most = tt
+  read_failed_if (Some bytes) a most = read_failed A certify bytes old before count mid middle left most a
 
-  pub failed_if : (o : Option (List ℕ)) (e : RunFault) → AtLineIf A certify o old before count mid middle left → count < most_lines → (e ≡ fault.Read) ⊎ (e ≡ fault.OutOfMemory) → EndsIf A certify o old before mid middle (Err e)
-  failed_if None e a below h = tt
-  failed_if (Some bytes) e a below (inl h) = rw h (read_failed A certify bytes old before count mid middle left (omega (arith, below)) a)
-  failed_if (Some bytes) e a below (inr h) = rw h (memory_failed A certify bytes old before count mid middle left below a)
+  pub memory_failed_if : (o : Option (List ℕ)) → AtLineIf A certify o old before count mid middle left → count < most_lines → EndsIf A certify o old before mid middle (Err fault.OutOfMemory)
+  memory_failed_if None a below = tt
+  memory_failed_if (Some bytes) a below = memory_failed A certify bytes old before count mid middle left below a
 
   pub stopped_if : (o : Option (List ℕ)) (e : RunFault) (new : State) (line : List ℕ) (next : Option (List ℕ)) → AtLineIf A certify o old before count mid middle left → count < most_lines → TakesLine left true line next → StopsAt A certify e (count + 1) (line_of line) mid new → EndsIf A certify o old before new middle (Err e)
   stopped_if None e new line next a below t s = tt
   stopped_if (Some bytes) e new line next a below t s = stopped A certify bytes old before e count mid new middle left line next below a (line_taken a.rest line left next a.left_is t) s
 
-  pub write_failed_if : (o : Option (List ℕ)) (e : RunFault) (new : State) (after : Option (List ℕ)) (line : List ℕ) (next : Option (List ℕ)) (text : List ℕ) → AtLineIf A certify o old before count mid middle left → count < most_lines → TakesLine left true line next → Prints A certify (count + 1) (line_of line) mid text new → (e ≡ fault.Write) × ((taken : ℕ) × Appends middle after (take taken text)) → EndsIf A certify o old before new after (Err e)
-  write_failed_if None e new after line next text a below t p w = tt
-  write_failed_if (Some bytes) e new after line next text a below t p (h, (taken, w)) = rw h (write_failed A certify bytes old before count mid new middle after left line next text taken below a (line_taken a.rest line left next a.left_is t) p w)
+  pub write_failed_if : (o : Option (List ℕ)) (new : State) (after : Option (List ℕ)) (line : List ℕ) (next : Option (List ℕ)) (text : List ℕ) → AtLineIf A certify o old before count mid middle left → count < most_lines → TakesLine left true line next → Prints A certify (count + 1) (line_of line) mid text new → ((taken : ℕ) × Appends middle after (take taken text)) → EndsIf A certify o old before new after (Err fault.Write)
+  write_failed_if None new after line next text a below t p w = tt
+  write_failed_if (Some bytes) new after line next text a below t p (taken, w) = write_failed A certify bytes old before count mid new middle after left line next text taken below a (line_taken a.rest line left next a.left_is t) p w
 
   pub next_if : (o : Option (List ℕ)) (new : State) (after : Option (List ℕ)) (line : List ℕ) (next : Option (List ℕ)) (text : List ℕ) → AtLineIf A certify o old before count mid middle left → TakesLine left true line next → Prints A certify (count + 1) (line_of line) mid text new → Appends middle after text → AtLineIf A certify o old before (count + 1) new after next
   next_if None new after line next text a t p w = tt

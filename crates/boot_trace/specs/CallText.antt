@@ -11,7 +11,7 @@ use Rattle.boot_core.specs.declared.calls.Call.TheVariants.{AllocatePages}
 use Rattle.boot_core.specs.declared.calls.Reply.{Reply}
 use Rattle.boot_core.specs.declared.calls.Reply.TheVariants as reply
 use Rattle.boot_trace.specs.PrintedText.{reply_text}
-use Rattle.boot_trace.specs.BlockText.{block_text}
+use Rattle.certificate_blocks.specs.BlockText.{block_text}
 
 -- the certificate that a reply carries
 abbrev pub certificate_of : {A : Type 0} → Reply A → Option CertificateValue

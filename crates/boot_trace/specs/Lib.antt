@@ -1,16 +1,7 @@
-pub mod Words
-pub mod Numbers
 pub mod Verbs
 pub mod TraceLine
 pub mod MachineText
 pub mod FaultText
 pub mod PrintedText
-pub mod BlockText
 pub mod CallText
-pub mod BlockLines
-pub mod Blocks
-pub mod BlockReads
-pub mod BlockLaws
-pub mod BlockChecks
-pub mod Lines
 pub mod TraceRuns

@@ -13,7 +13,7 @@ use Rattle.boot_trace.specs.declared.faults.MachineFault.TheVariants as fault
 use Rattle.boot_trace.specs.declared.faults.MemberField.{MemberField}
 use Rattle.boot_trace.specs.declared.faults.MemberField.TheVariants as field
 use Rattle.boot_trace.specs.FaultText.{field_name}
-use Rattle.boot_trace.specs.Numbers.{hexadecimal_of}
+use Rattle.text_lines.specs.Numbers.{hexadecimal_of}
 
 -- the first fault, or the last value
 infixl 10 ◌>>=◌

@@ -1,6 +1,6 @@
 -- What is printed of a trace line.
-use Rattle.std.specs.Prelude.{ℕ, ◌*◌, List, [], ◌∷◌, ◌++◌, length, flat_map, codes, false, Ok, Err}
-use Rattle.std.specs.Fmt.{decimal, digits}
+use Rattle.std.specs.Prelude.{ℕ, ◌*◌, List, ◌++◌, length, flat_map, codes, Ok, Err}
+use Rattle.std.specs.Fmt.{decimal}
 use Rattle.page_ranges.specs.declared.ranges.Descriptor.{Descriptor}
 use Rattle.page_ranges.specs.MemoryTypes.{page_size}
 use Rattle.page_ranges.specs.declared.statuses.Status.TheVariants.{Success, BufferTooSmall}
@@ -12,16 +12,7 @@ use Rattle.boot_core.specs.declared.calls.Reply.TheVariants as reply
 use Rattle.boot_trace.specs.declared.verbs.Verb.{Verb}
 use Rattle.boot_trace.specs.declared.verbs.Verb.TheVariants as verb
 use Rattle.boot_trace.specs.Verbs.{name_of}
-
--- an address, a value or attributes: `0x` and lower-case digits with no leading zeros
-abbrev pub hexadecimal : ℕ → List ℕ
-hexadecimal n = codes "0x" ++ digits 16 false n
-
-abbrev pub space : List ℕ
-space = 32 ∷ []
-
-abbrev pub line_feed : List ℕ
-line_feed = 10 ∷ []
+use Rattle.text_lines.specs.Printed.{hexadecimal, space, line_feed}
 
 -- the start of each reply: the line number and the verb
 abbrev pub reply_start : ℕ → Verb → List ℕ

@@ -9,9 +9,10 @@ use Rattle.boot_trace.specs.declared.faults.TraceFault.{TraceFault}
 use Rattle.boot_trace.specs.declared.faults.TraceFault.TheVariants as fault
 use Rattle.boot_trace.specs.declared.verbs.Verb.{Verb}
 use Rattle.boot_trace.specs.declared.verbs.Verb.TheVariants as verb
-use Rattle.boot_trace.specs.Numbers.{number_of}
+use Rattle.text_lines.specs.Numbers.{number_of}
 use Rattle.boot_trace.specs.Verbs.{verb_named}
-use Rattle.boot_trace.specs.Words.{words_of}
+use Rattle.text_lines.specs.Lines.{longest_line}
+use Rattle.text_lines.specs.Words.{words_of}
 
 -- the first fault, or the last value
 infixl 10 ◌>>=◌
@@ -76,10 +77,6 @@ request_of (name ∷ parameters) = if starts_with nat_eq name (codes "#") then O
   v ← or_fault fault.Verb (verb_named name)
   call ← call_of v parameters
   Ok (Some call))
-
--- the most bytes of a line, without its line feed
-abbrev pub longest_line : ℕ
-longest_line = 65536
 
 -- what a line asks for, without its line feed: one carriage return at its end is dropped
 abbrev pub line_of : List ℕ → Result (Option TraceCall) TraceFault

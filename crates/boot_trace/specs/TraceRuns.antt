@@ -10,7 +10,7 @@ use Rattle.boot_trace.specs.declared.calls.TraceCall.TheVariants as trace_call
 use Rattle.boot_trace.specs.declared.faults.RunFault.{RunFault}
 use Rattle.boot_trace.specs.declared.faults.RunFault.TheVariants as fault
 use Rattle.boot_trace.specs.declared.faults.TraceFault.{TraceFault}
-use Rattle.boot_trace.specs.Lines.{lines_of}
+use Rattle.text_lines.specs.Lines.{lines_of}
 use Rattle.boot_trace.specs.CallText.{printed}
 use Rattle.boot_trace.specs.PrintedText.{list_text}
 use Rattle.boot_trace.specs.TraceLine.{line_of}

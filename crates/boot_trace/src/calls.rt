@@ -1,17 +1,12 @@
 //! Trace lines as calls.
 ghost use Rattle.std.specs.Prelude.{◌≡◌, ◌⊎◌, [], ◌∷◌, Err, map};
-ghost use Rattle.std.specs.Io.BufRead.{strip_last};
 ghost use Rattle.boot_trace.specs.TraceLine.{u64_of, u32_of, buffer_size_of, call_of, request_of, line_of};
 
 use crate::faults::TraceFault;
-use crate::numbers::number_of;
 use crate::verbs::{Verb, verb_named};
-use crate::words::words_of;
 use boot_core::Call;
 use std::alloc::Allocator;
-
-/// The most bytes of a line, without its line feed.
-pub const LONGEST_LINE: usize = 65_536;
+use text_lines::{LONGEST_LINE, number_of, without_carriage_return, words_of};
 
 /// The most bytes of a buffer for the memory map.
 const LARGEST_BUFFER: u64 = 16_777_216;
@@ -36,16 +31,6 @@ pub fn read_call<A: Allocator + Copy>(
     }
     let words = words_of(alloc, without_carriage_return(line))?;
     read_words(words.as_slice())
-}
-
-/// The line without one carriage return at its end.
-pub fn without_carriage_return(line: &[u8]) -> &[u8]
-    ensures { result.now ≡ strip_last 13 line.now }
-{
-    match line {
-        [front @ .., b'\r'] => front,
-        _ => line,
-    }
 }
 
 /// What the words of a line ask for.

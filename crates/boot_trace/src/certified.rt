@@ -4,10 +4,10 @@ ghost use Rattle.page_ranges.specs.MemoryMap.{memory_map};
 ghost use Rattle.boot_trace.specs.PrintedText.{reply_text};
 ghost use Rattle.boot_trace.specs.CallText.{certificate_of, placement_request, block_start, started_block};
 
-use crate::blocks::print_block;
 use crate::faults::RunFault;
 use crate::replies::print_reply;
 use boot_core::{Call, Core, Reply};
+use certificate_blocks::print_block;
 use page_ranges::{Descriptor, MemoryType, PAGE_COUNT, pages_below};
 use placement_certificate::{Certificate, Request};
 use std::alloc::{AllocError, Allocator};

@@ -1,4 +1,4 @@
-//! What can be wrong with a machine file, a trace line, a run and a certificate block.
+//! What can be wrong with a machine file, a trace line and a run.
 ghost use Rattle.std.specs.Prelude.{Some};
 ghost use Rattle.boot_trace.specs.FaultText.{field_name};
 
@@ -86,20 +86,6 @@ pub enum RunFault {
     OutOfMemory,
 }
 
-/// Why a certificate block was not judged.
-#[derive(Clone, Copy, Debug, PartialEq, Eq, Error)]
-pub enum BlockFault {
-    #[error("cannot read block")]
-    Read,
-    #[error("cannot write")]
-    Write,
-    /// The first line, counted from 1, that is missing or not as a block has it.
-    #[error("block: line {number}")]
-    Line { number: u64 },
-    #[error("out of memory")]
-    OutOfMemory,
-}
-
 impl From<AllocError> for TraceFault {
     ghost use Rattle.std.specs.Prelude.{◌≡◌};
     ghost use Rattle.boot_trace.specs.declared.faults.TraceFault.TheVariants.{OutOfMemory};
@@ -152,27 +138,5 @@ impl<T: Drop> From<AllocFailed<T>> for RunFault {
 
     fn from(_error: AllocFailed<T>) -> RunFault {
         RunFault::OutOfMemory
-    }
-}
-
-impl From<AllocError> for BlockFault {
-    ghost use Rattle.std.specs.Prelude.{◌≡◌};
-    ghost use Rattle.boot_trace.specs.declared.faults.BlockFault.TheVariants.{OutOfMemory};
-
-    ghost from_gives = { λ _ e. e ≡ OutOfMemory };
-
-    fn from(_error: AllocError) -> BlockFault {
-        BlockFault::OutOfMemory
-    }
-}
-
-impl<T: Drop> From<AllocFailed<T>> for BlockFault {
-    ghost use Rattle.std.specs.Prelude.{◌≡◌};
-    ghost use Rattle.boot_trace.specs.declared.faults.BlockFault.TheVariants.{OutOfMemory};
-
-    ghost from_gives = { λ _ e. e ≡ OutOfMemory };
-
-    fn from(_error: AllocFailed<T>) -> BlockFault {
-        BlockFault::OutOfMemory
     }
 }

@@ -4,9 +4,9 @@ ghost use Rattle.serde_json.specs.View.{view};
 ghost use Rattle.boot_trace.specs.MachineText.{hexadecimal_at, type_of, first_page_of, page_count_of, attributes_of, run_of};
 
 use crate::faults::MemberField;
-use crate::numbers::hexadecimal_of;
 use page_ranges::{MemoryType, Owner, PAGE_COUNT, PAGE_SIZE, PageRange, Run, has_runtime};
 use serde_json::Value;
+use text_lines::hexadecimal_of;
 
 /// The run of a member, or its first field that is missing, of another kind or out of its range. A
 /// member that is no object lacks them all.

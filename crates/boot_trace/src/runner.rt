@@ -7,11 +7,11 @@ ghost use Rattle.boot_trace.specs.TraceRuns.{Prints, StopsAt, Ends};
 use crate::calls::{TraceCall, read_call};
 use crate::certified::{block_start, print_call};
 use crate::faults::{RunFault, TraceFault};
-use crate::lines::{next_byte, next_line};
 use crate::replies::print_list;
 use boot_core::{Call, Core};
 use std::alloc::Allocator;
 use std::io::{BufReader, Read, Write};
+use text_lines::{LineFault, next_byte, next_line, write_text};
 
 /// The most lines of a trace.
 pub const MOST_LINES: u64 = 1_000_000;
@@ -36,7 +36,8 @@ pub fn run<A: Allocator + Copy, R: Read + Drop, W: Write>(
         match next_line(&mut reader, &mut line) {
             Ok(true) => {}
             Ok(false) => return Ok(()),
-            Err(fault) => return Err(fault),
+            Err(LineFault::Read) => return Err(RunFault::Read),
+            Err(LineFault::OutOfMemory) => return Err(RunFault::OutOfMemory),
         }
         text.clear();
         match run_line(alloc, core, done + 1, line.as_slice(), certify, &mut text) {
@@ -45,13 +46,13 @@ pub fn run<A: Allocator + Copy, R: Read + Drop, W: Write>(
         }
         match write_text(writer, text.as_bytes()) {
             Ok(()) => {}
-            Err(fault) => return Err(fault),
+            Err(_) => return Err(RunFault::Write),
         }
     }
     match next_byte(&mut reader) {
         Ok(None) => Ok(()),
         Ok(Some(_)) => Err(RunFault::TooManyLines),
-        Err(fault) => Err(fault),
+        Err(_) => Err(RunFault::Read),
     }
 }
 
@@ -103,28 +104,5 @@ fn make_call<A: Allocator + Copy>(
     match print_call(text, number, core, &start, &reply) {
         Ok(()) => Ok(()),
         Err(_) => Err(RunFault::OutOfMemory),
-    }
-}
-
-/// Writes all the bytes, if there are any. Any error is a fault, and so is a write that takes no
-/// byte; some bytes from the front on have then been written.
-pub fn write_text<W: Write>(writer: &mut W, bytes: &[u8]) -> Result<(), RunFault>
-    ensures ok { OnOk result (Appends (W.contents writer.old) (W.contents writer.new) bytes.now) }
-    ensures err { IfErr result (λ fault. (fault ≡ RunFault.Write)
-        × ((count : ℕ) × Appends (W.contents writer.old) (W.contents writer.new) (take count bytes.now))) }
-{
-    let mut written = 0;
-    while written < bytes.len() {
-        match writer.write(&bytes[written..]) {
-            Ok(0) | Err(_) => return Err(RunFault::Write),
-            Ok(taken) => written += taken,
-        }
-    }
-    if written == 0 {
-        return Ok(());
-    }
-    match writer.flush() {
-        Ok(()) => Ok(()),
-        Err(_) => Err(RunFault::Write),
     }
 }

@@ -1,6 +1,6 @@
 //! A run of the program, over any readers and writers.
 ghost use Rattle.std.specs.Prelude.{◌≡◌, ◌⊎◌, IfOk, IfErr, IfSome};
-ghost use Rattle.boot_trace.specs.BlockChecks.{Judges, Writes};
+ghost use Rattle.certificate_blocks.specs.BlockChecks.{Judges, Writes};
 ghost use Rattle.bootcore.specs.Serving.{IsRead, RunsFiles, check_status, status_of};
 
 use boot_core::Core;

@@ -1,6 +1,0 @@
-use Rattle.std.proofs.Common.{◌≡◌, ◌++◌, string_bytes, flat_map, map, take}
-use Rattle.boot_trace.specs.BlockText.{bound_words, printed_line}
-use Rattle.boot_trace.proofs.blocks.print_bounds.Given as goal
-
-abbrev pub invariant-loop-bound : goal.invariant-loop-bound
-invariant-loop-bound g l = string_bytes l.text ≡ string_bytes l.initial.text ++ flat_map printed_line (map bound_words (take l.bound-index l.bounds))

@@ -1,0 +1,6 @@
+pub mod BlockTexts
+pub mod PrintedLines
+pub mod BlockReadBack
+pub mod BlockWords
+pub mod BlockSteps
+pub mod BlockParts

@@ -1,0 +1,36 @@
+-- What the check of a certificate block says.
+use Rattle.std.specs.Prelude.{◌≡◌, ◌↔◌, ℕ, Bool, List, ◌++◌, take, codes, IsTrue, Option, Result, Ok, Err, if◌then◌else◌}
+use Rattle.std.specs.Io.KnownBytes.{Appends, Keeps}
+use Rattle.page_ranges.specs.declared.ranges.Descriptor.{Descriptor}
+use Rattle.placement_certificate.specs.declared.certificates.Request.{Request}
+use Rattle.placement_certificate.specs.Certificates.{CertificateValue}
+use Rattle.placement_certificate.specs.Acceptance.{IsAccepted}
+use Rattle.certificate_blocks.specs.declared.faults.BlockFault.{BlockFault}
+use Rattle.certificate_blocks.specs.declared.faults.BlockFault.TheVariants as fault
+use Rattle.text_lines.specs.Printed.{line_feed}
+use Rattle.certificate_blocks.specs.Blocks.{block_of}
+
+-- the line that is written
+abbrev pub verdict_text : Bool → List ℕ
+verdict_text accepted = (if accepted then codes "accepted" else codes "refused") ++ line_feed
+
+-- The bytes are a block, and this is whether its certificate is accepted.
+pub record IsVerdict (bytes : List ℕ) (accepted : Bool) : Type 0 where
+  pub map : List Descriptor
+  pub request : Request
+  pub certificate : CertificateValue
+  pub block : block_of bytes ≡ Ok (map, request, certificate)
+  pub accepts : IsTrue accepted ↔ IsAccepted map request certificate
+
+-- What is written, whatever is read: one of the two lines; on a fault nothing, but for a write that fails: then a front of one.
+abbrev pub Writes : Option (List ℕ) → Option (List ℕ) → Result Bool BlockFault → Type 0
+Writes before after (Ok accepted) = Appends before after (verdict_text accepted)
+Writes before after (Err fault.Write) = (accepted : Bool) × ((taken : ℕ) × Appends before after (take taken (verdict_text accepted)))
+Writes before after (Err e) = Keeps before after
+
+-- What the answer says of known bytes: whether the block is accepted, or the first line that is not as stated. A write that fails has written a front of the block's own verdict.
+abbrev pub Judges : List ℕ → Option (List ℕ) → Option (List ℕ) → Result Bool BlockFault → Type 0
+Judges bytes before after (Ok accepted) = IsVerdict bytes accepted
+Judges bytes before after (Err (fault.Line number)) = block_of bytes ≡ Err number
+Judges bytes before after (Err fault.Write) = (accepted : Bool) × IsVerdict bytes accepted × ((taken : ℕ) × Appends before after (take taken (verdict_text accepted)))
+Judges bytes before after (Err e) = Unit {0}

@@ -1,0 +1,6 @@
+pub mod BlockText
+pub mod BlockLines
+pub mod Blocks
+pub mod BlockReads
+pub mod BlockLaws
+pub mod BlockChecks

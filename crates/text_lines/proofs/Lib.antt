@@ -1,0 +1,4 @@
+pub mod Digits
+pub mod PrintedNumbers
+pub mod LineBytes
+pub mod Written

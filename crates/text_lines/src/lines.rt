@@ -1,0 +1,68 @@
+//! Lines, read one at a time.
+ghost use Rattle.std.specs.Prelude.{◌≡◌, IfOk};
+ghost use Rattle.std.specs.Io.BufRead.{strip_last};
+ghost use Rattle.std.specs.Io.Buffered.{reader_remaining};
+ghost use Rattle.text_lines.specs.Lines.{TakesByte, TakesLine};
+
+use std::alloc::Allocator;
+use std::io::{self, BufReader, Read};
+
+/// The most bytes of a line, without its line feed.
+pub const LONGEST_LINE: usize = 65_536;
+
+/// The most bytes that are taken of a line that is too long.
+const LONGEST_FRONT: usize = LONGEST_LINE + 1;
+
+/// Why a line was not read.
+#[derive(Clone, Copy, Debug, PartialEq, Eq)]
+pub enum LineFault {
+    Read,
+    OutOfMemory,
+}
+
+/// The next byte, None at the end.
+pub fn next_byte<R: Read, A: Allocator>(reader: &mut BufReader<R, A>) -> io::Result<Option<u8>>
+    ensures { IfOk result (λ next. TakesByte (reader_remaining R.remaining reader.old) next (reader_remaining R.remaining reader.new)) }
+{
+    let mut byte = [0u8; 1];
+    match reader.read(&mut byte) {
+        Ok(0) => Ok(None),
+        Ok(_) => Ok(Some(byte[0])),
+        Err(error) => Err(error),
+    }
+}
+
+/// Puts the next line in the place of `line`, without its line feed, and answers whether there was
+/// one. Of a line that is longer than [`LONGEST_LINE`] the front is taken, so much of it that it
+/// shows.
+pub fn next_line<R: Read, A: Allocator>(
+    reader: &mut BufReader<R, A>,
+    line: &mut Vec<u8, A>,
+) -> Result<bool, LineFault>
+    ensures { IfOk result (λ more. TakesLine (reader_remaining R.remaining reader.old) more line.new.items (reader_remaining R.remaining reader.new)) }
+{
+    line.clear();
+    for _taken in 0..LONGEST_FRONT {
+        match next_byte(reader) {
+            Ok(None) => return Ok(!line.is_empty()),
+            Ok(Some(b'\n')) => return Ok(true),
+            Ok(Some(byte)) => {
+                if line.push(byte).is_err() {
+                    return Err(LineFault::OutOfMemory);
+                }
+            }
+            Err(_) => return Err(LineFault::Read),
+        }
+    }
+    Ok(true)
+}
+
+/// The line without one carriage return at its end.
+pub fn without_carriage_return(line: &[u8]) -> &[u8]
+    ensures { result.now ≡ strip_last 13 line.now }
+{
+    match line {
+        [front @ .., b'\r'] => front,
+        _ => line,
+    }
+}

@@ -1,0 +1,21 @@
+//! The words of a line.
+ghost use Rattle.std.specs.Prelude.{◌≡◌, IfOk, map};
+ghost use Rattle.text_lines.specs.Words.{is_blank, words_of};
+
+use std::alloc::{AllocError, Allocator};
+
+/// Whether a byte stands between words: a space or a tab.
+fn is_blank(byte: u8) -> bool
+    ensures { result ≡ is_blank byte }
+{
+    byte == b' ' || byte == b'\t'
+}
+
+/// The words of a line, from left to right.
+pub fn words_of<A: Allocator>(alloc: A, line: &[u8]) -> Result<Vec<&[u8], A>, AllocError>
+    ensures { IfOk result (λ words. map (λ word. word.now) words.items ≡ words_of line.now) }
+{
+    line.split(|byte| is_blank(*byte))
+        .filter(|word| !word.is_empty())
+        .collect(alloc)
+}
