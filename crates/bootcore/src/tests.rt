@@ -57,10 +57,33 @@ pub fn assert_run(
     err: &str,
 ) -> Result<(), Fail> {
     let outcome = outcome_of(rt, machine, trace);
-    let said = String::from_utf8(outcome.err)?;
-    assert_eq!(rt; said.as_str(), err);
-    let printed = String::from_utf8(outcome.out)?;
-    assert_eq!(rt; printed.as_str(), out, "after {err:?}");
-    assert_eq!(rt; outcome.status, status, "after {err:?}");
+    assert_outcome(rt, "a run", outcome, status, out, err)
+}
+
+/// Asserts that what is named ended with the status, and wrote just these texts.
+pub fn assert_outcome(
+    rt: &(impl AllocGlobal + Abort),
+    name: &str,
+    outcome: Outcome,
+    status: u8,
+    out: &str,
+    err: &str,
+) -> Result<(), Fail> {
+    let ended = outcome.status;
+    assert_text(rt, name, outcome.err, err)?;
+    assert_text(rt, name, outcome.out, out)?;
+    assert_eq!(rt; ended, status, "{name}: {err:?}");
+    Ok(())
+}
+
+/// Asserts that the bytes of what is named are a text.
+fn assert_text(
+    rt: &(impl AllocGlobal + Abort),
+    name: &str,
+    bytes: Vec<u8>,
+    text: &str,
+) -> Result<(), Fail> {
+    let said = String::from_utf8(bytes)?;
+    assert_eq!(rt; said.as_str(), text, "{name}");
     Ok(())
 }

@@ -1,5 +1,7 @@
 //! Certificate blocks, judged.
-use super::outcome_of_block;
+use super::{assert_outcome, outcome_of_block};
+use std::alloc::AllocError;
+use std::process::Abort;
 use std::test::Fail;
 
 /// The lines of a block that is accepted.
@@ -26,20 +28,41 @@ fn block_with(
     count: usize,
     lines: &str,
 ) -> Result<String, Fail> {
+    let before = first.saturating_sub(1);
     let mut block = String::new(rt.alloc());
-    for (place, line) in LINES.iter().enumerate() {
-        if place + 1 == first {
-            block.push_str(lines)?;
-        }
-        if place + 1 < first || place + 1 - first >= count {
-            block.push_str(line)?;
-            block.push_str("\n")?;
-        }
-    }
-    if first > LINES.len() {
-        block.push_str(lines)?;
-    }
+    push_lines(&mut block, 0, before)?;
+    block.push_str(lines)?;
+    push_lines(&mut block, before.saturating_add(count), LINES.len())?;
     Ok(block)
+}
+
+/// Appends the lines from one place on, up to another.
+fn push_lines(block: &mut String, from: usize, to: usize) -> Result<(), AllocError> {
+    for line in LINES.iter().take(to).skip(from) {
+        block.push_str(line)?;
+        block.push_str("\n")?;
+    }
+    Ok(())
+}
+
+/// Asserts how a block is judged: with a fault that tells this line, where the status is that of a
+/// fault.
+fn assert_block(
+    rt: &(impl AllocGlobal + Abort),
+    name: &str,
+    block: &str,
+    status: u8,
+    line: u64,
+) -> Result<(), Fail> {
+    let outcome = outcome_of_block(rt, block.as_bytes());
+    match status {
+        0 => assert_outcome(rt, name, outcome, 0, "accepted\n", ""),
+        3 => assert_outcome(rt, name, outcome, 3, "refused\n", ""),
+        _ => {
+            let told = format!(in rt.alloc(); "bootcore: block: line {line}\n")?;
+            assert_outcome(rt, name, outcome, 1, "", told.as_str())
+        }
+    }
 }
 
 /// Blocks that differ from the one that is accepted: each a name, the first line that differs and
@@ -109,24 +132,9 @@ const ROWS: [(&str, usize, usize, &str, u8, u64); 18] = [
 
 #[test]
 fn blocks(rt: HostRuntime) -> Result<(), Fail> {
-    for (name, first, count, lines, status, line) in ROWS {
-        let block = block_with(&rt, first, count, lines)?;
-        let outcome = outcome_of_block(&rt, block.as_bytes());
-        assert_eq!(rt; outcome.status, status, "{name}");
-        let said = String::from_utf8(outcome.out)?;
-        let word = match status {
-            0 => "accepted\n",
-            3 => "refused\n",
-            _ => "",
-        };
-        assert_eq!(rt; said.as_str(), word, "{name}");
-        let told = String::from_utf8(outcome.err)?;
-        let text = if status == 1 {
-            format!(in rt.alloc(); "bootcore: block: line {line}\n")?
-        } else {
-            String::new(rt.alloc())
-        };
-        assert_eq!(rt; told.as_str(), text.as_str(), "{name}");
+    for (name, first, count, lines, status, line) in &ROWS {
+        let block = block_with(&rt, *first, *count, lines)?;
+        assert_block(&rt, name, block.as_str(), *status, *line)?;
     }
     Ok(())
 }
@@ -134,15 +142,9 @@ fn blocks(rt: HostRuntime) -> Result<(), Fail> {
 /// A block that ends early lacks the line after its last.
 #[test]
 fn first_lines(rt: HostRuntime) -> Result<(), Fail> {
-    for lines in 0..LINES.len() {
-        let block = block_with(&rt, lines + 1, LINES.len(), "")?;
-        let outcome = outcome_of_block(&rt, block.as_bytes());
-        let missing = lines + 1;
-        let text = format!(in rt.alloc(); "bootcore: block: line {missing}\n")?;
-        let told = String::from_utf8(outcome.err)?;
-        assert_eq!(rt; told.as_str(), text.as_str());
-        assert_eq!(rt; outcome.status, 1, "{lines} lines");
-        assert!(rt; outcome.out.is_empty(), "{lines} lines");
+    for line in 1..=LINES.len() {
+        let block = block_with(&rt, line, LINES.len(), "")?;
+        assert_block(&rt, "a front", block.as_str(), 1, line as u64)?;
     }
     Ok(())
 }

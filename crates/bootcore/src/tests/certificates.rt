@@ -1,6 +1,6 @@
 //! Certificates that a run prints, and that are then judged.
 use super::placements::{LAST_PAGES, TWO_BLOCKS};
-use super::{MACHINE, Outcome, outcome_of_block};
+use super::{MACHINE, Outcome, assert_outcome, outcome_of_block};
 use crate::serve::serve_run;
 use std::process::Abort;
 use std::test::Fail;
@@ -106,16 +106,26 @@ pub fn certified_outcome(rt: &impl AllocGlobal, machine: &[u8], trace: &[u8]) ->
     Outcome { status, out, err }
 }
 
+/// Asserts that a run prints the replies and then the block, and that the block is accepted.
+fn assert_certified(
+    rt: &(impl AllocGlobal + Abort),
+    name: &str,
+    outcome: Outcome,
+    replies: &str,
+    block: &str,
+) -> Result<(), Fail> {
+    let printed = format!(in rt.alloc(); "{replies}{block}")?;
+    assert_outcome(rt, name, outcome, 0, printed.as_str(), "")?;
+    let judged = outcome_of_block(rt, block.as_bytes());
+    assert_outcome(rt, name, judged, 0, "accepted\n", "")
+}
+
 #[test]
 fn certified_placements(rt: HostRuntime) -> Result<(), Fail> {
-    for (name, machine, trace, replies, map, rest) in PLACEMENTS {
+    for (name, machine, trace, replies, map, rest) in &PLACEMENTS {
         let outcome = certified_outcome(&rt, machine.as_bytes(), trace.as_bytes());
-        let printed = String::from_utf8(outcome.out)?;
-        let whole = format!(in rt.alloc(); "{replies}{map}{rest}")?;
-        assert_eq!(rt; printed.as_str(), whole.as_str(), "{name}");
         let block = format!(in rt.alloc(); "{map}{rest}")?;
-        let judged = outcome_of_block(&rt, block.as_bytes());
-        assert_eq!(rt; judged.status, 0, "{name}");
+        assert_certified(&rt, name, outcome, replies, block.as_str())?;
     }
     Ok(())
 }

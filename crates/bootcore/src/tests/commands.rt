@@ -1,10 +1,19 @@
 //! Command lines.
 use crate::command::{Command, CommandFault, command_of};
-use std::test::Fail;
+
+/// Whether the words are this command.
+fn is_command(rt: &impl AllocGlobal, words: &[&str], wanted: &Command) -> bool {
+    matches!(&command_of(rt.alloc(), words), Ok(command) if command == wanted)
+}
+
+/// Whether the words are refused with a text.
+fn is_usage(rt: &impl AllocGlobal, words: &[&str]) -> bool {
+    matches!(&command_of(rt.alloc(), words), Err(CommandFault::Usage(_)))
+}
 
 #[test]
-fn commands(rt: HostRuntime) -> Result<(), Fail> {
-    let run = [
+fn commands(rt: HostRuntime) {
+    let words = [
         "bootcore",
         "run",
         "--machine=a.json",
@@ -12,33 +21,16 @@ fn commands(rt: HostRuntime) -> Result<(), Fail> {
         "b.txt",
         "--certify",
     ];
-    let wanted = Command::Run {
-        machine: "a.json",
-        trace: "b.txt",
-        certify: true,
-    };
-    assert!(rt;
-        matches!(&command_of(rt.alloc(), run.as_slice()), Ok(command) if *command == wanted)
-    );
-    let wanted = Command::Run {
-        machine: "a.json",
-        trace: "b.txt",
-        certify: false,
-    };
-    assert!(rt; matches!(&command_of(rt.alloc(), &run[..5]), Ok(command) if *command == wanted));
-    let check = ["bootcore", "check"];
-    assert!(rt;
-        matches!(
-            &command_of(rt.alloc(), check.as_slice()),
-            Ok(Command::Check)
-        )
-    );
-    for count in [1, 2, 3, 4] {
-        let fault = command_of(rt.alloc(), &run[..count]);
-        assert!(rt;
-            matches!(&fault, Err(CommandFault::Usage(_))),
-            "{count} words"
-        );
+    for (count, certify) in [(6, true), (5, false)] {
+        let run = Command::Run {
+            machine: "a.json",
+            trace: "b.txt",
+            certify,
+        };
+        assert!(rt; is_command(&rt, &words[..count], &run), "{count} words");
     }
-    Ok(())
+    assert!(rt; is_command(&rt, &["bootcore", "check"], &Command::Check));
+    for count in [1, 2, 3, 4] {
+        assert!(rt; is_usage(&rt, &words[..count]), "{count} words");
+    }
 }

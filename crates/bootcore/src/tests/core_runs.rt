@@ -42,34 +42,60 @@ fn best_fit_high(rt: HostRuntime) -> Result<(), Fail> {
     Ok(())
 }
 
+/// The status that a reply tells, if it is the reply to such a call.
+fn status_told(call: &Call, reply: &Reply) -> Option<Status> {
+    match (call, reply) {
+        (Call::AllocatePages { .. }, Reply::AllocatePages(Ok(_))) => Some(Status::Success),
+        (Call::FreePages { .. }, Reply::FreePages(Ok(()))) => Some(Status::Success),
+        (Call::ExitBootServices { .. }, Reply::ExitBootServices(Ok(()))) => Some(Status::Success),
+        (Call::AllocatePages { .. }, Reply::AllocatePages(Err(status))) => Some(*status),
+        (Call::FreePages { .. }, Reply::FreePages(Err(status))) => Some(*status),
+        (Call::ExitBootServices { .. }, Reply::ExitBootServices(Err(status))) => Some(*status),
+        (Call::GetMemoryMap { .. }, Reply::GetMemoryMap { reply, .. }) => Some(reply.status),
+        _ => None,
+    }
+}
+
+/// Calls, and the status of each.
+const CALLS: [(Call, Status); 6] = [
+    (
+        Call::FreePages {
+            memory: 0x9e000,
+            pages: 2,
+        },
+        Status::NotFound,
+    ),
+    (
+        Call::AllocatePages {
+            kind: 2,
+            mtype: 4,
+            pages: 2,
+            memory: 0x9e000,
+        },
+        Status::Success,
+    ),
+    (Call::ExitBootServices { key: 1 }, Status::InvalidParameter),
+    (Call::GetMemoryMap { size: 47 }, Status::BufferTooSmall),
+    (Call::ExitBootServices { key: 2 }, Status::Success),
+    (
+        Call::FreePages {
+            memory: 0x9e000,
+            pages: 2,
+        },
+        Status::Unsupported,
+    ),
+];
+
 #[test]
 fn replies_in_order(rt: HostRuntime) -> Result<(), Fail> {
     let mut core = core_of(&rt, MACHINE)?;
-    let free = Call::FreePages {
-        memory: 0x9e000,
-        pages: 2,
-    };
-    let fixed = Call::AllocatePages {
-        kind: 2,
-        mtype: 4,
-        pages: 2,
-        memory: 0x9e000,
-    };
-    let early = Call::ExitBootServices { key: 1 };
-    let exit = Call::ExitBootServices { key: 2 };
-    let replies = core.run(&[free, fixed, early, exit, free])?;
-    assert_eq!(rt; replies.len(), 5);
-    assert!(rt; matches!(replies[0], Reply::FreePages(Err(Status::NotFound))));
-    assert_eq!(rt; address_of(&replies[1]), Some(0x9e000));
-    assert!(rt;
-        matches!(
-            replies[2],
-            Reply::ExitBootServices(Err(Status::InvalidParameter))
-        )
-    );
-    assert!(rt; matches!(replies[3], Reply::ExitBootServices(Ok(()))));
-    assert!(rt; matches!(replies[4], Reply::FreePages(Err(Status::Unsupported))));
-    assert_eq!(rt; core.calls_left(), 0x8000_0000 - 5);
+    let calls = CALLS.map(|(call, _)| call);
+    let replies = core.run(calls.as_slice())?;
+    assert_eq!(rt; replies.len(), CALLS.len());
+    for ((call, status), reply) in CALLS.iter().zip(replies.iter()) {
+        assert_eq!(rt; status_told(call, reply), Some(*status), "{call:?}");
+    }
+    assert_eq!(rt; core.calls_left(), 0x8000_0000 - 6);
     Ok(())
 }
 
@@ -90,28 +116,47 @@ const FIRMWARE: &str = "{\"memory\":[
 {\"type\":5,\"start\":\"0x7fef0000\",\"pages\":16,\"attributes\":\"0x8000000000000008\"},
 {\"type\":3,\"start\":\"0x7ff00000\",\"pages\":256,\"attributes\":\"0x8\"}]}";
 
+/// The bytes of a memory map that a reply tells, if they are as many as it says.
+fn bytes_told(reply: &Reply) -> Option<&[u8]> {
+    match reply {
+        Reply::GetMemoryMap { reply, bytes } if reply.size == bytes.len() as u64 => {
+            Some(bytes.as_slice())
+        }
+        _ => None,
+    }
+}
+
+/// Asserts that the bytes are the records of the core's map, and what the last of them says.
+fn assert_records(
+    rt: &(impl AllocGlobal + Abort),
+    core: &Core,
+    bytes: &[u8],
+    last: &Descriptor,
+) -> Result<(), Fail> {
+    let entries = read_descriptors(rt.alloc(), bytes)?.expect(rt, "entries");
+    assert_eq!(rt; entries.len(), core.descriptors());
+    for (index, entry) in entries.iter().enumerate() {
+        assert_eq!(rt; core.descriptor(index), Some(*entry), "entry {index}");
+    }
+    assert_eq!(rt; entries.last(), Some(last));
+    Ok(())
+}
+
 /// A firmware's map goes through bytes and back.
 #[test]
 fn firmware_map_through_bytes(rt: HostRuntime) -> Result<(), Fail> {
     let mut core = core_of(&rt, FIRMWARE)?;
-    let replies = core.run(&[Call::GetMemoryMap { size: 4096 }])?;
+    let call = Call::GetMemoryMap { size: 4096 };
+    let replies = core.run(&[call])?;
     assert_eq!(rt; replies.len(), 1);
-    let Reply::GetMemoryMap { reply, bytes } = &replies[0] else {
-        panic!(rt; "another service's reply");
-    };
-    assert_eq!(rt; reply.status, Status::Success);
-    assert_eq!(rt; reply.size, 672);
-    let entries = read_descriptors(rt.alloc(), bytes.as_slice())?.expect(&rt, "a map");
-    assert_eq!(rt; entries.len(), 14);
-    for (index, entry) in entries.iter().enumerate() {
-        assert_eq!(rt; core.descriptor(index), Some(*entry), "entry {index}");
-    }
+    assert_eq!(rt; status_told(&call, &replies[0]), Some(Status::Success));
+    let bytes = bytes_told(&replies[0]).expect(&rt, "bytes");
+    assert_eq!(rt; bytes.len(), 672);
     let last = Descriptor {
         mtype: MemoryType::new(3),
         first: 0x7ff00,
         pages: 256,
         attributes: 8,
     };
-    assert_eq!(rt; entries[13], last);
-    Ok(())
+    assert_records(&rt, &core, bytes, &last)
 }

@@ -48,7 +48,7 @@ const MEMBERS: [(&str, &str); 23] = [
 #[test]
 fn descriptor_faults(rt: HostRuntime) -> Result<(), Fail> {
     let whole = "{\"type\":5,\"start\":\"0x0\",\"pages\":1,\"attributes\":\"0x8000000000000000\"}";
-    for (member, field) in MEMBERS {
+    for (member, field) in &MEMBERS {
         let machine = format!(in rt.alloc(); "{{\"memory\":[{whole},{member},9]}}")?;
         let err = format!(in rt.alloc(); "bootcore: machine: descriptor 1: {field}\n")?;
         assert_run(&rt, machine.as_bytes(), b"list\n", 1, "", err.as_str())?;
@@ -76,7 +76,7 @@ const MACHINES: [(&[u8], &str); 9] = [
 
 #[test]
 fn machine_faults(rt: HostRuntime) -> Result<(), Fail> {
-    for (machine, text) in MACHINES {
+    for (machine, text) in &MACHINES {
         let err = format!(in rt.alloc(); "bootcore: machine: {text}\n")?;
         assert_run(&rt, machine, b"list\n", 1, "", err.as_str())?;
     }
@@ -134,7 +134,7 @@ const LINES: [(&[u8], &str); 30] = [
 
 #[test]
 fn line_faults(rt: HostRuntime) -> Result<(), Fail> {
-    for (line, text) in LINES {
+    for (line, text) in &LINES {
         let mut trace = Vec::new(rt.alloc());
         trace.extend_from_slice(b"\n")?;
         trace.extend_from_slice(line)?;
@@ -168,7 +168,7 @@ const READ_LINES: [(&[u8], &str); 8] = [
 
 #[test]
 fn lines_that_are_read(rt: HostRuntime) -> Result<(), Fail> {
-    for (line, text) in READ_LINES {
+    for (line, text) in &READ_LINES {
         let out = format!(in rt.alloc(); "1 pages {text}\n")?;
         assert_run(&rt, MACHINE.as_bytes(), line, 0, out.as_str(), "")?;
     }

@@ -16,11 +16,11 @@ const RUNTIME: u64 = 0x8000_0000_0000_0000;
 
 /// Pages of one kind, from one number up to another.
 #[derive(Clone, Copy, PartialEq)]
-struct Stretch {
-    first: u64,
-    end: u64,
-    mtype: u32,
-    attributes: u64,
+pub struct Stretch {
+    pub first: u64,
+    pub end: u64,
+    pub mtype: u32,
+    pub attributes: u64,
     is_placed: bool,
 }
 
@@ -43,26 +43,36 @@ struct Drawn {
 }
 
 /// The stretches of a map's words.
-fn stretches_of(alloc: Global, text: &str) -> Result<Vec<Stretch>, Fail> {
+pub fn stretches_of(alloc: Global, text: &str) -> Result<Vec<Stretch>, Fail> {
     let mut stretches = Vec::new(alloc);
     let mut first = 0_u64;
     for word in text.split_whitespace() {
-        let mut parts = word.split(':');
-        let mtype = parts.next().ok_or("type")?;
-        let pages: u64 = parts.next().ok_or("pages")?.parse()?;
+        let (pages, kind) = parts_of(word).ok_or("a stretch")?;
         let end = first.saturating_add(pages);
-        if mtype != "-" {
+        if let Some((mtype, attributes)) = kind {
             stretches.push(Stretch {
                 first,
                 end,
-                mtype: mtype.parse()?,
-                attributes: u64::from_str_radix(parts.next().ok_or("attributes")?, 16)?,
+                mtype,
+                attributes,
                 is_placed: false,
             })?;
         }
         first = end;
     }
     Ok(stretches)
+}
+
+/// How many pages a word is for, and the type and attributes of those that are present.
+fn parts_of(word: &str) -> Option<(u64, Option<(u32, u64)>)> {
+    let mut parts = word.split(':');
+    let mtype = parts.next()?;
+    let pages = parts.next()?.parse().ok()?;
+    if mtype == "-" {
+        return Some((pages, None));
+    }
+    let attributes = u64::from_str_radix(parts.next()?, 16).ok()?;
+    Some((pages, Some((mtype.parse().ok()?, attributes))))
 }
 
 /// A core of the machine that stretches describe.

@@ -1,8 +1,10 @@
 //! Certificates on the maps of real firmware, and blocks of which a number is changed.
 use super::blocks::LINES;
 use super::certificates::certified_outcome;
+use super::firmware::{Stretch, stretches_of};
 use super::firmware_maps::MAPS;
 use super::outcome_of_block;
+use std::alloc::AllocError;
 use std::process::Abort;
 use std::test::Fail;
 
@@ -14,30 +16,29 @@ pages 1 2 64 0xffffffff
 
 /// The machine file of a map's words.
 fn machine_of(rt: &impl AllocGlobal, words: &str) -> Result<String, Fail> {
+    let stretches = stretches_of(rt.alloc(), words)?;
     let mut file = String::from_str(rt.alloc(), "{\"memory\":[")?;
-    let mut first = 0_u64;
-    let mut has_entry = false;
-    for word in words.split_whitespace() {
-        let mut parts = word.split(':');
-        let mtype = parts.next().ok_or("type")?;
-        let pages: u64 = parts.next().ok_or("pages")?.parse()?;
-        if mtype != "-" {
-            let number: u32 = mtype.parse()?;
-            let attributes = u64::from_str_radix(parts.next().ok_or("attributes")?, 16)?;
-            if has_entry {
-                file.push_str(",")?;
-            }
-            has_entry = true;
-            write!(file, "{{\"type\":{number},\"start\":\"0x{first:x}000\",")?;
-            write!(
-                file,
-                "\"pages\":{pages},\"attributes\":\"0x{attributes:x}\"}}"
-            )?;
+    for (place, stretch) in stretches.iter().enumerate() {
+        if place > 0 {
+            file.push_str(",")?;
         }
-        first = first.saturating_add(pages);
+        push_member(&mut file, stretch)?;
     }
     file.push_str("]}")?;
     Ok(file)
+}
+
+/// Appends the member of a machine file that is a stretch.
+fn push_member(file: &mut String, stretch: &Stretch) -> Result<(), AllocError> {
+    let mtype = stretch.mtype;
+    let first = stretch.first;
+    let pages = stretch.end.saturating_sub(first);
+    let attributes = stretch.attributes;
+    write!(file, "{{\"type\":{mtype},\"start\":\"0x{first:x}000\",")?;
+    write!(
+        file,
+        "\"pages\":{pages},\"attributes\":\"0x{attributes:x}\"}}"
+    )
 }
 
 /// The blocks that a run prints.
@@ -82,23 +83,31 @@ fn with_change(
     let mut text = String::new(rt.alloc());
     let mut is_changed = false;
     for (place, row) in block.lines().enumerate() {
-        for (at, part) in row.split(' ').enumerate() {
-            let number = if place + 1 == line && at == word {
-                changed(part, up)
-            } else {
-                None
-            };
-            match number {
-                Some(number) => {
-                    is_changed = true;
-                    write!(text, "{number} ")?;
-                }
-                None => write!(text, "{part} ")?,
-            }
-        }
-        text.push_str("\n")?;
+        let word = (place + 1 == line).then_some(word);
+        is_changed = push_row(&mut text, row, word, up)? || is_changed;
     }
     Ok(is_changed.then_some(text))
+}
+
+/// Appends a row with the number of a word changed, and answers whether there is such a number.
+fn push_row(
+    text: &mut String,
+    row: &str,
+    word: Option<usize>,
+    up: bool,
+) -> Result<bool, AllocError> {
+    let mut is_changed = false;
+    for (at, part) in row.split(' ').enumerate() {
+        match changed(part, up) {
+            Some(number) if word == Some(at) => {
+                is_changed = true;
+                write!(text, "{number} ")?;
+            }
+            _ => write!(text, "{part} ")?,
+        }
+    }
+    text.push_str("\n")?;
+    Ok(is_changed)
 }
 
 /// Asserts that the block is refused, or no block, once a number of the line is changed.

@@ -1,5 +1,6 @@
 //! Where requests that name no address are placed, and how many entries the memory map then has.
-use super::{MACHINE, outcome_of};
+use super::{MACHINE, Outcome, outcome_of};
+use std::process::Abort;
 use std::test::Fail;
 
 /// Two blocks of free memory side by side that differ in one attribute.
@@ -95,19 +96,36 @@ const ROWS: [(&str, &str, &str, &str); 13] = [
     ),
 ];
 
+/// The lines of a text but for those of entries.
+fn without_entries(rt: &impl AllocGlobal, text: &str) -> Result<String, Fail> {
+    let mut told = String::new(rt.alloc());
+    for line in text.lines() {
+        if !line.starts_with("  ") {
+            told.push_str(line)?;
+            told.push_str("\n")?;
+        }
+    }
+    Ok(told)
+}
+
+/// Asserts that a run prints these lines, beside those of entries.
+fn assert_lines(
+    rt: &(impl AllocGlobal + Abort),
+    name: &str,
+    outcome: Outcome,
+    lines: &str,
+) -> Result<(), Fail> {
+    let printed = String::from_utf8(outcome.out)?;
+    let told = without_entries(rt, printed.as_str())?;
+    assert_eq!(rt; told.as_str(), lines, "{name}");
+    Ok(())
+}
+
 #[test]
 fn placements(rt: HostRuntime) -> Result<(), Fail> {
-    for (name, machine, trace, lines) in ROWS {
+    for (name, machine, trace, lines) in &ROWS {
         let outcome = outcome_of(&rt, machine.as_bytes(), trace.as_bytes());
-        let printed = String::from_utf8(outcome.out)?;
-        let mut told = String::new(rt.alloc());
-        for line in printed.as_str().lines() {
-            if !line.starts_with("  ") {
-                told.push_str(line)?;
-                told.push_str("\n")?;
-            }
-        }
-        assert_eq!(rt; told.as_str(), lines, "{name}");
+        assert_lines(&rt, name, outcome, lines)?;
     }
     Ok(())
 }
