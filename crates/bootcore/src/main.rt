@@ -1,11 +1,12 @@
 //! The boot services core as a program: a machine file and a trace in, the replies out.
 #![tactic(auto)]
 
-mod command;
-mod serve;
+ghost use Rattle.std.specs.Prelude.{◌≡◌, ◌⊎◌, ◌≤◌};
 
-use command::{Command, CommandFault, command_of};
-use serve::{Fault, serve_check, serve_fault, serve_run, serve_usage};
+use command_line::{Command, CommandFault, command_of};
+use program_runs::{
+    FAULT, Fault, REFUSED, SUCCESS, serve_check, serve_fault, serve_run, serve_usage,
+};
 use std::alloc::{AllocError, Global};
 use std::fs::File;
 use std::process::ExitCode;
@@ -15,7 +16,9 @@ fn main(rt: HostRuntime) -> ExitCode {
 }
 
 /// Runs the command of the words, and answers the exit status.
-fn status_of(rt: &HostRuntime) -> u8 {
+fn status_of(rt: &HostRuntime) -> u8
+    ensures { result ≤ REFUSED }
+{
     let alloc = rt.alloc();
     let mut err = rt.stderr();
     let Ok(arguments) = std::env::args(rt) else {
@@ -47,7 +50,9 @@ fn words_of(alloc: Global, arguments: &[String]) -> Result<Vec<&str>, AllocError
 }
 
 /// Opens the machine file and then the trace, and runs it.
-fn run_paths(rt: &HostRuntime, machine: &str, trace: &str, certify: bool) -> u8 {
+fn run_paths(rt: &HostRuntime, machine: &str, trace: &str, certify: bool) -> u8
+    ensures { (result ≡ SUCCESS) ⊎ (result ≡ FAULT) }
+{
     let mut err = rt.stderr();
     let Ok(machine) = File::open(rt, machine) else {
         return serve_fault(&mut err, &Fault::CannotReadMachine);

@@ -12,7 +12,7 @@ mod placements;
 mod rows;
 mod streams;
 
-use crate::serve::{serve_check, serve_run};
+use program_runs::{serve_check, serve_run};
 use std::process::Abort;
 use std::test::Fail;
 

@@ -1,7 +1,7 @@
 //! Certificates that a run prints, and that are then judged.
 use super::placements::{LAST_PAGES, TWO_BLOCKS};
 use super::{MACHINE, Outcome, assert_outcome, outcome_of_block};
-use crate::serve::serve_run;
+use program_runs::serve_run;
 use std::process::Abort;
 use std::test::Fail;
 

@@ -1,5 +1,5 @@
 //! Command lines.
-use crate::command::{Command, CommandFault, command_of};
+use command_line::{Command, CommandFault, command_of};
 
 /// Whether the words are this command.
 fn is_command(rt: &impl AllocGlobal, words: &[&str], wanted: &Command) -> bool {

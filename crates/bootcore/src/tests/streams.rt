@@ -1,6 +1,6 @@
 //! Readers and writers that fail, or give and take little at a time.
 use super::{MACHINE, Outcome, outcome_of};
-use crate::serve::serve_run;
+use program_runs::serve_run;
 use std::io::{Error, ErrorKind, Read, Result, Write};
 use std::process::Abort;
 use std::test::Fail;

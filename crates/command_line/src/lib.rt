@@ -1,0 +1,6 @@
+//! The command line.
+#![tactic(auto)]
+
+mod commands;
+
+pub use commands::{Command, CommandFault, command_of};

@@ -1,0 +1,38 @@
+-- What is read of a machine file, and how the program ends on it.
+use Rattle.std.proofs.Common.{◌≡◌, ◌⊎◌, ℕ, ◌+◌, ◌<◌, Bool, List, ◌++◌, length, Option, Some, None, Result, Ok, Err, IfSome, refl, sym, ap, ◌∙◌, inl, inr, arith, append-nil, length-append, lt-ltb, subst}
+use Rattle.page_ranges.specs.declared.ranges.Run.{Run}
+use Rattle.boot_trace.specs.declared.faults.MachineFault.{MachineFault}
+use Rattle.boot_trace.specs.declared.faults.MachineFault.TheVariants as machine_fault
+use Rattle.boot_trace.specs.MachineText.{longest_file, file_runs, machine_of}
+use Rattle.std.specs.declared.alloc.Global.{Global}
+use Rattle.boot_core.specs.Machines.{State, first_state}
+use Rattle.boot_trace.specs.declared.faults.RunFault.{RunFault}
+use Rattle.boot_trace.specs.TraceRuns.{Ends}
+use Rattle.program_runs.specs.Serving.{IsRead, RunsTrace}
+
+-- a file that is too long is none of a machine
+too_long : (bytes : List ℕ) → longest_file < length bytes → machine_of bytes ≡ Err machine_fault.TooLong
+unfolding file_runs machine_of
+too_long bytes h = rw (lt-ltb longest_file (length bytes) h) refl
+
+-- what was read of the file has its meaning
+pub read_means : (file bytes : List ℕ) → IsRead file bytes → machine_of file ≡ machine_of bytes
+read_means file bytes (rest, whole, inl none) = ap machine_of (whole ∙ ap (λ (xs : List ℕ). bytes ++ xs) none ∙ append-nil bytes)
+read_means file bytes (rest, whole, inr long) =
+    let size : length file ≡ length bytes + length rest = ap length whole ∙ length-append bytes rest in
+    too_long file (omega (arith, size, long)) ∙ sym (too_long bytes long)
+
+-- what ran on the bytes that were read ran on the file
+pub runs_file : (certify : Bool) (file trace : Option (List ℕ)) (bytes : List ℕ) (runs : List Run) (core new : State) (before after : Option (List ℕ)) (end : Result (Unit {0}) RunFault) → IfSome file (λ f. IsRead f bytes) → machine_of bytes ≡ Ok runs → core ≡ first_state runs → IfSome trace (λ t. Ends Global certify t core new before after end) → IfSome file (λ f. RunsTrace certify f trace before after end)
+runs_file certify None trace bytes runs core new before after end r m e h = tt
+runs_file certify (Some f) trace bytes runs core new before after end r m e h = (runs, read_means f bytes r ∙ m, ran trace h)
+  where
+    ran : (t : Option (List ℕ)) → IfSome t (λ lines. Ends Global certify lines core new before after end) → IfSome t (λ lines. (last : State) × Ends Global certify lines (first_state runs) last before after end)
+    ran None k = tt
+    ran (Some lines) k = (new, subst (λ (s : State). Ends Global certify lines s new before after end) e k)
+
+-- what is wrong with the bytes that were read is wrong with the file
+pub faults_file : (file : Option (List ℕ)) (bytes : List ℕ) (e : MachineFault) (before after : Option (List ℕ)) → IfSome file (λ f. IsRead f bytes) → (e ≡ machine_fault.OutOfMemory) ⊎ (machine_of bytes ≡ Err e) → after ≡ before → IfSome file (λ f. ((e ≡ machine_fault.OutOfMemory) ⊎ (machine_of f ≡ Err e)) × (after ≡ before))
+faults_file None bytes e before after r h k = tt
+faults_file (Some f) bytes e before after r (inl h) k = (inl h, k)
+faults_file (Some f) bytes e before after r (inr h) k = (inr (read_means f bytes r ∙ h), k)

@@ -1,0 +1,15 @@
+use Rattle.std.proofs.Common.{Ok, Err, refl}
+use Rattle.program_runs.proofs.Served.{runs_file, faults_file}
+use Rattle.program_runs.proofs.serve.run_files.Goals as goal
+
+pub returns-in-Err-read_machine : goal.returns-in-Err-read_machine
+returns-in-Err-read_machine g c =
+    faults_file (g.M.Read.remaining c.args.machine) c.in-Ok.bytes.items c.in-Err-read_machine.fault _ _ c.in-Ok.ensures.ok (rw c.as_slice.ensures.value at c.in-Err-read_machine.ensures) refl
+
+pub returns-in-Ok-run : goal.returns-in-Ok-run
+returns-in-Ok-run g c =
+    runs_file c.args.certify (g.M.Read.remaining c.args.machine) (g.T.Read.remaining c.args.trace) c.in-Ok.bytes.items _ _ _ _ _ (Ok tt) c.in-Ok.ensures.ok (rw c.as_slice.ensures.value at c.in-Ok-read_machine.ensures) c.in-Ok-new.ensures c.in-Ok-run.ensures
+
+pub returns : goal.returns
+returns g c =
+    runs_file c.args.certify (g.M.Read.remaining c.args.machine) (g.T.Read.remaining c.args.trace) c.in-Ok.bytes.items _ _ _ _ _ (Err c.in-Err-run.fault) c.in-Ok.ensures.ok (rw c.as_slice.ensures.value at c.in-Ok-read_machine.ensures) c.in-Ok-new.ensures c.in-Err-run.ensures

@@ -1,0 +1,41 @@
+-- What the program does on the bytes that it is given.
+use Rattle.std.specs.Prelude.{◌≡◌, ◌⊎◌, ℕ, ◌<◌, Bool, List, [], ◌++◌, length, Option, IfSome, Result, Ok, Err, true, false}
+use Rattle.std.specs.declared.alloc.Global.{Global}
+use Rattle.page_ranges.specs.declared.ranges.Run.{Run}
+use Rattle.boot_core.specs.Machines.{State, first_state}
+use Rattle.boot_trace.specs.declared.faults.MachineFault.TheVariants as machine_fault
+use Rattle.boot_trace.specs.declared.faults.RunFault.{RunFault}
+use Rattle.boot_trace.specs.MachineText.{longest_file, machine_of}
+use Rattle.boot_trace.specs.TraceRuns.{Ends}
+use Rattle.program_runs.specs.declared.serve.Fault.{Fault}
+use Rattle.program_runs.specs.declared.serve.Fault.TheVariants as fault
+
+-- the bytes are all of the file, or so many from its front that it shows that it is too long
+abbrev pub IsRead : List ℕ → List ℕ → Type 0
+IsRead file bytes = (rest : List ℕ) × (file ≡ bytes ++ rest) × ((rest ≡ []) ⊎ (longest_file < length bytes))
+
+-- the file is a machine's, and the run of a trace of known bytes on that machine ends so
+abbrev pub RunsTrace : Bool → List ℕ → Option (List ℕ) → Option (List ℕ) → Option (List ℕ) → Result (Unit {0}) RunFault → Type 0
+RunsTrace certify file trace before after end = (runs : List Run) × (machine_of file ≡ Ok runs) × IfSome trace (λ bytes. (new : State) × Ends Global certify bytes (first_state runs) new before after end)
+
+-- How the program ends on a machine file and a trace, and what it wrote. It runs the trace on the machine; where there
+-- is a fault before that, nothing is written. No such run ends on a trace that was not opened, or on a block.
+abbrev pub RunsFiles : Bool → List ℕ → Option (List ℕ) → Option (List ℕ) → Option (List ℕ) → Result (Unit {0}) Fault → Type 0
+RunsFiles certify file trace before after (Ok done) = RunsTrace certify file trace before after (Ok done)
+RunsFiles certify file trace before after (Err (fault.Run e)) = RunsTrace certify file trace before after (Err e)
+RunsFiles certify file trace before after (Err (fault.Machine e)) = ((e ≡ machine_fault.OutOfMemory) ⊎ (machine_of file ≡ Err e)) × (after ≡ before)
+RunsFiles certify file trace before after (Err fault.CannotReadMachine) = after ≡ before
+RunsFiles certify file trace before after (Err fault.OutOfMemory) = after ≡ before
+RunsFiles certify file trace before after (Err fault.CannotReadTrace) = ⊥
+RunsFiles certify file trace before after (Err (fault.Block e)) = ⊥
+
+-- 0 where there was no fault, 1 where there was one
+abbrev pub status_of : {A E : Type 0} → Result A E → ℕ
+status_of (Ok x) = 0
+status_of (Err e) = 1
+
+-- 0 where the block was accepted, 3 where it was refused, 1 where there was a fault
+abbrev pub check_status : {E : Type 0} → Result Bool E → ℕ
+check_status (Ok true) = 0
+check_status (Ok false) = 3
+check_status (Err e) = 1

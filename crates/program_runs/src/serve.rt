@@ -1,0 +1,170 @@
+//! A run of the program, over any readers and writers.
+ghost use Rattle.std.specs.Prelude.{◌≡◌, ◌⊎◌, IfOk, IfErr, IfSome};
+ghost use Rattle.certificate_blocks.specs.BlockChecks.{Judges, Writes};
+ghost use Rattle.program_runs.specs.Serving.{IsRead, RunsFiles, check_status, status_of};
+
+use boot_core::Core;
+use boot_trace::{MachineFault, RunFault, read_machine};
+use certificate_blocks::{BlockFault, check_block};
+use std::alloc::{AllocError, AllocFailed, Global};
+use std::io::{Read, Write};
+use thiserror::Error;
+
+/// The status of a run that reached the end of its trace.
+pub const SUCCESS: u8 = 0;
+
+/// The status of a fault of input or output.
+pub const FAULT: u8 = 1;
+
+/// The status of a command line that is none.
+pub const USAGE: u8 = 2;
+
+/// The status of a block that is refused.
+pub const REFUSED: u8 = 3;
+
+/// How many bytes are asked of the machine file at a time.
+const PIECE: usize = 8192;
+
+/// The most bytes that are read of a machine file, one more than it may have.
+const MOST_BYTES: usize = 67_108_865;
+
+/// Why the program stopped.
+#[derive(Debug, Drop, Error)]
+pub enum Fault {
+    #[error("cannot read machine")]
+    CannotReadMachine,
+    #[error("cannot read trace")]
+    CannotReadTrace,
+    #[error("out of memory")]
+    OutOfMemory,
+    #[error(transparent)]
+    Machine(#[from] MachineFault),
+    #[error(transparent)]
+    Run(#[from] RunFault),
+    #[error(transparent)]
+    Block(#[from] BlockFault),
+}
+
+impl From<AllocError> for Fault {
+    ghost use Rattle.std.specs.Prelude.{◌≡◌};
+    ghost use Rattle.program_runs.specs.declared.serve.Fault.TheVariants.{OutOfMemory};
+
+    ghost from_gives = { λ _ e. e ≡ OutOfMemory };
+
+    fn from(_error: AllocError) -> Fault {
+        Fault::OutOfMemory
+    }
+}
+
+impl<T: Drop> From<AllocFailed<T>> for Fault {
+    ghost use Rattle.std.specs.Prelude.{◌≡◌};
+    ghost use Rattle.program_runs.specs.declared.serve.Fault.TheVariants.{OutOfMemory};
+
+    ghost from_gives = { λ _ e. e ≡ OutOfMemory };
+
+    fn from(_error: AllocFailed<T>) -> Fault {
+        Fault::OutOfMemory
+    }
+}
+
+/// Runs the trace on the machine, writes the replies to `out` and a fault's line to `err`, and
+/// answers the exit status.
+pub fn serve_run<M: Read + Drop, T: Read + Drop, W: Write, E: Write>(
+    alloc: Global,
+    machine: M,
+    trace: T,
+    out: &mut W,
+    err: &mut E,
+    certify: bool,
+) -> u8
+    ensures status { (result ≡ SUCCESS) ⊎ (result ≡ FAULT) }
+    ensures run { IfSome (M.remaining machine) (λ file. (end : _) × (result ≡ status_of end) × RunsFiles certify file (T.remaining trace) (W.contents out.old) (W.contents out.new) end) }
+{
+    match run_files(alloc, machine, trace, out, certify) {
+        Ok(()) => SUCCESS,
+        Err(fault) => serve_fault(err, &fault),
+    }
+}
+
+/// Judges the block, writes `accepted` or `refused` to `out` or a fault's line to `err`, and answers
+/// the exit status.
+pub fn serve_check<R: Read + Drop, W: Write, E: Write>(
+    alloc: Global,
+    input: R,
+    out: &mut W,
+    err: &mut E,
+) -> u8
+    ensures status { (result ≡ SUCCESS) ⊎ ((result ≡ REFUSED) ⊎ (result ≡ FAULT)) }
+    ensures check { (end : _) × (result ≡ check_status end) × Writes (W.contents out.old) (W.contents out.new) end × IfSome (R.remaining input) (λ bytes. Judges bytes (W.contents out.old) (W.contents out.new) end) }
+{
+    match check_block(alloc, input, out) {
+        Ok(true) => SUCCESS,
+        Ok(false) => REFUSED,
+        Err(fault) => serve_fault(err, &Fault::Block(fault)),
+    }
+}
+
+/// Writes the line of a fault, and answers its status. That the line could not be written changes
+/// nothing.
+pub fn serve_fault<E: Write>(err: &mut E, fault: &Fault) -> u8
+    ensures { result ≡ FAULT }
+{
+    let _ = writeln!(err, "bootcore: {fault}");
+    FAULT
+}
+
+/// Writes the text that says how the program is used, and answers the status.
+pub fn serve_usage<E: Write>(err: &mut E, text: &str) -> u8
+    ensures { result ≡ USAGE }
+{
+    let _ = err.write_all(text.as_bytes());
+    USAGE
+}
+
+/// Judges the machine file, and then runs the trace.
+fn run_files<M: Read + Drop, T: Read + Drop, W: Write>(
+    alloc: Global,
+    machine: M,
+    trace: T,
+    out: &mut W,
+    certify: bool,
+) -> Result<(), Fault>
+    ensures { IfSome (M.remaining machine) (λ file. RunsFiles certify file (T.remaining trace) (W.contents out.old) (W.contents out.new) result) }
+{
+    let bytes = match read_whole(alloc, machine) {
+        Ok(bytes) => bytes,
+        Err(fault) => return Err(fault),
+    };
+    let file = match read_machine(alloc, bytes.as_slice()) {
+        Ok(file) => file,
+        Err(fault) => return Err(Fault::Machine(fault)),
+    };
+    let Ok(mut core) = Core::new(alloc, file.machine) else {
+        return Err(Fault::OutOfMemory);
+    };
+    match boot_trace::run(alloc, &mut core, trace, out, certify) {
+        Ok(()) => Ok(()),
+        Err(fault) => Err(Fault::Run(fault)),
+    }
+}
+
+/// The bytes of a machine file, or so many of them that it shows that they are too many.
+fn read_whole<M: Read + Drop>(alloc: Global, mut machine: M) -> Result<Vec<u8>, Fault>
+    ensures ok { IfOk result (λ bytes. IfSome (M.remaining machine) (λ file. IsRead file bytes.items)) }
+    ensures err { IfErr result (λ fault. (fault ≡ Fault.CannotReadMachine) ⊎ (fault ≡ Fault.OutOfMemory)) }
+{
+    let mut bytes = Vec::new(alloc);
+    let mut piece = [0u8; PIECE];
+    while bytes.len() < MOST_BYTES {
+        match machine.read(&mut piece) {
+            Ok(0) => return Ok(bytes),
+            Ok(taken) => {
+                if bytes.extend_from_slice(&piece[..taken]).is_err() {
+                    return Err(Fault::OutOfMemory);
+                }
+            }
+            Err(_) => return Err(Fault::CannotReadMachine),
+        }
+    }
+    Ok(bytes)
+}
