@@ -1,5 +1,5 @@
 //! The members of a machine file's memory list.
-ghost use Rattle.std.specs.Prelude.{◌≡◌, ◌≤◌, ◌^◌, codes};
+ghost use Rattle.std.specs.Prelude.{◌≡◌};
 ghost use Rattle.serde_json.specs.View.{view};
 ghost use Rattle.boot_trace.specs.MachineText.{hexadecimal_at, type_of, first_page_of, page_count_of, attributes_of, run_of};
 

@@ -1,6 +1,5 @@
 //! A trace, run.
-ghost use Rattle.std.specs.Prelude.{◌≡◌, ℕ, [], take, Ok, Some, OnOk, IfErr, IfSome, string_bytes};
-ghost use Rattle.std.specs.Io.KnownBytes.{Appends};
+ghost use Rattle.std.specs.Prelude.{◌≡◌, [], Ok, Some, OnOk, IfErr, IfSome, string_bytes};
 ghost use Rattle.boot_trace.specs.TraceLine.{line_of};
 ghost use Rattle.boot_trace.specs.TraceRuns.{Prints, StopsAt, Ends};
 

@@ -2,7 +2,7 @@
 ghost use Rattle.std.specs.Prelude.{◌≡◌, ◌≢◌, false, IfErr, IfOk, codes, map, string_bytes};
 ghost use Rattle.clap.specs.Words.{app_of, found_of, kind_of, rows_of, rule_of, subcommand_rows_of};
 ghost use Rattle.clap.specs.declared.builder.command.Command.TheViews.{out-Command as fields_of};
-ghost use Rattle.command_line.specs.Words.{file_option, flag, run_words, program_words, HasReason, IsNamed, IsNone, IsFound, IsCommandOf, IsRefusedBy};
+ghost use Rattle.command_line.specs.Words.{file_option, run_words, program_words, HasReason, IsNamed, IsNone, IsFound, IsCommandOf, IsRefusedBy};
 
 use clap::error::ErrorKind;
 use clap::{Arg, ArgAction, ArgMatches};

@@ -3,7 +3,7 @@ ghost use Rattle.std.specs.Prelude.{◌≡◌, ◌↔◌, ℕ, Some, IsTrue, sli
 ghost use Rattle.std.specs.List.{AllZip};
 ghost use Rattle.page_ranges.specs.MemoryMap.{IsMap, memory_of};
 ghost use Rattle.placement_certificate.specs.Placement.{IsProperRequest};
-ghost use Rattle.placement_certificate.specs.Certificates.{IsTrueBound, conventional_entries, IsTrueCertificate};
+ghost use Rattle.placement_certificate.specs.Certificates.{IsTrueBound, conventional_entries};
 ghost use Rattle.placement_certificate.specs.Acceptance.{IsAccepted};
 ghost use Rattle.placement_certificate.specs.Search.{IsBestOf};
 

@@ -1,5 +1,5 @@
 //! Lists of entries: whether a list is a map, and which entry of a map holds a page.
-ghost use Rattle.std.specs.Prelude.{◌≡◌, ◌↔◌, ℕ, ◌+◌, ◌<◌, ◌≤◌, length, nat_le, Contains, IfSome, IsTrue, slice_get};
+ghost use Rattle.std.specs.Prelude.{◌≡◌, ◌↔◌, ◌+◌, ◌<◌, ◌≤◌, length, nat_le, Contains, IfSome, IsTrue, slice_get};
 ghost use Rattle.std.specs.List.{AllWithin};
 ghost use Rattle.page_ranges.specs.Memory.{page_at, page_below};
 ghost use Rattle.page_ranges.specs.MemoryMap.{IsEntry, IsIn, IsMap, memory_of};

@@ -1,7 +1,6 @@
 //! The price of a start, by the pages at its two edges.
 ghost use Rattle.std.specs.Prelude.{◌≡◌, ℕ};
 ghost use Rattle.std.specs.Option.{option_map};
-ghost use Rattle.page_ranges.specs.Memory.{IsProperMemory};
 ghost use Rattle.page_ranges.specs.Runs.{page_in};
 ghost use Rattle.placement_certificate.specs.Placement.{IsProperRequest, IsPermittedStart, price};
 ghost use Rattle.placement_certificate.specs.Laws.{adds, saves};

@@ -3,7 +3,6 @@ use super::{MACHINE, Outcome, outcome_of};
 use program_runs::serve_run;
 use std::io::{Error, ErrorKind, Read, Result, Write};
 use std::process::Abort;
-use std::test::Fail;
 
 const TRACE: &[u8] = b"pages 2 4 2 0x9e000\n# a comment\nlist\npages 3 4 1 0";
 
