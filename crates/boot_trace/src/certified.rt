@@ -4,7 +4,6 @@ ghost use Rattle.page_ranges.specs.MemoryMap.{memory_map};
 ghost use Rattle.boot_trace.specs.PrintedText.{reply_text};
 ghost use Rattle.boot_trace.specs.CallText.{certificate_of, placement_request, block_start, started_block};
 
-use crate::faults::RunFault;
 use crate::replies::print_reply;
 use boot_core::{Call, Core, Reply};
 use certificate_blocks::print_block;
@@ -42,7 +41,7 @@ pub fn block_start<A: Allocator + Copy>(
     core: &Core<A>,
     call: &Call,
     certify: bool,
-) -> Result<Option<BlockStart<A>>, RunFault>
+) -> Result<Option<BlockStart<A>>, AllocError>
     ensures { IfOk result (λ start. start ≡ block_start certify core.now.book.memory call.now) }
 {
     if !certify {
@@ -79,7 +78,10 @@ fn placement_request(call: &Call) -> Option<Request>
 }
 
 /// The entries of the memory map.
-fn entries_of<A: Allocator + Copy>(alloc: A, core: &Core<A>) -> Result<Vec<Descriptor, A>, RunFault>
+fn entries_of<A: Allocator + Copy>(
+    alloc: A,
+    core: &Core<A>,
+) -> Result<Vec<Descriptor, A>, AllocError>
     ensures { IfOk result (λ entries. entries.items ≡ memory_map core.now.book.memory) }
 {
     let mut entries = Vec::new(alloc);

@@ -118,25 +118,3 @@ impl<T: Drop> From<AllocFailed<T>> for MachineFault {
         MachineFault::OutOfMemory
     }
 }
-
-impl From<AllocError> for RunFault {
-    ghost use Rattle.std.specs.Prelude.{◌≡◌};
-    ghost use Rattle.boot_trace.specs.declared.faults.RunFault.TheVariants.{OutOfMemory};
-
-    ghost from_gives = { λ _ e. e ≡ OutOfMemory };
-
-    fn from(_error: AllocError) -> RunFault {
-        RunFault::OutOfMemory
-    }
-}
-
-impl<T: Drop> From<AllocFailed<T>> for RunFault {
-    ghost use Rattle.std.specs.Prelude.{◌≡◌};
-    ghost use Rattle.boot_trace.specs.declared.faults.RunFault.TheVariants.{OutOfMemory};
-
-    ghost from_gives = { λ _ e. e ≡ OutOfMemory };
-
-    fn from(_error: AllocFailed<T>) -> RunFault {
-        RunFault::OutOfMemory
-    }
-}
