@@ -1,8 +1,11 @@
 //! The statuses that services answer.
 ghost use Rattle.std.specs.Prelude.{◌≡◌, Some};
-ghost use Rattle.page_ranges.specs.Statuses.{name_of};
+ghost use Rattle.page_ranges.specs.Statuses.{name_of, status_number};
 
 use std::fmt;
+
+/// The bit that an error's number has.
+const ERROR_BIT: u64 = 1 << 63;
 
 /// A status of the services (EFI_STATUS), as far as these services answer it.
 #[derive(Clone, Copy, Debug, PartialEq, Eq)]
@@ -33,6 +36,24 @@ impl Status {
             Status::NotFound => "NOT_FOUND",
             Status::AccessDenied => "ACCESS_DENIED",
             Status::AlreadyStarted => "ALREADY_STARTED",
+        }
+    }
+
+    /// The standard's number (EFI_STATUS, Appendix D), as a 64-bit processor has it: 0, or the top bit
+    /// and the error's own number.
+    pub fn number(self) -> u64
+        ensures { result ≡ status_number self }
+    {
+        match self {
+            Status::Success => 0,
+            Status::InvalidParameter => ERROR_BIT | 2,
+            Status::Unsupported => ERROR_BIT | 3,
+            Status::BufferTooSmall => ERROR_BIT | 5,
+            Status::DeviceError => ERROR_BIT | 7,
+            Status::OutOfResources => ERROR_BIT | 9,
+            Status::NotFound => ERROR_BIT | 14,
+            Status::AccessDenied => ERROR_BIT | 15,
+            Status::AlreadyStarted => ERROR_BIT | 20,
         }
     }
 }
