@@ -4,15 +4,17 @@ use Rattle.std.specs.Option.{option_map}
 use Rattle.page_ranges.specs.declared.ranges.Run.{Run}
 use Rattle.std.specs.List.{AllByRecursion}
 use Rattle.page_ranges.specs.MemoryTypes.{page_count}
-use Rattle.page_ranges.specs.MemoryMap.{memory_map}
-use Rattle.page_ranges.specs.Memory.{page_at, row, IsProperMemory}
-use Rattle.page_ranges.specs.Runs.{page_in, pages_of, runs_of, AreRuns, IsInRun}
+use Rattle.page_ranges.specs.MemoryMap.{memory_map, IsLike}
+use Rattle.page_ranges.specs.Cursors.{IsBlockAt}
+use Rattle.page_ranges.specs.Memory.{Page, page_at, row, IsProperMemory}
+use Rattle.page_ranges.specs.Runs.{page_in, pages_of, runs_of, AreRuns, AreMaximalRuns, IsInRun}
 use Rattle.page_ranges.proofs.Rows.{length-row}
 use Rattle.page_ranges.proofs.Members.{all_implied}
 use Rattle.page_ranges.proofs.RunLists.{IsProperRun, proper_runs, run_at, run_count}
 use Rattle.page_ranges.proofs.RunMaps.{entries_at_most}
-use Rattle.page_ranges.proofs.MaximalRuns.{maximal_are_runs, runs_of-pages_of}
-use Rattle.descriptor_table.specs.Tables.{EndBy, IsTable, HoldsPage}
+use Rattle.page_ranges.proofs.MaximalRuns.{maximal_are_runs, runs_of-maximal, runs_of-pages_of, pages_of-runs_of}
+use Rattle.descriptor_table.specs.Tables.{entry_of, EndBy, IsTable, HoldsPage}
+use Rattle.descriptor_table.proofs.Finding.{held_by_member}
 
 pub proper_ends : (rs : List Run) → AreRuns rs → IsProperMemory (pages_of rs) → EndBy page_count rs
 proper_ends rs runs proper = all_implied IsProperRun (λ r. r.range.first + r.range.pages ≤ page_count) (λ r p. p.within) rs (proper_runs rs runs proper)
@@ -50,3 +52,19 @@ begin_from_zero (r ∷ rs) = (omega arith, begin_from_zero rs)
 -- a map has no more entries than there are pages
 pub few_entries : (rs : List Run) → AreRuns rs → EndBy page_count rs → length (memory_map (pages_of rs)) ≤ page_count
 few_entries rs runs ends = omega (arith, entries_at_most rs runs, run_count rs 0 page_count runs (begin_from_zero rs) ends (omega arith))
+
+-- ---- a cursor over a table's runs
+
+pub cursor_table : (rs : List Run) → AreMaximalRuns rs → IsProperMemory (pages_of rs) → IsTable rs (length (memory_map (pages_of rs)))
+cursor_table rs maximal proper = record { maximal = maximal; proper = proper; entries = refl }
+
+like_run : (r : Run) (k : ℕ) → IsLike (entry_of r) (Some (page_in k r))
+like_run r k = (refl, refl)
+
+-- the run that holds a page, as a block
+pub held_block : (m : List Page) (k : ℕ) (r : Run) → IsProperMemory m → HoldsPage m k (Some r) → IsBlockAt m k (Some (entry_of r))
+held_block m k r proper held =
+    let runs = maximal_are_runs (runs_of m) (runs_of-maximal m proper.ascending) in (
+      record { low = held.1.low; high = held.1.high },
+      λ j i. subst (λ n. IsLike (entry_of r) (page_at n j)) (pages_of-runs_of m) (subst (IsLike (entry_of r)) (sym (held_by_member (runs_of m) r j runs held.0 (record { low = i.low; high = i.high }))) (like_run r j)),
+    )

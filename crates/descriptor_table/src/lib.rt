@@ -1,6 +1,7 @@
 //! The memory of a machine as a sorted table of runs.
 #![tactic(auto)]
 
+mod cursors;
 mod cuts;
 mod entries;
 mod retyping;
@@ -9,5 +10,6 @@ mod table;
 #[cfg(test)]
 mod tests;
 
+pub use cursors::RunCursor;
 pub use entries::MapEntries;
 pub use table::RunTable;

@@ -8,6 +8,7 @@ ghost use Rattle.page_ranges.specs.MemoryMap.{memory_map};
 ghost use Rattle.page_ranges.specs.Runs.{page_in, pages_of, runs_of, AreRuns};
 ghost use Rattle.descriptor_table.specs.Tables.{HoldsPage};
 
+use crate::cursors::RunCursor;
 use crate::cuts::push_joined;
 use crate::entries::{MapEntries, count_entries};
 use crate::retyping::retype_runs;
@@ -122,6 +123,13 @@ impl<A: Allocator + Copy> RunTable<A> {
             self.run_at(page - 1)
         };
         (below, self.run_at(page))
+    }
+
+    /// A cursor over the pages, for looking up many of them in ascending order.
+    pub fn cursor(&self) -> RunCursor<'_>
+        ensures { result ≡ self.now }
+    {
+        RunCursor::new(self.runs.as_slice())
     }
 
     /// Whether all pages of a range are conventional.

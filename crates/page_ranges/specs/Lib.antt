@@ -1,6 +1,7 @@
 pub mod MemoryTypes
 pub mod Memory
 pub mod MemoryMap
+pub mod Cursors
 pub mod Runs
 pub mod Laws
 pub mod Statuses

@@ -2,12 +2,14 @@
 #![tactic(auto)]
 
 mod addresses;
+mod cursors;
 mod laws;
 mod ranges;
 mod statuses;
 mod types;
 
 pub use addresses::{PAGE_COUNT, PAGE_SIZE, pages_below};
+pub use cursors::PageCursor;
 pub use laws::{
     map_memory_law, maximal_blocks_law, maximal_runs_law, memory_map_law, retyped_law,
     retyped_types_law,

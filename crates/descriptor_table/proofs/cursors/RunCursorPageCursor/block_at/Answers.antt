@@ -1,0 +1,6 @@
+use Rattle.std.proofs.Common.{rules}
+use Rattle.descriptor_table.proofs.TableFacts.{held_block}
+use Rattle.descriptor_table.proofs.cursors.RunCursorPageCursor.block_at.Goals as goal
+
+pub returns-clause-block : goal.returns-clause-block
+returns-clause-block c = held_block c.args.self.now c.args.page c.in_ok-run.run' (rw (← c.self.view_is) c.self.invariant.1) c.in_ok-run.ensures.maximal
