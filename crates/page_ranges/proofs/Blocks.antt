@@ -36,7 +36,7 @@ begins-with_page_below x (b ∷ bs) =
 none_below_lowest : (x : Page) (m : List Page) → AllFrom (suc x.number) m → page_below (x ∷ m) x.number ≡ None
 none_below_lowest x m a = page_below-absent (x ∷ m) x.number (omega arith, AllFrom-lower x.number (suc x.number) m (omega arith) a)
 
-like_other : (b c : Descriptor) (o : Option Page) → b.mtype ≡ c.mtype → b.attributes ≡ c.attributes → IsLike b o → IsLike c o
+pub like_other : (b c : Descriptor) (o : Option Page) → b.mtype ≡ c.mtype → b.attributes ≡ c.attributes → IsLike b o → IsLike c o
 like_other b c None e f l = l
 like_other b c (Some x) e f l = (l.0 ∙ e, l.1 ∙ f)
 
@@ -162,7 +162,7 @@ pub like_present : (b : Descriptor) (o : Option Page) → IsLike b o → (x : Pa
 like_present b None l = absurd l
 like_present b (Some x) l = (x, refl)
 
-like_both : (b c : Descriptor) (o : Option Page) → IsLike b o → IsLike c o → (b.mtype ≡ c.mtype) × (b.attributes ≡ c.attributes)
+pub like_both : (b c : Descriptor) (o : Option Page) → IsLike b o → IsLike c o → (b.mtype ≡ c.mtype) × (b.attributes ≡ c.attributes)
 like_both b c None l k = absurd l
 like_both b c (Some x) l k = (sym l.0 ∙ k.0, sym l.1 ∙ k.1)
 

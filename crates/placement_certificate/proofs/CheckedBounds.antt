@@ -15,12 +15,11 @@ use Rattle.placement_certificate.specs.declared.certificates.Request.{Request}
 use Rattle.placement_certificate.specs.declared.certificates.Bound.{Bound}
 use Rattle.placement_certificate.specs.Placement.{IsProperRequest, IsBestStart}
 use Rattle.placement_certificate.specs.Certificates.{IsTrueBound, conventional_entries}
-use Rattle.placement_certificate.specs.Laws.{IsStretch, IsNoWorse}
-use Rattle.placement_certificate.specs.Search.{better, IsBestOf, IsStop, EntriesEndBelow}
+use Rattle.placement_certificate.specs.Laws.{IsNoWorse}
+use Rattle.placement_certificate.specs.Search.{better, IsBestOf}
 use Rattle.placement_certificate.specs.Acceptance.{IsAccepted}
 use Rattle.placement_certificate.proofs.BestBounds.{no_bound}
 use Rattle.placement_certificate.proofs.Decided.{best_of, best_of_is, best_is}
-use Rattle.placement_certificate.proofs.FreeStretches.{begins_in_stretch}
 use Rattle.placement_certificate.proofs.MapLists.{map_drop, drop_entry}
 use Rattle.placement_certificate.proofs.OneCertificate.{same_best}
 use Rattle.placement_certificate.proofs.Tries.{bound_more}
@@ -98,47 +97,6 @@ of_map R ds bs a = (
   λ z. subst (λ es. AllZip R (filter is_free_entry es) bs) (sym (map_of_memory_of ds a)) z,
   λ z. subst (λ es. AllZip R (filter is_free_entry es) bs) (map_of_memory_of ds a) z,
 )
-
--- ---- what is known of the entries left
-
-all_of : (P : Descriptor → Type 0) → ((d : Descriptor) → P d) → (ds : List Descriptor) → AllByRecursion P ds
-all_of P f [] = tt
-all_of P f (d ∷ ds) = (f d, all_of P f ds)
-
--- how far the entries were passed, and where the last stretch ends
-pub record IsReached (ds : List Descriptor) (r : Request) (i passed stop : ℕ) : Type 0 where
-  pub passes : AllByRecursion (λ e. EntriesEndBelow ds passed (e.first + r.pages)) (drop i ds)
-  pub stops : AllByRecursion (λ e. e.first < stop → IsStretch (memory_of ds) e.first stop) (drop i ds)
-
-pub none_reached : (ds : List Descriptor) (r : Request) → IsReached ds r 0 0 0
-none_reached ds r = record {
-  passes = all_of (λ e. EntriesEndBelow ds 0 (e.first + r.pages)) (λ e j d l. absurd (omega arith)) ds;
-  stops = all_of (λ e. e.first < 0 → IsStretch (memory_of ds) e.first 0) (λ e l. absurd (omega arith)) ds;
-}
-
-module _ (ds : List Descriptor) (r : Request) (i : ℕ) (e : Descriptor) (map : IsMap ds) (within : i < length ds) (is : e ≡ get_or ds i e) where
-  first_left : (P : Descriptor → Type 0) → AllByRecursion P (drop i ds) → P e × AllByRecursion P (drop (i + 1) ds)
-  first_left P a = subst (AllByRecursion P) (drop_entry ds i e within is) a
-
-  pub passed_here : (passed stop : ℕ) → IsReached ds r i passed stop → EntriesEndBelow ds passed (e.first + r.pages)
-  passed_here passed stop reached = (first_left (λ d. EntriesEndBelow ds passed (d.first + r.pages)) reached.passes).0
-
-  pub stretch_here : (passed stop : ℕ) → IsReached ds r i passed stop → e.first < stop → IsStretch (memory_of ds) e.first stop
-  stretch_here passed stop reached = (first_left (λ d. d.first < stop → IsStretch (memory_of ds) d.first stop) reached.stops).0
-
-  pub still_reached : (passed stop : ℕ) → IsReached ds r i passed stop → IsReached ds r (i + 1) passed stop
-  still_reached passed stop reached = record {
-    passes = (first_left (λ d. EntriesEndBelow ds passed (d.first + r.pages)) reached.passes).1;
-    stops = (first_left (λ d. d.first < stop → IsStretch (memory_of ds) d.first stop) reached.stops).1;
-  }
-
-  pub reached_more : (passed stop : ℕ) → EntriesEndBelow ds passed (e.first + e.pages + r.pages) → IsStop (memory_of ds) e stop → IsReached ds r (i + 1) passed stop
-  reached_more passed stop below stretch =
-      let above : AllByRecursion (λ d. e.first + e.pages ≤ d.first) (drop (i + 1) ds) = (subst IsMap (drop_entry ds i e within is) (map_drop ds i map)).1 in
-      record {
-        passes = all_implied (λ d. e.first + e.pages ≤ d.first) (λ d. EntriesEndBelow ds passed (d.first + r.pages)) (λ d h j s l at. omega (arith, below j s l at)) (drop (i + 1) ds) above;
-        stops = all_implied (λ d. e.first + e.pages ≤ d.first) (λ d. d.first < stop → IsStretch (memory_of ds) d.first stop) (λ d h. begins_in_stretch (memory_of ds) stop e d stretch h) (drop (i + 1) ds) above;
-      }
 
 -- ---- the best of the bounds
 

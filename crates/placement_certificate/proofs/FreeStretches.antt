@@ -23,12 +23,12 @@ entry_stop m e stop proper entry free some is = record {
   stretch = is;
 }
 
+-- a stretch that an entry begins in holds the entry
+pub known_stop : (m : List Page) (e : Descriptor) (first stop : ℕ) → IsProperMemory m → Contains (memory_map m) e → e.mtype ≡ conventional → first ≤ e.first → e.first < stop → IsStretch m first stop → IsStop m e stop
+known_stop m e first stop proper entry free low high is = entry_stop m e stop proper entry free high (record { all = λ k l u. is.all k (omega arith) u; stops = is.stops })
+
 -- which starts of the entry are permitted
 pub permits_up_to : (m : List Page) (r : Request) (e : Descriptor) (stop end : ℕ) → IsStop m e stop → end ≡ min stop r.limit → PermitsUpTo m r e end
 permits_up_to m r e stop end is at q i =
     let both = stretch m r e.first stop q is.stretch i.low (omega (arith, i.high, is.within)) in
     (λ h. let t = both.0 h in omega (arith, t.0, t.1), λ h. both.1 (omega arith, omega arith))
-
--- the stretch is that of an entry above which begins in it
-pub begins_in_stretch : (m : List Page) (stop : ℕ) (e d : Descriptor) → IsStop m e stop → e.first + e.pages ≤ d.first → d.first < stop → IsStretch m d.first stop
-begins_in_stretch m stop e d is above h = record { all = λ k l u. is.stretch.all k (omega arith) u; stops = is.stretch.stops }

@@ -15,7 +15,7 @@ pub mod PlainPrices
 pub mod PlainSearch
 pub mod Accepted
 pub mod FoundStarts
+pub mod BlockStarts
 pub mod FreeStretches
 pub mod MapLists
-pub mod EntryEnds
 pub mod CheckedBounds

@@ -65,6 +65,9 @@ entries_before (c ∷ ds) (suc i) (suc j) d e a l h = entries_before ds i j d e 
 pub firsts_rise : (ds : List Descriptor) → IsMap ds → IsNonDecreasingBy (λ e. e.first) ds
 firsts_rise ds a i j d l h = elim (cases_lt i j) [ inl m ↦ omega (arith, entries_before ds i j d d a m h) | inr m ↦ let e : i ≡ j = omega arith in rw e (omega arith) ]
 
+pub ends_rise : (ds : List Descriptor) → IsMap ds → IsNonDecreasingBy (λ e. e.first + e.pages) ds
+ends_rise ds a i j d l h = elim (cases_lt i j) [ inl m ↦ omega (arith, entries_before ds i j d d a m h) | inr m ↦ let e : i ≡ j = omega arith in rw e (omega arith) ]
+
 each_entry : (ds : List Descriptor) → IsMap ds → AllByRecursion IsEntry ds
 each_entry [] a = tt
 each_entry (d ∷ ds) a = (a.0, each_entry ds a.3)

@@ -1,14 +1,15 @@
 -- Words for the contracts of searches.
-use Rattle.std.specs.Prelude.{◌≡◌, ◌↔◌, ℕ, ◌+◌, ◌<◌, ◌≤◌, false, ◌&&◌, ◌||◌, ◌==◌, nat_lt, List, Option, Some, None, if◌then◌else◌, slice_get, Contains}
+use Rattle.std.specs.Prelude.{◌≡◌, ◌↔◌, ℕ, ◌+◌, ◌<◌, ◌≤◌, false, ◌&&◌, ◌||◌, ◌==◌, nat_lt, List, Option, Some, None, if◌then◌else◌, slice_get, length, Contains}
 use Rattle.std.specs.List.{AllByRecursion}
 use Rattle.page_ranges.specs.declared.ranges.Descriptor.{Descriptor}
 use Rattle.page_ranges.specs.declared.ranges.Run.{Run}
-use Rattle.page_ranges.specs.Memory.{Page}
-use Rattle.page_ranges.specs.MemoryMap.{IsLike, IsIn, should_be_one}
+use Rattle.page_ranges.specs.Memory.{Page, page_below, IsProperMemory}
+use Rattle.page_ranges.specs.MemoryMap.{memory_map, IsLike, IsIn, should_be_one}
 use Rattle.page_ranges.specs.Runs.{AreRuns}
 use Rattle.placement_certificate.specs.declared.certificates.Request.{Request}
 use Rattle.placement_certificate.specs.declared.certificates.Bound.{Bound}
-use Rattle.placement_certificate.specs.Placement.{IsPermittedStart, price}
+use Rattle.placement_certificate.specs.declared.starts.EntryStarts.{EntryStarts}
+use Rattle.placement_certificate.specs.Placement.{IsProperRequest, IsPermittedStart, price}
 use Rattle.placement_certificate.specs.Laws.{IsStretch, IsNoWorse}
 
 -- runs in order, all of which end by a number
@@ -48,17 +49,27 @@ pub record IsStop (m : List Page) (e : Descriptor) (stop : ℕ) : Type 0 where
 abbrev pub PermitsUpTo : List Page → Request → Descriptor → ℕ → Type 0
 PermitsUpTo m r e end = (q : ℕ) → IsIn e q → IsPermittedStart m r q ↔ (q + r.pages ≤ end)
 
+-- a page has the type and attributes of a block, or is absent where there is none
+abbrev pub IsOnPage : Option Descriptor → Option Page → Type 0
+IsOnPage None o = o ≡ None
+IsOnPage (Some e) o = IsLike e o
+
+-- What a search knows of the starts in an entry: a conventional one of the map of a proper memory, with how many entries
+-- there are, up to where starts are permitted, and what the page below it is.
+pub record AreStartsIn (m : List Page) (s : EntryStarts) : Type 0 where
+  pub proper : IsProperMemory m
+  pub good : IsProperRequest s.request
+  pub entry : Contains (memory_map m) s.entry
+  pub entries : s.entries ≡ length (memory_map m)
+  pub end_by : PermitsUpTo m s.request s.entry s.end_by
+  pub below : IsOnPage s.below (page_below m s.entry.first)
+
 -- ---- a list of entries
 
 -- the next entry, if there is one, begins where an entry ends or above, and should not be one with it
 abbrev pub MayStandBelow : Descriptor → Option Descriptor → Type 0
 MayStandBelow d None = Unit {0}
 MayStandBelow d (Some e) = (d.first + d.pages ≤ e.first) × (should_be_one d e ≡ false)
-
--- a page has the type and attributes of an entry, or is absent where there is none
-abbrev pub IsOnPage : Option Descriptor → Option Page → Type 0
-IsOnPage None o = o ≡ None
-IsOnPage (Some e) o = IsLike e o
 
 -- the entries before an index end below a page number
 abbrev pub EntriesEndBelow : List Descriptor → ℕ → ℕ → Type 0

@@ -9,8 +9,9 @@ ghost use Rattle.placement_certificate.specs.Search.{IsBestOf};
 
 use crate::better::{PricedStart, better_of};
 use crate::certificates::{Bound, Certificate, Request};
+use crate::cursors::MapCursor;
 use crate::entries::{is_map, item_at};
-use crate::starts::{least_in, next_stop};
+use crate::search::EntrySearch;
 use page_ranges::{Descriptor, MemoryType, type_for_alloc};
 use std::alloc::Allocator;
 
@@ -43,26 +44,25 @@ fn are_true_bounds(map: &[Descriptor], request: &Request, bounds: &[Bound]) -> b
     requires good { IsProperRequest request.now }
     ensures { IsTrue result ↔ AllZip (IsTrueBound (memory_of map.now) request.now) (conventional_entries (memory_of map.now)) bounds.now }
 {
+    let entries = map.len() as u64;
+    let mut search = EntrySearch::new(
+        MapCursor::new(map),
+        MapCursor::new(map),
+        MapCursor::new(map),
+    );
     // How many bounds were looked at.
     let mut count = 0;
-    // The entries before this index end too low for starts in the entries left.
-    let mut passed = 0;
-    // Where the last stretch of conventional pages that was met ends.
-    let mut stop = 0;
     for entry in map {
         if entry.mtype == MemoryType::conventional() {
-            stop = next_stop(map, entry, stop);
-            let (least, next) = least_in(map, request, entry, stop, passed);
             let bound = Bound {
                 first: entry.first,
                 pages: entry.pages,
-                least,
+                least: search.least_in(request, entries, entry),
             };
             if !is_at(bounds, count, &bound) {
                 return false;
             }
             count += 1;
-            passed = next;
         }
     }
     count == bounds.len()

@@ -1,9 +1,7 @@
-//! Lists of entries: whether a list is a map, and which entry of a map holds a page.
-ghost use Rattle.std.specs.Prelude.{◌≡◌, ◌↔◌, ◌+◌, ◌<◌, ◌≤◌, length, nat_le, Contains, IfSome, IsTrue, slice_get};
-ghost use Rattle.std.specs.List.{AllWithin};
-ghost use Rattle.page_ranges.specs.Memory.{page_at, page_below};
-ghost use Rattle.page_ranges.specs.MemoryMap.{IsEntry, IsIn, IsMap, memory_of};
-ghost use Rattle.placement_certificate.specs.Search.{MayStandBelow, IsOnPage};
+//! Lists of entries: whether a list is a map.
+ghost use Rattle.std.specs.Prelude.{◌≡◌, ◌↔◌, IsTrue, slice_get};
+ghost use Rattle.page_ranges.specs.MemoryMap.{IsEntry, IsMap};
+ghost use Rattle.placement_certificate.specs.Search.{MayStandBelow};
 
 use crate::plain::goes_on;
 use page_ranges::{Descriptor, MemoryType, PAGE_COUNT, has_runtime};
@@ -52,47 +50,4 @@ pub(crate) fn is_map(map: &[Descriptor]) -> bool
         }
     }
     true
-}
-
-// How many entries begin at a page or below it; they come first.
-fn count_beginning_by(map: &[Descriptor], page: u64) -> usize
-    requires { IsMap map.now }
-    ensures bound { result ≤ length map.now }
-    ensures by { AllWithin (λ e. e.first ≤ page) map.now 0 result }
-    ensures above { AllWithin (λ e. page < e.first) map.now result (length map.now) }
-{
-    map.partition_point(
-        |entry: &Descriptor| -> bool
-            ensures { result ≡ nat_le entry.now.first page }
-        { entry.first <= page },
-    )
-}
-
-/// The entry that holds a page.
-pub(crate) fn entry_at(map: &[Descriptor], page: u64) -> Option<Descriptor>
-    requires { IsMap map.now }
-    ensures page { IsOnPage result (page_at (memory_of map.now) page) }
-    ensures member { IfSome result (λ e. Contains map.now e × IsIn e page) }
-{
-    let count = count_beginning_by(map, page);
-    if count == 0 {
-        return None;
-    }
-    let entry = map[count - 1];
-    if page - entry.first < entry.pages {
-        Some(entry)
-    } else {
-        None
-    }
-}
-
-/// The entry that holds the page just below another.
-pub(crate) fn entry_below(map: &[Descriptor], page: u64) -> Option<Descriptor>
-    requires { IsMap map.now }
-    ensures { IsOnPage result (page_below (memory_of map.now) page) }
-{
-    if page == 0 {
-        return None;
-    }
-    entry_at(map, page - 1)
 }

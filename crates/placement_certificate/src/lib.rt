@@ -4,9 +4,11 @@
 mod better;
 mod certificates;
 mod checking;
+mod cursors;
 mod entries;
 mod laws;
 mod plain;
+mod search;
 mod starts;
 #[cfg(test)]
 mod tests;
@@ -20,3 +22,4 @@ pub use laws::{
     stretch_law, true_is_accepted_law,
 };
 pub use plain::{plain_certificate, plain_map, plain_price};
+pub use search::EntrySearch;

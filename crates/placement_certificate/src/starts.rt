@@ -1,19 +1,31 @@
-//! The best start in one entry of a map.
-ghost use Rattle.std.specs.Prelude.{◌≡◌, ◌↔◌, ℕ, ◌+◌, ◌<◌, ◌≤◌, length, Contains, Option, IsTrue};
-ghost use Rattle.page_ranges.specs.MemoryTypes.{conventional};
-ghost use Rattle.page_ranges.specs.Memory.{Page};
-ghost use Rattle.page_ranges.specs.MemoryMap.{IsIn, IsMap, memory_of};
-ghost use Rattle.placement_certificate.specs.Placement.{IsProperRequest, IsPermittedStart, price};
+//! The starts in one entry of a map, and the best of them.
+ghost use Rattle.std.specs.Prelude.{◌≡◌, ℕ, ◌+◌, ◌-◌, ◌<◌, ◌≤◌, ◌^◌, Option};
+ghost use Rattle.page_ranges.specs.Memory.{Page, page_at, page_below};
+ghost use Rattle.page_ranges.specs.MemoryMap.{IsIn};
+ghost use Rattle.page_ranges.specs.Cursors.{IsBlock};
+ghost use Rattle.placement_certificate.specs.Placement.{price};
 ghost use Rattle.placement_certificate.specs.Certificates.{IsTrueLeast};
-ghost use Rattle.placement_certificate.specs.Laws.{IsStretch, adds, saves};
-ghost use Rattle.placement_certificate.specs.Search.{IsFound, IsTried, IsStop, PermitsUpTo, IsOnPage, EntriesEndBelow, EntryEndsTried};
+ghost use Rattle.placement_certificate.specs.Laws.{adds, saves};
+ghost use Rattle.placement_certificate.specs.Search.{AreStartsIn, IsFound, IsTried, IsOnPage};
 
 use crate::better::{PricedStart, better_of};
 use crate::certificates::Request;
-use crate::entries::{entry_at, entry_below, item_at};
-use page_ranges::{Descriptor, MemoryType};
+use page_ranges::{Descriptor, MemoryType, PageCursor};
 
-// What an edge adds to the price, by the entries that hold the page below it and the page above it.
+/// The starts of a request in a conventional entry of a map.
+#[derive(Drop)]
+pub(crate) struct EntryStarts {
+    pub(crate) request: Request,
+    pub(crate) entry: Descriptor,
+    // How many entries the map has.
+    pub(crate) entries: u64,
+    // A start in the entry is permitted just where its pages end by this page.
+    pub(crate) end_by: u64,
+    // A block with the page just below the entry, `None` where that is absent.
+    pub(crate) below: Option<Descriptor>,
+}
+
+// What an edge adds to the price, by blocks that hold the page below it and the page above it.
 fn edge_adds(below: &Option<Descriptor>, above: &Option<Descriptor>) -> u64
     ensures { (x y : Option Page) → IsOnPage below.now x → IsOnPage above.now y → result ≡ adds x y }
 {
@@ -23,7 +35,7 @@ fn edge_adds(below: &Option<Descriptor>, above: &Option<Descriptor>) -> u64
     }
 }
 
-// What an edge saves, by the entries that hold the page outside it and the page inside it.
+// What an edge saves, by blocks that hold the page outside it and the page inside it.
 fn edge_saves(mtype: MemoryType, outside: &Option<Descriptor>, inside: &Option<Descriptor>) -> u64
     ensures { (x y : Option Page) → IsOnPage outside.now x → IsOnPage inside.now y → result ≡ saves mtype x y }
 {
@@ -35,148 +47,127 @@ fn edge_saves(mtype: MemoryType, outside: &Option<Descriptor>, inside: &Option<D
     }
 }
 
-// The price of a permitted start.
-fn price_of(map: &[Descriptor], request: &Request, start: u64) -> u64
-    requires map { IsMap map.now }
-    requires good { IsProperRequest request.now }
-    requires permitted { IsPermittedStart (memory_of map.now) request.now start }
-    ensures { result ≡ price (memory_of map.now) request.now start }
+// A block with the page at a place, which is in a block or just behind it.
+fn block_above<C: PageCursor>(cursor: &mut C, block: &Descriptor, page: u64) -> Option<Descriptor>
+    requires block { IsBlock (C.memory cursor.old) block.now }
+    requires behind { IsIn block.now (page - 1) }
+    requires within { block.now.first + block.now.pages < 2 ^ 64 }
+    ensures stays { C.memory cursor.new ≡ C.memory cursor.old }
+    ensures above { IsOnPage result (page_at (C.memory cursor.old) page) }
 {
-    let end = start + request.pages;
-    let below = entry_below(map, start);
-    let first = entry_at(map, start);
-    let last = entry_below(map, end);
-    let above = entry_at(map, end);
-    map.len() as u64 + edge_adds(&below, &first) + edge_adds(&last, &above)
-        - edge_saves(request.mtype, &below, &first)
-        - edge_saves(request.mtype, &above, &last)
-}
-
-// Where the stretch of conventional pages that an entry lies in ends.
-fn stretch_end(map: &[Descriptor], entry: &Descriptor) -> u64
-    requires map { IsMap map.now }
-    requires entry { Contains map.now entry.now }
-    requires free { entry.now.mtype ≡ conventional }
-    ensures { IsStop (memory_of map.now) entry.now result }
-{
-    let mut end = entry.first + entry.pages;
-    while let Some(next) = entry_at(map, end) {
-        if next.mtype != MemoryType::conventional() {
-            return end;
-        }
-        end = next.first + next.pages;
-    }
-    end
-}
-
-/// Where the stretch of an entry ends, given where that of an entry below ends, which may be the same
-/// stretch.
-pub(crate) fn next_stop(map: &[Descriptor], entry: &Descriptor, stop: u64) -> u64
-    requires map { IsMap map.now }
-    requires entry { Contains map.now entry.now }
-    requires free { entry.now.mtype ≡ conventional }
-    requires stop { entry.now.first < stop → IsStretch (memory_of map.now) entry.now.first stop }
-    ensures { IsStop (memory_of map.now) entry.now result }
-{
-    if entry.first < stop {
-        stop
+    if page < block.first + block.pages {
+        Some(*block)
     } else {
-        stretch_end(map, entry)
+        cursor.block_at(page)
     }
 }
 
-// A start lies in an entry, and its pages end by a page number.
-fn ends_by(request: &Request, entry: &Descriptor, end_by: u64, start: u64) -> bool
-    ensures { IsTrue result ↔ (IsIn entry.now start × (start + request.now.pages ≤ end_by)) }
-{
-    start >= entry.first
-        && start - entry.first < entry.pages
-        && start <= end_by
-        && request.pages <= end_by - start
-}
-
-// The better of what was found in an entry and of a start, if that is a permitted start there.
-fn try_start(
-    map: &[Descriptor],
-    request: &Request,
-    entry: &Descriptor,
-    end_by: u64,
-    found: Option<PricedStart>,
-    start: u64,
-) -> Option<PricedStart>
-    requires map { IsMap map.now }
-    requires good { IsProperRequest request.now }
-    requires end_by { PermitsUpTo (memory_of map.now) request.now entry.now end_by }
-    requires found { IsFound (memory_of map.now) request.now entry.now found }
-    ensures found { IsFound (memory_of map.now) request.now entry.now result }
-    ensures tried { IsTried (memory_of map.now) request.now entry.now result start }
-    ensures still { (q : ℕ) → IsTried (memory_of map.now) request.now entry.now found q → IsTried (memory_of map.now) request.now entry.now result q }
-{
-    if !ends_by(request, entry, end_by, start) {
-        return found;
-    }
-    better_of(found, Some((price_of(map, request, start), start)))
-}
-
-// Tries the starts in an entry that end where an entry ends, from the entry at the index `passed` on.
-// Answers also the index of the first entry that ends above all of these.
-fn try_ends(
-    map: &[Descriptor],
-    request: &Request,
-    entry: &Descriptor,
-    end_by: u64,
-    mut found: Option<PricedStart>,
-    passed: usize,
-) -> (Option<PricedStart>, usize)
-    requires map { IsMap map.now }
-    requires good { IsProperRequest request.now }
-    requires entry { Contains map.now entry.now }
-    requires end_by { PermitsUpTo (memory_of map.now) request.now entry.now end_by }
-    requires found { IsFound (memory_of map.now) request.now entry.now found }
-    requires passed { EntriesEndBelow map.now passed (entry.now.first + request.now.pages) }
-    ensures found { IsFound (memory_of map.now) request.now entry.now result.0 }
-    ensures still { (q : ℕ) → IsTried (memory_of map.now) request.now entry.now found q → IsTried (memory_of map.now) request.now entry.now result.0 q }
-    ensures ends { EntryEndsTried (memory_of map.now) request.now entry.now map.now (length map.now) result.0 }
-    ensures passed { EntriesEndBelow map.now result.1 (entry.now.first + entry.now.pages + request.now.pages) }
-{
-    let mut index = passed;
-    while let Some(last) = item_at(map, index) {
-        let end = last.first + last.pages;
-        if end >= request.pages {
-            let start = end - request.pages;
-            if start >= entry.first + entry.pages {
-                return (found, index);
-            }
-            found = try_start(map, request, entry, end_by, found, start);
+impl EntryStarts {
+    // A block with the page just below a start.
+    fn block_below(&self, start: u64) -> Option<Descriptor>
+        ensures { (m : _) → AreStartsIn m self.now → IsIn self.now.entry start → IsOnPage result (page_below m start) }
+    {
+        if self.entry.first < start {
+            Some(self.entry)
+        } else {
+            self.below
         }
-        index += 1;
     }
-    (found, index)
-}
 
-/// The best start in a conventional entry, which lies in a stretch that ends at `stop`. The entries
-/// before the index `passed` end too low for a start there; answers also such an index for the
-/// entries above.
-pub(crate) fn least_in(
-    map: &[Descriptor],
-    request: &Request,
-    entry: &Descriptor,
-    stop: u64,
-    passed: usize,
-) -> (Option<PricedStart>, usize)
-    requires map { IsMap map.now }
-    requires good { IsProperRequest request.now }
-    requires entry { Contains map.now entry.now }
-    requires stop { IsStop (memory_of map.now) entry.now stop }
-    requires passed { EntriesEndBelow map.now passed (entry.now.first + request.now.pages) }
-    ensures least { IsTrueLeast (memory_of map.now) request.now entry.now result.0 }
-    ensures passed { EntriesEndBelow map.now result.1 (entry.now.first + entry.now.pages + request.now.pages) }
-{
-    let end_by = stop.min(request.limit);
-    let first = try_start(map, request, entry, end_by, None, entry.first);
-    let (ended, passed) = try_ends(map, request, entry, end_by, first, passed);
-    let last = entry.first + (entry.pages - 1);
-    let highest = last.min(end_by.saturating_sub(request.pages));
-    let found = try_start(map, request, entry, end_by, ended, highest);
-    (found, passed)
+    // The price of a permitted start, the last page of which is in a block.
+    fn price_of<C: PageCursor>(&self, cursor: &mut C, start: u64, block: &Descriptor) -> u64
+        requires starts { AreStartsIn (C.memory cursor.old) self.now }
+        requires in_entry { IsIn self.now.entry start }
+        requires permitted { start + self.now.request.pages ≤ self.now.end_by }
+        requires block { IsBlock (C.memory cursor.old) block.now }
+        requires last { IsIn block.now (start + self.now.request.pages - 1) }
+        ensures stays { C.memory cursor.new ≡ C.memory cursor.old }
+        ensures price { result ≡ price (C.memory cursor.old) self.now.request start }
+    {
+        let mtype = self.request.mtype;
+        let below = self.block_below(start);
+        let first = Some(self.entry);
+        let last = Some(*block);
+        let above = block_above(cursor, block, start + self.request.pages);
+        self.entries + edge_adds(&below, &first) + edge_adds(&last, &above)
+            - edge_saves(mtype, &below, &first)
+            - edge_saves(mtype, &above, &last)
+    }
+
+    // The better of what was found and of a permitted start, the last page of which is in a block.
+    fn try_start<C: PageCursor>(
+        &self,
+        cursor: &mut C,
+        found: Option<PricedStart>,
+        start: u64,
+        block: &Descriptor,
+    ) -> Option<PricedStart>
+        requires starts { AreStartsIn (C.memory cursor.old) self.now }
+        requires in_entry { IsIn self.now.entry start }
+        requires permitted { start + self.now.request.pages ≤ self.now.end_by }
+        requires block { IsBlock (C.memory cursor.old) block.now }
+        requires last { IsIn block.now (start + self.now.request.pages - 1) }
+        requires found { IsFound (C.memory cursor.old) self.now.request self.now.entry found }
+        ensures stays { C.memory cursor.new ≡ C.memory cursor.old }
+        ensures found { IsFound (C.memory cursor.old) self.now.request self.now.entry result }
+        ensures tried { IsTried (C.memory cursor.old) self.now.request self.now.entry result start }
+        ensures still { (q : ℕ) → IsTried (C.memory cursor.old) self.now.request self.now.entry found q → IsTried (C.memory cursor.old) self.now.request self.now.entry result q }
+    {
+        let count = self.price_of(cursor, start, block);
+        better_of(found, Some((count, start)))
+    }
+
+    // The same for a start that may be the entry's first page, which is tried already.
+    fn try_higher<C: PageCursor>(
+        &self,
+        cursor: &mut C,
+        found: Option<PricedStart>,
+        start: u64,
+        block: &Descriptor,
+    ) -> Option<PricedStart>
+        requires starts { AreStartsIn (C.memory cursor.old) self.now }
+        requires in_entry { IsIn self.now.entry start }
+        requires permitted { start + self.now.request.pages ≤ self.now.end_by }
+        requires block { IsBlock (C.memory cursor.old) block.now }
+        requires last { IsIn block.now (start + self.now.request.pages - 1) }
+        requires found { IsFound (C.memory cursor.old) self.now.request self.now.entry found }
+        requires first { IsTried (C.memory cursor.old) self.now.request self.now.entry found self.now.entry.first }
+        ensures stays { C.memory cursor.new ≡ C.memory cursor.old }
+        ensures found { IsFound (C.memory cursor.old) self.now.request self.now.entry result }
+        ensures tried { IsTried (C.memory cursor.old) self.now.request self.now.entry result start }
+        ensures still { (q : ℕ) → IsTried (C.memory cursor.old) self.now.request self.now.entry found q → IsTried (C.memory cursor.old) self.now.request self.now.entry result q }
+    {
+        if start == self.entry.first {
+            found
+        } else {
+            self.try_start(cursor, found, start, block)
+        }
+    }
+
+    /// The best start, where the entry's first page is permitted. Tried are that page, and for each
+    /// block of pages the highest start with its last page there: so all starts that end where an entry
+    /// ends, and the highest of all.
+    pub(crate) fn least<C: PageCursor>(&self, cursor: &mut C) -> Option<PricedStart>
+        requires starts { AreStartsIn (C.memory cursor.old) self.now }
+        requires fits { self.now.entry.first + self.now.request.pages ≤ self.now.end_by }
+        ensures stays { C.memory cursor.new ≡ C.memory cursor.old }
+        ensures least { IsTrueLeast (C.memory cursor.old) self.now.request self.now.entry result }
+    {
+        let pages = self.request.pages;
+        let highest = self.entry.first + (self.entry.pages - 1);
+        // The last page of the lowest start that is not tried yet.
+        let mut page = self.entry.first + (pages - 1);
+        let mut block = cursor.block_at(page)?;
+        let mut found = self.try_start(cursor, None, self.entry.first, &block);
+        loop {
+            let end = self.end_by.min(block.first + block.pages);
+            let start = highest.min(end - pages);
+            found = self.try_higher(cursor, found, start, &block);
+            page = start + pages;
+            if start == highest || page == self.end_by {
+                return found;
+            }
+            block = cursor.block_at(page)?;
+        }
+    }
 }

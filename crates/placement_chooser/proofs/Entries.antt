@@ -1,18 +1,14 @@
 -- The entries so far, and their bounds.
-use Rattle.std.proofs.Common.{◌≡◌, ℕ, ◌+◌, ◌≤◌, Bool, true, eqb, List, [], ◌∷◌, ◌++◌, filter, refl, sym, ap, subst, ◌∙◌, arith}
-use Rattle.std.specs.List.{AllZip, AllByRecursion}
+use Rattle.std.proofs.Common.{◌≡◌, Bool, true, eqb, List, [], ◌∷◌, ◌++◌, filter, refl, sym, ap, subst, ◌∙◌}
+use Rattle.std.specs.List.{AllZip}
 use Rattle.std.proofs.lemmas.List.{append-nil}
 use Rattle.std.proofs.lemmas.List.Elements.{filter-append}
 use Rattle.page_ranges.specs.declared.ranges.Descriptor.{Descriptor}
-use Rattle.page_ranges.specs.declared.ranges.Run.{Run}
 use Rattle.page_ranges.specs.MemoryTypes.{conventional}
-use Rattle.page_ranges.specs.Memory.{Page, IsProperMemory}
-use Rattle.page_ranges.specs.MemoryMap.{memory_map, AreInOrder}
-use Rattle.page_ranges.proofs.Blocks.{map_blocks}
-use Rattle.page_ranges.proofs.Members.{all_implied}
+use Rattle.page_ranges.specs.Memory.{Page}
+use Rattle.page_ranges.specs.MemoryMap.{memory_map}
 use Rattle.placement_certificate.specs.declared.certificates.Bound.{Bound}
 use Rattle.placement_certificate.specs.Certificates.{conventional_entries}
-use Rattle.placement_chooser.specs.Starts.{EndBelow}
 
 abbrev is_free : Descriptor → Bool
 is_free e = eqb e.mtype conventional
@@ -28,19 +24,6 @@ pub bounded_more : (R : Descriptor → Bound → Type 0) (es : List Descriptor) 
 bounded_more R es bs e b free z s =
     let one : filter is_free (e ∷ []) ≡ e ∷ [] = rw free refl in
     subst (λ ds. AllZip R ds (bs ++ b ∷ [])) (sym (filter-append is_free es (e ∷ []) ∙ ap (λ ds. filter is_free es ++ ds) one)) (zip_more R (filter is_free es) bs e b z s)
-
--- the entries after one begin at its end or above it
-pub entries_above : (ys : List Descriptor) (e : Descriptor) (es : List Descriptor) → AreInOrder (ys ++ e ∷ es) → AllByRecursion (λ d. e.first + e.pages ≤ d.first) es
-entries_above [] e es order = order.0
-entries_above (y ∷ ys) e es order = entries_above ys e es order.1
-
-pub map_order : (m : List Page) (es : List Descriptor) → IsProperMemory m → es ≡ memory_map m → AreInOrder es
-map_order m es proper same = subst AreInOrder (sym same) (map_blocks m proper.ascending).1
-
-pub passed_above : (m : List Page) (rs : List Run) (i n : ℕ) (ys : List Descriptor) (e : Descriptor) (es : List Descriptor) → IsProperMemory m → ys ++ e ∷ es ≡ memory_map m → EndBelow rs i (e.first + e.pages + n) → AllByRecursion (λ d. EndBelow rs i (d.first + n)) es
-passed_above m rs i n ys e es proper same below =
-    let order = map_order m (ys ++ e ∷ es) proper same in
-    all_implied (λ d. e.first + e.pages ≤ d.first) (λ d. EndBelow rs i (d.first + n)) (λ d above j s h at. omega (arith, below j s h at)) es (entries_above ys e es order)
 
 -- the bounds of all entries
 pub all_bounded : (m : List Page) (R : Descriptor → Bound → Type 0) (ys es : List Descriptor) (bs : List Bound) → es ≡ [] → ys ++ es ≡ memory_map m → AllZip R (filter is_free ys) bs → AllZip R (conventional_entries m) bs

@@ -1,4 +1,2 @@
-pub mod Ends
 pub mod Entries
-pub mod Stretches
 pub mod Drawn

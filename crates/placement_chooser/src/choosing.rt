@@ -3,10 +3,9 @@ ghost use Rattle.std.specs.Prelude.{◌≡◌, ℕ, None, IfSome, IfOk};
 ghost use Rattle.placement_certificate.specs.Placement.{IsProperRequest, IsPermittedStart};
 ghost use Rattle.placement_certificate.specs.Certificates.{IsTrueCertificate};
 
-use crate::starts::{least_in, next_stop};
 use descriptor_table::RunTable;
 use page_ranges::MemoryType;
-use placement_certificate::{Bound, Certificate, Request, better_of};
+use placement_certificate::{Bound, Certificate, EntrySearch, Request, better_of};
 use std::alloc::{AllocError, Allocator};
 
 /// The true certificate of a request, whose answer is the best start; `None` where no start is
@@ -20,25 +19,20 @@ pub fn choose<A: Allocator + Copy, B: Allocator + Copy>(
     ensures certificate { IfOk result (λ o. IfSome o (λ c. IsTrueCertificate table.now request.now c)) }
     ensures none { IfOk result (λ o. o ≡ None → (p : ℕ) → ¬ IsPermittedStart table.now request.now p) }
 {
-    let _runs = table.len();
+    let entries = table.descriptors();
     // Room for a bound of each entry.
-    let mut bounds = Vec::with_capacity(alloc, table.descriptors())?;
+    let mut bounds = Vec::with_capacity(alloc, entries)?;
     let mut best = None;
-    // The runs before this index end too low for starts in the entries left.
-    let mut passed = 0;
-    // Where the last stretch of conventional pages that was met ends.
-    let mut stop = 0;
+    let mut search = EntrySearch::new(table.cursor(), table.cursor(), table.cursor());
     for entry in table.map_entries() {
         if entry.mtype == MemoryType::conventional() {
-            stop = next_stop(table, &entry, stop);
-            let (least, next) = least_in(table, request, &entry, stop, passed);
+            let least = search.least_in(request, entries as u64, &entry);
             bounds.push_reserved(Bound {
                 first: entry.first,
                 pages: entry.pages,
                 least,
             });
             best = better_of(best, least);
-            passed = next;
         }
     }
     match best {

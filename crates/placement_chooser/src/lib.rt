@@ -2,8 +2,6 @@
 #![tactic(auto)]
 
 mod choosing;
-mod prices;
-mod starts;
 #[cfg(test)]
 mod tests;
 

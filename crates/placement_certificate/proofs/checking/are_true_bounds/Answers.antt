@@ -1,15 +1,26 @@
-use Rattle.std.proofs.Common.{◌≡◌, ◌∙◌, eqb, true, false, true≢false, refl, sym, subst, rules, arith, Some}
+use Rattle.std.proofs.Common.{◌≡◌, ◌∙◌, eqb, true, false, true≢false, length, refl, sym, ap, subst, rules, arith, Some}
 use Rattle.std.specs.Prelude.{slice_get}
 use Rattle.std.proofs.lemmas.Bool.{eqb-true, eq-eqb, ne_eqb}
 use Rattle.std.proofs.lemmas.Option.{slice_get_within}
 use Rattle.page_ranges.specs.MemoryTypes.{conventional}
 use Rattle.page_ranges.specs.MemoryMap.{memory_of}
+use Rattle.page_ranges.proofs.Maps.{memory_of-proper, map_of_memory_of}
 use Rattle.placement_certificate.specs.declared.certificates.Bound.{Bound}
 use Rattle.placement_certificate.specs.Certificates.{IsTrueBound}
-use Rattle.placement_certificate.proofs.CheckedBounds.{of_map, left_passed, left_checked, left_wrong, left_none, still_reached, reached_more}
+use Rattle.placement_certificate.proofs.CheckedBounds.{of_map, left_passed, left_checked, left_wrong, left_none}
+use Rattle.placement_certificate.proofs.MapLists.{in_map}
 use Rattle.placement_certificate.proofs.OneCertificate.{same_bound}
 use Rattle.placement_certificate.proofs.checking.are_true_bounds.Goals as goal
 use Rattle.placement_certificate.proofs.checking.are_true_bounds.Goals.{then-eq+else-not-is_at, else-eq}
+
+pub least_in-requires-clause-proper : goal.least_in-requires-clause-proper
+least_in-requires-clause-proper c = rw c.loop-entry.invariant.stays (memory_of-proper c.args.map.now c.requires.map)
+
+pub least_in-requires-clause-entries : goal.least_in-requires-clause-entries
+least_in-requires-clause-entries c = rw c.loop-entry.invariant.stays (sym (ap length (map_of_memory_of c.args.map.now c.requires.map)))
+
+pub least_in-requires-clause-entry : goal.least_in-requires-clause-entry
+least_in-requires-clause-entry c = rw c.loop-entry.invariant.stays (in_map c.args.map.now c.entry-item.result c.requires.map (c.loop-entry.entry-index, c.loop-entry-test.true, sym c.entry-item.is))
 
 pub returns-then-not-is_at : goal.returns-then-not-is_at
 returns-then-not-is_at c =
@@ -18,8 +29,9 @@ returns-then-not-is_at c =
     let r = c.args.request.now in
     let bs = c.args.bounds.now in
     let e = c.entry-item.result in
-    let b : Bound = record { first = e.first; pages = e.pages; least = c.least_in-least.result.0 } in
-    let holds : IsTrueBound m r e b = record { first = refl; pages = refl; least = c.least_in-least.ensures.least } in
+    let least = rw c.loop-entry.invariant.stays at c.least_in.ensures.least in
+    let b : Bound = record { first = e.first; pages = e.pages; least = c.least_in.result } in
+    let holds : IsTrueBound m r e b = record { first = refl; pages = refl; least = least } in
     let free : eqb e.mtype conventional ≡ true = eq-eqb e.mtype conventional (search rules) in (
       λ t. absurd (true≢false (sym t)),
       λ z. absurd (
@@ -40,21 +52,22 @@ loop-entry-preserved c =
     let e = c.entry-item.result in
     elim c.if-eq.branch [
       | then-eq+else-not-is_at w ↦
-          let b : Bound = record { first = e.first; pages = e.pages; least = w.least_in-least.result.0 } in
-          let holds : IsTrueBound m r e b = record { first = refl; pages = refl; least = w.least_in-least.ensures.least } in
+          let least = rw c.loop-entry.invariant.stays at w.least_in.ensures.least in
+          let b : Bound = record { first = e.first; pages = e.pages; least = w.least_in.result } in
+          let holds : IsTrueBound m r e b = record { first = refl; pages = refl; least = least } in
           let free : eqb e.mtype conventional ≡ true = eq-eqb e.mtype conventional (search rules) in
           let at : slice_get bs n ≡ Some b = w.is_at.ensures.0 w.if-not-is_at.false in
-          rw (w.count-is, w.passed-is, w.stop-is) (record {
+          rw (w.count-is, w.search-is) (record {
             left = left_checked (IsTrueBound m r) ds bs i n e b c.loop-entry-test.true c.entry-item.is free at holds c.loop-entry.invariant.left;
             within = omega (arith, slice_get_within bs n b at);
-            reached = reached_more ds r i e c.requires.map c.loop-entry-test.true c.entry-item.is w.least_in-least.result.1 w.next_stop-stop.result w.least_in-least.ensures.passed w.next_stop-stop.ensures;
+            stays = w.least_in.ensures.stays ∙ c.loop-entry.invariant.stays;
           })
       | else-eq w ↦
           let other : eqb e.mtype conventional ≡ false = ne_eqb e.mtype conventional (search rules) in
-          rw (w.count-is, w.passed-is, w.stop-is) (record {
+          rw (w.count-is, w.search-is) (record {
             left = left_passed (IsTrueBound m r) ds bs i n e c.loop-entry-test.true c.entry-item.is other c.loop-entry.invariant.left;
             within = c.loop-entry.invariant.within;
-            reached = still_reached ds r i e c.requires.map c.loop-entry-test.true c.entry-item.is c.loop-entry.passed c.loop-entry.stop c.loop-entry.invariant.reached;
+            stays = c.loop-entry.invariant.stays;
           })
     ]
 

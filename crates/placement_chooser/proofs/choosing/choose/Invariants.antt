@@ -1,16 +1,13 @@
-use Rattle.std.proofs.Common.{◌≡◌, ◌++◌, ◌+◌, ◌<◌, ◌≤◌, eqb, filter, length}
-use Rattle.std.specs.List.{AllZip, AllByRecursion}
+use Rattle.std.proofs.Common.{◌≡◌, ◌++◌, ◌+◌, ◌≤◌, eqb, filter, length}
+use Rattle.std.specs.List.{AllZip}
 use Rattle.std.specs.Vec.{vec_len, vec_capacity}
 use Rattle.page_ranges.specs.MemoryTypes.{conventional}
 use Rattle.page_ranges.specs.MemoryMap.{memory_map}
-use Rattle.page_ranges.specs.Runs.{runs_of}
 use Rattle.placement_certificate.specs.Certificates.{IsTrueBound}
-use Rattle.placement_certificate.specs.Laws.{IsStretch}
 use Rattle.placement_certificate.specs.Search.{IsBestOf}
-use Rattle.placement_chooser.specs.Starts.{EndBelow}
 use Rattle.placement_chooser.proofs.choosing.choose.Given as goal
 
--- the bounds of the entries so far and the best of them, and how far the runs were passed
+-- the bounds of the entries so far and the best of them
 abbrev pub invariant-loop-entry : goal.invariant-loop-entry
 invariant-loop-entry g l = record {
   can_next : (goal.iterator-loop-entry g).can_next l.entry-iterator;
@@ -18,7 +15,6 @@ invariant-loop-entry g l = record {
   entries : l.yielded ++ l.entry-iterator ≡ memory_map l.table;
   bounds : AllZip (IsTrueBound l.table l.request) (filter (λ e. eqb e.mtype conventional) l.yielded) l.bounds.items;
   best : IsBestOf l.best l.bounds.items;
-  passed : AllByRecursion (λ e. EndBelow (runs_of l.table) l.passed (e.first + l.request.pages)) l.entry-iterator;
-  stop : AllByRecursion (λ e. e.first < l.stop → IsStretch l.table e.first l.stop) l.entry-iterator;
+  stays : l.search ≡ l.table;
   room : vec_len l.bounds + length l.entry-iterator ≤ vec_capacity l.bounds;
 }
