@@ -17,9 +17,17 @@ file_option name = record (new_rule name) { long = Some name; action = Some Set;
 abbrev pub flag : Text → Rule
 flag name = record (new_rule name) { long = Some name; action = Some SetTrue }
 
--- `run`, with its options
+-- `run`, with its machine file
+abbrev pub machine_words : App
+machine_words = with_rule (new_app (codes "run")) (file_option (codes "machine"))
+
+-- and its trace
+abbrev pub file_words : App
+file_words = with_rule machine_words (file_option (codes "trace"))
+
+-- and the option for certificates
 abbrev pub run_words : App
-run_words = with_rule (with_rule (with_rule (new_app (codes "run")) (file_option (codes "machine"))) (file_option (codes "trace"))) (flag (codes "certify"))
+run_words = with_rule file_words (flag (codes "certify"))
 
 -- `check`, which has none
 abbrev pub check_words : App

@@ -2,7 +2,7 @@
 ghost use Rattle.std.specs.Prelude.{◌≡◌, ◌≢◌, false, IfErr, IfOk, codes, map, string_bytes};
 ghost use Rattle.clap.specs.Words.{app_of, found_of, kind_of, rows_of, rule_of, subcommand_rows_of};
 ghost use Rattle.clap.specs.declared.builder.command.Command.TheViews.{out-Command as fields_of};
-ghost use Rattle.command_line.specs.Words.{file_option, run_words, program_words, HasReason, IsNamed, IsNone, IsFound, IsCommandOf, IsRefusedBy};
+ghost use Rattle.command_line.specs.Words.{file_option, flag, machine_words, file_words, run_words, program_words, HasReason, IsNamed, IsNone, IsFound, IsCommandOf, IsRefusedBy};
 
 use clap::error::ErrorKind;
 use clap::{Arg, ArgAction, ArgMatches};
@@ -105,15 +105,39 @@ fn run_words<'a>(alloc: Global) -> Result<clap::Command<'a>, AllocError>
     ensures words { IfOk result (λ run. app_of run ≡ run_words) }
     ensures local { IfOk result (λ run. (fields_of run).has_globals ≡ false) }
 {
-    let certify = Arg::new(alloc, "certify")
+    let files = file_words(alloc)?;
+    files.arg(certify_flag(alloc))
+}
+
+/// The words of `run` up to its files.
+fn file_words<'a>(alloc: Global) -> Result<clap::Command<'a>, AllocError>
+    ensures words { IfOk result (λ run. app_of run ≡ file_words) }
+    ensures local { IfOk result (λ run. (fields_of run).has_globals ≡ false) }
+{
+    let machine = machine_words(alloc)?;
+    machine.arg(file_option(alloc, "trace", "The calls, one a line"))
+}
+
+/// The words of `run` up to its machine file.
+fn machine_words<'a>(alloc: Global) -> Result<clap::Command<'a>, AllocError>
+    ensures words { IfOk result (λ run. app_of run ≡ machine_words) }
+    ensures local { IfOk result (λ run. (fields_of run).has_globals ≡ false) }
+{
+    let run = clap::Command::new(alloc, "run").about(
+        "Runs a trace on a machine, and prints the replies",
+    );
+    run.arg(file_option(alloc, "machine", "The machine's memory, as JSON"))
+}
+
+/// The option that asks for certificates.
+fn certify_flag<'a>(alloc: Global) -> Arg<'a>
+    ensures rule { rule_of result ≡ flag (codes "certify") }
+    ensures local { result.global ≡ false }
+{
+    Arg::new(alloc, "certify")
         .long("certify")
         .help("Print the certificate of each placement")
-        .action(ArgAction::SetTrue);
-    clap::Command::new(alloc, "run")
-        .about("Runs a trace on a machine, and prints the replies")
-        .arg(file_option(alloc, "machine", "The machine's memory, as JSON"))?
-        .arg(file_option(alloc, "trace", "The calls, one a line"))?
-        .arg(certify)
+        .action(ArgAction::SetTrue)
 }
 
 /// An option that must be given, with a file.

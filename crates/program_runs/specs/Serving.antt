@@ -1,5 +1,6 @@
 -- What the program does on the bytes that it is given.
-use Rattle.std.specs.Prelude.{◌≡◌, ◌⊎◌, ℕ, ◌<◌, Bool, List, [], ◌++◌, length, Option, IfSome, Result, Ok, Err, true, false}
+use Rattle.std.specs.Prelude.{◌≡◌, ◌⊎◌, ℕ, ◌<◌, Bool, List, [], ◌++◌, length, take, Option, IfSome, Result, Ok, Err, true, false}
+use Rattle.std.specs.Io.KnownBytes.{Appends}
 use Rattle.std.specs.declared.alloc.Global.{Global}
 use Rattle.page_ranges.specs.declared.ranges.Run.{Run}
 use Rattle.boot_core.specs.Machines.{State, first_state}
@@ -10,7 +11,7 @@ use Rattle.boot_trace.specs.TraceRuns.{Ends}
 use Rattle.program_runs.specs.declared.serve.Fault.{Fault}
 use Rattle.program_runs.specs.declared.serve.Fault.TheVariants as fault
 
--- the bytes are all of the file, or so many from its front that it shows that it is too long
+-- the bytes are all of the file, or a front of it that is itself too long for a machine file
 abbrev pub IsRead : List ℕ → List ℕ → Type 0
 IsRead file bytes = (rest : List ℕ) × (file ≡ bytes ++ rest) × ((rest ≡ []) ⊎ (longest_file < length bytes))
 
@@ -39,3 +40,15 @@ abbrev pub check_status : {E : Type 0} → Result Bool E → ℕ
 check_status (Ok true) = 0
 check_status (Ok false) = 3
 check_status (Err e) = 1
+
+-- the status of a command line that is refused
+abbrev pub usage_status : ℕ
+usage_status = 2
+
+-- the status of a fault of input or output
+abbrev pub fault_status : ℕ
+fault_status = 1
+
+-- a front of the text is written, and nothing else
+abbrev pub WritesFront : Option (List ℕ) → List ℕ → Option (List ℕ) → Type 0
+WritesFront before text after = (count : ℕ) × Appends before after (take count text)

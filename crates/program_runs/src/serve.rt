@@ -1,13 +1,14 @@
 //! A run of the program, over any readers and writers.
 ghost use Rattle.std.specs.Prelude.{◌≡◌, ◌⊎◌, IfOk, IfErr, IfSome};
 ghost use Rattle.certificate_blocks.specs.BlockChecks.{Judges, Writes};
-ghost use Rattle.program_runs.specs.Serving.{IsRead, RunsFiles, check_status, status_of};
+ghost use Rattle.program_runs.specs.Serving.{IsRead, RunsFiles, check_status, fault_status, status_of, usage_status, WritesFront};
 
 use boot_core::Core;
 use boot_trace::{MachineFault, RunFault, read_machine};
 use certificate_blocks::{BlockFault, check_block};
 use std::alloc::{AllocError, AllocFailed, Global};
 use std::io::{Read, Write};
+use text_lines::write_text;
 use thiserror::Error;
 
 /// The status of a run that reached the end of its trace.
@@ -16,7 +17,7 @@ pub const SUCCESS: u8 = 0;
 /// The status of a fault of input or output.
 pub const FAULT: u8 = 1;
 
-/// The status of a command line that is none.
+/// The status of a command line that is refused.
 pub const USAGE: u8 = 2;
 
 /// The status of a block that is refused.
@@ -25,8 +26,8 @@ pub const REFUSED: u8 = 3;
 /// How many bytes are asked of the machine file at a time.
 const PIECE: usize = 8192;
 
-/// The most bytes that are read of a machine file, one more than it may have.
-const MOST_BYTES: usize = 67_108_865;
+/// Reading of a machine file stops at this length, one byte past the longest that it may have.
+const STOP_LENGTH: usize = 67_108_865;
 
 /// Why the program stopped.
 #[derive(Debug, Drop, Error)]
@@ -80,9 +81,16 @@ pub fn serve_run<M: Read + Drop, T: Read + Drop, W: Write, E: Write>(
     ensures status { (result ≡ SUCCESS) ⊎ (result ≡ FAULT) }
     ensures run { IfSome (M.remaining machine) (λ file. (end : _) × (result ≡ status_of end) × RunsFiles certify file (T.remaining trace) (W.contents out.old) (W.contents out.new) end) }
 {
-    match run_files(alloc, machine, trace, out, certify) {
+    serve_end(err, &run_files(alloc, machine, trace, out, certify))
+}
+
+/// Writes the line of a run's fault, if it ended with one, and answers the exit status.
+pub fn serve_end<E: Write>(err: &mut E, end: &Result<(), Fault>) -> u8
+    ensures { result ≡ status_of end.now }
+{
+    match end {
         Ok(()) => SUCCESS,
-        Err(fault) => serve_fault(err, &fault),
+        Err(fault) => serve_fault(err, fault),
     }
 }
 
@@ -107,7 +115,7 @@ pub fn serve_check<R: Read + Drop, W: Write, E: Write>(
 /// Writes the line of a fault, and answers its status. That the line could not be written changes
 /// nothing.
 pub fn serve_fault<E: Write>(err: &mut E, fault: &Fault) -> u8
-    ensures { result ≡ FAULT }
+    ensures { result ≡ fault_status }
 {
     let _ = writeln!(err, "bootcore: {fault}");
     FAULT
@@ -115,14 +123,15 @@ pub fn serve_fault<E: Write>(err: &mut E, fault: &Fault) -> u8
 
 /// Writes the text that says how the program is used, and answers the status.
 pub fn serve_usage<E: Write>(err: &mut E, text: &str) -> u8
-    ensures { result ≡ USAGE }
+    ensures status { result ≡ usage_status }
+    ensures text { WritesFront (E.contents err.old) text.now (E.contents err.new) }
 {
-    let _ = err.write_all(text.as_bytes());
+    let _ = write_text(err, text.as_bytes());
     USAGE
 }
 
 /// Judges the machine file, and then runs the trace.
-fn run_files<M: Read + Drop, T: Read + Drop, W: Write>(
+pub fn run_files<M: Read + Drop, T: Read + Drop, W: Write>(
     alloc: Global,
     machine: M,
     trace: T,
@@ -148,14 +157,14 @@ fn run_files<M: Read + Drop, T: Read + Drop, W: Write>(
     }
 }
 
-/// The bytes of a machine file, or so many of them that it shows that they are too many.
+/// The bytes of a machine file. Of one that is too long, reading stops past the most that it may have.
 fn read_whole<M: Read + Drop>(alloc: Global, mut machine: M) -> Result<Vec<u8>, Fault>
     ensures ok { IfOk result (λ bytes. IfSome (M.remaining machine) (λ file. IsRead file bytes.items)) }
     ensures err { IfErr result (λ fault. (fault ≡ Fault.CannotReadMachine) ⊎ (fault ≡ Fault.OutOfMemory)) }
 {
     let mut bytes = Vec::new(alloc);
     let mut piece = [0u8; PIECE];
-    while bytes.len() < MOST_BYTES {
+    while bytes.len() < STOP_LENGTH {
         match machine.read(&mut piece) {
             Ok(0) => return Ok(bytes),
             Ok(taken) => {

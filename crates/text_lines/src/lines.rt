@@ -33,8 +33,7 @@ pub fn next_byte<R: Read, A: Allocator>(reader: &mut BufReader<R, A>) -> io::Res
 }
 
 /// Puts the next line in the place of `line`, without its line feed, and answers whether there was
-/// one. Of a line that is longer than [`LONGEST_LINE`] the front is taken, so much of it that it
-/// shows.
+/// one. Of a line that is longer than [`LONGEST_LINE`], reading stops one byte past that limit.
 pub fn next_line<R: Read, A: Allocator>(
     reader: &mut BufReader<R, A>,
     line: &mut Vec<u8, A>,

@@ -1,0 +1,15 @@
+use Rattle.std.proofs.Common.{◌++◌, true, false, inl, inr, refl}
+use Rattle.program_runs.specs.Programs.{opening}
+use Rattle.program_runs.proofs.Openings.{both_opened}
+use Rattle.program_runs.proofs.program.run_paths.Goals as goal
+
+pub returns-in_default-open : goal.returns-in_default-open
+returns-in_default-open g c =
+    (opening c.args.machine.now true ++ opening c.args.trace.now false, both_opened _ _ _ _ _ c.in-Ok.ensures.told c.in_default-open.ensures.told, inr (inl (refl, refl, refl)))
+
+pub returns : goal.returns
+returns g c = (
+  opening c.args.machine.now true ++ opening c.args.trace.now true,
+  both_opened _ _ _ _ _ c.in-Ok.ensures.told c.in-Ok-open.ensures.told,
+  inr (inr (refl, rw c.in-Ok.ensures.bytes at (rw c.in-Ok.ensures.kept at (rw c.in-Ok-open.ensures.bytes at c.run_files.ensures)))),
+)

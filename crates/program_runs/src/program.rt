@@ -1,0 +1,144 @@
+//! The program, from its arguments to its exit status.
+ghost use Rattle.std.specs.Prelude.{◌≡◌, ◌≤◌, List, [], IfOk, MatchResult, map, string_bytes};
+ghost use Rattle.std.specs.IoError.{error_kind};
+ghost use Rattle.std.specs.Vec.Iter.{into_iter_items};
+ghost use Rattle.std.specs.Process.{exit_status};
+ghost use Rattle.program_runs.specs.Programs.{Opening, Opens, RunsPaths, Does, DoesAsAsked, IsLostStatus};
+
+use crate::files::{OpenFiles, SystemFiles};
+use crate::serve::{Fault, run_files, serve_check, serve_end, serve_fault, serve_usage};
+use command_line::{Command, CommandFault, command_of};
+use std::alloc::Global;
+use std::env::{Args, args};
+use std::io::{self, Error, ErrorKind, Read, Write};
+use std::process::ExitCode;
+
+/// What is told of arguments that are not UTF-8.
+const NOT_UTF8: &str = "error: arguments that are not UTF-8\n";
+
+/// Runs the program, and answers its exit status.
+pub fn run_program(rt: &HostRuntime) -> ExitCode
+    ensures { exit_status result ≤ 3 }
+{
+    let mut files = SystemFiles::new(rt);
+    let mut out = rt.stdout();
+    let mut err = rt.stderr();
+    ExitCode::from(serve_arguments(
+        rt.alloc(),
+        args(rt),
+        &mut files,
+        rt.stdin(),
+        &mut out,
+        &mut err,
+    ))
+}
+
+/// Does what the arguments ask for, if they could be read, and answers the exit status.
+pub fn serve_arguments<O: OpenFiles, I: Read + Drop, W: Write, E: Write>(
+    alloc: Global,
+    arguments: io::Result<Args>,
+    files: &mut O,
+    input: I,
+    out: &mut W,
+    err: &mut E,
+) -> u8
+    ensures bound { result ≤ 3 }
+    ensures does { (openings : List Opening) × Opens (O.openings files.old) openings (O.openings files.new)
+        × MatchResult arguments
+        (λ texts. DoesAsAsked (map (λ text. string_bytes text) (into_iter_items texts)) (O.bytes_at files.old) (I.remaining input) openings (W.contents out.old) (W.contents out.new) result)
+        (λ error. (openings ≡ []) × (W.contents out.new ≡ W.contents out.old) × IsLostStatus (error_kind error) result) }
+{
+    let arguments = match arguments {
+        Ok(arguments) => arguments,
+        Err(error) => return serve_lost_arguments(err, &error),
+    };
+    let Ok(texts) = arguments.collect::<Vec<String>>(alloc) else {
+        return serve_fault(err, &Fault::OutOfMemory);
+    };
+    serve_texts(alloc, texts.as_slice(), files, input, out, err)
+}
+
+/// Tells why the arguments could not be read, and answers the exit status.
+fn serve_lost_arguments<E: Write>(err: &mut E, error: &Error) -> u8
+    ensures { IsLostStatus (error_kind error.now) result }
+{
+    if error.kind() == ErrorKind::OutOfMemory {
+        return serve_fault(err, &Fault::OutOfMemory);
+    }
+    serve_usage(err, NOT_UTF8)
+}
+
+/// Does what the words ask for, the first of which is the program's name.
+pub fn serve_texts<O: OpenFiles, I: Read + Drop, W: Write, E: Write>(
+    alloc: Global,
+    texts: &[String],
+    files: &mut O,
+    input: I,
+    out: &mut W,
+    err: &mut E,
+) -> u8
+    ensures bound { result ≤ 3 }
+    ensures does { (openings : List Opening) × Opens (O.openings files.old) openings (O.openings files.new) × DoesAsAsked (map (λ text. string_bytes text) texts.now) (O.bytes_at files.old) (I.remaining input) openings (W.contents out.old) (W.contents out.new) result }
+{
+    let Ok(words) = words_of(alloc, texts) else {
+        return serve_fault(err, &Fault::OutOfMemory);
+    };
+    match command_of(alloc, words.as_slice()) {
+        Ok(command) => serve_command(alloc, &command, files, input, out, err),
+        Err(CommandFault::Usage(text)) => serve_usage(err, text.as_str()),
+        Err(CommandFault::OutOfMemory) => serve_fault(err, &Fault::OutOfMemory),
+    }
+}
+
+/// The texts as words, in their order.
+fn words_of(alloc: Global, texts: &[String]) -> Result<Vec<&str>, Fault>
+    ensures { IfOk result (λ words. map (λ word. word.now) words.items ≡ map (λ text. string_bytes text) texts.now) }
+{
+    let mut words = Vec::new(alloc);
+    for text in texts {
+        words.push(text.as_str())?;
+    }
+    Ok(words)
+}
+
+/// Does what the command says, and answers the exit status.
+fn serve_command<O: OpenFiles, I: Read + Drop, W: Write, E: Write>(
+    alloc: Global,
+    command: &Command,
+    files: &mut O,
+    input: I,
+    out: &mut W,
+    err: &mut E,
+) -> u8
+    ensures bound { result ≤ 3 }
+    ensures does { (openings : List Opening) × Opens (O.openings files.old) openings (O.openings files.new) × Does (O.bytes_at files.old) (I.remaining input) command.now openings (W.contents out.old) (W.contents out.new) result }
+{
+    match *command {
+        Command::Run {
+            machine,
+            trace,
+            certify,
+        } => serve_end(err, &run_paths(alloc, files, machine, trace, out, certify)),
+        Command::Check => serve_check(alloc, input, out, err),
+    }
+}
+
+/// Opens the machine file and then the trace, and runs it.
+fn run_paths<O: OpenFiles, W: Write>(
+    alloc: Global,
+    files: &mut O,
+    machine: &str,
+    trace: &str,
+    out: &mut W,
+    certify: bool,
+) -> Result<(), Fault>
+    ensures { (openings : List Opening) × Opens (O.openings files.old) openings (O.openings files.new) × RunsPaths (O.bytes_at files.old) certify machine.now trace.now openings (W.contents out.old) (W.contents out.new) result }
+{
+    let Ok(machine) = files.open(machine) else {
+        return Err(Fault::CannotReadMachine);
+    };
+    let Ok(trace) = files.open(trace) else {
+        return Err(Fault::CannotReadTrace);
+    };
+    run_files(alloc, machine, trace, out, certify)
+}
