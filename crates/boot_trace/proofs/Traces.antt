@@ -5,14 +5,14 @@ use Rattle.std.specs.Io.KnownBytes.{Appends, prepend_known}
 use Rattle.std.specs.Io.Buffered.{reader_remaining, reader_inner, reader_buffer, reader_capacity}
 use Rattle.std.specs.declared.io.buffered.BufReader.{BufReader}
 use Rattle.boot_core.specs.Machines.{State}
-use Rattle.boot_trace.specs.declared.calls.TraceCall.{TraceCall}
+use Rattle.trace_lines.specs.declared.lines.TraceCall.{TraceCall}
 use Rattle.boot_trace.specs.declared.faults.RunFault.{RunFault}
 use Rattle.boot_trace.specs.declared.faults.RunFault.TheVariants as fault
-use Rattle.boot_trace.specs.declared.faults.TraceFault.{TraceFault}
-use Rattle.boot_trace.specs.declared.faults.TraceFault.TheVariants as trace_fault
+use Rattle.trace_lines.specs.declared.faults.TraceFault.{TraceFault}
+use Rattle.trace_lines.specs.declared.faults.TraceFault.TheVariants as trace_fault
 use Rattle.text_lines.specs.Lines.{lines_of, first_line, after_line, TakesByte, IsFirstLine, TakesLine}
 use Rattle.text_lines.specs.Lines.{longest_line}
-use Rattle.boot_trace.specs.TraceLine.{line_of}
+use Rattle.trace_lines.specs.TraceLine.{line_of}
 use Rattle.boot_trace.specs.TraceRuns.{Prints, PrintsAll, AsksForCall, StopsAt, Wrote, HasLine, Ends, most_lines}
 use Rattle.text_lines.proofs.LineBytes.{lines_of-none, lines_of-some}
 use Rattle.text_lines.proofs.Written.{appends_none, appends_more}
