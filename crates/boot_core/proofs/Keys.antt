@@ -74,9 +74,9 @@ module _ (S : Setting) (permits : (m : List Page) (r : Request) (p : ℕ) (c : O
             | inr (d, (others, e, more)) ↦ let rest = (key_counts next calls replies new run others still).0 more in omega (arith, key, e, rest)
           ],
           λ e.
-            let rises = keys_rise next calls replies new still run in
-            let one : n ≡ n - 1 + 1 = omega (arith, key, e, rises) in
-            inr (differs, (n - 1, one, (key_counts next calls replies new run (n - 1) still).1 (omega (arith, key, e, one)))),
+              let rises = keys_rise next calls replies new still run in
+              let one : n ≡ n - 1 + 1 = omega (arith, key, e, rises) in
+              inr (differs, (n - 1, one, (key_counts next calls replies new run (n - 1) still).1 (omega (arith, key, e, one)))),
         )
       ]
   key_counts old [] (r ∷ replies) new run n proper = absurd run

@@ -52,13 +52,13 @@ each_member P (x ∷ xs) f = (f x (member_first x xs), each_member P xs (λ y h.
 -- each entry of the map is one that a record can spell
 pub record_entries : (m : List Page) → IsProperMemory m → HaveFields m → AllByRecursion IsRecordEntry (memory_map m)
 record_entries m proper fit = each_member IsRecordEntry (memory_map m) (λ b here.
-  let is = entry_is_block m proper.ascending b here in
-  let first : IsIn b b.first = record { low = omega arith; high = omega (arith, is.some) } in
-  let (x, at, mtype, attributes) = like_page b (page_at m b.first) (is.all b.first first) in
-  let page = page_at-all FitsFields m b.first x fit at in
-  record {
-    mtype = omega (arith, page.mtype, mtype);
-    some = is.some;
-    within = entry_end m proper b here;
-    attributes = omega (arith, page.attributes, attributes);
-  })
+    let is = entry_is_block m proper.ascending b here in
+    let first : IsIn b b.first = record { low = omega arith; high = omega (arith, is.some) } in
+    let (x, at, mtype, attributes) = like_page b (page_at m b.first) (is.all b.first first) in
+    let page = page_at-all FitsFields m b.first x fit at in
+    record {
+      mtype = omega (arith, page.mtype, mtype);
+      some = is.some;
+      within = entry_end m proper b here;
+      attributes = omega (arith, page.attributes, attributes);
+    })

@@ -10,10 +10,7 @@ use std::alloc::{AllocError, Allocator};
 
 /// GetMemoryMap with a buffer made for it in the place of one of so many bytes: its reply, and the
 /// bytes that are used. OUT_OF_RESOURCES: there is no memory for the buffer.
-pub fn map_in_buffer<A: Allocator + Copy>(
-    book: &PageBook<A>,
-    size: u64,
-) -> (MapReply, Vec<u8, A>)
+pub fn map_in_buffer<A: Allocator + Copy>(book: &PageBook<A>, size: u64) -> (MapReply, Vec<u8, A>)
     ensures { AnswersMap book.now size result.0 result.1.items }
 {
     match room_for_map(book, size) {

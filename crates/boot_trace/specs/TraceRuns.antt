@@ -28,12 +28,17 @@ abbrev pub AsksForCall : Result (Option TraceCall) TraceFault → Type 0
 AsksForCall (Ok (Some (trace_call.Service c))) = Unit {0}
 AsksForCall asks = ⊥
 
+-- the line's call takes the machine from one state to another
+abbrev pub MakesCall : Type 0 → Result (Option TraceCall) TraceFault → State → State → Type 0
+MakesCall A (Ok (Some (trace_call.Service c))) old new = (answer : Reply A) × Step old c answer new
+MakesCall A asks old new = ⊥
+
 -- Why a line that is read so stops a run, and how it leaves the machine: as it was, or, where memory ran out, perhaps
 -- after the call was made.
 abbrev pub StopsAt : Type 0 → Bool → RunFault → ℕ → Result (Option TraceCall) TraceFault → State → State → Type 0
 StopsAt A certify (fault.Line n e) number asks old new = (n ≡ number) × (asks ≡ Err e) × (new ≡ old)
 StopsAt A certify fault.NoCallsLeft number asks old new = AsksForCall asks × (old.calls_left ≡ 0) × (new ≡ old)
-StopsAt A certify fault.OutOfMemory number asks old new = (new ≡ old) ⊎ ((text : List ℕ) × Prints A certify number asks old text new)
+StopsAt A certify fault.OutOfMemory number asks old new = (new ≡ old) ⊎ MakesCall A asks old new
 StopsAt A certify e number asks old new = ⊥
 
 -- The lines, the first of which has this number, print this text, one after another.
@@ -74,7 +79,7 @@ pub record WroteFront (A : Type 0) (certify : Bool) (bytes : List ℕ) (count : 
 pub record WroteBefore (A : Type 0) (certify : Bool) (bytes : List ℕ) (count : ℕ) (old new : State) (before after : Option (List ℕ)) : Type 0 where
   pub mid : State
   pub whole : Wrote A certify bytes count old mid before after
-  pub next : (new ≡ mid) ⊎ ((line : List ℕ) × HasLine bytes count line × ((text : List ℕ) × Prints A certify (count + 1) (line_of line) mid text new))
+  pub next : (new ≡ mid) ⊎ ((line : List ℕ) × HasLine bytes count line × MakesCall A (line_of line) mid new)
 
 -- How a run on a trace of known bytes ends. What is written is the text of all its lines, or of those before the one
 -- that stopped the run, and the machine is in the state after their calls. No line after the last that may be is looked at.

@@ -21,7 +21,10 @@ bind_ok : {A B : Type 0} (r : Result A TraceFault) (f : A → Result B TraceFaul
 bind_ok (Ok x) f y e = (x, refl, e)
 bind_ok (Err g) f y e = absurd (cc)
 
-checked : (b : Bool) (n t : ℕ) → cond b (Ok {E = TraceFault} n) (Err fault.Number) ≡ Ok t → (b ≡ true) × (n ≡ t)
+abbrev fine : {A : Type 0} → A → Result A TraceFault
+fine x = Ok x
+
+checked : (b : Bool) (n t : ℕ) → cond b (fine n) (Err fault.Number) ≡ Ok t → (b ≡ true) × (n ≡ t)
 checked true n t e = (refl, cc)
 checked false n t e = absurd (cc)
 
@@ -65,9 +68,11 @@ of_verb verb.Exit (key ∷ []) c e =
     let (k, ke, e1) = bind_ok (u64_of key) (λ k. Ok (trace_call.Service (call.ExitBootServices k))) _ e in
     let same : call.ExitBootServices k ≡ c = cc in
     subst NamesTypes same tt
+of_verb verb.List [] c e = absurd (cc)
+of_verb verb.List (word ∷ words) c e = absurd (cc)
 of_verb v words c e = absurd (cc)
 
-some_call : (asked : TraceCall) (c : Call) → Ok {E = TraceFault} (Some asked) ≡ Ok (Some (trace_call.Service c)) → asked ≡ trace_call.Service c
+some_call : (asked : TraceCall) (c : Call) → fine (Some asked) ≡ Ok (Some (trace_call.Service c)) → asked ≡ trace_call.Service c
 some_call asked c e = cc
 
 not_skipped : (b : Bool) (r : Result (Option TraceCall) TraceFault) (t : TraceCall) → cond b (Ok None) r ≡ Ok (Some t) → r ≡ Ok (Some t)

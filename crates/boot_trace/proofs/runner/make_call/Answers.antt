@@ -1,31 +1,17 @@
-use Rattle.std.proofs.Common.{◌≡◌, ◌++◌, ℕ, List, [], cond, inr, refl, ap, ◌∙◌, Option, rules}
+use Rattle.std.proofs.Common.{inr, rules}
 use Rattle.std.specs.Prelude.{string_bytes}
-use Rattle.page_ranges.specs.declared.ranges.Descriptor.{Descriptor}
-use Rattle.page_ranges.specs.MemoryMap.{memory_map}
-use Rattle.boot_core.specs.Certified.{certified}
-use Rattle.reply_texts.specs.PrintedText.{reply_text}
-use Rattle.reply_texts.specs.CallText.{block_after}
-use Rattle.reply_texts.proofs.CallTexts.{block_kept}
+use Rattle.reply_texts.proofs.CallTexts.{prints_call}
 use Rattle.boot_trace.proofs.runner.make_call.Goals as goal
 
 pub returns-in-Ok-print_call-clause-ok : goal.returns-in-Ok-print_call-clause-ok
-returns-in-Ok-print_call-clause-ok g c =
-    let (entries, carries, text) = c.in-Ok-print_call.ensures in
-    let call = c.args.call.now in
-    let answer = c.call-reply.result in
-    let line = reply_text c.args.number entries answer in
-    let told = certified call answer in
-    (answer, c.call-reply.ensures, (
-      entries,
-      carries,
-      text
-      ∙ ap (λ (front : List ℕ). front ++ (line ++ _)) c.requires
-      ∙ ap (λ (kept : Option (List Descriptor)). line ++ block_after kept told) c.in-Ok.ensures
-      ∙ ap (λ (block : List ℕ). line ++ block) (block_kept c.args.certify (memory_map c.args.core.now.parts.book.memory) call answer),
-    ))
+returns-in-Ok-print_call-clause-ok g c = (
+  c.call-reply.result,
+  c.call-reply.ensures,
+  prints_call c.args.certify c.args.number c.args.core.now.parts.book.memory c.args.call.now c.call-reply.result (string_bytes c.args.text.now) (string_bytes c.print_call.new.text) _ c.in-Ok-print_call.ensures.0 c.in-Ok-print_call.ensures.1 c.requires c.in-Ok.ensures c.in-Ok-print_call.ensures.2,
+)
 
 pub returns-clause-err : goal.returns-clause-err
-returns-clause-err g c = inr (_, (c.call-reply.result, c.call-reply.ensures, refl))
+returns-clause-err g c = inr (c.call-reply.result, c.call-reply.ensures)
 
 pub returns-then-calls_left-eq0-clause-ok : goal.returns-then-calls_left-eq0-clause-ok
 returns-then-calls_left-eq0-clause-ok g c = search rules
