@@ -1,68 +1,106 @@
 -- Keys, along runs.
-use Rattle.std.proofs.Common.{◌≡◌, ◌↔◌, ℕ, ◌≤◌, Bool, true, false, List, [], ◌∷◌, Option, Ok, Err, refl, sym, ap, subst, ◌∙◌, arith}
+use Rattle.std.proofs.Common.{◌≡◌, ◌⊎◌, ◌↔◌, ℕ, ◌+◌, ◌-◌, ◌≤◌, Bool, true, false, List, [], ◌∷◌, Option, Result, Ok, Err, refl, sym, ap, subst, ◌∙◌, inl, inr, length, arith}
+use Rattle.page_ranges.specs.declared.statuses.Status.{Status}
 use Rattle.page_ranges.specs.declared.statuses.Status.TheVariants as status
 use Rattle.page_ranges.specs.Memory.{Page, IsProperMemory}
 use Rattle.placement_certificate.specs.declared.certificates.Request.{Request}
 use Rattle.placement_certificate.specs.Placement.{IsPermittedStart}
 use Rattle.placement_certificate.specs.Certificates.{CertificateValue}
-use Rattle.page_services.specs.PageRules.{Book, Choice}
 use Rattle.boot_core.specs.declared.calls.Call.{Call}
 use Rattle.boot_core.specs.declared.calls.Call.TheVariants as call
 use Rattle.boot_core.specs.declared.calls.Reply.{Reply}
 use Rattle.boot_core.specs.declared.calls.Reply.TheVariants as reply
-use Rattle.boot_core.specs.Machines.{State}
-use Rattle.boot_core.specs.Steps.{Answers, StepBy, RunsBy}
-use Rattle.boot_core.specs.Laws.{ChangesNoType, TellsKey}
-use Rattle.boot_core.proofs.MapReplies.{told_key}
-use Rattle.boot_core.proofs.Outcomes.{key_rises, stays_proper, same_types, same_key, outcome}
+use Rattle.map_keys.specs.declared.memory_maps.MapReply.{MapReply}
+use Rattle.boot_core.specs.Machines.{Parts, State}
+use Rattle.boot_core.specs.Steps.{Setting, Answers, Exits, MapStep, StepBy, CallRunBy}
+use Rattle.boot_core.specs.Laws.{HaveSameTypes, ChangesNoType, ChangesTypes, TellsKey, GivesKey, NamesTypes}
+use Rattle.boot_core.proofs.MapReplies.{told_key, told_directly}
+use Rattle.boot_core.proofs.Outcomes.{Outcome, key_rises, stays_proper, type_or_not, outcome}
 
--- what a successful reply of GetMemoryMap says of its key, and of the book after it
-key_told : {A : Type 0} (Chosen : Choice) (exited : Bool) (b : Book) (size key : ℕ) (told : Reply A) (new : Book) → Answers Chosen exited b (call.GetMemoryMap size) told new → TellsKey told key → (key ≡ b.key) × (new ≡ b)
-key_told Chosen exited b size key (reply.GetMemoryMap told bytes) new h t = (sym t.1 ∙ told_key exited b size told bytes.items h.0 t.0, h.1)
-key_told Chosen exited b size key told new h t = absurd h
+-- what a successful reply of GetMemoryMap says of its key, and of the parts after it
+key_in : {A : Type 0} (exited : Bool) (old : Parts) (size key : ℕ) (S : Setting) (answer : Reply A) (new : Parts) → Answers S exited old (call.GetMemoryMap size) answer new → TellsKey answer key → (key ≡ old.book.key) × (new ≡ old)
+key_in exited old size key S (reply.GetMemoryMap told bytes) new (told', bytes', e, h) (success, is) =
+    let same : told ≡ told' = cc in
+    let (key_is, parts) = told_key exited old new size told' bytes'.items h (ap (λ (r : MapReply). r.status) (sym same) ∙ success) in
+    (sym is ∙ ap (λ (r : MapReply). r.key) same ∙ key_is, parts)
+key_in exited old size key S answer new h t = absurd t
+
+-- the key that GetMemoryMap gave is the current one
+given_key : {A : Type 0} (S : Setting) (old : State) (key : ℕ) (new : State) → GivesKey S A old key new → (key ≡ old.parts.book.key) × (new.parts ≡ old.parts)
+given_key S old key new (inl (size, answer, step, tells)) = key_in old.exited old.parts size key S answer new.parts step.answers tells
+given_key S old key new (inr (buffer, after, told, step, success, is)) =
+    let (key_is, parts) = told_directly old.exited old.parts new.parts buffer told after step.answers success in
+    (sym is ∙ key_is, parts)
 
 -- what an answer to ExitBootServices says of the key
-exit_answer : {A : Type 0} (Chosen : Choice) (exited : Bool) (b : Book) (key : ℕ) (answer : Reply A) (new : Book) → exited ≡ false → Answers Chosen exited b (call.ExitBootServices key) answer new → (answer ≡ reply.ExitBootServices (Ok tt)) ↔ (key ≡ b.key)
-exit_answer Chosen true b key answer new open_still h = cc
-exit_answer Chosen false b key (reply.ExitBootServices (Ok done)) new open_still h = (λ e. h.0, λ k. refl)
-exit_answer Chosen false b key (reply.ExitBootServices (Err status.InvalidParameter)) new open_still h = (λ e. absurd (cc), λ k. absurd (h.0 k))
-exit_answer Chosen false b key (reply.ExitBootServices (Err other)) new open_still h = absurd h
-exit_answer Chosen false b key answer new open_still h = absurd h
+exit_by : {A : Type 0} (current key : ℕ) (answer : Reply A) (result : Result (Unit {0}) Status) → answer ≡ reply.ExitBootServices result → Exits current key result → (answer ≡ reply.ExitBootServices (Ok tt)) ↔ (key ≡ current)
+exit_by current key answer (Ok done) e h = (λ same. h, λ same. e)
+exit_by current key answer (Err status.InvalidParameter) e h = (λ same. absurd (cc), λ same. absurd (h same))
+exit_by current key answer (Err other) e h = absurd h
 
-module _ (Chosen : Choice) (permits : (m : List Page) (r : Request) (p : ℕ) (c : Option CertificateValue) → Chosen m r p c → IsPermittedStart m r p) where
-  keys_rise : {A : Type 0} (old : State) (calls : List Call) (replies : List (Reply A)) (new : State) → IsProperMemory old.book.memory → RunsBy Chosen old calls replies new → old.book.key ≤ new.book.key
-  keys_rise old [] [] new proper run = omega (arith, ap (λ (s : State). s.book.key) run)
+exit_answer : {A : Type 0} (S : Setting) (exited : Bool) (old : Parts) (key : ℕ) (answer : Reply A) (new : Parts) → exited ≡ false → Answers S exited old (call.ExitBootServices key) answer new → (answer ≡ reply.ExitBootServices (Ok tt)) ↔ (key ≡ old.book.key)
+exit_answer S true old key answer new open_still h = absurd (cc)
+exit_answer S false old key answer new open_still (result, e, h) = exit_by old.book.key key answer result e h.0
+
+module _ (S : Setting) (permits : (m : List Page) (r : Request) (p : ℕ) (c : Option CertificateValue) → S.chosen m r p c → IsPermittedStart m r p) where
+  keys_rise : {A : Type 0} (old : State) (calls : List Call) (replies : List (Reply A)) (new : State) → IsProperMemory old.parts.book.memory → CallRunBy S old calls replies new → old.parts.book.key ≤ new.parts.book.key
+  keys_rise old [] [] new proper run = omega (arith, ap (λ (s : State). s.parts.book.key) run)
   keys_rise old (c ∷ calls) (r ∷ replies) new proper (next, step, run) =
-      let o = outcome Chosen permits old.exited old.book c r next.book proper step.answers in
-      omega (arith, key_rises old.book next.book o, keys_rise next calls replies new (stays_proper old.book next.book proper o) run)
+      let o = outcome S permits old.exited old.parts c r next.parts proper step.answers in
+      omega (arith, key_rises (NamesTypes c) old.parts.book next.parts.book o, keys_rise next calls replies new (stays_proper (NamesTypes c) old.parts.book next.parts.book proper o) run)
   keys_rise old [] (r ∷ replies) new proper run = absurd run
   keys_rise old (c ∷ calls) [] new proper run = absurd run
 
-  unchanged : {A : Type 0} (old : State) (calls : List Call) (replies : List (Reply A)) (new : State) (run : RunsBy Chosen old calls replies new) → IsProperMemory old.book.memory → old.book.key ≡ new.book.key → ChangesNoType Chosen old calls replies new run
-  unchanged old [] [] new run proper k = tt
-  unchanged old (c ∷ calls) (r ∷ replies) new (next, step, run) proper k =
-      let o = outcome Chosen permits old.exited old.book c r next.book proper step.answers in
-      let still = stays_proper old.book next.book proper o in
-      let low = key_rises old.book next.book o in
-      let high = keys_rise next calls replies new still run in
-      (same_types old.book next.book o (omega arith), unchanged next calls replies new run still (omega arith))
-  unchanged old [] (r ∷ replies) new run proper k = absurd run
-  unchanged old (c ∷ calls) [] new run proper k = absurd run
+  -- so many calls have changed a type where the key is higher by so many, and the other way round
+  pub key_counts : {A : Type 0} (old : State) (calls : List Call) (replies : List (Reply A)) (new : State) (run : CallRunBy S old calls replies new) (n : ℕ) → IsProperMemory old.parts.book.memory → ChangesTypes S old calls replies new run n ↔ (new.parts.book.key ≡ old.parts.book.key + n)
+  key_counts old [] [] new run n proper =
+      let same : new.parts.book.key ≡ old.parts.book.key = ap (λ (s : State). s.parts.book.key) run in
+      (λ (none : n ≡ 0). omega (arith, same, none), λ (e : new.parts.book.key ≡ old.parts.book.key + n). omega (arith, same, e))
+  key_counts old (c ∷ calls) (r ∷ replies) new (next, step, run) n proper =
+      let o = outcome S permits old.exited old.parts c r next.parts proper step.answers in
+      let still = stays_proper (NamesTypes c) old.parts.book next.parts.book proper o in
+      elim (type_or_not (NamesTypes c) old.parts.book next.parts.book o) [
+        | inl (same, key) ↦
+            let rest = key_counts next calls replies new run n still in (
+              λ h. elim h [
+                | inl (s, more) ↦ omega (arith, key, rest.0 more)
+                | inr (differs, (others, e, more)) ↦ absurd (differs same)
+              ],
+              λ e. inl (same, rest.1 (omega (arith, key, e))),
+            )
+        | inr (differs, key) ↦ (
+          λ h. elim h [
+            | inl (same, more) ↦ absurd (differs same)
+            | inr (d, (others, e, more)) ↦ let rest = (key_counts next calls replies new run others still).0 more in omega (arith, key, e, rest)
+          ],
+          λ e.
+              let rises = keys_rise next calls replies new still run in
+              let one : n ≡ n - 1 + 1 = omega (arith, key, e, rises) in
+              inr (differs, (n - 1, one, (key_counts next calls replies new run (n - 1) still).1 (omega (arith, key, e, one)))),
+        )
+      ]
+  key_counts old [] (r ∷ replies) new run n proper = absurd run
+  key_counts old (c ∷ calls) [] new run n proper = absurd run
 
-  key_stays : {A : Type 0} (old : State) (calls : List Call) (replies : List (Reply A)) (new : State) (run : RunsBy Chosen old calls replies new) → IsProperMemory old.book.memory → ChangesNoType Chosen old calls replies new run → old.book.key ≡ new.book.key
-  key_stays old [] [] new run proper same = sym (ap (λ (s : State). s.book.key) run)
-  key_stays old (c ∷ calls) (r ∷ replies) new (next, step, run) proper (same, rest) =
-      let o = outcome Chosen permits old.exited old.book c r next.book proper step.answers in
-      sym (same_key old.book next.book o same) ∙ key_stays next calls replies new run (stays_proper old.book next.book proper o) rest
-  key_stays old [] (r ∷ replies) new run proper same = absurd run
-  key_stays old (c ∷ calls) [] new run proper same = absurd run
+-- no call changes a type where none of them does
+no_change : {A : Type 0} (S : Setting) (old : State) (calls : List Call) (replies : List (Reply A)) (new : State) (run : CallRunBy S old calls replies new) → ChangesNoType S old calls replies new run ↔ ChangesTypes S old calls replies new run 0
+no_change S old [] [] new run = (λ h. refl, λ h. tt)
+no_change S old (c ∷ calls) (r ∷ replies) new (next, step, run) = (
+  λ h. inl (h.0, (no_change S next calls replies new run).0 h.1),
+  λ h. elim h [ inl (same, more) ↦ (same, (no_change S next calls replies new run).1 more) | inr (differs, (others, e, more)) ↦ let none : ⊥ = omega (arith, e) in absurd none ],
+)
+no_change S old [] (r ∷ replies) new run = absurd run
+no_change S old (c ∷ calls) [] new run = absurd run
 
-  pub key_law : {A : Type 0} (first old : State) (size key : ℕ) (told : Reply A) (calls : List Call) (replies : List (Reply A)) (new : State) (run : RunsBy Chosen old calls replies new) (answer : Reply A) (after : State) →
-      IsProperMemory first.book.memory → StepBy Chosen first (call.GetMemoryMap size) told old → TellsKey told key → new.exited ≡ false → StepBy Chosen new (call.ExitBootServices key) answer after →
-      (answer ≡ reply.ExitBootServices (Ok tt)) ↔ ChangesNoType Chosen old calls replies new run
-  key_law first old size key told calls replies new run answer after proper map tells open_still step =
-      let (is_key, same) = key_told Chosen first.exited first.book size key told old.book map.answers tells in
-      let still : IsProperMemory old.book.memory = subst (λ (b : Book). IsProperMemory b.memory) (sym same) proper in
-      let at_first : key ≡ old.book.key = is_key ∙ sym (ap (λ (b : Book). b.key) same) in
-      let (to, from) = exit_answer Chosen new.exited new.book key answer after.book open_still step.answers in
-      (λ e. unchanged old calls replies new run still (sym at_first ∙ to e), λ h. from (at_first ∙ key_stays old calls replies new run still h))
+module _ (S : Setting) (permits : (m : List Page) (r : Request) (p : ℕ) (c : Option CertificateValue) → S.chosen m r p c → IsPermittedStart m r p) where
+  pub key_law : {A : Type 0} (first old : State) (key : ℕ) (calls : List Call) (replies : List (Reply A)) (new : State) (run : CallRunBy S old calls replies new) (answer : Reply A) (after : State) →
+      IsProperMemory first.parts.book.memory → GivesKey S A first key old → new.exited ≡ false → StepBy S new (call.ExitBootServices key) answer after →
+      (answer ≡ reply.ExitBootServices (Ok tt)) ↔ ChangesNoType S old calls replies new run
+  key_law first old key calls replies new run answer after proper gives open_still step =
+      let (is_key, same) = given_key S first key old gives in
+      let still : IsProperMemory old.parts.book.memory = subst (λ (p : Parts). IsProperMemory p.book.memory) (sym same) proper in
+      let at_first : key ≡ old.parts.book.key = is_key ∙ sym (ap (λ (p : Parts). p.book.key) same) in
+      let exit = exit_answer S new.exited new.parts key answer after.parts open_still step.answers in
+      let none = no_change S old calls replies new run in
+      let counts = key_counts S permits old calls replies new run 0 still in
+      (λ e. none.1 (counts.1 (omega (arith, exit.0 e, at_first))), λ h. exit.1 (omega (arith, counts.0 (none.0 h), at_first)))

@@ -1,4 +1,6 @@
 pub mod MachineRunLists
+pub mod RecordPages
+pub mod Serving
 pub mod AnySteps
 pub mod Running
 pub mod Outcomes

@@ -1,16 +1,20 @@
 -- Replies of GetMemoryMap.
-use Rattle.std.proofs.Common.{◌≡◌, ℕ, ◌<◌, ◌≤◌, Bool, true, false, cond, nat_le, leb, List, [], ◌∷◌, ◌++◌, length, take, take_all, drop, inl, inr, refl, sym, ap, ◌∙◌, arith, append-nil}
+use Rattle.std.proofs.Common.{◌≡◌, ℕ, ◌<◌, ◌≤◌, Bool, true, false, cond, nat_le, leb, List, [], ◌∷◌, ◌++◌, length, take, take_all, drop, inl, inr, refl, sym, ap, ◌∙◌, arith, append-nil, Vec}
 use Rattle.std.proofs.lemmas.List.{drop_all, nil_from_length, take-append-le}
 use Rattle.std.proofs.lemmas.Bool.{cases_lt, le-leb, lt-leb, cond-true, cond-false}
 use Rattle.page_ranges.specs.declared.statuses.Status.TheVariants.{Success, BufferTooSmall, Unsupported, OutOfResources}
 use Rattle.page_ranges.specs.MemoryMap.{memory_map}
 use Rattle.page_services.specs.PageRules.{Book}
 use Rattle.map_keys.specs.declared.memory_maps.MapReply.{MapReply}
-use Rattle.map_keys.specs.MapReplies.{map_size, map_reply, buffer_with_map}
-use Rattle.map_keys.specs.Records.{records}
+use Rattle.map_keys.specs.MapReplies.{descriptor_version, map_size, map_reply, buffer_with_map}
+use Rattle.map_keys.specs.Records.{record_size, records}
 use Rattle.map_keys.proofs.RecordLists.{length_records}
-use Rattle.boot_core.specs.Machines.{State}
-use Rattle.boot_core.specs.MapCalls.{map_answer, map_buffer, map_bytes, room_for_map, MapStep, AnswersMap}
+use Rattle.boot_core.specs.declared.calls.Call.TheVariants.{GetMemoryMap}
+use Rattle.boot_core.specs.declared.calls.Reply.TheVariants as reply
+use Rattle.boot_core.specs.Machines.{Parts, State}
+use Rattle.boot_core.specs.MapCalls.{refused_map, map_bytes, room_for_map, AnswersMap}
+use Rattle.boot_core.specs.Steps.{WhileOpen, MapStep, Step}
+use Rattle.boot_core.specs.Laws.{used_size}
 
 -- a buffer as long as what is used of one of so many bytes fits where that one fits
 fits_too : (needed size : ℕ) → leb needed (cond (leb needed size) needed 0) ≡ leb needed size
@@ -19,15 +23,9 @@ fits_too needed size = elim (cases_lt size needed) [
   | inr fits ↦ ap (λ (room : ℕ). leb needed room) (cond-true (leb needed size) needed 0 (le-leb needed size fits)) ∙ le-leb needed needed (omega arith) ∙ sym (le-leb needed size fits)
 ]
 
--- it is answered as that one is
-pub same_answer : (exited : Bool) (b : Book) (size : ℕ) → map_answer exited b (room_for_map exited b size) ≡ map_answer exited b size
-same_answer true b size = refl
-same_answer false b size = rw (fits_too (map_size b) size)
-
--- and it is filled with what is used of that one
-pub used_bytes : (exited : Bool) (b : Book) (size : ℕ) (buffer : List ℕ) → length buffer ≡ room_for_map exited b size → map_buffer exited b buffer ≡ map_bytes exited b size
-used_bytes true b size buffer long = nil_from_length buffer long
-used_bytes false b size buffer long = elim (cases_lt size (map_size b)) [
+-- it is filled with what is used of that one
+used_bytes : (b : Book) (size : ℕ) (buffer : List ℕ) → length buffer ≡ room_for_map b size → buffer_with_map b buffer ≡ map_bytes b size
+used_bytes b size buffer long = elim (cases_lt size (map_size b)) [
   | inl short ↦
       let room : length buffer ≡ 0 = long ∙ cond-false (leb (map_size b) size) (map_size b) 0 (lt-leb (map_size b) size short) in
       cond-false _ _ _ (lt-leb (map_size b) (length buffer) (omega arith)) ∙ nil_from_length buffer room ∙ sym (cond-false _ _ _ (lt-leb (map_size b) size short))
@@ -40,16 +38,59 @@ used_bytes false b size buffer long = elim (cases_lt size (map_size b)) [
 ]
 
 -- What is answered through a call where the buffer is as long as what is used of one of so many bytes.
-pub answers_map : (old new : State) (size : ℕ) (buffer after : List ℕ) (told : MapReply) → length buffer ≡ room_for_map old.exited old.book size → MapStep old buffer told after new → AnswersMap old.exited old.book size told after
-answers_map old new size buffer after told long step = inl (
-  step.answer ∙ ap (map_answer old.exited old.book) long ∙ same_answer old.exited old.book size,
-  step.written ∙ used_bytes old.exited old.book size buffer long,
+pub answers_map : (b : Book) (size : ℕ) (buffer after : List ℕ) (told : MapReply) → length buffer ≡ room_for_map b size → told ≡ map_reply b (length buffer) → after ≡ buffer_with_map b buffer → AnswersMap b size told after
+answers_map b size buffer after told long e written = inl (
+  e ∙ ap (map_reply b) long ∙ rw (fits_too (map_size b) size) refl,
+  written ∙ used_bytes b size buffer long,
 )
 
+-- the bytes of a vector once its slice has been written
+pub written_back : (n : ℕ) (slice old : List ℕ) → n ≡ length slice → take n (slice ++ old) ≡ slice
+written_back n slice old e = take-append-le n slice old (omega arith) ∙ take_all n slice (omega arith)
+
+-- each reply tells the size
+pub told_size : (fits : Bool) (size key : ℕ) (told : MapReply) → told ≡ cond fits (record { status = Success; size = size; key = key; descriptor_size = record_size; version = descriptor_version }) (record { status = BufferTooSmall; size = size; key = 0; descriptor_size = 0; version = 0 }) → told.size ≡ size
+told_size true size key told e = ap (λ (r : MapReply). r.size) e
+told_size false size key told e = ap (λ (r : MapReply). r.size) e
+
+-- a successful reply tells the key
+told_if : (fits : Bool) (size key : ℕ) (told : MapReply) → told ≡ cond fits (record { status = Success; size = size; key = key; descriptor_size = record_size; version = descriptor_version }) (record { status = BufferTooSmall; size = size; key = 0; descriptor_size = 0; version = 0 }) → told.status ≡ Success → told.key ≡ key
+told_if true size key told e s = ap (λ (r : MapReply). r.key) e
+told_if false size key told e s = let short = ap (λ (r : MapReply). r.status) e in absurd (cc)
+
+told_open : (b : Book) (size : ℕ) (told : MapReply) (bytes : List ℕ) → AnswersMap b size told bytes → told.status ≡ Success → told.key ≡ b.key
+told_open b size told bytes (inl h) s = told_if (leb (map_size b) size) (map_size b) b.key told h.0 s
+told_open b size told bytes (inr h) s = let refused = ap (λ (r : MapReply). r.status) h.2 in absurd (cc)
+
+pub told_key : (exited : Bool) (old new : Parts) (size : ℕ) (told : MapReply) (bytes : List ℕ) → WhileOpen exited old new (AnswersMap old.book size told bytes × (new ≡ old)) ((told ≡ refused_map Unsupported) × (bytes ≡ [])) → told.status ≡ Success → (told.key ≡ old.book.key) × (new ≡ old)
+told_key true old new size told bytes h s = let refused = ap (λ (r : MapReply). r.status) h.0.0 in absurd (cc)
+told_key false old new size told bytes h s = (told_open old.book size told bytes h.0 s, h.1)
+
+pub told_directly : (exited : Bool) (old new : Parts) (buffer : List ℕ) (told : MapReply) (after : List ℕ) → WhileOpen exited old new ((told ≡ map_reply old.book (length buffer)) × (after ≡ buffer_with_map old.book buffer) × (new ≡ old)) ((told ≡ refused_map Unsupported) × (after ≡ buffer)) → told.status ≡ Success → (told.key ≡ old.book.key) × (new ≡ old)
+told_directly true old new buffer told after h s = let refused = ap (λ (r : MapReply). r.status) h.0.0 in absurd (cc)
+told_directly false old new buffer told after h s = (told_if (leb (map_size old.book) (length buffer)) (map_size old.book) old.book.key told h.0 s, h.2)
+
+-- ---- a buffer of the caller's
+
 -- the bytes that are used stand in the front of the buffer
-pub used_in_front : (exited : Bool) (b : Book) (buffer : List ℕ) → map_buffer exited b buffer ≡ map_bytes exited b (length buffer) ++ drop (length (map_bytes exited b (length buffer))) buffer
-used_in_front true b buffer = refl
-used_in_front false b buffer = elim (cases_lt (length buffer) (map_size b)) [
+pub front_used : (b : Book) (buffer : List ℕ) (told : MapReply) → told ≡ map_reply b (length buffer) → take (used_size told.status told.size) (buffer_with_map b buffer) ≡ map_bytes b (length buffer)
+front_used b buffer told e = elim (cases_lt (length buffer) (map_size b)) [
+  | inl short ↦
+      let is : told ≡ record { status = BufferTooSmall; size = map_size b; key = 0; descriptor_size = 0; version = 0 } = e ∙ cond-false _ _ _ (lt-leb (map_size b) (length buffer) short) in
+      let none : used_size told.status told.size ≡ 0 = ap (λ (r : MapReply). used_size r.status r.size) is in
+      ap (λ (n : ℕ). take n (buffer_with_map b buffer)) none ∙ sym (cond-false _ _ _ (lt-leb (map_size b) (length buffer) short))
+  | inr fits ↦
+      let is : told ≡ record { status = Success; size = map_size b; key = b.key; descriptor_size = record_size; version = descriptor_version } = e ∙ cond-true _ _ _ (le-leb (map_size b) (length buffer) fits) in
+      let all : used_size told.status told.size ≡ map_size b = ap (λ (r : MapReply). used_size r.status r.size) is in
+      ap (λ (n : ℕ). take n (buffer_with_map b buffer)) all
+      ∙ ap (take (map_size b)) (cond-true _ _ _ (le-leb (map_size b) (length buffer) fits))
+      ∙ written_back (map_size b) (records (memory_map b.memory)) (drop (map_size b) buffer) (sym (length_records (memory_map b.memory)))
+      ∙ sym (cond-true _ _ _ (le-leb (map_size b) (length buffer) fits))
+]
+
+-- and the rest of it is as it was
+pub rest_kept : (b : Book) (buffer : List ℕ) → buffer_with_map b buffer ≡ map_bytes b (length buffer) ++ drop (length (map_bytes b (length buffer))) buffer
+rest_kept b buffer = elim (cases_lt (length buffer) (map_size b)) [
   | inl short ↦
       let none = cond-false (leb (map_size b) (length buffer)) (records (memory_map b.memory)) [] (lt-leb (map_size b) (length buffer) short) in
       cond-false _ _ _ (lt-leb (map_size b) (length buffer) short) ∙ sym (ap (λ (used : List ℕ). used ++ drop (length used) buffer) none)
@@ -60,21 +101,14 @@ used_in_front false b buffer = elim (cases_lt (length buffer) (map_size b)) [
       ∙ sym (ap (λ (used : List ℕ). used ++ drop (length used) buffer) all)
 ]
 
--- the bytes of a vector once its slice has been written
-pub written_back : (n : ℕ) (slice old : List ℕ) → n ≡ length slice → take n (slice ++ old) ≡ slice
-written_back n slice old e = take-append-le n slice old (omega arith) ∙ take_all n slice (omega arith)
+map_open : (exited : Bool) (old new : Parts) (buffer : List ℕ) (told : MapReply) (after used : List ℕ) → WhileOpen exited old new ((told ≡ map_reply old.book (length buffer)) × (after ≡ buffer_with_map old.book buffer) × (new ≡ old)) ((told ≡ refused_map Unsupported) × (after ≡ buffer)) → used ≡ take (used_size told.status told.size) after →
+    WhileOpen exited old new (AnswersMap old.book (length buffer) told used × (new ≡ old)) ((told ≡ refused_map Unsupported) × (used ≡ [])) × (after ≡ used ++ drop (length used) buffer)
+map_open true old new buffer told after used h e =
+    let none : used ≡ [] = e ∙ ap (λ (r : MapReply). take (used_size r.status r.size) after) h.0.0 in
+    (((h.0.0, none), h.1), h.0.1 ∙ sym (ap (λ (ys : List ℕ). ys ++ drop (length ys) buffer) none))
+map_open false old new buffer told after used h e =
+    let bytes : used ≡ map_bytes old.book (length buffer) = e ∙ ap (take (used_size told.status told.size)) h.1 ∙ front_used old.book buffer told h.0 in
+    ((inl (h.0, bytes), h.2), h.1 ∙ rest_kept old.book buffer ∙ sym (ap (λ (ys : List ℕ). ys ++ drop (length ys) buffer) bytes))
 
--- each reply tells the size
-pub told_size : (fits : Bool) (size key : ℕ) (told : MapReply) → told ≡ cond fits (record { status = Success; size = size; key = key; descriptor_size = 48; version = 1 }) (record { status = BufferTooSmall; size = size; key = 0; descriptor_size = 0; version = 0 }) → told.size ≡ size
-told_size true size key told e = ap (λ (r : MapReply). r.size) e
-told_size false size key told e = ap (λ (r : MapReply). r.size) e
-
--- a successful reply tells the key
-told_if : (fits : Bool) (size key : ℕ) (told : MapReply) → told ≡ cond fits (record { status = Success; size = size; key = key; descriptor_size = 48; version = 1 }) (record { status = BufferTooSmall; size = size; key = 0; descriptor_size = 0; version = 0 }) → told.status ≡ Success → told.key ≡ key
-told_if true size key told e s = ap (λ (r : MapReply). r.key) e
-told_if false size key told e s = let short = ap (λ (r : MapReply). r.status) e in absurd (cc)
-
-pub told_key : (exited : Bool) (b : Book) (size : ℕ) (told : MapReply) (bytes : List ℕ) → AnswersMap exited b size told bytes → told.status ≡ Success → told.key ≡ b.key
-told_key true b size told bytes (inl h) s = let refused = ap (λ (r : MapReply). r.status) h.0 in absurd (cc)
-told_key false b size told bytes (inl h) s = told_if (leb (map_size b) size) (map_size b) b.key told h.0 s
-told_key exited b size told bytes (inr h) s = let refused = ap (λ (r : MapReply). r.status) h.3 in absurd (cc)
+pub map_step : {A : Type 0} (old : State) (buffer : List ℕ) (told : MapReply) (after : List ℕ) (new : State) (used : Vec ℕ A) → MapStep old buffer told after new → used.items ≡ take (used_size told.status told.size) after → Step old (GetMemoryMap (length buffer)) (reply.GetMemoryMap told used) new × (after ≡ used.items ++ drop (length used.items) buffer)
+map_step old buffer told after new used step bytes = (record { answers = (told, used, refl, (map_open old.exited old.parts new.parts buffer told after used.items step.answers bytes).0); exited = step.exited; calls_left = step.calls_left }, (map_open old.exited old.parts new.parts buffer told after used.items step.answers bytes).1)

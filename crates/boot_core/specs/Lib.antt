@@ -2,4 +2,5 @@ pub mod MachineRuns
 pub mod Machines
 pub mod MapCalls
 pub mod Steps
+pub mod Certified
 pub mod Laws

@@ -2,11 +2,15 @@
 use Rattle.std.specs.Prelude.{ℕ, ◌+◌, ◌≤◌, Bool, false, List}
 use Rattle.page_ranges.specs.declared.ranges.Run.{Run}
 use Rattle.page_ranges.specs.Runs.{pages_of}
-use Rattle.page_services.specs.PageRules.{Book}
+use Rattle.page_services.specs.PageRules.{Book, new_book}
 
--- the memory with its key, whether the boot services have ended, and how many calls may still be made
-pub record State : Type 0 where
+-- what the services work on: the memory with its key
+pub record Parts : Type 0 where
   pub book : Book
+
+-- the parts, whether the boot services have ended, and how many calls may still be made
+pub record State : Type 0 where
+  pub parts : Parts
   pub exited : Bool
   pub calls_left : ℕ
 
@@ -16,7 +20,7 @@ all_calls = 0x80000000
 
 -- the state of a machine of these runs before any call
 abbrev pub first_state : List Run → State
-first_state runs = record { book = record { memory = pages_of runs; key = 1 }; exited = false; calls_left = all_calls }
+first_state runs = record { parts = record { book = new_book (pages_of runs) }; exited = false; calls_left = all_calls }
 
 -- a key that is one more than the calls so far at most
 abbrev pub KeyFollowsCalls : ℕ → ℕ → Type 0

@@ -6,7 +6,7 @@ use std::alloc::{Allocator, Global};
 
 /// A call of a boot service, its numbers as the caller gave them; for a buffer of the caller's, its
 /// size in bytes.
-#[derive(Clone, Copy, Debug, PartialEq, Eq)]
+#[derive(Debug, PartialEq, Eq, Drop)]
 pub enum Call {
     AllocatePages {
         kind: u32,

@@ -1,6 +1,6 @@
 //! The laws of the machine, each the contract of a function that does nothing.
-ghost use Rattle.page_services.specs.PageRules.{IsAnyStart, IsBestChoice};
-ghost use Rattle.boot_core.specs.Laws.{AcceptanceLaw, AnyRunLaw, AnyStepLaw, KeyLaw, MapStepLaw};
+ghost use Rattle.boot_core.specs.Laws.{AcceptanceLaw, AnyRunLaw, AnyStepLaw, KeyCountLaw, KeyLaw, MapStepLaw, RecordEntriesLaw};
+ghost use Rattle.boot_core.specs.Steps.{any_starts, best_starts};
 
 use std::alloc::Allocator;
 
@@ -14,17 +14,30 @@ pub fn any_run_law<A: Allocator>()
     ensures { AnyRunLaw A }
 {}
 
-/// GetMemoryMap with a buffer of the caller's is a step of the machine, whose reply tells the bytes
-/// that are used of the buffer, its front.
+/// GetMemoryMap with a buffer of the caller's is a step of the machine, whose bytes are the front of
+/// the buffer; the rest of the buffer stays as it was.
 pub fn map_step_law<A: Allocator>()
     ensures { MapStepLaw A }
 {}
 
-/// Before an exit, a key that GetMemoryMap gave is accepted exactly while no call since has changed
-/// the type of a page, however permitted starts are chosen.
+/// Before an exit, a key that GetMemoryMap gave, through a call or with a buffer of the caller's, is
+/// accepted exactly while no call since has changed the type of a page, however permitted starts are
+/// chosen.
 pub fn key_law<A: Allocator>()
-    ensures best { KeyLaw IsBestChoice A }
-    ensures any { KeyLaw IsAnyStart A }
+    ensures best { KeyLaw best_starts A }
+    ensures any { KeyLaw any_starts A }
+{}
+
+/// The map key rises by one for each call that changes the type of a page, and for no other call.
+pub fn key_count_law<A: Allocator>()
+    ensures best { KeyCountLaw best_starts A }
+    ensures any { KeyCountLaw any_starts A }
+{}
+
+/// After calls on a valid machine each entry of the memory map fits a record, so what GetMemoryMap
+/// writes is read back.
+pub fn record_entries_law<A: Allocator>()
+    ensures { RecordEntriesLaw A }
 {}
 
 /// On a valid machine the checker accepts the certificate of each placement of a run, with the

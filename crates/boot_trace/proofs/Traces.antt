@@ -5,15 +5,15 @@ use Rattle.std.specs.Io.KnownBytes.{Appends, prepend_known}
 use Rattle.std.specs.Io.Buffered.{reader_remaining, reader_inner, reader_buffer, reader_capacity}
 use Rattle.std.specs.declared.io.buffered.BufReader.{BufReader}
 use Rattle.boot_core.specs.Machines.{State}
-use Rattle.boot_trace.specs.declared.calls.TraceCall.{TraceCall}
+use Rattle.trace_lines.specs.declared.lines.TraceCall.{TraceCall}
 use Rattle.boot_trace.specs.declared.faults.RunFault.{RunFault}
 use Rattle.boot_trace.specs.declared.faults.RunFault.TheVariants as fault
-use Rattle.boot_trace.specs.declared.faults.TraceFault.{TraceFault}
-use Rattle.boot_trace.specs.declared.faults.TraceFault.TheVariants as trace_fault
+use Rattle.trace_lines.specs.declared.faults.TraceFault.{TraceFault}
+use Rattle.trace_lines.specs.declared.faults.TraceFault.TheVariants as trace_fault
 use Rattle.text_lines.specs.Lines.{lines_of, first_line, after_line, TakesByte, IsFirstLine, TakesLine}
 use Rattle.text_lines.specs.Lines.{longest_line}
-use Rattle.boot_trace.specs.TraceLine.{line_of}
-use Rattle.boot_trace.specs.TraceRuns.{Prints, PrintsAll, AsksForCall, StopsAt, Wrote, HasLine, Ends, most_lines}
+use Rattle.trace_lines.specs.TraceLine.{line_of}
+use Rattle.boot_trace.specs.TraceRuns.{Prints, PrintsAll, AsksForCall, MakesCall, StopsAt, Wrote, HasLine, Ends, most_lines}
 use Rattle.text_lines.proofs.LineBytes.{lines_of-none, lines_of-some}
 use Rattle.text_lines.proofs.Written.{appends_none, appends_more}
 
@@ -80,13 +80,13 @@ module _ (A : Type 0) (certify : Bool) (bytes : List ℕ) (old : State) (before 
   )
   stopped fault.OutOfMemory count mid new after left line next below a first (inl r) =
       (count, below, record { mid = mid; whole = wrote count mid after left a; next = inl r })
-  stopped fault.OutOfMemory count mid new after left line next below a first (inr (text, p)) = (
+  stopped fault.OutOfMemory count mid new after left line next below a first (inr made) = (
     count,
     below,
     record {
       mid = mid;
       whole = wrote count mid after left a;
-      next = inr (first_line a.rest, here count mid after left a first.0, (text, subst (λ (asks : Result (Option TraceCall) TraceFault). Prints A certify (count + 1) asks mid text new) (same_line a.rest line next first) p));
+      next = inr (first_line a.rest, here count mid after left a first.0, subst (λ (asks : Result (Option TraceCall) TraceFault). MakesCall A asks mid new) (same_line a.rest line next first) made);
     },
   )
   stopped fault.Read count mid new after left line next below a first s = absurd s

@@ -5,35 +5,40 @@ use Rattle.page_ranges.specs.MemoryMap.{memory_map}
 use Rattle.boot_core.specs.declared.calls.Reply.{Reply}
 use Rattle.boot_core.specs.Machines.{State}
 use Rattle.boot_core.specs.Steps.{Step}
-use Rattle.boot_trace.specs.declared.calls.TraceCall.{TraceCall}
-use Rattle.boot_trace.specs.declared.calls.TraceCall.TheVariants as trace_call
+use Rattle.trace_lines.specs.declared.lines.TraceCall.{TraceCall}
+use Rattle.trace_lines.specs.declared.lines.TraceCall.TheVariants as trace_call
 use Rattle.boot_trace.specs.declared.faults.RunFault.{RunFault}
 use Rattle.boot_trace.specs.declared.faults.RunFault.TheVariants as fault
-use Rattle.boot_trace.specs.declared.faults.TraceFault.{TraceFault}
+use Rattle.trace_lines.specs.declared.faults.TraceFault.{TraceFault}
 use Rattle.text_lines.specs.Lines.{lines_of}
-use Rattle.boot_trace.specs.CallText.{printed}
-use Rattle.boot_trace.specs.PrintedText.{list_text}
-use Rattle.boot_trace.specs.TraceLine.{line_of}
+use Rattle.reply_texts.specs.CallText.{PrintsCall}
+use Rattle.reply_texts.specs.PrintedText.{list_text}
+use Rattle.trace_lines.specs.TraceLine.{line_of}
 
 -- What a line asks for prints this text, and takes the machine from one state to another: a call, by a step of the
 -- machine with the reply that is printed; a listing and a skipped line leave it as it is.
 abbrev pub Prints : Type 0 → Bool → ℕ → Result (Option TraceCall) TraceFault → State → List ℕ → State → Type 0
 Prints A certify number (Ok None) old text new = (text ≡ []) × (new ≡ old)
-Prints A certify number (Ok (Some trace_call.List)) old text new = (text ≡ list_text number (memory_map old.book.memory)) × (new ≡ old)
-Prints A certify number (Ok (Some (trace_call.Service call))) old text new = (reply : Reply A) × Step old call reply new × (text ≡ printed certify number old.book.memory new.book.memory call reply)
+Prints A certify number (Ok (Some trace_call.List)) old text new = (text ≡ list_text number (memory_map old.parts.book.memory)) × (new ≡ old)
+Prints A certify number (Ok (Some (trace_call.Service c))) old text new = (answer : Reply A) × Step old c answer new × PrintsCall certify number old.parts.book.memory c answer text
 Prints A certify number (Err e) old text new = ⊥
 
 -- the line asks for a call
 abbrev pub AsksForCall : Result (Option TraceCall) TraceFault → Type 0
-AsksForCall (Ok (Some (trace_call.Service call))) = Unit {0}
+AsksForCall (Ok (Some (trace_call.Service c))) = Unit {0}
 AsksForCall asks = ⊥
 
--- Why a line that is read so stops a run, and how it leaves the machine: as it was, or for want of memory after the
--- call was made.
+-- the line's call takes the machine from one state to another
+abbrev pub MakesCall : Type 0 → Result (Option TraceCall) TraceFault → State → State → Type 0
+MakesCall A (Ok (Some (trace_call.Service c))) old new = (answer : Reply A) × Step old c answer new
+MakesCall A asks old new = ⊥
+
+-- Why a line that is read so stops a run, and how it leaves the machine: as it was, or, where memory ran out, perhaps
+-- after the call was made.
 abbrev pub StopsAt : Type 0 → Bool → RunFault → ℕ → Result (Option TraceCall) TraceFault → State → State → Type 0
 StopsAt A certify (fault.Line n e) number asks old new = (n ≡ number) × (asks ≡ Err e) × (new ≡ old)
 StopsAt A certify fault.NoCallsLeft number asks old new = AsksForCall asks × (old.calls_left ≡ 0) × (new ≡ old)
-StopsAt A certify fault.OutOfMemory number asks old new = (new ≡ old) ⊎ ((text : List ℕ) × Prints A certify number asks old text new)
+StopsAt A certify fault.OutOfMemory number asks old new = (new ≡ old) ⊎ MakesCall A asks old new
 StopsAt A certify e number asks old new = ⊥
 
 -- The lines, the first of which has this number, print this text, one after another.
@@ -74,7 +79,7 @@ pub record WroteFront (A : Type 0) (certify : Bool) (bytes : List ℕ) (count : 
 pub record WroteBefore (A : Type 0) (certify : Bool) (bytes : List ℕ) (count : ℕ) (old new : State) (before after : Option (List ℕ)) : Type 0 where
   pub mid : State
   pub whole : Wrote A certify bytes count old mid before after
-  pub next : (new ≡ mid) ⊎ ((line : List ℕ) × HasLine bytes count line × ((text : List ℕ) × Prints A certify (count + 1) (line_of line) mid text new))
+  pub next : (new ≡ mid) ⊎ ((line : List ℕ) × HasLine bytes count line × MakesCall A (line_of line) mid new)
 
 -- How a run on a trace of known bytes ends. What is written is the text of all its lines, or of those before the one
 -- that stopped the run, and the machine is in the state after their calls. No line after the last that may be is looked at.

@@ -1,72 +1,6 @@
-//! What can be wrong with a machine file, a trace line and a run.
-ghost use Rattle.std.specs.Prelude.{Some};
-ghost use Rattle.boot_trace.specs.FaultText.{field_name};
-
-use std::alloc::{AllocError, AllocFailed};
-use std::fmt;
+//! What can end a run before its trace does.
 use thiserror::Error;
-
-/// A field of a member of a machine file's memory list.
-#[derive(Clone, Copy, Debug, PartialEq, Eq)]
-pub enum MemberField {
-    Type,
-    Start,
-    Pages,
-    Attributes,
-}
-
-impl fmt::Display for MemberField {
-    ghost output = { λ field. Some (field_name field) };
-
-    fn fmt<W: fmt::Write>(&self, f: &mut fmt::Formatter<W>) -> fmt::Result {
-        f.write_str(match self {
-            MemberField::Type => "type",
-            MemberField::Start => "start",
-            MemberField::Pages => "pages",
-            MemberField::Attributes => "attributes",
-        })
-    }
-}
-
-/// Why a machine file is refused, the first cause in this order.
-#[derive(Clone, Copy, Debug, PartialEq, Eq, Error)]
-pub enum MachineFault {
-    #[error("machine: too long")]
-    TooLong,
-    #[error("machine: not JSON")]
-    NotJson,
-    #[error("machine: no memory list")]
-    NoMemoryList,
-    #[error("machine: too many descriptors")]
-    TooManyDescriptors,
-    /// The member at a place of the list, from 0 on, and its first field that is missing, of
-    /// another kind or out of its range.
-    #[error("machine: descriptor {number}: {field}")]
-    Descriptor { number: usize, field: MemberField },
-    #[error("machine: descriptors overlap")]
-    Overlap,
-    #[error("out of memory")]
-    OutOfMemory,
-}
-
-/// Why a trace line is refused, the first cause in this order.
-#[derive(Clone, Copy, Debug, PartialEq, Eq, Error)]
-pub enum TraceFault {
-    #[error("long")]
-    Long,
-    #[error("verb")]
-    Verb,
-    #[error("words")]
-    Words,
-    #[error("number")]
-    Number,
-    #[error("guid")]
-    Guid,
-    #[error("hex")]
-    Hex,
-    #[error("out of memory")]
-    OutOfMemory,
-}
+use trace_lines::TraceFault;
 
 /// Why a run stopped before the end of its trace.
 #[derive(Clone, Copy, Debug, PartialEq, Eq, Error)]
@@ -84,37 +18,4 @@ pub enum RunFault {
     NoCallsLeft,
     #[error("out of memory")]
     OutOfMemory,
-}
-
-impl From<AllocError> for TraceFault {
-    ghost use Rattle.std.specs.Prelude.{◌≡◌};
-    ghost use Rattle.boot_trace.specs.declared.faults.TraceFault.TheVariants.{OutOfMemory};
-
-    ghost from_gives = { λ _ e. e ≡ OutOfMemory };
-
-    fn from(_error: AllocError) -> TraceFault {
-        TraceFault::OutOfMemory
-    }
-}
-
-impl From<AllocError> for MachineFault {
-    ghost use Rattle.std.specs.Prelude.{◌≡◌};
-    ghost use Rattle.boot_trace.specs.declared.faults.MachineFault.TheVariants.{OutOfMemory};
-
-    ghost from_gives = { λ _ e. e ≡ OutOfMemory };
-
-    fn from(_error: AllocError) -> MachineFault {
-        MachineFault::OutOfMemory
-    }
-}
-
-impl<T: Drop> From<AllocFailed<T>> for MachineFault {
-    ghost use Rattle.std.specs.Prelude.{◌≡◌};
-    ghost use Rattle.boot_trace.specs.declared.faults.MachineFault.TheVariants.{OutOfMemory};
-
-    ghost from_gives = { λ _ e. e ≡ OutOfMemory };
-
-    fn from(_error: AllocFailed<T>) -> MachineFault {
-        MachineFault::OutOfMemory
-    }
 }

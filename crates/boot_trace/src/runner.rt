@@ -1,16 +1,15 @@
 //! A trace, run.
 ghost use Rattle.std.specs.Prelude.{◌≡◌, [], Ok, Some, OnOk, IfErr, IfSome, string_bytes};
-ghost use Rattle.boot_trace.specs.TraceLine.{line_of};
+ghost use Rattle.trace_lines.specs.TraceLine.{line_of};
 ghost use Rattle.boot_trace.specs.TraceRuns.{Prints, StopsAt, Ends};
 
-use crate::calls::{TraceCall, read_call};
-use crate::certified::{block_start, print_call};
-use crate::faults::{RunFault, TraceFault};
-use crate::replies::print_list;
+use crate::faults::RunFault;
 use boot_core::{Call, Core};
+use reply_texts::{map_before, print_call, print_list};
 use std::alloc::Allocator;
 use std::io::{BufReader, Read, Write};
 use text_lines::{LineFault, next_byte, next_line, write_text};
+use trace_lines::{TraceCall, TraceFault, read_call};
 
 /// The most lines of a trace.
 pub const MOST_LINES: u64 = 1_000_000;
@@ -96,11 +95,11 @@ fn make_call<A: Allocator + Copy>(
     if core.calls_left() == 0 {
         return Err(RunFault::NoCallsLeft);
     }
-    let Ok(start) = block_start(alloc, core, call, certify) else {
+    let Ok(before) = map_before(alloc, core, call, certify) else {
         return Err(RunFault::OutOfMemory);
     };
     let reply = core.call(call);
-    match print_call(text, number, core, &start, &reply) {
+    match print_call(alloc, text, number, &before, call, &reply) {
         Ok(()) => Ok(()),
         Err(_) => Err(RunFault::OutOfMemory),
     }

@@ -6,6 +6,10 @@ use Rattle.page_services.specs.PageRules.{Book}
 use Rattle.map_keys.specs.declared.memory_maps.MapReply.{MapReply}
 use Rattle.map_keys.specs.Records.{record_size, records}
 
+-- the version of the memory descriptors
+abbrev pub descriptor_version : ℕ
+descriptor_version = 1
+
 -- the bytes that the records of the book's memory map take
 abbrev pub map_size : Book → ℕ
 map_size b = record_size * length (memory_map b.memory)
@@ -15,7 +19,7 @@ map_size b = record_size * length (memory_map b.memory)
 abbrev pub map_reply : Book → ℕ → MapReply
 map_reply b room =
     if nat_le (map_size b) room
-    then record { status = Success; size = map_size b; key = b.key; descriptor_size = record_size; version = 1 }
+    then record { status = Success; size = map_size b; key = b.key; descriptor_size = record_size; version = descriptor_version }
     else record { status = BufferTooSmall; size = map_size b; key = 0; descriptor_size = 0; version = 0 }
 
 -- The buffer after that: the records of the map in its front and the rest as it was; all of it as it was where it is too small.

@@ -71,7 +71,7 @@ fn read_record(bytes: &[u8]) -> Option<Descriptor>
 /// The entries whose records some bytes are, in order. They need not make a memory map.
 ///
 /// `None` unless the bytes are records of 48 bytes, each with its padding and its VirtualStart 0,
-/// an aligned start, and at least one page and none past the last. `Err` on want of memory.
+/// an aligned start, and at least one page and none past the last. `Err` if memory runs out.
 pub fn read_descriptors<A: Allocator>(
     alloc: A,
     bytes: &[u8],

@@ -5,4 +5,4 @@ mod page_book;
 #[cfg(test)]
 mod tests;
 
-pub use page_book::{PageBook, Placed};
+pub use page_book::{PageBook, Placed, placement_request};

@@ -4,7 +4,7 @@ ghost use Rattle.page_ranges.specs.declared.ranges.Owner.TheVariants.{Given, Poo
 ghost use Rattle.page_ranges.specs.MemoryTypes.{conventional, is_bad_type, page_count};
 ghost use Rattle.page_ranges.specs.Memory.{IsPresent, IsOwnedBy, AllInRange};
 ghost use Rattle.placement_certificate.specs.Placement.{IsProperRequest};
-ghost use Rattle.page_services.specs.PageRules.{AllocatesPages, IsBestChoice, PlacesPages, FreesPages, TakesForPool, GivesFromPool, changed_book, fixed_address};
+ghost use Rattle.page_services.specs.PageRules.{AllocatesPages, IsBestChoice, PlacesPages, FreesPages, TakesForPool, GivesFromPool, changed_book, fixed_address, new_book, placement_request};
 
 use descriptor_table::RunTable;
 use page_ranges::{
@@ -15,11 +15,32 @@ use placement_chooser::choose;
 use std::alloc::{Allocator, Global};
 use std::marker::Model;
 
+/// AllocateAnyPages: the range may lie anywhere.
+const ALLOCATE_ANY_PAGES: u32 = 0;
+
 /// AllocateMaxAddress: the range ends by the byte at the address of the request.
 const ALLOCATE_MAX_ADDRESS: u32 = 1;
 
 /// AllocateAddress: the range starts at the address of the request.
 const ALLOCATE_ADDRESS: u32 = 2;
+
+/// What AllocatePages of the kind `kind` leaves the service to place: so many `pages` of the type
+/// `mtype`, anywhere (0) or up to the byte at the address `memory` (1). `None` for a kind that names
+/// its address.
+pub fn placement_request(kind: u32, mtype: MemoryType, pages: u64, memory: u64) -> Option<Request>
+    ensures { result ≡ placement_request kind mtype pages memory }
+{
+    let limit = match kind {
+        ALLOCATE_ANY_PAGES => PAGE_COUNT,
+        ALLOCATE_MAX_ADDRESS => pages_below(memory),
+        _ => return None,
+    };
+    Some(Request {
+        mtype,
+        pages,
+        limit,
+    })
+}
 
 /// Where pages were placed.
 #[derive(Debug, Drop)]
@@ -48,7 +69,7 @@ impl<A: Allocator> Model for PageBook<A> {
 impl<A: Allocator + Copy> PageBook<A> {
     /// The book of a memory in which no type has changed.
     pub fn new(table: RunTable<A>) -> PageBook<A>
-        ensures { result ≡ record { memory = table; key = 1 } }
+        ensures { result ≡ new_book table }
     {
         PageBook { table, key: 1 }
     }
@@ -60,7 +81,7 @@ impl<A: Allocator + Copy> PageBook<A> {
     ///
     /// INVALID_PARAMETER: another kind, a type that no request may name, or no pages. NOT_FOUND: an
     /// unaligned address, or a range there that is not all conventional. OUT_OF_RESOURCES: no place
-    /// of kind 0 or 1, or want of memory. On an `Err` the book is as it was.
+    /// of kind 0 or 1, or memory ran out. On an `Err` the book is as it was.
     pub fn allocate(
         &mut self,
         kind: u32,
@@ -78,17 +99,10 @@ impl<A: Allocator + Copy> PageBook<A> {
         if pages == 0 {
             return Err(Status::InvalidParameter);
         }
-        let limit = match kind {
-            ALLOCATE_ADDRESS => return self.place_at(mtype, pages, memory),
-            ALLOCATE_MAX_ADDRESS => pages_below(memory),
-            _ => PAGE_COUNT,
-        };
-        let request = Request {
-            mtype,
-            pages,
-            limit,
-        };
-        self.place_best(request, Owner::Pages)
+        match placement_request(kind, mtype, pages, memory) {
+            Some(request) => self.place_best(request, Owner::Pages),
+            None => self.place_at(mtype, pages, memory),
+        }
     }
 
     // Places pages at an address.
@@ -137,8 +151,8 @@ impl<A: Allocator + Copy> PageBook<A> {
     /// FreePages of so many `pages` from the address `memory` on: they are conventional again.
     ///
     /// INVALID_PARAMETER: an unaligned address, no pages, or a range past the last page. NOT_FOUND:
-    /// a page that AllocatePages did not place. OUT_OF_RESOURCES: want of memory for the table. On
-    /// an `Err` the book is as it was.
+    /// a page that AllocatePages did not place. OUT_OF_RESOURCES: memory ran out for the table. On an
+    /// `Err` the book is as it was.
     pub fn free(&mut self, memory: u64, pages: u64) -> Result<(), Status>
         requires { self.old.key < 2 ^ 62 }
         ensures { FreesPages self.old memory pages result self.new }
@@ -159,7 +173,7 @@ impl<A: Allocator + Copy> PageBook<A> {
     /// Pages of the type `mtype` for the pool: so many `pages` at the best place of all, with a certificate
     /// of that.
     ///
-    /// OUT_OF_RESOURCES: no place is permitted, or want of memory. The book is then as it was.
+    /// OUT_OF_RESOURCES: no place is permitted, or memory ran out. The book is then as it was.
     pub fn take_for_pool(&mut self, mtype: MemoryType, pages: u64) -> Result<Placed<A>, Status>
         requires key { self.old.key < 2 ^ 62 }
         requires good { is_bad_type mtype ≡ false }
@@ -176,7 +190,7 @@ impl<A: Allocator + Copy> PageBook<A> {
 
     /// Gives pages of the pool back, as those of an extent that ends: they are conventional again.
     ///
-    /// OUT_OF_RESOURCES: want of memory for the table. The book is then as it was.
+    /// OUT_OF_RESOURCES: memory ran out for the table. The book is then as it was.
     pub fn give_from_pool(&mut self, extent: PageRange) -> Result<(), Status>
         requires key { self.old.key < 2 ^ 62 }
         requires owned { AllInRange self.old.memory extent (IsOwnedBy Pool) }

@@ -1,9 +1,9 @@
 -- What is read of a machine file, and how the program ends on it.
 use Rattle.std.proofs.Common.{◌≡◌, ◌⊎◌, ℕ, ◌+◌, ◌<◌, Bool, List, ◌++◌, length, Option, Some, None, Result, Ok, Err, IfSome, refl, sym, ap, ◌∙◌, inl, inr, arith, append-nil, length-append, lt-ltb, subst}
 use Rattle.page_ranges.specs.declared.ranges.Run.{Run}
-use Rattle.boot_trace.specs.declared.faults.MachineFault.{MachineFault}
-use Rattle.boot_trace.specs.declared.faults.MachineFault.TheVariants as machine_fault
-use Rattle.boot_trace.specs.MachineText.{longest_file, file_runs, machine_of}
+use Rattle.machine_files.specs.declared.faults.MachineFault.{MachineFault}
+use Rattle.machine_files.specs.declared.faults.MachineFault.TheVariants as machine_fault
+use Rattle.machine_files.specs.MachineText.{longest_file, file_runs, machine_of}
 use Rattle.std.specs.declared.alloc.Global.{Global}
 use Rattle.boot_core.specs.Machines.{State, first_state}
 use Rattle.boot_trace.specs.declared.faults.RunFault.{RunFault}

@@ -4,9 +4,9 @@ use Rattle.std.specs.Io.KnownBytes.{Appends}
 use Rattle.std.specs.declared.alloc.Global.{Global}
 use Rattle.page_ranges.specs.declared.ranges.Run.{Run}
 use Rattle.boot_core.specs.Machines.{State, first_state}
-use Rattle.boot_trace.specs.declared.faults.MachineFault.TheVariants as machine_fault
+use Rattle.machine_files.specs.declared.faults.MachineFault.TheVariants as machine_fault
 use Rattle.boot_trace.specs.declared.faults.RunFault.{RunFault}
-use Rattle.boot_trace.specs.MachineText.{longest_file, machine_of}
+use Rattle.machine_files.specs.MachineText.{longest_file, machine_of}
 use Rattle.boot_trace.specs.TraceRuns.{Ends}
 use Rattle.program_runs.specs.declared.serve.Fault.{Fault}
 use Rattle.program_runs.specs.declared.serve.Fault.TheVariants as fault

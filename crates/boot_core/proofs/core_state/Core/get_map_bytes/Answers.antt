@@ -1,21 +1,31 @@
-use Rattle.std.proofs.Common.{◌≡◌, ◌++◌, ℕ, List, length, take, drop, sym, subst, ◌∙◌, arith}
-use Rattle.boot_core.specs.MapCalls.{AnswersMap}
-use Rattle.boot_core.proofs.MapReplies.{answers_map, written_back}
+use Rattle.std.proofs.Common.{◌≡◌, ap, sym, subst, ◌∙◌, rules}
+use Rattle.page_services.specs.PageRules.{Book}
+use Rattle.boot_core.specs.declared.calls.Reply.{Reply}
+use Rattle.boot_core.specs.Machines.{Parts, State}
+use Rattle.boot_core.specs.MapCalls.{AnswersMap, refused_map}
+use Rattle.boot_core.specs.Steps.{exited_after}
+use Rattle.boot_core.proofs.Serving.{open_rule, exited_refusal}
+use Rattle.boot_core.proofs.core_state.Core.get_map_bytes.Goals.{in-Ok, in-Err}
 use Rattle.boot_core.proofs.core_state.Core.get_map_bytes.Goals as goal
 
-pub returns-in-Ok : goal.returns-in-Ok
-returns-in-Ok g c =
+pub returns : goal.returns
+returns g c =
     let old = c.args.self.now in
-    let buffer = c.get_memory_map-reply.new.buffer in
-    let reply = c.get_memory_map-reply.result in
-    let step = c.get_memory_map-reply.ensures in
-    let room = c.as_mut_slice.ensures.len ∙ c.in-Ok.ensures.room in
-    let whole = written_back c.in-Ok.bytes.len buffer (drop (length buffer) c.in-Ok.bytes.items) (omega (arith, c.as_mut_slice.ensures.len, c.get_memory_map-reply.auto.buffer)) in
-    record {
-      answers = (
-        subst (λ (bytes : List ℕ). AnswersMap old.exited old.book c.args.size reply bytes) (sym whole) (answers_map old c.get_memory_map-reply.new.self c.args.size c.as_mut_slice.result.now buffer reply room step),
-        step.book,
-      );
-      exited = step.exited;
-      calls_left = step.calls_left;
-    }
+    let new = c.begin.new.self in
+    let begun = c.begin.ensures in
+    let book : c.self.inside.book ≡ old.parts.book = ap (λ (s : State). s.parts.book) c.self.view_is ∙ ap (λ (p : Parts). p.book) begun.parts in
+    elim c.match-begin.branch [
+      | in-Ok w ↦
+          let answers = subst (λ (b : Book). AnswersMap b c.args.size w.map_in_buffer-bytes.result.0 w.map_in_buffer-bytes.result.1.items) book w.map_in_buffer-bytes.ensures in
+          record {
+            answers = (w.map_in_buffer-bytes.result.0, w.map_in_buffer-bytes.result.1, w.result-is, open_rule old.exited old.parts new.parts _ _ c.begin.result w.in-Ok.field-0 begun.answer w.in-Ok.is (answers, begun.parts));
+            exited = begun.exited ∙ sym (ap (λ (a : Reply g.row.A.Denot). exited_after old.exited a) w.result-is);
+            calls_left = begun.counted;
+          }
+      | in-Err w ↦
+          record {
+            answers = (w.refused_map.result, w.new.result, w.result-is, exited_refusal old.exited old.parts new.parts _ _ c.begin.result w.in-Err.status begun.answer w.in-Err.is (λ e. (w.refused_map.ensures ∙ ap refused_map e, search rules)) begun.parts);
+            exited = begun.exited ∙ sym (ap (λ (a : Reply g.row.A.Denot). exited_after old.exited a) w.result-is);
+            calls_left = begun.counted;
+          }
+    ]

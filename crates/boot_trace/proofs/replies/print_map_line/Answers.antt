@@ -1,5 +1,0 @@
-use Rattle.std.proofs.Common.{append_assoc}
-use Rattle.boot_trace.proofs.replies.print_map_line.Goals as goal
-
-pub returns : goal.returns
-returns g c = simp append_assoc (rw c.name-verb.ensures at c.writeln.ensures.bytes)

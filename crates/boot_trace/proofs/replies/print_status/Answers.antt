@@ -1,5 +1,0 @@
-use Rattle.std.proofs.Common.{append_assoc}
-use Rattle.boot_trace.proofs.replies.print_status.Goals as goal
-
-pub returns : goal.returns
-returns g c = simp append_assoc (rw (c.name-verb.ensures, c.name-status.ensures) at c.writeln.ensures.bytes)

@@ -1,0 +1,4 @@
+pub mod MemberRuns
+pub mod InOrder
+pub mod FileRuns
+pub mod MachineOrder

@@ -1,0 +1,140 @@
+-- What a machine file means.
+use Rattle.std.specs.Prelude.{◌≡◌, ◌⊎◌, MatchResult, ℕ, ◌+◌, ◌/◌, ◌%◌, ◌^◌, Bool, ◌&&◌, ◌==◌, not, nat_lt, nat_le, List, [], ◌∷◌, length, codes, Option, Some, None, option_and_then, Result, Ok, Err, if◌then◌else◌, count_by}
+use Rattle.std.specs.List.{list_any}
+use Rattle.std.specs.Str.{is_utf8}
+use Rattle.serde_json.specs.Data.{Data, Items, no_items, item}
+use Rattle.serde_json.specs.Read.{read}
+use Rattle.serde_json.specs.Find.{get, as_array, as_number, as_str, as_u64}
+use Rattle.page_ranges.specs.declared.ranges.Owner.TheVariants.{Given}
+use Rattle.page_ranges.specs.declared.ranges.Run.{Run}
+use Rattle.page_ranges.specs.MemoryTypes.{page_size, page_count, conventional, has_runtime, is_machine_type}
+use Rattle.machine_files.specs.declared.faults.MachineFault.{MachineFault}
+use Rattle.machine_files.specs.declared.faults.MachineFault.TheVariants as fault
+use Rattle.machine_files.specs.declared.faults.MemberField.{MemberField}
+use Rattle.machine_files.specs.declared.faults.MemberField.TheVariants as field
+use Rattle.machine_files.specs.FaultText.{field_name}
+use Rattle.text_lines.specs.Numbers.{hexadecimal_of}
+
+-- the first fault, or the last value
+infixl 10 ◌>>=◌
+abbrev pub ◌>>=◌ : {A B E : Type 0} → Result A E → (A → Result B E) → Result B E
+(Ok x) >>= f = f x
+(Err e) >>= f = Err e
+
+-- what there is, or else the fault
+abbrev pub or_fault : {A E : Type 0} → E → Option A → Result A E
+or_fault e None = Err e
+or_fault e (Some x) = Ok x
+
+-- the number, if the test passes
+abbrev pub if_passes : (ℕ → Bool) → ℕ → Option ℕ
+if_passes test n = if test n then Some n else None
+
+-- ---- a member of the memory list
+
+-- the number at a key
+abbrev pub number_at : List ℕ → Data → Option ℕ
+number_at key d = option_and_then as_u64 (option_and_then as_number (get key d))
+
+-- the number of `0x` and digits that is the text at a key
+abbrev pub hexadecimal_at : List ℕ → Data → Option ℕ
+hexadecimal_at key d = option_and_then hexadecimal_of (option_and_then as_str (get key d))
+
+-- a type that a machine may have
+abbrev pub type_of : Data → Option ℕ
+type_of d = option_and_then (if_passes (λ t. nat_lt t (2 ^ 32) && is_machine_type t)) (number_at (field_name field.Type) d)
+
+-- the page that begins at the start
+abbrev pub first_page_of : Data → Option ℕ
+first_page_of d = option_and_then (λ start. if start % page_size == 0 then Some (start / page_size) else None) (hexadecimal_at (field_name field.Start) d)
+
+-- a number of pages, not 0, the last of which exists
+abbrev pub page_count_of : ℕ → Data → Option ℕ
+page_count_of first d = option_and_then (if_passes (λ pages. not (pages == 0) && nat_le (first + pages) page_count)) (number_at (field_name field.Pages) d)
+
+-- attributes, without RUNTIME where the type is conventional
+abbrev pub attributes_of : ℕ → Data → Option ℕ
+attributes_of t d = option_and_then (if_passes (λ attributes. not ((t == conventional) && has_runtime attributes))) (hexadecimal_at (field_name field.Attributes) d)
+
+-- The run of a member, or its first field that is missing, of another kind or out of its range. A member that is no
+-- object lacks each field.
+unfoldable pub run_of : Data → Result Run MemberField
+run_of d = do
+  t ← or_fault field.Type (type_of d)
+  first ← or_fault field.Start (first_page_of d)
+  pages ← or_fault field.Pages (page_count_of first d)
+  attributes ← or_fault field.Attributes (attributes_of t d)
+  Ok (record { range = record { first = first; pages = pages }; mtype = t; attributes = attributes; owner = Given })
+
+-- ---- the file
+
+-- a member's run, or its fault: the member's place, and the field
+abbrev pub or_descriptor : ℕ → Result Run MemberField → Result Run MachineFault
+or_descriptor n (Ok run) = Ok run
+or_descriptor n (Err f) = Err (fault.Descriptor n f)
+
+-- the runs of members, the first of which is the nth
+abbrev pub runs_from : ℕ → Items → Result (List Run) MachineFault
+runs_from n no_items = Ok []
+runs_from n (item d ds) = do
+  run ← or_descriptor n (run_of d)
+  runs ← runs_from (n + 1) ds
+  Ok (run ∷ runs)
+
+-- what JSON the bytes are
+abbrev pub json_of : List ℕ → Option Data
+json_of bytes = if is_utf8 bytes then read bytes else None
+
+abbrev pub item_count : Items → ℕ
+item_count no_items = 0
+item_count (item d ds) = item_count ds + 1
+
+-- the most bytes of a machine file
+abbrev pub longest_file : ℕ
+longest_file = 67108864
+
+-- the most members of a memory list
+abbrev pub most_descriptors : ℕ
+most_descriptors = 65536
+
+-- the runs of the memory list, in its order
+abbrev pub root_runs : Data → Result (List Run) MachineFault
+root_runs root = do
+  list ← or_fault fault.NoMemoryList (option_and_then as_array (get (codes "memory") root))
+  if nat_lt most_descriptors (item_count list) then Err fault.TooManyDescriptors else runs_from 0 list
+
+-- the runs of a file, in its order
+unfoldable pub file_runs : List ℕ → Result (List Run) MachineFault
+file_runs bytes = if nat_lt longest_file (length bytes) then Err fault.TooLong else (do
+  root ← or_fault fault.NotJson (json_of bytes)
+  root_runs root)
+
+-- ---- the machine
+
+-- the runs have a page in common
+abbrev pub shares_page : Run → Run → Bool
+shares_page r s = nat_lt r.range.first (s.range.first + s.range.pages) && nat_lt s.range.first (r.range.first + r.range.pages)
+
+-- some run has a page in common with more than one of the list, itself among them
+abbrev pub overlap : List Run → Bool
+overlap runs = list_any (λ r. nat_lt 1 (count_by (shares_page r) runs)) runs
+
+-- runs by ascending page, and one more of them
+abbrev pub with_run : Run → List Run → List Run
+with_run r [] = r ∷ []
+with_run r (s ∷ runs) = if nat_le r.range.first s.range.first then r ∷ s ∷ runs else s ∷ with_run r runs
+
+-- the runs by ascending page
+abbrev pub in_order : List Run → List Run
+in_order [] = []
+in_order (r ∷ runs) = with_run r (in_order runs)
+
+-- the machine that a file's descriptors make, whatever their order
+unfoldable pub machine_of : List ℕ → Result (List Run) MachineFault
+machine_of bytes = do
+  runs ← file_runs bytes
+  if overlap runs then Err fault.Overlap else Ok (in_order runs)
+
+-- What a function returned, seen by view, is what the definition reads, unless memory ran out.
+abbrev pub Gives : {X Y : Type 0} → (X → Y) → Result X MachineFault → Result Y MachineFault → Type 0
+Gives view result reading = MatchResult result (λ x. reading ≡ Ok (view x)) (λ e. (e ≡ fault.OutOfMemory) ⊎ (reading ≡ Err e))

@@ -1,0 +1,11 @@
+//! Machine files.
+#![tactic(auto)]
+
+mod faults;
+mod laws;
+mod machine_file;
+mod members;
+
+pub use faults::{MachineFault, MemberField};
+pub use laws::machine_law;
+pub use machine_file::{MachineFile, read_machine};

@@ -1,0 +1,36 @@
+-- What is printed of a call, from the map that was kept before it.
+use Rattle.std.proofs.Common.{◌≡◌, ℕ, Bool, true, false, cond, List, [], ◌++◌, Option, Some, None, refl, ap, ◌∙◌}
+use Rattle.std.specs.Option.{is_some, option_and_then, option_map}
+use Rattle.page_ranges.specs.declared.ranges.Descriptor.{Descriptor}
+use Rattle.page_ranges.specs.Memory.{Page}
+use Rattle.page_ranges.specs.MemoryMap.{memory_map}
+use Rattle.placement_certificate.specs.declared.certificates.Request.{Request}
+use Rattle.placement_certificate.specs.Certificates.{CertificateValue}
+use Rattle.boot_core.specs.declared.calls.Call.{Call}
+use Rattle.boot_core.specs.declared.calls.Reply.{Reply}
+use Rattle.boot_core.specs.Certified.{request_for, certificate_in, certified}
+use Rattle.reply_texts.specs.PrintedText.{reply_text}
+use Rattle.reply_texts.specs.CallText.{CarriesEntries, PrintsCall, certificate_text, map_before, block_after}
+
+-- a reply to a call without a request carries no certificate for one
+kept : (r : Option Request) (c : Option CertificateValue) (entries : List Descriptor) → block_after (cond (is_some r) (Some entries) None) (option_and_then (λ r. option_map (λ c. (r, c)) c) r) ≡ certificate_text entries (option_and_then (λ r. option_map (λ c. (r, c)) c) r)
+kept None c entries = refl
+kept (Some r) c entries = refl
+
+-- the block after the map that was kept is that of the certificate
+pub block_kept : {A : Type 0} (certify : Bool) (entries : List Descriptor) (c : Call) (answer : Reply A) → block_after (map_before certify entries c) (certified c answer) ≡ cond certify (certificate_text entries (certified c answer)) []
+block_kept false entries c answer = refl
+block_kept true entries c answer = kept (request_for c) (certificate_in answer) entries
+
+-- the lines of the reply and the block after them, after no other text, are what is printed of the call
+pub prints_call : {A : Type 0} (certify : Bool) (number : ℕ) (before : List Page) (c : Call) (answer : Reply A) (front text : List ℕ) (map : Option (List Descriptor)) (entries : List Descriptor) → CarriesEntries answer entries → front ≡ [] → map ≡ map_before certify (memory_map before) c → text ≡ front ++ (reply_text number entries answer ++ block_after map (certified c answer)) → PrintsCall certify number before c answer text
+prints_call certify number before c answer front text map entries carries none kept e =
+    let line = reply_text number entries answer in
+    let told = certified c answer in (
+      entries,
+      carries,
+      e
+          ∙ ap (λ (f : List ℕ). f ++ (line ++ block_after map told)) none
+          ∙ ap (λ (m : Option (List Descriptor)). line ++ block_after m told) kept
+          ∙ ap (λ (block : List ℕ). line ++ block) (block_kept certify (memory_map before) c answer),
+    )

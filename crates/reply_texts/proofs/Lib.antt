@@ -1,0 +1,2 @@
+pub mod CallTexts
+pub mod MapEntries

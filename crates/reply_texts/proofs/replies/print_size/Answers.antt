@@ -1,0 +1,5 @@
+use Rattle.std.proofs.Common.{append_assoc}
+use Rattle.reply_texts.proofs.replies.print_size.Goals as goal
+
+pub returns : goal.returns
+returns g c = simp append_assoc (rw c.name-verb.ensures at c.writeln.ensures.bytes)

@@ -1,0 +1,46 @@
+-- What is printed of a call.
+use Rattle.std.specs.Prelude.{◌≡◌, ◌⊎◌, ℕ, Bool, true, false, List, [], ◌++◌, Option, Some, None, if◌then◌else◌}
+use Rattle.page_ranges.specs.declared.ranges.Descriptor.{Descriptor}
+use Rattle.page_ranges.specs.Memory.{Page}
+use Rattle.page_ranges.specs.MemoryMap.{memory_map}
+use Rattle.placement_certificate.specs.declared.certificates.Request.{Request}
+use Rattle.placement_certificate.specs.Certificates.{CertificateValue}
+use Rattle.map_keys.specs.Records.{ReadsRecords}
+use Rattle.certificate_blocks.specs.BlockText.{block_text}
+use Rattle.boot_core.specs.declared.calls.Call.{Call}
+use Rattle.boot_core.specs.declared.calls.Reply.{Reply}
+use Rattle.boot_core.specs.declared.calls.Reply.TheVariants as reply
+use Rattle.boot_core.specs.Certified.{certified, may_be_certified}
+use Rattle.reply_texts.specs.PrintedText.{reply_text}
+
+-- the entries whose records the bytes are, none where they are no records
+abbrev pub HoldsEntries : List ℕ → List Descriptor → Type 0
+HoldsEntries bytes entries = ReadsRecords bytes (Some entries) ⊎ (ReadsRecords bytes None × (entries ≡ []))
+
+-- the entries of the memory map that a reply carries: those that its bytes hold
+abbrev pub CarriesEntries : {A : Type 0} → Reply A → List Descriptor → Type 0
+CarriesEntries (reply.GetMemoryMap told bytes) entries = HoldsEntries bytes.items entries
+CarriesEntries answer entries = entries ≡ []
+
+-- the block of a certificate with the request that it is for and the memory map before the call
+abbrev pub certificate_text : List Descriptor → Option (Request × CertificateValue) → List ℕ
+certificate_text entries (Some (r, c)) = block_text entries r c
+certificate_text entries None = []
+
+-- What is printed of a call with this reply, with the memory before it: the reply's lines and, where certificates are asked for,
+-- the block of the one that it carries.
+abbrev pub PrintsCall : {A : Type 0} → Bool → ℕ → List Page → Call → Reply A → List ℕ → Type 0
+PrintsCall certify number before c answer text =
+    (entries : List Descriptor) × CarriesEntries answer entries × (text ≡ reply_text number entries answer ++ (if certify then certificate_text (memory_map before) (certified c answer) else []))
+
+-- ---- what is kept for a block before the call
+
+-- the memory map, where certificates are asked for and the call's reply may carry one
+abbrev pub map_before : Bool → List Descriptor → Call → Option (List Descriptor)
+map_before true entries c = if may_be_certified c then Some entries else None
+map_before false entries c = None
+
+-- the block, where the map was kept
+abbrev pub block_after : Option (List Descriptor) → Option (Request × CertificateValue) → List ℕ
+block_after (Some entries) told = certificate_text entries told
+block_after None told = []

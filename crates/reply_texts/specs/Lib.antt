@@ -1,0 +1,3 @@
+pub mod PrintedText
+pub mod CallText
+pub mod Laws

@@ -1,0 +1,59 @@
+-- What is printed of a trace line.
+use Rattle.std.specs.Prelude.{ℕ, ◌*◌, List, ◌++◌, length, flat_map, codes, Ok, Err}
+use Rattle.std.specs.Fmt.{decimal}
+use Rattle.page_ranges.specs.declared.ranges.Descriptor.{Descriptor}
+use Rattle.page_ranges.specs.MemoryTypes.{page_size}
+use Rattle.page_ranges.specs.declared.statuses.Status.TheVariants.{Success, BufferTooSmall}
+use Rattle.page_ranges.specs.declared.statuses.Status.{Status}
+use Rattle.page_ranges.specs.Statuses.{name_of as status_of}
+use Rattle.map_keys.specs.declared.memory_maps.MapReply.{MapReply}
+use Rattle.boot_core.specs.declared.calls.Reply.{Reply}
+use Rattle.boot_core.specs.declared.calls.Reply.TheVariants as reply
+use Rattle.trace_verbs.specs.declared.verbs.Verb.{Verb}
+use Rattle.trace_verbs.specs.declared.verbs.Verb.TheVariants as verb
+use Rattle.trace_verbs.specs.Verbs.{name_of}
+use Rattle.text_lines.specs.Printed.{hexadecimal, space, line_feed}
+
+-- the start of each reply: the line number and the verb
+abbrev pub reply_start : ℕ → Verb → List ℕ
+reply_start number v = decimal number ++ space ++ name_of v
+
+-- the line of a reply without fields
+abbrev pub status_line : ℕ → Verb → List ℕ → List ℕ
+status_line number v status = reply_start number v ++ space ++ status ++ line_feed
+
+-- the line of a call that was given too small a buffer: the size needed
+abbrev pub size_line : ℕ → Verb → ℕ → List ℕ
+size_line number v size = reply_start number v ++ codes " BUFFER_TOO_SMALL size=" ++ decimal size ++ line_feed
+
+-- the line of a call that succeeded with a value
+abbrev pub value_line : ℕ → Verb → List ℕ → ℕ → List ℕ
+value_line number v name value = reply_start number v ++ codes " SUCCESS " ++ name ++ codes "=" ++ hexadecimal value ++ line_feed
+
+-- the line of an entry of the memory map: two spaces, and its type, address, pages and attributes
+abbrev pub descriptor_line : Descriptor → List ℕ
+descriptor_line d = codes "  " ++ decimal d.mtype ++ space ++ hexadecimal (d.first * page_size) ++ space ++ decimal d.pages ++ space ++ hexadecimal d.attributes ++ line_feed
+
+-- the line of a memory map that was written
+abbrev pub map_line : ℕ → MapReply → List ℕ
+map_line number told = reply_start number verb.Map ++ codes " SUCCESS size=" ++ decimal told.size ++ codes " key=" ++ decimal told.key ++ codes " descriptor-size=" ++ decimal told.descriptor_size ++ codes " version=" ++ decimal told.version ++ line_feed
+
+-- What is printed of a GetMemoryMap with this reply, of this status: on success its line and those of the entries.
+abbrev pub map_text : ℕ → List Descriptor → MapReply → Status → List ℕ
+map_text number entries told Success = map_line number told ++ flat_map descriptor_line entries
+map_text number entries told BufferTooSmall = size_line number verb.Map told.size
+map_text number entries told status = status_line number verb.Map (status_of status)
+
+-- what is printed of a reply that carries these entries
+abbrev pub reply_text : {A : Type 0} → ℕ → List Descriptor → Reply A → List ℕ
+reply_text number entries (reply.AllocatePages (Ok placed)) = value_line number verb.Pages (codes "address") placed.address
+reply_text number entries (reply.AllocatePages (Err status)) = status_line number verb.Pages (status_of status)
+reply_text number entries (reply.FreePages (Ok done)) = status_line number verb.FreePages (status_of Success)
+reply_text number entries (reply.FreePages (Err status)) = status_line number verb.FreePages (status_of status)
+reply_text number entries (reply.GetMemoryMap told bytes) = map_text number entries told told.status
+reply_text number entries (reply.ExitBootServices (Ok done)) = status_line number verb.Exit (status_of Success)
+reply_text number entries (reply.ExitBootServices (Err status)) = status_line number verb.Exit (status_of status)
+
+-- what is printed of a listing of these entries
+abbrev pub list_text : ℕ → List Descriptor → List ℕ
+list_text number entries = reply_start number verb.List ++ codes " descriptors=" ++ decimal (length entries) ++ line_feed ++ flat_map descriptor_line entries

@@ -1,0 +1,171 @@
+//! The lines of replies.
+ghost use Rattle.std.specs.Prelude.{◌≡◌, ◌++◌, ◌<◌, IfOk, OnOk, flat_map, string_bytes};
+ghost use Rattle.page_ranges.specs.MemoryTypes.{page_count};
+ghost use Rattle.std.specs.List.{AllByRecursion};
+ghost use Rattle.reply_texts.specs.PrintedText.{value_line, reply_text, status_line, size_line, map_line, map_text, descriptor_line};
+ghost use Rattle.reply_texts.specs.CallText.{CarriesEntries, HoldsEntries};
+ghost use Rattle.map_keys.specs.Records.{IsRecordEntry};
+ghost use Rattle.page_ranges.specs.Statuses.{name_of};
+
+use boot_core::Reply;
+use map_keys::{MapReply, read_descriptors};
+use page_ranges::{Descriptor, PAGE_SIZE, Status};
+use std::alloc::{AllocError, Allocator};
+use trace_verbs::Verb;
+
+/// The entries whose records the bytes are; none where they are no records.
+fn entries_in<A: Allocator + Copy>(alloc: A, bytes: &[u8]) -> Result<Vec<Descriptor, A>, AllocError>
+    ensures holds { IfOk result (λ entries. HoldsEntries bytes.now entries.items) }
+    ensures fit { IfOk result (λ entries. AllByRecursion IsRecordEntry entries.items) }
+{
+    match read_descriptors(alloc, bytes)? {
+        Some(entries) => Ok(entries),
+        None => Ok(Vec::new(alloc)),
+    }
+}
+
+/// The entries of the memory map that a reply carries.
+pub fn carried_entries<A: Allocator + Copy>(
+    alloc: A,
+    reply: &Reply<A>,
+) -> Result<Vec<Descriptor, A>, AllocError>
+    ensures carried { IfOk result (λ entries. CarriesEntries reply.now entries.items) }
+    ensures fit { IfOk result (λ entries. AllByRecursion IsRecordEntry entries.items) }
+{
+    match reply {
+        Reply::GetMemoryMap { bytes, .. } => entries_in(alloc, bytes.as_slice()),
+        _ => Ok(Vec::new(alloc)),
+    }
+}
+
+/// Appends the line of a reply, and of a reply with the memory map the lines of its entries.
+pub fn print_reply<A: Allocator>(
+    text: &mut String<A>,
+    number: u64,
+    entries: &[Descriptor],
+    reply: &Reply<A>,
+) -> Result<(), AllocError>
+    requires { AllByRecursion IsRecordEntry entries.now }
+    ensures { OnOk result (string_bytes text.new ≡ string_bytes text.old ++ reply_text number entries.now reply.now) }
+{
+    match reply {
+        Reply::AllocatePages(Ok(placed)) => {
+            print_value(text, number, Verb::Pages, "address", placed.address)
+        }
+        Reply::AllocatePages(Err(status)) => print_status(text, number, Verb::Pages, *status),
+        Reply::FreePages(Ok(())) => print_status(text, number, Verb::FreePages, Status::Success),
+        Reply::FreePages(Err(status)) => print_status(text, number, Verb::FreePages, *status),
+        Reply::GetMemoryMap { reply, .. } => print_map(text, number, entries, reply),
+        Reply::ExitBootServices(Ok(())) => print_status(text, number, Verb::Exit, Status::Success),
+        Reply::ExitBootServices(Err(status)) => print_status(text, number, Verb::Exit, *status),
+    }
+}
+
+/// Appends the line of a call that succeeded with a value.
+fn print_value<A: Allocator>(
+    text: &mut String<A>,
+    number: u64,
+    verb: Verb,
+    name: &str,
+    value: u64,
+) -> Result<(), AllocError>
+    ensures { OnOk result (string_bytes text.new ≡ string_bytes text.old ++ value_line number verb name.now value) }
+{
+    let verb = verb.name();
+    writeln!(text, "{number} {verb} SUCCESS {name}=0x{value:x}")
+}
+
+/// Appends the line of a reply without fields.
+fn print_status<A: Allocator>(
+    text: &mut String<A>,
+    number: u64,
+    verb: Verb,
+    status: Status,
+) -> Result<(), AllocError>
+    ensures { OnOk result (string_bytes text.new ≡ string_bytes text.old ++ status_line number verb (name_of status)) }
+{
+    let verb = verb.name();
+    let status = status.name();
+    writeln!(text, "{number} {verb} {status}")
+}
+
+/// Appends the lines of a reply of GetMemoryMap.
+fn print_map<A: Allocator>(
+    text: &mut String<A>,
+    number: u64,
+    entries: &[Descriptor],
+    reply: &MapReply,
+) -> Result<(), AllocError>
+    requires { AllByRecursion IsRecordEntry entries.now }
+    ensures { OnOk result (string_bytes text.new ≡ string_bytes text.old ++ map_text number entries.now reply.now reply.now.status) }
+{
+    match reply.status {
+        Status::Success => {
+            print_map_line(text, number, reply)?;
+            print_entries(text, entries)
+        }
+        Status::BufferTooSmall => print_size(text, number, Verb::Map, reply.size),
+        status => print_status(text, number, Verb::Map, status),
+    }
+}
+
+/// Appends the line of a memory map that was written.
+fn print_map_line<A: Allocator>(
+    text: &mut String<A>,
+    number: u64,
+    reply: &MapReply,
+) -> Result<(), AllocError>
+    ensures { OnOk result (string_bytes text.new ≡ string_bytes text.old ++ map_line number reply.now) }
+{
+    let verb = Verb::Map.name();
+    let size = reply.size;
+    let key = reply.key;
+    let record = reply.descriptor_size;
+    let version = reply.version;
+    writeln!(
+        text,
+        "{number} {verb} SUCCESS size={size} key={key} descriptor-size={record} version={version}"
+    )
+}
+
+/// Appends the line of a call that was given too small a buffer.
+fn print_size<A: Allocator>(
+    text: &mut String<A>,
+    number: u64,
+    verb: Verb,
+    size: u64,
+) -> Result<(), AllocError>
+    ensures { OnOk result (string_bytes text.new ≡ string_bytes text.old ++ size_line number verb size) }
+{
+    let verb = verb.name();
+    writeln!(text, "{number} {verb} BUFFER_TOO_SMALL size={size}")
+}
+
+/// Appends the lines of entries of the memory map.
+fn print_entries<A: Allocator>(
+    text: &mut String<A>,
+    entries: &[Descriptor],
+) -> Result<(), AllocError>
+    requires { AllByRecursion IsRecordEntry entries.now }
+    ensures { OnOk result (string_bytes text.new ≡ string_bytes text.old ++ flat_map descriptor_line entries.now) }
+{
+    for entry in entries {
+        print_descriptor(text, entry)?;
+    }
+    Ok(())
+}
+
+/// Appends the line of an entry of the memory map.
+pub fn print_descriptor<A: Allocator>(
+    text: &mut String<A>,
+    entry: &Descriptor,
+) -> Result<(), AllocError>
+    requires { entry.now.first < page_count }
+    ensures { OnOk result (string_bytes text.new ≡ string_bytes text.old ++ descriptor_line entry.now) }
+{
+    let mtype = entry.mtype.number();
+    let address = entry.first * PAGE_SIZE;
+    let pages = entry.pages;
+    let attributes = entry.attributes;
+    writeln!(text, "  {mtype} 0x{address:x} {pages} 0x{attributes:x}")
+}

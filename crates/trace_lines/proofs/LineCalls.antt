@@ -1,0 +1,95 @@
+-- The calls that lines ask for.
+use Rattle.std.proofs.Common.{◌≡◌, ℕ, ◌<◌, ◌^◌, Bool, true, false, cond, nat_lt, nat_eq, List, [], ◌∷◌, length, codes, Option, Some, None, Result, Ok, Err, refl, subst}
+use Rattle.std.proofs.lemmas.Bool.{ltb-true}
+use Rattle.std.specs.Io.BufRead.{strip_last}
+use Rattle.std.specs.List.{starts_with}
+use Rattle.boot_core.specs.declared.calls.Call.{Call}
+use Rattle.boot_core.specs.declared.calls.Call.TheVariants as call
+use Rattle.boot_core.specs.Laws.{NamesTypes}
+use Rattle.text_lines.specs.Lines.{longest_line}
+use Rattle.text_lines.specs.Words.{words_of}
+use Rattle.trace_verbs.specs.declared.verbs.Verb.{Verb}
+use Rattle.trace_verbs.specs.declared.verbs.Verb.TheVariants as verb
+use Rattle.trace_verbs.specs.Verbs.{verb_named}
+use Rattle.trace_lines.specs.declared.faults.TraceFault.{TraceFault}
+use Rattle.trace_lines.specs.declared.faults.TraceFault.TheVariants as fault
+use Rattle.trace_lines.specs.declared.lines.TraceCall.{TraceCall}
+use Rattle.trace_lines.specs.declared.lines.TraceCall.TheVariants as trace_call
+use Rattle.trace_lines.specs.TraceLine.{◌>>=◌, or_fault, u64_of, u32_of, buffer_size_of, call_of, call_of_words, line_of}
+
+bind_ok : {A B : Type 0} (r : Result A TraceFault) (f : A → Result B TraceFault) (y : B) → (r >>= f) ≡ Ok y → (x : A) × (r ≡ Ok x) × (f x ≡ Ok y)
+bind_ok (Ok x) f y e = (x, refl, e)
+bind_ok (Err g) f y e = absurd (cc)
+
+abbrev fine : {A : Type 0} → A → Result A TraceFault
+fine x = Ok x
+
+checked : (b : Bool) (n t : ℕ) → cond b (fine n) (Err fault.Number) ≡ Ok t → (b ≡ true) × (n ≡ t)
+checked true n t e = (refl, cc)
+checked false n t e = absurd (cc)
+
+u32_below : (word : List ℕ) (t : ℕ) → u32_of word ≡ Ok t → t < 2 ^ 32
+u32_below word t e =
+    let (n, ne, e1) = bind_ok (u64_of word) (λ n. cond (nat_lt n (2 ^ 32)) (Ok n) (Err fault.Number)) t e in
+    let (below, same) = checked (nat_lt n (2 ^ 32)) n t e1 in
+    subst (λ (m : ℕ). m < 2 ^ 32) same (ltb-true n (2 ^ 32) below)
+
+abbrev Asked : Type 0
+Asked = Result TraceCall TraceFault
+
+abbrev with_pages : List ℕ → ℕ → ℕ → ℕ → Asked
+with_pages memory k t p = u64_of memory >>= λ m. Ok (trace_call.Service (call.AllocatePages k t p m))
+
+abbrev with_type : List ℕ → List ℕ → ℕ → ℕ → Asked
+with_type pages memory k t = u64_of pages >>= with_pages memory k t
+
+abbrev with_kind : List ℕ → List ℕ → List ℕ → ℕ → Asked
+with_kind mtype pages memory k = u32_of mtype >>= with_type pages memory k
+
+-- the call that a verb asks for with its words names no type of more than 32 bits
+of_verb : (v : Verb) (words : List (List ℕ)) (c : Call) → call_of v words ≡ Ok (trace_call.Service c) → NamesTypes c
+of_verb verb.Pages (kind ∷ mtype ∷ pages ∷ memory ∷ []) c e =
+    let (k, ke, e1) = bind_ok (u32_of kind) (with_kind mtype pages memory) _ e in
+    let (t, te, e2) = bind_ok (u32_of mtype) (with_type pages memory k) _ e1 in
+    let (p, pe, e3) = bind_ok (u64_of pages) (with_pages memory k t) _ e2 in
+    let (m, me, e4) = bind_ok (u64_of memory) (λ m. Ok (trace_call.Service (call.AllocatePages k t p m))) _ e3 in
+    let same : call.AllocatePages k t p m ≡ c = cc in
+    subst NamesTypes same (u32_below mtype t te)
+of_verb verb.FreePages (memory ∷ pages ∷ []) c e =
+    let (m, me, e1) = bind_ok (u64_of memory) (λ m. u64_of pages >>= λ p. Ok (trace_call.Service (call.FreePages m p))) _ e in
+    let (p, pe, e2) = bind_ok (u64_of pages) (λ p. Ok (trace_call.Service (call.FreePages m p))) _ e1 in
+    let same : call.FreePages m p ≡ c = cc in
+    subst NamesTypes same tt
+of_verb verb.Map (size ∷ []) c e =
+    let (n, ne, e1) = bind_ok (buffer_size_of size) (λ n. Ok (trace_call.Service (call.GetMemoryMap n))) _ e in
+    let same : call.GetMemoryMap n ≡ c = cc in
+    subst NamesTypes same tt
+of_verb verb.Exit (key ∷ []) c e =
+    let (k, ke, e1) = bind_ok (u64_of key) (λ k. Ok (trace_call.Service (call.ExitBootServices k))) _ e in
+    let same : call.ExitBootServices k ≡ c = cc in
+    subst NamesTypes same tt
+of_verb verb.List [] c e = absurd (cc)
+of_verb verb.List (word ∷ words) c e = absurd (cc)
+of_verb v words c e = absurd (cc)
+
+some_call : (asked : TraceCall) (c : Call) → fine (Some asked) ≡ Ok (Some (trace_call.Service c)) → asked ≡ trace_call.Service c
+some_call asked c e = cc
+
+not_skipped : (b : Bool) (r : Result (Option TraceCall) TraceFault) (t : TraceCall) → cond b (Ok None) r ≡ Ok (Some t) → r ≡ Ok (Some t)
+not_skipped true r t e = absurd (cc)
+not_skipped false r t e = e
+
+of_words : (words : List (List ℕ)) (c : Call) → call_of_words words ≡ Ok (Some (trace_call.Service c)) → NamesTypes c
+of_words [] c e = absurd (cc)
+of_words (name ∷ parameters) c e =
+    let e1 = not_skipped (starts_with nat_eq name (codes "#")) (or_fault fault.Verb (verb_named name) >>= λ v. call_of v parameters >>= λ asked. Ok (Some asked)) (trace_call.Service c) e in
+    let (v, ve, e2) = bind_ok (or_fault fault.Verb (verb_named name)) (λ v. call_of v parameters >>= λ asked. Ok (Some asked)) _ e1 in
+    let (asked, ae, e3) = bind_ok (call_of v parameters) (λ asked. Ok (Some asked)) _ e2 in
+    of_verb v parameters c (subst (λ (a : TraceCall). call_of v parameters ≡ Ok a) (some_call asked c e3) ae)
+
+not_long : (b : Bool) (r : Result (Option TraceCall) TraceFault) (t : TraceCall) → cond b (Err fault.Long) r ≡ Ok (Some t) → r ≡ Ok (Some t)
+not_long true r t e = absurd (cc)
+not_long false r t e = e
+
+pub named_types : (line : List ℕ) (c : Call) → line_of line ≡ Ok (Some (trace_call.Service c)) → NamesTypes c
+named_types line c e = of_words (words_of (strip_last 13 line)) c (not_long (nat_lt longest_line (length line)) (call_of_words (words_of (strip_last 13 line))) (trace_call.Service c) e)

@@ -1,0 +1,2 @@
+pub mod TraceLine
+pub mod Laws

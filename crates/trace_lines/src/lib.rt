@@ -1,0 +1,10 @@
+//! Trace lines as calls.
+#![tactic(auto)]
+
+mod faults;
+mod laws;
+mod lines;
+
+pub use faults::TraceFault;
+pub use laws::named_types_law;
+pub use lines::{TraceCall, read_call};

@@ -1,0 +1,55 @@
+//! Verbs and how they are written.
+ghost use Rattle.std.specs.Prelude.{◌≡◌, find};
+ghost use Rattle.std.specs.Str.{bytes_eq};
+ghost use Rattle.trace_verbs.specs.Verbs.{name_of, verb_named};
+
+/// A verb.
+#[derive(Clone, Copy, Debug, PartialEq, Eq)]
+pub enum Verb {
+    Pages,
+    FreePages,
+    Map,
+    Exit,
+    List,
+}
+
+/// All verbs.
+const VERBS: [Verb; 5] = [
+    Verb::Pages,
+    Verb::FreePages,
+    Verb::Map,
+    Verb::Exit,
+    Verb::List,
+];
+
+impl Verb {
+    /// How the verb is written.
+    pub fn name(self) -> &'static str
+        ensures { result.now ≡ name_of self }
+    {
+        match self {
+            Verb::Pages => "pages",
+            Verb::FreePages => "free-pages",
+            Verb::Map => "map",
+            Verb::Exit => "exit",
+            Verb::List => "list",
+        }
+    }
+}
+
+/// The verb that is written so.
+pub fn verb_named(name: &[u8]) -> Option<Verb>
+    ensures { result ≡ verb_named name.now }
+{
+    verb_among(&VERBS, name)
+}
+
+/// The first of the verbs that is written so.
+fn verb_among(verbs: &[Verb], name: &[u8]) -> Option<Verb>
+    ensures { result ≡ find (λ v. bytes_eq (name_of v) name.now) verbs.now }
+{
+    verbs
+        .iter()
+        .copied()
+        .find(|verb| verb.name().as_bytes() == name)
+}
