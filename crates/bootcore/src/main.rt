@@ -69,6 +69,3 @@ fn run_paths(rt: &HostRuntime, machine: &str, trace: &str, certify: bool) -> u8
         certify,
     )
 }
-
-#[cfg(test)]
-mod tests;
