@@ -1,0 +1,5 @@
+//! Tests of command lines.
+#![tactic(auto)]
+
+#[cfg(test)]
+mod tests;
