@@ -1,0 +1,5 @@
+//! Raw pool memory: blocks in a region of whole pages, with the free list in its free cells.
+#![tactic(auto)]
+
+mod region;
+mod store;
