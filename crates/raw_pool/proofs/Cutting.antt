@@ -1,8 +1,8 @@
 -- Cells taken off the front of a free run.
-use Rattle.std.proofs.Common.{◌≡◌, ℕ, ◌+◌, ◌-◌, ◌*◌, ◌^◌, ◌<◌, ◌≤◌, ◌⊎◌, inl, inr, List, length, replicate, refl, sym, ap, ◌∙◌, arith, subst}
+use Rattle.std.proofs.Common.{ℕ, ◌+◌, ◌-◌, ◌*◌, ◌^◌, ◌<◌, ◌≤◌, List, length, replicate, refl, ◌∙◌, arith}
 use Rattle.std.proofs.lemmas.List.{length-replicate}
 use Rattle.byteorder.specs.Endian.{little_bytes}
-use Rattle.raw_pool.specs.Bytes.{part, put, word}
+use Rattle.raw_pool.specs.Bytes.{put, word}
 use Rattle.raw_pool.specs.FreeList.{link}
 use Rattle.raw_pool.specs.Searches.{IsCut}
 use Rattle.raw_pool.proofs.Puts.{put_before, put_inside, length-put, word-same, word-put}
@@ -43,12 +43,15 @@ cut-rest old cells head at need h f small next =
       longer = c3.longer;
       parts = λ off n x. c3.parts off n x (λ r. absurd (omega arith));
       zeros = λ off n l u.
-        put_before two (little_bytes 8 (link old cells head at)) (32 * (at + need) + 8) off n n2 (omega arith)
-        ∙ put_before one (little_bytes 8 (k - need)) (32 * (at + need)) off n n1 (omega arith)
-        ∙ put_inside old (32 * at) (32 * need) off n h l (omega arith);
+          put_before two (little_bytes 8 (link old cells head at)) (32 * (at + need) + 8) off n n2 (omega arith)
+          ∙ put_before one (little_bytes 8 (k - need)) (32 * (at + need)) off n n1 (omega arith)
+          ∙ put_inside old (32 * at) (32 * need) off n h l (omega arith);
       set = omega arith;
       whole = λ x. absurd (omega arith);
-      left = λ x. (refl,
+      left = λ x. (
+        refl,
         word-same two three (32 * (at + need)) (put_before two (little_bytes 8 (link old cells head at)) (32 * (at + need) + 8) (32 * (at + need)) 8 n2 (omega arith)) ∙ word-put one (32 * (at + need)) (k - need) n1 (omega arith),
-        word-put two (32 * (at + need) + 8) (link old cells head at) n2 next, n3);
+        word-put two (32 * (at + need) + 8) (link old cells head at) n2 next,
+        n3,
+      );
     }

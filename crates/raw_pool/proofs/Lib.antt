@@ -8,3 +8,6 @@ pub mod Cutting
 pub mod Places
 pub mod Listed
 pub mod Takes
+pub mod Gives
+pub mod Writes
+pub mod Regions

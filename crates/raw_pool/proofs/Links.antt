@@ -1,8 +1,8 @@
 -- The free list: its parts, and what leaves them as they are.
-use Rattle.std.proofs.Common.{◌≡◌, ℕ, ◌+◌, ◌-◌, ◌*◌, ◌<◌, ◌≤◌, ◌==◌, ◌⊎◌, inl, inr, true, false, cond, List, [], ◌∷◌, ◌++◌, length, refl, sym, ap, ◌∙◌, append_assoc, arith, subst, eq-eqb, ne_eqb}
+use Rattle.std.proofs.Common.{◌≡◌, ℕ, ◌+◌, ◌*◌, ◌<◌, ◌≤◌, ◌⊎◌, inl, inr, List, [], ◌∷◌, ◌++◌, length, refl, sym, ap, ◌∙◌, append_assoc, arith, subst, eq-eqb, ne_eqb}
 use Rattle.std.specs.List.{AllByRecursion}
 use Rattle.std.proofs.lemmas.List.{append-nil}
-use Rattle.raw_pool.specs.Bytes.{part, word}
+use Rattle.raw_pool.specs.Bytes.{word}
 use Rattle.raw_pool.specs.FreeList.{FreeRun, IsRun, AreLinked, link}
 use Rattle.raw_pool.specs.Searches.{IsPath, Scan}
 use Rattle.raw_pool.proofs.Runs.{AreRising, RisesInTwo, rising-split, rising-le}
@@ -45,8 +45,9 @@ pub path-end : (bytes : List ℕ) (cells head from low limit : ℕ) (xs : List F
 path-end bytes cells head from low limit [] to a h p = inl (refl, p)
 path-end bytes cells head from low limit (x ∷ xs) to a h p =
     elim (path-end bytes cells head x.first (x.first + x.cells) limit xs to a.2 h p.2) [
-      inl s ↦ inr (omega (arith, a.0, s.1), omega (arith, a.1, s.1, rising-le (x.first + x.cells) limit xs a.2))
-    | inr s ↦ inr (omega (arith, a.0, s.0), s.1) ]
+      | inl s ↦ inr (omega (arith, a.0, s.1), omega (arith, a.1, s.1, rising-le (x.first + x.cells) limit xs a.2))
+      | inr s ↦ inr (omega (arith, a.0, s.0), s.1)
+    ]
 
 -- ---- bytes that change elsewhere
 
@@ -77,18 +78,21 @@ linked-kept old new cells head' head to low (x ∷ xs) a k l =
     let up : x.first + x.cells ≤ cells = rising-le (x.first + x.cells) cells xs a.2 in
     let below : x.first < cells = omega (arith, a.1) in
     let e : link new cells head' x.first ≡ link old cells head x.first =
-      link-run new cells head' x.first below ∙ k.words (32 * x.first + 8) (omega (arith, a.0)) ∙ sym (link-run old cells head x.first below) in
-    let above : KeepsAbove old new (x.first + x.cells) = record { longer = k.longer; words = λ at h. k.words at (omega (arith, a.0)) } in
-    (l.0, (k.words (32 * x.first) (omega (arith, a.0)) ∙ i.0, omega (arith, k.longer, i.1)),
-      subst (λ (j : ℕ). AreLinked new cells head' j xs) (sym e) (linked-kept old new cells head' head (link old cells head x.first) (x.first + x.cells) xs a.2 above l.2))
+    link-run new cells head' x.first below ∙ k.words (32 * x.first + 8) (omega (arith, a.0)) ∙ sym (link-run old cells head x.first below) in
+    let above : KeepsAbove old new (x.first + x.cells) = record { longer = k.longer; words = λ at h. k.words at (omega (arith, a.0)) } in (
+      l.0,
+      (k.words (32 * x.first) (omega (arith, a.0)) ∙ i.0, omega (arith, k.longer, i.1)),
+      subst (λ (j : ℕ). AreLinked new cells head' j xs) (sym e) (linked-kept old new cells head' head (link old cells head x.first) (x.first + x.cells) xs a.2 above l.2),
+    )
 
 -- the list, from its head, once what follows a place of it has changed
 pub relinked : (old new : List ℕ) (cells head' head low limit last : ℕ) (xs ys : List FreeRun) → AreRising low limit xs → limit ≤ cells → (last < cells → KeepsBelow old new cells head' head last) → IsPath old cells head cells xs last →
     AreLinked new cells head' (link new cells head' last) ys → AreLinked new cells head' head' (xs ++ ys)
 relinked old new cells head' head low limit last xs ys a h k p l =
     let kept : IsPath new cells head' cells xs last = elim (path-end old cells head cells low limit xs last a h p) [
-      inl s ↦ subst (λ (zs : List FreeRun). IsPath new cells head' cells zs last) (sym s.0) s.1
-    | inr s ↦ path-kept old new cells head' head cells low limit xs last a h (inl refl) (k (omega arith)) p ] in
+      | inl s ↦ subst (λ (zs : List FreeRun). IsPath new cells head' cells zs last) (sym s.0) s.1
+      | inr s ↦ path-kept old new cells head' head cells low limit xs last a h (inl refl) (k (omega arith)) p
+    ] in
     subst (λ (j : ℕ). AreLinked new cells head' j (xs ++ ys)) (link-head new cells head' cells refl) (path-join new cells head' cells xs ys last kept l)
 
 -- the run at which a path ends
@@ -102,8 +106,9 @@ pub last_run : (bytes : List ℕ) (cells head from : ℕ) (xs : List FreeRun) (t
 last_run bytes cells head from [] to p = inl (refl, p)
 last_run bytes cells head from (x ∷ xs) to p =
     elim (last_run bytes cells head x.first xs to p.2) [
-      inl s ↦ inr (record { front = []; run = x; is = ap (λ (zs : List FreeRun). x ∷ zs) s.0; first = s.1 })
-    | inr s ↦ inr (record { front = x ∷ s.front; run = s.run; is = ap (λ (zs : List FreeRun). x ∷ zs) s.is; first = s.first }) ]
+      | inl s ↦ inr (record { front = []; run = x; is = ap (λ (zs : List FreeRun). x ∷ zs) s.0; first = s.1 })
+      | inr s ↦ inr (record { front = x ∷ s.front; run = s.run; is = ap (λ (zs : List FreeRun). x ∷ zs) s.is; first = s.first })
+    ]
 
 -- ---- a walk
 
@@ -161,7 +166,7 @@ run_here P bytes cells head low runs last next s l a =
     let e : link bytes cells head next ≡ link bytes cells head h.run.first = ap (link bytes cells head) h.first in
     record { set = omega (arith, i.1, h.first); rises = omega (arith, n.0, u.1, e, h.first); within = omega (arith, n.1, e) }
 
-no_runs : (bytes : List ℕ) (cells head low next : ℕ) (rs : List FreeRun) → cells ≤ next → AreRising low cells rs → AreLinked bytes cells head next rs → rs ≡ []
+pub no_runs : (bytes : List ℕ) (cells head low next : ℕ) (rs : List FreeRun) → cells ≤ next → AreRising low cells rs → AreLinked bytes cells head next rs → rs ≡ []
 no_runs bytes cells head low next [] h a l = refl
 no_runs bytes cells head low next (r ∷ rs) h a l = absurd (omega (arith, l.0, a.1, rising-le (r.first + r.cells) cells rs a.2))
 

@@ -1,10 +1,12 @@
 -- Lists of blocks by their first cells.
-use Rattle.std.proofs.Common.{◌≡◌, ℕ, ◌+◌, ◌-◌, ◌*◌, ◌/◌, ◌<◌, ◌≤◌, ◌==◌, ◌⊎◌, inl, inr, true, false, cond, List, [], ◌∷◌, ◌++◌, length, map, Option, Some, None, refl, sym, ap, ◌∙◌, append_assoc, arith, subst, eq-eqb, ne_eqb, lt-ltb, le-ltb, le-leb}
+use Rattle.std.proofs.Common.{◌≡◌, ℕ, ◌+◌, ◌-◌, ◌<◌, ◌≤◌, inl, inr, List, [], ◌∷◌, ◌++◌, length, map, take, drop, get_or, Some, None, refl, sym, ap, ◌∙◌, append_assoc, arith, subst, eq-eqb, ne_eqb, lt-ltb, le-ltb, le-leb}
 use Rattle.std.specs.List.{AllByRecursion}
 use Rattle.std.proofs.lemmas.Bool.{cases_lt, lt-leb}
-use Rattle.raw_pool.specs.Blocks.{Block, cells_for, end_of, block_at, lowest_fit, with_block, without_block}
-use Rattle.raw_pool.specs.FreeList.{FreeRun, block_in, cells_in, gap, gaps, behind, free_runs, AreApart}
-use Rattle.raw_pool.proofs.Runs.{AreSame, gap-some, gap-none, next_start, apart-le, apart-next}
+use Rattle.raw_pool.specs.Blocks.{Block, end_of, block_at, lowest_fit, with_block, without_block}
+use Rattle.std.proofs.lemmas.List.{append-nil, length-take-le}
+use Rattle.raw_pool.specs.FreeList.{FreeRun, block_in, blocks_in, cells_in, gap, gaps, behind, free_runs, marked, AreApart}
+use Rattle.raw_pool.proofs.Marks.{marked_cell, unmarked_cell, marked-high, marked-low}
+use Rattle.raw_pool.proofs.Runs.{AreSame, gap-some, next_start, apart-le}
 
 pub first-in : (bytes : List ℕ) (c : ℕ) → (block_in bytes c).first ≡ c
 unfolding block_in
@@ -31,8 +33,9 @@ with-between bytes b (l ∷ ls) rs low high = rw (first-in bytes l, lt-ltb l b.f
 unfit : (cells need from to : ℕ) → 0 < need → AllByRecursion (λ (r : FreeRun). r.cells < need) (gap from to) → to < from + need
 unfit cells need from to n a =
     elim (cases_lt from to) [
-      inl l ↦ let b : AllByRecursion (λ (r : FreeRun). r.cells < need) (record { first = from; cells = to - from } ∷ []) = subst (AllByRecursion (λ (r : FreeRun). r.cells < need)) (gap-some from to l) a in omega (arith, b.0)
-    | inr g ↦ omega arith ]
+      | inl l ↦ let b : AllByRecursion (λ (r : FreeRun). r.cells < need) (record { first = from; cells = to - from } ∷ []) = subst (AllByRecursion (λ (r : FreeRun). r.cells < need)) (gap-some from to l) a in omega (arith, b.0)
+      | inr g ↦ omega arith
+    ]
 
 all-left : (P : FreeRun → Type 0) (xs ys : List FreeRun) → AllByRecursion P (xs ++ ys) → AllByRecursion P xs
 all-left P [] ys a = tt
@@ -49,7 +52,7 @@ pub no-fit : (bytes : List ℕ) (cells need from : ℕ) (cs : List ℕ) → 0 < 
 no-fit bytes cells need from [] n a = rw (lt-leb (from + need) cells (unfit cells need from cells n a)) refl
 no-fit bytes cells need from (c ∷ cs) n a =
     let b : AllByRecursion (λ (r : FreeRun). r.cells < need) (gap from c ++ free_runs bytes cells (c + cells_in bytes c) cs) =
-      subst (AllByRecursion (λ (r : FreeRun). r.cells < need)) (append_assoc (gap from c) (gaps bytes (c + cells_in bytes c) cs) (gap (behind bytes (c + cells_in bytes c) cs) cells)) a in
+    subst (AllByRecursion (λ (r : FreeRun). r.cells < need)) (append_assoc (gap from c) (gaps bytes (c + cells_in bytes c) cs) (gap (behind bytes (c + cells_in bytes c) cs) cells)) a in
     let u : c < from + need = unfit cells need from c n (all-left (λ (r : FreeRun). r.cells < need) (gap from c) (free_runs bytes cells (c + cells_in bytes c) cs) b) in
     let i = no-fit bytes cells need (c + cells_in bytes c) cs n (all-right (λ (r : FreeRun). r.cells < need) (gap from c) (free_runs bytes cells (c + cells_in bytes c) cs) b) in
     rw (first-in bytes c, lt-leb (from + need) c u) i
@@ -86,3 +89,20 @@ pub without-between : (bytes : List ℕ) (cell : ℕ) (ls rs : List ℕ) → All
 unfolding block_in
 without-between bytes cell [] rs low = rw (first-in bytes cell, eq-eqb cell cell refl) refl
 without-between bytes cell (l ∷ ls) rs low = rw (first-in bytes l, ne_eqb l cell (λ e. omega (arith, low.0))) (ap (λ (bs : List Block). block_in bytes l ∷ bs) (without-between bytes cell ls rs low.1))
+
+-- ---- a block by its mark
+
+pub block_marked : (bytes marks : List ℕ) (cell : ℕ) → cell < length marks → (get_or marks cell 0 ≡ 0 → ⊥) → block_at cell (blocks_in bytes marks) ≡ Some (block_in bytes cell)
+block_marked bytes marks cell h z =
+    ap (λ (xs : List ℕ). block_at cell (map (block_in bytes) xs)) (marked_cell marks cell h z)
+    ∙ found-block bytes cell (marked 0 (take cell marks)) (marked (cell + 1) (drop (cell + 1) marks)) (marked-high 0 cell (take cell marks) (omega (arith, length-take-le cell marks (omega arith))))
+
+pub block_unmarked : (bytes marks : List ℕ) (cell : ℕ) → cell < length marks → get_or marks cell 0 ≡ 0 → block_at cell (blocks_in bytes marks) ≡ None
+block_unmarked bytes marks cell h z =
+    ap (λ (xs : List ℕ). block_at cell (map (block_in bytes) xs)) (unmarked_cell marks cell h z)
+    ∙ no-block bytes cell (marked 0 (take cell marks)) (marked (cell + 1) (drop (cell + 1) marks)) (marked-high 0 cell (take cell marks) (omega (arith, length-take-le cell marks (omega arith)))) (marked-low (cell + 1) (cell + 1) (drop (cell + 1) marks) (omega arith))
+
+pub block_past : (bytes marks : List ℕ) (cell : ℕ) → length marks ≤ cell → block_at cell (blocks_in bytes marks) ≡ None
+block_past bytes marks cell h =
+    ap (λ (xs : List ℕ). block_at cell (map (block_in bytes) xs)) (sym (append-nil (marked 0 marks)))
+    ∙ no-block bytes cell (marked 0 marks) [] (marked-high 0 cell marks (omega arith)) tt

@@ -1,5 +1,5 @@
 -- Marks of cells, and the cells that are marked.
-use Rattle.std.proofs.Common.{◌≡◌, ℕ, zero, suc, ◌+◌, ◌-◌, ◌*◌, ◌<◌, ◌≤◌, ◌==◌, ◌⊎◌, inl, inr, true, false, cond, List, [], ◌∷◌, ◌++◌, length, take, drop, replicate, get_or, refl, sym, ap, ◌∙◌, append_assoc, arith, subst, eq-eqb, ne_eqb}
+use Rattle.std.proofs.Common.{◌≡◌, ℕ, zero, suc, ◌+◌, ◌-◌, ◌<◌, ◌≤◌, inl, inr, List, [], ◌∷◌, ◌++◌, length, take, drop, replicate, get_or, refl, sym, ap, ◌∙◌, append_assoc, arith, eq-eqb, ne_eqb}
 use Rattle.std.specs.List.{AllByRecursion}
 use Rattle.std.proofs.lemmas.Bool.{cases_eq, cases_lt}
 use Rattle.std.proofs.lemmas.List.{take-append-drop, length-take-le, length-append, length-replicate, drop_more, append-nil, take_all, drop_all}
@@ -14,8 +14,9 @@ marked-append k (x ∷ xs) ys =
     let n : k + 1 + length xs ≡ k + length (x ∷ xs) = omega arith in
     let j : marked (k + 1) (xs ++ ys) ≡ marked (k + 1) xs ++ marked (k + length (x ∷ xs)) ys = i ∙ ap (λ (m : ℕ). marked (k + 1) xs ++ marked m ys) n in
     elim (cases_eq x 0) [
-      inl e ↦ rw (eq-eqb x 0 e) j
-    | inr e ↦ rw (ne_eqb x 0 e) (ap (λ (cs : List ℕ). k ∷ cs) j) ]
+      | inl e ↦ rw (eq-eqb x 0 e) j
+      | inr e ↦ rw (ne_eqb x 0 e) (ap (λ (cs : List ℕ). k ∷ cs) j)
+    ]
 
 pub marked-zeros : (k n : ℕ) → marked k (replicate n 0) ≡ []
 marked-zeros k zero = refl
@@ -25,16 +26,18 @@ pub marked-low : (k low : ℕ) (xs : List ℕ) → low ≤ k → AllByRecursion 
 marked-low k low [] h = tt
 marked-low k low (x ∷ xs) h =
     elim (cases_eq x 0) [
-      inl e ↦ rw (eq-eqb x 0 e) (marked-low (k + 1) low xs (omega arith))
-    | inr e ↦ rw (ne_eqb x 0 e) (h, marked-low (k + 1) low xs (omega arith)) ]
+      | inl e ↦ rw (eq-eqb x 0 e) (marked-low (k + 1) low xs (omega arith))
+      | inr e ↦ rw (ne_eqb x 0 e) (h, marked-low (k + 1) low xs (omega arith))
+    ]
 
 pub marked-high : (k high : ℕ) (xs : List ℕ) → k + length xs ≤ high → AllByRecursion (λ c. c < high) (marked k xs)
 marked-high k high [] h = tt
 marked-high k high (x ∷ xs) h =
     let l : k + 1 + length xs ≤ high = omega arith in
     elim (cases_eq x 0) [
-      inl e ↦ rw (eq-eqb x 0 e) (marked-high (k + 1) high xs l)
-    | inr e ↦ rw (ne_eqb x 0 e) (omega arith, marked-high (k + 1) high xs l) ]
+      | inl e ↦ rw (eq-eqb x 0 e) (marked-high (k + 1) high xs l)
+      | inr e ↦ rw (ne_eqb x 0 e) (omega arith, marked-high (k + 1) high xs l)
+    ]
 
 -- the marks before a cell, its own, and those behind
 pub marked-at : (xs : List ℕ) (at : ℕ) → at < length xs → marked 0 xs ≡ marked 0 (take at xs) ++ marked at (get_or xs at 0 ∷ drop (at + 1) xs)
@@ -106,17 +109,21 @@ around : (marks ls rs : List ℕ) (at : ℕ) → at ≤ length marks → marked 
     (ls ≡ marked 0 (take at marks)) × (rs ≡ marked (at + 1) (drop (at + 1) marks))
 around marks ls rs at h e low high =
     elim (cases_lt at (length marks)) [
-      inl l ↦
-        let f : marked 0 marks ≡ marked 0 (take at marks) ++ marked at (get_or marks at 0 ∷ drop (at + 1) marks) = marked-at marks at l in
-        let s = same-cut at ls rs (marked 0 (take at marks)) (marked at (get_or marks at 0 ∷ drop (at + 1) marks)) (sym e ∙ f) low
-          (marked-high 0 at (take at marks) (omega (arith, length-take-le at marks h))) (all-low at (at + 1) rs (omega arith) high) (marked-low at at (get_or marks at 0 ∷ drop (at + 1) marks) (omega arith)) in
-        (s.0, elim (cases_eq (get_or marks at 0) 0) [
-            inl z ↦ s.1 ∙ marked-none at (get_or marks at 0) (drop (at + 1) marks) z
-          | inr z ↦ absurd (first-low at rs (marked (at + 1) (drop (at + 1) marks)) (s.1 ∙ marked-one at (get_or marks at 0) (drop (at + 1) marks) z) high) ])
-    | inr g ↦
-        let f : marked 0 marks ≡ marked 0 (take at marks) ++ [] = ap (marked 0) (sym (take_all at marks g)) ∙ sym (append-nil (marked 0 (take at marks))) in
-        let s = same-cut at ls rs (marked 0 (take at marks)) [] (sym e ∙ f) low (marked-high 0 at (take at marks) (omega (arith, length-take-le at marks h))) (all-low at (at + 1) rs (omega arith) high) tt in
-        (s.0, s.1 ∙ ap (marked (at + 1)) (sym (drop_all (at + 1) marks (omega arith)))) ]
+      | inl l ↦
+          let f : marked 0 marks ≡ marked 0 (take at marks) ++ marked at (get_or marks at 0 ∷ drop (at + 1) marks) = marked-at marks at l in
+          let s = same-cut at ls rs (marked 0 (take at marks)) (marked at (get_or marks at 0 ∷ drop (at + 1) marks)) (sym e ∙ f) low
+          (marked-high 0 at (take at marks) (omega (arith, length-take-le at marks h))) (all-low at (at + 1) rs (omega arith) high) (marked-low at at (get_or marks at 0 ∷ drop (at + 1) marks) (omega arith)) in (
+            s.0,
+            elim (cases_eq (get_or marks at 0) 0) [
+              | inl z ↦ s.1 ∙ marked-none at (get_or marks at 0) (drop (at + 1) marks) z
+              | inr z ↦ absurd (first-low at rs (marked (at + 1) (drop (at + 1) marks)) (s.1 ∙ marked-one at (get_or marks at 0) (drop (at + 1) marks) z) high)
+            ],
+          )
+      | inr g ↦
+          let f : marked 0 marks ≡ marked 0 (take at marks) ++ [] = ap (marked 0) (sym (take_all at marks g)) ∙ sym (append-nil (marked 0 (take at marks))) in
+          let s = same-cut at ls rs (marked 0 (take at marks)) [] (sym e ∙ f) low (marked-high 0 at (take at marks) (omega (arith, length-take-le at marks h))) (all-low at (at + 1) rs (omega arith) high) tt in
+          (s.0, s.1 ∙ ap (marked (at + 1)) (sym (drop_all (at + 1) marks (omega arith))))
+    ]
 
 pub mark_set : (marks ls rs : List ℕ) (at : ℕ) → marked 0 marks ≡ ls ++ rs → AllByRecursion (λ c. c < at) ls → AllByRecursion (λ c. at + 1 ≤ c) rs → marked 0 (put (grown marks at) at (1 ∷ [])) ≡ ls ++ at ∷ rs
 mark_set marks ls rs at e low high =

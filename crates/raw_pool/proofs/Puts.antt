@@ -1,9 +1,9 @@
 -- Bytes written into a region, and what is read of it afterwards.
-use Rattle.std.proofs.Common.{◌≡◌, ℕ, suc, ◌+◌, ◌-◌, ◌*◌, ◌^◌, ◌<◌, ◌≤◌, List, [], ◌∷◌, ◌++◌, length, take, drop, set, get_or, replicate, refl, sym, ap, ◌∙◌, append_assoc, arith}
+use Rattle.std.proofs.Common.{◌≡◌, ℕ, suc, ◌+◌, ◌-◌, ◌^◌, ◌<◌, ◌≤◌, List, [], ◌∷◌, ◌++◌, length, take, drop, set, get_or, replicate, refl, sym, ap, ◌∙◌, append_assoc, arith}
 use Rattle.byteorder.specs.Endian.{little_bytes, little_number}
 use Rattle.byteorder.specs.Numbers.{little_number-reads_back}
-use Rattle.std.proofs.lemmas.List.{take_more, replicate_more, take-append-drop, set_split, take_all, drop_all, append-nil, length-append, length-take-le, length-drop, length-replicate, drop-drop, drop_at, take_at, drop-append-le, take-append-le, drop-take, take-take, drop-replicate, take-replicate}
-use Rattle.std.proofs.Math.Seq.{drop-append-add}
+use Rattle.std.proofs.lemmas.List.{take_more, take-append-drop, set_split, take_all, drop_all, append-nil, length-append, length-take-le, length-drop, length-replicate, drop-drop, take_at, drop-append-le, take-append-le, drop-take, take-take, drop-replicate, take-replicate}
+use Rattle.std.proofs.Math.Seq.{drop-append-add, take-append-add}
 use Rattle.raw_pool.specs.Bytes.{Bytes, part, put, word}
 
 -- what lies behind the place of the bytes that were written
@@ -71,7 +71,7 @@ unfolding put
 length-put bytes new at h =
     omega (arith, length-append (take at bytes ++ new) (drop (at + length new) bytes), length-append (take at bytes) new, length-take-le at bytes h, length-drop (at + length new) bytes)
 
-put-is : (bytes : List ℕ) (at : ℕ) (new : List ℕ) → put bytes at new ≡ take at bytes ++ new ++ drop (at + length new) bytes
+pub put-is : (bytes : List ℕ) (at : ℕ) (new : List ℕ) → put bytes at new ≡ take at bytes ++ new ++ drop (at + length new) bytes
 unfolding put
 put-is bytes at new = refl
 
@@ -143,3 +143,17 @@ put_none old at h = ap (λ (xs : List ℕ). record { set = xs; room = old.room }
 
 pub taken_more : (bytes : List ℕ) (i byte : ℕ) → i < length bytes → byte ≡ get_or bytes i byte → take i bytes ++ byte ∷ [] ≡ take (i + 1) bytes
 taken_more bytes i byte h e = ap (λ (b : ℕ). take i bytes ++ b ∷ []) e ∙ sym (take_more bytes i byte h)
+
+-- a write into the middle one of three lists
+pub put-deep : (front mid rest new : List ℕ) (off at : ℕ) → length front ≡ off → at + length new ≤ length mid → put (front ++ (mid ++ rest)) (off + at) new ≡ front ++ (put mid at new ++ rest)
+put-deep front mid rest new off at e h =
+    let t1 : take (off + at) (front ++ (mid ++ rest)) ≡ front ++ take at mid =
+    ap (λ (k : ℕ). take (k + at) (front ++ (mid ++ rest))) (sym e) ∙ take-append-add front (mid ++ rest) at ∙ ap (λ (xs : List ℕ). front ++ xs) (take-append-le at mid rest (omega arith)) in
+    let k : off + at + length new ≡ length front + (at + length new) = omega arith in
+    let t2 : drop (off + at + length new) (front ++ (mid ++ rest)) ≡ drop (at + length new) mid ++ rest =
+    ap (λ (j : ℕ). drop j (front ++ (mid ++ rest))) k ∙ drop-append-add front (mid ++ rest) (at + length new) ∙ drop-append-le (at + length new) mid rest h in
+    let nested : front ++ take at mid ++ new ++ (drop (at + length new) mid ++ rest) ≡ front ++ (take at mid ++ new ++ drop (at + length new) mid ++ rest) = simp append_assoc in
+    put-is (front ++ (mid ++ rest)) (off + at) new
+    ∙ ap (λ (xs : List ℕ). xs ++ new ++ drop (off + at + length new) (front ++ (mid ++ rest))) t1
+    ∙ ap (λ (xs : List ℕ). front ++ take at mid ++ new ++ xs) t2
+    ∙ nested ∙ ap (λ (xs : List ℕ). front ++ (xs ++ rest)) (sym (put-is mid at new))

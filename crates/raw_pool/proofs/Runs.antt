@@ -1,9 +1,8 @@
 -- The free runs of a region: where they lie between the blocks.
-use Rattle.std.proofs.Common.{◌≡◌, ℕ, ◌+◌, ◌-◌, ◌*◌, ◌/◌, ◌<◌, ◌≤◌, ◌⊎◌, inl, inr, true, false, cond, List, [], ◌∷◌, ◌++◌, length, map, refl, sym, ap, ◌∙◌, append_assoc, arith, subst, lt-ltb, le-ltb, ltb}
+use Rattle.std.proofs.Common.{◌≡◌, ℕ, ◌+◌, ◌-◌, ◌<◌, ◌≤◌, ◌⊎◌, inl, inr, List, [], ◌∷◌, ◌++◌, length, refl, sym, ap, ◌∙◌, append_assoc, arith, subst, lt-ltb, le-ltb}
 use Rattle.std.specs.List.{AllByRecursion}
 use Rattle.std.proofs.lemmas.Bool.{cases_lt}
 use Rattle.std.proofs.lemmas.List.{append-nil}
-use Rattle.raw_pool.specs.Bytes.{part, word}
 use Rattle.raw_pool.specs.Blocks.{Block, cells_for}
 use Rattle.raw_pool.specs.FreeList.{FreeRun, block_in, cells_in, gap, gaps, behind, free_runs, AreApart}
 
@@ -132,8 +131,9 @@ rising-le from limit (r ∷ rs) a = omega (arith, rising-le (r.first + r.cells) 
 pub rising-gap : (from to limit : ℕ) (rs : List FreeRun) → from ≤ to → AreRising to limit rs → AreRising from limit (gap from to ++ rs)
 rising-gap from to limit rs h a =
     elim (cases_lt from to) [
-      inl l ↦ rw (gap-some from to l) (omega arith, omega arith, rising-lower (from + (to - from)) to limit rs (omega arith) a)
-    | inr g ↦ rw (gap-none from to g) (rising-lower from to limit rs h a) ]
+      | inl l ↦ rw (gap-some from to l) (omega arith, omega arith, rising-lower (from + (to - from)) to limit rs (omega arith) a)
+      | inr g ↦ rw (gap-none from to g) (rising-lower from to limit rs h a)
+    ]
 
 pub rising-runs : (bytes : List ℕ) (cells from : ℕ) (cs : List ℕ) → AreApart bytes cells from cs → AreRising from cells (free_runs bytes cells from cs)
 rising-runs bytes cells from [] a = rw (← (append-nil (gap from cells))) (rising-gap from cells cells [] a (omega arith))
@@ -186,28 +186,62 @@ pub lies_between : (bytes : List ℕ) (cells from : ℕ) (cs : List ℕ) (before
     free_runs bytes cells from cs ≡ before ++ run ∷ after → LiesBetween bytes cells from cs before run after
 lies_between bytes cells from [] before run after a e =
     elim (cases_lt from cells) [
-      inl l ↦ elim (lies_first bytes cells from cells [] before run after [] l (append-nil (gap from cells) ∙ e)) [
-          inl s ↦ record { left = []; right = []; is = refl; before_is = s.0; first = ap (λ (r : FreeRun). r.first) s.1;
-            end = ap (λ (r : FreeRun). r.first + r.cells) s.1 ∙ omega arith; some = rw s.1 (omega arith); after_is = s.2 }
-        | inr s ↦ absurd (no_run s.0 run after s.2) ]
-    | inr g ↦ absurd (no_run before run after (sym (gap-none from cells g) ∙ e)) ]
+      | inl l ↦ elim (lies_first bytes cells from cells [] before run after [] l (append-nil (gap from cells) ∙ e)) [
+        | inl s ↦ record {
+          left = [];
+          right = [];
+          is = refl;
+          before_is = s.0;
+          first = ap (λ (r : FreeRun). r.first) s.1;
+          end = ap (λ (r : FreeRun). r.first + r.cells) s.1 ∙ omega arith;
+          some = rw s.1 (omega arith);
+          after_is = s.2;
+        }
+        | inr s ↦ absurd (no_run s.0 run after s.2)
+      ]
+      | inr g ↦ absurd (no_run before run after (sym (gap-none from cells g) ∙ e))
+    ]
 lies_between bytes cells from (c ∷ cs) before run after a e =
     let bs : List FreeRun = free_runs bytes cells (c + cells_in bytes c) cs in
     let f : gap from c ++ bs ≡ before ++ run ∷ after = sym (append_assoc (gap from c) (gaps bytes (c + cells_in bytes c) cs) (gap (behind bytes (c + cells_in bytes c) cs) cells)) ∙ e in
     elim (cases_lt from c) [
-      inl l ↦ elim (lies_first bytes cells from c bs before run after [] l f) [
-          inl s ↦ record { left = []; right = c ∷ cs; is = refl; before_is = s.0; first = ap (λ (r : FreeRun). r.first) s.1;
-            end = ap (λ (r : FreeRun). r.first + r.cells) s.1 ∙ omega arith; some = rw s.1 (omega arith); after_is = s.2 }
+      | inl l ↦ elim (lies_first bytes cells from c bs before run after [] l f) [
+        | inl s ↦ record {
+          left = [];
+          right = c ∷ cs;
+          is = refl;
+          before_is = s.0;
+          first = ap (λ (r : FreeRun). r.first) s.1;
+          end = ap (λ (r : FreeRun). r.first + r.cells) s.1 ∙ omega arith;
+          some = rw s.1 (omega arith);
+          after_is = s.2;
+        }
         | inr s ↦
-          let i : LiesBetween bytes cells (c + cells_in bytes c) cs s.0 run after = lies_between bytes cells (c + cells_in bytes c) cs s.0 run after a.2 s.2 in
-          record { left = c ∷ i.left; right = i.right; is = ap (λ (xs : List ℕ). c ∷ xs) i.is;
-            before_is = s.1 ∙ ap (λ (rs : List FreeRun). record { first = from; cells = c - from } ∷ rs) i.before_is ∙ sym (ap (λ (rs : List FreeRun). rs ++ gaps bytes (c + cells_in bytes c) i.left) (gap-some from c l));
-            first = i.first; end = i.end; some = i.some; after_is = i.after_is } ]
-    | inr g ↦
-      let i : LiesBetween bytes cells (c + cells_in bytes c) cs before run after = lies_between bytes cells (c + cells_in bytes c) cs before run after a.2 (sym (ap (λ (rs : List FreeRun). rs ++ bs) (gap-none from c g)) ∙ f) in
-      record { left = c ∷ i.left; right = i.right; is = ap (λ (xs : List ℕ). c ∷ xs) i.is;
-        before_is = i.before_is ∙ sym (ap (λ (rs : List FreeRun). rs ++ gaps bytes (c + cells_in bytes c) i.left) (gap-none from c g));
-        first = i.first; end = i.end; some = i.some; after_is = i.after_is } ]
+            let i : LiesBetween bytes cells (c + cells_in bytes c) cs s.0 run after = lies_between bytes cells (c + cells_in bytes c) cs s.0 run after a.2 s.2 in
+            record {
+              left = c ∷ i.left;
+              right = i.right;
+              is = ap (λ (xs : List ℕ). c ∷ xs) i.is;
+              before_is = s.1 ∙ ap (λ (rs : List FreeRun). record { first = from; cells = c - from } ∷ rs) i.before_is ∙ sym (ap (λ (rs : List FreeRun). rs ++ gaps bytes (c + cells_in bytes c) i.left) (gap-some from c l));
+              first = i.first;
+              end = i.end;
+              some = i.some;
+              after_is = i.after_is;
+            }
+      ]
+      | inr g ↦
+          let i : LiesBetween bytes cells (c + cells_in bytes c) cs before run after = lies_between bytes cells (c + cells_in bytes c) cs before run after a.2 (sym (ap (λ (rs : List FreeRun). rs ++ bs) (gap-none from c g)) ∙ f) in
+          record {
+            left = c ∷ i.left;
+            right = i.right;
+            is = ap (λ (xs : List ℕ). c ∷ xs) i.is;
+            before_is = i.before_is ∙ sym (ap (λ (rs : List FreeRun). rs ++ gaps bytes (c + cells_in bytes c) i.left) (gap-none from c g));
+            first = i.first;
+            end = i.end;
+            some = i.some;
+            after_is = i.after_is;
+          }
+    ]
 
 -- ---- blocks beside a run of cells
 
@@ -246,8 +280,8 @@ clear-run bytes cells from cs before run after a b =
     let high : run.first + run.cells ≤ next_start cells b.right = omega (arith, b.end) in
     subst (AreClear bytes run.first (run.first + run.cells)) (sym b.is)
     (clear-append bytes run.first (run.first + run.cells) b.left b.right
-      (clear-left bytes cells from run.first (run.first + run.cells) b.left b.right c low)
-      (clear-next bytes cells (behind bytes from b.left) run.first (run.first + run.cells) b.right (apart-right bytes cells from b.left b.right c) high))
+    (clear-left bytes cells from run.first (run.first + run.cells) b.left b.right c low)
+    (clear-next bytes cells (behind bytes from b.left) run.first (run.first + run.cells) b.right (apart-right bytes cells from b.left b.right c) high))
 
 pub clear-less : (bytes : List ℕ) (low high top : ℕ) (cs : List ℕ) → top ≤ high → AreClear bytes low high cs → AreClear bytes low top cs
 clear-less bytes low high top [] h c = tt
@@ -266,3 +300,7 @@ all-starts-low bytes cells from at (c ∷ ls) bs a h =
 pub all-starts-high : (bytes : List ℕ) (cells from at : ℕ) (bs : List ℕ) → AreApart bytes cells from bs → at ≤ next_start cells bs → AllByRecursion (λ c. at ≤ c) bs
 all-starts-high bytes cells from at [] a h = tt
 all-starts-high bytes cells from at (c ∷ bs) a h = (h, high-from bytes cells (c + cells_in bytes c) at bs a.2 (omega arith))
+
+pub clear-without : (bytes : List ℕ) (low high : ℕ) (ls : List ℕ) (c : ℕ) (rs : List ℕ) → AreClear bytes low high (ls ++ c ∷ rs) → AreClear bytes low high (ls ++ rs)
+clear-without bytes low high [] c rs a = a.1
+clear-without bytes low high (x ∷ ls) c rs a = (a.0, clear-without bytes low high ls c rs a.1)

@@ -1,5 +1,5 @@
 -- Walks along the free list of a store.
-use Rattle.std.proofs.Common.{◌≡◌, ℕ, ◌+◌, ◌*◌, ◌<◌, ◌≤◌, List, length, subst, sym}
+use Rattle.std.proofs.Common.{◌≡◌, ℕ, ◌<◌, ◌≤◌, subst, sym}
 use Rattle.std.specs.List.{AllByRecursion}
 use Rattle.raw_pool.specs.Bytes.{Bytes}
 use Rattle.raw_pool.specs.FreeList.{FreeRun, IsRun, link, marked}

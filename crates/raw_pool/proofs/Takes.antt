@@ -1,16 +1,16 @@
 -- A block that is taken off the front of a free run.
-use Rattle.std.proofs.Common.{◌≡◌, ℕ, ◌+◌, ◌-◌, ◌*◌, ◌/◌, ◌^◌, ◌<◌, ◌≤◌, ◌==◌, ◌⊎◌, inl, inr, cond, List, [], ◌∷◌, ◌++◌, length, map, replicate, Some, refl, sym, ap, ◌∙◌, append_assoc, arith, subst, eq-eqb, ne_eqb}
+use Rattle.std.proofs.Common.{◌≡◌, ℕ, ◌+◌, ◌-◌, ◌*◌, ◌^◌, ◌<◌, ◌≤◌, ◌==◌, ◌⊎◌, inl, inr, cond, List, [], ◌∷◌, ◌++◌, length, map, replicate, Some, sym, ap, ◌∙◌, arith, subst, eq-eqb, ne_eqb}
 use Rattle.std.specs.List.{AllByRecursion}
 use Rattle.std.proofs.lemmas.Bool.{cases_lt, cases_eq}
 use Rattle.std.proofs.lemmas.List.{map-append}
 use Rattle.byteorder.specs.Endian.{little_bytes}
 use Rattle.raw_pool.specs.Bytes.{Bytes, part, put, word}
-use Rattle.raw_pool.specs.Blocks.{Block, Pool, cells_for, lowest_fit, new_block, taken, with_block}
+use Rattle.raw_pool.specs.Blocks.{Block, cells_for, lowest_fit, new_block, taken, with_block}
 use Rattle.raw_pool.specs.FreeList.{FreeRun, IsRun, AreApart, AreLinked, IsLaidOut, block_in, cells_in, blocks_in, gap, gaps, behind, free_runs, link, marked}
-use Rattle.raw_pool.specs.Searches.{grown, IsPath, IsCut, IsStore, Scan, pool_of, runs_of}
-use Rattle.raw_pool.proofs.Puts.{put_before, put_behind, put_same, length-put, word-same, word-put}
-use Rattle.raw_pool.proofs.Runs.{AreRising, AreSame, RisesInTwo, rising-split, rising-le, rising-lower, LiesBetween, lies_between, AreClear, clear-run, gap-some, gap-none, gaps-same, behind-same, free_runs-append, free_runs-first, free_runs-same, beyond, beyond-same, next_start, same-left, same-right, apart-same, apart-right, apart-join, apart-raise, apart-next, all-starts-low, all-starts-high}
-use Rattle.raw_pool.proofs.Links.{Here, here, KeepsAbove, relinked, linked-kept, link-run, link-head}
+use Rattle.raw_pool.specs.Searches.{grown, IsCut, IsStore, Scan, pool_of, runs_of}
+use Rattle.raw_pool.proofs.Puts.{put_before, put_behind, length-put, word-same, word-put}
+use Rattle.raw_pool.proofs.Runs.{AreRising, AreSame, RisesInTwo, rising-split, rising-le, rising-lower, LiesBetween, lies_between, AreClear, clear-run, gap-some, gap-none, gaps-same, behind-same, free_runs-append, free_runs-first, beyond, beyond-same, next_start, same-left, same-right, apart-same, apart-right, apart-join, apart-raise, all-starts-low, all-starts-high}
+use Rattle.raw_pool.proofs.Links.{Here, here, relinked, linked-kept, link-run, link-head}
 use Rattle.raw_pool.proofs.Changes.{Changes, changes-cells, same-blocks, keeps-below, keeps-above}
 use Rattle.raw_pool.proofs.Places.{Passed, passed, LinkIsSet, link_set, changes-then}
 use Rattle.raw_pool.proofs.Scans.{rising}
@@ -63,11 +63,12 @@ pub lower : (bytes : List ℕ) (cells : ℕ) (starts : List ℕ) (last at middle
     Lower bytes cells starts last at
 lower bytes cells starts last at middle limit before p a m l =
     elim p [
-      inl z ↦ absurd (omega (arith, z.1))
-    | inr z ↦
-      let r : RisesInTwo 0 middle z.front (z.run ∷ []) = rising-split 0 middle z.front (z.run ∷ []) (subst (AreRising 0 middle) z.is a) in
-      let i : IsRun bytes z.run = z.run_is in
-      record { below = omega (arith, r.right.2, z.first, z.some); set = omega (arith, i.1, z.first); clear = z.clear } ]
+      | inl z ↦ absurd (omega (arith, z.1))
+      | inr z ↦
+          let r : RisesInTwo 0 middle z.front (z.run ∷ []) = rising-split 0 middle z.front (z.run ∷ []) (subst (AreRising 0 middle) z.is a) in
+          let i : IsRun bytes z.run = z.run_is in
+          record { below = omega (arith, r.right.2, z.first, z.some); set = omega (arith, i.1, z.first); clear = z.clear }
+    ]
 
 pub last_within : (bytes : List ℕ) (cells : ℕ) (starts : List ℕ) (last : ℕ) (before : List FreeRun) → ((before ≡ []) × (last ≡ cells)) ⊎ Passed bytes cells starts before last → last ≤ cells
 last_within bytes cells starts last before p = elim p [ inl z ↦ omega (arith, z.1) | inr z ↦ omega (arith, z.first, z.some, z.within) ]
@@ -75,8 +76,9 @@ last_within bytes cells starts last before p = elim p [ inl z ↦ omega (arith, 
 pub link-same : (old new : List ℕ) (cells head last : ℕ) → last ≤ cells → (last < cells → part new (32 * last + 8) 8 ≡ part old (32 * last + 8) 8) → link new cells head last ≡ link old cells head last
 link-same old new cells head last h e =
     elim (cases_lt last cells) [
-      inl l ↦ link-run new cells head last l ∙ word-same old new (32 * last + 8) (e l) ∙ sym (link-run old cells head last l)
-    | inr g ↦ let z : last ≡ cells = omega arith in link-head new cells head last z ∙ sym (link-head old cells head last z) ]
+      | inl l ↦ link-run new cells head last l ∙ word-same old new (32 * last + 8) (e l) ∙ sym (link-run old cells head last l)
+      | inr g ↦ let z : last ≡ cells = omega arith in link-head new cells head last z ∙ sym (link-head old cells head last z)
+    ]
 
 pub block-is : (bytes : List ℕ) (at size : ℕ) → word bytes (32 * at) ≡ size → part bytes (32 * at + 8) size ≡ replicate size 0 → block_in bytes at ≡ new_block at size
 unfolding block_in
@@ -109,7 +111,7 @@ written old two cells head starts last at size need rest w low clear n f small n
     let c4 : Changes old four cells last at (at + k) = changes-cells old three (little_bytes 8 size) cells last at (at + k) (32 * at) c3 n3 (omega arith) (omega arith) in
     let n4 : length three ≤ length four = omega (arith, length-put three (little_bytes 8 size) (32 * at) n3) in
     let above : (off m : ℕ) → 32 * at + 8 ≤ off → part four off m ≡ part two off m =
-      λ off m h. put_behind three (little_bytes 8 size) (32 * at) off m n3 h ∙ i.changes.parts off m (inr (omega arith)) (λ l. inr (omega (arith, (low l).below))) in
+    λ off m h. put_behind three (little_bytes 8 size) (32 * at) off m n3 h ∙ i.changes.parts off m (inr (omega arith)) (λ l. inr (omega (arith, (low l).below))) in
     let content : part four (32 * at + 8) size ≡ replicate size 0 = above (32 * at + 8) size (omega arith) ∙ cut.zeros (32 * at + 8) size (omega arith) (omega arith) in
     record {
       changes = c4;
@@ -119,10 +121,12 @@ written old two cells head starts last at size need rest w low clear n f small n
       kept = i.kept;
       set = omega (arith, cut.set, i.changes.longer);
       whole = cut.whole;
-      left = λ h. ((cut.left h).0,
+      left = λ h. (
+        (cut.left h).0,
         word-same two four (32 * (at + need)) (above (32 * (at + need)) 8 (omega arith)) ∙ (cut.left h).1,
         word-same two four (32 * (at + need) + 8) (above (32 * (at + need) + 8) 8 (omega arith)) ∙ (cut.left h).2,
-        omega (arith, (cut.left h).3, i.changes.longer));
+        omega (arith, (cut.left h).3, i.changes.longer),
+      );
     }
 
 -- the list behind the block
@@ -132,15 +136,18 @@ listed old new cells head' head starts last at size need rest before after w q l
     let k : ℕ = word old (32 * at) in
     let up : AreRising (at + k) cells q.rest = rising-lower (at + k) (q.run.first + q.run.cells) cells q.rest (omega (arith, q.first, q.cells_is)) q.rising.right.2 in
     let kept : AreLinked new cells head' (link old cells head at) q.rest =
-      linked-kept old new cells head' head (link old cells head at) (at + k) q.rest up (keeps-above old new cells last at (at + k) w.changes (λ h. omega (arith, low h))) q.linked in
+    linked-kept old new cells head' head (link old cells head at) (at + k) q.rest up (keeps-above old new cells last at (at + k) w.changes (λ h. omega (arith, low h))) q.linked in
     elim (cases_lt need k) [
-      inl l ↦
-        let same_rest : k - need ≡ at + k - (at + need) = omega arith in
-        rw (gap-some (at + need) (at + k) (omega arith))
-        ((w.left l).0, ((w.left l).1 ∙ same_rest, (w.left l).3),
-          subst (λ (j : ℕ). AreLinked new cells head' j q.rest) (sym (link-run new cells head' (at + need) (omega (arith, q.within)) ∙ (w.left l).2)) kept)
-    | inr g ↦
-        rw (gap-none (at + need) (at + k) (omega arith)) (subst (λ (j : ℕ). AreLinked new cells head' j q.rest) (sym (w.whole g)) kept) ]
+      | inl l ↦
+          let same_rest : k - need ≡ at + k - (at + need) = omega arith in
+          rw (gap-some (at + need) (at + k) (omega arith)) (
+            (w.left l).0,
+            ((w.left l).1 ∙ same_rest, (w.left l).3),
+            subst (λ (j : ℕ). AreLinked new cells head' j q.rest) (sym (link-run new cells head' (at + need) (omega (arith, q.within)) ∙ (w.left l).2)) kept,
+          )
+      | inr g ↦
+          rw (gap-none (at + need) (at + k) (omega arith)) (subst (λ (j : ℕ). AreLinked new cells head' j q.rest) (sym (w.whole g)) kept)
+    ]
 
 pub record TakenAt (old new marks marks' : List ℕ) (cells head' at size : ℕ) : Type 0 where
   pub laid : IsLaidOut new marks' cells head'
@@ -172,33 +179,33 @@ taken_at bytes marks new cells head' head last at size need rest s c l n f w =
     let high : AllByRecursion (λ x. at + 1 ≤ x) rs = all-starts-high old cells (behind old 0 ls) (at + 1) rs (apart-right old cells 0 ls rs a) (omega arith) in
     let m : marked 0 (put (grown marks.set at) at (1 ∷ [])) ≡ ls ++ at ∷ rs = mark_set marks.set ls rs at e low high in
     let runs : free_runs new cells 0 (ls ++ at ∷ rs) ≡ c.before ++ (gap (at + need) (at + k) ++ q.rest) =
-      free_runs-append new cells 0 ls (at ∷ rs)
-      ∙ ap (λ (j : ℕ). gaps new 0 ls ++ free_runs new cells j (at ∷ rs)) b'
-      ∙ ap (λ (xs : List FreeRun). xs ++ free_runs new cells at (at ∷ rs)) (gaps-same old new ls 0 sl ∙ sym q.between.before_is)
-      ∙ ap (λ (xs : List FreeRun). c.before ++ xs)
-        (free_runs-first new cells at (at ∷ rs)
-        ∙ ap (λ (xs : List FreeRun). xs ++ free_runs new cells (at + cells_in new at) rs) (gap-none at at (omega arith))
-        ∙ ap (λ (j : ℕ). free_runs new cells (at + j) rs) n'
-        ∙ free_runs-first new cells (at + need) rs
-        ∙ ap (λ (j : ℕ). gap (at + need) j ++ beyond new cells rs) end
-        ∙ ap (λ (xs : List FreeRun). gap (at + need) (at + k) ++ xs) (beyond-same old new rs cells sr ∙ sym q.between.after_is)) in
+    free_runs-append new cells 0 ls (at ∷ rs)
+    ∙ ap (λ (j : ℕ). gaps new 0 ls ++ free_runs new cells j (at ∷ rs)) b'
+    ∙ ap (λ (xs : List FreeRun). xs ++ free_runs new cells at (at ∷ rs)) (gaps-same old new ls 0 sl ∙ sym q.between.before_is)
+    ∙ ap (λ (xs : List FreeRun). c.before ++ xs)
+    (free_runs-first new cells at (at ∷ rs)
+    ∙ ap (λ (xs : List FreeRun). xs ++ free_runs new cells (at + cells_in new at) rs) (gap-none at at (omega arith))
+    ∙ ap (λ (j : ℕ). free_runs new cells (at + j) rs) n'
+    ∙ free_runs-first new cells (at + need) rs
+    ∙ ap (λ (j : ℕ). gap (at + need) j ++ beyond new cells rs) end
+    ∙ ap (λ (xs : List FreeRun). gap (at + need) (at + k) ++ xs) (beyond-same old new rs cells sr ∙ sym q.between.after_is)) in
     let lows : last < cells → last < at = λ h. (lower old cells (marked 0 marks.set) last at q.rising.middle cells c.before p q.rising.left (omega (arith, q.rising.right.0, q.first)) h).below in
     let linked : AreLinked new cells head' head' (c.before ++ (gap (at + need) (at + k) ++ q.rest)) =
-      relinked old new cells head' head 0 q.rising.middle last c.before (gap (at + need) (at + k) ++ q.rest) q.rising.left (omega (arith, q.rising.right.0, q.first)) 
-      (λ h. keeps-below old new cells head' head last at (at + k) w.changes h (lows h) (w.kept h)) c.path
-      (subst (λ (j : ℕ). AreLinked new cells head' j (gap (at + need) (at + k) ++ q.rest)) (sym w.leads) (listed old new cells head' head (marked 0 marks.set) last at size need rest c.before c.after w q lows f)) in
+    relinked old new cells head' head 0 q.rising.middle last c.before (gap (at + need) (at + k) ++ q.rest) q.rising.left (omega (arith, q.rising.right.0, q.first))
+    (λ h. keeps-below old new cells head' head last at (at + k) w.changes h (lows h) (w.kept h)) c.path
+    (subst (λ (j : ℕ). AreLinked new cells head' j (gap (at + need) (at + k) ++ q.rest)) (sym w.leads) (listed old new cells head' head (marked 0 marks.set) last at size need rest c.before c.after w q lows f)) in
     record {
       laid = record {
         apart = subst (AreApart new cells 0) (sym m) whole;
         linked = subst (λ (xs : List ℕ). AreLinked new cells head' head' (free_runs new cells 0 xs)) (sym m) (subst (AreLinked new cells head' head') (sym runs) linked);
       };
       blocks =
-        ap (map (block_in new)) m ∙ map-append (block_in new) ls (at ∷ rs)
-        ∙ ap (λ (x : Block). map (block_in new) ls ++ x ∷ map (block_in new) rs) w.block
-        ∙ ap (λ (xs : List Block). xs ++ new_block at size ∷ map (block_in new) rs) (map-same old new ls sl)
-        ∙ ap (λ (xs : List Block). map (block_in old) ls ++ new_block at size ∷ xs) (map-same old new rs sr)
-        ∙ sym (with-between old (new_block at size) ls rs low (all-low at (at + 1) rs (omega arith) high))
-        ∙ ap (λ (xs : List ℕ). with_block (new_block at size) (map (block_in old) xs)) (sym e);
+          ap (map (block_in new)) m ∙ map-append (block_in new) ls (at ∷ rs)
+          ∙ ap (λ (x : Block). map (block_in new) ls ++ x ∷ map (block_in new) rs) w.block
+          ∙ ap (λ (xs : List Block). xs ++ new_block at size ∷ map (block_in new) rs) (map-same old new ls sl)
+          ∙ ap (λ (xs : List Block). map (block_in old) ls ++ new_block at size ∷ xs) (map-same old new rs sr)
+          ∙ sym (with-between old (new_block at size) ls rs low (all-low at (at + 1) rs (omega arith) high))
+          ∙ ap (λ (xs : List ℕ). with_block (new_block at size) (map (block_in old) xs)) (sym e);
     }
 
 -- the store once all of it is written
@@ -211,19 +218,20 @@ placed bytes marks two three four marks' cells head cells2 head2 head3 last at s
     let q : Fit bytes.set cells head (marked 0 marks.set) last at c.before c.after = fit (λ (r : FreeRun). r.cells < need) bytes marks cells head last at s c l in
     let p = passed bytes.set cells head (marked 0 marks.set) c.before c.after last s.laid.apart c.is c.path in
     let w : Written bytes.set (put (cond (last == cells) two.set (put two.set (32 * last + 8) (little_bytes 8 rest))) (32 * at) (little_bytes 8 size)) cells (cond (last == cells) rest head) head (marked 0 marks.set) last at size need rest =
-      written bytes.set two.set cells head (marked 0 marks.set) last at size need rest (last_within bytes.set cells (marked 0 marks.set) last c.before p)
-      (λ h. lower bytes.set cells (marked 0 marks.set) last at q.rising.middle cells c.before p q.rising.left (omega (arith, q.rising.right.0, q.first)) h) q.clear n f small next cut in
+    written bytes.set two.set cells head (marked 0 marks.set) last at size need rest (last_within bytes.set cells (marked 0 marks.set) last c.before p)
+    (λ h. lower bytes.set cells (marked 0 marks.set) last at q.rising.middle cells c.before p q.rising.left (omega (arith, q.rising.right.0, q.first)) h) q.clear n f small next cut in
     let new : List ℕ = put (cond (last == cells) two.set (put two.set (32 * last + 8) (little_bytes 8 rest))) (32 * at) (little_bytes 8 size) in
     let t : TakenAt bytes.set new marks.set (put (grown marks.set at) at (1 ∷ [])) cells (cond (last == cells) rest head) at size = taken_at bytes marks new cells (cond (last == cells) rest head) head last at size need rest s c l n f w in
     let g3 : three ≡ record { set = cond (last == cells) two.set (put two.set (32 * last + 8) (little_bytes 8 rest)); room = two.room } =
-      e3 ∙ ap (λ (k : ℕ). record { set = cond (last == k) two.set (put two.set (32 * last + 8) (little_bytes 8 rest)); room = two.room }) e2 in
+    e3 ∙ ap (λ (k : ℕ). record { set = cond (last == k) two.set (put two.set (32 * last + 8) (little_bytes 8 rest)); room = two.room }) e2 in
     let g4 : four ≡ record { set = new; room = two.room } = e4 ∙ ap (λ (b : Bytes). record { set = put b.set (32 * at) (little_bytes 8 size); room = b.room }) g3 in
-    let gh : head3 ≡ cond (last == cells) rest head = h3 ∙ ap (λ (k : ℕ). cond (last == k) rest head2) e2 ∙ ap (λ (k : ℕ). cond (last == cells) rest k) h2 in
-    (ap (λ (b : Bytes). pool_of b marks' cells) g4 ∙ ap (λ (m : Bytes). pool_of (record { set = new; room = two.room }) m cells) em ∙ ap (λ (bs : List Block). record { cells = cells; blocks = bs }) t.blocks,
+    let gh : head3 ≡ cond (last == cells) rest head = h3 ∙ ap (λ (k : ℕ). cond (last == k) rest head2) e2 ∙ ap (λ (k : ℕ). cond (last == cells) rest k) h2 in (
+      ap (λ (b : Bytes). pool_of b marks' cells) g4 ∙ ap (λ (m : Bytes). pool_of (record { set = new; room = two.room }) m cells) em ∙ ap (λ (bs : List Block). record { cells = cells; blocks = bs }) t.blocks,
       subst (λ (k : ℕ). IsStore four marks' cells k) (sym gh)
-      (subst (λ (b : Bytes). IsStore b marks' cells (cond (last == cells) rest head)) (sym g4)
-      (subst (λ (m : Bytes). IsStore (record { set = new; room = two.room }) m cells (cond (last == cells) rest head)) (sym em)
-      (record { laid = t.laid; room = r ∙ s.room; marks_room = s.marks_room; few = s.few }))))
+          (subst (λ (b : Bytes). IsStore b marks' cells (cond (last == cells) rest head)) (sym g4)
+          (subst (λ (m : Bytes). IsStore (record { set = new; room = two.room }) m cells (cond (last == cells) rest head)) (sym em)
+          (record { laid = t.laid; room = r ∙ s.room; marks_room = s.marks_room; some = s.some; few = s.few }))),
+    )
 
 -- ---- what each step of it needs
 
@@ -244,8 +252,9 @@ run_within bytes marks cells head last at need s c l = (fit (λ (r : FreeRun). r
 pub header_set : (two : List ℕ) (cells last to at : ℕ) → (last < cells → 32 * last + 16 ≤ length two) → last ≤ cells → at ≤ length two → at ≤ length (cond (last == cells) two (put two (32 * last + 8) (little_bytes 8 to)))
 header_set two cells last to at s w h =
     elim (cases_eq last cells) [
-      inl e ↦ rw (eq-eqb last cells e) h
-    | inr e ↦ rw (ne_eqb last cells e) (omega (arith, length-put two (little_bytes 8 to) (32 * last + 8) (let n : 32 * last + 8 ≤ length two = omega (arith, s (omega (arith, e))) in n))) ]
+      | inl e ↦ rw (eq-eqb last cells e) h
+      | inr e ↦ rw (ne_eqb last cells e) (omega (arith, length-put two (little_bytes 8 to) (32 * last + 8) (let n : 32 * last + 8 ≤ length two = omega (arith, s (omega (arith, e))) in n)))
+    ]
 
 -- ---- where the block is
 

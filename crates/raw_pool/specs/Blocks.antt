@@ -1,5 +1,5 @@
 -- The blocks of a pool.
-use Rattle.std.specs.Prelude.{◌≡◌, ◌≤◌, ◌<◌, ℕ, ◌+◌, ◌*◌, ◌/◌, ◌==◌, nat_le, nat_lt, cond, true, List, [], ◌∷◌, ◌++◌, length, map, replicate, Bool, false, Option, Some, None}
+use Rattle.std.specs.Prelude.{ℕ, ◌+◌, ◌-◌, ◌/◌, max, ◌==◌, nat_le, nat_lt, cond, List, [], ◌∷◌, replicate, Bool, false, Option, Some, None}
 use Rattle.raw_pool.specs.Bytes.{put}
 
 -- a block: its first cell, its size in bytes, and its bytes
@@ -60,3 +60,12 @@ with_bytes cell at bytes (b ∷ bs) =
 abbrev pub holds_range : ℕ → ℕ → Option Block → Bool
 holds_range at count None = false
 holds_range at count (Some b) = nat_le (at + count) b.size
+
+-- the pool once bytes are written into a block, if they are
+abbrev pub written : Bool → ℕ → ℕ → List ℕ → Pool → Pool
+written done cell at bytes p = cond done (record { cells = p.cells; blocks = with_bytes cell at bytes p.blocks }) p
+
+-- how many cells the longest run of free cells has, of those from a cell on, where the blocks from there on are given
+abbrev pub longest_run : ℕ → ℕ → List Block → ℕ
+longest_run cells from [] = cells - from
+longest_run cells from (b ∷ bs) = max (b.first - from) (longest_run cells (end_of b) bs)

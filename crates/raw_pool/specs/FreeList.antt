@@ -1,5 +1,5 @@
 -- What a region's bytes stand for: blocks with their headers, and the list of the free runs.
-use Rattle.std.specs.Prelude.{◌≡◌, ◌≤◌, ◌<◌, ℕ, zero, suc, ◌+◌, ◌-◌, ◌*◌, ◌/◌, ◌==◌, nat_lt, cond, List, [], ◌∷◌, ◌++◌, length, map}
+use Rattle.std.specs.Prelude.{◌≡◌, ◌≤◌, ℕ, ◌+◌, ◌-◌, ◌*◌, ◌==◌, nat_lt, cond, List, [], ◌∷◌, ◌++◌, length, map}
 use Rattle.raw_pool.specs.Bytes.{word, part}
 use Rattle.raw_pool.specs.Blocks.{Block, cells_for}
 

@@ -1,6 +1,7 @@
 -- What a walk along the free list has found.
-use Rattle.std.specs.Prelude.{◌≡◌, ◌≤◌, ◌<◌, ℕ, ◌+◌, ◌-◌, ◌*◌, ◌^◌, ◌⊎◌, replicate, List, [], ◌∷◌, ◌++◌, length}
+use Rattle.std.specs.Prelude.{◌≡◌, ◌≤◌, ◌<◌, ℕ, ◌+◌, ◌-◌, ◌*◌, ◌^◌, ◌⊎◌, ◌==◌, cond, replicate, List, [], ◌∷◌, ◌++◌, length}
 use Rattle.std.specs.List.{AllByRecursion}
+use Rattle.byteorder.specs.Endian.{little_bytes}
 use Rattle.raw_pool.specs.Bytes.{Bytes, part, put, word}
 use Rattle.raw_pool.specs.Blocks.{Pool}
 use Rattle.raw_pool.specs.FreeList.{FreeRun, IsRun, AreLinked, IsLaidOut, link, free_runs, marked, blocks_in}
@@ -25,6 +26,7 @@ pub record IsStore (bytes marks : Bytes) (cells head : ℕ) : Type 0 where
   pub laid : IsLaidOut bytes.set marks.set cells head
   pub room : bytes.room ≡ 32 * cells
   pub marks_room : marks.room ≡ cells
+  pub some : 0 < cells
   pub few : cells ≤ 2 ^ 28
 
 -- So many cells were taken off the front of a free run, and are 0 now; what the list goes on with is the rest of the run, or the next run.
@@ -35,6 +37,10 @@ pub record IsCut (old new : List ℕ) (cells head at need rest : ℕ) : Type 0 w
   pub set : 32 * (at + need) ≤ length new
   pub whole : word old (32 * at) ≤ need → rest ≡ link old cells head at
   pub left : need < word old (32 * at) → (rest ≡ at + need) × (word new (32 * (at + need)) ≡ word old (32 * at) - need) × (word new (32 * (at + need) + 8) ≡ link old cells head at) × (32 * (at + need) + 16 ≤ length new)
+
+-- the bytes once the link of a run is set; the list's head is not among them
+abbrev pub with_link : List ℕ → ℕ → ℕ → ℕ → List ℕ
+with_link bytes cells run to = cond (run == cells) bytes (put bytes (32 * run + 8) (little_bytes 8 to))
 
 -- the marks, so many that the one of a cell can be written
 abbrev pub grown : List ℕ → ℕ → List ℕ

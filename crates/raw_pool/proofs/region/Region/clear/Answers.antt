@@ -1,4 +1,4 @@
-use Rattle.std.proofs.Common.{replicate, length, ◌+◌, arith}
+use Rattle.std.proofs.Common.{replicate, ◌+◌, arith}
 use Rattle.std.proofs.lemmas.List.{length-replicate, replicate_more}
 use Rattle.raw_pool.proofs.Puts.{put_reaches, put_next, put_none}
 use Rattle.raw_pool.proofs.region.Region.clear.Goals as goal

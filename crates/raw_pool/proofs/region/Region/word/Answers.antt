@@ -1,4 +1,4 @@
-use Rattle.std.proofs.Common.{◌≡◌, ℕ, List, ◌+◌, ◌-◌, ap, sym, ◌∙◌, arith, take, drop}
+use Rattle.std.proofs.Common.{◌≡◌, ℕ, List, ◌+◌, ◌-◌, ap, ◌∙◌, arith, take, drop}
 use Rattle.byteorder.specs.Endian.{little_number}
 use Rattle.raw_pool.specs.Bytes.{word, part}
 use Rattle.raw_pool.proofs.region.Region.word.Goals as goal

@@ -1,4 +1,4 @@
-use Rattle.std.proofs.Common.{take, length, ◌+◌, get_or, sym, arith}
+use Rattle.std.proofs.Common.{take, ◌+◌, get_or, sym, arith}
 use Rattle.std.proofs.lemmas.List.{length-take-le, take_more}
 use Rattle.raw_pool.proofs.Puts.{put_reaches, put_next, put_none}
 use Rattle.raw_pool.proofs.region.Region.write.Goals as goal

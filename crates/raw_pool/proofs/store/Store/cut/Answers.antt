@@ -1,9 +1,7 @@
-use Rattle.std.proofs.Common.{◌≡◌, ◌≤◌, ◌<◌, ◌+◌, ◌-◌, ◌*◌, ◌^◌, ℕ, List, length, replicate, refl, sym, ap, ◌∙◌, subst, arith}
+use Rattle.std.proofs.Common.{◌≡◌, ◌+◌, ◌-◌, ◌*◌, ℕ, List, replicate, ap, arith}
 use Rattle.std.proofs.lemmas.List.{length-replicate}
 use Rattle.byteorder.specs.Endian.{little_bytes}
-use Rattle.raw_pool.specs.Bytes.{Bytes, put, word}
-use Rattle.raw_pool.specs.FreeList.{link}
-use Rattle.raw_pool.specs.Searches.{IsCut}
+use Rattle.raw_pool.specs.Bytes.{Bytes, put}
 use Rattle.raw_pool.proofs.Puts.{length-put}
 use Rattle.raw_pool.proofs.Cutting.{cut-whole, cut-rest}
 use Rattle.raw_pool.proofs.store.Store.cut.Goals as goal
@@ -20,7 +18,7 @@ returns-then-need-free-clause-cut g c =
     let one : List ℕ = put old (32 * c.args.at) (replicate (32 * c.args.need) 0) in
     let e1 : c.clear.new.self.set ≡ one = ap (λ (b : Bytes). b.set) c.clear.ensures in
     let e2 : c.set_run.new.self.bytes.set ≡ put (put c.clear.new.self.set (32 * (c.args.at + c.args.need)) (little_bytes 8 (c.run_cells-free.result - c.args.need))) (32 * (c.args.at + c.args.need) + 8) (little_bytes 8 c.link-next.result) =
-      ap (λ (b : Bytes). b.set) c.set_run.ensures.bytes in
+    ap (λ (b : Bytes). b.set) c.set_run.ensures.bytes in
     rw (e2, e1, c.run_cells-free.ensures, c.link-next.ensures)
     (cut-rest old cells head c.args.at c.args.need (omega arith) (omega arith) (omega arith) (omega arith))
 

@@ -1,7 +1,5 @@
-use Rattle.std.proofs.Common.{◌≡◌, ℕ, ◌*◌, ◌<◌, ap, sym, ◌∙◌, arith}
+use Rattle.std.proofs.Common.{◌≡◌, ℕ, ◌*◌, ◌<◌, ap, ◌∙◌, arith}
 use Rattle.raw_pool.specs.Bytes.{word}
-use Rattle.raw_pool.specs.FreeList.{FreeRun, IsRun}
-use Rattle.raw_pool.proofs.Links.{RunHere}
 use Rattle.raw_pool.proofs.Scans.{store_scan, store_here, store_step, store_done}
 use Rattle.raw_pool.proofs.store.Store.find_fit.Goals as goal
 

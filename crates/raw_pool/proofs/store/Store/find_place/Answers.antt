@@ -1,4 +1,4 @@
-use Rattle.std.proofs.Common.{◌≡◌, ◌<◌, ◌*◌, arith}
+use Rattle.std.proofs.Common.{◌<◌, arith}
 use Rattle.raw_pool.proofs.Scans.{store_scan, store_here, store_step}
 use Rattle.raw_pool.proofs.store.Store.find_place.Goals as goal
 

@@ -1,4 +1,4 @@
-use Rattle.std.proofs.Common.{◌-◌, ◌≤◌, ◌<◌}
+use Rattle.std.proofs.Common.{◌-◌, ◌<◌}
 use Rattle.raw_pool.specs.Searches.{Scan, runs_of}
 use Rattle.raw_pool.proofs.store.Store.find_place.Given as goal
 

@@ -1,8 +1,8 @@
-use Rattle.std.proofs.Common.{◌≡◌, ◌≤◌, ◌<◌, ◌+◌, ◌-◌, ◌*◌, ◌^◌, ◌==◌, ◌∷◌, [], cond, ℕ, List, Some, length, replicate, refl, sym, ap, ◌∙◌, subst, arith}
+use Rattle.std.proofs.Common.{◌≡◌, ◌≤◌, ◌<◌, ◌+◌, ◌*◌, ◌==◌, ◌∷◌, [], cond, ℕ, List, Some, length, sym, ap, ◌∙◌, subst, arith}
 use Rattle.byteorder.specs.Endian.{little_bytes}
-use Rattle.raw_pool.specs.Bytes.{Bytes, put, word}
+use Rattle.raw_pool.specs.Bytes.{Bytes, put}
 use Rattle.raw_pool.specs.Blocks.{taken}
-use Rattle.raw_pool.specs.Searches.{IsCut, IsStore, grown, pool_of}
+use Rattle.raw_pool.specs.Searches.{IsStore, grown, pool_of}
 use Rattle.raw_pool.proofs.Takes.{placed, lead_within, lead_set, run_set, run_within, header_set}
 use Rattle.raw_pool.proofs.store.Store.place.Given.{Over}
 use Rattle.raw_pool.proofs.store.Store.place.Goals as goal
@@ -29,11 +29,10 @@ write_word-requires g c =
     let two : List ℕ = c.cut-rest.new.self.bytes.set in
     let e : c.cut-rest.new.self.cells ≡ c.args.self.now.cells = c.cut-rest.ensures.others.3 in
     let n : 32 * c.args.at ≤ length (cond (c.args.last == c.cut-rest.new.self.cells) two (put two (32 * c.args.last + 8) (little_bytes 8 c.cut-rest.result))) =
-      header_set two c.cut-rest.new.self.cells c.args.last c.cut-rest.result (32 * c.args.at)
-      (λ h. let m = lead_set c.args.self.now.bytes c.args.self.now.marks c.args.self.now.cells c.args.self.now.head c.args.last c.args.at c.args.need c.requires.store c.requires.scan c.requires.within (omega (arith, e, h)) in omega (arith, m, c.cut-rest.ensures.cut.longer))
-      (omega (arith, w, e)) (omega (arith, c.cut-rest.ensures.cut.set)) in
+    header_set two c.cut-rest.new.self.cells c.args.last c.cut-rest.result (32 * c.args.at)
+    (λ h. let m = lead_set c.args.self.now.bytes c.args.self.now.marks c.args.self.now.cells c.args.self.now.head c.args.last c.args.at c.args.need c.requires.store c.requires.scan c.requires.within (omega (arith, e, h)) in omega (arith, m, c.cut-rest.ensures.cut.longer))
+    (omega (arith, w, e)) (omega (arith, c.cut-rest.ensures.cut.set)) in
     rw c.set_link.ensures.bytes (n, omega (arith, c.cut-rest.ensures.others.0, c.requires.store.room, c.requires.within))
-
 
 -- the store that the four steps leave
 abbrev done : (g : Over) → goal.After-mark g → Type 0

@@ -1,6 +1,5 @@
-use Rattle.std.proofs.Common.{◌≤◌, ◌+◌, ◌*◌, length, arith}
+use Rattle.std.proofs.Common.{◌*◌, arith}
 use Rattle.byteorder.specs.Endian.{little_bytes}
-use Rattle.raw_pool.specs.Bytes.{put}
 use Rattle.raw_pool.proofs.Puts.{length-put}
 use Rattle.raw_pool.proofs.store.Store.set_run.Goals as goal
 

@@ -1,11 +1,11 @@
-use Rattle.std.proofs.Common.{◌≡◌, ◌≤◌, ◌<◌, ◌+◌, ◌*◌, ℕ, Some, sym, ap, ◌∙◌, subst, arith}
+use Rattle.std.proofs.Common.{◌<◌, ℕ, sym, ap, ◌∙◌, subst, arith}
 use Rattle.std.specs.List.{AllByRecursion}
 use Rattle.raw_pool.specs.Blocks.{cells_for, lowest_fit}
 use Rattle.raw_pool.specs.FreeList.{FreeRun, blocks_in, marked}
 use Rattle.raw_pool.specs.Searches.{runs_of}
 use Rattle.raw_pool.proofs.Takes.{lowest_place}
 use Rattle.raw_pool.proofs.Listed.{no-fit, no-room}
-use Rattle.raw_pool.proofs.store.Store.take.Goals as goal
+use Rattle.raw_pool.proofs.store.Store.take_prepared.Goals as goal
 
 pub returns-then-size-self-clause-cell : goal.returns-then-size-self-clause-cell
 returns-then-size-self-clause-cell g c = sym (no-room c.args.self.now.bytes.set c.args.self.now.cells (cells_for c.args.size) 0 (marked 0 c.args.self.now.marks.set) c.requires.laid.apart (omega arith))
