@@ -1,0 +1,159 @@
+-- Bytes written into a region, and what is read of it afterwards.
+use Rattle.std.proofs.Common.{◌≡◌, ℕ, suc, ◌+◌, ◌-◌, ◌^◌, ◌<◌, ◌≤◌, List, [], ◌∷◌, ◌++◌, length, take, drop, set, get_or, replicate, refl, sym, ap, ◌∙◌, append_assoc, arith}
+use Rattle.byteorder.specs.Endian.{little_bytes, little_number}
+use Rattle.byteorder.specs.Numbers.{little_number-reads_back}
+use Rattle.std.proofs.lemmas.List.{take_more, take-append-drop, set_split, take_all, drop_all, append-nil, length-append, length-take-le, length-drop, length-replicate, drop-drop, take_at, drop-append-le, take-append-le, drop-take, take-take, drop-replicate, take-replicate}
+use Rattle.std.proofs.Math.Seq.{drop-append-add, take-append-add}
+use Rattle.raw_pool.specs.Bytes.{Bytes, part, put, word}
+
+-- what lies behind the place of the bytes that were written
+drop-put : (bytes new : List ℕ) (at i : ℕ) → at ≤ length bytes → drop (at + i) (put bytes at new) ≡ drop i (new ++ drop (at + length new) bytes)
+unfolding put
+drop-put bytes new at i h =
+    let front : List ℕ = take at bytes in
+    let rest : List ℕ = new ++ drop (at + length new) bytes in
+    let n : length front ≡ at = length-take-le at bytes h in
+    ap (drop (at + i)) (append_assoc front new (drop (at + length new) bytes))
+    ∙ ap (λ (k : ℕ). drop (k + i) (front ++ rest)) (sym n)
+    ∙ drop-append-add front rest i
+
+pub put_same : (bytes new : List ℕ) (at : ℕ) → at ≤ length bytes → part (put bytes at new) at (length new) ≡ new
+put_same bytes new at h =
+    let z : at ≡ at + 0 = omega arith in
+    let e : drop at (put bytes at new) ≡ new ++ drop (at + length new) bytes = ap (λ (k : ℕ). drop k (put bytes at new)) z ∙ drop-put bytes new at 0 h in
+    ap (take (length new)) e ∙ take_at new (drop (at + length new) bytes) (length new) refl
+
+pub put_before : (bytes new : List ℕ) (at off n : ℕ) → at ≤ length bytes → off + n ≤ at → part (put bytes at new) off n ≡ part bytes off n
+unfolding put
+put_before bytes new at off n h g =
+    let front : List ℕ = take at bytes in
+    let rest : List ℕ = new ++ drop (at + length new) bytes in
+    let m : length front ≡ at = length-take-le at bytes h in
+    let k : ℕ = at - off in
+    let ke : off + k ≡ at = omega arith in
+    let s : drop off front ≡ take k (drop off bytes) = ap (λ (j : ℕ). drop off (take j bytes)) (sym ke) ∙ drop-take off k bytes in
+    ap (λ (xs : List ℕ). take n (drop off xs)) (append_assoc front new (drop (at + length new) bytes))
+    ∙ ap (take n) (drop-append-le off front rest (omega arith))
+    ∙ take-append-le n (drop off front) rest (omega (arith, length-drop off front))
+    ∙ ap (take n) s
+    ∙ take-take n k (drop off bytes) (omega arith)
+
+pub put_behind : (bytes new : List ℕ) (at off n : ℕ) → at ≤ length bytes → at + length new ≤ off → part (put bytes at new) off n ≡ part bytes off n
+put_behind bytes new at off n h g =
+    let k : ℕ = off - (at + length new) in
+    let ke : at + (length new + k) ≡ off = omega arith in
+    let end : at + length new + k ≡ off = omega arith in
+    let rest : List ℕ = drop (at + length new) bytes in
+    ap (take n)
+    (ap (λ (j : ℕ). drop j (put bytes at new)) (sym ke)
+    ∙ drop-put bytes new at (length new + k) h
+    ∙ drop-append-add new rest k
+    ∙ drop-drop k (at + length new) bytes
+    ∙ ap (λ (j : ℕ). drop j bytes) end)
+
+pub put_inside : (bytes : List ℕ) (at m off n : ℕ) → at ≤ length bytes → at ≤ off → off + n ≤ at + m → part (put bytes at (replicate m 0)) off n ≡ replicate n 0
+put_inside bytes at m off n h low high =
+    let new : List ℕ = replicate m 0 in
+    let l : length new ≡ m = length-replicate m 0 in
+    let i : ℕ = off - at in
+    let ie : at + i ≡ off = omega arith in
+    let rest : List ℕ = drop (at + length new) bytes in
+    ap (take n)
+    (ap (λ (j : ℕ). drop j (put bytes at new)) (sym ie)
+    ∙ drop-put bytes new at i h
+    ∙ drop-append-le i new rest (omega arith))
+    ∙ take-append-le n (drop i new) rest (omega (arith, length-drop i new))
+    ∙ ap (take n) (drop-replicate i m 0)
+    ∙ take-replicate n (m - i) 0 (omega arith)
+
+pub length-put : (bytes new : List ℕ) (at : ℕ) → at ≤ length bytes → length (put bytes at new) ≡ (at + length new) + (length bytes - (at + length new))
+unfolding put
+length-put bytes new at h =
+    omega (arith, length-append (take at bytes ++ new) (drop (at + length new) bytes), length-append (take at bytes) new, length-take-le at bytes h, length-drop (at + length new) bytes)
+
+pub put-is : (bytes : List ℕ) (at : ℕ) (new : List ℕ) → put bytes at new ≡ take at bytes ++ new ++ drop (at + length new) bytes
+unfolding put
+put-is bytes at new = refl
+
+-- one byte that is written over another, or behind all
+pub put-over : (bytes : List ℕ) (at byte : ℕ) → at < length bytes → set bytes at byte ≡ put bytes at (byte ∷ [])
+unfolding put
+put-over bytes at byte h =
+    set_split bytes at byte h
+    ∙ ap (λ (k : ℕ). take at bytes ++ byte ∷ drop k bytes) (let one : suc at ≡ at + 1 = omega arith in one)
+    ∙ sym (append_assoc (take at bytes) (byte ∷ []) (drop (at + 1) bytes))
+
+pub put-end : (bytes : List ℕ) (at byte : ℕ) → length bytes ≡ at → bytes ++ byte ∷ [] ≡ put bytes at (byte ∷ [])
+unfolding put
+put-end bytes at byte h =
+    let e : drop (at + 1) bytes ≡ [] = drop_all (at + 1) bytes (omega arith) in
+    ap (λ (xs : List ℕ). xs ++ byte ∷ []) (sym (take_all at bytes (omega arith)))
+    ∙ sym (append-nil (take at bytes ++ byte ∷ []))
+    ∙ ap (λ (xs : List ℕ). take at bytes ++ byte ∷ [] ++ xs) (sym e)
+
+-- ---- words
+
+pub word-same : (old new : List ℕ) (at : ℕ) → part new at 8 ≡ part old at 8 → word new at ≡ word old at
+unfolding word
+word-same old new at e = ap (little_number 8) e
+
+pub word-put : (bytes : List ℕ) (at n : ℕ) → at ≤ length bytes → n < 2 ^ 64 → word (put bytes at (little_bytes 8 n)) at ≡ n
+unfolding word
+word-put bytes at n h fits =
+    let e : part (put bytes at (little_bytes 8 n)) at 8 ≡ little_bytes 8 n = put_same bytes (little_bytes 8 n) at h in
+    ap (little_number 8) (e ∙ sym (append-nil (little_bytes 8 n))) ∙ little_number-reads_back 8 n [] (omega arith)
+
+-- ---- more bytes written behind those before
+
+pub put-nothing : (bytes : List ℕ) (at : ℕ) → at ≤ length bytes → put bytes at [] ≡ bytes
+unfolding put
+put-nothing bytes at h =
+    let z : at + 0 ≡ at = omega arith in
+    ap (λ (xs : List ℕ). xs ++ drop (at + 0) bytes) (append-nil (take at bytes)) ∙ ap (λ (k : ℕ). take at bytes ++ drop k bytes) z ∙ take-append-drop at bytes
+
+pub put-more : (bytes new more : List ℕ) (at next : ℕ) → at ≤ length bytes → at + length new ≡ next → put (put bytes at new) next more ≡ put bytes at (new ++ more)
+put-more bytes new more at next h e =
+    let front : List ℕ = take at bytes ++ new in
+    let rest : List ℕ = drop (at + length new) bytes in
+    let n : length front ≡ next = length-append (take at bytes) new ∙ ap (λ (k : ℕ). k + length new) (length-take-le at bytes h) ∙ e in
+    let sum : next + length more ≡ length front + length more = ap (λ (k : ℕ). k + length more) (sym n) in
+    let whole : at + length new + length more ≡ at + length (new ++ more) = omega (arith, length-append new more) in
+    put-is (put bytes at new) next more
+    ∙ ap (λ (xs : List ℕ). take next xs ++ more ++ drop (next + length more) xs) (put-is bytes at new)
+    ∙ ap (λ (xs : List ℕ). xs ++ more ++ drop (next + length more) (front ++ rest)) (take_at front rest next n)
+    ∙ ap (λ (k : ℕ). front ++ more ++ drop k (front ++ rest)) sum
+    ∙ ap (λ (xs : List ℕ). front ++ more ++ xs) (drop-append-add front rest (length more) ∙ drop-drop (length more) (at + length new) bytes)
+    ∙ ap (λ (k : ℕ). front ++ more ++ drop k bytes) whole
+    ∙ ap (λ (xs : List ℕ). xs ++ drop (at + length (new ++ more)) bytes) (append_assoc (take at bytes) new more)
+    ∙ sym (put-is bytes at (new ++ more))
+
+-- ---- a region whose bytes are written one by one
+
+pub put_reaches : (old now : Bytes) (new : List ℕ) (at i : ℕ) → at ≤ length old.set → now ≡ record { set = put old.set at new; room = old.room } → length new ≡ i → at + i ≤ length now.set
+put_reaches old now new at i h e n = rw e (omega (arith, length-put old.set new at h, n))
+
+pub put_next : (old now next : Bytes) (new whole : List ℕ) (at i byte : ℕ) → at ≤ length old.set → now ≡ record { set = put old.set at new; room = old.room } → length new ≡ i →
+    next ≡ record { set = put now.set (at + i) (byte ∷ []); room = now.room } → new ++ byte ∷ [] ≡ whole → next ≡ record { set = put old.set at whole; room = old.room }
+put_next old now next new whole at i byte h e n f w =
+    f ∙ ap (λ (b : Bytes). record { set = put b.set (at + i) (byte ∷ []); room = b.room }) e
+    ∙ ap (λ (xs : List ℕ). record { set = xs; room = old.room }) (put-more old.set new (byte ∷ []) at (at + i) h (ap (λ (k : ℕ). at + k) n) ∙ ap (put old.set at) w)
+
+pub put_none : (old : Bytes) (at : ℕ) → at ≤ length old.set → old ≡ record { set = put old.set at []; room = old.room }
+put_none old at h = ap (λ (xs : List ℕ). record { set = xs; room = old.room }) (sym (put-nothing old.set at h))
+
+pub taken_more : (bytes : List ℕ) (i byte : ℕ) → i < length bytes → byte ≡ get_or bytes i byte → take i bytes ++ byte ∷ [] ≡ take (i + 1) bytes
+taken_more bytes i byte h e = ap (λ (b : ℕ). take i bytes ++ b ∷ []) e ∙ sym (take_more bytes i byte h)
+
+-- a write into the middle one of three lists
+pub put-deep : (front mid rest new : List ℕ) (off at : ℕ) → length front ≡ off → at + length new ≤ length mid → put (front ++ (mid ++ rest)) (off + at) new ≡ front ++ (put mid at new ++ rest)
+put-deep front mid rest new off at e h =
+    let t1 : take (off + at) (front ++ (mid ++ rest)) ≡ front ++ take at mid =
+    ap (λ (k : ℕ). take (k + at) (front ++ (mid ++ rest))) (sym e) ∙ take-append-add front (mid ++ rest) at ∙ ap (λ (xs : List ℕ). front ++ xs) (take-append-le at mid rest (omega arith)) in
+    let k : off + at + length new ≡ length front + (at + length new) = omega arith in
+    let t2 : drop (off + at + length new) (front ++ (mid ++ rest)) ≡ drop (at + length new) mid ++ rest =
+    ap (λ (j : ℕ). drop j (front ++ (mid ++ rest))) k ∙ drop-append-add front (mid ++ rest) (at + length new) ∙ drop-append-le (at + length new) mid rest h in
+    let nested : front ++ take at mid ++ new ++ (drop (at + length new) mid ++ rest) ≡ front ++ (take at mid ++ new ++ drop (at + length new) mid ++ rest) = simp append_assoc in
+    put-is (front ++ (mid ++ rest)) (off + at) new
+    ∙ ap (λ (xs : List ℕ). xs ++ new ++ drop (off + at + length new) (front ++ (mid ++ rest))) t1
+    ∙ ap (λ (xs : List ℕ). front ++ take at mid ++ new ++ xs) t2
+    ∙ nested ∙ ap (λ (xs : List ℕ). front ++ (xs ++ rest)) (sym (put-is mid at new))

@@ -1,0 +1,20 @@
+-- The bytes of a region: those that were set are its front.
+use Rattle.std.specs.Prelude.{ℕ, ◌+◌, List, ◌++◌, length, take, drop}
+use Rattle.byteorder.specs.Endian.{little_number}
+
+-- a region: its bytes that were set, and how many it has room for
+pub record Bytes : Type 0 where
+  pub set : List ℕ
+  pub room : ℕ
+
+-- so many bytes from a place on
+abbrev pub part : List ℕ → ℕ → ℕ → List ℕ
+part bytes at count = take count (drop at bytes)
+
+-- the bytes once others are written from a place on
+unfoldable pub put : List ℕ → ℕ → List ℕ → List ℕ
+put bytes at new = take at bytes ++ new ++ drop (at + length new) bytes
+
+-- the number in the 8 bytes from a place on, the lowest byte first
+unfoldable pub word : List ℕ → ℕ → ℕ
+word bytes at = little_number 8 (part bytes at 8)

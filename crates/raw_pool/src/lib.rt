@@ -1,0 +1,8 @@
+//! Raw pool memory: blocks in a region of whole pages, with the free list in its free cells.
+#![tactic(auto)]
+
+mod pool;
+mod region;
+mod store;
+
+pub use pool::RawPool;

@@ -1,0 +1,108 @@
+//! A region of whole pages, whose cells are blocks and free runs.
+ghost use Rattle.std.specs.Prelude.{◌≡◌, ◌≤◌, ◌*◌, ◌^◌, ◌<◌, [], length, IfOk, IsTrue, ◌↔◌};
+ghost use Rattle.std.specs.Option.{is_some, option_map};
+ghost use Rattle.raw_pool.specs.Blocks.{block_at, cells_for, holds_range, longest_run, lowest_fit, taken, without_block, written};
+
+use crate::region::Region;
+use crate::store::{CELL_SIZE, Store};
+use std::alloc::{AllocError, Allocator, Global};
+use std::marker::Model;
+
+/// The cells of a page.
+const PAGE_CELLS: usize = 128;
+
+/// A region of raw memory: 128 cells of 32 bytes for each of its pages, and blocks known by their
+/// first cells.
+///
+/// A block takes cells in a row, for a header of 8 bytes and the block's own bytes behind it. All its
+/// bytes are 0 when it is taken, and change by [`RawPool::write`] only.
+#[derive(Drop)]
+pub struct RawPool<A: Allocator = Global> {
+    store: Store<A>,
+}
+
+impl<A: Allocator> Model for RawPool<A> {
+    ghost use Rattle.raw_pool.specs.Blocks.{Pool};
+    ghost use Rattle.raw_pool.specs.Searches.{IsRegion, pool_of};
+
+    ghost Value = { Pool };
+
+    ghost view = { λ p. pool_of p.store.bytes p.store.marks p.store.cells };
+
+    ghost invariant = { λ p. IsRegion p.store.bytes p.store.marks p.store.cells p.store.head };
+}
+
+impl<A: Allocator + Copy> RawPool<A> {
+    /// A region of so many pages, at most 2^21, with no blocks. This is the one call that takes
+    /// memory. It touches none of it.
+    pub fn new(alloc: A, pages: usize) -> Result<RawPool<A>, AllocError>
+        requires { (1 ≤ pages) × (pages ≤ 2 ^ 21) }
+        ensures { IfOk result (λ p. p ≡ record { cells = 128 * pages; blocks = [] }) }
+    {
+        let cells = PAGE_CELLS * pages;
+        let bytes = Region::new(alloc, CELL_SIZE * cells)?;
+        let marks = Region::new(alloc, cells)?;
+        Ok(RawPool {
+            store: Store {
+                bytes,
+                marks,
+                cells,
+                head: 0,
+            },
+        })
+    }
+
+    /// Takes the lowest run of free cells that has room for a block of so many bytes, all of which
+    /// become 0, and answers its first cell. On None, which means that there is no such run, all stays.
+    pub fn take(&mut self, size: usize) -> Option<usize>
+        ensures cell { result ≡ lowest_fit self.old.cells (cells_for size) 0 self.old.blocks }
+        ensures pool { self.new ≡ taken self.old size result }
+    {
+        self.store.take(size)
+    }
+
+    /// Gives a block back. False, with nothing changed, if no block begins at the cell.
+    pub fn give(&mut self, cell: usize) -> bool
+        ensures given { result ≡ is_some (block_at cell self.old.blocks) }
+        ensures pool { self.new ≡ record { cells = self.old.cells; blocks = without_block cell self.old.blocks } }
+    {
+        self.store.give(cell)
+    }
+
+    /// The size in bytes of the block that begins at a cell.
+    pub fn size_of(&self, cell: usize) -> Option<usize>
+        ensures { result ≡ option_map (λ b. b.size) (block_at cell self.now.blocks) }
+    {
+        self.store.size_of(cell)
+    }
+
+    /// The bytes of the block that begins at a cell.
+    pub fn bytes(&self, cell: usize) -> Option<&[u8]>
+        ensures { option_map (λ s. s.now) result ≡ option_map (λ b. b.bytes) (block_at cell self.now.blocks) }
+    {
+        self.store.bytes_of(cell)
+    }
+
+    /// Writes bytes into the block that begins at a cell, from its byte `at` on. False, with nothing
+    /// changed, if there is no such block or the bytes do not fit.
+    pub fn write(&mut self, cell: usize, at: usize, bytes: &[u8]) -> bool
+        ensures written { result ≡ holds_range at (length bytes.now) (block_at cell self.old.blocks) }
+        ensures pool { self.new ≡ written result cell at bytes.now self.old }
+    {
+        self.store.write(cell, at, bytes)
+    }
+
+    /// Whether there is no block.
+    pub fn is_empty(&self) -> bool
+        ensures { IsTrue result ↔ (self.now.blocks ≡ []) }
+    {
+        self.store.is_empty()
+    }
+
+    /// How many cells the longest run of free cells has. It goes along all free runs.
+    pub fn longest_free(&self) -> usize
+        ensures { result ≡ longest_run self.now.cells 0 self.now.blocks }
+    {
+        self.store.longest_free()
+    }
+}
