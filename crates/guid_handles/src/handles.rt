@@ -1,8 +1,8 @@
 //! The handle table.
-ghost use Rattle.std.specs.Prelude.{◌≡◌, ◌+◌, ◌<◌, ◌^◌, ◌==◌, cond, not, IsSome, IfNone, OnOk, Bool, true, false, nat_lt, [], ◌∷◌, map, length, None, Some, MatchOption, IfOk, OnErr, IsTrue};
+ghost use Rattle.std.specs.Prelude.{◌≡◌, ◌+◌, ◌<◌, ◌≤◌, ◌^◌, ◌==◌, cond, not, IsSome, IfNone, OnOk, Bool, true, false, nat_lt, [], ◌∷◌, map, length, None, Some, MatchOption, IfOk, OnErr, IsTrue};
 ghost use Rattle.std.specs.List.{find, filter, list_any};
 ghost use Rattle.guid_handles.specs.HandleTables.{numbers, same_guid, has_number, is_live, is_on, is_at, maker_of, interface_at, value_at, carries, holders_of, guids_on, written_over, next_after};
-ghost use Rattle.guid_handles.specs.HandleChanges.{IsHandleTable, max_handles, has_guid_twice, is_dead, is_taken, past_limit, refusal, with_interfaces, with_handle, install_refusal, install_many_refusal, Installs, without_handle, without_interface, with_value};
+ghost use Rattle.guid_handles.specs.HandleChanges.{IsHandleTable, max_handles, max_installed, has_guid_twice, is_dead, is_taken, past_limit, refusal, with_interfaces, with_handle, install_refusal, install_many_refusal, Installs, without_handle, without_interface, with_value};
 ghost use Rattle.guid_handles.specs.Indexes.{AreAbsent};
 
 use crate::interfaces::Interfaces;
@@ -218,7 +218,9 @@ impl<A: Allocator + Copy> Handles<A> {
         requires once { has_guid_twice pairs.now ≡ false }
         requires numbers { self.old.last_number < 2 ^ 62 }
         requires stamps { self.old.last_stamp < 2 ^ 62 }
-        ensures { Installs self.old handle pairs.now (refusal false (past_limit self.old handle)) result self.new }
+        ensures installs { Installs self.old handle pairs.now (refusal false (past_limit self.old handle)) result self.new }
+        ensures numbers { self.new.last_number ≤ self.old.last_number + 1 }
+        ensures stamps { self.new.last_stamp ≤ self.old.last_stamp + length pairs.now }
     {
         if self.is_past_limit(handle) {
             return Err(Status::OutOfResources);
@@ -241,7 +243,9 @@ impl<A: Allocator + Copy> Handles<A> {
     pub fn install(&mut self, handle: u64, guid: Uuid, kind: u32, value: u64) -> Result<u64, Status>
         requires numbers { self.old.last_number < 2 ^ 62 }
         requires stamps { self.old.last_stamp < 2 ^ 62 }
-        ensures { Installs self.old handle ((guid, value) ∷ []) (install_refusal self.old handle guid kind) result self.new }
+        ensures installs { Installs self.old handle ((guid, value) ∷ []) (install_refusal self.old handle guid kind) result self.new }
+        ensures numbers { self.new.last_number ≤ self.old.last_number + 1 }
+        ensures stamps { self.new.last_stamp ≤ self.old.last_stamp + 1 }
     {
         if kind != 0 || self.is_dead(handle) || self.is_taken(handle, guid) {
             return Err(Status::InvalidParameter);
@@ -254,7 +258,9 @@ impl<A: Allocator + Copy> Handles<A> {
     pub fn install_many(&mut self, handle: u64, pairs: &[(Uuid, u64)]) -> Result<u64, Status>
         requires numbers { self.old.last_number < 2 ^ 62 }
         requires stamps { self.old.last_stamp < 2 ^ 62 }
-        ensures { Installs self.old handle pairs.now (install_many_refusal self.old handle pairs.now) result self.new }
+        ensures installs { Installs self.old handle pairs.now (install_many_refusal self.old handle pairs.now) result self.new }
+        ensures numbers { self.new.last_number ≤ self.old.last_number + 1 }
+        ensures stamps { self.new.last_stamp ≤ self.old.last_stamp + max_installed }
     {
         if pairs.is_empty()
             || pairs.len() > MAX_INSTALLED
