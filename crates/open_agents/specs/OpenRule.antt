@@ -1,7 +1,6 @@
 -- The open rule: what is decided about a call of OpenProtocol, up to the stop of a driver.
 use Rattle.std.specs.Prelude.{ℕ, ◌==◌, ◌&&◌, ◌||◌, not, Bool, cond, List, [], ◌∷◌, Option, Some, None}
-use Rattle.std.specs.List.{filter, find, list_any}
-use Rattle.page_ranges.specs.declared.statuses.Status.{Status}
+use Rattle.std.specs.List.{find, list_any}
 use Rattle.page_ranges.specs.declared.statuses.Status.TheVariants.{InvalidParameter, Unsupported, AlreadyStarted, AccessDenied}
 use Rattle.guid_handles.specs.HandleTables.{HandleTable, is_live, carries}
 use Rattle.guid_handles.specs.HandleChanges.{is_dead}

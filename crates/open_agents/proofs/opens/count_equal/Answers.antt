@@ -1,4 +1,4 @@
-use Rattle.std.proofs.Common.{arith, add-one}
+use Rattle.std.proofs.Common.{add-one}
 use Rattle.guid_handles.proofs.SortedLists.{changed_so_far}
 use Rattle.open_agents.specs.OpenItems.{counted, is_equal_item}
 use Rattle.open_agents.proofs.Loops.{not_yet_changed, all_at}
