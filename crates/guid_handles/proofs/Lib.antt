@@ -1,0 +1,4 @@
+pub mod SortedLists
+pub mod GuidOrder
+pub mod Indexed
+pub mod Stored

@@ -1,0 +1,5 @@
+pub mod HandleTables
+pub mod HandleChanges
+pub mod Sorting
+pub mod Indexes
+pub mod Stores

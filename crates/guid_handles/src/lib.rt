@@ -1,0 +1,11 @@
+//! The handle table: handles, the protocol interfaces on them, and how they are found.
+#![tactic(auto)]
+
+mod handles;
+mod interfaces;
+mod records;
+mod room;
+mod searches;
+
+pub use handles::{Handles, MAX_HANDLES, MAX_INSTALLED};
+pub use records::{Interface, LiveHandle};

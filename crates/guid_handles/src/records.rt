@@ -1,0 +1,20 @@
+//! What the handle table lists.
+use uuid::Uuid;
+
+/// A live handle.
+#[derive(Clone, Copy)]
+pub struct LiveHandle {
+    pub number: u64,
+    /// The controller and the agent of the driver that made it as a child.
+    pub maker: Option<(u64, u64)>,
+}
+
+/// A protocol interface on a handle.
+#[derive(Clone, Copy)]
+pub struct Interface {
+    pub handle: u64,
+    pub guid: Uuid,
+    pub value: u64,
+    /// Of two interfaces the one that was installed or reinstalled later has the higher stamp.
+    pub stamp: u64,
+}

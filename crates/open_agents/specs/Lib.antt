@@ -1,0 +1,2 @@
+pub mod OpenItems
+pub mod OpenRule

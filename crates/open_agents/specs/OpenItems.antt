@@ -1,0 +1,72 @@
+-- The open items, in the order in which they were made, and what changes them.
+use Rattle.std.specs.Prelude.{◌≡◌, ℕ, ◌+◌, ◌-◌, ◌<◌, ◌^◌, ◌==◌, ◌&&◌, ◌||◌, not, Bool, true, cond, List, [], ◌∷◌, ◌++◌, map}
+use Rattle.std.specs.List.{filter, list_any, AllByRecursion}
+use Rattle.guid_handles.specs.HandleTables.{same_guid}
+use Rattle.open_agents.specs.declared.items.OpenRecord.{OpenRecord}
+use Rattle.open_agents.specs.declared.items.OpenItem.{OpenItem}
+
+-- ---- attributes
+
+abbrev pub is_for_driver : ℕ → Bool
+is_for_driver a = (a == 0x10) || (a == 0x30)
+
+abbrev pub is_exclusive : ℕ → Bool
+is_exclusive a = (a == 0x20) || (a == 0x30)
+
+-- ---- what an item is about
+
+-- an item is on the interface of a GUID on a handle
+abbrev pub is_open_on : ℕ → List ℕ → OpenRecord → Bool
+is_open_on n guid o = (o.handle == n) && same_guid o.guid guid
+
+-- an item is of a controller and an agent
+abbrev pub is_of_pair : ℕ → ℕ → OpenRecord → Bool
+is_of_pair controller agent o = (o.agent == agent) && (o.controller == controller)
+
+-- an item is equal to what a call asks for
+abbrev pub is_equal_item : ℕ → List ℕ → ℕ → ℕ → ℕ → OpenRecord → Bool
+is_equal_item n guid agent controller a o = is_open_on n guid o && (is_of_pair controller agent o && (o.attributes == a))
+
+-- an item makes its pair manage a handle: it is for a driver, and the handle is its controller
+abbrev pub manages : ℕ → OpenRecord → Bool
+manages n o = is_for_driver o.attributes && (o.controller == n)
+
+-- an item names a handle
+abbrev pub names : ℕ → OpenRecord → Bool
+names n o = (o.handle == n) || ((o.agent == n) || (o.controller == n))
+
+-- ---- what is listed
+
+abbrev pub item_of : OpenRecord → OpenItem
+item_of o = record { agent = o.agent; controller = o.controller; attributes = o.attributes; count = o.count }
+
+-- the items of an interface, in the order in which they were made
+abbrev pub items_on : List OpenRecord → ℕ → List ℕ → List OpenItem
+items_on opens n guid = map item_of (filter (is_open_on n guid) opens)
+
+-- the controller and the agent of each item that makes them manage a handle
+abbrev pub managers_of : List OpenRecord → ℕ → List (ℕ × ℕ)
+managers_of opens n = map (λ o. (o.controller, o.agent)) (filter (manages n) opens)
+
+-- ---- what changes
+
+abbrev pub counted : (OpenRecord → Bool) → OpenRecord → OpenRecord
+counted is_equal o = cond (is_equal o) (record o { count = o.count + 1 }) o
+
+-- An equal item's count rises; without one there is a new item of count 1, but none for agent 0.
+abbrev pub with_item : ℕ → List ℕ → ℕ → ℕ → ℕ → List OpenRecord → List OpenRecord
+with_item n guid agent controller a opens =
+    cond (list_any (is_equal_item n guid agent controller a) opens)
+    (map (counted (is_equal_item n guid agent controller a)) opens)
+    (cond (agent == 0) opens (opens ++ record { handle = n; guid = guid; agent = agent; controller = controller; attributes = a; count = 1 } ∷ []))
+
+-- the count of an equal item can rise
+abbrev pub CanCount : ℕ → List ℕ → ℕ → ℕ → ℕ → List OpenRecord → Type 0
+CanCount n guid agent controller a opens = AllByRecursion (λ o. is_equal_item n guid agent controller a o ≡ true → o.count < 2 ^ 32 - 1) opens
+
+-- the items of a pair on an interface, whatever their attributes
+abbrev pub is_closed_by : ℕ → List ℕ → ℕ → ℕ → OpenRecord → Bool
+is_closed_by n guid agent controller o = is_open_on n guid o && is_of_pair controller agent o
+
+abbrev pub without_items : (OpenRecord → Bool) → List OpenRecord → List OpenRecord
+without_items p opens = filter (λ o. not (p o)) opens

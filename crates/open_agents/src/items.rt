@@ -1,0 +1,101 @@
+//! Open items, and what may be decided about a call of OpenProtocol.
+ghost use Rattle.std.specs.Prelude.{◌≡◌, ◌-◌, ◌<◌, ◌^◌, true};
+ghost use Rattle.open_agents.specs.OpenItems as spec;
+
+use page_ranges::Status;
+use uuid::Uuid;
+
+/// An item of the open list: an interface, who has it open, how, and how often.
+#[derive(Clone, Copy)]
+pub struct OpenRecord {
+    pub handle: u64,
+    pub guid: Uuid,
+    pub agent: u64,
+    pub controller: u64,
+    pub attributes: u32,
+    pub count: u32,
+}
+
+/// An item of an interface, as OpenProtocolInformation lists it.
+#[derive(Clone, Copy, Debug, PartialEq, Eq)]
+pub struct OpenItem {
+    pub agent: u64,
+    pub controller: u64,
+    pub attributes: u32,
+    pub count: u32,
+}
+
+/// What is to be done about a call of OpenProtocol.
+#[derive(Clone, Copy, Debug, PartialEq, Eq)]
+pub enum Decision {
+    /// The call is refused.
+    Refuse(Status),
+    /// There is an equal item, whose count rises.
+    Count,
+    /// A new item is made.
+    Add,
+    /// A new item is made once the driver of a pair of controller and agent was stopped.
+    StopFirst((u64, u64)),
+}
+
+/// Whether an item is on the interface of a GUID on a handle.
+pub(crate) fn is_open_on(o: &OpenRecord, handle: u64, guid: Uuid) -> bool
+    ensures { result ≡ spec.is_open_on handle guid o.now }
+{
+    o.handle == handle && o.guid == guid
+}
+
+/// Whether an item is of a controller and an agent.
+pub(crate) fn is_of_pair(o: &OpenRecord, controller: u64, agent: u64) -> bool
+    ensures { result ≡ spec.is_of_pair controller agent o.now }
+{
+    o.agent == agent && o.controller == controller
+}
+
+/// Whether an item is equal to what a call asks for.
+pub(crate) fn is_equal_item(
+    o: &OpenRecord,
+    handle: u64,
+    guid: Uuid,
+    agent: u64,
+    controller: u64,
+    attributes: u32,
+) -> bool
+    ensures { result ≡ spec.is_equal_item handle guid agent controller attributes o.now }
+{
+    is_open_on(o, handle, guid) && is_of_pair(o, controller, agent) && o.attributes == attributes
+}
+
+/// An item as OpenProtocolInformation lists it.
+pub(crate) fn item_of(o: &OpenRecord) -> OpenItem
+    ensures { result ≡ spec.item_of o.now }
+{
+    OpenItem {
+        agent: o.agent,
+        controller: o.controller,
+        attributes: o.attributes,
+        count: o.count,
+    }
+}
+
+/// An item, counted once more if it is equal to what a call asks for.
+pub(crate) fn counted(
+    o: OpenRecord,
+    handle: u64,
+    guid: Uuid,
+    agent: u64,
+    controller: u64,
+    attributes: u32,
+) -> OpenRecord
+    requires { spec.is_equal_item handle guid agent controller attributes o ≡ true → o.count < 2 ^ 32 - 1 }
+    ensures { result ≡ spec.counted (spec.is_equal_item handle guid agent controller attributes) o }
+{
+    if is_equal_item(&o, handle, guid, agent, controller, attributes) {
+        OpenRecord {
+            count: o.count + 1,
+            ..o
+        }
+    } else {
+        o
+    }
+}

@@ -1,0 +1,12 @@
+//! Who has which protocol interface open, and the rules by which OpenProtocol decides.
+#![tactic(auto)]
+
+mod attributes;
+mod items;
+mod opens;
+
+pub use attributes::{
+    BY_CHILD_CONTROLLER, BY_DRIVER, BY_HANDLE_PROTOCOL, EXCLUSIVE, GET_PROTOCOL, TEST_PROTOCOL,
+};
+pub use items::{Decision, OpenItem, OpenRecord};
+pub use opens::Opens;

@@ -1,0 +1,180 @@
+//! The registrations.
+ghost use Rattle.std.specs.Prelude.{◌≡◌, ◌+◌, ◌<◌, ◌^◌, [], map, length, IfOk, IsOk, IsSome, IfErr};
+ghost use Rattle.std.specs.Option.{option_map};
+ghost use Rattle.protocol_notify.specs.Registrations as spec;
+ghost use Rattle.page_ranges.specs.declared.statuses.Status.TheVariants.{OutOfResources};
+ghost use Rattle.protocol_notify.specs.Registrations.{registration_of, events_for, with_registration, next_of, next_handle, taken};
+
+use guid_handles::Handles;
+use page_ranges::Status;
+use std::alloc::{AllocError, Allocator, Global};
+use std::marker::Model;
+use uuid::Uuid;
+
+/// A registration for the interfaces of a GUID.
+#[derive(Clone, Copy)]
+pub struct Registration {
+    pub key: u64,
+    pub guid: Uuid,
+    /// The number of the event that is signaled when such an interface is installed.
+    pub event: u64,
+    /// The stamp up to which interfaces were taken.
+    pub mark: u64,
+}
+
+/// The registrations, by ascending key.
+#[derive(Drop)]
+pub struct Notify<A: Allocator = Global> {
+    registrations: Vec<Registration, A>,
+}
+
+impl<A: Allocator> Model for Notify<A> {
+    ghost use Rattle.std.specs.Prelude.{List};
+    ghost use Rattle.protocol_notify.specs.declared.notify.Registration.{Registration};
+
+    ghost Value = { List Registration };
+
+    ghost view = { λ n. n.registrations.items };
+}
+
+impl<A: Allocator + Copy> Notify<A> {
+    /// No registrations. This takes no memory.
+    pub fn new(alloc: A) -> Notify<A>
+        ensures { result ≡ [] }
+    {
+        Notify {
+            registrations: Vec::new(alloc),
+        }
+    }
+
+    /// Registers an event for the interfaces of a GUID that are installed from now on, and answers
+    /// its key. On an `Err`, which means out of memory, the registrations are as they were.
+    pub fn register(&mut self, handles: &Handles<A>, guid: Uuid, event: u64) -> Result<u64, Status>
+        requires { length self.old < 2 ^ 62 }
+        ensures ok { IfOk result (λ key. (key ≡ length self.old + 1) × (self.new ≡ with_registration handles.now guid event self.old)) }
+        ensures err { IfErr result (λ status. (status ≡ OutOfResources) × (self.new ≡ self.old)) }
+    {
+        let key = self.registrations.len() as u64 + 1;
+        let registration = Registration {
+            key,
+            guid,
+            event,
+            mark: handles.last_stamp(),
+        };
+        match self.registrations.push(registration) {
+            Ok(()) => Ok(key),
+            Err(_) => Err(Status::OutOfResources),
+        }
+    }
+
+    /// The registration of a key.
+    fn find(&self, key: u64) -> Option<Registration>
+        ensures { result ≡ registration_of self.now key }
+    {
+        find_registration(self.registrations.as_slice(), key)
+    }
+
+    /// The GUID that a key was given for; none for a key that was never given.
+    pub fn guid_of(&self, key: u64) -> Option<Uuid>
+        ensures { result ≡ option_map (λ r. r.guid) (registration_of self.now key) }
+    {
+        self.find(key).map(|r| r.guid)
+    }
+
+    /// The events of the registrations for a GUID, by ascending key; an event that was registered
+    /// twice comes twice. If there are none, this takes no memory.
+    pub fn signaled(&self, guid: Uuid) -> Result<Vec<u64, A>, AllocError>
+        ensures events { IfOk result (λ events. events.items ≡ events_for self.now guid) }
+        ensures none { events_for self.now guid ≡ [] → IsOk result }
+    {
+        events_among(
+            *self.registrations.allocator(),
+            self.registrations.as_slice(),
+            guid,
+        )
+    }
+
+    /// The handle that is next for a key.
+    pub fn next(&self, handles: &Handles<A>, key: u64) -> Option<u64>
+        ensures { result ≡ next_handle handles.now self.now key }
+    {
+        let registration = self.find(key)?;
+        let (handle, _) = handles.after_stamp(registration.guid, registration.mark)?;
+        Some(handle)
+    }
+
+    /// Takes the handle that is next for a key, after which the one behind it is next.
+    pub fn take(&mut self, handles: &Handles<A>, key: u64)
+        requires { IsSome (next_handle handles.now self.old key) }
+        ensures { self.new ≡ map (taken handles.now key) self.old }
+    {
+        take_among(&mut self.registrations, handles, key);
+    }
+}
+
+/// The registration of a key, among some.
+fn find_registration(registrations: &[Registration], key: u64) -> Option<Registration>
+    ensures { result ≡ registration_of registrations.now key }
+{
+    for r in registrations {
+        if r.key == key {
+            return Some(*r);
+        }
+    }
+    None
+}
+
+/// Whether a registration is for a GUID.
+fn is_for(r: &Registration, guid: Uuid) -> bool
+    ensures { result ≡ spec.is_for guid r.now }
+{
+    r.guid == guid
+}
+
+/// The events of registrations for a GUID, among some.
+fn events_among<A: Allocator>(
+    alloc: A,
+    registrations: &[Registration],
+    guid: Uuid,
+) -> Result<Vec<u64, A>, AllocError>
+    ensures events { IfOk result (λ events. events.items ≡ events_for registrations.now guid) }
+    ensures none { events_for registrations.now guid ≡ [] → IsOk result }
+{
+    let mut events = Vec::new(alloc);
+    for r in registrations {
+        if is_for(r, guid) {
+            events.push(r.event)?;
+        }
+    }
+    Ok(events)
+}
+
+/// A registration, marked with the stamp of what is next for it.
+fn marked<A: Allocator + Copy>(r: Registration, handles: &Handles<A>) -> Registration
+    ensures { result ≡ spec.marked (next_of handles.now r) r }
+{
+    match handles.after_stamp(r.guid, r.mark) {
+        Some((_, stamp)) => Registration { mark: stamp, ..r },
+        None => r,
+    }
+}
+
+/// A registration, marked if it is that of a key.
+fn marked_if<A: Allocator + Copy>(r: Registration, handles: &Handles<A>, key: u64) -> Registration
+    ensures { result ≡ taken handles.now key r }
+{
+    if r.key == key { marked(r, handles) } else { r }
+}
+
+/// Marks the registration of a key, among some.
+fn take_among<A: Allocator + Copy>(
+    registrations: &mut Vec<Registration, A>,
+    handles: &Handles<A>,
+    key: u64,
+)
+    ensures { registrations.new.items ≡ map (taken handles.now key) registrations.old.items }
+{
+    for r in registrations.iter_mut() {
+        *r = marked_if(*r, handles, key);
+    }
+}
