@@ -1,7 +1,7 @@
 //! Runs of the program, as text in and text out.
 mod certificates;
 mod fault_texts;
-mod machine_files;
+mod machine_texts;
 mod placements;
 mod rows;
 mod trace_lines;
