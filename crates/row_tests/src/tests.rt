@@ -1,10 +1,10 @@
 //! Runs of the program, as text in and text out.
 mod certificates;
 mod fault_texts;
+mod line_texts;
 mod machine_texts;
 mod placements;
 mod rows;
-mod trace_lines;
 
 use program_runs::serve_run;
 use std::process::Abort;
