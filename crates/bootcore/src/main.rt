@@ -7,6 +7,3 @@ use std::process::ExitCode;
 fn main(rt: HostRuntime) -> ExitCode {
     run_program(&rt)
 }
-
-#[cfg(test)]
-mod tests;

@@ -1,4 +1,4 @@
-//! Command lines.
+//! Words that are a command, and words that are none.
 use command_line::{Command, CommandFault, command_of};
 
 /// Whether the words are this command.

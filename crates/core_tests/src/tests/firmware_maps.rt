@@ -1,8 +1,12 @@
 //! Memory maps of real firmware, those of `examples/real-firmware/`: a word for each run from page 0 on,
 //! with its type, its pages and, in hexadecimal, its attributes, or `-` and so many absent pages.
 
-/// Each a name and the map.
-pub const MAPS: [(&str, &str); 13] = [
+/// The maps, each with its name.
+pub fn maps() -> &'static [(&'static str, &'static str)] {
+    &MAPS
+}
+
+const MAPS: [(&str, &str); 13] = [
     (
         "ovmf-pc-256m",
         "3:1:f 7:159:f -:96 7:1798:f 10:2:f 7:8:f 10:240:f 4:3072:f 7:42613:f 4:32:f 7:9201:f 1:19:f

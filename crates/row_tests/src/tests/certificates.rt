@@ -1,9 +1,8 @@
 //! Certificates that a run prints, and that are then judged.
 use super::placements::{LAST_PAGES, TWO_BLOCKS};
-use super::{MACHINE, Outcome, assert_outcome, outcome_of_block};
-use program_runs::serve_run;
+use super::{MACHINE, assert_text, outcome_of};
+use program_runs::serve_check;
 use std::process::Abort;
-use std::test::Fail;
 
 /// The map of the machine, as the blocks have it.
 const MAP: &str = "certificate
@@ -98,34 +97,30 @@ const PLACEMENTS: [(&str, &str, &str, &str, &str, &str); 9] = [
     ),
 ];
 
-/// A run with certificates.
-pub fn certified_outcome(rt: &impl AllocGlobal, machine: &[u8], trace: &[u8]) -> Outcome {
+/// Asserts that the block is accepted.
+fn assert_accepted(rt: &(impl AllocGlobal + Abort), name: &str, block: &str) {
     let mut out = Vec::new(rt.alloc());
     let mut err = Vec::new(rt.alloc());
-    let status = serve_run(rt.alloc(), machine, trace, &mut out, &mut err, true);
-    Outcome { status, out, err }
+    let status = serve_check(rt.alloc(), block.as_bytes(), &mut out, &mut err);
+    assert_eq!(rt; status, 0);
+    assert_text(rt, name, out.as_slice(), "accepted\n");
 }
 
 /// Asserts that a run prints the replies and then the block, and that the block is accepted.
-fn assert_certified(
-    rt: &(impl AllocGlobal + Abort),
-    name: &str,
-    outcome: Outcome,
-    replies: &str,
-    block: &str,
-) -> Result<(), Fail> {
-    let printed = format!(in rt.alloc(); "{replies}{block}")?;
-    assert_outcome(rt, name, outcome, 0, printed.as_str(), "")?;
-    let judged = outcome_of_block(rt, block.as_bytes());
-    assert_outcome(rt, name, judged, 0, "accepted\n", "")
+fn assert_certified(rt: &(impl AllocGlobal + Abort), row: &(&str, &str, &str, &str, &str, &str)) {
+    let (name, machine, trace, replies, map, rest) = row;
+    let outcome = outcome_of(rt, machine.as_bytes(), trace.as_bytes(), true);
+    assert_eq!(rt; outcome.status, 0);
+    let block = format!(in rt.alloc(); "{map}{rest}").expect(rt, "memory");
+    let block = block.as_str();
+    let printed = format!(in rt.alloc(); "{replies}{block}").expect(rt, "memory");
+    assert_text(rt, name, outcome.out.as_slice(), printed.as_str());
+    assert_accepted(rt, name, block);
 }
 
 #[test]
-fn certified_placements(rt: HostRuntime) -> Result<(), Fail> {
-    for (name, machine, trace, replies, map, rest) in &PLACEMENTS {
-        let outcome = certified_outcome(&rt, machine.as_bytes(), trace.as_bytes());
-        let block = format!(in rt.alloc(); "{map}{rest}")?;
-        assert_certified(&rt, name, outcome, replies, block.as_str())?;
+fn certified_placements(rt: HostRuntime) {
+    for row in &PLACEMENTS {
+        assert_certified(&rt, row);
     }
-    Ok(())
 }

@@ -1,7 +1,6 @@
 //! Where requests that name no address are placed, and how many entries the memory map then has.
-use super::{MACHINE, Outcome, outcome_of};
+use super::{MACHINE, assert_text, outcome_of};
 use std::process::Abort;
-use std::test::Fail;
 
 /// Two blocks of free memory side by side that differ in one attribute.
 pub const TWO_BLOCKS: &str = "{\"memory\":[
@@ -97,35 +96,21 @@ const ROWS: [(&str, &str, &str, &str); 13] = [
 ];
 
 /// The lines of a text but for those of entries.
-fn without_entries(rt: &impl AllocGlobal, text: &str) -> Result<String, Fail> {
-    let mut told = String::new(rt.alloc());
-    for line in text.lines() {
-        if !line.starts_with("  ") {
-            told.push_str(line)?;
-            told.push_str("\n")?;
+fn without_entries(rt: &(impl AllocGlobal + Abort), text: &[u8]) -> Vec<u8> {
+    let mut told = Vec::new(rt.alloc());
+    for line in text.split_inclusive(|byte| *byte == b'\n') {
+        if !line.starts_with(b"  ") {
+            told.extend_from_slice(line).expect(rt, "memory");
         }
     }
-    Ok(told)
-}
-
-/// Asserts that a run prints these lines, beside those of entries.
-fn assert_lines(
-    rt: &(impl AllocGlobal + Abort),
-    name: &str,
-    outcome: Outcome,
-    lines: &str,
-) -> Result<(), Fail> {
-    let printed = String::from_utf8(outcome.out)?;
-    let told = without_entries(rt, printed.as_str())?;
-    assert_eq!(rt; told.as_str(), lines, "{name}");
-    Ok(())
+    told
 }
 
 #[test]
-fn placements(rt: HostRuntime) -> Result<(), Fail> {
+fn placements(rt: HostRuntime) {
     for (name, machine, trace, lines) in &ROWS {
-        let outcome = outcome_of(&rt, machine.as_bytes(), trace.as_bytes());
-        assert_lines(&rt, name, outcome, lines)?;
+        let outcome = outcome_of(&rt, machine.as_bytes(), trace.as_bytes(), false);
+        let told = without_entries(&rt, outcome.out.as_slice());
+        assert_text(&rt, name, told.as_slice(), lines);
     }
-    Ok(())
 }

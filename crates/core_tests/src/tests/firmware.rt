@@ -1,0 +1,218 @@
+//! Placements and frees on maps of real firmware. After each call the map is compared with a plain list of
+//! stretches.
+use super::call_lists::{address_told, reply_of, status_told};
+use super::firmware_maps::maps;
+use super::stretches::{Change, Stretch, are_all, changed, map_of, stretches_of};
+use super::{Given, core_of_runs, run_of};
+use boot_core::{Call, Core};
+use page_ranges::{PAGE_COUNT, PAGE_SIZE, Status};
+use std::process::Abort;
+
+/// How many calls are made on each map, and how many of them at least change it.
+const CALLS: u32 = 400;
+
+const CHANGES: u32 = 200;
+
+/// A request for pages, as it was drawn.
+#[derive(Clone, Copy)]
+struct Drawn {
+    kind: u32,
+    mtype: u32,
+    pages: u64,
+    memory: u64,
+}
+
+/// A core of the machine that stretches describe.
+pub fn core_of_stretches(rt: &(impl AllocGlobal + Abort), stretches: &[Stretch]) -> Core {
+    let mut runs = Vec::new(rt.alloc());
+    for stretch in stretches {
+        let given = Given {
+            mtype: stretch.mtype,
+            first: stretch.first,
+            pages: stretch.end.saturating_sub(stretch.first),
+            attributes: stretch.attributes,
+        };
+        runs.push(run_of(&given)).expect(rt, "memory");
+    }
+    core_of_runs(rt, runs)
+}
+
+fn next_draw(draw: u64) -> u64 {
+    draw.wrapping_mul(6_364_136_223_846_793_005)
+        .wrapping_add(1_442_695_040_888_963_407)
+}
+
+/// A number below 256, from a place of a draw.
+fn place_of(draw: u64, place: u32) -> usize {
+    usize::from((draw >> (place & 63)).to_le_bytes()[0])
+}
+
+/// The kinds of requests.
+const KINDS: [u32; 4] = [0, 0, 1, 2];
+
+/// The types of requests.
+const TYPES: [u32; 8] = [0, 1, 2, 3, 4, 5, 6, 0x7000_0001];
+
+/// A request, whose address is up to 63 pages above the first page of a stretch.
+fn drawn_request(draw: u64, stretches: &[Stretch]) -> Drawn {
+    let stretch = stretches.get(place_of(draw, 20));
+    let first = stretch.map_or(0, |stretch| stretch.first);
+    let page = first.saturating_add(draw >> 30 & 0x3f);
+    Drawn {
+        kind: KINDS[place_of(draw, 50) % 4],
+        mtype: TYPES[place_of(draw, 40) % 8],
+        pages: (draw >> 55 & 0xf) + 1,
+        memory: page.saturating_mul(PAGE_SIZE),
+    }
+}
+
+/// The page number by which the pages of a request end.
+fn limit_of(drawn: &Drawn) -> u64 {
+    if drawn.kind == 1 {
+        drawn.memory / PAGE_SIZE
+    } else {
+        PAGE_COUNT
+    }
+}
+
+/// Whether some start is permitted: then the first page of a stretch is.
+fn has_place(stretches: &[Stretch], drawn: &Drawn) -> bool {
+    let mut has_place = false;
+    for stretch in stretches {
+        let end = stretch.first.saturating_add(drawn.pages);
+        let is_free = are_all(stretches, stretch.first, end, false);
+        has_place = has_place || end <= limit_of(drawn) && is_free;
+    }
+    has_place
+}
+
+/// Makes a request. The address, or the status of a refusal.
+fn placed_at(rt: &impl Abort, core: &mut Core, drawn: &Drawn) -> Result<u64, Status> {
+    let allocate = Call::AllocatePages {
+        kind: drawn.kind,
+        mtype: drawn.mtype,
+        pages: drawn.pages,
+        memory: drawn.memory,
+    };
+    let reply = reply_of(rt, core, allocate);
+    address_told(&reply).ok_or(status_told(&reply))
+}
+
+/// Makes a request, and judges its reply.
+fn place(rt: &impl Abort, core: &mut Core, stretches: &[Stretch], drawn: &Drawn) -> Option<Change> {
+    let wanted = drawn.memory / PAGE_SIZE;
+    let wanted_end = wanted.saturating_add(drawn.pages);
+    match placed_at(rt, core, drawn) {
+        Ok(address) => {
+            let first = address / PAGE_SIZE;
+            let end = first.saturating_add(drawn.pages);
+            assert!(rt; are_all(stretches, first, end, false), "not free: {first}");
+            assert!(rt; end <= limit_of(drawn), "above the limit: {first}");
+            assert!(rt; drawn.kind < 2 || first == wanted, "elsewhere: {first}");
+            Some(Change {
+                first,
+                end,
+                mtype: drawn.mtype,
+                is_placed: true,
+            })
+        }
+        Err(Status::NotFound) => {
+            assert!(rt; drawn.kind == 2 && !are_all(stretches, wanted, wanted_end, false));
+            None
+        }
+        Err(status) => {
+            assert_eq!(rt; status, Status::OutOfResources);
+            assert!(rt; drawn.kind == 1 && !has_place(stretches, drawn));
+            None
+        }
+    }
+}
+
+/// Frees pages, and answers the status.
+fn freed(rt: &impl Abort, core: &mut Core, first: u64, end: u64) -> Status {
+    let free = Call::FreePages {
+        memory: first.saturating_mul(PAGE_SIZE),
+        pages: end.saturating_sub(first),
+    };
+    status_told(&reply_of(rt, core, free))
+}
+
+/// Frees pages, and judges the reply.
+fn free(
+    rt: &impl Abort,
+    core: &mut Core,
+    stretches: &[Stretch],
+    first: u64,
+    end: u64,
+) -> Option<Change> {
+    let are_placed = are_all(stretches, first, end, true);
+    let wanted = if are_placed {
+        Status::Success
+    } else {
+        Status::NotFound
+    };
+    assert_eq!(rt; freed(rt, core, first, end), wanted);
+    are_placed.then_some(Change {
+        first,
+        end,
+        mtype: 7,
+        is_placed: false,
+    })
+}
+
+/// Makes a call that was drawn; some frees are of one page more than was placed.
+fn make_call(
+    rt: &impl Abort,
+    core: &mut Core,
+    stretches: &[Stretch],
+    placed: &mut Vec<(u64, u64)>,
+    draw: u64,
+) -> Option<Change> {
+    if draw >> 61 >= 3 || placed.is_empty() {
+        let change = place(rt, core, stretches, &drawn_request(draw, stretches))?;
+        placed.push((change.first, change.end)).expect(rt, "memory");
+        return Some(change);
+    }
+    let (first, end) = placed.swap_remove(place_of(draw, 20) % placed.len());
+    let end = end.saturating_add(draw >> 45 & 1);
+    free(rt, core, stretches, first, end)
+}
+
+/// Asserts that the map of a core is that of the stretches.
+fn assert_map(rt: &(impl AllocGlobal + Abort), core: &Core, stretches: &[Stretch]) {
+    let want = map_of(rt, stretches);
+    let mut entries = core.map_entries();
+    for wanted in &want {
+        assert_eq!(rt; entries.next(), Some(*wanted));
+    }
+    assert_eq!(rt; entries.next(), None);
+    assert_eq!(rt; core.descriptors(), want.len());
+}
+
+/// Makes calls on a map, and answers how many of them changed it.
+fn changes_on(rt: &(impl AllocGlobal + Abort), text: &str) -> u32 {
+    let mut stretches = stretches_of(rt, text);
+    let mut core = core_of_stretches(rt, stretches.as_slice());
+    assert_map(rt, &core, stretches.as_slice());
+    let mut placed = Vec::new(rt.alloc());
+    let mut draw = 1;
+    let mut changes = 0_u32;
+    for _call in 0..CALLS {
+        draw = next_draw(draw);
+        let change = make_call(rt, &mut core, stretches.as_slice(), &mut placed, draw);
+        if let Some(change) = change {
+            stretches = changed(rt, stretches.as_slice(), &change);
+            changes = changes.saturating_add(1);
+        }
+        assert_map(rt, &core, stretches.as_slice());
+    }
+    changes
+}
+
+#[test]
+fn placements_on_real_maps(rt: HostRuntime) {
+    for (name, text) in maps() {
+        let changes = changes_on(&rt, text);
+        assert!(rt; changes >= CHANGES, "{changes} on {name}");
+    }
+}

@@ -1,0 +1,148 @@
+//! A memory as a plain list of stretches, changed apart from the core's own table.
+use page_ranges::{Descriptor, MemoryType};
+use std::process::Abort;
+
+const RUNTIME: u64 = 0x8000_0000_0000_0000;
+
+/// Pages of one kind, from one number up to another.
+#[derive(Clone, Copy)]
+pub struct Stretch {
+    pub first: u64,
+    pub end: u64,
+    pub mtype: u32,
+    pub attributes: u64,
+    pub is_placed: bool,
+}
+
+/// The pages from one number up to another have a new type, placed or given back.
+#[derive(Clone, Copy)]
+pub struct Change {
+    pub first: u64,
+    pub end: u64,
+    pub mtype: u32,
+    pub is_placed: bool,
+}
+
+/// The stretches of a map's words.
+pub fn stretches_of(rt: &(impl AllocGlobal + Abort), text: &str) -> Vec<Stretch> {
+    let mut stretches = Vec::new(rt.alloc());
+    let mut first = 0_u64;
+    for word in text.split_whitespace() {
+        let (pages, kind) = parts_of(word).expect(rt, "a stretch");
+        let end = first.saturating_add(pages);
+        if let Some((mtype, attributes)) = kind {
+            let stretch = Stretch {
+                first,
+                end,
+                mtype,
+                attributes,
+                is_placed: false,
+            };
+            stretches.push(stretch).expect(rt, "memory");
+        }
+        first = end;
+    }
+    stretches
+}
+
+/// How many pages a word is for, and the type and attributes of those that are present.
+fn parts_of(word: &str) -> Option<(u64, Option<(u32, u64)>)> {
+    let mut parts = word.split(':');
+    let mtype = parts.next()?;
+    let pages = parts.next()?.parse().ok()?;
+    if mtype == "-" {
+        return Some((pages, None));
+    }
+    let attributes = u64::from_str_radix(parts.next()?, 16).ok()?;
+    Some((pages, Some((mtype.parse().ok()?, attributes))))
+}
+
+/// The part of a stretch between two page numbers.
+fn part_of(stretch: &Stretch, first: u64, end: u64) -> Stretch {
+    Stretch {
+        first: stretch.first.max(first),
+        end: stretch.end.min(end),
+        ..*stretch
+    }
+}
+
+/// The part of a stretch that changes, as it is then.
+fn changed_part(stretch: &Stretch, change: &Change) -> Stretch {
+    let kept = stretch.attributes & !RUNTIME;
+    let is_runtime = change.mtype == 5 || change.mtype == 6;
+    Stretch {
+        mtype: change.mtype,
+        attributes: if is_runtime { kept | RUNTIME } else { kept },
+        is_placed: change.is_placed,
+        ..part_of(stretch, change.first, change.end)
+    }
+}
+
+/// The stretches after a change.
+pub fn changed(
+    rt: &(impl AllocGlobal + Abort),
+    stretches: &[Stretch],
+    change: &Change,
+) -> Vec<Stretch> {
+    let mut after = Vec::new(rt.alloc());
+    for stretch in stretches {
+        push_pages(rt, &mut after, part_of(stretch, 0, change.first));
+        push_pages(rt, &mut after, changed_part(stretch, change));
+        push_pages(rt, &mut after, part_of(stretch, change.end, u64::MAX));
+    }
+    after
+}
+
+/// Appends a stretch that has pages.
+fn push_pages(rt: &impl Abort, stretches: &mut Vec<Stretch>, part: Stretch) {
+    if part.first < part.end {
+        stretches.push(part).expect(rt, "memory");
+    }
+}
+
+/// Whether all pages from one number up to another are free, or else all are placed.
+pub fn are_all(stretches: &[Stretch], first: u64, end: u64, is_placed: bool) -> bool {
+    let mut next = first;
+    for stretch in stretches {
+        let is_such = if is_placed {
+            stretch.is_placed
+        } else {
+            stretch.mtype == 7
+        };
+        if is_such && stretch.first <= next && next < stretch.end {
+            next = stretch.end;
+        }
+    }
+    first < end && next >= end
+}
+
+/// The entries of the memory map, by joining stretches that touch and are alike.
+pub fn map_of(rt: &(impl AllocGlobal + Abort), stretches: &[Stretch]) -> Vec<Descriptor> {
+    let mut entries = Vec::new(rt.alloc());
+    for stretch in stretches {
+        let entry = Descriptor {
+            mtype: MemoryType::new(stretch.mtype),
+            first: stretch.first,
+            pages: stretch.end.saturating_sub(stretch.first),
+            attributes: stretch.attributes,
+        };
+        push_entry(rt, &mut entries, entry);
+    }
+    entries
+}
+
+/// Appends an entry, or joins it to the last.
+fn push_entry(rt: &impl Abort, entries: &mut Vec<Descriptor>, entry: Descriptor) {
+    match entries.last_mut() {
+        Some(last) if goes_on(last, &entry) => {
+            last.pages = last.pages.saturating_add(entry.pages);
+        }
+        _ => entries.push(entry).expect(rt, "memory"),
+    }
+}
+
+fn goes_on(entry: &Descriptor, next: &Descriptor) -> bool {
+    let end = entry.first.saturating_add(entry.pages);
+    let is_alike = entry.mtype.number() == next.mtype.number();
+    end == next.first && is_alike && entry.attributes == next.attributes
+}
