@@ -1,5 +1,6 @@
 //! Runs of the program, as text in and text out.
 mod certificates;
+mod commands;
 mod fault_texts;
 mod line_texts;
 mod machine_texts;

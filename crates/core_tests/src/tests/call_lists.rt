@@ -76,49 +76,44 @@ fn best_fit_high(rt: HostRuntime) {
     assert_eq!(rt; core.descriptors(), 5);
 }
 
-/// Calls, and the status of each.
-const CALLS: [(Call, Status); 6] = [
-    (
-        Call::FreePages {
-            memory: 0x9e000,
-            pages: 2,
-        },
-        Status::NotFound,
-    ),
-    (
-        Call::AllocatePages {
-            kind: 2,
-            mtype: 4,
-            pages: 2,
-            memory: 0x9e000,
-        },
-        Status::Success,
-    ),
-    (Call::ExitBootServices { key: 1 }, Status::InvalidParameter),
-    (Call::GetMemoryMap { size: 47 }, Status::BufferTooSmall),
-    (Call::ExitBootServices { key: 2 }, Status::Success),
-    (
-        Call::FreePages {
-            memory: 0x9e000,
-            pages: 2,
-        },
-        Status::Unsupported,
-    ),
+/// Calls, one after the other.
+const CALLS: [Call; 6] = [
+    Call::FreePages {
+        memory: 0x9e000,
+        pages: 2,
+    },
+    Call::AllocatePages {
+        kind: 2,
+        mtype: 4,
+        pages: 2,
+        memory: 0x9e000,
+    },
+    Call::ExitBootServices { key: 1 },
+    Call::GetMemoryMap { size: 47 },
+    Call::ExitBootServices { key: 2 },
+    Call::FreePages {
+        memory: 0x9e000,
+        pages: 2,
+    },
 ];
 
-/// Asserts that the replies tell the statuses of `CALLS`.
-fn assert_statuses(rt: &impl Abort, replies: &[Reply]) {
-    assert_eq!(rt; replies.len(), CALLS.len());
-    for ((_, status), reply) in CALLS.iter().zip(replies.iter()) {
-        assert_eq!(rt; status_told(reply), *status);
-    }
-}
+/// The status of each of them.
+const STATUSES: [Status; 6] = [
+    Status::NotFound,
+    Status::Success,
+    Status::InvalidParameter,
+    Status::BufferTooSmall,
+    Status::Success,
+    Status::Unsupported,
+];
 
 #[test]
 fn replies_in_order(rt: HostRuntime) {
     let mut core = core_of(&rt, &MACHINE);
-    let calls = CALLS.map(|(call, _)| call);
-    let replies = replies_of(&rt, &mut core, calls.as_slice());
-    assert_statuses(&rt, replies.as_slice());
+    let replies = replies_of(&rt, &mut core, &CALLS);
+    assert_eq!(rt; replies.len(), STATUSES.len());
+    for (status, reply) in STATUSES.iter().zip(replies.iter()) {
+        assert_eq!(rt; status_told(reply), *status);
+    }
     assert_eq!(rt; core.calls_left(), 0x8000_0000 - 6);
 }

@@ -2,7 +2,7 @@
 //! stretches.
 use super::call_lists::{address_told, reply_of, status_told};
 use super::firmware_maps::maps;
-use super::stretches::{Change, Stretch, are_all, changed, map_of, stretches_of};
+use super::stretches::{Change, Stretch, are_all, changed, entry_of, joined, stretches_of};
 use super::{Given, core_of_runs, run_of};
 use boot_core::{Call, Core};
 use page_ranges::{PAGE_COUNT, PAGE_SIZE, Status};
@@ -86,8 +86,39 @@ fn has_place(stretches: &[Stretch], drawn: &Drawn) -> bool {
     has_place
 }
 
-/// Makes a request. The address, or the status of a refusal.
-fn placed_at(rt: &impl Abort, core: &mut Core, drawn: &Drawn) -> Result<u64, Status> {
+/// Judges that pages were placed at an address, and answers the change.
+fn placed_change(rt: &impl Abort, stretches: &[Stretch], drawn: &Drawn, address: u64) -> Change {
+    let first = address / PAGE_SIZE;
+    let end = first.saturating_add(drawn.pages);
+    assert!(rt; are_all(stretches, first, end, false), "not free: {first}");
+    assert!(rt; end <= limit_of(drawn), "above the limit: {first}");
+    assert!(rt;
+        drawn.kind < 2 || address == drawn.memory,
+        "elsewhere: {first}"
+    );
+    Change {
+        first,
+        end,
+        mtype: drawn.mtype,
+        is_placed: true,
+    }
+}
+
+/// The status of a request that is refused.
+fn refusal_of(stretches: &[Stretch], drawn: &Drawn) -> Status {
+    let wanted = drawn.memory / PAGE_SIZE;
+    let wanted_end = wanted.saturating_add(drawn.pages);
+    if drawn.kind == 2 && !are_all(stretches, wanted, wanted_end, false) {
+        Status::NotFound
+    } else if drawn.kind == 1 && !has_place(stretches, drawn) {
+        Status::OutOfResources
+    } else {
+        Status::Success
+    }
+}
+
+/// Makes a request, and judges its reply.
+fn place(rt: &impl Abort, core: &mut Core, stretches: &[Stretch], drawn: &Drawn) -> Option<Change> {
     let allocate = Call::AllocatePages {
         kind: drawn.kind,
         mtype: drawn.mtype,
@@ -95,34 +126,10 @@ fn placed_at(rt: &impl Abort, core: &mut Core, drawn: &Drawn) -> Result<u64, Sta
         memory: drawn.memory,
     };
     let reply = reply_of(rt, core, allocate);
-    address_told(&reply).ok_or(status_told(&reply))
-}
-
-/// Makes a request, and judges its reply.
-fn place(rt: &impl Abort, core: &mut Core, stretches: &[Stretch], drawn: &Drawn) -> Option<Change> {
-    let wanted = drawn.memory / PAGE_SIZE;
-    let wanted_end = wanted.saturating_add(drawn.pages);
-    match placed_at(rt, core, drawn) {
-        Ok(address) => {
-            let first = address / PAGE_SIZE;
-            let end = first.saturating_add(drawn.pages);
-            assert!(rt; are_all(stretches, first, end, false), "not free: {first}");
-            assert!(rt; end <= limit_of(drawn), "above the limit: {first}");
-            assert!(rt; drawn.kind < 2 || first == wanted, "elsewhere: {first}");
-            Some(Change {
-                first,
-                end,
-                mtype: drawn.mtype,
-                is_placed: true,
-            })
-        }
-        Err(Status::NotFound) => {
-            assert!(rt; drawn.kind == 2 && !are_all(stretches, wanted, wanted_end, false));
-            None
-        }
-        Err(status) => {
-            assert_eq!(rt; status, Status::OutOfResources);
-            assert!(rt; drawn.kind == 1 && !has_place(stretches, drawn));
+    match address_told(&reply) {
+        Some(address) => Some(placed_change(rt, stretches, drawn, address)),
+        None => {
+            assert_eq!(rt; status_told(&reply), refusal_of(stretches, drawn));
             None
         }
     }
@@ -180,13 +187,13 @@ fn make_call(
 
 /// Asserts that the map of a core is that of the stretches.
 fn assert_map(rt: &(impl AllocGlobal + Abort), core: &Core, stretches: &[Stretch]) {
-    let want = map_of(rt, stretches);
+    let joined = joined(rt, stretches);
     let mut entries = core.map_entries();
-    for wanted in &want {
-        assert_eq!(rt; entries.next(), Some(*wanted));
+    for stretch in &joined {
+        assert_eq!(rt; entries.next(), Some(entry_of(stretch)));
     }
     assert_eq!(rt; entries.next(), None);
-    assert_eq!(rt; core.descriptors(), want.len());
+    assert_eq!(rt; core.descriptors(), joined.len());
 }
 
 /// Makes calls on a map, and answers how many of them changed it.

@@ -49,12 +49,27 @@ pub fn stretches_of(rt: &(impl AllocGlobal + Abort), text: &str) -> Vec<Stretch>
 fn parts_of(word: &str) -> Option<(u64, Option<(u32, u64)>)> {
     let mut parts = word.split(':');
     let mtype = parts.next()?;
-    let pages = parts.next()?.parse().ok()?;
+    let pages = number_of(parts.next()?, 10)?;
     if mtype == "-" {
         return Some((pages, None));
     }
-    let attributes = u64::from_str_radix(parts.next()?, 16).ok()?;
-    Some((pages, Some((mtype.parse().ok()?, attributes))))
+    let attributes = number_of(parts.next()?, 16)?;
+    let mtype = u32::try_from(number_of(mtype, 10)?).ok()?;
+    Some((pages, Some((mtype, attributes))))
+}
+
+/// The number that digits write.
+fn number_of(digits: &str, base: u64) -> Option<u64> {
+    let mut number = 0_u64;
+    for byte in digits.bytes() {
+        let digit = match byte {
+            b'0'..=b'9' => byte - b'0',
+            b'a'..=b'f' => byte - b'a' + 10,
+            _ => return None,
+        };
+        number = number.wrapping_mul(base).wrapping_add(u64::from(digit));
+    }
+    Some(number)
 }
 
 /// The part of a stretch between two page numbers.
@@ -116,33 +131,34 @@ pub fn are_all(stretches: &[Stretch], first: u64, end: u64, is_placed: bool) -> 
     first < end && next >= end
 }
 
-/// The entries of the memory map, by joining stretches that touch and are alike.
-pub fn map_of(rt: &(impl AllocGlobal + Abort), stretches: &[Stretch]) -> Vec<Descriptor> {
-    let mut entries = Vec::new(rt.alloc());
+/// The stretches, with those joined that touch and are alike.
+pub fn joined(rt: &(impl AllocGlobal + Abort), stretches: &[Stretch]) -> Vec<Stretch> {
+    let mut joined = Vec::new(rt.alloc());
     for stretch in stretches {
-        let entry = Descriptor {
-            mtype: MemoryType::new(stretch.mtype),
-            first: stretch.first,
-            pages: stretch.end.saturating_sub(stretch.first),
-            attributes: stretch.attributes,
-        };
-        push_entry(rt, &mut entries, entry);
+        push_joined(rt, &mut joined, *stretch);
     }
-    entries
+    joined
 }
 
-/// Appends an entry, or joins it to the last.
-fn push_entry(rt: &impl Abort, entries: &mut Vec<Descriptor>, entry: Descriptor) {
-    match entries.last_mut() {
-        Some(last) if goes_on(last, &entry) => {
-            last.pages = last.pages.saturating_add(entry.pages);
-        }
-        _ => entries.push(entry).expect(rt, "memory"),
+/// Appends a stretch, or joins it to the last.
+fn push_joined(rt: &impl Abort, stretches: &mut Vec<Stretch>, stretch: Stretch) {
+    match stretches.last_mut() {
+        Some(last) if goes_on(last, &stretch) => last.end = stretch.end,
+        _ => stretches.push(stretch).expect(rt, "memory"),
     }
 }
 
-fn goes_on(entry: &Descriptor, next: &Descriptor) -> bool {
-    let end = entry.first.saturating_add(entry.pages);
-    let is_alike = entry.mtype.number() == next.mtype.number();
-    end == next.first && is_alike && entry.attributes == next.attributes
+fn goes_on(stretch: &Stretch, next: &Stretch) -> bool {
+    let is_alike = stretch.mtype == next.mtype && stretch.attributes == next.attributes;
+    stretch.end == next.first && is_alike
+}
+
+/// The entry of the memory map that a stretch is.
+pub fn entry_of(stretch: &Stretch) -> Descriptor {
+    Descriptor {
+        mtype: MemoryType::new(stretch.mtype),
+        first: stretch.first,
+        pages: stretch.end.saturating_sub(stretch.first),
+        attributes: stretch.attributes,
+    }
 }

@@ -1,5 +1,0 @@
-//! Tests of command lines.
-#![tactic(auto)]
-
-#[cfg(test)]
-mod tests;
