@@ -9,7 +9,7 @@ use Rattle.placement_certificate.specs.declared.certificates.Bound.{Bound}
 use Rattle.placement_certificate.specs.Certificates.{CertificateValue}
 use Rattle.text_lines.specs.Printed.{hexadecimal}
 use Rattle.certificate_blocks.specs.BlockText.{entry_words, bound_words, request_words, bound_lines, answer_lines, block_lines, block_text}
-use Rattle.certificate_blocks.specs.BlockLines.{type_of, number_after, name_alone, entry_of, request_of, bound_of}
+use Rattle.certificate_blocks.specs.BlockLines.{type_of, number_after, name_alone, entry_of_words, request_of, bound_of}
 use Rattle.certificate_blocks.specs.Blocks.{LinesLeft, Reading, ◌>>=◌, and_then, value_read, line, times, most_block_lines, block, block_of}
 use Rattle.text_lines.specs.Lines.{lines_of}
 use Rattle.certificate_blocks.specs.BlockLaws.{HasEntryNumbers, HasRequestNumbers, HasLeastNumbers, HasBoundNumbers, HasBlockNumbers}
@@ -52,7 +52,7 @@ name_word word p s l = record { plain = plain word p; some = ltb-true 0 (length 
 abbrev IsReadAs : {A : Type 0} → (List (List ℕ) → Option A) → List (List ℕ) → A → Type 0
 IsReadAs meaning words x = AreWords words × (meaning words ≡ Some x)
 
-entry_fits : (d : Descriptor) → HasEntryNumbers d → IsReadAs entry_of (entry_words d) d
+entry_fits : (d : Descriptor) → HasEntryNumbers d → IsReadAs entry_of_words (entry_words d) d
 entry_fits d h = (
   ((decimal_word d.mtype (wide d.mtype h.mtype), (decimal_word d.first h.first, (decimal_word d.pages h.pages, (hexadecimal_word d.attributes h.attributes, tt)))), lit< tt, lit≤ tt),
   rw (type_read d.mtype h.mtype, decimal_read d.first h.first, decimal_read d.pages h.pages, hexadecimal_read d.attributes h.attributes) refl,
@@ -121,8 +121,8 @@ module _ (entries : List Descriptor) (r : Request) (c : CertificateValue) (h : H
   bound_count_fits : length c.bounds < 2 ^ 64
   bound_count_fits = let more : most_block_lines < 2 ^ 64 = lit< tt in omega (arith, total)
 
-  entries_read : AllByRecursion (λ d. IsReadAs entry_of (entry_words d) d) entries
-  entries_read = each HasEntryNumbers (λ d. IsReadAs entry_of (entry_words d) d) entry_fits entries h.entries_fit
+  entries_read : AllByRecursion (λ d. IsReadAs entry_of_words (entry_words d) d) entries
+  entries_read = each HasEntryNumbers (λ d. IsReadAs entry_of_words (entry_words d) d) entry_fits entries h.entries_fit
 
   bounds_read : AllByRecursion (λ b. IsReadAs bound_of (bound_words b) b) c.bounds
   bounds_read = each HasBoundNumbers (λ b. IsReadAs bound_of (bound_words b) b) bound_fits c.bounds h.bounds_fit
@@ -148,7 +148,7 @@ module _ (entries : List Descriptor) (r : Request) (c : CertificateValue) (h : H
 
   all_words : AllByRecursion AreWords (block_lines entries r c)
   all_words =
-      let es = all_mapped AreWords entry_words entries (each (λ d. IsReadAs entry_of (entry_words d) d) (λ d. AreWords (entry_words d)) (λ d k. k.0) entries entries_read) in
+      let es = all_mapped AreWords entry_words entries (each (λ d. IsReadAs entry_of_words (entry_words d) d) (λ d. AreWords (entry_words d)) (λ d k. k.0) entries entries_read) in
       let bs = all_mapped AreWords bound_words c.bounds (each (λ b. IsReadAs bound_of (bound_words b) b) (λ b. AreWords (bound_words b)) (λ b k. k.0) c.bounds bounds_read) in
       let middle = all_append AreWords (map entry_words entries) (request_words r ∷ bound_lines c.bounds) es ((request_fits r h.request_fits).0, ((bounds_fits (length c.bounds) bound_count_fits).0, bs)) in (
         head_fits.0,
@@ -179,8 +179,8 @@ module _ (entries : List Descriptor) (r : Request) (c : CertificateValue) (h : H
       (line_read (name_alone (codes "certificate")) (codes "certificate" ∷ []) tt 1 (joined (codes "map" ∷ decimal (length entries) ∷ []) ∷ entry_part) head_fits.0 head_fits.1 (lit≤ tt))
       ∙ step (line (number_after (codes "map"))) after_entry_count (at 2 (joined (codes "map" ∷ decimal (length entries) ∷ []) ∷ entry_part)) (at 3 entry_part) (length entries)
       (line_read (number_after (codes "map")) (codes "map" ∷ decimal (length entries) ∷ []) (length entries) 2 entry_part (map_fits (length entries) entry_count_fits).0 (map_fits (length entries) entry_count_fits).1 (lit≤ tt))
-      ∙ step (times (length entries) (line entry_of)) after_entries (at 3 entry_part) (at n3 request_part) entries
-      (times_read entry_of entries entry_words 3 request_part entries_read (omega (arith, total)))
+      ∙ step (times (length entries) (line entry_of_words)) after_entries (at 3 entry_part) (at n3 request_part) entries
+      (times_read entry_of_words entries entry_words 3 request_part entries_read (omega (arith, total)))
       ∙ step (line request_of) (after_request entries) (at n3 request_part) (at (n3 + 1) (joined (codes "bounds" ∷ decimal (length c.bounds) ∷ []) ∷ bound_part)) r
       (line_read request_of (request_words r) r n3 (joined (codes "bounds" ∷ decimal (length c.bounds) ∷ []) ∷ bound_part) (request_fits r h.request_fits).0 (request_fits r h.request_fits).1 (omega (arith, total)))
       ∙ step (line (number_after (codes "bounds"))) (after_bound_count entries r) (at (n3 + 1) (joined (codes "bounds" ∷ decimal (length c.bounds) ∷ []) ∷ bound_part)) (at (n3 + 1 + 1) bound_part) (length c.bounds)

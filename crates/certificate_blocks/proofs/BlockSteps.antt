@@ -1,5 +1,5 @@
 -- Reading a part of a certificate block after another.
-use Rattle.std.proofs.Common.{◌≡◌, IfSome, ℕ, suc, ◌+◌, ◌-◌, ◌<◌, ◌≤◌, Bool, true, false, ◌||◌, nat_lt, List, [], ◌∷◌, ◌++◌, length, Option, Some, None, Result, Ok, Err, IsErr, IsErrAnd, refl, sym, ap, ◌∙◌, inl, inr, arith, lt-ltb, le-ltb, append_assoc, append-nil}
+use Rattle.std.proofs.Common.{◌≡◌, IfSome, IsTrue, ℕ, suc, ◌+◌, ◌-◌, ◌<◌, ◌≤◌, Bool, true, false, ◌||◌, nat_lt, List, [], ◌∷◌, ◌++◌, length, Option, Some, None, Result, Ok, Err, IsErr, IsErrAnd, refl, sym, ap, ◌∙◌, inl, inr, arith, lt-ltb, le-ltb, append_assoc, append-nil}
 use Rattle.certificate_blocks.specs.declared.faults.BlockFault.{BlockFault}
 use Rattle.certificate_blocks.specs.declared.faults.BlockFault.TheVariants as fault
 use Rattle.text_lines.specs.Lines.{lines_of, first_line, after_line, TakesByte, IsFirstLine, TakesLine}
@@ -15,28 +15,28 @@ pub handed_on : {X : Type 0} (result : Result X BlockFault) (e : BlockFault) →
 handed_on (Ok x) e h = absurd h.1
 handed_on (Err f) e h = ap Err h.1
 
-pub memory_failed : {X A : Type 0} (view : X → A) (reading : Reading A) (old new : Option LinesLeft) → Reads view reading old (Err fault.OutOfMemory) new
-memory_failed view reading None new = tt
-memory_failed view reading (Some left) new = tt
+pub memory_failed : (can_fail : Bool) {X A : Type 0} (view : X → A) (reading : Reading A) (old new : Option LinesLeft) → Reads can_fail view reading old (Err fault.OutOfMemory) new
+memory_failed can_fail view reading None new = tt
+memory_failed can_fail view reading (Some left) new = tt
 
-fault_kept : {A B : Type 0} (next : A → Reading B) (given : Result (A × LinesLeft) ℕ) (e : BlockFault) → IsReadFault given e → IsReadFault (and_then next given) e
-fault_kept next given fault.Read f = tt
-fault_kept next given fault.OutOfMemory f = tt
-fault_kept next given fault.Write f = absurd f
-fault_kept next given (fault.Line number) f = rw f refl
+fault_kept : (can_fail : Bool) {A B : Type 0} (next : A → Reading B) (given : Result (A × LinesLeft) ℕ) (e : BlockFault) → IsReadFault can_fail given e → IsReadFault can_fail (and_then next given) e
+fault_kept can_fail next given fault.Read f = f
+fault_kept can_fail next given fault.OutOfMemory f = tt
+fault_kept can_fail next given fault.Write f = absurd f
+fault_kept can_fail next given (fault.Line number) f = rw f refl
 
-pub failed : {X Y A B : Type 0} (view : X → A) (shown : Y → B) (first : Reading A) (next : A → Reading B) (old mid new : Option LinesLeft) (e : BlockFault) → Reads view first old (Err e) mid → Reads shown (first >>= next) old (Err e) new
-failed view shown first next None mid new e f = tt
-failed view shown first next (Some left) mid new e f = fault_kept next (first left) e f
+pub failed : (can_fail : Bool) {X Y A B : Type 0} (view : X → A) (shown : Y → B) (first : Reading A) (next : A → Reading B) (old mid new : Option LinesLeft) (e : BlockFault) → Reads can_fail view first old (Err e) mid → Reads can_fail shown (first >>= next) old (Err e) new
+failed can_fail view shown first next None mid new e f = tt
+failed can_fail view shown first next (Some left) mid new e f = fault_kept can_fail next (first left) e f
 
-with_rest : {Y B : Type 0} (shown : Y → B) (one two : Result (B × LinesLeft) ℕ) (result : Result Y BlockFault) (new : Option LinesLeft) → one ≡ two → Reads shown (λ left. two) (Some (record { number = 0; lines = [] })) result new → Reads shown (λ left. one) (Some (record { number = 0; lines = [] })) result new
-with_rest shown one two result new e r = rw e r
+with_rest : (can_fail : Bool) {Y B : Type 0} (shown : Y → B) (one two : Result (B × LinesLeft) ℕ) (result : Result Y BlockFault) (new : Option LinesLeft) → one ≡ two → Reads can_fail shown (λ left. two) (Some (record { number = 0; lines = [] })) result new → Reads can_fail shown (λ left. one) (Some (record { number = 0; lines = [] })) result new
+with_rest can_fail shown one two result new e r = rw e r
 
-pub went_on : {X Y A B : Type 0} (view : X → A) (shown : Y → B) (first : Reading A) (next : A → Reading B) (old mid new : Option LinesLeft) (x : X) (result : Result Y BlockFault) → Reads view first old (Ok x) mid → Reads shown (next (view x)) mid result new → Reads shown (first >>= next) old result new
-went_on view shown first next None mid new x result f r = tt
-went_on view shown first next (Some left) mid new x result (rest, e, f) r =
+pub went_on : (can_fail : Bool) {X Y A B : Type 0} (view : X → A) (shown : Y → B) (first : Reading A) (next : A → Reading B) (old mid new : Option LinesLeft) (x : X) (result : Result Y BlockFault) → Reads can_fail view first old (Ok x) mid → Reads can_fail shown (next (view x)) mid result new → Reads can_fail shown (first >>= next) old result new
+went_on can_fail view shown first next None mid new x result f r = tt
+went_on can_fail view shown first next (Some left) mid new x result (rest, e, f) r =
     let r2 = rw e at r in
-    with_rest shown (and_then next (first left)) (next (view x) rest) result new (ap (and_then next) f) r2
+    with_rest can_fail shown (and_then next (first left)) (next (view x) rest) result new (ap (and_then next) f) r2
 
 -- ---- a line
 
@@ -47,11 +47,15 @@ or_true false b e = e
 at_end : (number : ℕ) (bytes : List ℕ) → bytes ≡ [] → line_from number (lines_of bytes) ≡ Err number
 at_end number bytes e = rw (e, lines_of-none) refl
 
-module _ (number : ℕ) (line : List ℕ) where
+module _ (can_fail : Bool) (number : ℕ) (line : List ℕ) where
   abbrev numbered : ℕ → ℕ × List ℕ
   numbered n = (n, line)
 
-  pub line_missing : (old next : Option (List ℕ)) → TakesLine old false line next → Reads numbered next_line (lines_left old number) (Err (fault.Line number)) None
+  pub line_unread : (old : Option (List ℕ)) → IsTrue can_fail → Reads can_fail numbered next_line (lines_left old number) (Err fault.Read) None
+  line_unread None fails = tt
+  line_unread (Some bytes) fails = fails
+
+  pub line_missing : (old next : Option (List ℕ)) → TakesLine old false line next → Reads can_fail numbered next_line (lines_left old number) (Err (fault.Line number)) None
   line_missing None next t = tt
   line_missing (Some bytes) next t = at_end number bytes t
 
@@ -59,7 +63,7 @@ module _ (number : ℕ) (line : List ℕ) where
   long bytes next l (some, inl (e, left)) = rw e at l
   long bytes next l (some, inr (a, b)) = b
 
-  pub line_too_long : (old next : Option (List ℕ)) → longest_line < length line → TakesLine old true line next → Reads numbered next_line (lines_left old number) (Err (fault.Line number)) None
+  pub line_too_long : (old next : Option (List ℕ)) → longest_line < length line → TakesLine old true line next → Reads can_fail numbered next_line (lines_left old number) (Err (fault.Line number)) None
   line_too_long None next l t = tt
   line_too_long (Some bytes) next l t =
       let first = long bytes next l t in
@@ -69,7 +73,7 @@ module _ (number : ℕ) (line : List ℕ) where
   whole bytes next l (some, inl h) = h
   whole bytes next l (some, inr (a, b)) = absurd (omega arith)
 
-  pub line_taken : (old next : Option (List ℕ)) → number ≤ most_block_lines → length line ≤ longest_line → TakesLine old true line next → Reads numbered next_line (lines_left old number) (Ok number) (lines_left next (number + 1))
+  pub line_taken : (old next : Option (List ℕ)) → number ≤ most_block_lines → length line ≤ longest_line → TakesLine old true line next → Reads can_fail numbered next_line (lines_left old number) (Ok number) (lines_left next (number + 1))
   line_taken None next n l t = tt
   line_taken (Some bytes) next n l t =
       let (same, rest) = whole bytes next l t in
@@ -81,15 +85,15 @@ module _ (number : ℕ) (line : List ℕ) where
 
 -- ---- the end
 
-pub end_reached : (number : ℕ) (old next : Option (List ℕ)) → TakesByte old None next → Reads (λ (done : Unit {0}). done) no_line (lines_left old number) (Ok tt) (lines_left next number)
-end_reached number None next t = tt
-end_reached number (Some bytes) next (e, n) =
+pub end_reached : (can_fail : Bool) (number : ℕ) (old next : Option (List ℕ)) → TakesByte old None next → Reads can_fail (λ (done : Unit {0}). done) no_line (lines_left old number) (Ok tt) (lines_left next number)
+end_reached can_fail number None next t = tt
+end_reached can_fail number (Some bytes) next (e, n) =
     let now : lines_left next number ≡ Some (record { number = number; lines = [] }) = rw (n, lines_of-none) refl in
     (record { number = number; lines = [] }, now, rw (e, lines_of-none) refl)
 
-pub end_missing : (number byte : ℕ) (old next : Option (List ℕ)) → TakesByte old (Some byte) next → Reads (λ (done : Unit {0}). done) no_line (lines_left old number) (Err (fault.Line number)) None
-end_missing number byte None next t = tt
-end_missing number byte (Some bytes) next (rest, e, n) =
+pub end_missing : (can_fail : Bool) (number byte : ℕ) (old next : Option (List ℕ)) → TakesByte old (Some byte) next → Reads can_fail (λ (done : Unit {0}). done) no_line (lines_left old number) (Err (fault.Line number)) None
+end_missing can_fail number byte None next t = tt
+end_missing can_fail number byte (Some bytes) next (rest, e, n) =
     let some : 0 < length (byte ∷ rest) = omega arith in
     rw (e, lines_of-some (byte ∷ rest) some) refl
 
@@ -104,7 +108,7 @@ prepended xs (Err number) = Err number
 abbrev pub HasRead : {A : Type 0} → ℕ → Reading A → Option LinesLeft → ℕ → List A → Option LinesLeft → Type 0
 HasRead count reading old done items now = IfSome old (λ left. (rest : LinesLeft) × (now ≡ Some rest) × (times count reading left ≡ prepended items (times (count - done) reading rest)))
 
-module _ {A : Type 0} (count : ℕ) (reading : Reading A) where
+module _ (can_fail : Bool) {A : Type 0} (count : ℕ) (reading : Reading A) where
   prepend_none : (given : Result (List A × LinesLeft) ℕ) → given ≡ prepended [] given
   prepend_none (Ok (ys, left)) = refl
   prepend_none (Err number) = refl
@@ -132,7 +136,7 @@ module _ {A : Type 0} (count : ℕ) (reading : Reading A) where
   no_times left = refl
 
   module _ (done : ℕ) (items : List A) where
-    pub more_read : (old now new : Option LinesLeft) (x : A) → done < count → HasRead count reading old done items now → Reads (λ (y : A). y) reading now (Ok x) new → HasRead count reading old (done + 1) (items ++ x ∷ []) new
+    pub more_read : (old now new : Option LinesLeft) (x : A) → done < count → HasRead count reading old done items now → Reads can_fail (λ (y : A). y) reading now (Ok x) new → HasRead count reading old (done + 1) (items ++ x ∷ []) new
     more_read None now new x l h r = tt
     more_read (Some left) now new x l (rest, n, e) r =
         let (rest2, n2, e2) = rw n at r in
@@ -142,19 +146,19 @@ module _ {A : Type 0} (count : ℕ) (reading : Reading A) where
           e ∙ ap (λ (m : ℕ). prepended items (times m reading rest)) k ∙ ap (prepended items) (one_more (count - (done + 1)) rest rest2 x e2) ∙ prepend_more items x (times (count - (done + 1)) reading rest2),
         )
 
-    stopped : (given : Result (List A × LinesLeft) ℕ) (left rest : LinesLeft) (e : BlockFault) → done < count → given ≡ prepended items (times (count - done) reading rest) → IsReadFault (reading rest) e → IsReadFault given e
-    stopped given left rest fault.Read l h f = tt
+    stopped : (given : Result (List A × LinesLeft) ℕ) (left rest : LinesLeft) (e : BlockFault) → done < count → given ≡ prepended items (times (count - done) reading rest) → IsReadFault can_fail (reading rest) e → IsReadFault can_fail given e
+    stopped given left rest fault.Read l h f = f
     stopped given left rest fault.OutOfMemory l h f = tt
     stopped given left rest fault.Write l h f = absurd f
     stopped given left rest (fault.Line number) l h f =
         let k : count - done ≡ suc (count - (done + 1)) = omega arith in
         h ∙ ap (λ (m : ℕ). prepended items (times m reading rest)) k ∙ ap (prepended items) (none_more (count - (done + 1)) rest number f)
 
-    pub one_failed : {X : Type 0} (view : X → List A) (old now new : Option LinesLeft) (e : BlockFault) → done < count → HasRead count reading old done items now → Reads (λ (y : A). y) reading now (Err e) new → Reads view (times count reading) old (Err e) None
+    pub one_failed : {X : Type 0} (view : X → List A) (old now new : Option LinesLeft) (e : BlockFault) → done < count → HasRead count reading old done items now → Reads can_fail (λ (y : A). y) reading now (Err e) new → Reads can_fail view (times count reading) old (Err e) None
     one_failed view None now new e l h r = tt
     one_failed view (Some left) now new e l (rest, n, h) r = let f = rw n at r in stopped (times count reading left) left rest e l h f
 
-    pub all_read : {X : Type 0} (view : X → List A) (old now : Option LinesLeft) (x : X) → view x ≡ items → count ≤ done → HasRead count reading old done items now → Reads view (times count reading) old (Ok x) now
+    pub all_read : {X : Type 0} (view : X → List A) (old now : Option LinesLeft) (x : X) → view x ≡ items → count ≤ done → HasRead count reading old done items now → Reads can_fail view (times count reading) old (Ok x) now
     all_read view None now x v l h = tt
     all_read view (Some left) now x v l (rest, n, e) =
         let k : count - done ≡ 0 = omega arith in

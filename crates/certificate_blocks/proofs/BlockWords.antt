@@ -1,6 +1,6 @@
 -- Words that are none of a block's lines.
 use Rattle.std.proofs.Common.{◌≡◌, ◌⊎◌, ℕ, ◌<◌, List, [], ◌∷◌, length, None, refl, inl, inr, arith}
-use Rattle.certificate_blocks.specs.BlockLines.{entry_of, request_of, bound_of}
+use Rattle.certificate_blocks.specs.BlockLines.{entry_of_words, request_of, bound_of}
 
 -- not so many
 abbrev pub OtherThan : ℕ → ℕ → List (List ℕ) → Type 0
@@ -10,7 +10,7 @@ four : (words : List (List ℕ)) → OtherThan 4 4 words → length words ≡ 4 
 four words (inl h) e = omega arith
 four words (inr h) e = omega arith
 
-pub entry_other : (words : List (List ℕ)) → OtherThan 4 4 words → entry_of words ≡ None
+pub entry_other : (words : List (List ℕ)) → OtherThan 4 4 words → entry_of_words words ≡ None
 entry_other [] h = refl
 entry_other (a ∷ []) h = refl
 entry_other (a ∷ b ∷ []) h = refl

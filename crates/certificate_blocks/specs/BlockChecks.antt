@@ -28,9 +28,12 @@ Writes before after (Ok accepted) = Appends before after (verdict_text accepted)
 Writes before after (Err fault.Write) = (accepted : Bool) × ((taken : ℕ) × Appends before after (take taken (verdict_text accepted)))
 Writes before after (Err e) = Keeps before after
 
--- What the answer says of known bytes: whether the block is accepted, or the first line that is not as stated. A write that fails has written a front of the block's own verdict.
-abbrev pub Judges : List ℕ → Option (List ℕ) → Option (List ℕ) → Result Bool BlockFault → Type 0
-Judges bytes before after (Ok accepted) = IsVerdict bytes accepted
-Judges bytes before after (Err (fault.Line number)) = block_of bytes ≡ Err number
-Judges bytes before after (Err fault.Write) = (accepted : Bool) × IsVerdict bytes accepted × ((taken : ℕ) × Appends before after (take taken (verdict_text accepted)))
-Judges bytes before after (Err e) = Unit {0}
+-- What the answer says of known bytes: whether the block is accepted, or the first line that is not as stated. A read
+-- fault is told of a source that can fail alone. A write that fails has written a front of the block's own verdict.
+-- Memory may run out at any time.
+abbrev pub Judges : Bool → List ℕ → Option (List ℕ) → Option (List ℕ) → Result Bool BlockFault → Type 0
+Judges can_fail bytes before after (Ok accepted) = IsVerdict bytes accepted
+Judges can_fail bytes before after (Err (fault.Line number)) = block_of bytes ≡ Err number
+Judges can_fail bytes before after (Err fault.Write) = (accepted : Bool) × IsVerdict bytes accepted × ((taken : ℕ) × Appends before after (take taken (verdict_text accepted)))
+Judges can_fail bytes before after (Err fault.Read) = IsTrue can_fail
+Judges can_fail bytes before after (Err fault.OutOfMemory) = Unit {0}

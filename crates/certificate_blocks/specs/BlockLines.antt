@@ -35,14 +35,14 @@ number_after name (word ∷ number ∷ []) = do
 number_after name words = None
 
 -- `TYPE FIRST PAGES ATTRIBUTES`, an entry of the map
-abbrev pub entry_of : List (List ℕ) → Option Descriptor
-entry_of (mtype ∷ first ∷ pages ∷ attributes ∷ []) = do
+abbrev pub entry_of_words : List (List ℕ) → Option Descriptor
+entry_of_words (mtype ∷ first ∷ pages ∷ attributes ∷ []) = do
   t ← type_of mtype
   f ← number_of first
   p ← number_of pages
   a ← number_of attributes
   Some (record { mtype = t; first = f; pages = p; attributes = a })
-entry_of words = None
+entry_of_words words = None
 
 -- `request TYPE PAGES LIMIT`
 abbrev pub request_of : List (List ℕ) → Option Request

@@ -7,7 +7,7 @@ use Rattle.placement_certificate.specs.Certificates.{CertificateValue}
 use Rattle.text_lines.specs.Lines.{lines_of}
 use Rattle.text_lines.specs.Lines.{longest_line}
 use Rattle.text_lines.specs.Words.{words_of}
-use Rattle.certificate_blocks.specs.BlockLines.{name_alone, number_after, entry_of, request_of, bound_of}
+use Rattle.certificate_blocks.specs.BlockLines.{name_alone, number_after, entry_of_words, request_of, bound_of}
 
 -- ---- reading, line after line
 
@@ -85,7 +85,7 @@ unfoldable pub block : Reading (List Descriptor × Request × CertificateValue)
 block = do
   head ← line (name_alone (codes "certificate"))
   entry_count ← line (number_after (codes "map"))
-  entries ← times entry_count (line entry_of)
+  entries ← times entry_count (line entry_of_words)
   request ← line request_of
   bound_count ← line (number_after (codes "bounds"))
   bounds ← times bound_count (line bound_of)

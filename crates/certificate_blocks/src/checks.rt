@@ -1,5 +1,5 @@
 //! The check of a certificate block.
-ghost use Rattle.std.specs.Prelude.{◌≡◌, ℕ, take, IfSome, IfErr, OnOk};
+ghost use Rattle.std.specs.Prelude.{◌≡◌, ℕ, true, take, IfSome, IfErr, OnOk};
 ghost use Rattle.std.specs.Io.KnownBytes.{Appends};
 ghost use Rattle.certificate_blocks.specs.BlockChecks.{verdict_text, Judges, Writes};
 
@@ -7,21 +7,37 @@ use crate::faults::BlockFault;
 use crate::reader::read_block;
 use placement_certificate::check;
 use std::alloc::Allocator;
-use std::io::{Read, Write};
-use text_lines::write_text;
+use std::io::{BufReader, Read, Write};
+use text_lines::{ByteSource, write_text};
 
 /// Reads one certificate block, and writes `accepted` or `refused`: whether the certificate is true
 /// for the map and the request. A block that is not well-formed is a fault with its first line that
-/// is wrong or missing; nothing is written then.
+/// is wrong or missing, unless memory runs out or a read fails. On a fault nothing is written, but
+/// for a write that fails.
 pub fn check_block<A: Allocator + Copy, R: Read + Drop, W: Write>(
     alloc: A,
     reader: R,
     writer: &mut W,
 ) -> Result<bool, BlockFault>
-    ensures judged { IfSome (R.remaining reader) (λ bytes. Judges bytes (W.contents writer.old) (W.contents writer.new) result) }
+    ensures judged { IfSome (R.remaining reader) (λ bytes. Judges true bytes (W.contents writer.old) (W.contents writer.new) result) }
     ensures written { Writes (W.contents writer.old) (W.contents writer.new) result }
 {
-    let block = match read_block(alloc, reader) {
+    match BufReader::new(alloc, reader) {
+        Ok(reader) => judge_block(alloc, reader, writer),
+        Err(_) => Err(BlockFault::OutOfMemory),
+    }
+}
+
+/// As [`check_block`], of a source of bytes. Where it cannot fail, no read fault is told.
+pub fn judge_block<A: Allocator + Copy, S: ByteSource + Drop, W: Write>(
+    alloc: A,
+    source: S,
+    writer: &mut W,
+) -> Result<bool, BlockFault>
+    ensures judged { IfSome (S.left source) (λ bytes. Judges S.can_fail bytes (W.contents writer.old) (W.contents writer.new) result) }
+    ensures written { Writes (W.contents writer.old) (W.contents writer.new) result }
+{
+    let block = match read_block(alloc, source) {
         Ok(block) => block,
         Err(fault) => return Err(fault),
     };

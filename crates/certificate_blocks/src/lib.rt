@@ -8,7 +8,7 @@ mod line_words;
 mod printing;
 mod reader;
 
-pub use checks::check_block;
+pub use checks::{check_block, judge_block};
 pub use faults::BlockFault;
 pub use laws::block_read_back_law;
 pub use printing::print_block;

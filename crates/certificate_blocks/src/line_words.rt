@@ -1,6 +1,6 @@
 //! The lines of certificate blocks, by their words.
 ghost use Rattle.std.specs.Prelude.{◌≡◌, [], ◌∷◌, map};
-ghost use Rattle.certificate_blocks.specs.BlockLines.{type_of, named, name_alone, number_after, entry_of, request_of, bound_of};
+ghost use Rattle.certificate_blocks.specs.BlockLines.{type_of, named, name_alone, number_after, entry_of_words, request_of, bound_of};
 
 use page_ranges::{Descriptor, MemoryType};
 use placement_certificate::{Bound, Request};
@@ -37,8 +37,8 @@ pub fn number_after(name: &[u8], words: &[&[u8]]) -> Option<u64>
 }
 
 /// The map entry of `TYPE FIRST PAGES ATTRIBUTES`, None for other words.
-pub fn entry_of(words: &[&[u8]]) -> Option<Descriptor>
-    ensures { result ≡ entry_of (map (λ word. word.now) words.now) }
+pub fn entry_of_words(words: &[&[u8]]) -> Option<Descriptor>
+    ensures { result ≡ entry_of_words (map (λ word. word.now) words.now) }
 {
     match words {
         [mtype, first, pages, attributes] => entry_with(mtype, first, pages, attributes),
@@ -48,7 +48,7 @@ pub fn entry_of(words: &[&[u8]]) -> Option<Descriptor>
 
 /// A map entry of these fields.
 fn entry_with(mtype: &[u8], first: &[u8], pages: &[u8], attributes: &[u8]) -> Option<Descriptor>
-    ensures { result ≡ entry_of (mtype.now ∷ first.now ∷ pages.now ∷ attributes.now ∷ []) }
+    ensures { result ≡ entry_of_words (mtype.now ∷ first.now ∷ pages.now ∷ attributes.now ∷ []) }
 {
     Some(Descriptor {
         mtype: type_of(mtype)?,

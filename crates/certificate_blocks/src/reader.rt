@@ -1,21 +1,19 @@
 //! Certificate blocks, read line by line.
 ghost use Rattle.std.specs.Prelude.{◌≡◌, IfOk, IfErr, IfSome, MatchResult, Ok, map};
 ghost use Rattle.std.specs.Io.BufRead.{strip_last};
-ghost use Rattle.std.specs.Io.Buffered.{reader_remaining};
 ghost use Rattle.text_lines.specs.Lines.{lines_of};
 ghost use Rattle.text_lines.specs.Words.{words_of};
-ghost use Rattle.certificate_blocks.specs.BlockLines.{name_alone, number_after, entry_of, request_of, bound_of};
+ghost use Rattle.certificate_blocks.specs.BlockLines.{name_alone, number_after, entry_of_words, request_of, bound_of};
 ghost use Rattle.certificate_blocks.specs.Blocks.{next_line, line, times, no_line, block, block_of};
 ghost use Rattle.certificate_blocks.specs.BlockReads.{lines_left, IsReadFault, Reads};
 
 use crate::faults::BlockFault;
-use crate::line_words::{bound_of, entry_of, name_alone, number_after, request_of};
+use crate::line_words::{bound_of, entry_of_words, name_alone, number_after, request_of};
 use page_ranges::Descriptor;
 use placement_certificate::{Bound, Certificate, Request};
 use std::alloc::Allocator;
-use std::io::{BufReader, Read};
 use text_lines::{
-    LONGEST_LINE, LineFault, next_byte, next_line, without_carriage_return, words_of,
+    ByteSource, LONGEST_LINE, LineFault, next_line, without_carriage_return, words_of,
 };
 
 /// The most lines of a block.
@@ -29,25 +27,25 @@ pub struct Block<A: Allocator> {
     pub certificate: Certificate<A>,
 }
 
-/// A block that is being read: its reader, its newest line, and the number of the next.
+/// A block that is being read: its source, its newest line, and the number of the next.
 #[derive(Drop)]
-pub struct BlockReader<R: Drop, A: Allocator> {
-    reader: BufReader<R, A>,
+pub struct BlockReader<S: Drop, A: Allocator> {
+    source: S,
     line: Vec<u8, A>,
     number: u64,
     alloc: A,
 }
 
-impl<R: Read + Drop, A: Allocator + Copy> BlockReader<R, A> {
+impl<S: ByteSource + Drop, A: Allocator + Copy> BlockReader<S, A> {
     /// Takes the next line, and answers its number.
     fn next_line(&mut self) -> Result<u64, BlockFault>
-        ensures { Reads (λ number. (number, self.new.line.items)) next_line (lines_left (reader_remaining R.remaining self.old.reader) self.old.number) result (lines_left (reader_remaining R.remaining self.new.reader) self.new.number) }
+        ensures { Reads S.can_fail (λ number. (number, self.new.line.items)) next_line (lines_left (S.left self.old.source) self.old.number) result (lines_left (S.left self.new.source) self.new.number) }
     {
         let number = self.number;
         if number > MOST_BLOCK_LINES {
             return Err(BlockFault::Line { number });
         }
-        match next_line(&mut self.reader, &mut self.line) {
+        match next_line(&mut self.source, &mut self.line) {
             Ok(true) => {}
             Ok(false) => return Err(BlockFault::Line { number }),
             Err(LineFault::Read) => return Err(BlockFault::Read),
@@ -70,7 +68,7 @@ impl<R: Read + Drop, A: Allocator + Copy> BlockReader<R, A> {
 
     /// Reads `NAME`.
     fn name(&mut self, name: &[u8]) -> Result<(), BlockFault>
-        ensures { Reads (λ done. done) (line (name_alone name.now)) (lines_left (reader_remaining R.remaining self.old.reader) self.old.number) result (lines_left (reader_remaining R.remaining self.new.reader) self.new.number) }
+        ensures { Reads S.can_fail (λ done. done) (line (name_alone name.now)) (lines_left (S.left self.old.source) self.old.number) result (lines_left (S.left self.new.source) self.new.number) }
     {
         let number = self.next_line()?;
         let words = self.words()?;
@@ -79,7 +77,7 @@ impl<R: Read + Drop, A: Allocator + Copy> BlockReader<R, A> {
 
     /// Reads `NAME NUMBER`.
     fn number_after(&mut self, name: &[u8]) -> Result<u64, BlockFault>
-        ensures { Reads (λ n. n) (line (number_after name.now)) (lines_left (reader_remaining R.remaining self.old.reader) self.old.number) result (lines_left (reader_remaining R.remaining self.new.reader) self.new.number) }
+        ensures { Reads S.can_fail (λ n. n) (line (number_after name.now)) (lines_left (S.left self.old.source) self.old.number) result (lines_left (S.left self.new.source) self.new.number) }
     {
         let number = self.next_line()?;
         let words = self.words()?;
@@ -88,16 +86,16 @@ impl<R: Read + Drop, A: Allocator + Copy> BlockReader<R, A> {
 
     /// Reads a map entry.
     fn entry(&mut self) -> Result<Descriptor, BlockFault>
-        ensures { Reads (λ entry. entry) (line entry_of) (lines_left (reader_remaining R.remaining self.old.reader) self.old.number) result (lines_left (reader_remaining R.remaining self.new.reader) self.new.number) }
+        ensures { Reads S.can_fail (λ entry. entry) (line entry_of_words) (lines_left (S.left self.old.source) self.old.number) result (lines_left (S.left self.new.source) self.new.number) }
     {
         let number = self.next_line()?;
         let words = self.words()?;
-        entry_of(words.as_slice()).ok_or(BlockFault::Line { number })
+        entry_of_words(words.as_slice()).ok_or(BlockFault::Line { number })
     }
 
     /// Reads the request.
     fn request(&mut self) -> Result<Request, BlockFault>
-        ensures { Reads (λ request. request) (line request_of) (lines_left (reader_remaining R.remaining self.old.reader) self.old.number) result (lines_left (reader_remaining R.remaining self.new.reader) self.new.number) }
+        ensures { Reads S.can_fail (λ request. request) (line request_of) (lines_left (S.left self.old.source) self.old.number) result (lines_left (S.left self.new.source) self.new.number) }
     {
         let number = self.next_line()?;
         let words = self.words()?;
@@ -106,7 +104,7 @@ impl<R: Read + Drop, A: Allocator + Copy> BlockReader<R, A> {
 
     /// Reads a bound.
     fn bound(&mut self) -> Result<Bound, BlockFault>
-        ensures { Reads (λ bound. bound) (line bound_of) (lines_left (reader_remaining R.remaining self.old.reader) self.old.number) result (lines_left (reader_remaining R.remaining self.new.reader) self.new.number) }
+        ensures { Reads S.can_fail (λ bound. bound) (line bound_of) (lines_left (S.left self.old.source) self.old.number) result (lines_left (S.left self.new.source) self.new.number) }
     {
         let number = self.next_line()?;
         let words = self.words()?;
@@ -115,7 +113,7 @@ impl<R: Read + Drop, A: Allocator + Copy> BlockReader<R, A> {
 
     /// Reads so many map entries.
     fn entries(&mut self, count: u64) -> Result<Vec<Descriptor, A>, BlockFault>
-        ensures { Reads (λ entries. entries.items) (times count (line entry_of)) (lines_left (reader_remaining R.remaining self.old.reader) self.old.number) result (lines_left (reader_remaining R.remaining self.new.reader) self.new.number) }
+        ensures { Reads S.can_fail (λ entries. entries.items) (times count (line entry_of_words)) (lines_left (S.left self.old.source) self.old.number) result (lines_left (S.left self.new.source) self.new.number) }
     {
         let mut entries = Vec::new(self.alloc);
         for _read in 0..count {
@@ -126,7 +124,7 @@ impl<R: Read + Drop, A: Allocator + Copy> BlockReader<R, A> {
 
     /// Reads so many bounds.
     fn bounds(&mut self, count: u64) -> Result<Vec<Bound, A>, BlockFault>
-        ensures { Reads (λ bounds. bounds.items) (times count (line bound_of)) (lines_left (reader_remaining R.remaining self.old.reader) self.old.number) result (lines_left (reader_remaining R.remaining self.new.reader) self.new.number) }
+        ensures { Reads S.can_fail (λ bounds. bounds.items) (times count (line bound_of)) (lines_left (S.left self.old.source) self.old.number) result (lines_left (S.left self.new.source) self.new.number) }
     {
         let mut bounds = Vec::new(self.alloc);
         for _read in 0..count {
@@ -137,20 +135,19 @@ impl<R: Read + Drop, A: Allocator + Copy> BlockReader<R, A> {
 
     /// Reads that no line is left.
     fn no_line(&mut self) -> Result<(), BlockFault>
-        ensures { Reads (λ done. done) no_line (lines_left (reader_remaining R.remaining self.old.reader) self.old.number) result (lines_left (reader_remaining R.remaining self.new.reader) self.new.number) }
+        ensures { Reads S.can_fail (λ done. done) no_line (lines_left (S.left self.old.source) self.old.number) result (lines_left (S.left self.new.source) self.new.number) }
     {
-        match next_byte(&mut self.reader) {
+        let number = self.number;
+        match self.source.take_byte() {
             Ok(None) => Ok(()),
-            Ok(Some(_)) => Err(BlockFault::Line {
-                number: self.number,
-            }),
+            Ok(Some(_)) => Err(BlockFault::Line { number }),
             Err(_) => Err(BlockFault::Read),
         }
     }
 
     /// Reads a block.
     fn block(&mut self) -> Result<Block<A>, BlockFault>
-        ensures { Reads (λ b. (b.map.items, b.request, b.certificate)) block (lines_left (reader_remaining R.remaining self.old.reader) self.old.number) result (lines_left (reader_remaining R.remaining self.new.reader) self.new.number) }
+        ensures { Reads S.can_fail (λ b. (b.map.items, b.request, b.certificate)) block (lines_left (S.left self.old.source) self.old.number) result (lines_left (S.left self.new.source) self.new.number) }
     {
         self.name(b"certificate")?;
         let entry_count = self.number_after(b"map")?;
@@ -170,19 +167,16 @@ impl<R: Read + Drop, A: Allocator + Copy> BlockReader<R, A> {
 }
 
 /// Reads one block, and that nothing follows it.
-pub fn read_block<A: Allocator + Copy, R: Read + Drop>(
+pub fn read_block<A: Allocator + Copy, S: ByteSource + Drop>(
     alloc: A,
-    reader: R,
+    source: S,
 ) -> Result<Block<A>, BlockFault>
-    ensures { IfSome (R.remaining reader) (λ bytes. MatchResult result
+    ensures { IfSome (S.left source) (λ bytes. MatchResult result
         (λ b. block_of bytes ≡ Ok (b.map.items, b.request, b.certificate))
-        (IsReadFault (block (record { number = 1; lines = lines_of bytes })))) }
+        (IsReadFault S.can_fail (block (record { number = 1; lines = lines_of bytes })))) }
 {
-    let Ok(reader) = BufReader::new(alloc, reader) else {
-        return Err(BlockFault::OutOfMemory);
-    };
     let mut lines = BlockReader {
-        reader,
+        source,
         line: Vec::new(alloc),
         number: 1,
         alloc,

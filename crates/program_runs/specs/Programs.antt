@@ -49,7 +49,7 @@ RunsPaths files certify machine trace openings before after end =
 -- What a command does: the files that it opens, what it writes, and its status. `check` opens none and judges the input.
 abbrev pub Does : Files → Option (List ℕ) → Command → List Opening → Option (List ℕ) → Option (List ℕ) → ℕ → Type 0
 Does files input (command.Run machine trace certify) openings before after status = (end : Result (Unit {0}) Fault) × (status ≡ status_of end) × RunsPaths files certify machine.now trace.now openings before after end
-Does files input command.Check openings before after status = (openings ≡ []) × ((end : Result Bool BlockFault) × (status ≡ check_status end) × Writes before after end × IfSome input (λ bytes. Judges bytes before after end))
+Does files input command.Check openings before after status = (openings ≡ []) × ((end : Result Bool BlockFault) × (status ≡ check_status end) × Writes before after end × IfSome input (λ bytes. Judges true bytes before after end))
 
 -- ---- words
 

@@ -1,5 +1,5 @@
 //! A run of the program, over any readers and writers.
-ghost use Rattle.std.specs.Prelude.{◌≡◌, ◌⊎◌, IfOk, IfErr, IfSome};
+ghost use Rattle.std.specs.Prelude.{◌≡◌, ◌⊎◌, true, IfOk, IfErr, IfSome};
 ghost use Rattle.certificate_blocks.specs.BlockChecks.{Judges, Writes};
 ghost use Rattle.program_runs.specs.Serving.{IsRead, RunsFiles, check_status, fault_status, status_of, usage_status, WritesFront};
 
@@ -103,7 +103,7 @@ pub fn serve_check<R: Read + Drop, W: Write, E: Write>(
     err: &mut E,
 ) -> u8
     ensures status { (result ≡ SUCCESS) ⊎ ((result ≡ REFUSED) ⊎ (result ≡ FAULT)) }
-    ensures check { (end : _) × (result ≡ check_status end) × Writes (W.contents out.old) (W.contents out.new) end × IfSome (R.remaining input) (λ bytes. Judges bytes (W.contents out.old) (W.contents out.new) end) }
+    ensures check { (end : _) × (result ≡ check_status end) × Writes (W.contents out.old) (W.contents out.new) end × IfSome (R.remaining input) (λ bytes. Judges true bytes (W.contents out.old) (W.contents out.new) end) }
 {
     match check_block(alloc, input, out) {
         Ok(true) => SUCCESS,

@@ -1,9 +1,8 @@
-use Rattle.std.specs.Io.Buffered.{reader_remaining}
 use Rattle.certificate_blocks.proofs.BlockSteps.{end_reached, end_missing}
 use Rattle.certificate_blocks.proofs.reader.BlockReader.no_line.Goals as goal
 
 pub returns-in-Ok-None : goal.returns-in-Ok-None
-returns-in-Ok-None g c = end_reached c.args.self.now.number (reader_remaining g.R.Read.remaining c.args.self.now.reader) (reader_remaining g.R.Read.remaining c.next_byte.new.reader) (rw c.in-Ok-None.field-0-is at c.in-Ok-None.ensures)
+returns-in-Ok-None g c = end_reached g.S.ByteSource.can_fail c.args.self.now.number (g.S.ByteSource.left c.args.self.now.source) (g.S.ByteSource.left c.take_byte.new.self) (rw c.in-Ok-None.field-0-is at c.in-Ok-None.ensures.next)
 
 pub returns-in-Ok-Some : goal.returns-in-Ok-Some
-returns-in-Ok-Some g c = end_missing c.args.self.now.number c.in-Ok-Some.field-0-0 (reader_remaining g.R.Read.remaining c.args.self.now.reader) (reader_remaining g.R.Read.remaining c.next_byte.new.reader) (rw c.in-Ok-Some.field-0-is at c.in-Ok-Some.ensures)
+returns-in-Ok-Some g c = end_missing g.S.ByteSource.can_fail c.args.self.now.number c.in-Ok-Some.field-0-0 (g.S.ByteSource.left c.args.self.now.source) (g.S.ByteSource.left c.take_byte.new.self) (rw c.in-Ok-Some.field-0-is at c.in-Ok-Some.ensures.next)

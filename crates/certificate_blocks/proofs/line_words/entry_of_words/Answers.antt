@@ -2,8 +2,8 @@ use Rattle.std.proofs.Common.{map, inl, inr, sym, rules, arith}
 use Rattle.std.proofs.lemmas.Grind.{common_steps}
 use Rattle.std.proofs.lemmas.List.{length-map}
 use Rattle.certificate_blocks.proofs.BlockWords.{entry_other}
-use Rattle.certificate_blocks.proofs.line_words.entry_of.Goals.{in_default-via-then-words-lt4, in_default-via-else-words-lt4+else-words-lt5}
-use Rattle.certificate_blocks.proofs.line_words.entry_of.Goals as goal
+use Rattle.certificate_blocks.proofs.line_words.entry_of_words.Goals.{in_default-via-then-words-lt4, in_default-via-else-words-lt4+else-words-lt5}
+use Rattle.certificate_blocks.proofs.line_words.entry_of_words.Goals as goal
 
 pub returns-in_default : goal.returns-in_default
 returns-in_default c = elim c.in_default.branch [

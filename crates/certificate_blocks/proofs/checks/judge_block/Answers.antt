@@ -1,6 +1,6 @@
 -- One search and no second tactic after it: a body that is wrong is then refused sooner.
 use Rattle.std.proofs.Common.{rules}
-use Rattle.certificate_blocks.proofs.checks.check_block.Goals as goal
+use Rattle.certificate_blocks.proofs.checks.judge_block.Goals as goal
 
 pub returns-in-Err-clause-judged : goal.returns-in-Err-clause-judged
 returns-in-Err-clause-judged g c = search rules
