@@ -1,7 +1,9 @@
 -- Openings one after another, and texts of which a front is written.
-use Rattle.std.proofs.Common.{◌≡◌, ℕ, List, [], ◌++◌, length, take, Option, Some, None, Result, Ok, Err, OnOk, OnErr, refl, sym, ap, ◌∙◌, subst, append-nil, append_assoc, take_all, arith}
+use Rattle.std.proofs.Common.{◌≡◌, ℕ, Bool, List, [], ◌++◌, length, take, Option, Some, None, Result, Ok, Err, OnOk, OnErr, IfSome, refl, sym, ap, ◌∙◌, subst, append-nil, append_assoc, take_all, arith}
 use Rattle.std.specs.Io.KnownBytes.{Appends}
-use Rattle.program_runs.specs.Serving.{WritesFront}
+use Rattle.program_runs.specs.declared.serve.Fault.{Fault}
+use Rattle.program_runs.specs.declared.serve.Fault.TheVariants as run_fault
+use Rattle.program_runs.specs.Serving.{RunsFiles, WritesFront}
 use Rattle.command_line.specs.declared.commands.CommandFault.{CommandFault}
 use Rattle.command_line.specs.Words.{IsRefusedBy}
 use Rattle.program_runs.specs.Programs.{Files, Opening, Opens, DoesAsAsked}
@@ -27,3 +29,24 @@ refused_alike fault xs ys e = subst (λ (words : List (List ℕ)). IsRefusedBy w
 -- the same words are served alike
 pub served_alike : (xs ys : List (List ℕ)) (old new : Option (List Opening)) (files : Files) (input before after : Option (List ℕ)) (status : ℕ) → xs ≡ ys → (openings : List Opening) × Opens old openings new × DoesAsAsked xs files input openings before after status → (openings : List Opening) × Opens old openings new × DoesAsAsked ys files input openings before after status
 served_alike xs ys old new files input before after status e = subst (λ (words : List (List ℕ)). (openings : List Opening) × Opens old openings new × DoesAsAsked words files input openings before after status) e
+
+-- what is said of a run on a trace holds of what is known of the trace
+module _ (certify : Bool) (before after : Option (List ℕ)) (end : Result (Unit {0}) Fault) where
+  ran_on : (file : List ℕ) (known trace : Option (List ℕ)) → IfSome known (λ bytes. trace ≡ Some bytes) → RunsFiles certify file trace before after end → RunsFiles certify file known before after end
+  ran_on file (Some bytes) trace same ran = subst (λ (t : Option (List ℕ)). RunsFiles certify file t before after end) same ran
+  ran_on file None trace same ran = unknown end ran
+    where
+      unknown : (e : Result (Unit {0}) Fault) → RunsFiles certify file trace before after e → RunsFiles certify file None before after e
+      unknown (Ok done) (runs, machine, ran) = (runs, machine, tt)
+      unknown (Err (run_fault.Run e)) (runs, machine, ran) = (runs, machine, tt)
+      unknown (Err (run_fault.Machine e)) ran = ran
+      unknown (Err run_fault.CannotReadMachine) ran = ran
+      unknown (Err run_fault.OutOfMemory) ran = ran
+      unknown (Err run_fault.CannotReadTrace) ran = ran
+      unknown (Err (run_fault.Block e)) ran = ran
+
+  -- and of what is known of the machine file
+  pub ran_on_files : (known_machine machine known_trace trace : Option (List ℕ)) → IfSome known_machine (λ bytes. machine ≡ Some bytes) → IfSome known_trace (λ bytes. trace ≡ Some bytes) → IfSome machine (λ file. RunsFiles certify file trace before after end) → IfSome known_machine (λ file. RunsFiles certify file known_trace before after end)
+  ran_on_files None machine known_trace trace same_machine same_trace ran = tt
+  ran_on_files (Some file) machine known_trace trace same_machine same_trace ran =
+      ran_on file known_trace trace same_trace (subst (λ (m : Option (List ℕ)). IfSome m (λ f. RunsFiles certify f trace before after end)) same_machine ran)

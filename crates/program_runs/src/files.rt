@@ -1,5 +1,5 @@
 //! Files that are opened by their paths.
-ghost use Rattle.std.specs.Prelude.{◌≡◌, ℕ, List, Option, None, IfOk};
+ghost use Rattle.std.specs.Prelude.{◌≡◌, ℕ, List, Option, None, Some, IfOk, IfSome};
 ghost use Rattle.program_runs.specs.Programs.{Opening, Opens, opening, is_ok};
 
 use std::fs::File;
@@ -18,7 +18,7 @@ pub trait OpenFiles {
     /// Opens the file at a path.
     fn open(&mut self, path: &str) -> Result<Self::File>
         ensures told { Opens (openings self.old) (opening path.now (is_ok result)) (openings self.new) }
-        ensures bytes { IfOk result (λ file. Self.File.remaining file ≡ bytes_at self.old path.now) }
+        ensures bytes { IfOk result (λ file. IfSome (bytes_at self.old path.now) (λ bytes. Self.File.remaining file ≡ Some bytes)) }
         ensures kept { bytes_at self.new ≡ bytes_at self.old };
 }
 

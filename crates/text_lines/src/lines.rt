@@ -1,5 +1,5 @@
 //! Lines, read one at a time.
-ghost use Rattle.std.specs.Prelude.{◌≡◌, IsTrue, IfErr, IfOk};
+ghost use Rattle.std.specs.Prelude.{◌≡◌, IsTrue, IfOk, MatchResult};
 ghost use Rattle.std.specs.Io.BufRead.{strip_last};
 ghost use Rattle.std.specs.Io.Buffered.{reader_remaining};
 ghost use Rattle.text_lines.specs.Lines.{TakesByte, TakesLine};
@@ -36,15 +36,16 @@ pub fn next_byte<R: Read, A: Allocator>(reader: &mut BufReader<R, A>) -> io::Res
 /// Puts the next line in the place of `line`, without its line feed, and answers whether there was
 /// one. Of a line that is longer than [`LONGEST_LINE`], reading stops one byte past that limit.
 pub fn next_line<S: ByteSource, A: Allocator>(
-    source: &mut S,
+    reader: &mut S,
     line: &mut Vec<u8, A>,
 ) -> Result<bool, LineFault>
-    ensures ok { IfOk result (λ more. TakesLine (S.left source.old) more line.new.items (S.left source.new)) }
-    ensures err { IfErr result (λ fault. fault ≡ LineFault.Read → IsTrue S.can_fail) }
+    ensures { MatchResult result
+        (λ more. TakesLine (S.left reader.old) more line.new.items (S.left reader.new))
+        (λ fault. fault ≡ LineFault.Read → IsTrue S.can_fail) }
 {
     line.clear();
     for _taken in 0..LONGEST_FRONT {
-        match source.take_byte() {
+        match reader.take_byte() {
             Ok(None) => return Ok(!line.is_empty()),
             Ok(Some(b'\n')) => return Ok(true),
             Ok(Some(byte)) => {

@@ -1,6 +1,6 @@
 use Rattle.std.proofs.Common.{◌++◌, true, false, inl, inr, refl}
 use Rattle.program_runs.specs.Programs.{opening}
-use Rattle.program_runs.proofs.Openings.{both_opened}
+use Rattle.program_runs.proofs.Openings.{both_opened, ran_on_files}
 use Rattle.program_runs.proofs.program.run_paths.Goals as goal
 
 pub returns-in_default-open : goal.returns-in_default-open
@@ -11,5 +11,5 @@ pub returns : goal.returns
 returns g c = (
   opening c.args.machine.now true ++ opening c.args.trace.now true,
   both_opened _ _ _ _ _ c.in-Ok.ensures.told c.in-Ok-open.ensures.told,
-  inr (inr (refl, rw c.in-Ok.ensures.bytes at (rw c.in-Ok.ensures.kept at (rw c.in-Ok-open.ensures.bytes at c.run_files.ensures)))),
+  inr (inr (refl, ran_on_files c.args.certify _ _ _ (g.O.OpenFiles.bytes_at c.args.files.now c.args.machine.now) _ (g.O.OpenFiles.bytes_at c.args.files.now c.args.trace.now) _ c.in-Ok.ensures.bytes (rw c.in-Ok.ensures.kept at c.in-Ok-open.ensures.bytes) c.run_files.ensures)),
 )

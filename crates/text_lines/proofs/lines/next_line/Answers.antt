@@ -2,16 +2,16 @@ use Rattle.std.proofs.Common.{◌≡◌, ◌++◌, ◌∷◌, [], arith, rules, 
 use Rattle.text_lines.proofs.LineBytes.{taken-more, none-more, line-ended, bytes-ended, line-too-long}
 use Rattle.text_lines.proofs.lines.next_line.Goals as goal
 
-pub returns-in-Ok-None-clause-ok : goal.returns-in-Ok-None-clause-ok
-returns-in-Ok-None-clause-ok g c =
+pub returns-in-Ok-None : goal.returns-in-Ok-None
+returns-in-Ok-None g c =
     let count : vec_len c.loop-taken.line ≡ length c.loop-taken.line.items = search rules in
     rw (c.is_empty.ensures, count) (bytes-ended _ _ _ _ c.loop-taken.invariant.taken c.loop-taken.invariant.none (rw c.in-Ok-None.field-0-is at c.in-Ok-None.ensures.next))
 
-pub returns-in-Ok-Some-eq10-clause-ok : goal.returns-in-Ok-Some-eq10-clause-ok
-returns-in-Ok-Some-eq10-clause-ok g c = line-ended _ _ _ _ c.in-Ok-Some-eq10.field-0-0 c.loop-taken.invariant.taken c.loop-taken.invariant.none (rw c.in-Ok-Some-eq10.field-0-is at c.in-Ok-Some-eq10.ensures.next) c.in-Ok-Some-eq10.field-0-0-test
+pub returns-in-Ok-Some-eq10 : goal.returns-in-Ok-Some-eq10
+returns-in-Ok-Some-eq10 g c = line-ended _ _ _ _ c.in-Ok-Some-eq10.field-0-0 c.loop-taken.invariant.taken c.loop-taken.invariant.none (rw c.in-Ok-Some-eq10.field-0-is at c.in-Ok-Some-eq10.ensures.next) c.in-Ok-Some-eq10.field-0-0-test
 
-pub returns-clause-ok : goal.returns-clause-ok
-returns-clause-ok g c = line-too-long _ _ _ c.loop-taken.invariant.taken c.loop-taken.invariant.none (omega (arith, c.loop-taken.invariant.count))
+pub returns : goal.returns
+returns g c = line-too-long _ _ _ c.loop-taken.invariant.taken c.loop-taken.invariant.none (omega (arith, c.loop-taken.invariant.count))
 
 pub loop-taken-preserved : goal.loop-taken-preserved
 loop-taken-preserved g c =
