@@ -7,7 +7,8 @@ use std::io::{Error, ErrorKind, Result, Write};
 /// Writes all the bytes and flushes them, if there are any.
 ///
 /// An `Err` of the writer ends it, an interrupted write too, and so does a write that takes no byte;
-/// some bytes from the front on have then been written.
+/// some bytes from the front on have then been written. The contract states what is written; that a
+/// failed write is not tried again, and that the text is flushed, is for tests to show.
 pub fn write_text<W: Write>(writer: &mut W, bytes: &[u8]) -> Result<()>
     ensures ok { OnOk result (Appends (W.contents writer.old) (W.contents writer.new) bytes.now) }
     ensures err { OnErr result ((count : ℕ) × Appends (W.contents writer.old) (W.contents writer.new) (take count bytes.now)) }

@@ -4,17 +4,17 @@ use Rattle.certificate_blocks.proofs.reader.BlockReader.next_line.Goals as goal
 
 pub returns-in-Ok-false : goal.returns-in-Ok-false
 returns-in-Ok-false g c =
-    line_missing g.S.ByteSource.can_fail c.args.self.now.number c.next_line.new.line.items (g.S.ByteSource.left c.args.self.now.source) (g.S.ByteSource.left c.next_line.new.source)
+    line_missing g.S.ByteSource.can_fail c.args.self.now.number c.next_line.new.line.items (g.S.ByteSource.left c.args.self.now.source) (g.S.ByteSource.left c.next_line.new.reader)
     (rw c.in-Ok-false.field-0-test at c.in-Ok-false.ensures)
 
 pub returns-then-len-gt-LONGEST_LINE : goal.returns-then-len-gt-LONGEST_LINE
 returns-then-len-gt-LONGEST_LINE g c =
-    line_too_long g.S.ByteSource.can_fail c.args.self.now.number c.next_line.new.line.items (g.S.ByteSource.left c.args.self.now.source) (g.S.ByteSource.left c.next_line.new.source) (omega arith)
+    line_too_long g.S.ByteSource.can_fail c.args.self.now.number c.next_line.new.line.items (g.S.ByteSource.left c.args.self.now.source) (g.S.ByteSource.left c.next_line.new.reader) (omega arith)
     (rw c.in-Ok-true.field-0-test at c.in-Ok-true.ensures)
 
 pub returns : goal.returns
 returns g c =
-    line_taken g.S.ByteSource.can_fail c.args.self.now.number c.next_line.new.line.items (g.S.ByteSource.left c.args.self.now.source) (g.S.ByteSource.left c.next_line.new.source) (omega arith) (omega arith)
+    line_taken g.S.ByteSource.can_fail c.args.self.now.number c.next_line.new.line.items (g.S.ByteSource.left c.args.self.now.source) (g.S.ByteSource.left c.next_line.new.reader) (omega arith) (omega arith)
     (rw c.in-Ok-true.field-0-test at c.in-Ok-true.ensures)
 
 pub returns-then-number-gt-MOST_BLOCK_LINES : goal.returns-then-number-gt-MOST_BLOCK_LINES
