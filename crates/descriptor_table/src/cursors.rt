@@ -14,6 +14,7 @@ use std::marker::Model;
 const STEPS: usize = 64;
 
 /// How many runs end at a page or below it; they come first.
+#[inline(never)]
 fn count_ending_by(runs: &[Run], page: u64) -> usize
     requires runs { AreRuns runs.now }
     requires ends { EndBy page_count runs.now }
@@ -29,6 +30,7 @@ fn count_ending_by(runs: &[Run], page: u64) -> usize
 }
 
 /// Whether the runs before an index end at a page or below it.
+#[inline(always)]
 fn all_end_by(runs: &[Run], page: u64, index: usize) -> bool
     requires runs { AreRuns runs.now }
     requires ends { EndBy page_count runs.now }
@@ -43,6 +45,7 @@ fn all_end_by(runs: &[Run], page: u64, index: usize) -> bool
 }
 
 /// The same count, found by steps from an index on where that is not far below.
+#[inline(always)]
 fn count_ending_by_from(runs: &[Run], page: u64, start: usize) -> usize
     requires runs { AreRuns runs.now }
     requires ends { EndBy page_count runs.now }
@@ -51,20 +54,19 @@ fn count_ending_by_from(runs: &[Run], page: u64, start: usize) -> usize
     ensures by { AllWithin (λ r. r.range.first + r.range.pages ≤ page) runs.now 0 result }
     ensures above { AllWithin (λ r. page < r.range.first + r.range.pages) runs.now result (length runs.now) }
 {
-    if !all_end_by(runs, page, start) {
-        return count_ending_by(runs, page);
-    }
-    let far = start + STEPS.min(runs.len() - start);
-    for index in start..far {
-        let run = &runs[index];
-        if page < run.range.first + run.range.pages {
-            return index;
+    if all_end_by(runs, page, start) {
+        for index in start..start + STEPS.min(runs.len() - start) {
+            let run = &runs[index];
+            if page < run.range.first + run.range.pages {
+                return index;
+            }
         }
     }
     count_ending_by(runs, page)
 }
 
 /// The run that holds a page, if it is the one at an index: the first that ends above the page.
+#[inline(always)]
 fn run_from(runs: &[Run], page: u64, index: usize) -> Option<Run>
     requires runs { AreRuns runs.now }
     requires bound { index ≤ length runs.now }
@@ -114,6 +116,7 @@ impl<'a> RunCursor<'a> {
     }
 
     /// The run that holds a page.
+    #[inline(always)]
     pub fn run_at(&mut self, page: u64) -> Option<Run>
         ensures stays { self.new ≡ self.old }
         ensures page { page_at self.old page ≡ option_map (page_in page) result }
@@ -129,6 +132,7 @@ impl<'a> RunCursor<'a> {
 impl<'a> PageCursor for RunCursor<'a> {
     ghost memory = { λ c. c };
 
+    #[inline(always)]
     fn block_at(&mut self, page: u64) -> Option<Descriptor> {
         let _ = &self.runs;
         let run = self.run_at(page)?;

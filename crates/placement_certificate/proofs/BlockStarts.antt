@@ -108,94 +108,80 @@ module _ (m : List Page) (s : EntryStarts) (starts : AreStartsIn m s) where
   pub not_absent : (p : ℕ) → IsIn e p → p + r.pages ≤ s.end_by → (k : ℕ) → p ≤ k → k < p + r.pages → page_at m k ≡ None → ⊥
   not_absent p i by k low high none = subst IsConventional none (((starts.end_by p i).1 by).conventional k low high)
 
-  -- What was found once all places were tried that end by a page: the block holds that page, which is the last one of
-  -- the lowest start left.
-  pub record HasTried (b : Descriptor) (l : Option (ℕ × ℕ)) (page : ℕ) : Type 0 where
+  -- What is known when a start is to be tried, the last page of which is in a block: the lower starts that end where an
+  -- entry ends are tried, and the entry's first page, if that is another start.
+  pub record HasTried (b : Descriptor) (l : Option (ℕ × ℕ)) (p : ℕ) : Type 0 where
     pub block : IsBlock m b
-    pub held : IsIn b page
+    pub held : IsIn b (p + r.pages - 1)
     pub found : IsFound m r e l
-    pub first : IsTried m r e l e.first
-    pub ends : (q : ℕ) → EndsEntry m (q + r.pages) → q + r.pages ≤ page → IsTried m r e l q
-    pub low : e.first + r.pages ≤ page + 1
-    pub high : page + 1 ≤ e.first + (e.pages - 1) + r.pages
-    pub within : page < s.end_by
+    pub first : p ≢ e.first → IsTried m r e l e.first
+    pub ends : (q : ℕ) → EndsEntry m (q + r.pages) → q < p → IsTried m r e l q
+    pub within : IsIn e p
+    pub by : p + r.pages ≤ s.end_by
 
-  pub first_tried : (b : Descriptor) (found : Option (ℕ × ℕ)) (page : ℕ) → page ≡ e.first + (r.pages - 1) → e.first + r.pages ≤ s.end_by → IsBlock m b → IsIn b page → IsFound m r e found → IsTried m r e found e.first → HasTried b found page
-  first_tried b found page at fits block held is first =
-      let some = starts.good.some in
-      let pages = (entry_is_block m starts.proper.ascending e starts.entry).some in
-      record {
-        block = block;
-        held = held;
-        found = is;
-        first = first;
-        ends = λ q ends l. tried_outside m r e found q (λ i. omega (arith, i.low));
-        low = omega arith;
-        high = omega arith;
-        within = omega arith;
-      }
+  pub none_tried : (b : Descriptor) → e.first + r.pages ≤ s.end_by → IsBlock m b → IsIn b (e.first + r.pages - 1) → HasTried b None e.first
+  none_tried b fits block held = record {
+    block = block;
+    held = held;
+    found = tt;
+    first = λ other. absurd (other refl);
+    ends = λ q ends l. tried_outside m r e None q (λ i. omega (arith, i.low));
+    within = in_entry;
+    by = fits;
+  }
 
-  module _ (b : Descriptor) (old : Option (ℕ × ℕ)) (page : ℕ) (has : HasTried b old page) (p : ℕ) (at : p ≡ min (e.first + (e.pages - 1)) (min s.end_by (b.first + b.pages) - r.pages)) where
+  module _ (b : Descriptor) (old new : Option (ℕ × ℕ)) (p : ℕ) (has : HasTried b old p) (found : IsFound m r e new) (tried : IsTried m r e new p) (still : (q : ℕ) → IsTried m r e old q → IsTried m r e new q) where
     some : 0 < r.pages
     some = starts.good.some
 
-    pages : 0 < e.pages
-    pages = (entry_is_block m starts.proper.ascending e starts.entry).some
+    first_too : IsTried m r e new e.first
+    first_too = elim (cases_eq p e.first) [ inl same ↦ subst (IsTried m r e new) same tried | inr other ↦ still e.first (has.first other) ]
 
-    pub start_in : IsIn e p
-    start_in = record { low = omega (arith, some, pages, has.low, has.high, has.within, has.held.high); high = omega (arith, pages) }
+    ends_too : (q : ℕ) → EndsEntry m (q + r.pages) → q ≤ p → IsTried m r e new q
+    ends_too q ends l = elim (cases_eq q p) [ inl same ↦ subst (IsTried m r e new) (sym same) tried | inr other ↦ still q (has.ends q ends (omega arith)) ]
 
-    pub start_by : p + r.pages ≤ s.end_by
-    start_by = omega (arith, some, has.low, has.within, has.held.high)
-
-    pub start_above : page ≤ p + r.pages - 1
-    start_above = omega (arith, some, has.low, has.high, has.within, has.held.high)
-
-    pub last_in : IsIn b (p + r.pages - 1)
-    last_in = record { low = omega (arith, start_above, has.held.low); high = omega (arith, some, has.low, has.within, has.held.high) }
-
-    -- the places up to the start's end are tried
-    ends_tried : (new : Option (ℕ × ℕ)) → ((q : ℕ) → IsTried m r e old q → IsTried m r e new q) → IsTried m r e new p → (q : ℕ) → EndsEntry m (q + r.pages) → q + r.pages ≤ p + r.pages → IsTried m r e new q
-    ends_tried new still tried q ends l = elim (cases_lt page (q + r.pages)) [
-      | inr g ↦ still q (has.ends q ends g)
-      | inl above ↦ elim (cases_eq q p) [
-        | inl same ↦ subst (IsTried m r e new) (sym same) tried
-        | inr other ↦ absurd (
-            inside_block m b (q + r.pages) starts.proper has.block (omega arith)
-            (record { low = omega (arith, has.held.low); high = omega (arith, last_in.high, some) })
-            (record { low = omega (arith, has.held.low); high = omega (arith, last_in.high, some) })
-            ends
-            )
-      ]
-    ]
-
-    -- the next block
-    pub tried_more : (c : Descriptor) (new : Option (ℕ × ℕ)) → IsFound m r e new → ((q : ℕ) → IsTried m r e old q → IsTried m r e new q) → IsTried m r e new p → p ≢ e.first + (e.pages - 1) → p + r.pages ≢ s.end_by → IsBlock m c → IsIn c (p + r.pages) → HasTried c new (p + r.pages)
-    tried_more c new is still tried lower before block held = record {
-      block = block;
-      held = held;
-      found = is;
-      first = still e.first has.first;
-      ends = ends_tried new still tried;
-      low = omega (arith, start_in.low);
-      high = omega (arith, start_in.high, lower);
-      within = omega (arith, start_by, before);
-    }
-
+    -- the page behind the start's pages is present, where a higher start is permitted
     pub next_present : p ≢ e.first + (e.pages - 1) → p + r.pages ≢ s.end_by → page_at m (p + r.pages) ≡ None → ⊥
     next_present lower before none =
-        not_absent (p + 1) (record { low = omega (arith, start_in.low); high = omega (arith, start_in.high, lower) }) (omega (arith, start_by, before)) (p + r.pages) (omega (arith, some)) (omega arith) none
+        not_absent (p + 1) (record { low = omega (arith, has.within.low); high = omega (arith, has.within.high, lower) }) (omega (arith, has.by, before)) (p + r.pages) (omega (arith, some)) (omega arith) none
+
+    -- the highest start with its last page in the block that holds the page behind the start's pages
+    module _ (c : Descriptor) (n : ℕ) (lower : p ≢ e.first + (e.pages - 1)) (before : p + r.pages ≢ s.end_by) (block : IsBlock m c) (held : IsIn c (p + r.pages)) (at : n ≡ min (e.first + (e.pages - 1)) (min s.end_by (c.first + c.pages) - r.pages)) where
+      pub next_above : p < n
+      next_above = omega (arith, has.within.high, lower, has.by, before, held.high)
+
+      next_last : IsIn c (n + r.pages - 1)
+      next_last = record { low = omega (arith, held.low, next_above); high = omega (arith, some, next_above) }
+
+      pub tried_more : HasTried c new n
+      tried_more = record {
+        block = block;
+        held = next_last;
+        found = found;
+        first = λ other. first_too;
+        ends = λ q ends l. elim (cases_lt p q) [
+          | inr g ↦ ends_too q ends g
+          | inl above ↦ absurd (
+              inside_block m c (q + r.pages) starts.proper block (omega arith)
+              (record { low = omega (arith, held.low); high = omega (arith, next_last.high, some) })
+              (record { low = omega (arith, held.low); high = omega (arith, next_last.high, some) })
+              ends
+              )
+        ];
+        within = record { low = omega (arith, has.within.low, next_above); high = omega (arith, has.within.low, has.within.high) };
+        by = omega (arith, next_above, some);
+      }
 
     -- all is tried
-    pub tried_all : (new : Option (ℕ × ℕ)) → IsFound m r e new → ((q : ℕ) → IsTried m r e old q → IsTried m r e new q) → IsTried m r e new p → ((p ≡ e.first + (e.pages - 1) → ⊥) → p + r.pages ≡ s.end_by) → IsTrueLeast m r e new
-    tried_all new is still tried last =
+    pub tried_all : (p ≢ e.first + (e.pages - 1) → p + r.pages ≡ s.end_by) → IsTrueLeast m r e new
+    tried_all last =
         let highest : p ≡ min (e.first + (e.pages - 1)) (s.end_by - r.pages) = elim (cases_eq p (e.first + (e.pages - 1))) [
-          | inl top ↦ omega (arith, start_by)
-          | inr lower ↦ omega (arith, last lower, start_in.high)
+          | inl top ↦ omega (arith, has.by)
+          | inr lower ↦ omega (arith, last lower, has.within.high)
         ] in
-        least_found m r e new s.end_by p starts.proper starts.good starts.entry starts.end_by highest is (still e.first has.first) tried
-        (λ q ends. elim (cases_lt (p + r.pages) (q + r.pages)) [
-          | inr g ↦ ends_tried new still tried q ends g
+        least_found m r e new s.end_by p starts.proper starts.good starts.entry starts.end_by highest found first_too tried
+        (λ q ends. elim (cases_lt p q) [
+          | inr g ↦ ends_too q ends g
           | inl above ↦ elim (cases_eq p (e.first + (e.pages - 1))) [
             | inl top ↦ tried_outside m r e new q (λ i. omega (arith, i.high))
             | inr lower ↦ tried_unless m r e new s.end_by q starts.end_by (λ i. omega (arith, i.1, last lower))

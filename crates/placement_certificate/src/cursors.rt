@@ -11,6 +11,7 @@ use std::marker::Model;
 const STEPS: usize = 64;
 
 // How many entries end at a page or below it; they come first.
+#[inline(never)]
 fn count_ending_by(map: &[Descriptor], page: u64) -> usize
     requires { IsMap map.now }
     ensures bound { result ≤ length map.now }
@@ -25,6 +26,7 @@ fn count_ending_by(map: &[Descriptor], page: u64) -> usize
 }
 
 // Whether the entries before an index end at a page or below it.
+#[inline(always)]
 fn all_end_by(map: &[Descriptor], page: u64, index: usize) -> bool
     requires map { IsMap map.now }
     requires bound { index ≤ length map.now }
@@ -38,6 +40,7 @@ fn all_end_by(map: &[Descriptor], page: u64, index: usize) -> bool
 }
 
 // The same count, found by steps from an index on where that is not far below.
+#[inline(always)]
 fn count_ending_by_from(map: &[Descriptor], page: u64, start: usize) -> usize
     requires map { IsMap map.now }
     requires start { start ≤ length map.now }
@@ -45,20 +48,19 @@ fn count_ending_by_from(map: &[Descriptor], page: u64, start: usize) -> usize
     ensures by { AllWithin (λ e. e.first + e.pages ≤ page) map.now 0 result }
     ensures above { AllWithin (λ e. page < e.first + e.pages) map.now result (length map.now) }
 {
-    if !all_end_by(map, page, start) {
-        return count_ending_by(map, page);
-    }
-    let far = start + STEPS.min(map.len() - start);
-    for index in start..far {
-        let entry = map[index];
-        if page < entry.first + entry.pages {
-            return index;
+    if all_end_by(map, page, start) {
+        for index in start..start + STEPS.min(map.len() - start) {
+            let entry = map[index];
+            if page < entry.first + entry.pages {
+                return index;
+            }
         }
     }
     count_ending_by(map, page)
 }
 
 // The entry that holds a page, if it is the one at an index: the first that ends above the page.
+#[inline(always)]
 fn entry_from(map: &[Descriptor], page: u64, index: usize) -> Option<Descriptor>
     requires map { IsMap map.now }
     requires bound { index ≤ length map.now }
@@ -109,6 +111,7 @@ impl<'a> MapCursor<'a> {
 impl<'a> PageCursor for MapCursor<'a> {
     ghost memory = { λ c. c };
 
+    #[inline(always)]
     fn block_at(&mut self, page: u64) -> Option<Descriptor> {
         let map = self.map;
         let index = count_ending_by_from(map, page, self.index);

@@ -14,6 +14,7 @@ use page_ranges::{Descriptor, MemoryType, PageCursor};
 use std::marker::Model;
 
 // Where the stretch of conventional pages that an entry lies in ends.
+#[inline(always)]
 fn stretch_end<C: PageCursor>(cursor: &mut C, entry: &Descriptor) -> u64
     requires proper { IsProperMemory (C.memory cursor.old) }
     requires entry { Contains (memory_map (C.memory cursor.old)) entry.now }
@@ -32,6 +33,7 @@ fn stretch_end<C: PageCursor>(cursor: &mut C, entry: &Descriptor) -> u64
 }
 
 // A block with the page just below another.
+#[inline(always)]
 fn block_below<C: PageCursor>(cursor: &mut C, page: u64) -> Option<Descriptor>
     ensures stays { C.memory cursor.new ≡ C.memory cursor.old }
     ensures below { IsOnPage result (page_below (C.memory cursor.old) page) }
@@ -43,6 +45,7 @@ fn block_below<C: PageCursor>(cursor: &mut C, page: u64) -> Option<Descriptor>
 }
 
 // Whether the pages of a request that stands at an entry's first page end by a page number.
+#[inline(always)]
 fn first_fits(request: &Request, entry: &Descriptor, end_by: u64) -> bool
     ensures { IsTrue result ↔ (entry.now.first + request.now.pages ≤ end_by) }
 {
@@ -95,6 +98,7 @@ impl<C: PageCursor + Drop> EntrySearch<C> {
     }
 
     // Where the stretch of a conventional entry ends, which is known if the last one that was met holds the entry.
+    #[inline(always)]
     fn stop_of(&mut self, entry: &Descriptor) -> u64
         requires proper { IsProperMemory self.old }
         requires entry { Contains (memory_map self.old) entry.now }
@@ -113,6 +117,7 @@ impl<C: PageCursor + Drop> EntrySearch<C> {
 
     /// The best start of a request in a conventional entry, with its price, given how many entries the
     /// map has. Entries may be asked for in any order.
+    #[inline(always)]
     pub fn least_in(
         &mut self,
         request: &Request,

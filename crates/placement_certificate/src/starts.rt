@@ -1,8 +1,8 @@
 //! The starts in one entry of a map, and the best of them.
-ghost use Rattle.std.specs.Prelude.{◌≡◌, ℕ, ◌+◌, ◌-◌, ◌<◌, ◌≤◌, ◌^◌, Option};
-ghost use Rattle.page_ranges.specs.Memory.{Page, page_at, page_below};
+ghost use Rattle.std.specs.Prelude.{◌≡◌, ℕ, ◌+◌, ◌-◌, ◌<◌, ◌≤◌, ◌≢◌, ◌^◌, Option, None, IfSome};
+ghost use Rattle.page_ranges.specs.Memory.{Page, page_below};
 ghost use Rattle.page_ranges.specs.MemoryMap.{IsIn};
-ghost use Rattle.page_ranges.specs.Cursors.{IsBlock};
+ghost use Rattle.page_ranges.specs.Cursors.{IsBlock, IsBlockAt};
 ghost use Rattle.placement_certificate.specs.Placement.{price};
 ghost use Rattle.placement_certificate.specs.Certificates.{IsTrueLeast};
 ghost use Rattle.placement_certificate.specs.Laws.{adds, saves};
@@ -26,6 +26,7 @@ pub(crate) struct EntryStarts {
 }
 
 // What an edge adds to the price, by blocks that hold the page below it and the page above it.
+#[inline(always)]
 fn edge_adds(below: &Option<Descriptor>, above: &Option<Descriptor>) -> u64
     ensures { (x y : Option Page) → IsOnPage below.now x → IsOnPage above.now y → result ≡ adds x y }
 {
@@ -36,6 +37,7 @@ fn edge_adds(below: &Option<Descriptor>, above: &Option<Descriptor>) -> u64
 }
 
 // What an edge saves, by blocks that hold the page outside it and the page inside it.
+#[inline(always)]
 fn edge_saves(mtype: MemoryType, outside: &Option<Descriptor>, inside: &Option<Descriptor>) -> u64
     ensures { (x y : Option Page) → IsOnPage outside.now x → IsOnPage inside.now y → result ≡ saves mtype x y }
 {
@@ -48,12 +50,13 @@ fn edge_saves(mtype: MemoryType, outside: &Option<Descriptor>, inside: &Option<D
 }
 
 // A block with the page at a place, which is in a block or just behind it.
+#[inline(always)]
 fn block_above<C: PageCursor>(cursor: &mut C, block: &Descriptor, page: u64) -> Option<Descriptor>
     requires block { IsBlock (C.memory cursor.old) block.now }
     requires behind { IsIn block.now (page - 1) }
     requires within { block.now.first + block.now.pages < 2 ^ 64 }
     ensures stays { C.memory cursor.new ≡ C.memory cursor.old }
-    ensures above { IsOnPage result (page_at (C.memory cursor.old) page) }
+    ensures above { IsBlockAt (C.memory cursor.old) page result }
 {
     if page < block.first + block.pages {
         Some(*block)
@@ -64,6 +67,7 @@ fn block_above<C: PageCursor>(cursor: &mut C, block: &Descriptor, page: u64) -> 
 
 impl EntryStarts {
     // A block with the page just below a start.
+    #[inline(always)]
     fn block_below(&self, start: u64) -> Option<Descriptor>
         ensures { (m : _) → AreStartsIn m self.now → IsIn self.now.entry start → IsOnPage result (page_below m start) }
     {
@@ -75,6 +79,7 @@ impl EntryStarts {
     }
 
     // The price of a permitted start, the last page of which is in a block.
+    #[inline(always)]
     fn price_of<C: PageCursor>(&self, cursor: &mut C, start: u64, block: &Descriptor) -> u64
         requires starts { AreStartsIn (C.memory cursor.old) self.now }
         requires in_entry { IsIn self.now.entry start }
@@ -94,7 +99,24 @@ impl EntryStarts {
             - edge_saves(mtype, &above, &last)
     }
 
+    // A block with the last page of the start at the entry's first page.
+    #[inline(always)]
+    fn first_block<C: PageCursor>(&self, cursor: &mut C) -> Option<Descriptor>
+        requires starts { AreStartsIn (C.memory cursor.old) self.now }
+        requires fits { self.now.entry.first + self.now.request.pages ≤ self.now.end_by }
+        ensures stays { C.memory cursor.new ≡ C.memory cursor.old }
+        ensures block { IfSome result (λ b. IsBlock (C.memory cursor.old) b × IsIn b (self.now.entry.first + self.now.request.pages - 1)) }
+        ensures some { result ≢ None }
+    {
+        if self.request.pages <= self.entry.pages {
+            Some(self.entry)
+        } else {
+            cursor.block_at(self.entry.first + (self.request.pages - 1))
+        }
+    }
+
     // The better of what was found and of a permitted start, the last page of which is in a block.
+    #[inline(always)]
     fn try_start<C: PageCursor>(
         &self,
         cursor: &mut C,
@@ -117,36 +139,10 @@ impl EntryStarts {
         better_of(found, Some((count, start)))
     }
 
-    // The same for a start that may be the entry's first page, which is tried already.
-    fn try_higher<C: PageCursor>(
-        &self,
-        cursor: &mut C,
-        found: Option<PricedStart>,
-        start: u64,
-        block: &Descriptor,
-    ) -> Option<PricedStart>
-        requires starts { AreStartsIn (C.memory cursor.old) self.now }
-        requires in_entry { IsIn self.now.entry start }
-        requires permitted { start + self.now.request.pages ≤ self.now.end_by }
-        requires block { IsBlock (C.memory cursor.old) block.now }
-        requires last { IsIn block.now (start + self.now.request.pages - 1) }
-        requires found { IsFound (C.memory cursor.old) self.now.request self.now.entry found }
-        requires first { IsTried (C.memory cursor.old) self.now.request self.now.entry found self.now.entry.first }
-        ensures stays { C.memory cursor.new ≡ C.memory cursor.old }
-        ensures found { IsFound (C.memory cursor.old) self.now.request self.now.entry result }
-        ensures tried { IsTried (C.memory cursor.old) self.now.request self.now.entry result start }
-        ensures still { (q : ℕ) → IsTried (C.memory cursor.old) self.now.request self.now.entry found q → IsTried (C.memory cursor.old) self.now.request self.now.entry result q }
-    {
-        if start == self.entry.first {
-            found
-        } else {
-            self.try_start(cursor, found, start, block)
-        }
-    }
-
     /// The best start, where the entry's first page is permitted. Tried are that page, and for each
     /// block of pages the highest start with its last page there: so all starts that end where an entry
     /// ends, and the highest of all.
+    #[inline(always)]
     pub(crate) fn least<C: PageCursor>(&self, cursor: &mut C) -> Option<PricedStart>
         requires starts { AreStartsIn (C.memory cursor.old) self.now }
         requires fits { self.now.entry.first + self.now.request.pages ≤ self.now.end_by }
@@ -155,19 +151,17 @@ impl EntryStarts {
     {
         let pages = self.request.pages;
         let highest = self.entry.first + (self.entry.pages - 1);
-        // The last page of the lowest start that is not tried yet.
-        let mut page = self.entry.first + (pages - 1);
-        let mut block = cursor.block_at(page)?;
-        let mut found = self.try_start(cursor, None, self.entry.first, &block);
+        let mut start = self.entry.first;
+        let mut block = self.first_block(cursor)?;
+        let mut found = None;
         loop {
-            let end = self.end_by.min(block.first + block.pages);
-            let start = highest.min(end - pages);
-            found = self.try_higher(cursor, found, start, &block);
-            page = start + pages;
-            if start == highest || page == self.end_by {
+            found = self.try_start(cursor, found, start, &block);
+            let end = start + pages;
+            if start == highest || end == self.end_by {
                 return found;
             }
-            block = cursor.block_at(page)?;
+            block = block_above(cursor, &block, end)?;
+            start = highest.min(self.end_by.min(block.first + block.pages) - pages);
         }
     }
 }

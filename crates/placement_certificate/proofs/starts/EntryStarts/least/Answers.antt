@@ -1,8 +1,8 @@
 use Rattle.std.proofs.Common.{◌+◌, ◌-◌, ◌∙◌, sym, arith, rules}
 use Rattle.page_ranges.proofs.Blocks.{entry_end}
-use Rattle.placement_certificate.proofs.BlockStarts.{block_end, in_entry, start_end, not_absent, first_tried, start_in, start_by, last_in, next_present, tried_more, tried_all}
+use Rattle.placement_certificate.proofs.BlockStarts.{block_end, in_entry, start_end, none_tried, next_present, next_above, tried_more, tried_all}
 use Rattle.placement_certificate.proofs.starts.EntryStarts.least.Goals as goal
-use Rattle.placement_certificate.proofs.starts.EntryStarts.least.Goals.{then-start-highest-via-then-start-highest, then-start-highest-via-else-start-highest+then-page-self}
+use Rattle.placement_certificate.proofs.starts.EntryStarts.least.Goals.{then-start-highest-via-then-start-highest, then-start-highest-via-else-start-highest+then-end-self}
 
 pub overflow_sub-highest : goal.overflow_sub-highest
 overflow_sub-highest g c = omega (arith, (in_entry (g.C.PageCursor.memory c.args.cursor.now) c.args.self.now c.requires.starts).high)
@@ -10,83 +10,84 @@ overflow_sub-highest g c = omega (arith, (in_entry (g.C.PageCursor.memory c.args
 pub overflow_add-highest : goal.overflow_add-highest
 overflow_add-highest g c = omega (arith, entry_end (g.C.PageCursor.memory c.args.cursor.now) c.requires.starts.proper c.args.self.now.entry c.requires.starts.entry)
 
-pub overflow_add-page : goal.overflow_add-page
-overflow_add-page g c =
-    let m = g.C.PageCursor.memory c.args.cursor.now in
-    let s = c.args.self.now in
-    omega (arith, start_end m s c.requires.starts s.entry.first (in_entry m s c.requires.starts) c.requires.fits, c.requires.starts.good.some)
+pub loop-start-init : goal.loop-start-init
+loop-start-init g c =
+    let block = c.in_ok-block.ensures.block in
+    record { stays = c.in_ok-block.ensures.stays; tried = λ starts. none_tried (g.C.PageCursor.memory c.args.cursor.now) c.args.self.now starts c.in_ok-block.block c.requires.fits block.0 block.1 }
 
 pub try_start-found-requires-clause-in_entry : goal.try_start-found-requires-clause-in_entry
-try_start-found-requires-clause-in_entry g c = in_entry (g.C.PageCursor.memory c.args.cursor.now) c.args.self.now c.requires.starts
+try_start-found-requires-clause-in_entry g c = (c.loop-start.invariant.tried c.requires.starts).within
 
-pub overflow_add-block : goal.overflow_add-block
-overflow_add-block g c =
-    let has = c.loop-found.invariant.tried c.requires.starts in
-    omega (arith, block_end (g.C.PageCursor.memory c.args.cursor.now) c.loop-found.block has.0 c.requires.starts.proper has.1.block has.1.held)
+pub try_start-found-requires-clause-permitted : goal.try_start-found-requires-clause-permitted
+try_start-found-requires-clause-permitted g c = (c.loop-start.invariant.tried c.requires.starts).by
 
-pub overflow_sub-end : goal.overflow_sub-end
-overflow_sub-end g c =
-    let has = c.loop-found.invariant.tried c.requires.starts in
-    omega (arith, has.1.low, has.1.within, has.1.held.high, c.min-end.ensures)
+pub try_start-found-requires-clause-block : goal.try_start-found-requires-clause-block
+try_start-found-requires-clause-block g c = rw c.loop-start.invariant.stays (c.loop-start.invariant.tried c.requires.starts).block
 
-pub try_higher-found-requires-clause-in_entry : goal.try_higher-found-requires-clause-in_entry
-try_higher-found-requires-clause-in_entry g c =
-    let has = c.loop-found.invariant.tried c.requires.starts in
-    start_in (g.C.PageCursor.memory c.args.cursor.now) c.args.self.now c.requires.starts c.loop-found.block c.loop-found.found has.0 has.1 c.min-start.result (omega (arith, c.min-start.ensures, c.min-end.ensures))
+pub try_start-found-requires-clause-last : goal.try_start-found-requires-clause-last
+try_start-found-requires-clause-last g c = (c.loop-start.invariant.tried c.requires.starts).held
 
-pub try_higher-found-requires-clause-block : goal.try_higher-found-requires-clause-block
-try_higher-found-requires-clause-block g c = rw c.loop-found.invariant.stays (c.loop-found.invariant.tried c.requires.starts).1.block
+pub try_start-found-requires-clause-found : goal.try_start-found-requires-clause-found
+try_start-found-requires-clause-found g c = rw c.loop-start.invariant.stays (c.loop-start.invariant.tried c.requires.starts).found
 
-pub try_higher-found-requires-clause-last : goal.try_higher-found-requires-clause-last
-try_higher-found-requires-clause-last g c =
-    let has = c.loop-found.invariant.tried c.requires.starts in
-    last_in (g.C.PageCursor.memory c.args.cursor.now) c.args.self.now c.requires.starts c.loop-found.block c.loop-found.found has.0 has.1 c.min-start.result (omega (arith, c.min-start.ensures, c.min-end.ensures))
-
-pub try_higher-found-requires-clause-found : goal.try_higher-found-requires-clause-found
-try_higher-found-requires-clause-found g c = rw c.loop-found.invariant.stays (c.loop-found.invariant.tried c.requires.starts).1.found
-
-pub try_higher-found-requires-clause-first : goal.try_higher-found-requires-clause-first
-try_higher-found-requires-clause-first g c = rw c.loop-found.invariant.stays (c.loop-found.invariant.tried c.requires.starts).1.first
+pub overflow_add-end : goal.overflow_add-end
+overflow_add-end g c =
+    let has = c.loop-start.invariant.tried c.requires.starts in
+    omega (arith, start_end (g.C.PageCursor.memory c.args.cursor.now) c.args.self.now c.requires.starts c.loop-start.start has.within has.by)
 
 pub returns-then-start-highest-clause-least : goal.returns-then-start-highest-clause-least
 returns-then-start-highest-clause-least g c =
-    let has = c.loop-found.invariant.tried c.requires.starts in
-    tried_all (g.C.PageCursor.memory c.args.cursor.now) c.args.self.now c.requires.starts c.loop-found.block c.loop-found.found has.0 has.1 c.min-start.result (omega (arith, c.min-start.ensures, c.min-end.ensures)) c.try_higher-found.result
-    (rw c.loop-found.invariant.stays at c.try_higher-found.ensures.found)
-    (rw c.loop-found.invariant.stays at c.try_higher-found.ensures.still)
-    (rw c.loop-found.invariant.stays at c.try_higher-found.ensures.tried)
+    tried_all (g.C.PageCursor.memory c.args.cursor.now) c.args.self.now c.requires.starts c.loop-start.block c.loop-start.found c.try_start-found.result c.loop-start.start (c.loop-start.invariant.tried c.requires.starts)
+    (rw c.loop-start.invariant.stays at c.try_start-found.ensures.found)
+    (rw c.loop-start.invariant.stays at c.try_start-found.ensures.tried)
+    (rw c.loop-start.invariant.stays at c.try_start-found.ensures.still)
     (elim c.then-start-highest.branch [
       | then-start-highest-via-then-start-highest w ↦ λ lower. absurd (lower (omega arith))
-      | then-start-highest-via-else-start-highest+then-page-self w ↦ λ lower. omega arith
+      | then-start-highest-via-else-start-highest+then-end-self w ↦ λ lower. omega arith
     ])
+
+pub block_above-requires-clause-block : goal.block_above-requires-clause-block
+block_above-requires-clause-block g c = rw (c.try_start-found.ensures.stays, c.loop-start.invariant.stays) (c.loop-start.invariant.tried c.requires.starts).block
+
+pub block_above-requires-clause-behind : goal.block_above-requires-clause-behind
+block_above-requires-clause-behind g c = (c.loop-start.invariant.tried c.requires.starts).held
+
+pub block_above-requires-clause-within : goal.block_above-requires-clause-within
+block_above-requires-clause-within g c =
+    let has = c.loop-start.invariant.tried c.requires.starts in
+    omega (arith, block_end (g.C.PageCursor.memory c.args.cursor.now) c.loop-start.block _ c.requires.starts.proper has.block has.held)
 
 pub returns-in_err-block-2-clause-least : goal.returns-in_err-block-2-clause-least
 returns-in_err-block-2-clause-least g c =
-    let has = c.loop-found.invariant.tried c.requires.starts in
-    let none = rw (c.try_higher-found.ensures.stays, c.loop-found.invariant.stays) at c.in_err-block-2.ensures.block in
-    absurd (next_present (g.C.PageCursor.memory c.args.cursor.now) c.args.self.now c.requires.starts c.loop-found.block c.loop-found.found has.0 has.1 c.min-start.result (omega (arith, c.min-start.ensures, c.min-end.ensures)) (omega arith) (omega arith) none)
+    let none = rw (c.try_start-found.ensures.stays, c.loop-start.invariant.stays) at c.in_err-block-2.ensures.above in
+    absurd (
+    next_present (g.C.PageCursor.memory c.args.cursor.now) c.args.self.now c.requires.starts c.loop-start.block c.loop-start.found c.try_start-found.result c.loop-start.start (c.loop-start.invariant.tried c.requires.starts)
+    (rw c.loop-start.invariant.stays at c.try_start-found.ensures.found)
+    (rw c.loop-start.invariant.stays at c.try_start-found.ensures.tried)
+    (rw c.loop-start.invariant.stays at c.try_start-found.ensures.still)
+    (omega arith) (omega arith) none
+    )
 
-pub loop-found-smaller : goal.loop-found-smaller
-loop-found-smaller g c =
-    let has = c.loop-found.invariant.tried c.requires.starts in
-    let m = g.C.PageCursor.memory c.args.cursor.now in
-    let held = rw (c.try_higher-found.ensures.stays, c.loop-found.invariant.stays) at c.in_ok-block-2.ensures.block in
-    omega (arith, block_end m c.in_ok-block-2.block _ c.requires.starts.proper held.1 held.0, held.0.high, c.min-start.ensures, c.min-end.ensures, has.1.low, has.1.within, has.1.held.high)
+pub overflow_add-block : goal.overflow_add-block
+overflow_add-block g c =
+    let held = rw (c.try_start-found.ensures.stays, c.loop-start.invariant.stays) at c.in_ok-block-2.ensures.above in
+    omega (arith, block_end (g.C.PageCursor.memory c.args.cursor.now) c.in_ok-block-2.block _ c.requires.starts.proper held.1 held.0)
 
-pub loop-found-preserved : goal.loop-found-preserved
-loop-found-preserved g c =
-    let m = g.C.PageCursor.memory c.args.cursor.now in
-    let s = c.args.self.now in
-    let held = rw (c.try_higher-found.ensures.stays, c.loop-found.invariant.stays) at c.in_ok-block-2.ensures.block in
+pub loop-start-smaller : goal.loop-start-smaller
+loop-start-smaller g c =
+    let has = c.loop-start.invariant.tried c.requires.starts in
+    let held = rw (c.try_start-found.ensures.stays, c.loop-start.invariant.stays) at c.in_ok-block-2.ensures.above in
+    omega (arith, has.within.high, has.by, held.0.high, c.min.ensures, c.min-start.ensures, c.requires.starts.good.some)
+
+pub loop-start-preserved : goal.loop-start-preserved
+loop-start-preserved g c =
+    let held = rw (c.try_start-found.ensures.stays, c.loop-start.invariant.stays) at c.in_ok-block-2.ensures.above in
+    let found = rw c.loop-start.invariant.stays at c.try_start-found.ensures.found in
+    let tried = rw c.loop-start.invariant.stays at c.try_start-found.ensures.tried in
+    let still = rw c.loop-start.invariant.stays at c.try_start-found.ensures.still in
     record {
-      stays = search rules;
+      stays = c.block_above.ensures.stays ∙ c.try_start-found.ensures.stays ∙ c.loop-start.invariant.stays;
       tried = λ starts.
-          let has = c.loop-found.invariant.tried starts in (
-            c.min-start.result + s.request.pages,
-            tried_more m s starts c.loop-found.block c.loop-found.found has.0 has.1 c.min-start.result (omega (arith, c.min-start.ensures, c.min-end.ensures)) c.in_ok-block-2.block c.try_higher-found.result
-                (rw c.loop-found.invariant.stays at c.try_higher-found.ensures.found)
-                (rw c.loop-found.invariant.stays at c.try_higher-found.ensures.still)
-                (rw c.loop-found.invariant.stays at c.try_higher-found.ensures.tried)
-                (omega arith) (omega arith) held.1 held.0,
-          );
+          tried_more (g.C.PageCursor.memory c.args.cursor.now) c.args.self.now starts c.loop-start.block c.loop-start.found c.try_start-found.result c.loop-start.start (c.loop-start.invariant.tried starts) found tried still
+          c.in_ok-block-2.block c.min-start.result (omega arith) (omega arith) held.1 held.0 (omega (arith, c.min.ensures, c.min-start.ensures));
     }

@@ -2,7 +2,7 @@ use Rattle.std.proofs.Common.{◌+◌, Some, arith}
 use Rattle.page_ranges.specs.Memory.{page_at, page_below}
 use Rattle.placement_certificate.proofs.Edges.{adds-most}
 use Rattle.placement_certificate.proofs.Places.{permitted_end}
-use Rattle.placement_certificate.proofs.BlockStarts.{block_end, first_on, last_on, price_by_edges, few_entries}
+use Rattle.placement_certificate.proofs.BlockStarts.{on_page, block_end, first_on, last_on, price_by_edges, few_entries}
 use Rattle.placement_certificate.proofs.starts.EntryStarts.price_of.Goals as goal
 
 pub block_above-above-requires-clause-within : goal.block_above-above-requires-clause-within
@@ -31,7 +31,7 @@ overflow_add-result-2 g c =
       arith,
       few_entries m s c.requires.starts,
       c.edge_adds.ensures (page_below m p) (page_at m p) (c.block_below-below.ensures m c.requires.starts c.requires.in_entry) (first_on m s c.requires.starts p c.requires.in_entry),
-      c.edge_adds-2.ensures (page_below m end) (page_at m end) (last_on m s c.requires.starts c.args.block.now p c.requires.block c.requires.last) c.block_above-above.ensures.above,
+      c.edge_adds-2.ensures (page_below m end) (page_at m end) (last_on m s c.requires.starts c.args.block.now p c.requires.block c.requires.last) (on_page m end c.block_above-above.result c.block_above-above.ensures.above),
       adds-most (page_below m p) (page_at m p),
       adds-most (page_below m end) (page_at m end),
     )
@@ -49,7 +49,7 @@ overflow_sub-result g c =
       arith,
       price_by_edges m s c.requires.starts p c.requires.in_entry c.requires.permitted,
       c.edge_adds.ensures (page_below m p) (page_at m p) below first,
-      c.edge_adds-2.ensures (page_below m end) (page_at m end) last c.block_above-above.ensures.above,
+      c.edge_adds-2.ensures (page_below m end) (page_at m end) last (on_page m end c.block_above-above.result c.block_above-above.ensures.above),
       c.edge_saves.ensures (page_below m p) (page_at m p) below first,
     )
 
@@ -66,9 +66,9 @@ overflow_sub-result-2 g c =
       arith,
       price_by_edges m s c.requires.starts p c.requires.in_entry c.requires.permitted,
       c.edge_adds.ensures (page_below m p) (page_at m p) below first,
-      c.edge_adds-2.ensures (page_below m end) (page_at m end) last c.block_above-above.ensures.above,
+      c.edge_adds-2.ensures (page_below m end) (page_at m end) last (on_page m end c.block_above-above.result c.block_above-above.ensures.above),
       c.edge_saves.ensures (page_below m p) (page_at m p) below first,
-      c.edge_saves-2.ensures (page_at m end) (page_below m end) c.block_above-above.ensures.above last,
+      c.edge_saves-2.ensures (page_at m end) (page_below m end) (on_page m end c.block_above-above.result c.block_above-above.ensures.above) last,
     )
 
 pub returns-clause-price : goal.returns-clause-price
@@ -84,7 +84,7 @@ returns-clause-price g c =
       arith,
       price_by_edges m s c.requires.starts p c.requires.in_entry c.requires.permitted,
       c.edge_adds.ensures (page_below m p) (page_at m p) below first,
-      c.edge_adds-2.ensures (page_below m end) (page_at m end) last c.block_above-above.ensures.above,
+      c.edge_adds-2.ensures (page_below m end) (page_at m end) last (on_page m end c.block_above-above.result c.block_above-above.ensures.above),
       c.edge_saves.ensures (page_below m p) (page_at m p) below first,
-      c.edge_saves-2.ensures (page_at m end) (page_below m end) c.block_above-above.ensures.above last,
+      c.edge_saves-2.ensures (page_at m end) (page_below m end) (on_page m end c.block_above-above.result c.block_above-above.ensures.above) last,
     )
