@@ -10,9 +10,6 @@ pub mod Tries
 pub mod Decided
 pub mod Machines
 pub mod Samples
-pub mod PlainMaps
-pub mod PlainPrices
-pub mod PlainSearch
 pub mod Accepted
 pub mod FoundStarts
 pub mod BlockStarts

@@ -2,20 +2,13 @@
 use Rattle.std.specs.Prelude.{◌≡◌, ◌↔◌, ℕ, ◌+◌, ◌<◌, ◌≤◌, false, ◌&&◌, ◌||◌, ◌==◌, nat_lt, List, Option, Some, None, if◌then◌else◌, slice_get, length, Contains}
 use Rattle.std.specs.List.{AllByRecursion}
 use Rattle.page_ranges.specs.declared.ranges.Descriptor.{Descriptor}
-use Rattle.page_ranges.specs.declared.ranges.Run.{Run}
 use Rattle.page_ranges.specs.Memory.{Page, page_below, IsProperMemory}
 use Rattle.page_ranges.specs.MemoryMap.{memory_map, IsLike, IsIn, should_be_one}
-use Rattle.page_ranges.specs.Runs.{AreRuns}
 use Rattle.placement_certificate.specs.declared.certificates.Request.{Request}
 use Rattle.placement_certificate.specs.declared.certificates.Bound.{Bound}
 use Rattle.placement_certificate.specs.declared.starts.EntryStarts.{EntryStarts}
 use Rattle.placement_certificate.specs.Placement.{IsProperRequest, IsPermittedStart, price}
 use Rattle.placement_certificate.specs.Laws.{IsStretch, IsNoWorse}
-
--- runs in order, all of which end by a number
-pub record AreRunsBy (n : ℕ) (rs : List Run) : Type 0 where
-  pub order : AreRuns rs
-  pub ends : AllByRecursion (λ s. s.range.first + s.range.pages ≤ n) rs
 
 -- of two starts with their prices the one with the lower price, and at equal prices the higher one
 abbrev pub better : Option (ℕ × ℕ) → Option (ℕ × ℕ) → Option (ℕ × ℕ)
@@ -70,11 +63,3 @@ pub record AreStartsIn (m : List Page) (s : EntryStarts) : Type 0 where
 abbrev pub MayStandBelow : Descriptor → Option Descriptor → Type 0
 MayStandBelow d None = Unit {0}
 MayStandBelow d (Some e) = (d.first + d.pages ≤ e.first) × (should_be_one d e ≡ false)
-
--- the entries before an index end below a page number
-abbrev pub EntriesEndBelow : List Descriptor → ℕ → ℕ → Type 0
-EntriesEndBelow ds i k = (j : ℕ) (d : Descriptor) → j < i → slice_get ds j ≡ Some d → d.first + d.pages < k
-
--- the starts that end where an entry before an index ends are tried
-abbrev pub EntryEndsTried : List Page → Request → Descriptor → List Descriptor → ℕ → Option (ℕ × ℕ) → Type 0
-EntryEndsTried m r e ds i l = (j q : ℕ) (d : Descriptor) → j < i → slice_get ds j ≡ Some d → q + r.pages ≡ d.first + d.pages → IsTried m r e l q

@@ -1,9 +1,9 @@
 //! Lists of entries: whether a list is a map.
-ghost use Rattle.std.specs.Prelude.{◌≡◌, ◌↔◌, IsTrue, slice_get};
-ghost use Rattle.page_ranges.specs.MemoryMap.{IsEntry, IsMap};
+ghost use Rattle.std.specs.Prelude.{◌≡◌, ◌↔◌, ◌+◌, ◌≤◌, IsTrue, slice_get};
+ghost use Rattle.page_ranges.specs.MemoryTypes.{page_count};
+ghost use Rattle.page_ranges.specs.MemoryMap.{should_be_one, IsEntry, IsMap};
 ghost use Rattle.placement_certificate.specs.Search.{MayStandBelow};
 
-use crate::plain::goes_on;
 use page_ranges::{Descriptor, MemoryType, PAGE_COUNT, has_runtime};
 
 // Whether a map can have an entry.
@@ -16,6 +16,16 @@ fn is_entry(entry: &Descriptor) -> bool
         && entry.first <= PAGE_COUNT - entry.pages
         && entry.mtype.is_of_machines()
         && !(is_free && has_runtime(entry.attributes))
+}
+
+// The second entry begins where the first ends, and has its type and attributes.
+fn goes_on(entry: &Descriptor, above: &Descriptor) -> bool
+    requires { entry.now.first + entry.now.pages ≤ page_count }
+    ensures { result ≡ should_be_one entry.now above.now }
+{
+    entry.first + entry.pages == above.first
+        && entry.mtype == above.mtype
+        && entry.attributes == above.attributes
 }
 
 // Whether the next entry of a map, if there is one, may be this.

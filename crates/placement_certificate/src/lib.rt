@@ -7,7 +7,6 @@ mod checking;
 mod cursors;
 mod entries;
 mod laws;
-mod plain;
 mod search;
 mod starts;
 #[cfg(test)]
@@ -21,5 +20,4 @@ pub use laws::{
     first_page_law, inside_law, map_decides_law, map_length_law, one_certificate_law, price_law,
     stretch_law, true_is_accepted_law,
 };
-pub use plain::{plain_certificate, plain_map, plain_price};
 pub use search::EntrySearch;

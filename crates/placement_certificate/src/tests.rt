@@ -1,78 +1,9 @@
-//! Expected values worked out by hand.
-ghost use Rattle.std.specs.Prelude.{◌≡◌};
-ghost use Rattle.page_ranges.specs.declared.ranges.Owner.TheVariants.{Given};
-ghost use Rattle.page_ranges.specs.MemoryTypes.{page_count};
-ghost use Rattle.page_ranges.specs.Memory.{IsProperMemory};
-ghost use Rattle.page_ranges.specs.Runs.{pages_of};
-ghost use Rattle.placement_certificate.specs.Search.{AreRunsBy};
-
-mod checks;
-
-use super::*;
-use page_ranges::{Descriptor, MemoryType, Owner, PageRange, Run};
+//! Which certificates are accepted.
+use crate::{Bound, Certificate, Request, check};
+use page_ranges::{Descriptor, MemoryType};
 use std::alloc::AllocError;
 
 const LIMIT: u64 = 0x10_0000_0000_0000;
-
-fn run(first: u64, pages: u64, number: u32, attributes: u64) -> Run
-    ensures { result ≡ record { range = record { first = first; pages = pages }; mtype = number; attributes = attributes; owner = Given } }
-{
-    Run {
-        range: PageRange { first, pages },
-        mtype: MemoryType::new(number),
-        attributes,
-        owner: Owner::Given,
-    }
-}
-
-// Free memory with a hole, and runtime data in its upper part.
-fn machine_a() -> [Run; 4]
-    ensures by { AreRunsBy page_count result }
-    ensures proper { IsProperMemory (pages_of result) }
-{
-    [
-        run(0, 160, 7, 0xf),
-        run(256, 768, 7, 0xf),
-        run(1024, 16, 6, 0x8000_0000_0000_000f),
-        run(1040, 1008, 7, 0xf),
-    ]
-}
-
-// Free memory with two sets of attributes.
-fn machine_b() -> [Run; 2]
-    ensures by { AreRunsBy page_count result }
-    ensures proper { IsProperMemory (pages_of result) }
-{
-    [run(0, 8, 7, 0xf), run(8, 8, 7, 0x7)]
-}
-
-#[test]
-fn lists_the_map(rt: HostRuntime) -> Result<(), AllocError> {
-    let entries = plain_map(rt.alloc(), &machine_a())?;
-    let want = Descriptor {
-        mtype: MemoryType::new(6),
-        first: 1024,
-        pages: 16,
-        attributes: 0x8000_0000_0000_000f,
-    };
-    assert_eq!(rt; entries.len(), 4);
-    assert_eq!(rt; entries.get(2), Some(&want));
-    Ok(())
-}
-
-#[test]
-fn prices_starts(rt: HostRuntime) -> Result<(), AllocError> {
-    let request = Request {
-        mtype: MemoryType::new(2),
-        pages: 12,
-        limit: LIMIT,
-    };
-    for (start, want) in [(0, 3), (2, 4), (4, 3)] {
-        let price = plain_price(rt.alloc(), &machine_b(), &request, start)?;
-        assert_eq!(rt; price, want, "at {start}");
-    }
-    Ok(())
-}
 
 fn bound(first: u64, pages: u64, count: u64, top: u64) -> Bound {
     Bound {
@@ -82,49 +13,120 @@ fn bound(first: u64, pages: u64, count: u64, top: u64) -> Bound {
     }
 }
 
-#[test]
-fn certifies_a_best_start(rt: HostRuntime) -> Result<(), AllocError> {
-    let request = Request {
-        mtype: MemoryType::new(4),
-        pages: 10,
-        limit: LIMIT,
-    };
-    let want = [
+fn entry(first: u64, pages: u64, number: u32, attributes: u64) -> Descriptor {
+    Descriptor {
+        mtype: MemoryType::new(number),
+        first,
+        pages,
+        attributes,
+    }
+}
+
+// Free memory with a hole, and runtime data in its upper part.
+fn map_a() -> [Descriptor; 4] {
+    [
+        entry(0, 160, 7, 0xf),
+        entry(256, 768, 7, 0xf),
+        entry(1024, 16, 6, 0x8000_0000_0000_000f),
+        entry(1040, 1008, 7, 0xf),
+    ]
+}
+
+fn bounds_a() -> [Bound; 3] {
+    [
         bound(0, 160, 5, 150),
         bound(256, 768, 5, 1014),
         bound(1040, 1008, 5, 2038),
+    ]
+}
+
+fn request(number: u32, pages: u64, limit: u64) -> Request {
+    Request {
+        mtype: MemoryType::new(number),
+        pages,
+        limit,
+    }
+}
+
+#[test]
+fn judges_certificates(rt: HostRuntime) -> Result<(), AllocError> {
+    let [first, second, third] = bounds_a();
+    let low_count = bound(256, 768, 4, 1014);
+    let low_top = bound(0, 160, 5, 149);
+    let empty = Bound {
+        first: 1040,
+        pages: 1008,
+        least: None,
+    };
+    let table = [
+        ([first, second, third].to_vec(rt.alloc())?, 2038, true),
+        ([first, second, third].to_vec(rt.alloc())?, 150, false),
+        ([first, second].to_vec(rt.alloc())?, 1014, false),
+        ([first, low_count, third].to_vec(rt.alloc())?, 1014, false),
+        ([low_top, second, third].to_vec(rt.alloc())?, 2038, false),
+        ([first, second, empty].to_vec(rt.alloc())?, 1014, false),
+        ([second, first, third].to_vec(rt.alloc())?, 2038, false),
+        (
+            [first, second, third, third].to_vec(rt.alloc())?,
+            2038,
+            false,
+        ),
     ];
-    match plain_certificate(rt.alloc(), &machine_a(), &request)? {
-        Some(certificate) => {
-            assert_eq!(rt; certificate.bounds.as_slice(), want.as_slice());
-            assert_eq!(rt; certificate.answer, 2038);
-        }
-        None => panic!(rt; "no certificate"),
+    for (bounds, answer, want) in table {
+        let certificate = Certificate { bounds, answer };
+        let accepted = check(&map_a(), &request(4, 10, LIMIT), &certificate);
+        assert_eq!(rt; accepted, want);
     }
     Ok(())
 }
 
 #[test]
-fn certifies_a_start_across_entries(rt: HostRuntime) -> Result<(), AllocError> {
-    let request = Request {
-        mtype: MemoryType::new(2),
-        pages: 12,
-        limit: LIMIT,
+fn refuses_lists_that_are_no_map(rt: HostRuntime) -> Result<(), AllocError> {
+    let [low, middle, data, high] = map_a();
+    let runtime = 0x8000_0000_0000_000f;
+    let table = [
+        [entry(0, 100, 7, 0xf), entry(100, 60, 7, 0xf), data, high],
+        [entry(0, 300, 7, 0xf), middle, data, high],
+        [low, middle, data, entry(LIMIT - 1, 2, 7, 0xf)],
+        [low, middle, data, entry(u64::MAX, u64::MAX, 7, 0xf)],
+        [low, middle, data, entry(u64::MAX, 1, 7, 0xf)],
+        [entry(0, 0, 7, 0xf), middle, data, high],
+        [entry(0, 160, 7, runtime), middle, data, high],
+        [entry(0, 160, 16, 0xf), middle, data, high],
+        [middle, low, data, high],
+    ];
+    let certificate = Certificate {
+        bounds: bounds_a().to_vec(rt.alloc())?,
+        answer: 2038,
     };
-    let none = Bound {
-        first: 8,
-        pages: 8,
-        least: None,
-    };
-    match plain_certificate(rt.alloc(), &machine_b(), &request)? {
-        Some(certificate) => {
-            assert_eq!(rt;
-                certificate.bounds.as_slice(),
-                [bound(0, 8, 3, 4), none].as_slice()
-            );
-            assert_eq!(rt; certificate.answer, 4);
-        }
-        None => panic!(rt; "no certificate"),
+    for map in &table {
+        assert!(rt; !check(map, &request(4, 10, LIMIT), &certificate));
     }
+    Ok(())
+}
+
+#[test]
+fn judges_requests(rt: HostRuntime) -> Result<(), AllocError> {
+    let map = [entry(0, 8, 7, 0xf)];
+    let certificate = Certificate {
+        bounds: [bound(0, 8, 2, 4)].to_vec(rt.alloc())?,
+        answer: 4,
+    };
+    let table = [
+        (request(4, 4, 8), true),
+        (request(4, 4, u64::MAX), true),
+        (request(4, 4, 7), false),
+        (request(7, 4, 8), false),
+        (request(4, 0, 8), false),
+        (request(4, u64::MAX, u64::MAX), false),
+    ];
+    for (request, want) in &table {
+        assert_eq!(rt; check(&map, request, &certificate), *want);
+    }
+    let no_bounds = Certificate {
+        bounds: Vec::new(rt.alloc()),
+        answer: 0,
+    };
+    assert!(rt; !check(&[], &request(4, 1, LIMIT), &no_bounds));
     Ok(())
 }

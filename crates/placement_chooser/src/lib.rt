@@ -2,7 +2,5 @@
 #![tactic(auto)]
 
 mod choosing;
-#[cfg(test)]
-mod tests;
 
 pub use choosing::choose;

@@ -1,5 +1,0 @@
-use Rattle.placement_certificate.proofs.Machines.{proper_b}
-use Rattle.placement_certificate.proofs.tests.machine_b.Goals as goal
-
-pub returns-clause-proper : goal.returns-clause-proper
-returns-clause-proper c = rw (c.run.ensures, c.run-2.ensures) proper_b

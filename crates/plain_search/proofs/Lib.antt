@@ -1,0 +1,4 @@
+pub mod PlainMaps
+pub mod PlainPrices
+pub mod PlainSearch
+pub mod Drawn

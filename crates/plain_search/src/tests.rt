@@ -1,0 +1,131 @@
+//! Expected values worked out by hand.
+ghost use Rattle.std.specs.Prelude.{◌≡◌};
+ghost use Rattle.page_ranges.specs.declared.ranges.Owner.TheVariants.{Given};
+ghost use Rattle.page_ranges.specs.MemoryTypes.{page_count};
+ghost use Rattle.page_ranges.specs.Memory.{IsProperMemory};
+ghost use Rattle.page_ranges.specs.Runs.{pages_of};
+ghost use Rattle.plain_search.specs.RunsBy.{AreRunsBy};
+
+mod choices;
+
+use super::*;
+use page_ranges::{Descriptor, MemoryType, Owner, PageRange, Run};
+use placement_certificate::{Bound, Request};
+use std::alloc::AllocError;
+
+const LIMIT: u64 = 0x10_0000_0000_0000;
+
+fn run(first: u64, pages: u64, number: u32, attributes: u64) -> Run
+    ensures { result ≡ record { range = record { first = first; pages = pages }; mtype = number; attributes = attributes; owner = Given } }
+{
+    Run {
+        range: PageRange { first, pages },
+        mtype: MemoryType::new(number),
+        attributes,
+        owner: Owner::Given,
+    }
+}
+
+// Free memory with a hole, and runtime data in its upper part.
+fn machine_a() -> [Run; 4]
+    ensures by { AreRunsBy page_count result }
+    ensures proper { IsProperMemory (pages_of result) }
+{
+    [
+        run(0, 160, 7, 0xf),
+        run(256, 768, 7, 0xf),
+        run(1024, 16, 6, 0x8000_0000_0000_000f),
+        run(1040, 1008, 7, 0xf),
+    ]
+}
+
+// Free memory with two sets of attributes.
+fn machine_b() -> [Run; 2]
+    ensures by { AreRunsBy page_count result }
+    ensures proper { IsProperMemory (pages_of result) }
+{
+    [run(0, 8, 7, 0xf), run(8, 8, 7, 0x7)]
+}
+
+#[test]
+fn lists_the_map(rt: HostRuntime) -> Result<(), AllocError> {
+    let entries = plain_map(rt.alloc(), &machine_a())?;
+    let want = Descriptor {
+        mtype: MemoryType::new(6),
+        first: 1024,
+        pages: 16,
+        attributes: 0x8000_0000_0000_000f,
+    };
+    assert_eq!(rt; entries.len(), 4);
+    assert_eq!(rt; entries.get(2), Some(&want));
+    Ok(())
+}
+
+#[test]
+fn prices_starts(rt: HostRuntime) -> Result<(), AllocError> {
+    let request = Request {
+        mtype: MemoryType::new(2),
+        pages: 12,
+        limit: LIMIT,
+    };
+    for (start, want) in [(0, 3), (2, 4), (4, 3)] {
+        let price = plain_price(rt.alloc(), &machine_b(), &request, start)?;
+        assert_eq!(rt; price, want, "at {start}");
+    }
+    Ok(())
+}
+
+fn bound(first: u64, pages: u64, count: u64, top: u64) -> Bound {
+    Bound {
+        first,
+        pages,
+        least: Some((count, top)),
+    }
+}
+
+#[test]
+fn certifies_a_best_start(rt: HostRuntime) -> Result<(), AllocError> {
+    let request = Request {
+        mtype: MemoryType::new(4),
+        pages: 10,
+        limit: LIMIT,
+    };
+    let want = [
+        bound(0, 160, 5, 150),
+        bound(256, 768, 5, 1014),
+        bound(1040, 1008, 5, 2038),
+    ];
+    match plain_certificate(rt.alloc(), &machine_a(), &request)? {
+        Some(certificate) => {
+            assert_eq!(rt; certificate.bounds.as_slice(), want.as_slice());
+            assert_eq!(rt; certificate.answer, 2038);
+        }
+        None => panic!(rt; "no certificate"),
+    }
+    Ok(())
+}
+
+#[test]
+fn certifies_a_start_across_entries(rt: HostRuntime) -> Result<(), AllocError> {
+    let request = Request {
+        mtype: MemoryType::new(2),
+        pages: 12,
+        limit: LIMIT,
+    };
+    let none = Bound {
+        first: 8,
+        pages: 8,
+        least: None,
+    };
+    match plain_certificate(rt.alloc(), &machine_b(), &request)? {
+        Some(certificate) => {
+            assert_eq!(rt;
+                certificate.bounds.as_slice(),
+                [bound(0, 8, 3, 4), none].as_slice()
+            );
+            assert_eq!(rt; certificate.answer, 4);
+        }
+        None => panic!(rt; "no certificate"),
+    }
+    Ok(())
+}
