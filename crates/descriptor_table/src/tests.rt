@@ -6,7 +6,7 @@ ghost use Rattle.page_ranges.specs.Memory.{page_at, IsPresent, AllInRange, IsPro
 ghost use Rattle.page_ranges.specs.Runs.{pages_of, AreRuns};
 
 use super::*;
-use page_ranges::{Descriptor, MemoryType, Owner, PageRange, Run};
+use page_ranges::{Descriptor, MemoryType, Owner, PageCursor, PageRange, Run};
 use std::alloc::{AllocError, Global};
 use std::process::Abort;
 
@@ -208,6 +208,20 @@ fn assert_pages(rt: &impl Abort, table: &RunTable, runs: &[Run]) {
     }
 }
 
+// Asserts that one cursor finds the runs of the list, upward, downward and far away.
+fn assert_cursor(rt: &impl Abort, table: &RunTable, runs: &[Run]) {
+    let mut cursor = table.cursor();
+    for page in 0..PAGES {
+        let down = PAGES - 1 - page;
+        assert_eq!(rt; cursor.run_at(page), holding(runs, page), "at {page}");
+        assert_eq!(rt; cursor.run_at(down), holding(runs, down), "down at {down}");
+    }
+    for page in 0..PAGES {
+        let block = holding(runs, page).map(|run: Run| entry_of(&run));
+        assert_eq!(rt; cursor.block_at(page), block, "block at {page}");
+    }
+}
+
 // Asserts that the runs and the map are those of the plain list.
 fn assert_lists(rt: &impl Abort, table: &RunTable, runs: &[Run], entries: &[Run]) {
     assert_eq!(rt; table.len(), runs.len());
@@ -249,6 +263,7 @@ fn assert_same(
     let runs = joined(rt.alloc(), list, true)?;
     let entries = joined(rt.alloc(), list, false)?;
     assert_pages(rt, table, runs.as_slice());
+    assert_cursor(rt, table, runs.as_slice());
     assert_lists(rt, table, runs.as_slice(), entries.as_slice());
     for first in 0..PAGES {
         assert_ranges(rt, table, list, first);
