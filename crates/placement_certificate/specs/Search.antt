@@ -4,6 +4,7 @@ use Rattle.std.specs.List.{AllByRecursion}
 use Rattle.page_ranges.specs.declared.ranges.Descriptor.{Descriptor}
 use Rattle.page_ranges.specs.Memory.{Page, page_below, IsProperMemory}
 use Rattle.page_ranges.specs.MemoryMap.{memory_map, IsLike, IsIn, should_be_one}
+use Rattle.page_ranges.specs.Cursors.{IsBlockAt}
 use Rattle.placement_certificate.specs.declared.certificates.Request.{Request}
 use Rattle.placement_certificate.specs.declared.certificates.Bound.{Bound}
 use Rattle.placement_certificate.specs.declared.starts.EntryStarts.{EntryStarts}
@@ -48,7 +49,7 @@ IsOnPage None o = o ≡ None
 IsOnPage (Some e) o = IsLike e o
 
 -- What a search knows of the starts in an entry: a conventional one of the map of a proper memory, with how many entries
--- there are, up to where starts are permitted, and what the page below it is.
+-- there are, up to where starts are permitted, and what the page below it and one other page are.
 pub record AreStartsIn (m : List Page) (s : EntryStarts) : Type 0 where
   pub proper : IsProperMemory m
   pub good : IsProperRequest s.request
@@ -56,6 +57,7 @@ pub record AreStartsIn (m : List Page) (s : EntryStarts) : Type 0 where
   pub entries : s.entries ≡ length (memory_map m)
   pub end_by : PermitsUpTo m s.request s.entry s.end_by
   pub below : IsOnPage s.below (page_below m s.entry.first)
+  pub known : IsBlockAt m s.known_page s.known_block
 
 -- ---- a list of entries
 

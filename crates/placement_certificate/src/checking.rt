@@ -45,11 +45,7 @@ fn are_true_bounds(map: &[Descriptor], request: &Request, bounds: &[Bound]) -> b
     ensures { IsTrue result ↔ AllZip (IsTrueBound (memory_of map.now) request.now) (conventional_entries (memory_of map.now)) bounds.now }
 {
     let entries = map.len() as u64;
-    let mut search = EntrySearch::new(
-        MapCursor::new(map),
-        MapCursor::new(map),
-        MapCursor::new(map),
-    );
+    let mut search = EntrySearch::new(MapCursor::new(map), MapCursor::new(map));
     // How many bounds were looked at.
     let mut count = 0;
     for entry in map {

@@ -3,6 +3,7 @@ ghost use Rattle.std.specs.Prelude.{◌≡◌, ◌↔◌, ◌+◌, ◌≤◌, le
 ghost use Rattle.page_ranges.specs.MemoryTypes.{conventional};
 ghost use Rattle.page_ranges.specs.Memory.{page_below, IsProperMemory};
 ghost use Rattle.page_ranges.specs.MemoryMap.{memory_map};
+ghost use Rattle.page_ranges.specs.Cursors.{IsBlockAt};
 ghost use Rattle.placement_certificate.specs.Placement.{IsProperRequest};
 ghost use Rattle.placement_certificate.specs.Certificates.{IsTrueLeast};
 ghost use Rattle.placement_certificate.specs.Search.{IsStop, IsOnPage};
@@ -13,23 +14,24 @@ use crate::starts::EntryStarts;
 use page_ranges::{Descriptor, MemoryType, PageCursor};
 use std::marker::Model;
 
-// Where the stretch of conventional pages that an entry lies in ends.
+// Where the stretch of conventional pages that an entry lies in ends, and a block with the page there.
 #[inline(always)]
-fn stretch_end<C: PageCursor>(cursor: &mut C, entry: &Descriptor) -> u64
+fn stretch_end<C: PageCursor>(cursor: &mut C, entry: &Descriptor) -> (u64, Option<Descriptor>)
     requires proper { IsProperMemory (C.memory cursor.old) }
     requires entry { Contains (memory_map (C.memory cursor.old)) entry.now }
     requires free { entry.now.mtype ≡ conventional }
     ensures stays { C.memory cursor.new ≡ C.memory cursor.old }
-    ensures stop { IsStop (C.memory cursor.old) entry.now result }
+    ensures stop { IsStop (C.memory cursor.old) entry.now result.0 }
+    ensures behind { IsBlockAt (C.memory cursor.old) result.0 result.1 }
 {
     let mut end = entry.first + entry.pages;
     while let Some(block) = cursor.block_at(end) {
         if block.mtype != MemoryType::conventional() {
-            return end;
+            return (end, Some(block));
         }
         end = block.first + block.pages;
     }
-    end
+    (end, None)
 }
 
 // A block with the page just below another.
@@ -52,14 +54,12 @@ fn first_fits(request: &Request, entry: &Descriptor, end_by: u64) -> bool
     entry.first <= end_by && request.pages <= end_by - entry.first
 }
 
-/// Finds the best start in entries of a memory's map. It looks at three kinds of places, each by a cursor
+/// Finds the best start in entries of a memory's map. It looks at two kinds of places, each by a cursor
 /// of its own: when the entries are taken by ascending page, each cursor goes upward.
 #[derive(Drop)]
 pub struct EntrySearch<C: PageCursor + Drop> {
-    // At the pages just below entries.
-    below: C,
-    // Where stretches of conventional pages end.
-    stops: C,
+    // At the pages just below entries, and where stretches of conventional pages end.
+    sides: C,
     // At the last pages of starts and at the pages above those.
     ends: C,
     // From `first` up to `stop` is the last stretch that was met; before the first one both are 0.
@@ -76,43 +76,43 @@ impl<C: PageCursor + Drop> Model for EntrySearch<C> {
     ghost use Rattle.std.specs.Prelude.{◌≡◌, ◌<◌};
     ghost use Rattle.placement_certificate.specs.Laws.{IsStretch};
 
-    ghost view = { λ s. C.memory s.below };
+    ghost view = { λ s. C.memory s.sides };
 
-    ghost invariant = { λ s. (C.memory s.stops ≡ C.memory s.below) × (C.memory s.ends ≡ C.memory s.below) × (s.first < s.stop → IsStretch (C.memory s.below) s.first s.stop) };
+    ghost invariant = { λ s. (C.memory s.ends ≡ C.memory s.sides) × (s.first < s.stop → IsStretch (C.memory s.sides) s.first s.stop) };
 }
 
 impl<C: PageCursor + Drop> EntrySearch<C> {
-    /// A search by three cursors over one memory.
-    pub fn new(below: C, stops: C, ends: C) -> EntrySearch<C>
-        requires stops { C.memory stops ≡ C.memory below }
-        requires ends { C.memory ends ≡ C.memory below }
-        ensures { result ≡ C.memory below }
+    /// A search by two cursors over one memory.
+    pub fn new(sides: C, ends: C) -> EntrySearch<C>
+        requires { C.memory ends ≡ C.memory sides }
+        ensures { result ≡ C.memory sides }
     {
         EntrySearch {
-            below,
-            stops,
+            sides,
             ends,
             first: 0,
             stop: 0,
         }
     }
 
-    // Where the stretch of a conventional entry ends, which is known if the last one that was met holds the entry.
+    // Where the stretch of a conventional entry ends, which is known if the last stretch that was met holds the entry;
+    // and a page that was looked at on the way, with a block that holds it.
     #[inline(always)]
-    fn stop_of(&mut self, entry: &Descriptor) -> u64
+    fn stop_of(&mut self, entry: &Descriptor) -> (u64, u64, Option<Descriptor>)
         requires proper { IsProperMemory self.old }
         requires entry { Contains (memory_map self.old) entry.now }
         requires free { entry.now.mtype ≡ conventional }
         ensures stays { self.new ≡ self.old }
-        ensures stop { IsStop self.old entry.now result }
+        ensures stop { IsStop self.old entry.now result.0 }
+        ensures known { IsBlockAt self.old result.1 result.2 }
     {
         if self.first <= entry.first && entry.first < self.stop {
-            return self.stop;
+            return (self.stop, entry.first, Some(*entry));
         }
-        let stop = stretch_end(&mut self.stops, entry);
+        let (stop, behind) = stretch_end(&mut self.sides, entry);
         self.first = entry.first;
         self.stop = stop;
-        stop
+        (stop, stop, behind)
     }
 
     /// The best start of a request in a conventional entry, with its price, given how many entries the
@@ -132,7 +132,10 @@ impl<C: PageCursor + Drop> EntrySearch<C> {
         ensures stays { self.new ≡ self.old }
         ensures least { IsTrueLeast self.old request.now entry.now result }
     {
-        let end_by = self.stop_of(entry).min(request.limit);
+        // Asked for first, since it is the lowest page.
+        let below = block_below(&mut self.sides, entry.first);
+        let (stop, known_page, known_block) = self.stop_of(entry);
+        let end_by = stop.min(request.limit);
         if !first_fits(request, entry, end_by) {
             return None;
         }
@@ -141,7 +144,9 @@ impl<C: PageCursor + Drop> EntrySearch<C> {
             entry: *entry,
             entries,
             end_by,
-            below: block_below(&mut self.below, entry.first),
+            below,
+            known_page,
+            known_block,
         };
         starts.least(&mut self.ends)
     }

@@ -23,6 +23,9 @@ pub(crate) struct EntryStarts {
     pub(crate) end_by: u64,
     // A block with the page just below the entry, `None` where that is absent.
     pub(crate) below: Option<Descriptor>,
+    // Some page, and a block that holds it. It saves a look-up where it is the page that the entry's stretch ends at.
+    pub(crate) known_page: u64,
+    pub(crate) known_block: Option<Descriptor>,
 }
 
 // What an edge adds to the price, by blocks that hold the page below it and the page above it.
@@ -49,22 +52,6 @@ fn edge_saves(mtype: MemoryType, outside: &Option<Descriptor>, inside: &Option<D
     }
 }
 
-// A block with the page at a place, which is in a block or just behind it.
-#[inline(always)]
-fn block_above<C: PageCursor>(cursor: &mut C, block: &Descriptor, page: u64) -> Option<Descriptor>
-    requires block { IsBlock (C.memory cursor.old) block.now }
-    requires behind { IsIn block.now (page - 1) }
-    requires within { block.now.first + block.now.pages < 2 ^ 64 }
-    ensures stays { C.memory cursor.new ≡ C.memory cursor.old }
-    ensures above { IsBlockAt (C.memory cursor.old) page result }
-{
-    if page < block.first + block.pages {
-        Some(*block)
-    } else {
-        cursor.block_at(page)
-    }
-}
-
 impl EntryStarts {
     // A block with the page just below a start.
     #[inline(always)]
@@ -75,6 +62,30 @@ impl EntryStarts {
             Some(self.entry)
         } else {
             self.below
+        }
+    }
+
+    // A block with the page at a place, which is in a block or just behind it.
+    #[inline(always)]
+    fn block_above<C: PageCursor>(
+        &self,
+        cursor: &mut C,
+        block: &Descriptor,
+        page: u64,
+    ) -> Option<Descriptor>
+        requires starts { AreStartsIn (C.memory cursor.old) self.now }
+        requires block { IsBlock (C.memory cursor.old) block.now }
+        requires behind { IsIn block.now (page - 1) }
+        requires within { block.now.first + block.now.pages < 2 ^ 64 }
+        ensures stays { C.memory cursor.new ≡ C.memory cursor.old }
+        ensures above { IsBlockAt (C.memory cursor.old) page result }
+    {
+        if page < block.first + block.pages {
+            Some(*block)
+        } else if page == self.known_page {
+            self.known_block
+        } else {
+            cursor.block_at(page)
         }
     }
 
@@ -93,7 +104,7 @@ impl EntryStarts {
         let below = self.block_below(start);
         let first = Some(self.entry);
         let last = Some(*block);
-        let above = block_above(cursor, block, start + self.request.pages);
+        let above = self.block_above(cursor, block, start + self.request.pages);
         self.entries + edge_adds(&below, &first) + edge_adds(&last, &above)
             - edge_saves(mtype, &below, &first)
             - edge_saves(mtype, &above, &last)
@@ -160,7 +171,7 @@ impl EntryStarts {
             if start == highest || end == self.end_by {
                 return found;
             }
-            block = block_above(cursor, &block, end)?;
+            block = self.block_above(cursor, &block, end)?;
             start = highest.min(self.end_by.min(block.first + block.pages) - pages);
         }
     }

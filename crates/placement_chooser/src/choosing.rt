@@ -23,7 +23,7 @@ pub fn choose<A: Allocator + Copy, B: Allocator + Copy>(
     // Room for a bound of each entry.
     let mut bounds = Vec::with_capacity(alloc, entries)?;
     let mut best = None;
-    let mut search = EntrySearch::new(table.cursor(), table.cursor(), table.cursor());
+    let mut search = EntrySearch::new(table.cursor(), table.cursor());
     for entry in table.map_entries() {
         if entry.mtype == MemoryType::conventional() {
             let least = search.least_in(request, entries as u64, &entry);
