@@ -1,5 +1,5 @@
 //! The handle table.
-ghost use Rattle.std.specs.Prelude.{◌≡◌, ◌+◌, ◌<◌, ◌≤◌, ◌^◌, ◌==◌, cond, not, IsSome, IfNone, OnOk, Bool, true, false, nat_lt, [], ◌∷◌, map, length, None, Some, MatchOption, IfOk, OnErr, IsTrue};
+ghost use Rattle.std.specs.Prelude.{◌≡◌, ◌+◌, ◌<◌, ◌≤◌, ◌^◌, ◌==◌, cond, not, is_some, IsSome, IfNone, OnOk, Bool, true, false, nat_lt, [], ◌∷◌, map, length, None, Some, MatchOption, IfOk, OnErr, IsTrue};
 ghost use Rattle.std.specs.List.{find, filter, list_any};
 ghost use Rattle.guid_handles.specs.HandleTables.{numbers, same_guid, has_number, is_live, is_on, is_at, maker_of, interface_at, value_at, carries, holders_of, guids_on, written_over, next_after};
 ghost use Rattle.guid_handles.specs.HandleChanges.{IsHandleTable, max_handles, max_installed, has_guid_twice, is_dead, is_taken, past_limit, refusal, with_interfaces, with_handle, install_refusal, install_many_refusal, Installs, without_handle, without_interface, with_value};
@@ -76,6 +76,7 @@ impl<A: Allocator + Copy> Handles<A> {
     /// The numbers of the live handles, ascending.
     pub fn all(&self) -> &[u64]
         ensures numbers { result.now ≡ numbers self.now }
+        ensures count { length result.now ≡ length self.now.handles }
         ensures proper { IsHandleTable self.now }
     {
         self.numbers.as_slice()
@@ -104,7 +105,8 @@ impl<A: Allocator + Copy> Handles<A> {
 
     /// The value of the interface of a GUID on a handle.
     pub fn interface(&self, handle: u64, guid: Uuid) -> Option<u64>
-        ensures { result ≡ value_at self.now handle guid }
+        ensures value { result ≡ value_at self.now handle guid }
+        ensures there { is_some result ≡ carries self.now guid handle }
     {
         self.find(handle, guid).map(|i| i.value)
     }

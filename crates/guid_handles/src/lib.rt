@@ -6,6 +6,8 @@ mod interfaces;
 mod records;
 mod room;
 mod searches;
+#[cfg(test)]
+mod tests;
 
 pub use handles::{Handles, MAX_HANDLES, MAX_INSTALLED};
 pub use records::{Interface, LiveHandle};

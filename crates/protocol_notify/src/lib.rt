@@ -2,5 +2,7 @@
 #![tactic(auto)]
 
 mod notify;
+#[cfg(test)]
+mod tests;
 
 pub use notify::{Notify, Registration};
