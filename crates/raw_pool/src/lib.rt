@@ -4,5 +4,7 @@
 mod pool;
 mod region;
 mod store;
+#[cfg(test)]
+mod tests;
 
 pub use pool::RawPool;
