@@ -9,7 +9,7 @@ use placement_certificate::{Bound, Certificate, EntrySearch, Request, better_of}
 use std::alloc::{AllocError, Allocator};
 
 /// The true certificate of a request, whose answer is the best start; `None` where no start is
-/// permitted. An `Err` is want of memory for the certificate.
+/// permitted. An `Err` means no memory for the certificate.
 pub fn choose<A: Allocator + Copy, B: Allocator + Copy>(
     alloc: A,
     table: &RunTable<B>,
