@@ -7,3 +7,4 @@ pub mod Outcomes
 pub mod MapReplies
 pub mod Keys
 pub mod Acceptances
+pub mod Growth

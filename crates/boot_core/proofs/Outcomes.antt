@@ -1,5 +1,5 @@
 -- What a step does to a book: it keeps it, or changes the type of a page.
-use Rattle.std.proofs.Common.{◌≡◌, ◌⊎◌, ℕ, ◌+◌, ◌*◌, ◌/◌, ◌^◌, ◌<◌, ◌≤◌, ◌==◌, Bool, true, false, cond, List, Option, Some, None, Result, Ok, Err, IfSome, refl, sym, ap, subst, ◌∙◌, inl, inr, arith}
+use Rattle.std.proofs.Common.{◌≡◌, ◌⊎◌, ℕ, ◌+◌, ◌*◌, ◌/◌, ◌^◌, ◌<◌, ◌≤◌, ◌==◌, Bool, true, false, cond, List, Option, Some, None, Result, Ok, Err, IfSome, length, refl, sym, ap, subst, ◌∙◌, inl, inr, arith}
 use Rattle.std.specs.Option.{option_map}
 use Rattle.std.proofs.lemmas.Option.{same_Some}
 use Rattle.page_ranges.specs.declared.ranges.Owner.{Owner}
@@ -9,6 +9,8 @@ use Rattle.page_ranges.specs.declared.statuses.Status.{Status}
 use Rattle.page_ranges.specs.declared.statuses.Status.TheVariants as status
 use Rattle.page_ranges.specs.MemoryTypes.{page_size, page_count, pages_below, conventional, is_bad_type}
 use Rattle.page_ranges.specs.Memory.{Page, page_at, IsProperPage, IsProperMemory, HasMachineTypes, IsConventional, IsOwnedBy, retyped}
+use Rattle.page_ranges.specs.MemoryMap.{memory_map}
+use Rattle.page_ranges.proofs.EntryCounts.{two_more}
 use Rattle.page_ranges.proofs.Lookups.{page_at-number, page_at-all}
 use Rattle.page_ranges.proofs.Retyped.{changed, changed_in, page_at-retyped, retyped-proper, retyped-typed, machine_type}
 use Rattle.placement_certificate.specs.declared.certificates.Request.{Request}
@@ -54,6 +56,7 @@ pub record IsChanged (Fits : Type 0) (old new : Book) : Type 0 where
   pub differs : ¬ HaveSameTypes old.memory new.memory
   pub typed : HasMachineTypes old.memory → HasMachineTypes new.memory
   pub fields : Fits → HaveFields old.memory → HaveFields new.memory
+  pub grows : length (memory_map new.memory) ≤ length (memory_map old.memory) + 2
 
 abbrev pub Outcome : Type 0 → Book → Book → Type 0
 Outcome Fits old new = (new ≡ old) ⊎ IsChanged Fits old new
@@ -68,6 +71,7 @@ allocated b range t proper good some free =
       differs = λ same. other (sym (same_type range t Pages b.memory x here some same) ∙ was);
       typed = retyped-typed range t Pages (machine_type t (inl good)) b.memory;
       fields = λ fits. retyped-fields range t Pages fits b.memory;
+      grows = two_more range t Pages b.memory proper.ascending;
     }
 
 freed : (Fits : Type 0) (b : Book) (range : PageRange) → IsProperMemory b.memory → 0 < range.pages → IsOwnedBy Pages (page_at b.memory range.first) → IsChanged Fits b (changed_book range conventional Given b)
@@ -80,6 +84,7 @@ freed Fits b range proper some owned =
       differs = λ same. let given = is.given (same_type range conventional Given b.memory x here some same) in cc;
       typed = retyped-typed range conventional Given (machine_type conventional (inr refl)) b.memory;
       fields = λ fits. retyped-fields range conventional Given (omega arith) b.memory;
+      grows = two_more range conventional Given b.memory proper.ascending;
     }
 
 frees : (Fits : Type 0) (b : Book) (address pages : ℕ) (result : Result (Unit {0}) Status) (new : Book) → IsProperMemory b.memory → FreesPages b address pages result new → Outcome Fits b new
@@ -105,6 +110,10 @@ module _ (Fits : Type 0) (old new : Book) where
   pub stays_fitting : Fits → HaveFields old.memory → Outcome Fits old new → HaveFields new.memory
   stays_fitting fits fields (inl e) = subst (λ (b : Book). HaveFields b.memory) (sym e) fields
   stays_fitting fits fields (inr changed) = changed.fields fits fields
+
+  pub map_grows : Outcome Fits old new → length (memory_map new.memory) ≤ length (memory_map old.memory) + 2
+  map_grows (inl e) = omega (arith, ap (λ (b : Book). length (memory_map b.memory)) e)
+  map_grows (inr changed) = changed.grows
 
   -- either no type changes, nor the key, or both do
   pub type_or_not : Outcome Fits old new → (HaveSameTypes old.memory new.memory × (new.key ≡ old.key)) ⊎ ((¬ HaveSameTypes old.memory new.memory) × (new.key ≡ old.key + 1))

@@ -1,5 +1,5 @@
 -- The laws of the machine. Each is the contract of a public function.
-use Rattle.std.specs.Prelude.{◌≡◌, ◌⊎◌, ◌↔◌, ℕ, ◌+◌, ◌<◌, ◌^◌, false, List, [], ◌∷◌, ◌++◌, length, take, drop, Option, Ok, IfSome, Vec}
+use Rattle.std.specs.Prelude.{◌≡◌, ◌⊎◌, ◌↔◌, ℕ, ◌+◌, ◌*◌, ◌<◌, ◌≤◌, ◌^◌, false, List, [], ◌∷◌, ◌++◌, length, take, drop, Option, Ok, IfSome, Vec}
 use Rattle.std.specs.Option.{option_map}
 use Rattle.std.specs.List.{AllByRecursion}
 use Rattle.page_ranges.specs.declared.ranges.Run.{Run}
@@ -93,6 +93,11 @@ NamesTypes c = Unit {0}
 abbrev pub RecordEntriesLaw : Type 0 → Type 0
 RecordEntriesLaw A = (machine : List Run) (calls : List Call) (replies : List (Reply A)) (new : State) → IsValidMachine machine → AllByRecursion HasRecordNumbers machine → AllByRecursion NamesTypes calls →
     CallRun (first_state machine) calls replies new → AllByRecursion IsRecordEntry (memory_map new.parts.book.memory)
+
+-- After calls on a valid machine the memory map has an entry for each run of the machine and two for each call, or fewer.
+abbrev pub MapGrowthLaw : Setting → Type 0 → Type 0
+MapGrowthLaw S A = (machine : List Run) (calls : List Call) (replies : List (Reply A)) (new : State) → IsValidMachine machine → CallRunBy S (first_state machine) calls replies new →
+    length (memory_map new.parts.book.memory) ≤ length machine + 2 * length calls
 
 -- ---- certificates
 

@@ -1,5 +1,5 @@
 //! The laws of the machine, each the contract of a function that does nothing.
-ghost use Rattle.boot_core.specs.Laws.{AcceptanceLaw, AnyRunLaw, AnyStepLaw, KeyCountLaw, KeyLaw, MapStepLaw, RecordEntriesLaw};
+ghost use Rattle.boot_core.specs.Laws.{AcceptanceLaw, AnyRunLaw, AnyStepLaw, KeyCountLaw, KeyLaw, MapGrowthLaw, MapStepLaw, RecordEntriesLaw};
 ghost use Rattle.boot_core.specs.Steps.{any_starts, best_starts};
 
 use std::alloc::Allocator;
@@ -38,6 +38,13 @@ pub fn key_count_law<A: Allocator>()
 /// writes is read back.
 pub fn record_entries_law<A: Allocator>()
     ensures { RecordEntriesLaw A }
+{}
+
+/// After calls on a valid machine the memory map has no more entries than the machine has runs, and
+/// two more for each call, however permitted starts are chosen.
+pub fn map_growth_law<A: Allocator>()
+    ensures best { MapGrowthLaw best_starts A }
+    ensures any { MapGrowthLaw any_starts A }
 {}
 
 /// On a valid machine the checker accepts the certificate of each placement of a run, with the

@@ -1,10 +1,14 @@
--- The law of certificate blocks.
-use Rattle.std.specs.Prelude.{◌≡◌, ℕ, ◌^◌, ◌<◌, ◌≤◌, List, length, Option, Some, None, Ok}
+-- The laws of certificate blocks. Each is the contract of a public function.
+use Rattle.std.specs.Prelude.{◌≡◌, ℕ, ◌+◌, ◌*◌, ◌^◌, ◌<◌, ◌≤◌, Bool, IsTrue, List, length, Option, Some, None, Result, Ok, Err}
 use Rattle.std.specs.List.{AllByRecursion}
 use Rattle.page_ranges.specs.declared.ranges.Descriptor.{Descriptor}
 use Rattle.placement_certificate.specs.declared.certificates.Request.{Request}
 use Rattle.placement_certificate.specs.declared.certificates.Bound.{Bound}
 use Rattle.placement_certificate.specs.Certificates.{CertificateValue}
+use Rattle.placement_certificate.specs.Acceptance.{IsAccepted}
+use Rattle.certificate_blocks.specs.declared.faults.BlockFault.{BlockFault}
+use Rattle.certificate_blocks.specs.declared.faults.BlockFault.TheVariants as fault
+use Rattle.certificate_blocks.specs.BlockChecks.{Judges}
 use Rattle.certificate_blocks.specs.BlockText.{block_lines, block_text}
 use Rattle.certificate_blocks.specs.Blocks.{most_block_lines, block_of}
 
@@ -41,3 +45,19 @@ pub record HasBlockNumbers (entries : List Descriptor) (r : Request) (c : Certif
 -- The text of a block that has no more lines than a block may have is read back as the map, the request and the certificate that it was made of.
 abbrev pub BlockReadBackLaw : Type 0
 BlockReadBackLaw = (entries : List Descriptor) (r : Request) (c : CertificateValue) → HasBlockNumbers entries r c → length (block_lines entries r c) ≤ most_block_lines → block_of (block_text entries r c) ≡ Ok (entries, r, c)
+
+-- The check answers that the block is accepted, unless a read or a write fails or memory runs out.
+abbrev pub SaysAccepted : Result Bool BlockFault → Type 0
+SaysAccepted (Ok accepted) = IsTrue accepted
+SaysAccepted (Err (fault.Line number)) = ⊥
+SaysAccepted (Err e) = Unit {0}
+
+-- The text of a block is read back as the map, the request and the certificate that it was made of, and its check answers that it is accepted.
+pub record IsAcceptedBlock (entries : List Descriptor) (r : Request) (c : CertificateValue) : Type 0 where
+  pub read_back : block_of (block_text entries r c) ≡ Ok (entries, r, c)
+  pub judged : (can_fail : Bool) (before after : Option (List ℕ)) (answer : Result Bool BlockFault) → Judges can_fail (block_text entries r c) before after answer → SaysAccepted answer
+
+-- So it is of each certificate that is accepted, where the numbers of the entries and of the request fit, and where the block has no
+-- more lines than it may have with a bound for each entry.
+abbrev pub AcceptedBlockLaw : Type 0
+AcceptedBlockLaw = (entries : List Descriptor) (r : Request) (c : CertificateValue) → IsAccepted entries r c → AllByRecursion HasEntryNumbers entries → HasRequestNumbers r → 2 * length entries + 6 ≤ most_block_lines → IsAcceptedBlock entries r c

@@ -10,5 +10,5 @@ mod reader;
 
 pub use checks::{check_block, judge_block};
 pub use faults::BlockFault;
-pub use laws::block_read_back_law;
+pub use laws::{accepted_block_law, block_read_back_law};
 pub use printing::print_block;

@@ -2,7 +2,7 @@
 use Rattle.std.proofs.Common.{◌≡◌, ℕ, suc, ◌<◌, ◌≤◌, Bool, true, false, cond, List, [], ◌∷◌, length, get_or, Contains, Option, Some, None, Ok, Err, subst, IsSome, IfSome, ◌↔◌, refl, sym, ap, ◌∙◌, arith, IsPermutation}
 use Rattle.std.specs.List.{AllByRecursion}
 use Rattle.std.specs.List.Sorted.{IsNonDecreasingBy}
-use Rattle.std.proofs.lemmas.List.Sorted.{IsPermutation-sym, Contains-permutation}
+use Rattle.std.proofs.lemmas.List.Sorted.{IsPermutation-sym, Contains-permutation, length_permutation}
 use Rattle.page_ranges.specs.declared.ranges.Run.{Run}
 use Rattle.page_ranges.specs.Runs.{AreRuns, IsValidMachine}
 use Rattle.page_ranges.proofs.Members.{member_first, member_later, member_all, all_implied}
@@ -10,8 +10,8 @@ use Rattle.boot_core.specs.MachineRuns.{HasRecordNumbers, IsMachineRun}
 use Rattle.boot_core.proofs.MachineRunLists.{valid_machine}
 use Rattle.machine_files.specs.declared.faults.MachineFault.{MachineFault}
 use Rattle.machine_files.specs.declared.faults.MachineFault.TheVariants.{Overlap}
-use Rattle.machine_files.specs.MachineText.{overlap, in_order, file_runs, machine_of}
-use Rattle.machine_files.proofs.FileRuns.{IsListed, bind_ok, listed_in_file}
+use Rattle.machine_files.specs.MachineText.{overlap, in_order, file_runs, machine_of, most_descriptors}
+use Rattle.machine_files.proofs.FileRuns.{IsListed, bind_ok, listed_in_file, few_in_file}
 use Rattle.machine_files.proofs.InOrder.{AreRising, in_order-permutes, in_order-rising, one_order, overlap-permuted, overlap-in_order, apart_in_order}
 
 all_from_members : (P : Run → Type 0) (rs : List Run) → ((x : Run) → Contains rs x → P x) → AllByRecursion P rs
@@ -71,7 +71,7 @@ without_overlap : (b : Bool) (fault : MachineFault) (rs runs : List Run) → con
 without_overlap true fault rs runs e = absurd (cc)
 without_overlap false fault rs runs e = (refl, cc)
 
-pub machine_in : (bytes : List ℕ) (runs : List Run) → machine_of bytes ≡ Ok runs → IsValidMachine runs × AllByRecursion HasRecordNumbers runs
+pub machine_in : (bytes : List ℕ) (runs : List Run) → machine_of bytes ≡ Ok runs → IsValidMachine runs × AllByRecursion HasRecordNumbers runs × (length runs ≤ most_descriptors)
 unfolding machine_of
 machine_in bytes runs e =
     let (listed, le, e1) = bind_ok (file_runs bytes) (λ runs. cond (overlap runs) (Err Overlap) (Ok (in_order runs))) runs e in
@@ -79,4 +79,8 @@ machine_in bytes runs e =
     let machine_runs = all_implied IsListed IsMachineRun (λ r h. h.0) listed each in
     let numbers = all_implied IsListed HasRecordNumbers (λ r h. h.1) listed each in
     let (apart, same) = without_overlap (overlap listed) Overlap (in_order listed) runs e1 in
-    (subst IsValidMachine same (ordered_machine listed machine_runs apart), subst (AllByRecursion HasRecordNumbers) same (all_permuted HasRecordNumbers listed (in_order listed) (in_order-permutes listed) numbers))
+    let few : length (in_order listed) ≤ most_descriptors = omega (arith, few_in_file bytes listed le, length_permutation listed (in_order listed) (in_order-permutes listed)) in (
+      subst IsValidMachine same (ordered_machine listed machine_runs apart),
+      subst (AllByRecursion HasRecordNumbers) same (all_permuted HasRecordNumbers listed (in_order listed) (in_order-permutes listed) numbers),
+      subst (λ (rs : List Run). length rs ≤ most_descriptors) same few,
+    )

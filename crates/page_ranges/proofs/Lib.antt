@@ -8,4 +8,5 @@ pub mod Maps
 pub mod RunLists
 pub mod MaximalRuns
 pub mod RunMaps
+pub mod EntryCounts
 pub mod Samples

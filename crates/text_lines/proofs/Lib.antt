@@ -1,4 +1,5 @@
 pub mod Digits
 pub mod PrintedNumbers
+pub mod NumberBounds
 pub mod LineBytes
 pub mod Written

@@ -1,11 +1,13 @@
 -- The calls that lines ask for.
-use Rattle.std.proofs.Common.{◌≡◌, ℕ, ◌<◌, ◌^◌, Bool, true, false, cond, nat_lt, nat_eq, List, [], ◌∷◌, length, codes, Option, Some, None, Result, Ok, Err, refl, subst}
+use Rattle.std.proofs.Common.{◌≡◌, ℕ, ◌<◌, ◌^◌, Bool, true, false, cond, nat_lt, nat_le, nat_eq, List, [], ◌∷◌, length, codes, Option, Some, None, Result, Ok, Err, refl, subst}
 use Rattle.std.proofs.lemmas.Bool.{ltb-true}
 use Rattle.std.specs.Io.BufRead.{strip_last}
 use Rattle.std.specs.List.{starts_with}
 use Rattle.boot_core.specs.declared.calls.Call.{Call}
 use Rattle.boot_core.specs.declared.calls.Call.TheVariants as call
 use Rattle.boot_core.specs.Laws.{NamesTypes}
+use Rattle.text_lines.specs.Numbers.{number_of}
+use Rattle.text_lines.proofs.NumberBounds.{number_fits}
 use Rattle.text_lines.specs.Lines.{longest_line}
 use Rattle.text_lines.specs.Words.{words_of}
 use Rattle.trace_verbs.specs.declared.verbs.Verb.{Verb}
@@ -15,7 +17,8 @@ use Rattle.trace_lines.specs.declared.faults.TraceFault.{TraceFault}
 use Rattle.trace_lines.specs.declared.faults.TraceFault.TheVariants as fault
 use Rattle.trace_lines.specs.declared.lines.TraceCall.{TraceCall}
 use Rattle.trace_lines.specs.declared.lines.TraceCall.TheVariants as trace_call
-use Rattle.trace_lines.specs.TraceLine.{◌>>=◌, or_fault, u64_of, u32_of, buffer_size_of, call_of, call_of_words, line_of}
+use Rattle.trace_lines.specs.Laws.{HasCallNumbers}
+use Rattle.trace_lines.specs.TraceLine.{◌>>=◌, or_fault, largest_buffer, u64_of, u32_of, buffer_size_of, call_of, call_of_words, line_of}
 
 bind_ok : {A B : Type 0} (r : Result A TraceFault) (f : A → Result B TraceFault) (y : B) → (r >>= f) ≡ Ok y → (x : A) × (r ≡ Ok x) × (f x ≡ Ok y)
 bind_ok (Ok x) f y e = (x, refl, e)
@@ -27,6 +30,19 @@ fine x = Ok x
 checked : (b : Bool) (n t : ℕ) → cond b (fine n) (Err fault.Number) ≡ Ok t → (b ≡ true) × (n ≡ t)
 checked true n t e = (refl, cc)
 checked false n t e = absurd (cc)
+
+found : (o : Option ℕ) (n : ℕ) → or_fault fault.Number o ≡ Ok n → o ≡ Some n
+found None n e = absurd (cc)
+found (Some m) n e = cc
+
+u64_below : (word : List ℕ) (n : ℕ) → u64_of word ≡ Ok n → n < 2 ^ 64
+u64_below word n e = number_fits word n (found (number_of word) n e)
+
+size_below : (word : List ℕ) (size : ℕ) → buffer_size_of word ≡ Ok size → size < 2 ^ 64
+size_below word size e =
+    let (n, ne, e1) = bind_ok (u64_of word) (λ n. cond (nat_le n largest_buffer) (Ok n) (Err fault.Number)) size e in
+    let (fits, same) = checked (nat_le n largest_buffer) n size e1 in
+    subst (λ (m : ℕ). m < 2 ^ 64) same (u64_below word n ne)
 
 u32_below : (word : List ℕ) (t : ℕ) → u32_of word ≡ Ok t → t < 2 ^ 32
 u32_below word t e =
@@ -46,28 +62,28 @@ with_type pages memory k t = u64_of pages >>= with_pages memory k t
 abbrev with_kind : List ℕ → List ℕ → List ℕ → ℕ → Asked
 with_kind mtype pages memory k = u32_of mtype >>= with_type pages memory k
 
--- the call that a verb asks for with its words names no type of more than 32 bits
-of_verb : (v : Verb) (words : List (List ℕ)) (c : Call) → call_of v words ≡ Ok (trace_call.Service c) → NamesTypes c
+-- the numbers of the call that a verb asks for with its words
+of_verb : (v : Verb) (words : List (List ℕ)) (c : Call) → call_of v words ≡ Ok (trace_call.Service c) → HasCallNumbers c
 of_verb verb.Pages (kind ∷ mtype ∷ pages ∷ memory ∷ []) c e =
     let (k, ke, e1) = bind_ok (u32_of kind) (with_kind mtype pages memory) _ e in
     let (t, te, e2) = bind_ok (u32_of mtype) (with_type pages memory k) _ e1 in
     let (p, pe, e3) = bind_ok (u64_of pages) (with_pages memory k t) _ e2 in
     let (m, me, e4) = bind_ok (u64_of memory) (λ m. Ok (trace_call.Service (call.AllocatePages k t p m))) _ e3 in
     let same : call.AllocatePages k t p m ≡ c = cc in
-    subst NamesTypes same (u32_below mtype t te)
+    subst HasCallNumbers same (u32_below kind k ke, u32_below mtype t te, u64_below pages p pe, u64_below memory m me)
 of_verb verb.FreePages (memory ∷ pages ∷ []) c e =
     let (m, me, e1) = bind_ok (u64_of memory) (λ m. u64_of pages >>= λ p. Ok (trace_call.Service (call.FreePages m p))) _ e in
     let (p, pe, e2) = bind_ok (u64_of pages) (λ p. Ok (trace_call.Service (call.FreePages m p))) _ e1 in
     let same : call.FreePages m p ≡ c = cc in
-    subst NamesTypes same tt
+    subst HasCallNumbers same (u64_below memory m me, u64_below pages p pe)
 of_verb verb.Map (size ∷ []) c e =
     let (n, ne, e1) = bind_ok (buffer_size_of size) (λ n. Ok (trace_call.Service (call.GetMemoryMap n))) _ e in
     let same : call.GetMemoryMap n ≡ c = cc in
-    subst NamesTypes same tt
+    subst HasCallNumbers same (size_below size n ne)
 of_verb verb.Exit (key ∷ []) c e =
     let (k, ke, e1) = bind_ok (u64_of key) (λ k. Ok (trace_call.Service (call.ExitBootServices k))) _ e in
     let same : call.ExitBootServices k ≡ c = cc in
-    subst NamesTypes same tt
+    subst HasCallNumbers same (u64_below key k ke)
 of_verb verb.List [] c e = absurd (cc)
 of_verb verb.List (word ∷ words) c e = absurd (cc)
 of_verb v words c e = absurd (cc)
@@ -79,7 +95,7 @@ not_skipped : (b : Bool) (r : Result (Option TraceCall) TraceFault) (t : TraceCa
 not_skipped true r t e = absurd (cc)
 not_skipped false r t e = e
 
-of_words : (words : List (List ℕ)) (c : Call) → call_of_words words ≡ Ok (Some (trace_call.Service c)) → NamesTypes c
+of_words : (words : List (List ℕ)) (c : Call) → call_of_words words ≡ Ok (Some (trace_call.Service c)) → HasCallNumbers c
 of_words [] c e = absurd (cc)
 of_words (name ∷ parameters) c e =
     let e1 = not_skipped (starts_with nat_eq name (codes "#")) (or_fault fault.Verb (verb_named name) >>= λ v. call_of v parameters >>= λ asked. Ok (Some asked)) (trace_call.Service c) e in
@@ -91,5 +107,14 @@ not_long : (b : Bool) (r : Result (Option TraceCall) TraceFault) (t : TraceCall)
 not_long true r t e = absurd (cc)
 not_long false r t e = e
 
+pub call_numbers : (line : List ℕ) (c : Call) → line_of line ≡ Ok (Some (trace_call.Service c)) → HasCallNumbers c
+call_numbers line c e = of_words (words_of (strip_last 13 line)) c (not_long (nat_lt longest_line (length line)) (call_of_words (words_of (strip_last 13 line))) (trace_call.Service c) e)
+
+of_numbers : (c : Call) → HasCallNumbers c → NamesTypes c
+of_numbers (call.AllocatePages kind t pages memory) h = h.1
+of_numbers (call.FreePages memory pages) h = tt
+of_numbers (call.GetMemoryMap size) h = tt
+of_numbers (call.ExitBootServices key) h = tt
+
 pub named_types : (line : List ℕ) (c : Call) → line_of line ≡ Ok (Some (trace_call.Service c)) → NamesTypes c
-named_types line c e = of_words (words_of (strip_last 13 line)) c (not_long (nat_lt longest_line (length line)) (call_of_words (words_of (strip_last 13 line))) (trace_call.Service c) e)
+named_types line c e = of_numbers c (call_numbers line c e)

@@ -6,5 +6,5 @@ mod laws;
 mod lines;
 
 pub use faults::TraceFault;
-pub use laws::named_types_law;
+pub use laws::{call_numbers_law, named_types_law};
 pub use lines::{TraceCall, read_call};
