@@ -32,7 +32,7 @@ use Rattle.boot_core.proofs.Outcomes.{stays_proper, stays_typed, stays_fitting, 
 use Rattle.boot_core.proofs.RecordPages.{HaveFields, first_fields, record_entries}
 
 -- the pages of a machine have types of machines
-first_types : (rs : List Run) → AllByRecursion (λ r. is_machine_type r.mtype ≡ true) rs → HasMachineTypes (pages_of rs)
+pub first_types : (rs : List Run) → AllByRecursion (λ r. is_machine_type r.mtype ≡ true) rs → HasMachineTypes (pages_of rs)
 first_types [] a = tt
 first_types (r ∷ rs) a = all-row (λ x. is_machine_type x.mtype ≡ true) (pages_of rs) r.range.pages (page_in r.range.first r) (λ k low high. a.0) (first_types rs a.1)
 
@@ -67,7 +67,7 @@ module _ {A : Type 0} (old : Parts) (proper : IsProperMemory old.book.memory) (t
   accepted_pages false kind t pages memory answer new (result, e, h) =
       subst (λ (a : Reply A). IfSome (certified (call.AllocatePages kind t pages memory) a) (λ told. IsAccepted (memory_map old.book.memory) told.0 told.1)) (sym e) (accepted_result kind t pages memory result new h)
 
-  accepted_reply : (exited : Bool) (calls_left : ℕ) (c : Call) (answer : Reply A) (new : Parts) → Answers best_starts exited old c answer new → IsAcceptedReply (record { parts = old; exited = exited; calls_left = calls_left }) c answer
+  pub accepted_reply : (exited : Bool) (calls_left : ℕ) (c : Call) (answer : Reply A) (new : Parts) → Answers best_starts exited old c answer new → IsAcceptedReply (record { parts = old; exited = exited; calls_left = calls_left }) c answer
   accepted_reply exited n (call.AllocatePages kind t pages memory) answer new h = accepted_pages exited kind t pages memory answer new h
   accepted_reply exited n c answer new h = tt
 

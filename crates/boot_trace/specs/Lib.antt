@@ -1,1 +1,2 @@
 pub mod TraceRuns
+pub mod Laws

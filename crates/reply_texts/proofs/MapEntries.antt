@@ -30,10 +30,13 @@ whole_map true old new size told bytes h s = let refused = ap (λ (r : MapReply)
 whole_map false old new size told bytes (inl h, same) s = all_used (leb (map_size old.book) size) (map_size old.book) old.book.key told bytes (records (memory_map old.book.memory)) h.0 h.1 s
 whole_map false old new size told bytes (inr h, same) s = let refused = ap (λ (r : MapReply). r.status) h.2 in absurd (cc)
 
-pub carried : {A : Type 0} (old : State) (size : ℕ) (told : MapReply) (bytes : Vec ℕ A) (new : State) (entries : List Descriptor) → AllByRecursion IsRecordEntry (memory_map old.parts.book.memory) → Step old (call.GetMemoryMap size) (reply.GetMemoryMap told bytes) new → told.status ≡ Success → CarriesEntries (reply.GetMemoryMap told bytes) entries → entries ≡ memory_map old.parts.book.memory
-carried {A = A} old size told bytes new entries fit step success holds =
+-- the bytes that a successful GetMemoryMap tells are the records of the memory map
+pub told_bytes : {A : Type 0} (old : State) (size : ℕ) (told : MapReply) (bytes : Vec ℕ A) (new : State) → Step old (call.GetMemoryMap size) (reply.GetMemoryMap told bytes) new → told.status ≡ Success → bytes.items ≡ records (memory_map old.parts.book.memory)
+told_bytes {A = A} old size told bytes new step success =
     let (told', bytes', e, h) = step.answers in
     let same_told : told ≡ told' = cc in
     let same_bytes : bytes ≡ bytes' = cc in
-    let whole = whole_map old.exited old.parts new.parts size told' bytes'.items h (ap (λ (r : MapReply). r.status) (sym same_told) ∙ success) in
-    held bytes.items entries (memory_map old.parts.book.memory) fit (ap (λ (v : Vec ℕ A). v.items) same_bytes ∙ whole) holds
+    ap (λ (v : Vec ℕ A). v.items) same_bytes ∙ whole_map old.exited old.parts new.parts size told' bytes'.items h (ap (λ (r : MapReply). r.status) (sym same_told) ∙ success)
+
+pub carried : {A : Type 0} (old : State) (size : ℕ) (told : MapReply) (bytes : Vec ℕ A) (new : State) (entries : List Descriptor) → AllByRecursion IsRecordEntry (memory_map old.parts.book.memory) → Step old (call.GetMemoryMap size) (reply.GetMemoryMap told bytes) new → told.status ≡ Success → CarriesEntries (reply.GetMemoryMap told bytes) entries → entries ≡ memory_map old.parts.book.memory
+carried old size told bytes new entries fit step success holds = held bytes.items entries (memory_map old.parts.book.memory) fit (told_bytes old size told bytes new step success) holds
