@@ -1,4 +1,5 @@
 //! Runs and checks over streams.
+mod openings;
 mod reads;
 mod sizes;
 mod statuses;
