@@ -17,7 +17,7 @@ use Rattle.placement_certificate.specs.Acceptance.{IsAccepted}
 use Rattle.certificate_blocks.specs.declared.faults.BlockFault.{BlockFault}
 use Rattle.certificate_blocks.specs.declared.faults.BlockFault.TheVariants as fault
 use Rattle.certificate_blocks.specs.BlockText.{entry_words, bound_words, request_words, bound_lines, answer_lines, block_lines, block_text}
-use Rattle.certificate_blocks.specs.Blocks.{most_block_lines, block_of}
+use Rattle.certificate_blocks.specs.Blocks.{most_block_lines, block_said}
 use Rattle.certificate_blocks.specs.BlockChecks.{Judges, IsVerdict}
 use Rattle.certificate_blocks.specs.BlockLaws.{HasEntryNumbers, HasRequestNumbers, HasLeastNumbers, HasBoundNumbers, HasBlockNumbers, IsAcceptedBlock, SaysAccepted}
 use Rattle.certificate_blocks.proofs.BlockParts.{Parts}
@@ -97,7 +97,7 @@ module _ (entries : List Descriptor) (r : Request) (c : CertificateValue) (is : 
         length-map c.bounds bound_words,
       )
 
-  reads_back : block_of (block_text entries r c) ≡ Ok (entries, r, c)
+  reads_back : block_said (block_text entries r c) ≡ Ok (entries, r, c)
   reads_back = read_back entries r c numbers few_lines
 
   same_verdict : (accepted : Bool) → IsVerdict (block_text entries r c) accepted → IsTrue accepted

@@ -9,8 +9,8 @@ use Rattle.placement_certificate.specs.declared.certificates.Bound.{Bound}
 use Rattle.placement_certificate.specs.Certificates.{CertificateValue}
 use Rattle.text_lines.specs.Printed.{hexadecimal}
 use Rattle.certificate_blocks.specs.BlockText.{entry_words, bound_words, request_words, bound_lines, answer_lines, block_lines, block_text}
-use Rattle.certificate_blocks.specs.BlockLines.{type_of, number_after, name_alone, entry_of_words, request_of, bound_of}
-use Rattle.certificate_blocks.specs.Blocks.{LinesLeft, Reading, ◌>>=◌, and_then, value_read, line, times, most_block_lines, block, block_of}
+use Rattle.certificate_blocks.specs.BlockLines.{type_of_word, number_after, name_alone, entry_of_words, request_of, bound_of}
+use Rattle.certificate_blocks.specs.Blocks.{LinesLeft, Reading, ◌>>=◌, and_then, value_read, line, times, most_block_lines, block, block_said}
 use Rattle.text_lines.specs.Lines.{lines_of}
 use Rattle.certificate_blocks.specs.BlockLaws.{HasEntryNumbers, HasRequestNumbers, HasLeastNumbers, HasBoundNumbers, HasBlockNumbers}
 use Rattle.certificate_blocks.proofs.BlockParts.{Parts, after_head, after_entry_count, after_entries, after_request, after_bound_count, after_bounds, after_answer, after_foot}
@@ -28,7 +28,7 @@ hexadecimal_word n h = record { plain = hexadecimal_plain n; some = omega arith;
 wide : (n : ℕ) → n < 2 ^ 32 → n < 2 ^ 64
 wide n h = let more : 2 ^ 32 ≤ 2 ^ 64 = lit≤ tt in omega arith
 
-type_read : (n : ℕ) → n < 2 ^ 32 → type_of (decimal n) ≡ Some n
+type_read : (n : ℕ) → n < 2 ^ 32 → type_of_word (decimal n) ≡ Some n
 type_read n h = rw (decimal_read n (wide n h), lt-ltb n (2 ^ 32) h) refl
 
 abbrev all_plain : List ℕ → Bool
@@ -192,8 +192,8 @@ module _ (entries : List Descriptor) (r : Request) (c : CertificateValue) (h : H
       ∙ step (line (name_alone (codes "end"))) (after_foot entries r c.bounds c.answer) (at (n5 + 1) (joined (codes "end" ∷ []) ∷ [])) (at (n5 + 1 + 1) []) tt
       (line_read (name_alone (codes "end")) (codes "end" ∷ []) tt (n5 + 1) [] foot_fits.0 foot_fits.1 (omega (arith, total)))
 
-  whole : block_of (block_text entries r c) ≡ Ok (entries, r, c)
+  whole : block_said (block_text entries r c) ≡ Ok (entries, r, c)
   whole = ap (λ (ls : List (List ℕ)). value_read (block (at 1 ls))) lines ∙ ap value_read parts_read
 
-pub read_back : (entries : List Descriptor) (r : Request) (c : CertificateValue) → HasBlockNumbers entries r c → length (block_lines entries r c) ≤ most_block_lines → block_of (block_text entries r c) ≡ Ok (entries, r, c)
+pub read_back : (entries : List Descriptor) (r : Request) (c : CertificateValue) → HasBlockNumbers entries r c → length (block_lines entries r c) ≤ most_block_lines → block_said (block_text entries r c) ≡ Ok (entries, r, c)
 read_back entries r c h few = whole entries r c h few

@@ -8,7 +8,7 @@ use Rattle.placement_certificate.specs.Acceptance.{IsAccepted}
 use Rattle.certificate_blocks.specs.declared.faults.BlockFault.{BlockFault}
 use Rattle.certificate_blocks.specs.declared.faults.BlockFault.TheVariants as fault
 use Rattle.text_lines.specs.Printed.{line_feed}
-use Rattle.certificate_blocks.specs.Blocks.{block_of}
+use Rattle.certificate_blocks.specs.Blocks.{block_said}
 
 -- the line that is written
 abbrev pub verdict_text : Bool → List ℕ
@@ -19,7 +19,7 @@ pub record IsVerdict (bytes : List ℕ) (accepted : Bool) : Type 0 where
   pub map : List Descriptor
   pub request : Request
   pub certificate : CertificateValue
-  pub block : block_of bytes ≡ Ok (map, request, certificate)
+  pub block : block_said bytes ≡ Ok (map, request, certificate)
   pub accepts : IsTrue accepted ↔ IsAccepted map request certificate
 
 -- What is written, whatever is read: one of the two lines; on a fault nothing, but for a write that fails: then a front of one.
@@ -33,7 +33,7 @@ Writes before after (Err e) = Keeps before after
 -- Memory may run out at any time.
 abbrev pub Judges : Bool → List ℕ → Option (List ℕ) → Option (List ℕ) → Result Bool BlockFault → Type 0
 Judges can_fail bytes before after (Ok accepted) = IsVerdict bytes accepted
-Judges can_fail bytes before after (Err (fault.Line number)) = block_of bytes ≡ Err number
+Judges can_fail bytes before after (Err (fault.Line number)) = block_said bytes ≡ Err number
 Judges can_fail bytes before after (Err fault.Write) = (accepted : Bool) × IsVerdict bytes accepted × ((taken : ℕ) × Appends before after (take taken (verdict_text accepted)))
 Judges can_fail bytes before after (Err fault.Read) = IsTrue can_fail
 Judges can_fail bytes before after (Err fault.OutOfMemory) = Unit {0}

@@ -13,8 +13,8 @@ None >>= f = None
 (Some x) >>= f = f x
 
 -- the number that a word writes, below 2^32
-abbrev pub type_of : List ℕ → Option ℕ
-type_of word = do
+abbrev pub type_of_word : List ℕ → Option ℕ
+type_of_word word = do
   n ← number_of word
   if nat_lt n (2 ^ 32) then Some n else None
 
@@ -37,7 +37,7 @@ number_after name words = None
 -- `TYPE FIRST PAGES ATTRIBUTES`, an entry of the map
 abbrev pub entry_of_words : List (List ℕ) → Option Descriptor
 entry_of_words (mtype ∷ first ∷ pages ∷ attributes ∷ []) = do
-  t ← type_of mtype
+  t ← type_of_word mtype
   f ← number_of first
   p ← number_of pages
   a ← number_of attributes
@@ -48,7 +48,7 @@ entry_of_words words = None
 abbrev pub request_of : List (List ℕ) → Option Request
 request_of (word ∷ mtype ∷ pages ∷ limit ∷ []) = do
   same ← named (codes "request") word
-  t ← type_of mtype
+  t ← type_of_word mtype
   p ← number_of pages
   l ← number_of limit
   Some (record { mtype = t; pages = p; limit = l })

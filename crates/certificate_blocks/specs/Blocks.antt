@@ -25,9 +25,9 @@ abbrev pub value : {A : Type 0} → A → Reading A
 value x = λ left. Ok (x, left)
 
 -- a value that is there, or else a fault at a line
-abbrev pub or_fault : {A : Type 0} → ℕ → Option A → Reading A
-or_fault number None = λ left. Err number
-or_fault number (Some x) = value x
+abbrev pub value_or_fault : {A : Type 0} → ℕ → Option A → Reading A
+value_or_fault number None = λ left. Err number
+value_or_fault number (Some x) = value x
 
 abbrev pub and_then : {A B : Type 0} → (A → Reading B) → Result (A × LinesLeft) ℕ → Result (B × LinesLeft) ℕ
 and_then next (Err number) = Err number
@@ -68,7 +68,7 @@ said meaning line = meaning (words_of (strip_last 13 line))
 abbrev pub line : {A : Type 0} → (List (List ℕ) → Option A) → Reading A
 line meaning = do
   next ← next_line
-  or_fault next.0 (said meaning next.1)
+  value_or_fault next.0 (said meaning next.1)
 
 abbrev pub end_from : ℕ → List (List ℕ) → Result (Unit {0} × LinesLeft) ℕ
 end_from number [] = Ok (tt, record { number = number; lines = [] })
@@ -99,5 +99,5 @@ value_read (Ok (x, left)) = Ok x
 value_read (Err number) = Err number
 
 -- the map, the request and the certificate that bytes say, or the number of the first line that is not as stated
-abbrev pub block_of : List ℕ → Result (List Descriptor × Request × CertificateValue) ℕ
-block_of bytes = value_read (block (record { number = 1; lines = lines_of bytes }))
+abbrev pub block_said : List ℕ → Result (List Descriptor × Request × CertificateValue) ℕ
+block_said bytes = value_read (block (record { number = 1; lines = lines_of bytes }))

@@ -1,6 +1,6 @@
 //! The lines of certificate blocks, by their words.
 ghost use Rattle.std.specs.Prelude.{◌≡◌, [], ◌∷◌, map};
-ghost use Rattle.certificate_blocks.specs.BlockLines.{type_of, named, name_alone, number_after, entry_of_words, request_of, bound_of};
+ghost use Rattle.certificate_blocks.specs.BlockLines.{type_of_word, named, name_alone, number_after, entry_of_words, request_of, bound_of};
 
 use page_ranges::{Descriptor, MemoryType};
 use placement_certificate::{Bound, Request};
@@ -51,7 +51,7 @@ fn entry_with(mtype: &[u8], first: &[u8], pages: &[u8], attributes: &[u8]) -> Op
     ensures { result ≡ entry_of_words (mtype.now ∷ first.now ∷ pages.now ∷ attributes.now ∷ []) }
 {
     Some(Descriptor {
-        mtype: type_of(mtype)?,
+        mtype: type_of_word(mtype)?,
         first: number_of(first)?,
         pages: number_of(pages)?,
         attributes: number_of(attributes)?,
@@ -74,7 +74,7 @@ fn request_with(word: &[u8], mtype: &[u8], pages: &[u8], limit: &[u8]) -> Option
 {
     named(b"request", word)?;
     Some(Request {
-        mtype: type_of(mtype)?,
+        mtype: type_of_word(mtype)?,
         pages: number_of(pages)?,
         limit: number_of(limit)?,
     })
@@ -117,8 +117,8 @@ fn empty_bound(first: &[u8], pages: &[u8], word: &[u8]) -> Option<Bound>
 }
 
 /// A memory type, a number of 32 bits.
-fn type_of(word: &[u8]) -> Option<MemoryType>
-    ensures { result ≡ type_of word.now }
+fn type_of_word(word: &[u8]) -> Option<MemoryType>
+    ensures { result ≡ type_of_word word.now }
 {
     let number = number_of(word)?;
     Some(MemoryType::new(u32::try_from(number).ok()?))

@@ -4,7 +4,7 @@ ghost use Rattle.std.specs.Io.BufRead.{strip_last};
 ghost use Rattle.text_lines.specs.Lines.{lines_of};
 ghost use Rattle.text_lines.specs.Words.{words_of};
 ghost use Rattle.certificate_blocks.specs.BlockLines.{name_alone, number_after, entry_of_words, request_of, bound_of};
-ghost use Rattle.certificate_blocks.specs.Blocks.{next_line, line, times, no_line, block, block_of};
+ghost use Rattle.certificate_blocks.specs.Blocks.{next_line, line, times, no_line, block, block_said};
 ghost use Rattle.certificate_blocks.specs.BlockReads.{lines_left, IsReadFault, Reads};
 
 use crate::faults::BlockFault;
@@ -172,7 +172,7 @@ pub fn read_block<A: Allocator + Copy, S: ByteSource + Drop>(
     source: S,
 ) -> Result<Block<A>, BlockFault>
     ensures { IfSome (S.left source) (λ bytes. MatchResult result
-        (λ b. block_of bytes ≡ Ok (b.map.items, b.request, b.certificate))
+        (λ b. block_said bytes ≡ Ok (b.map.items, b.request, b.certificate))
         (IsReadFault S.can_fail (block (record { number = 1; lines = lines_of bytes })))) }
 {
     let mut lines = BlockReader {

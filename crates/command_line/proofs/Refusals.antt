@@ -8,7 +8,7 @@ use Rattle.clap.specs.Faults.{fault_of as clap_fault}
 use Rattle.clap.specs.declared.error.Error.{Error}
 use Rattle.clap.specs.declared.error.kind.ErrorKind.TheVariants as kind
 use Rattle.clap.proofs.WalkLemmas.{first_value-rows, one_text-rows}
-use Rattle.command_line.specs.Words.{HasReason, IsCommandOf, IsFound, IsNamed, IsNone, program_words}
+use Rattle.command_line.specs.Words.{HasReason, IsCommandOf, IsFoundCommand, IsNamed, IsNone, program_words}
 use Rattle.command_line.specs.declared.commands.Command.{Command}
 use Rattle.command_line.specs.declared.commands.Command.TheVariants as command
 use Rattle.command_line.specs.declared.commands.CommandFault.{CommandFault}
@@ -60,13 +60,13 @@ no_text f id o h none = sym (first_value-rows f id) ∙ sym h ∙ ap (option_map
 
 module _ (words : List Text) where
   -- what was found in words without a fault is their command
-  pub command_found : (found : Option (Text × List Row)) (r : Result Command CommandFault) → found ≡ subcommand_of program_words words → clap_fault program_words words ≡ [] → IfOk r (IsFound found) → IfOk r (IsCommandOf words)
-  command_found found (Ok command) same taken h = (taken, subst (λ (f : Option (Text × List Row)). IsFound f command) same h)
+  pub command_found : (found : Option (Text × List Row)) (r : Result Command CommandFault) → found ≡ subcommand_of program_words words → clap_fault program_words words ≡ [] → IfOk r (IsFoundCommand found) → IfOk r (IsCommandOf words)
+  command_found found (Ok command) same taken h = (taken, subst (λ (f : Option (Text × List Row)). IsFoundCommand f command) same h)
   command_found found (Err e) same taken h = tt
 
   -- where nothing is found there is no command
-  pub nothing_found : (found : Option (Text × List Row)) → found ≡ subcommand_of program_words words → IsNone (IsFound found) → IsNone (IsCommandOf words)
-  nothing_found found same none command is = none command (subst (λ (f : Option (Text × List Row)). IsFound f command) (sym same) is.1)
+  pub nothing_found : (found : Option (Text × List Row)) → found ≡ subcommand_of program_words words → IsNone (IsFoundCommand found) → IsNone (IsCommandOf words)
+  nothing_found found same none command is = none command (subst (λ (f : Option (Text × List Row)). IsFoundCommand f command) (sym same) is.1)
 
   -- words that `clap` finds a fault with are no command
   pub fault_found : (kinds : Kinds) (error : Error) → kinds ≡ clap_fault program_words words → HasKind kinds error → kind_of error ≢ kind.OutOfMemory → IsNone (IsCommandOf words)

@@ -43,12 +43,12 @@ IsNamed name options (command.Run machine trace certify) = (name ≡ codes "run"
 IsNamed name options command.Check = name ≡ codes "check"
 
 -- the command is the subcommand that was found, if one was, with its options' values
-abbrev pub IsFound : Option (Text × List Row) → Command → Type 0
-IsFound found command = (name : Text) × (options : List Row) × (found ≡ Some (name, options)) × IsNamed name options command
+abbrev pub IsFoundCommand : Option (Text × List Row) → Command → Type 0
+IsFoundCommand found command = (name : Text) × (options : List Row) × (found ≡ Some (name, options)) × IsNamed name options command
 
 -- `clap` finds no fault with the words, and the command is what it states of them
 abbrev pub IsCommandOf : List Text → Command → Type 0
-IsCommandOf words command = (clap_fault program_words words ≡ []) × IsFound (subcommand_of program_words words) command
+IsCommandOf words command = (clap_fault program_words words ≡ []) × IsFoundCommand (subcommand_of program_words words) command
 
 -- no command is such
 abbrev pub IsNone : (Command → Type 0) → Type 0

@@ -2,7 +2,7 @@
 ghost use Rattle.std.specs.Prelude.{◌≡◌, ◌≢◌, false, IfErr, IfOk, codes, map, string_bytes};
 ghost use Rattle.clap.specs.Words.{app_of, found_of, kind_of, rows_of, rule_of, subcommand_rows_of};
 ghost use Rattle.clap.specs.declared.builder.command.Command.TheViews.{out-Command as fields_of};
-ghost use Rattle.command_line.specs.Words.{file_option, flag, machine_words, file_words, run_words, program_words, HasReason, IsNamed, IsNone, IsFound, IsCommandOf, IsRefusedBy};
+ghost use Rattle.command_line.specs.Words.{file_option, flag, machine_words, file_words, run_words, program_words, HasReason, IsNamed, IsNone, IsFoundCommand, IsCommandOf, IsRefusedBy};
 
 use clap::error::ErrorKind;
 use clap::{Arg, ArgAction, ArgMatches};
@@ -57,11 +57,11 @@ pub fn command_of<'a>(alloc: Global, words: &'a [&'a str]) -> Result<Command<'a>
 
 /// The command that was found in the words.
 fn command_in<'a>(alloc: Global, matches: &ArgMatches<'a>) -> Result<Command<'a>, CommandFault>
-    ensures ok { IfOk result (IsFound (subcommand_rows_of matches.now)) }
-    ensures err { IfErr result (HasReason (IsNone (IsFound (subcommand_rows_of matches.now)))) }
+    ensures ok { IfOk result (IsFoundCommand (subcommand_rows_of matches.now)) }
+    ensures err { IfErr result (HasReason (IsNone (IsFoundCommand (subcommand_rows_of matches.now)))) }
 {
     if let Some(options) = matches.subcommand_matches("run") {
-        return run_of(alloc, options);
+        return run_in(alloc, options);
     }
     match matches.subcommand_matches("check") {
         Some(_) => Ok(Command::Check),
@@ -70,7 +70,7 @@ fn command_in<'a>(alloc: Global, matches: &ArgMatches<'a>) -> Result<Command<'a>
 }
 
 /// A trace's run, by its options.
-fn run_of<'a>(alloc: Global, options: &ArgMatches<'a>) -> Result<Command<'a>, CommandFault>
+fn run_in<'a>(alloc: Global, options: &ArgMatches<'a>) -> Result<Command<'a>, CommandFault>
     ensures ok { IfOk result (IsNamed (codes "run") (rows_of (found_of options.now))) }
     ensures err { IfErr result (HasReason (IsNone (IsNamed (codes "run") (rows_of (found_of options.now))))) }
 {

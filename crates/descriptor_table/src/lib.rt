@@ -7,8 +7,6 @@ mod entries;
 mod retyping;
 mod searches;
 mod table;
-#[cfg(test)]
-mod tests;
 
 pub use cursors::RunCursor;
 pub use entries::MapEntries;

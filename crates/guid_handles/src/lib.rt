@@ -6,8 +6,6 @@ mod interfaces;
 mod records;
 mod room;
 mod searches;
-#[cfg(test)]
-mod tests;
 
 pub use handles::{Handles, MAX_HANDLES, MAX_INSTALLED};
 pub use records::{Interface, LiveHandle};

@@ -8,23 +8,17 @@ use Rattle.page_ranges.specs.declared.ranges.Owner.TheVariants.{Given}
 use Rattle.page_ranges.specs.declared.ranges.Run.{Run}
 use Rattle.page_ranges.specs.MemoryTypes.{page_count, conventional, has_runtime, is_machine_type}
 use Rattle.page_ranges.proofs.Members.{all_implied}
+use Rattle.text_lines.specs.FirstFault.{◌>>=◌, or_fault}
 use Rattle.text_lines.specs.Numbers.{value_of_digits, within_64_bits, hexadecimal_of}
+use Rattle.text_lines.proofs.FirstFaults.{bind_ok, found, chosen_right}
 use Rattle.boot_core.specs.MachineRuns.{HasRecordNumbers, IsMachineRun}
 use Rattle.machine_files.specs.declared.faults.MachineFault.TheVariants as fault
 use Rattle.machine_files.specs.declared.faults.MemberField.{MemberField}
 use Rattle.machine_files.specs.declared.faults.MemberField.TheVariants as field
 use Rattle.machine_files.specs.FaultText.{field_name}
-use Rattle.machine_files.specs.MachineText.{◌>>=◌, or_fault, if_passes, number_at, hexadecimal_at, type_of, first_page_of, page_count_of, attributes_of, run_of, or_descriptor, runs_from, root_runs, file_runs, json_of, most_descriptors, longest_file, item_count}
+use Rattle.machine_files.specs.MachineText.{if_passes, number_at, hexadecimal_at, member_type, first_page_of, page_count_of, attributes_of, member_run, or_descriptor, runs_from, root_runs, file_runs, json_of, most_descriptors, longest_file, item_count}
 
 -- ---- steps that went well
-
-pub bind_ok : {A B E : Type 0} (r : Result A E) (f : A → Result B E) (y : B) → (r >>= f) ≡ Ok y → (x : A) × (r ≡ Ok x) × (f x ≡ Ok y)
-bind_ok (Ok x) f y e = (x, refl, e)
-bind_ok (Err g) f y e = absurd (cc)
-
-pub found : {A E : Type 0} (g : E) (o : Option A) (x : A) → or_fault g o ≡ Ok x → o ≡ Some x
-found g None x e = absurd (cc)
-found g (Some y) x e = cc
 
 passed : (test : ℕ → Bool) (o : Option ℕ) (n : ℕ) → option_and_then (if_passes test) o ≡ Some n → test n ≡ true
 passed test None n e = absurd (cc)
@@ -42,10 +36,6 @@ passed_from test (Some m) n e = passes (test m) e
     passes : (b : Bool) → cond b (Some m) None ≡ Some n → Some m ≡ Some n
     passes true k = k
     passes false k = absurd (cc)
-
-pub chosen_right : {A E : Type 0} (b : Bool) (g : E) (r : Result A E) (y : A) → cond b (Err g) r ≡ Ok y → r ≡ Ok y
-chosen_right true g r y e = absurd (cc)
-chosen_right false g r y e = e
 
 -- ---- a member
 
@@ -84,7 +74,7 @@ hexadecimal_fits : (o : Option (List ℕ)) (n : ℕ) → option_and_then hexadec
 hexadecimal_fits None n e = absurd (cc)
 hexadecimal_fits (Some word) n e = hexadecimal_below _ (value_of_digits 16 (drop 2 word)) n e
 
-type_fits : (d : Data) (t : ℕ) → type_of d ≡ Some t → t < 2 ^ 32
+type_fits : (d : Data) (t : ℕ) → member_type d ≡ Some t → t < 2 ^ 32
 type_fits d t e = ltb-true t (2 ^ 32) (both (nat_lt t (2 ^ 32)) (is_machine_type t) (passed (λ t. nat_lt t (2 ^ 32) && is_machine_type t) (number_at (field_name field.Type) d) t e)).0
 
 attributes_fit : (d : Data) (t attributes : ℕ) → attributes_of t d ≡ Some attributes → attributes < 2 ^ 64
@@ -92,7 +82,7 @@ attributes_fit d t attributes e =
     hexadecimal_fits (option_and_then as_str (get (field_name field.Attributes) d)) attributes
     (passed_from (λ attributes. not ((t == conventional) && has_runtime attributes)) (hexadecimal_at (field_name field.Attributes) d) attributes e)
 
-type_found : (d : Data) (t : ℕ) → type_of d ≡ Some t → is_machine_type t ≡ true
+type_found : (d : Data) (t : ℕ) → member_type d ≡ Some t → is_machine_type t ≡ true
 type_found d t e = (both (nat_lt t (2 ^ 32)) (is_machine_type t) (passed (λ t. nat_lt t (2 ^ 32) && is_machine_type t) (number_at (field_name field.Type) d) t e)).1
 
 count_found : (d : Data) (first pages : ℕ) → page_count_of first d ≡ Some pages → (0 < pages) × (first + pages ≤ page_count)
@@ -108,24 +98,24 @@ attributes_found d t attributes e h =
 abbrev pub IsListed : Run → Type 0
 IsListed r = IsMachineRun r × HasRecordNumbers r
 
-listed_made : (d : Data) (t first pages attributes : ℕ) → type_of d ≡ Some t → page_count_of first d ≡ Some pages → attributes_of t d ≡ Some attributes → IsListed (made t first pages attributes)
+listed_made : (d : Data) (t first pages attributes : ℕ) → member_type d ≡ Some t → page_count_of first d ≡ Some pages → attributes_of t d ≡ Some attributes → IsListed (made t first pages attributes)
 listed_made d t first pages attributes te pe ae =
     let count = count_found d first pages pe in
     (record { some = count.0; within = count.1; given = refl; mtype = type_found d t te; no_runtime = attributes_found d t attributes ae }, record { mtype = type_fits d t te; attributes = attributes_fit d t attributes ae })
 
-last_step : (d : Data) (t first pages : ℕ) (r : Run) → type_of d ≡ Some t → page_count_of first d ≡ Some pages → from_pages d t first pages ≡ Ok r → IsListed r
+last_step : (d : Data) (t first pages : ℕ) (r : Run) → member_type d ≡ Some t → page_count_of first d ≡ Some pages → from_pages d t first pages ≡ Ok r → IsListed r
 last_step d t first pages r te pe e =
     let (attributes, ae, e1) = bind_ok (or_fault field.Attributes (attributes_of t d)) (λ attributes. Ok (made t first pages attributes)) r e in
     let same : made t first pages attributes ≡ r = cc in
     subst IsListed same (listed_made d t first pages attributes te pe (found field.Attributes (attributes_of t d) attributes ae))
 
-pub listed_run : (d : Data) (r : Run) → run_of d ≡ Ok r → IsListed r
-unfolding run_of
+pub listed_run : (d : Data) (r : Run) → member_run d ≡ Ok r → IsListed r
+unfolding member_run
 listed_run d r e =
-    let (t, te, e1) = bind_ok (or_fault field.Type (type_of d)) (from_type d) r e in
+    let (t, te, e1) = bind_ok (or_fault field.Type (member_type d)) (from_type d) r e in
     let (first, fe, e2) = bind_ok (or_fault field.Start (first_page_of d)) (from_first d t) r e1 in
     let (pages, pe, e3) = bind_ok (or_fault field.Pages (page_count_of first d)) (from_pages d t first) r e2 in
-    last_step d t first pages r (found field.Type (type_of d) t te) (found field.Pages (page_count_of first d) pages pe) e3
+    last_step d t first pages r (found field.Type (member_type d) t te) (found field.Pages (page_count_of first d) pages pe) e3
 
 of_member : (n : ℕ) (result : Result Run MemberField) (r : Run) → or_descriptor n result ≡ Ok r → result ≡ Ok r
 of_member n (Ok run) r e = let same : run ≡ r = cc in ap Ok same
@@ -134,10 +124,10 @@ of_member n (Err f) r e = absurd (cc)
 pub listed_runs : (ds : Items) (n : ℕ) (runs : List Run) → runs_from n ds ≡ Ok runs → AllByRecursion IsListed runs
 listed_runs no_items n runs e = let same : [] ≡ runs = cc in subst (AllByRecursion IsListed) same tt
 listed_runs (item d ds) n runs e =
-    let (run, re, e1) = bind_ok (or_descriptor n (run_of d)) (λ run. runs_from (n + 1) ds >>= λ more. Ok (run ∷ more)) runs e in
+    let (run, re, e1) = bind_ok (or_descriptor n (member_run d)) (λ run. runs_from (n + 1) ds >>= λ more. Ok (run ∷ more)) runs e in
     let (more, me, e2) = bind_ok (runs_from (n + 1) ds) (λ more. Ok (run ∷ more)) runs e1 in
     let same : run ∷ more ≡ runs = cc in
-    subst (AllByRecursion IsListed) same (listed_run d run (of_member n (run_of d) run re), listed_runs ds (n + 1) more me)
+    subst (AllByRecursion IsListed) same (listed_run d run (of_member n (member_run d) run re), listed_runs ds (n + 1) more me)
 
 pub listed_in_file : (bytes : List ℕ) (runs : List Run) → file_runs bytes ≡ Ok runs → AllByRecursion IsListed runs
 unfolding file_runs

@@ -10,8 +10,9 @@ use Rattle.boot_core.specs.MachineRuns.{HasRecordNumbers, IsMachineRun}
 use Rattle.boot_core.proofs.MachineRunLists.{valid_machine}
 use Rattle.machine_files.specs.declared.faults.MachineFault.{MachineFault}
 use Rattle.machine_files.specs.declared.faults.MachineFault.TheVariants.{Overlap}
+use Rattle.text_lines.proofs.FirstFaults.{bind_ok}
 use Rattle.machine_files.specs.MachineText.{overlap, in_order, file_runs, machine_of, most_descriptors}
-use Rattle.machine_files.proofs.FileRuns.{IsListed, bind_ok, listed_in_file, few_in_file}
+use Rattle.machine_files.proofs.FileRuns.{IsListed, listed_in_file, few_in_file}
 use Rattle.machine_files.proofs.InOrder.{AreRising, in_order-permutes, in_order-rising, one_order, overlap-permuted, overlap-in_order, apart_in_order}
 
 all_from_members : (P : Run → Type 0) (rs : List Run) → ((x : Run) → Contains rs x → P x) → AllByRecursion P rs

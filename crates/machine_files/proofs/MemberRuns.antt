@@ -11,7 +11,8 @@ use Rattle.page_ranges.specs.declared.ranges.Run.{Run}
 use Rattle.machine_files.specs.declared.faults.MachineFault.{MachineFault}
 use Rattle.machine_files.specs.declared.faults.MachineFault.TheVariants as fault
 use Rattle.machine_files.specs.declared.faults.MemberField.{MemberField}
-use Rattle.machine_files.specs.MachineText.{◌>>=◌, or_descriptor, run_of, runs_from, item_count, json_of}
+use Rattle.text_lines.specs.FirstFault.{◌>>=◌}
+use Rattle.machine_files.specs.MachineText.{or_descriptor, member_run, runs_from, item_count, json_of}
 
 -- the runs so far, and then those that are read
 abbrev pub with_front : List Run → Result (List Run) MachineFault → Result (List Run) MachineFault
@@ -27,13 +28,13 @@ with_front-more front run (Ok runs) = ap Ok (sym (append_assoc front (run ∷ []
 with_front-more front run (Err e) = refl
 
 module _ (members : List Value) (i : ℕ) (v : Value) (inside : i < length members) (here : v ≡ get_or members i v) where
-  opened : runs_from i (items_view (drop i members)) ≡ (or_descriptor i (run_of (view v)) >>= λ run. runs_from (i + 1) (items_view (drop (i + 1) members)) >>= λ runs. Ok (run ∷ runs))
+  opened : runs_from i (items_view (drop i members)) ≡ (or_descriptor i (member_run (view v)) >>= λ run. runs_from (i + 1) (items_view (drop (i + 1) members)) >>= λ runs. Ok (run ∷ runs))
   opened = let a = drop-cons members i v inside in rw a (rw (← here, add-one) refl)
 
-  pub member-read : (front : List Run) (run : Run) → run_of (view v) ≡ Ok run → with_front front (runs_from i (items_view (drop i members))) ≡ with_front (front ++ run ∷ []) (runs_from (i + 1) (items_view (drop (i + 1) members)))
+  pub member-read : (front : List Run) (run : Run) → member_run (view v) ≡ Ok run → with_front front (runs_from i (items_view (drop i members))) ≡ with_front (front ++ run ∷ []) (runs_from (i + 1) (items_view (drop (i + 1) members)))
   member-read front run e = ap (with_front front) (opened ∙ rw e refl) ∙ with_front-more front run (runs_from (i + 1) (items_view (drop (i + 1) members)))
 
-  pub member-refused : (front : List Run) (f : MemberField) → run_of (view v) ≡ Err f → with_front front (runs_from i (items_view (drop i members))) ≡ Err (fault.Descriptor i f)
+  pub member-refused : (front : List Run) (f : MemberField) → member_run (view v) ≡ Err f → with_front front (runs_from i (items_view (drop i members))) ≡ Err (fault.Descriptor i f)
   member-refused front f e = rw (opened, e) refl
 
 pub count_of_items : (xs : List Value) → item_count (items_view xs) ≡ length xs

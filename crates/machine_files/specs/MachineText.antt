@@ -13,18 +13,8 @@ use Rattle.machine_files.specs.declared.faults.MachineFault.TheVariants as fault
 use Rattle.machine_files.specs.declared.faults.MemberField.{MemberField}
 use Rattle.machine_files.specs.declared.faults.MemberField.TheVariants as field
 use Rattle.machine_files.specs.FaultText.{field_name}
+use Rattle.text_lines.specs.FirstFault.{◌>>=◌, or_fault}
 use Rattle.text_lines.specs.Numbers.{hexadecimal_of}
-
--- the first fault, or the last value
-infixl 10 ◌>>=◌
-abbrev pub ◌>>=◌ : {A B E : Type 0} → Result A E → (A → Result B E) → Result B E
-(Ok x) >>= f = f x
-(Err e) >>= f = Err e
-
--- what there is, or else the fault
-abbrev pub or_fault : {A E : Type 0} → E → Option A → Result A E
-or_fault e None = Err e
-or_fault e (Some x) = Ok x
 
 -- the number, if the test passes
 abbrev pub if_passes : (ℕ → Bool) → ℕ → Option ℕ
@@ -41,8 +31,8 @@ abbrev pub hexadecimal_at : List ℕ → Data → Option ℕ
 hexadecimal_at key d = option_and_then hexadecimal_of (option_and_then as_str (get key d))
 
 -- a type that a machine may have
-abbrev pub type_of : Data → Option ℕ
-type_of d = option_and_then (if_passes (λ t. nat_lt t (2 ^ 32) && is_machine_type t)) (number_at (field_name field.Type) d)
+abbrev pub member_type : Data → Option ℕ
+member_type d = option_and_then (if_passes (λ t. nat_lt t (2 ^ 32) && is_machine_type t)) (number_at (field_name field.Type) d)
 
 -- the page that begins at the start
 abbrev pub first_page_of : Data → Option ℕ
@@ -58,9 +48,9 @@ attributes_of t d = option_and_then (if_passes (λ attributes. not ((t == conven
 
 -- The run of a member, or its first field that is missing, of another kind or out of its range. A member that is no
 -- object lacks each field.
-unfoldable pub run_of : Data → Result Run MemberField
-run_of d = do
-  t ← or_fault field.Type (type_of d)
+unfoldable pub member_run : Data → Result Run MemberField
+member_run d = do
+  t ← or_fault field.Type (member_type d)
   first ← or_fault field.Start (first_page_of d)
   pages ← or_fault field.Pages (page_count_of first d)
   attributes ← or_fault field.Attributes (attributes_of t d)
@@ -77,7 +67,7 @@ or_descriptor n (Err f) = Err (fault.Descriptor n f)
 abbrev pub runs_from : ℕ → Items → Result (List Run) MachineFault
 runs_from n no_items = Ok []
 runs_from n (item d ds) = do
-  run ← or_descriptor n (run_of d)
+  run ← or_descriptor n (member_run d)
   runs ← runs_from (n + 1) ds
   Ok (run ∷ runs)
 

@@ -4,10 +4,11 @@ ghost use Rattle.std.specs.List.{AllByRecursion};
 ghost use Rattle.boot_core.specs.MachineRuns.{IsMachineRun};
 ghost use Rattle.serde_json.specs.Read.{read};
 ghost use Rattle.serde_json.specs.View.{view, items_view};
-ghost use Rattle.machine_files.specs.MachineText.{Gives, or_fault, json_of, runs_from, root_runs, file_runs, overlap, in_order, machine_of};
+ghost use Rattle.text_lines.specs.FirstFault.{or_fault};
+ghost use Rattle.machine_files.specs.MachineText.{Gives, json_of, runs_from, root_runs, file_runs, overlap, in_order, machine_of};
 
 use crate::faults::MachineFault;
-use crate::members::run_of;
+use crate::members::member_run;
 use boot_core::Machine;
 use page_ranges::Run;
 use serde_json::Value;
@@ -98,7 +99,7 @@ fn runs_of(alloc: Global, members: &[Value]) -> Result<Vec<Run>, MachineFault>
 {
     let mut runs = Vec::new(alloc);
     for (number, member) in members.iter().enumerate() {
-        match run_of(member) {
+        match member_run(member) {
             Ok(run) => runs.push(run)?,
             Err(field) => return Err(MachineFault::Descriptor { number, field }),
         }

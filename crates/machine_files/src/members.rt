@@ -1,7 +1,7 @@
 //! The members of a machine file's memory list.
 ghost use Rattle.std.specs.Prelude.{◌≡◌};
 ghost use Rattle.serde_json.specs.View.{view};
-ghost use Rattle.machine_files.specs.MachineText.{hexadecimal_at, type_of, first_page_of, page_count_of, attributes_of, run_of};
+ghost use Rattle.machine_files.specs.MachineText.{hexadecimal_at, member_type, first_page_of, page_count_of, attributes_of, member_run};
 
 use crate::faults::MemberField;
 use page_ranges::{MemoryType, Owner, PAGE_COUNT, PAGE_SIZE, PageRange, Run, has_runtime};
@@ -10,11 +10,11 @@ use text_lines::hexadecimal_of;
 
 /// The run of a member, or its first field that is missing, of another kind or out of its range. A
 /// member that is no object lacks them all.
-#[tactic(auto, unfolding(crate::specs::MachineText::run_of))]
-pub fn run_of(member: &Value) -> Result<Run, MemberField>
-    ensures { result ≡ run_of (view member.now) }
+#[tactic(auto, unfolding(crate::specs::MachineText::member_run))]
+pub fn member_run(member: &Value) -> Result<Run, MemberField>
+    ensures { result ≡ member_run (view member.now) }
 {
-    let mtype = type_of(member).ok_or(MemberField::Type)?;
+    let mtype = member_type(member).ok_or(MemberField::Type)?;
     let first = first_page_of(member).ok_or(MemberField::Start)?;
     let pages = page_count_of(member, first).ok_or(MemberField::Pages)?;
     let attributes = attributes_of(member, mtype).ok_or(MemberField::Attributes)?;
@@ -27,8 +27,8 @@ pub fn run_of(member: &Value) -> Result<Run, MemberField>
 }
 
 /// A type that a machine may have.
-fn type_of(member: &Value) -> Option<MemoryType>
-    ensures { result ≡ type_of (view member.now) }
+fn member_type(member: &Value) -> Option<MemoryType>
+    ensures { result ≡ member_type (view member.now) }
 {
     let number = member.get("type").and_then(Value::as_u64)?;
     let mtype = MemoryType::new(u32::try_from(number).ok()?);

@@ -3,8 +3,6 @@
 
 mod memory_maps;
 mod records;
-#[cfg(test)]
-mod tests;
 
 pub use memory_maps::{MapReply, get_memory_map};
 pub use records::{read_back_law, read_descriptors};

@@ -4,8 +4,6 @@
 mod attributes;
 mod items;
 mod opens;
-#[cfg(test)]
-mod tests;
 
 pub use attributes::{
     BY_CHILD_CONTROLLER, BY_DRIVER, BY_HANDLE_PROTOCOL, EXCLUSIVE, GET_PROTOCOL, TEST_PROTOCOL,

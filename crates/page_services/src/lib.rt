@@ -2,7 +2,5 @@
 #![tactic(auto)]
 
 mod page_book;
-#[cfg(test)]
-mod tests;
 
 pub use page_book::{PageBook, Placed, placement_request};

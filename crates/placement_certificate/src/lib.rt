@@ -9,8 +9,6 @@ mod entries;
 mod laws;
 mod search;
 mod starts;
-#[cfg(test)]
-mod tests;
 
 pub use better::{PricedStart, better_of};
 pub use certificates::{Bound, Certificate, Request};

@@ -2,7 +2,5 @@
 #![tactic(auto)]
 
 mod notify;
-#[cfg(test)]
-mod tests;
 
 pub use notify::{Notify, Registration};

@@ -11,12 +11,12 @@ use Rattle.boot_core.specs.declared.calls.Reply.{Reply}
 use Rattle.boot_core.specs.declared.calls.Reply.TheVariants as reply
 use Rattle.trace_verbs.specs.declared.verbs.Verb.{Verb}
 use Rattle.trace_verbs.specs.declared.verbs.Verb.TheVariants as verb
-use Rattle.trace_verbs.specs.Verbs.{name_of}
+use Rattle.trace_verbs.specs.Verbs.{verb_name}
 use Rattle.text_lines.specs.Printed.{hexadecimal, space, line_feed}
 
 -- the start of each reply: the line number and the verb
 abbrev pub reply_start : ℕ → Verb → List ℕ
-reply_start number v = decimal number ++ space ++ name_of v
+reply_start number v = decimal number ++ space ++ verb_name v
 
 -- the line of a reply without fields
 abbrev pub status_line : ℕ → Verb → List ℕ → List ℕ

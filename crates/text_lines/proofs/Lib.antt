@@ -3,3 +3,4 @@ pub mod PrintedNumbers
 pub mod NumberBounds
 pub mod LineBytes
 pub mod Written
+pub mod FirstFaults

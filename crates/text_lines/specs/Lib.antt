@@ -2,3 +2,4 @@ pub mod Words
 pub mod Numbers
 pub mod Lines
 pub mod Printed
+pub mod FirstFault

@@ -6,10 +6,12 @@ use Rattle.std.specs.List.{starts_with}
 use Rattle.boot_core.specs.declared.calls.Call.{Call}
 use Rattle.boot_core.specs.declared.calls.Call.TheVariants as call
 use Rattle.boot_core.specs.Laws.{NamesTypes}
+use Rattle.text_lines.specs.FirstFault.{◌>>=◌, or_fault}
 use Rattle.text_lines.specs.Numbers.{number_of}
 use Rattle.text_lines.proofs.NumberBounds.{number_fits}
 use Rattle.text_lines.specs.Lines.{longest_line}
 use Rattle.text_lines.specs.Words.{words_of}
+use Rattle.text_lines.proofs.FirstFaults.{bind_ok, found}
 use Rattle.trace_verbs.specs.declared.verbs.Verb.{Verb}
 use Rattle.trace_verbs.specs.declared.verbs.Verb.TheVariants as verb
 use Rattle.trace_verbs.specs.Verbs.{verb_named}
@@ -18,11 +20,7 @@ use Rattle.trace_lines.specs.declared.faults.TraceFault.TheVariants as fault
 use Rattle.trace_lines.specs.declared.lines.TraceCall.{TraceCall}
 use Rattle.trace_lines.specs.declared.lines.TraceCall.TheVariants as trace_call
 use Rattle.trace_lines.specs.Laws.{HasCallNumbers}
-use Rattle.trace_lines.specs.TraceLine.{◌>>=◌, or_fault, largest_buffer, u64_of, u32_of, buffer_size_of, call_of, call_of_words, line_of}
-
-bind_ok : {A B : Type 0} (r : Result A TraceFault) (f : A → Result B TraceFault) (y : B) → (r >>= f) ≡ Ok y → (x : A) × (r ≡ Ok x) × (f x ≡ Ok y)
-bind_ok (Ok x) f y e = (x, refl, e)
-bind_ok (Err g) f y e = absurd (cc)
+use Rattle.trace_lines.specs.TraceLine.{largest_buffer, u64_of, u32_of, buffer_size_of, call_of, call_of_words, line_of}
 
 abbrev fine : {A : Type 0} → A → Result A TraceFault
 fine x = Ok x
@@ -31,12 +29,8 @@ checked : (b : Bool) (n t : ℕ) → cond b (fine n) (Err fault.Number) ≡ Ok t
 checked true n t e = (refl, cc)
 checked false n t e = absurd (cc)
 
-found : (o : Option ℕ) (n : ℕ) → or_fault fault.Number o ≡ Ok n → o ≡ Some n
-found None n e = absurd (cc)
-found (Some m) n e = cc
-
 u64_below : (word : List ℕ) (n : ℕ) → u64_of word ≡ Ok n → n < 2 ^ 64
-u64_below word n e = number_fits word n (found (number_of word) n e)
+u64_below word n e = number_fits word n (found fault.Number (number_of word) n e)
 
 size_below : (word : List ℕ) (size : ℕ) → buffer_size_of word ≡ Ok size → size < 2 ^ 64
 size_below word size e =

@@ -9,21 +9,11 @@ use Rattle.trace_lines.specs.declared.faults.TraceFault.{TraceFault}
 use Rattle.trace_lines.specs.declared.faults.TraceFault.TheVariants as fault
 use Rattle.trace_verbs.specs.declared.verbs.Verb.{Verb}
 use Rattle.trace_verbs.specs.declared.verbs.Verb.TheVariants as verb
+use Rattle.text_lines.specs.FirstFault.{◌>>=◌, or_fault}
 use Rattle.text_lines.specs.Numbers.{number_of}
 use Rattle.trace_verbs.specs.Verbs.{verb_named}
 use Rattle.text_lines.specs.Lines.{longest_line}
 use Rattle.text_lines.specs.Words.{words_of}
-
--- the first fault, or the last value
-infixl 10 ◌>>=◌
-abbrev pub ◌>>=◌ : {A B : Type 0} → Result A TraceFault → (A → Result B TraceFault) → Result B TraceFault
-(Ok x) >>= f = f x
-(Err e) >>= f = Err e
-
--- what there is, or else the fault
-abbrev pub or_fault : {A : Type 0} → TraceFault → Option A → Result A TraceFault
-or_fault e None = Err e
-or_fault e (Some x) = Ok x
 
 -- ---- parameters
 

@@ -1,7 +1,7 @@
 //! Verbs and how they are written.
 ghost use Rattle.std.specs.Prelude.{◌≡◌, find};
 ghost use Rattle.std.specs.Str.{bytes_eq};
-ghost use Rattle.trace_verbs.specs.Verbs.{name_of, verb_named};
+ghost use Rattle.trace_verbs.specs.Verbs.{verb_name, verb_named};
 
 /// A verb.
 #[derive(Clone, Copy, Debug, PartialEq, Eq)]
@@ -25,7 +25,7 @@ const VERBS: [Verb; 5] = [
 impl Verb {
     /// How the verb is written.
     pub fn name(self) -> &'static str
-        ensures { result.now ≡ name_of self }
+        ensures { result.now ≡ verb_name self }
     {
         match self {
             Verb::Pages => "pages",
@@ -46,7 +46,7 @@ pub fn verb_named(name: &[u8]) -> Option<Verb>
 
 /// The first of the verbs that is written so.
 fn verb_among(verbs: &[Verb], name: &[u8]) -> Option<Verb>
-    ensures { result ≡ find (λ v. bytes_eq (name_of v) name.now) verbs.now }
+    ensures { result ≡ find (λ v. bytes_eq (verb_name v) name.now) verbs.now }
 {
     verbs
         .iter()

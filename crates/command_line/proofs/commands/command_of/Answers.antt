@@ -2,7 +2,7 @@ use Rattle.std.proofs.Common.{◌≡◌, ◌≢◌, ◌∙◌, ap, sym, map, Lis
 use Rattle.clap.specs.Words.{App, Text, is_simple, is_simple_and_free, kind_of, subcommand_of, subcommand_rows_of}
 use Rattle.clap.specs.Faults.{fault_of as clap_fault}
 use Rattle.clap.specs.declared.error.kind.ErrorKind.TheVariants as kind
-use Rattle.command_line.specs.Words.{IsCommandOf, IsFound, IsNone, program_words}
+use Rattle.command_line.specs.Words.{IsCommandOf, IsFoundCommand, IsNone, program_words}
 use Rattle.command_line.proofs.Refusals.{command_found, fault_found, nothing_found, reason_gives, refusal_gives}
 use Rattle.command_line.proofs.commands.command_of.Goals as goal
 
@@ -14,7 +14,7 @@ returns-in-Ok c =
     let taken = c.in-Ok.ensures.kinds (ap is_simple_and_free c.in_ok-program.ensures) in
     record {
       ok = command_found words (subcommand_rows_of c.in-Ok.matches) c.command_in.result found (ap (λ (a : App). clap_fault a words) (sym c.in_ok-program.ensures) ∙ taken) c.command_in.ensures.ok;
-      err = refusal_gives (IsNone (IsFound (subcommand_rows_of c.in-Ok.matches))) (IsNone (IsCommandOf words)) (nothing_found words (subcommand_rows_of c.in-Ok.matches) found) c.command_in.result c.command_in.ensures.err;
+      err = refusal_gives (IsNone (IsFoundCommand (subcommand_rows_of c.in-Ok.matches))) (IsNone (IsCommandOf words)) (nothing_found words (subcommand_rows_of c.in-Ok.matches) found) c.command_in.result c.command_in.ensures.err;
     }
 
 pub returns-in-Err-clause-err : goal.returns-in-Err-clause-err

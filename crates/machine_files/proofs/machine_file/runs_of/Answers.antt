@@ -7,11 +7,11 @@ loop-number-init c = rw c.new-runs.ensures.items (with_front-none _)
 
 pub returns-in-Err : goal.returns-in-Err
 returns-in-Err c =
-    inr (sym c.loop-number.invariant ∙ member-refused c.args.members.now c.loop-number.number c.index-members-number.result c.loop-number-test.true c.index-members-number.is c.loop-number.runs.items c.in-Err.field (sym c.run_of.ensures ∙ c.in-Err.is))
+    inr (sym c.loop-number.invariant ∙ member-refused c.args.members.now c.loop-number.number c.index-members-number.result c.loop-number-test.true c.index-members-number.is c.loop-number.runs.items c.in-Err.field (sym c.member_run.ensures ∙ c.in-Err.is))
 
 pub loop-number-preserved : goal.loop-number-preserved
 loop-number-preserved c =
-    rw c.in_ok-push-in-Ok.ensures.items (sym (member-read c.args.members.now c.loop-number.number c.index-members-number.result c.loop-number-test.true c.index-members-number.is c.loop-number.runs.items c.in-Ok.run' (sym c.run_of.ensures ∙ c.in-Ok.is)) ∙ c.loop-number.invariant)
+    rw c.in_ok-push-in-Ok.ensures.items (sym (member-read c.args.members.now c.loop-number.number c.index-members-number.result c.loop-number-test.true c.index-members-number.is c.loop-number.runs.items c.in-Ok.run' (sym c.member_run.ensures ∙ c.in-Ok.is)) ∙ c.loop-number.invariant)
 
 pub returns : goal.returns
 returns c = sym c.loop-number.invariant ∙ all-read c.args.members.now c.loop-number.number c.loop-number.runs.items c.loop-number-test.false

@@ -1,18 +1,18 @@
 use Rattle.std.proofs.Common.{ap, sym}
-use Rattle.trace_verbs.specs.Verbs.{name_of}
+use Rattle.trace_verbs.specs.Verbs.{verb_name}
 use Rattle.trace_verbs.proofs.verbs.Verb.name.Goals as goal
 
 pub returns-in-Pages : goal.returns-in-Pages
-returns-in-Pages c = sym (ap name_of c.in-Pages.is)
+returns-in-Pages c = sym (ap verb_name c.in-Pages.is)
 
 pub returns-in-FreePages : goal.returns-in-FreePages
-returns-in-FreePages c = sym (ap name_of c.in-FreePages.is)
+returns-in-FreePages c = sym (ap verb_name c.in-FreePages.is)
 
 pub returns-in-Map : goal.returns-in-Map
-returns-in-Map c = sym (ap name_of c.in-Map.is)
+returns-in-Map c = sym (ap verb_name c.in-Map.is)
 
 pub returns-in-Exit : goal.returns-in-Exit
-returns-in-Exit c = sym (ap name_of c.in-Exit.is)
+returns-in-Exit c = sym (ap verb_name c.in-Exit.is)
 
 pub returns-in-List : goal.returns-in-List
-returns-in-List c = sym (ap name_of c.in-List.is)
+returns-in-List c = sym (ap verb_name c.in-List.is)

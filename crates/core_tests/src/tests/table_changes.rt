@@ -1,0 +1,287 @@
+//! Generated changes of small tables, against a plain list of pages.
+ghost use Rattle.std.specs.Prelude.{◌≡◌, ◌↔◌, IsTrue};
+ghost use Rattle.page_ranges.specs.declared.ranges.Owner.TheVariants.{Given};
+ghost use Rattle.page_ranges.specs.MemoryTypes.{conventional};
+ghost use Rattle.page_ranges.specs.Memory.{page_at, IsPresent, AllInRange, IsProperMemory};
+ghost use Rattle.page_ranges.specs.Runs.{pages_of, AreRuns};
+
+use descriptor_table::RunTable;
+use page_ranges::{Descriptor, MemoryType, Owner, PageCursor, PageRange, Run};
+use std::alloc::{AllocError, Global};
+use std::process::Abort;
+
+/// Page numbers that are asked about are below this.
+const PAGES: u64 = 34;
+
+const RUNTIME: u64 = 0x8000_0000_0000_0000;
+
+// Free memory with two sets of attributes, two holes, and runtime code.
+fn machine() -> [Run; 5]
+    ensures runs { AreRuns result }
+    ensures proper { IsProperMemory (pages_of result) }
+{
+    [
+        run(0, 9, 7, 0xf),
+        run(9, 6, 7, 0x7),
+        run(16, 3, 5, 0x8000_0000_0000_000f),
+        run(19, 5, 4, 0xf),
+        run(26, 6, 7, 0xf),
+    ]
+}
+
+fn run(first: u64, pages: u64, number: u32, attributes: u64) -> Run
+    ensures { result ≡ record { range = record { first = first; pages = pages }; mtype = number; attributes = attributes; owner = Given } }
+{
+    Run {
+        range: PageRange { first, pages },
+        mtype: MemoryType::new(number),
+        attributes,
+        owner: Owner::Given,
+    }
+}
+
+// The plain list: a run of one page for each page that is present.
+fn listed(alloc: Global, runs: &[Run]) -> Result<Vec<Run>, AllocError> {
+    let mut list = Vec::new(alloc);
+    for run in runs {
+        for first in run.range.first..run.range.first.saturating_add(run.range.pages) {
+            let range = PageRange { first, pages: 1 };
+            list.push(Run { range, ..*run })?;
+        }
+    }
+    Ok(list)
+}
+
+fn is_in(range: PageRange, page: u64) -> bool {
+    page >= range.first && page - range.first < range.pages
+}
+
+// How many pages of a range are in the list.
+fn count_in(list: &[Run], range: PageRange) -> u64 {
+    let mut count = 0_u64;
+    for page in list {
+        if is_in(range, page.range.first) {
+            count = count.saturating_add(1);
+        }
+    }
+    count
+}
+
+// Gives the pages of a range a type and an owner.
+fn change_list(list: &mut [Run], range: PageRange, number: u32, owner: Owner) {
+    for index in 0..list.len() {
+        if is_in(range, list[index].range.first) {
+            let kept = list[index].attributes & !RUNTIME;
+            list[index].mtype = MemoryType::new(number);
+            list[index].attributes = if number == 5 || number == 6 {
+                kept | RUNTIME
+            } else {
+                kept
+            };
+            list[index].owner = owner;
+        }
+    }
+}
+
+fn goes_on(run: &Run, page: &Run, is_split_by_owner: bool) -> bool {
+    run.range.first.saturating_add(run.range.pages) == page.range.first
+        && run.mtype == page.mtype
+        && run.attributes == page.attributes
+        && (!is_split_by_owner || run.owner == page.owner)
+}
+
+// The runs of the list, by joining each page to those before it.
+fn joined(alloc: Global, list: &[Run], is_split_by_owner: bool) -> Result<Vec<Run>, AllocError> {
+    let mut runs: Vec<Run> = Vec::new(alloc);
+    for page in list {
+        match runs.last_mut() {
+            Some(last) if goes_on(last, page, is_split_by_owner) => {
+                last.range.pages = last.range.pages.saturating_add(1);
+            }
+            _ => runs.push(*page)?,
+        }
+    }
+    Ok(runs)
+}
+
+// The run that holds a page.
+fn holding(runs: &[Run], page: u64) -> Option<Run> {
+    for run in runs {
+        if is_in(run.range, page) {
+            return Some(*run);
+        }
+    }
+    None
+}
+
+// Whether a page is free, and whether it is owned by Pages.
+fn kind_at(list: &[Run], number: u64) -> (bool, bool) {
+    for page in list {
+        if page.range.first == number {
+            return (page.mtype.number() == 7, page.owner == Owner::Pages);
+        }
+    }
+    (false, false)
+}
+
+fn entry_of(run: &Run) -> Descriptor {
+    Descriptor {
+        mtype: run.mtype,
+        first: run.range.first,
+        pages: run.range.pages,
+        attributes: run.attributes,
+    }
+}
+
+fn is_present(table: &RunTable, page: u64) -> bool
+    ensures { IsTrue result ↔ IsPresent (page_at table.now page) }
+{
+    table.run_at(page).is_some()
+}
+
+// Whether all pages of a range of few pages are present.
+fn are_present(table: &RunTable, range: PageRange) -> bool
+    ensures { IsTrue result → AllInRange table.now range IsPresent }
+{
+    if range.first > 100 || range.pages > 100 {
+        return false;
+    }
+    for page in range.first..range.first + range.pages {
+        if !is_present(table, page) {
+            return false;
+        }
+    }
+    true
+}
+
+fn next_draw(draw: u64) -> u64 {
+    draw.wrapping_mul(6_364_136_223_846_793_005)
+        .wrapping_add(1_442_695_040_888_963_407)
+}
+
+// A drawn type and owner; free pages are the machine's own.
+fn drawn_kind(draw: u64) -> (u32, Owner)
+    ensures { result.0 ≡ conventional → result.1 ≡ Given }
+{
+    let owner = match draw >> 3 & 3 {
+        0 => Owner::Given,
+        1 => Owner::Pool,
+        _ => Owner::Pages,
+    };
+    match draw & 7 {
+        0 => (4, owner),
+        1 => (5, owner),
+        2 => (6, owner),
+        3 => (0x7000_0000, owner),
+        _ => (7, Owner::Given),
+    }
+}
+
+// Changes a range of the table and of the list, if all its pages are present.
+fn change(
+    rt: &impl Abort,
+    table: &mut RunTable,
+    list: &mut [Run],
+    draw: u64,
+) -> Result<(), AllocError> {
+    let range = PageRange {
+        first: draw >> 30 & 31,
+        pages: (draw >> 40 & 15) % 11,
+    };
+    let (number, owner) = drawn_kind(draw >> 50);
+    let is_whole = are_present(table, range);
+    assert_eq!(rt; count_in(list, range) == range.pages, is_whole);
+    if is_whole {
+        table.retype(range, MemoryType::new(number), owner)?;
+        change_list(list, range, number, owner);
+    }
+    Ok(())
+}
+
+// Asserts that the runs that hold pages are those of the list.
+fn assert_pages(rt: &impl Abort, table: &RunTable, runs: &[Run]) {
+    let mut below = None;
+    for page in 0..PAGES {
+        assert_eq!(rt; table.run_at(page), holding(runs, page), "at {page}");
+        assert_eq!(rt; table.edge(page), (below, holding(runs, page)), "at {page}");
+        below = holding(runs, page);
+    }
+}
+
+// Asserts that one cursor finds the runs of the list, upward, downward and far away.
+fn assert_cursor(rt: &impl Abort, table: &RunTable, runs: &[Run]) {
+    let mut cursor = table.cursor();
+    for page in 0..PAGES {
+        let down = PAGES - 1 - page;
+        assert_eq!(rt; cursor.run_at(page), holding(runs, page), "at {page}");
+        assert_eq!(rt; cursor.run_at(down), holding(runs, down), "down at {down}");
+    }
+    for page in 0..PAGES {
+        let block = holding(runs, page).map(|run: Run| entry_of(&run));
+        assert_eq!(rt; cursor.block_at(page), block, "block at {page}");
+    }
+}
+
+// Asserts that the runs and the map are those of the plain list.
+fn assert_lists(rt: &impl Abort, table: &RunTable, runs: &[Run], entries: &[Run]) {
+    assert_eq!(rt; table.len(), runs.len());
+    assert_eq!(rt; table.descriptors(), entries.len());
+    for (index, run) in runs.iter().enumerate() {
+        assert_eq!(rt; table.run(index), Some(*run));
+    }
+    let mut found = table.map_entries();
+    for (index, entry) in entries.iter().enumerate() {
+        assert_eq!(rt; found.next(), Some(entry_of(entry)));
+        assert_eq!(rt; table.descriptor(index), Some(entry_of(entry)));
+    }
+    assert_eq!(rt; found.next(), None);
+}
+
+// Asserts what is answered of ranges that begin at a page.
+fn assert_ranges(rt: &impl Abort, table: &RunTable, list: &[Run], first: u64) {
+    let mut are_free = true;
+    let mut are_placed = true;
+    for pages in 0..9 {
+        let range = PageRange { first, pages };
+        assert_eq!(rt; table.all_conventional(range), are_free, "{range:?}");
+        assert_eq!(rt;
+            table.all_owned(range, Owner::Pages),
+            are_placed,
+            "{range:?}"
+        );
+        let (is_free, is_placed) = kind_at(list, first.saturating_add(pages));
+        are_free = are_free && is_free;
+        are_placed = are_placed && is_placed;
+    }
+}
+
+fn assert_same(
+    rt: &(impl AllocGlobal + Abort),
+    table: &RunTable,
+    list: &[Run],
+) -> Result<(), AllocError> {
+    let runs = joined(rt.alloc(), list, true)?;
+    let entries = joined(rt.alloc(), list, false)?;
+    assert_pages(rt, table, runs.as_slice());
+    assert_cursor(rt, table, runs.as_slice());
+    assert_lists(rt, table, runs.as_slice(), entries.as_slice());
+    for first in 0..PAGES {
+        assert_ranges(rt, table, list, first);
+    }
+    Ok(())
+}
+
+#[test]
+fn changes_are_those_of_the_pages(rt: HostRuntime) -> Result<(), AllocError> {
+    let mut draw = 1;
+    for _table in 0..20 {
+        let mut table = RunTable::from_runs(rt.alloc(), &machine())?;
+        let mut list = listed(rt.alloc(), &machine())?;
+        for _change in 0..20 {
+            draw = next_draw(draw);
+            change(&rt, &mut table, list.as_mut_slice(), draw)?;
+            assert_same(&rt, &table, list.as_slice())?;
+        }
+    }
+    Ok(())
+}
