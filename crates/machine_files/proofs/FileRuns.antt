@@ -145,7 +145,7 @@ file_runs_are_listed bytes runs e = all_implied IsListed IsMachineRun (λ r h. h
 count_listed : (ds : Items) (n : ℕ) (runs : List Run) → runs_from n ds ≡ Ok runs → length runs ≡ item_count ds
 count_listed no_items n runs e = let same : [] ≡ runs = cc in ap length (sym same)
 count_listed (item d ds) n runs e =
-    let (run, re, e1) = bind_ok (or_descriptor n (run_of d)) (λ run. runs_from (n + 1) ds >>= λ more. Ok (run ∷ more)) runs e in
+    let (run, re, e1) = bind_ok (or_descriptor n (member_run d)) (λ run. runs_from (n + 1) ds >>= λ more. Ok (run ∷ more)) runs e in
     let (more, me, e2) = bind_ok (runs_from (n + 1) ds) (λ more. Ok (run ∷ more)) runs e1 in
     let same : run ∷ more ≡ runs = cc in
     omega (arith, ap length same, count_listed ds (n + 1) more me)
