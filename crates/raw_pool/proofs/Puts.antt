@@ -1,10 +1,11 @@
 -- Bytes written into a region, and what is read of it afterwards.
-use Rattle.std.proofs.Common.{◌≡◌, ℕ, suc, ◌+◌, ◌-◌, ◌^◌, ◌<◌, ◌≤◌, List, [], ◌∷◌, ◌++◌, length, take, drop, set, get_or, replicate, refl, sym, ap, ◌∙◌, append_assoc, arith}
+use Rattle.std.proofs.Common.{Vec, ◌≡◌, ℕ, suc, ◌+◌, ◌-◌, ◌^◌, ◌<◌, ◌≤◌, List, [], ◌∷◌, ◌++◌, length, take, drop, set, replicate, refl, sym, ap, ◌∙◌, append_assoc, arith}
 use Rattle.byteorder.specs.Endian.{little_bytes, little_number}
 use Rattle.byteorder.specs.Numbers.{little_number-reads_back}
-use Rattle.std.proofs.lemmas.List.{take_more, take-append-drop, set_split, take_all, drop_all, append-nil, length-append, length-take-le, length-drop, length-replicate, drop-drop, take_at, drop-append-le, take-append-le, drop-take, take-take, drop-replicate, take-replicate}
+use Rattle.std.specs.Vec.{with_items_from}
+use Rattle.std.proofs.lemmas.List.{with_items_is, take-append-drop, set_split, take_all, drop_all, append-nil, length-append, length-take-le, length-drop, length-replicate, drop-drop, take_at, drop-append-le, take-append-le, drop-take, take-take, drop-replicate, take-replicate}
 use Rattle.std.proofs.Math.Seq.{drop-append-add, take-append-add}
-use Rattle.raw_pool.specs.Bytes.{Bytes, part, put, word}
+use Rattle.raw_pool.specs.Bytes.{part, put, word}
 
 -- what lies behind the place of the bytes that were written
 drop-put : (bytes new : List ℕ) (at i : ℕ) → at ≤ length bytes → drop (at + i) (put bytes at new) ≡ drop i (new ++ drop (at + length new) bytes)
@@ -127,22 +128,27 @@ put-more bytes new more at next h e =
     ∙ ap (λ (xs : List ℕ). xs ++ drop (at + length (new ++ more)) bytes) (append_assoc (take at bytes) new more)
     ∙ sym (put-is bytes at (new ++ more))
 
--- ---- a region whose bytes are written one by one
+-- ---- bytes written over those that are set, and behind them
 
-pub put_reaches : (old now : Bytes) (new : List ℕ) (at i : ℕ) → at ≤ length old.set → now ≡ record { set = put old.set at new; room = old.room } → length new ≡ i → at + i ≤ length now.set
-put_reaches old now new at i h e n = rw e (omega (arith, length-put old.set new at h, n))
+pub put-within : {Z : Type 0} (v : Vec ℕ Z) (new : List ℕ) (at : ℕ) → at + length new ≤ length v.items → (with_items_from v at new).items ≡ put v.items at new
+put-within v new at h =
+    let rest : List ℕ = drop (length new) (drop at v.items) in
+    let long : length (take at v.items ++ (new ++ rest)) ≡ v.len =
+    omega (arith, length-append (take at v.items) (new ++ rest), length-append new rest, length-take-le at v.items, length-drop at v.items, length-drop (length new) (drop at v.items), v.ok.0) in
+    with_items_is v (take at v.items ++ (new ++ rest)) long
+    ∙ sym (append_assoc (take at v.items) new rest)
+    ∙ ap (λ (xs : List ℕ). take at v.items ++ new ++ xs) (drop-drop (length new) at v.items)
+    ∙ sym (put-is v.items at new)
 
-pub put_next : (old now next : Bytes) (new whole : List ℕ) (at i byte : ℕ) → at ≤ length old.set → now ≡ record { set = put old.set at new; room = old.room } → length new ≡ i →
-    next ≡ record { set = put now.set (at + i) (byte ∷ []); room = now.room } → new ++ byte ∷ [] ≡ whole → next ≡ record { set = put old.set at whole; room = old.room }
-put_next old now next new whole at i byte h e n f w =
-    f ∙ ap (λ (b : Bytes). record { set = put b.set (at + i) (byte ∷ []); room = b.room }) e
-    ∙ ap (λ (xs : List ℕ). record { set = xs; room = old.room }) (put-more old.set new (byte ∷ []) at (at + i) h (ap (λ (k : ℕ). at + k) n) ∙ ap (put old.set at) w)
-
-pub put_none : (old : Bytes) (at : ℕ) → at ≤ length old.set → old ≡ record { set = put old.set at []; room = old.room }
-put_none old at h = ap (λ (xs : List ℕ). record { set = xs; room = old.room }) (sym (put-nothing old.set at h))
-
-pub taken_more : (bytes : List ℕ) (i byte : ℕ) → i < length bytes → byte ≡ get_or bytes i byte → take i bytes ++ byte ∷ [] ≡ take (i + 1) bytes
-taken_more bytes i byte h e = ap (λ (b : ℕ). take i bytes ++ b ∷ []) e ∙ sym (take_more bytes i byte h)
+pub put-behind : (bytes over behind : List ℕ) (at : ℕ) → length bytes ≤ at + length over → put bytes at over ++ behind ≡ put bytes at (over ++ behind)
+put-behind bytes over behind at h =
+    let none : drop (at + length over) bytes ≡ [] = drop_all (at + length over) bytes h in
+    let none-too : drop (at + length (over ++ behind)) bytes ≡ [] = drop_all (at + length (over ++ behind)) bytes (omega (arith, length-append over behind)) in
+    ap (λ (xs : List ℕ). xs ++ behind) (put-is bytes at over ∙ ap (λ (xs : List ℕ). take at bytes ++ over ++ xs) none ∙ append-nil (take at bytes ++ over))
+    ∙ append_assoc (take at bytes) over behind
+    ∙ sym (append-nil (take at bytes ++ (over ++ behind)))
+    ∙ ap (λ (xs : List ℕ). take at bytes ++ (over ++ behind) ++ xs) (sym none-too)
+    ∙ sym (put-is bytes at (over ++ behind))
 
 -- a write into the middle one of three lists
 pub put-deep : (front mid rest new : List ℕ) (off at : ℕ) → length front ≡ off → at + length new ≤ length mid → put (front ++ (mid ++ rest)) (off + at) new ≡ front ++ (put mid at new ++ rest)

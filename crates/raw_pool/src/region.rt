@@ -1,5 +1,5 @@
 //! A region of bytes of which a front is set.
-ghost use Rattle.std.specs.Prelude.{◌≡◌, ◌≤◌, ◌<◌, ◌+◌, ◌^◌, [], ◌∷◌, length, replicate, IfOk};
+ghost use Rattle.std.specs.Prelude.{◌≡◌, ◌≤◌, ◌<◌, ◌+◌, ◌^◌, [], ◌∷◌, ◌++◌, length, replicate, IfOk};
 ghost use Rattle.byteorder.specs.Endian.{little_bytes};
 ghost use Rattle.raw_pool.specs.Bytes.{put, word};
 
@@ -23,7 +23,7 @@ impl<A: Allocator> Model for Region<A> {
 
     ghost view = { λ r. record { set = r.bytes.items; room = r.room } };
 
-    ghost invariant = { λ r. (vec_len r.bytes ≤ r.room) × (vec_capacity r.bytes ≡ r.room) };
+    ghost invariant = { λ r. (vec_len r.bytes ≤ r.room) × (r.room ≤ vec_capacity r.bytes) };
 }
 
 impl<A: Allocator + Copy> Region<A> {
@@ -63,15 +63,53 @@ impl<A: Allocator + Copy> Region<A> {
         }
     }
 
+    /// Writes bytes over bytes that are set.
+    fn overwrite(&mut self, at: usize, bytes: &[u8])
+        requires { at + length bytes.now ≤ length self.old.set }
+        ensures { self.new ≡ record { set = put self.old.set at bytes.now; room = self.old.room } }
+    {
+        self.bytes
+            .slice_mut(at..at + bytes.len())
+            .copy_from_slice(bytes);
+    }
+
+    /// Sets bytes behind those that are set.
+    fn append(&mut self, bytes: &[u8])
+        requires { length self.old.set + length bytes.now ≤ self.old.room }
+        ensures { self.new ≡ record { set = self.old.set ++ bytes.now; room = self.old.room } }
+    {
+        let _in_room = self.bytes.extend_from_slice(bytes);
+    }
+
     /// Writes bytes from a place on, at most behind those that are set.
     pub(crate) fn write(&mut self, at: usize, bytes: &[u8])
         requires { (at ≤ length self.old.set) × (at + length bytes.now ≤ self.old.room) }
         ensures { self.new ≡ record { set = put self.old.set at bytes.now; room = self.old.room } }
     {
-        let _room = self.room;
-        for (i, byte) in bytes.iter().enumerate() {
-            self.put(at + i, *byte);
+        let over = self.bytes.len() - at;
+        if bytes.len() <= over {
+            self.overwrite(at, bytes);
+        } else {
+            let (front, back) = bytes.split_at(over);
+            self.overwrite(at, front);
+            self.append(back);
         }
+    }
+
+    /// Sets so many bytes that are set to 0.
+    fn overwrite_zeros(&mut self, at: usize, count: usize)
+        requires { at + count ≤ length self.old.set }
+        ensures { self.new ≡ record { set = put self.old.set at (replicate count 0); room = self.old.room } }
+    {
+        self.bytes.slice_mut(at..at + count).fill(0);
+    }
+
+    /// Sets so many bytes behind those that are set to 0.
+    fn append_zeros(&mut self, count: usize)
+        requires { length self.old.set + count ≤ self.old.room }
+        ensures { self.new ≡ record { set = self.old.set ++ replicate count 0; room = self.old.room } }
+    {
+        let _in_room = self.bytes.resize(self.bytes.len() + count, 0);
     }
 
     /// Sets so many bytes from a place on to 0.
@@ -79,9 +117,12 @@ impl<A: Allocator + Copy> Region<A> {
         requires { (at ≤ length self.old.set) × (at + count ≤ self.old.room) }
         ensures { self.new ≡ record { set = put self.old.set at (replicate count 0); room = self.old.room } }
     {
-        let _room = self.room;
-        for i in 0..count {
-            self.put(at + i, 0);
+        let over = self.bytes.len() - at;
+        if count <= over {
+            self.overwrite_zeros(at, count);
+        } else {
+            self.overwrite_zeros(at, over);
+            self.append_zeros(count - over);
         }
     }
 
@@ -98,8 +139,12 @@ impl<A: Allocator + Copy> Region<A> {
         requires { (at ≤ length self.old.set) × (at + 8 ≤ self.old.room) }
         ensures { self.new ≡ record { set = put self.old.set at (little_bytes 8 number); room = self.old.room } }
     {
-        let mut bytes = [0; 8];
-        LittleEndian::write_u64(&mut bytes, number);
-        self.write(at, &bytes);
+        if 8 <= self.bytes.len() - at {
+            LittleEndian::write_u64(self.bytes.slice_mut(at..at + 8), number);
+        } else {
+            let mut bytes = [0; 8];
+            LittleEndian::write_u64(&mut bytes, number);
+            self.write(at, &bytes);
+        }
     }
 }

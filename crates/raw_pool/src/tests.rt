@@ -103,6 +103,34 @@ fn full_page(rt: HostRuntime) -> Result<(), Fail> {
     Ok(())
 }
 
+/// The largest block of a region of four pages, read and written at both ends.
+#[test]
+fn largest_block(rt: HostRuntime) -> Result<(), Fail> {
+    let mut pool = RawPool::new(rt.alloc(), 4)?;
+    assert_eq!(rt; pool.take(REGION_SIZE - 7), None);
+    assert_eq!(rt; pool.take(REGION_SIZE - 8), Some(0));
+    assert_eq!(rt; pool.size_of(0), Some(16376));
+    assert_eq!(rt; pool.longest_free(), 0);
+    assert_eq!(rt; pool.take(0), None);
+    assert_eq!(rt; pool.write(0, 0, b"\x11\x22"), true);
+    assert_eq!(rt; pool.write(0, 16374, b"\x33\x44"), true);
+    assert_eq!(rt; pool.write(0, 16375, b"\x55\x66"), false);
+    assert_eq!(rt; pool.write(0, 16376, b"\x55"), false);
+    let bytes = pool.bytes(0).expect(&rt, "a block");
+    assert_eq!(rt; bytes.len(), 16376);
+    assert_eq!(rt; bytes.first_chunk::<3>(), Some(b"\x11\x22\0"));
+    assert_eq!(rt; bytes.last_chunk::<3>(), Some(b"\0\x33\x44"));
+    assert_eq!(rt; pool.give(0), true);
+    assert_eq!(rt; pool.is_empty(), true);
+    assert_eq!(rt; pool.take(REGION_SIZE - 8), Some(0));
+    let bytes = pool.bytes(0).expect(&rt, "a block");
+    assert!(rt; bytes.iter().all(|byte| *byte == 0));
+    Ok(())
+}
+
+/// The bytes of a region of four pages: 512 cells of 32.
+const REGION_SIZE: usize = 512 * 32;
+
 /// A block that was taken, and the byte that it was filled with.
 #[derive(Drop)]
 struct Known {
