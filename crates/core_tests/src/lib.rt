@@ -1,5 +1,4 @@
-//! Tests of memory: the table, certificates and their blocks, pages, map bytes, and the core with the memory maps of
-//! real firmware.
+//! Tests of the core: lists of calls, large requests, and calls on the memory maps of real firmware.
 #![tactic(auto)]
 
 #[cfg(test)]

@@ -1,15 +1,10 @@
-//! Calls on the core of a machine, and on the parts below it.
-mod blocks;
+//! Calls on the core of a machine.
 mod call_lists;
-mod checks;
 mod firmware;
 mod firmware_blocks;
 mod firmware_maps;
 mod large_requests;
-mod map_bytes;
-mod pool_pages;
 mod stretches;
-mod table_changes;
 
 use boot_core::{Core, Machine};
 use page_ranges::{MemoryType, Owner, PageRange, Run};

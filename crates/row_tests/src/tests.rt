@@ -6,7 +6,6 @@ mod line_texts;
 mod machine_texts;
 mod placements;
 mod rows;
-mod streams;
 
 use program_runs::serve_run;
 use std::process::Abort;

@@ -4,7 +4,7 @@ use Rattle.page_ranges.specs.declared.ranges.Run.{Run}
 use Rattle.page_ranges.specs.Memory.{IsProperMemory}
 use Rattle.page_ranges.specs.Runs.{pages_of}
 use Rattle.page_ranges.proofs.RunLists.{proper_pages}
-use Rattle.core_tests.proofs.tests.table_changes.machine.Goals as goal
+use Rattle.table_tests.proofs.tests.table_changes.machine.Goals as goal
 
 abbrev run : ℕ → ℕ → ℕ → ℕ → Run
 run first pages t a = record { range = record { first = first; pages = pages }; mtype = t; attributes = a; owner = Given }

@@ -1,6 +1,6 @@
 use Rattle.std.proofs.Common.{ℕ, ◌<◌, ◌≤◌}
 use Rattle.page_ranges.specs.Memory.{page_at, IsPresent}
-use Rattle.core_tests.proofs.tests.table_changes.are_present.Given as goal
+use Rattle.table_tests.proofs.tests.table_changes.are_present.Given as goal
 
 -- the pages so far are present
 abbrev pub invariant-loop-page : goal.invariant-loop-page

@@ -1,0 +1,5 @@
+//! Tests of the check of a certificate block.
+#![tactic(auto)]
+
+#[cfg(test)]
+mod tests;

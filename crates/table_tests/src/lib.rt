@@ -1,0 +1,5 @@
+//! Tests of what the core stands on: the table, certificates, pages of the pool and the bytes of a memory map.
+#![tactic(auto)]
+
+#[cfg(test)]
+mod tests;
