@@ -24,7 +24,7 @@ use Rattle.boot_core.specs.declared.calls.Reply.{Reply}
 use Rattle.boot_core.specs.declared.calls.Reply.TheVariants as reply
 use Rattle.boot_core.specs.MachineRuns.{HasRecordNumbers}
 use Rattle.boot_core.specs.Machines.{Parts, State, first_state}
-use Rattle.boot_core.specs.Certified.{certified, certificate_in}
+use Rattle.boot_core.specs.Certified.{certified}
 use Rattle.boot_core.specs.Steps.{best_starts, Answers, CallRun}
 use Rattle.boot_core.specs.Laws.{IsAcceptedReply, AllAccepted, NamesTypes}
 use Rattle.boot_core.proofs.AnySteps.{best_is_permitted}

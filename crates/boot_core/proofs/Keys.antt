@@ -1,5 +1,5 @@
 -- Keys, along runs.
-use Rattle.std.proofs.Common.{◌≡◌, ◌⊎◌, ◌↔◌, ℕ, ◌+◌, ◌-◌, ◌≤◌, Bool, true, false, List, [], ◌∷◌, Option, Result, Ok, Err, refl, sym, ap, subst, ◌∙◌, inl, inr, length, arith}
+use Rattle.std.proofs.Common.{◌≡◌, ◌↔◌, ℕ, ◌+◌, ◌-◌, ◌≤◌, Bool, true, false, List, [], ◌∷◌, Option, Result, Ok, Err, refl, sym, ap, subst, ◌∙◌, inl, inr, arith}
 use Rattle.page_ranges.specs.declared.statuses.Status.{Status}
 use Rattle.page_ranges.specs.declared.statuses.Status.TheVariants as status
 use Rattle.page_ranges.specs.Memory.{Page, IsProperMemory}
@@ -12,10 +12,10 @@ use Rattle.boot_core.specs.declared.calls.Reply.{Reply}
 use Rattle.boot_core.specs.declared.calls.Reply.TheVariants as reply
 use Rattle.map_keys.specs.declared.memory_maps.MapReply.{MapReply}
 use Rattle.boot_core.specs.Machines.{Parts, State}
-use Rattle.boot_core.specs.Steps.{Setting, Answers, Exits, MapStep, StepBy, CallRunBy}
-use Rattle.boot_core.specs.Laws.{HaveSameTypes, ChangesNoType, ChangesTypes, TellsKey, GivesKey, NamesTypes}
+use Rattle.boot_core.specs.Steps.{Setting, Answers, Exits, StepBy, CallRunBy}
+use Rattle.boot_core.specs.Laws.{ChangesNoType, ChangesTypes, TellsKey, GivesKey, NamesTypes}
 use Rattle.boot_core.proofs.MapReplies.{told_key, told_directly}
-use Rattle.boot_core.proofs.Outcomes.{Outcome, key_rises, stays_proper, type_or_not, outcome}
+use Rattle.boot_core.proofs.Outcomes.{key_rises, stays_proper, type_or_not, outcome}
 
 -- what a successful reply of GetMemoryMap says of its key, and of the parts after it
 key_in : {A : Type 0} (exited : Bool) (old : Parts) (size key : ℕ) (S : Setting) (answer : Reply A) (new : Parts) → Answers S exited old (call.GetMemoryMap size) answer new → TellsKey answer key → (key ≡ old.book.key) × (new ≡ old)

@@ -1,8 +1,8 @@
 -- Replies of GetMemoryMap.
-use Rattle.std.proofs.Common.{◌≡◌, ℕ, ◌<◌, ◌≤◌, Bool, true, false, cond, nat_le, leb, List, [], ◌∷◌, ◌++◌, length, take, take_all, drop, inl, inr, refl, sym, ap, ◌∙◌, arith, append-nil, Vec}
+use Rattle.std.proofs.Common.{◌≡◌, ℕ, Bool, true, false, cond, leb, List, [], ◌++◌, length, take, take_all, drop, inl, inr, refl, sym, ap, ◌∙◌, arith, append-nil, Vec}
 use Rattle.std.proofs.lemmas.List.{drop_all, nil_from_length, take-append-le}
 use Rattle.std.proofs.lemmas.Bool.{cases_lt, le-leb, lt-leb, cond-true, cond-false}
-use Rattle.page_ranges.specs.declared.statuses.Status.TheVariants.{Success, BufferTooSmall, Unsupported, OutOfResources}
+use Rattle.page_ranges.specs.declared.statuses.Status.TheVariants.{Success, BufferTooSmall, Unsupported}
 use Rattle.page_ranges.specs.MemoryMap.{memory_map}
 use Rattle.page_services.specs.PageRules.{Book}
 use Rattle.map_keys.specs.declared.memory_maps.MapReply.{MapReply}

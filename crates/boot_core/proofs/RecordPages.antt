@@ -1,5 +1,5 @@
 -- Pages and entries whose numbers fit the fields of a record.
-use Rattle.std.proofs.Common.{◌≡◌, ℕ, zero, suc, ◌+◌, ◌-◌, ◌^◌, ◌<◌, ◌≤◌, ◌||◌, eqb, bit_and, bit_or, cond, true, false, List, [], ◌∷◌, Option, Some, None, Contains, refl, sym, ap, ◌∙◌, arith}
+use Rattle.std.proofs.Common.{◌≡◌, ℕ, ◌-◌, ◌^◌, ◌<◌, ◌||◌, eqb, bit_and, bit_or, cond, true, false, List, [], ◌∷◌, Option, Some, None, Contains, refl, arith}
 use Rattle.std.proofs.lemmas.Bool.{cond_both}
 use Rattle.std.proofs.lemmas.Nat.{or_lt}
 use Rattle.std.specs.List.{AllByRecursion}
@@ -7,7 +7,7 @@ use Rattle.page_ranges.specs.declared.ranges.Descriptor.{Descriptor}
 use Rattle.page_ranges.specs.declared.ranges.Owner.{Owner}
 use Rattle.page_ranges.specs.declared.ranges.PageRange.{PageRange}
 use Rattle.page_ranges.specs.declared.ranges.Run.{Run}
-use Rattle.page_ranges.specs.MemoryTypes.{page_count, runtime, attributes_as}
+use Rattle.page_ranges.specs.MemoryTypes.{runtime, attributes_as}
 use Rattle.page_ranges.specs.Memory.{Page, page_at, IsProperMemory, is_in_range, retyped, retyped_page}
 use Rattle.page_ranges.specs.MemoryMap.{memory_map, IsLike, IsIn}
 use Rattle.page_ranges.specs.Runs.{page_in, pages_of}

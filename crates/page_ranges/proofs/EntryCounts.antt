@@ -1,5 +1,5 @@
 -- How many entries more a map has once the pages of a range have a type.
-use Rattle.std.proofs.Common.{◌≡◌, ℕ, suc, ◌+◌, ◌<◌, ◌≤◌, Bool, true, false, cond, List, [], ◌∷◌, length, inl, inr, refl, ap, ap₂, ◌∙◌, arith}
+use Rattle.std.proofs.Common.{◌≡◌, ℕ, suc, ◌+◌, ◌≤◌, Bool, true, false, cond, List, [], ◌∷◌, length, inl, inr, refl, ap, ap₂, arith}
 use Rattle.std.proofs.lemmas.Bool.{cases_lt, cases_Bool}
 use Rattle.page_ranges.specs.declared.ranges.Descriptor.{Descriptor}
 use Rattle.page_ranges.specs.declared.ranges.Owner.{Owner}

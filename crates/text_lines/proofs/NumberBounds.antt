@@ -1,5 +1,5 @@
 -- Numbers of words have 64 bits.
-use Rattle.std.proofs.Common.{◌≡◌, ℕ, ◌<◌, ◌^◌, Bool, true, false, cond, ◌&&◌, nat_lt, nat_eq, List, length, drop, codes, Option, Some, None, option_and_then, refl, sym, ◌∙◌, subst}
+use Rattle.std.proofs.Common.{◌≡◌, ℕ, ◌<◌, ◌^◌, Bool, true, false, cond, ◌&&◌, nat_lt, nat_eq, List, drop, codes, Option, Some, None, option_and_then, refl, subst}
 use Rattle.std.specs.List.{starts_with}
 use Rattle.std.proofs.lemmas.Bool.{ltb-true}
 use Rattle.text_lines.specs.Numbers.{value_of_digits, within_64_bits, is_some_at_most, number_of_digits, hexadecimal_of, decimal_of, number_of}

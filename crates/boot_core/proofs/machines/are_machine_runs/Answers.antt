@@ -1,7 +1,6 @@
-use Rattle.std.proofs.Common.{◌≡◌, ℕ, ◌+◌, ◌<◌, ◌≤◌, ◌++◌, ◌∷◌, [], take, get_or, length, take_all, true, false, refl, sym, inl, inr, arith, rules}
-use Rattle.page_ranges.specs.Runs.{IsValidMachine}
+use Rattle.std.proofs.Common.{◌+◌, ◌≤◌, ◌∷◌, [], take, take_all, refl, inl, inr, arith}
 use Rattle.page_ranges.proofs.Members.{all_append}
-use Rattle.page_ranges.proofs.RunLists.{EndBy, EndBy-higher, runs-append}
+use Rattle.page_ranges.proofs.RunLists.{EndBy-higher, runs-append}
 use Rattle.boot_core.specs.MachineRuns.{IsMachineRun}
 use Rattle.boot_core.proofs.MachineRunLists.{valid_machine, run_of_machine, begins_after, taken, ends_at}
 use Rattle.boot_core.proofs.machines.are_machine_runs.Goals.{then-run-end-via-then-run-end, then-run-end-via-else-run-end+then-not-is_machine_run}

@@ -1,4 +1,4 @@
-use Rattle.std.proofs.Common.{◌≡◌, ◌++◌, ℕ, List, length, take, drop, sym, subst, ◌∙◌, arith}
+use Rattle.std.proofs.Common.{ℕ, List, length, drop, sym, subst, ◌∙◌, arith}
 use Rattle.boot_core.specs.MapCalls.{AnswersMap}
 use Rattle.boot_core.proofs.MapReplies.{answers_map, written_back}
 use Rattle.boot_core.proofs.map_buffers.map_in_buffer.Goals as goal
