@@ -1,12 +1,12 @@
 -- What is printed of each line, in the states that a run on a machine file comes to.
-use Rattle.std.proofs.Common.{◌≡◌, ℕ, zero, suc, ◌+◌, ◌*◌, ◌/◌, ◌^◌, ◌<◌, ◌≤◌, ◌==◌, Bool, true, false, cond, List, [], ◌∷◌, ◌++◌, length, take, Option, Some, None, Result, Ok, Err, IfSome, Vec, refl, sym, ap, subst, ◌∙◌, inl, inr, arith, append-nil, lit<, lit≤}
+use Rattle.std.proofs.Common.{◌≡◌, ℕ, ◌+◌, ◌*◌, ◌^◌, ◌<◌, ◌≤◌, ◌==◌, Bool, true, false, cond, List, [], ◌∷◌, ◌++◌, length, take, Option, Some, None, Result, Ok, Err, IfSome, Vec, refl, sym, ap, subst, ◌∙◌, arith, append-nil, lit<}
 use Rattle.std.specs.List.{AllByRecursion}
 use Rattle.std.specs.Option.{option_map, option_and_then}
 use Rattle.std.proofs.lemmas.List.{length-take}
 use Rattle.page_ranges.specs.declared.ranges.Descriptor.{Descriptor}
 use Rattle.page_ranges.specs.declared.ranges.Run.{Run}
 use Rattle.page_ranges.specs.declared.statuses.Status.TheVariants.{Success}
-use Rattle.page_ranges.specs.MemoryTypes.{page_size, page_count, pages_below}
+use Rattle.page_ranges.specs.MemoryTypes.{page_count, pages_below}
 use Rattle.page_ranges.specs.Memory.{IsProperMemory, HasMachineTypes}
 use Rattle.page_ranges.specs.MemoryMap.{memory_map}
 use Rattle.page_ranges.proofs.Members.{all_implied}
@@ -15,11 +15,10 @@ use Rattle.placement_certificate.specs.declared.certificates.Request.{Request}
 use Rattle.placement_certificate.specs.Certificates.{CertificateValue}
 use Rattle.placement_certificate.specs.Acceptance.{IsAccepted}
 use Rattle.map_keys.specs.declared.memory_maps.MapReply.{MapReply}
-use Rattle.map_keys.specs.Records.{IsRecordEntry, ReadsRecords, records}
+use Rattle.map_keys.specs.Records.{IsRecordEntry, ReadsRecords}
 use Rattle.map_keys.proofs.RecordLists.{read_back}
 use Rattle.page_services.specs.PageRules.{any_pages, max_address}
 use Rattle.certificate_blocks.specs.BlockLaws.{HasEntryNumbers, HasRequestNumbers, IsAcceptedBlock}
-use Rattle.certificate_blocks.specs.Blocks.{most_block_lines}
 use Rattle.certificate_blocks.proofs.AcceptedBlocks.{accepted_block}
 use Rattle.boot_core.specs.declared.calls.Call.{Call}
 use Rattle.boot_core.specs.declared.calls.Call.TheVariants as call
