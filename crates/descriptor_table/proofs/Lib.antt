@@ -9,3 +9,4 @@ pub mod Ends
 pub mod Splices
 pub mod Replaced
 pub mod EntryRuns
+pub mod FreeRuns

@@ -1,11 +1,12 @@
 -- Sorted runs as the table of a memory.
-use Rattle.std.specs.Prelude.{◌≡◌, ℕ, ◌+◌, ◌<◌, ◌≤◌, List, take, drop, length, Contains, Option, Some, None}
+use Rattle.std.specs.Prelude.{◌≡◌, ℕ, zero, suc, ◌+◌, ◌<◌, ◌≤◌, List, take, drop, length, Contains, Option, Some, None}
 use Rattle.std.specs.List.{AllByRecursion}
 use Rattle.page_ranges.specs.declared.ranges.PageRange.{PageRange}
 use Rattle.page_ranges.specs.declared.ranges.Run.{Run}
 use Rattle.page_ranges.specs.declared.ranges.Descriptor.{Descriptor}
 use Rattle.page_ranges.specs.Memory.{Page, page_at, IsProperMemory}
 use Rattle.page_ranges.specs.MemoryMap.{memory_map}
+use Rattle.page_ranges.specs.Cursors.{IsBlockAt}
 use Rattle.page_ranges.specs.Runs.{pages_of, runs_of, IsInRun, AreMaximalRuns}
 
 -- a run as an entry of a map, its owner left out
@@ -30,6 +31,11 @@ pub record IsTable (rs : List Run) (count : ℕ) : Type 0 where
 abbrev pub HoldsPage : List Page → ℕ → Option Run → Type 0
 HoldsPage m k None = page_at m k ≡ None
 HoldsPage m k (Some r) = Contains (runs_of m) r × IsInRun r k
+
+-- the answer to which block holds the page just below a number; there is none below 0
+abbrev pub IsBlockBelow : List Page → ℕ → Option Descriptor → Type 0
+IsBlockBelow m zero o = o ≡ None
+IsBlockBelow m (suc k) o = IsBlockAt m k o
 
 -- Between two indices are all runs that share a page with a range or touch it: those before end below it, and those after
 -- begin above it.

@@ -2,10 +2,12 @@
 ghost use Rattle.std.specs.Prelude.{◌≡◌, ◌+◌, ◌<◌, ◌≤◌, length, nat_le, Contains, IfSome, IsTrue};
 ghost use Rattle.std.specs.List.{AllWithin};
 ghost use Rattle.std.specs.Option.{option_map};
+ghost use Rattle.page_ranges.specs.declared.ranges.Run.{Run};
 ghost use Rattle.page_ranges.specs.MemoryTypes.{page_count};
 ghost use Rattle.page_ranges.specs.Memory.{page_at, IsProperMemory};
-ghost use Rattle.page_ranges.specs.Runs.{page_in, pages_of, AreRuns, AreMaximalRuns, IsInRun};
-ghost use Rattle.descriptor_table.specs.Tables.{EndBy, HoldsPage};
+ghost use Rattle.page_ranges.specs.Cursors.{IsBlockAt};
+ghost use Rattle.page_ranges.specs.Runs.{page_in, pages_of, runs_of, AreRuns, AreMaximalRuns, IsInRun};
+ghost use Rattle.descriptor_table.specs.Tables.{entry_of, EndBy, HoldsPage};
 
 use page_ranges::{Descriptor, PageCursor, Run};
 use std::marker::Model;
@@ -133,7 +135,11 @@ impl<'a> PageCursor for RunCursor<'a> {
     ghost memory = { λ c. c };
 
     #[inline(always)]
-    fn block_at(&mut self, page: u64) -> Option<Descriptor> {
+    fn block_at(&mut self, page: u64) -> Option<Descriptor>
+        ensures stays { self.new ≡ self.old }
+        ensures block { IsBlockAt self.old page result }
+        ensures run { IfSome result (λ b. (r : Run) × Contains (runs_of self.old) r × (b ≡ entry_of r)) }
+    {
         let _ = &self.runs;
         let run = self.run_at(page)?;
         Some(Descriptor {

@@ -4,10 +4,12 @@
 mod cursors;
 mod cuts;
 mod entries;
+mod free_entries;
 mod retyping;
 mod searches;
 mod table;
 
 pub use cursors::RunCursor;
 pub use entries::MapEntries;
+pub use free_entries::{FreeEntries, FreeEntry};
 pub use table::RunTable;

@@ -1,5 +1,5 @@
 //! The table of runs.
-ghost use Rattle.std.specs.Prelude.{◌≡◌, ◌≢◌, ◌↔◌, ◌<◌, ◌-◌, [], length, IsTrue, IfOk, OnOk, OnErr, slice_get};
+ghost use Rattle.std.specs.Prelude.{◌≡◌, ◌≢◌, ◌↔◌, ◌<◌, ◌-◌, ◌==◌, [], filter, length, IsTrue, IfOk, OnOk, OnErr, slice_get};
 ghost use Rattle.std.specs.Option.{option_map};
 ghost use Rattle.page_ranges.specs.declared.ranges.Owner.TheVariants.{Given};
 ghost use Rattle.page_ranges.specs.MemoryTypes.{conventional};
@@ -11,6 +11,7 @@ ghost use Rattle.descriptor_table.specs.Tables.{HoldsPage};
 use crate::cursors::RunCursor;
 use crate::cuts::push_joined;
 use crate::entries::{MapEntries, count_entries};
+use crate::free_entries::FreeEntries;
 use crate::retyping::retype_runs;
 use crate::searches::{PageTest, all_in_range, run_at_index, run_holding};
 use page_ranges::{Descriptor, MemoryType, Owner, PageRange, Run};
@@ -166,5 +167,13 @@ impl<A: Allocator + Copy> RunTable<A> {
         ensures { result ≡ memory_map self.now }
     {
         MapEntries::new(self.runs.as_slice())
+    }
+
+    /// The conventional entries of the memory map, with what lies beside each.
+    pub fn free_entries(&self) -> FreeEntries<'_>
+        ensures memory { result.memory ≡ self.now }
+        ensures entries { result.entries ≡ filter (λ e. e.mtype == conventional) (memory_map self.now) }
+    {
+        FreeEntries::new(self.runs.as_slice())
     }
 }

@@ -60,7 +60,7 @@ few_in_map m proper =
     omega (arith, fits_count (memory_map m) 0 blocks.1 fits (all_implied (IsMaximalBlock m) (λ b. 0 ≤ b.first) (λ b is. omega arith) (memory_map m) blocks.0) (omega arith))
 
 -- no entry ends inside a block
-inside_block : (m : List Page) (b : Descriptor) (k : ℕ) → IsProperMemory m → IsBlock m b → 0 < k → IsIn b (k - 1) → IsIn b k → ¬ EndsEntry m k
+pub inside_block : (m : List Page) (b : Descriptor) (k : ℕ) → IsProperMemory m → IsBlock m b → 0 < k → IsIn b (k - 1) → IsIn b k → ¬ EndsEntry m k
 inside_block m b k proper is some below here e =
     let entry = entry_is_block m proper.ascending e.0 e.1 in
     let ends = e.2 in

@@ -35,6 +35,18 @@ adds-none b x y n l = elim (cases_Bool (are_alike x y)) [
   | inr f ↦ ap (λ c. cond c 1 0) f
 ]
 
+-- the same of the page above an edge
+like_next : (b : Descriptor) (x y : Option Page) → are_alike x y ≡ true → IsLike b x → IsLike b y
+like_next b None y h l = absurd l
+like_next b (Some x) None h l = absurd (true≢false (sym h))
+like_next b (Some x) (Some y) h l = let t = alike_parts x y h in (sym t.0 ∙ l.0, sym t.1 ∙ l.1)
+
+pub adds-none_above : (b : Descriptor) (x y : Option Page) → IsLike b x → ¬ IsLike b y → adds x y ≡ 0
+adds-none_above b x y l n = elim (cases_Bool (are_alike x y)) [
+  | inl t ↦ absurd (n (like_next b x y t l))
+  | inr f ↦ ap (λ c. cond c 1 0) f
+]
+
 pub adds-most : (x y : Option Page) → adds x y ≤ 1
 adds-most x y = elim (are_alike x y) as (λ c. cond c 1 0 ≤ 1) [ true ↦ omega arith | false ↦ omega arith ]
 

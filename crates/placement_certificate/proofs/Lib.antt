@@ -14,5 +14,6 @@ pub mod Accepted
 pub mod FoundStarts
 pub mod BlockStarts
 pub mod FreeStretches
+pub mod LastEntries
 pub mod MapLists
 pub mod CheckedBounds

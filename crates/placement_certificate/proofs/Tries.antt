@@ -14,13 +14,13 @@ use Rattle.placement_certificate.specs.Search.{better, IsBestOf}
 
 -- ---- the better of two
 
-abbrev Second : ℕ → ℕ → ℕ → ℕ → Type 0
+abbrev pub Second : ℕ → ℕ → ℕ → ℕ → Type 0
 Second c t d u = (better (Some (c, t)) (Some (d, u)) ≡ Some (d, u)) × (d ≤ c) × (d ≡ c → t < u)
 
-abbrev First : ℕ → ℕ → ℕ → ℕ → Type 0
+abbrev pub First : ℕ → ℕ → ℕ → ℕ → Type 0
 First c t d u = (better (Some (c, t)) (Some (d, u)) ≡ Some (c, t)) × (c ≤ d) × (d ≡ c → u ≤ t)
 
-better_cases : (c t d u : ℕ) → Second c t d u ⊎ First c t d u
+pub better_cases : (c t d u : ℕ) → Second c t d u ⊎ First c t d u
 better_cases c t d u = elim (cases_order d c) [
   | inl e ↦ elim (cases_lt t u) [
     | inl l ↦ inl (rw (le-ltb d c (omega arith), eq-eqb d c e, lt-ltb t u l) refl, omega arith, λ f. l)

@@ -1,7 +1,7 @@
 //! A cursor over a list of entries that is a map.
-ghost use Rattle.std.specs.Prelude.{◌≡◌, ◌+◌, ◌<◌, ◌≤◌, length, nat_le, IsTrue};
+ghost use Rattle.std.specs.Prelude.{◌≡◌, ◌+◌, ◌<◌, ◌≤◌, length, nat_le, Contains, IfSome, IsTrue};
 ghost use Rattle.std.specs.List.{AllWithin};
-ghost use Rattle.page_ranges.specs.MemoryMap.{IsMap, memory_of};
+ghost use Rattle.page_ranges.specs.MemoryMap.{IsMap, memory_map, memory_of};
 ghost use Rattle.page_ranges.specs.Cursors.{IsBlockAt};
 
 use page_ranges::{Descriptor, PageCursor};
@@ -66,7 +66,8 @@ fn entry_from(map: &[Descriptor], page: u64, index: usize) -> Option<Descriptor>
     requires bound { index ≤ length map.now }
     requires by { AllWithin (λ e. e.first + e.pages ≤ page) map.now 0 index }
     requires above { AllWithin (λ e. page < e.first + e.pages) map.now index (length map.now) }
-    ensures { IsBlockAt (memory_of map.now) page result }
+    ensures block { IsBlockAt (memory_of map.now) page result }
+    ensures member { IfSome result (λ e. Contains map.now e) }
 {
     if index == map.len() {
         return None;
@@ -112,7 +113,11 @@ impl<'a> PageCursor for MapCursor<'a> {
     ghost memory = { λ c. c };
 
     #[inline(always)]
-    fn block_at(&mut self, page: u64) -> Option<Descriptor> {
+    fn block_at(&mut self, page: u64) -> Option<Descriptor>
+        ensures stays { self.new ≡ self.old }
+        ensures block { IsBlockAt self.old page result }
+        ensures entry { IfSome result (λ e. Contains (memory_map self.old) e) }
+    {
         let map = self.map;
         let index = count_ending_by_from(map, page, self.index);
         self.index = index;

@@ -1,16 +1,16 @@
 //! The search for the best start in one entry of a map after the other.
-ghost use Rattle.std.specs.Prelude.{◌≡◌, ◌↔◌, ◌+◌, ◌≤◌, length, Contains, IsTrue};
+ghost use Rattle.std.specs.Prelude.{◌≡◌, ◌↔◌, ◌+◌, ◌≤◌, Option, length, Contains, IsTrue};
 ghost use Rattle.page_ranges.specs.MemoryTypes.{conventional};
-ghost use Rattle.page_ranges.specs.Memory.{page_below, IsProperMemory};
+ghost use Rattle.page_ranges.specs.Memory.{Page, page_at, page_below, IsConventional, IsProperMemory};
 ghost use Rattle.page_ranges.specs.MemoryMap.{memory_map};
 ghost use Rattle.page_ranges.specs.Cursors.{IsBlockAt};
 ghost use Rattle.placement_certificate.specs.Placement.{IsProperRequest};
 ghost use Rattle.placement_certificate.specs.Certificates.{IsTrueLeast};
 ghost use Rattle.placement_certificate.specs.Search.{IsStop, IsOnPage};
 
-use crate::better::PricedStart;
+use crate::better::{PricedStart, better_of};
 use crate::certificates::Request;
-use crate::starts::EntryStarts;
+use crate::starts::{EntryStarts, edge_saves};
 use page_ranges::{Descriptor, MemoryType, PageCursor};
 use std::marker::Model;
 
@@ -52,6 +52,17 @@ fn first_fits(request: &Request, entry: &Descriptor, end_by: u64) -> bool
     ensures { IsTrue result ↔ (entry.now.first + request.now.pages ≤ end_by) }
 {
     entry.first <= end_by && request.pages <= end_by - entry.first
+}
+
+// Whether the page that a block holds is conventional.
+#[inline(always)]
+fn is_free(block: &Option<Descriptor>) -> bool
+    ensures { (x : Option Page) → IsOnPage block.now x → IsTrue result ↔ IsConventional x }
+{
+    match block {
+        Some(held) => held.mtype == MemoryType::conventional(),
+        None => false,
+    }
 }
 
 /// Finds the best start in entries of a memory's map. It looks at two kinds of places, each by a cursor
@@ -115,25 +126,24 @@ impl<C: PageCursor + Drop> EntrySearch<C> {
         (stop, stop, behind)
     }
 
-    /// The best start of a request in a conventional entry, with its price, given how many entries the
-    /// map has. Entries may be asked for in any order.
-    #[inline(always)]
-    pub fn least_in(
+    // The best start in a conventional entry, whatever lies behind it.
+    #[inline(never)]
+    fn least_in_stretch(
         &mut self,
         request: &Request,
         entries: u64,
         entry: &Descriptor,
+        below: Option<Descriptor>,
     ) -> Option<PricedStart>
         requires proper { IsProperMemory self.old }
         requires good { IsProperRequest request.now }
         requires entries { entries ≡ length (memory_map self.old) }
         requires entry { Contains (memory_map self.old) entry.now }
         requires free { entry.now.mtype ≡ conventional }
+        requires below { IsOnPage below (page_below self.old entry.now.first) }
         ensures stays { self.new ≡ self.old }
         ensures least { IsTrueLeast self.old request.now entry.now result }
     {
-        // Asked for first, since it is the lowest page.
-        let below = block_below(&mut self.sides, entry.first);
         let (stop, known_page, known_block) = self.stop_of(entry);
         let end_by = stop.min(request.limit);
         if !first_fits(request, entry, end_by) {
@@ -149,5 +159,71 @@ impl<C: PageCursor + Drop> EntrySearch<C> {
             known_block,
         };
         starts.least(&mut self.ends)
+    }
+
+    /// The best start of a request in a conventional entry, with its price, given how many entries the
+    /// map has, and blocks with the page just below the entry and the page just behind it.
+    /// Where the latter is not free, nothing is looked up. Entries may be asked for in any order.
+    #[inline(always)]
+    pub fn least_beside(
+        &mut self,
+        request: &Request,
+        entries: u64,
+        entry: &Descriptor,
+        below: Option<Descriptor>,
+        above: Option<Descriptor>,
+    ) -> Option<PricedStart>
+        requires proper { IsProperMemory self.old }
+        requires good { IsProperRequest request.now }
+        requires entries { entries ≡ length (memory_map self.old) }
+        requires entry { Contains (memory_map self.old) entry.now }
+        requires free { entry.now.mtype ≡ conventional }
+        requires below { IsOnPage below (page_below self.old entry.now.first) }
+        requires above { IsOnPage above (page_at self.old (entry.now.first + entry.now.pages)) }
+        ensures stays { self.new ≡ self.old }
+        ensures least { IsTrueLeast self.old request.now entry.now result }
+    {
+        if is_free(&above) {
+            return self.least_in_stretch(request, entries, entry, below);
+        }
+        let end = entry.first + entry.pages;
+        if !first_fits(request, entry, end.min(request.limit)) {
+            return None;
+        }
+        let free = Some(*entry);
+        let low_saves = edge_saves(request.mtype, &below, &free);
+        let high_saves = edge_saves(request.mtype, &above, &free);
+        if request.pages == entry.pages {
+            return Some((entries - low_saves - high_saves, entry.first));
+        }
+        let lowest = Some((entries + 1 - low_saves, entry.first));
+        if request.limit < end {
+            return lowest;
+        }
+        better_of(
+            lowest,
+            Some((entries + 1 - high_saves, end - request.pages)),
+        )
+    }
+
+    /// The same of an entry of which nothing else is known.
+    #[inline(always)]
+    pub fn least_in(
+        &mut self,
+        request: &Request,
+        entries: u64,
+        entry: &Descriptor,
+    ) -> Option<PricedStart>
+        requires proper { IsProperMemory self.old }
+        requires good { IsProperRequest request.now }
+        requires entries { entries ≡ length (memory_map self.old) }
+        requires entry { Contains (memory_map self.old) entry.now }
+        requires free { entry.now.mtype ≡ conventional }
+        ensures stays { self.new ≡ self.old }
+        ensures least { IsTrueLeast self.old request.now entry.now result }
+    {
+        let below = block_below(&mut self.sides, entry.first);
+        let above = self.sides.block_at(entry.first + entry.pages);
+        self.least_beside(request, entries, entry, below, above)
     }
 }

@@ -41,7 +41,11 @@ fn edge_adds(below: &Option<Descriptor>, above: &Option<Descriptor>) -> u64
 
 // What an edge saves, by blocks that hold the page outside it and the page inside it.
 #[inline(always)]
-fn edge_saves(mtype: MemoryType, outside: &Option<Descriptor>, inside: &Option<Descriptor>) -> u64
+pub(crate) fn edge_saves(
+    mtype: MemoryType,
+    outside: &Option<Descriptor>,
+    inside: &Option<Descriptor>,
+) -> u64
     ensures { (x y : Option Page) → IsOnPage outside.now x → IsOnPage inside.now y → result ≡ saves mtype x y }
 {
     match (outside, inside) {

@@ -4,7 +4,6 @@ ghost use Rattle.placement_certificate.specs.Placement.{IsProperRequest, IsPermi
 ghost use Rattle.placement_certificate.specs.Certificates.{IsTrueCertificate};
 
 use descriptor_table::RunTable;
-use page_ranges::MemoryType;
 use placement_certificate::{Bound, Certificate, EntrySearch, Request, better_of};
 use std::alloc::{AllocError, Allocator};
 
@@ -24,16 +23,17 @@ pub fn choose<A: Allocator + Copy, B: Allocator + Copy>(
     let mut bounds = Vec::with_capacity(alloc, entries)?;
     let mut best = None;
     let mut search = EntrySearch::new(table.cursor(), table.cursor());
-    for entry in table.map_entries() {
-        if entry.mtype == MemoryType::conventional() {
-            let least = search.least_in(request, entries as u64, &entry);
-            bounds.push_reserved(Bound {
-                first: entry.first,
-                pages: entry.pages,
-                least,
-            });
-            best = better_of(best, least);
-        }
+    let mut left = table.free_entries();
+    while let Some(free) = left.next_entry() {
+        let entry = free.entry;
+        let count = entries as u64;
+        let least = search.least_beside(request, count, &entry, free.below, free.above);
+        bounds.push_reserved(Bound {
+            first: entry.first,
+            pages: entry.pages,
+            least,
+        });
+        best = better_of(best, least);
     }
     match best {
         Some((_, answer)) => Ok(Some(Certificate { bounds, answer })),
