@@ -12,11 +12,11 @@ use Rattle.page_ranges.specs.MemoryTypes.{conventional}
 use Rattle.page_ranges.specs.Memory.{Page, page_at, IsProperMemory}
 use Rattle.page_ranges.specs.MemoryMap.{memory_map, IsLike}
 use Rattle.page_ranges.specs.Cursors.{IsBlock, IsBlockAt}
-use Rattle.page_ranges.specs.Runs.{pages_of, page_in, is_same_owner, should_be_one_run, AreRuns, AreMaximalRuns}
-use Rattle.page_ranges.proofs.MaximalRuns.{owner_itself, maximal_are_runs}
+use Rattle.page_ranges.specs.Runs.{pages_of, is_same_owner, should_be_one_run, AreRuns, AreMaximalRuns}
+use Rattle.page_ranges.proofs.MaximalRuns.{maximal_are_runs}
 use Rattle.page_ranges.proofs.Members.{member_first, member_later, member_cases}
 use Rattle.page_ranges.proofs.RunLists.{IsProperRun, proper_runs, ends_before, some_pages_at}
-use Rattle.page_ranges.proofs.RunMaps.{runs_join, block_of_run, map_of_last, map_joined, map_apart, first_block}
+use Rattle.page_ranges.proofs.RunMaps.{runs_join, map_of_last, map_joined, map_apart, first_block}
 use Rattle.descriptor_table.specs.Tables.{entry_of, IsBlockBelow}
 use Rattle.descriptor_table.proofs.Finding.{held_by, held_by_none, ends_by}
 use Rattle.descriptor_table.proofs.Order.{firsts_rise}

@@ -10,7 +10,7 @@ use Rattle.page_ranges.specs.MemoryTypes.{conventional}
 use Rattle.page_ranges.specs.Memory.{Page, IsProperMemory}
 use Rattle.page_ranges.specs.MemoryMap.{IsMap, memory_of}
 use Rattle.page_ranges.proofs.Maps.{memory_of-proper, map_of_memory_of}
-use Rattle.page_ranges.proofs.Members.{member_all, all_implied}
+use Rattle.page_ranges.proofs.Members.{member_all}
 use Rattle.placement_certificate.specs.declared.certificates.Request.{Request}
 use Rattle.placement_certificate.specs.declared.certificates.Bound.{Bound}
 use Rattle.placement_certificate.specs.Placement.{IsProperRequest, IsBestStart}
@@ -20,7 +20,7 @@ use Rattle.placement_certificate.specs.Search.{better, IsBestOf}
 use Rattle.placement_certificate.specs.Acceptance.{IsAccepted}
 use Rattle.placement_certificate.proofs.BestBounds.{no_bound}
 use Rattle.placement_certificate.proofs.Decided.{best_of, best_of_is, best_is}
-use Rattle.placement_certificate.proofs.MapLists.{map_drop, drop_entry}
+use Rattle.placement_certificate.proofs.MapLists.{drop_entry}
 use Rattle.placement_certificate.proofs.OneCertificate.{same_best}
 use Rattle.placement_certificate.proofs.Tries.{bound_more}
 

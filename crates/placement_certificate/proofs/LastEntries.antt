@@ -1,17 +1,17 @@
 -- The best start in an entry behind which no conventional page lies.
 use Rattle.std.proofs.Common.{◌≡◌, ◌≢◌, ℕ, ◌+◌, ◌-◌, ◌<◌, ◌≤◌, min, List, length, Contains, Option, Some, None, inl, inr, refl, sym, subst, arith}
-use Rattle.std.proofs.lemmas.Bool.{cases_lt, cases_eq}
+use Rattle.std.proofs.lemmas.Bool.{cases_lt}
 use Rattle.page_ranges.specs.declared.ranges.Descriptor.{Descriptor}
 use Rattle.page_ranges.specs.declared.ranges.Owner.TheVariants.{Pages}
 use Rattle.page_ranges.specs.MemoryTypes.{page_count, conventional}
 use Rattle.page_ranges.specs.Memory.{Page, page_at, page_below, IsProperMemory, IsConventional}
-use Rattle.page_ranges.specs.MemoryMap.{memory_map, IsLike, IsIn, IsMaximalBlock}
+use Rattle.page_ranges.specs.MemoryMap.{memory_map, IsIn, IsMaximalBlock}
 use Rattle.page_ranges.proofs.Blocks.{entry_is_block}
 use Rattle.placement_certificate.specs.declared.certificates.Request.{Request}
 use Rattle.placement_certificate.specs.Placement.{IsProperRequest, IsPermittedStart, price}
 use Rattle.placement_certificate.specs.Certificates.{IsTrueLeast}
 use Rattle.placement_certificate.specs.Laws.{EndsEntry, adds, saves}
-use Rattle.placement_certificate.specs.Search.{better, IsStop, IsTried, IsOnPage, PermitsUpTo}
+use Rattle.placement_certificate.specs.Search.{better, IsTried, IsOnPage, PermitsUpTo}
 use Rattle.placement_certificate.proofs.BlockStarts.{few_in_map, inside_block, none_fits}
 use Rattle.placement_certificate.proofs.Edges.{adds-none, adds-none_above, adds-one, saves-none, good_not_conventional, below_is_like, like_conventional}
 use Rattle.placement_certificate.proofs.FoundStarts.{least_found}

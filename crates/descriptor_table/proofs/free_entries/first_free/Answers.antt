@@ -1,5 +1,5 @@
 use Rattle.std.proofs.Common.{◌∙◌, rules, arith}
-use Rattle.std.proofs.lemmas.Option.{get_or_from_slice_get, slice_get_within}
+use Rattle.std.proofs.lemmas.Option.{slice_get_within}
 use Rattle.descriptor_table.proofs.FreeRuns.{passed_here}
 use Rattle.descriptor_table.proofs.free_entries.first_free.Goals as goal
 

@@ -1,4 +1,4 @@
-use Rattle.std.proofs.Common.{refl, rules}
+use Rattle.std.proofs.Common.{refl}
 use Rattle.descriptor_table.proofs.TableFacts.{held_block}
 use Rattle.descriptor_table.proofs.cursors.RunCursorPageCursor.block_at.Goals as goal
 

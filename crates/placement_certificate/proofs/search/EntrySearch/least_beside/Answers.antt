@@ -1,4 +1,4 @@
-use Rattle.std.proofs.Common.{◌≡◌, ◌+◌, ◌-◌, ◌≤◌, ◌∙◌, true≢false, min, sym, arith}
+use Rattle.std.proofs.Common.{◌+◌, ◌-◌, ◌≤◌, ◌∙◌, true≢false, min, sym, arith}
 use Rattle.page_ranges.specs.Memory.{page_at, page_below, IsConventional}
 use Rattle.page_ranges.proofs.Blocks.{entry_end}
 use Rattle.placement_certificate.proofs.LastEntries.{few, first_on, last_on, whole_price, low_price, high_price, whole_least, low_least, two_least}

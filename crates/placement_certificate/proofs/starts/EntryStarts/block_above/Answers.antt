@@ -1,4 +1,4 @@
-use Rattle.std.proofs.Common.{sym, subst, arith}
+use Rattle.std.proofs.Common.{subst, arith}
 use Rattle.page_ranges.specs.Cursors.{IsBlockAt}
 use Rattle.placement_certificate.proofs.starts.EntryStarts.block_above.Goals as goal
 

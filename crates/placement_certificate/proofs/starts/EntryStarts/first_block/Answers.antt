@@ -1,4 +1,4 @@
-use Rattle.std.proofs.Common.{◌≡◌, ◌+◌, ◌-◌, Option, None, ◌∙◌, sym, subst, arith}
+use Rattle.std.proofs.Common.{◌+◌, ◌-◌, subst, arith}
 use Rattle.page_ranges.specs.Cursors.{IsBlockAt}
 use Rattle.page_ranges.proofs.Blocks.{entry_is_block}
 use Rattle.placement_certificate.proofs.BlockStarts.{in_entry, not_absent}

@@ -1,6 +1,6 @@
-use Rattle.std.proofs.Common.{◌+◌, ◌-◌, ◌∙◌, sym, arith, rules}
+use Rattle.std.proofs.Common.{◌∙◌, arith}
 use Rattle.page_ranges.proofs.Blocks.{entry_end}
-use Rattle.placement_certificate.proofs.BlockStarts.{block_end, in_entry, start_end, none_tried, next_present, next_above, tried_more, tried_all}
+use Rattle.placement_certificate.proofs.BlockStarts.{block_end, in_entry, start_end, none_tried, next_present, tried_more, tried_all}
 use Rattle.placement_certificate.proofs.starts.EntryStarts.least.Goals as goal
 use Rattle.placement_certificate.proofs.starts.EntryStarts.least.Goals.{then-start-highest-via-then-start-highest, then-start-highest-via-else-start-highest+then-end-self}
 

@@ -1,7 +1,6 @@
-use Rattle.std.proofs.Common.{◌+◌, Some, arith}
+use Rattle.std.proofs.Common.{◌+◌, arith}
 use Rattle.page_ranges.specs.Memory.{page_at, page_below}
 use Rattle.placement_certificate.proofs.Edges.{adds-most}
-use Rattle.placement_certificate.proofs.Places.{permitted_end}
 use Rattle.placement_certificate.proofs.BlockStarts.{on_page, block_end, first_on, last_on, price_by_edges, few_entries}
 use Rattle.placement_certificate.proofs.starts.EntryStarts.price_of.Goals as goal
 
