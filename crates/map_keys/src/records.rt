@@ -81,7 +81,7 @@ pub fn read_descriptors<A: Allocator>(
     if bytes.len() % RECORD_SIZE != 0 {
         return Ok(None);
     }
-    let mut entries = Vec::new(alloc);
+    let mut entries = Vec::with_capacity(alloc, bytes.len() / RECORD_SIZE)?;
     for record in bytes.chunks_exact(RECORD_SIZE) {
         let Some(entry) = read_record(record) else {
             return Ok(None);

@@ -6,7 +6,7 @@ ghost use Rattle.text_lines.specs.Lines.{TakesByte, TakesLine};
 
 use crate::sources::ByteSource;
 use std::alloc::Allocator;
-use std::io::{self, BufReader, Read};
+use std::io::{self, BufRead, BufReader, Read};
 
 /// The most bytes of a line, without its line feed.
 pub const LONGEST_LINE: usize = 65_536;
@@ -25,12 +25,11 @@ pub enum LineFault {
 pub fn next_byte<R: Read, A: Allocator>(reader: &mut BufReader<R, A>) -> io::Result<Option<u8>>
     ensures { IfOk result (λ next. TakesByte (reader_remaining R.remaining reader.old) next (reader_remaining R.remaining reader.new)) }
 {
-    let mut byte = [0u8; 1];
-    match reader.read(&mut byte) {
-        Ok(0) => Ok(None),
-        Ok(_) => Ok(Some(byte[0])),
-        Err(error) => Err(error),
+    let next = reader.fill_buf()?.first().copied();
+    if next.is_some() {
+        reader.consume(1);
     }
+    Ok(next)
 }
 
 /// Puts the next line in the place of `line`, without its line feed, and answers whether there was
