@@ -4,7 +4,5 @@
 mod pool;
 mod region;
 mod store;
-#[cfg(test)]
-mod tests;
 
 pub use pool::RawPool;

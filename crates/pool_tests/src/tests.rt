@@ -1,5 +1,5 @@
 //! Blocks that were worked out by hand, and generated calls against a plain list.
-use super::*;
+use raw_pool::RawPool;
 use std::alloc::Allocator;
 use std::process::Abort;
 use std::test::Fail;
@@ -7,50 +7,42 @@ use std::test::Fail;
 /// A page holds 128 blocks of one cell, of 24 bytes at most.
 const PAGE_BLOCKS: usize = 128;
 
-#[test]
-fn first_run_that_fits(rt: HostRuntime) -> Result<(), Fail> {
-    let mut pool = RawPool::new(rt.alloc(), 1)?;
-    assert_eq!(rt; pool.take(24), Some(0));
-    assert_eq!(rt; pool.take(25), Some(1));
-    assert_eq!(rt; pool.give(0), true);
-    assert_eq!(rt; pool.take(100), Some(3));
-    assert_eq!(rt; pool.take(1), Some(0));
-    assert_eq!(rt; pool.take(4088), None);
-    assert_eq!(rt; pool.write(0, 0, b"\x5a"), true);
-    assert_eq!(rt; pool.bytes(0), Some(b"\x5a".as_slice()));
-    Ok(())
+/// A call on a region, and what it answers.
+enum Step {
+    /// The size of a block to take, and its first cell.
+    Take(usize, Option<usize>),
+    /// The cell of a block to give back, and whether there is one.
+    Give(usize, bool),
+    /// The cell of a block, the first byte to write, the bytes, and whether they fit.
+    Write(usize, usize, &'static [u8], bool),
+    /// The cell of a block, its size, and its first and its last bytes.
+    Holds(usize, usize, &'static [u8], &'static [u8]),
+    /// A cell at which no block begins.
+    Refuses(usize),
+    /// How many cells the longest free run has.
+    Longest(usize),
+    /// Whether there is no block.
+    Empty(bool),
 }
 
-#[test]
-fn freed_cells_again(rt: HostRuntime) -> Result<(), Fail> {
-    let mut pool = RawPool::new(rt.alloc(), 1)?;
-    for cell in 0..4 {
-        assert_eq!(rt; pool.take(24), Some(cell));
+fn make<A: Allocator + Copy>(rt: &impl Abort, pool: &mut RawPool<A>, step: &Step) {
+    match step {
+        Step::Take(size, cell) => assert_eq!(rt; pool.take(*size), *cell, "{size} bytes"),
+        Step::Give(cell, given) => assert_eq!(rt; pool.give(*cell), *given, "cell {cell}"),
+        Step::Write(cell, at, bytes, fits) => {
+            assert_eq!(rt; pool.write(*cell, *at, bytes), *fits, "cell {cell} at {at}");
+        }
+        Step::Holds(cell, size, front, back) => {
+            assert_eq!(rt; pool.size_of(*cell), Some(*size), "cell {cell}");
+            let bytes = pool.bytes(*cell).expect(rt, "a block");
+            assert_eq!(rt; bytes.len(), *size);
+            assert!(rt; bytes.starts_with(front), "cell {cell}");
+            assert!(rt; bytes.ends_with(back), "cell {cell}");
+        }
+        Step::Refuses(cell) => refuses(rt, pool, *cell),
+        Step::Longest(cells) => assert_eq!(rt; pool.longest_free(), *cells),
+        Step::Empty(empty) => assert_eq!(rt; pool.is_empty(), *empty),
     }
-    assert_eq!(rt; pool.write(0, 0, b"\xa5"), true);
-    assert_eq!(rt; pool.give(1), true);
-    assert_eq!(rt; pool.give(3), true);
-    assert_eq!(rt; pool.take(4), Some(1));
-    assert_eq!(rt; pool.bytes(1), Some(b"\0\0\0\0".as_slice()));
-    Ok(())
-}
-
-/// Cells at which no block begins, and ranges that lie in none.
-#[test]
-fn nothing_there(rt: HostRuntime) -> Result<(), Fail> {
-    let mut pool = RawPool::new(rt.alloc(), 1)?;
-    assert_eq!(rt; pool.is_empty(), true);
-    assert_eq!(rt; pool.take(40), Some(0));
-    // A header in a block's bytes is none.
-    assert_eq!(rt; pool.write(0, 24, b"\x08\0\0\0\0\0\0\0"), true);
-    for cell in [1, 2, 127, 128, usize::MAX] {
-        refuses(&rt, &mut pool, cell);
-    }
-    assert_eq!(rt; pool.write(0, 40, b"\x01"), false);
-    assert_eq!(rt; pool.give(0), true);
-    refuses(&rt, &mut pool, 0);
-    assert_eq!(rt; pool.is_empty(), true);
-    Ok(())
 }
 
 fn refuses<A: Allocator + Copy>(rt: &impl Abort, pool: &mut RawPool<A>, cell: usize) {
@@ -59,6 +51,96 @@ fn refuses<A: Allocator + Copy>(rt: &impl Abort, pool: &mut RawPool<A>, cell: us
     assert_eq!(rt; pool.bytes(cell), None, "cell {cell}");
     assert_eq!(rt; pool.write(cell, 0, b""), false, "cell {cell}");
 }
+
+/// Makes the calls on a new region of so many pages.
+fn make_all(rt: &(impl AllocGlobal + Abort), pages: usize, steps: &[Step]) {
+    if pages == 0 || pages > 4 {
+        panic!(rt; "{pages} pages");
+    }
+    let mut pool = RawPool::new(rt.alloc(), pages).expect(rt, "memory");
+    for step in steps {
+        make(rt, &mut pool, step);
+    }
+}
+
+#[test]
+fn first_run_that_fits(rt: HostRuntime) {
+    make_all(&rt, 1, FIRST_RUN);
+}
+
+const FIRST_RUN: &[Step] = &[
+    Step::Take(24, Some(0)),
+    Step::Take(25, Some(1)),
+    Step::Give(0, true),
+    Step::Take(100, Some(3)),
+    Step::Take(1, Some(0)),
+    Step::Take(4088, None),
+    Step::Write(0, 0, b"\x5a", true),
+    Step::Holds(0, 1, b"\x5a", b"\x5a"),
+];
+
+#[test]
+fn freed_cells_again(rt: HostRuntime) {
+    make_all(&rt, 1, FREED_CELLS);
+}
+
+const FREED_CELLS: &[Step] = &[
+    Step::Take(24, Some(0)),
+    Step::Take(24, Some(1)),
+    Step::Take(24, Some(2)),
+    Step::Take(24, Some(3)),
+    Step::Write(0, 0, b"\xa5", true),
+    Step::Give(1, true),
+    Step::Give(3, true),
+    Step::Take(4, Some(1)),
+    Step::Holds(1, 4, b"\0\0\0\0", b"\0\0\0\0"),
+];
+
+#[test]
+fn nothing_there(rt: HostRuntime) {
+    make_all(&rt, 1, NOTHING_THERE);
+}
+
+/// Cells at which no block begins, and ranges that lie in none. A header in a block's bytes is none.
+const NOTHING_THERE: &[Step] = &[
+    Step::Empty(true),
+    Step::Take(40, Some(0)),
+    Step::Write(0, 24, b"\x08\0\0\0\0\0\0\0", true),
+    Step::Refuses(1),
+    Step::Refuses(2),
+    Step::Refuses(127),
+    Step::Refuses(128),
+    Step::Refuses(usize::MAX),
+    Step::Write(0, 40, b"\x01", false),
+    Step::Give(0, true),
+    Step::Refuses(0),
+    Step::Empty(true),
+];
+
+#[test]
+fn largest_block(rt: HostRuntime) {
+    make_all(&rt, 4, LARGEST_BLOCK);
+}
+
+/// The bytes of a region of four pages: 512 cells of 32.
+const REGION_SIZE: usize = 512 * 32;
+
+/// The largest block of a region of four pages, read and written at both ends.
+const LARGEST_BLOCK: &[Step] = &[
+    Step::Take(REGION_SIZE - 7, None),
+    Step::Take(REGION_SIZE - 8, Some(0)),
+    Step::Longest(0),
+    Step::Take(0, None),
+    Step::Write(0, 0, b"\x11\x22", true),
+    Step::Write(0, 16374, b"\x33\x44", true),
+    Step::Write(0, 16375, b"\x55\x66", false),
+    Step::Write(0, 16376, b"\x55", false),
+    Step::Holds(0, 16376, b"\x11\x22\0", b"\0\x33\x44"),
+    Step::Give(0, true),
+    Step::Empty(true),
+    Step::Take(REGION_SIZE - 8, Some(0)),
+    Step::Holds(0, 16376, b"\0\0\0", b"\0\0\0"),
+];
 
 #[test]
 fn sizes_at_the_edges(rt: HostRuntime) -> Result<(), Fail> {
@@ -102,34 +184,6 @@ fn full_page(rt: HostRuntime) -> Result<(), Fail> {
     assert_eq!(rt; pool.take(4088), Some(0));
     Ok(())
 }
-
-/// The largest block of a region of four pages, read and written at both ends.
-#[test]
-fn largest_block(rt: HostRuntime) -> Result<(), Fail> {
-    let mut pool = RawPool::new(rt.alloc(), 4)?;
-    assert_eq!(rt; pool.take(REGION_SIZE - 7), None);
-    assert_eq!(rt; pool.take(REGION_SIZE - 8), Some(0));
-    assert_eq!(rt; pool.size_of(0), Some(16376));
-    assert_eq!(rt; pool.longest_free(), 0);
-    assert_eq!(rt; pool.take(0), None);
-    assert_eq!(rt; pool.write(0, 0, b"\x11\x22"), true);
-    assert_eq!(rt; pool.write(0, 16374, b"\x33\x44"), true);
-    assert_eq!(rt; pool.write(0, 16375, b"\x55\x66"), false);
-    assert_eq!(rt; pool.write(0, 16376, b"\x55"), false);
-    let bytes = pool.bytes(0).expect(&rt, "a block");
-    assert_eq!(rt; bytes.len(), 16376);
-    assert_eq!(rt; bytes.first_chunk::<3>(), Some(b"\x11\x22\0"));
-    assert_eq!(rt; bytes.last_chunk::<3>(), Some(b"\0\x33\x44"));
-    assert_eq!(rt; pool.give(0), true);
-    assert_eq!(rt; pool.is_empty(), true);
-    assert_eq!(rt; pool.take(REGION_SIZE - 8), Some(0));
-    let bytes = pool.bytes(0).expect(&rt, "a block");
-    assert!(rt; bytes.iter().all(|byte| *byte == 0));
-    Ok(())
-}
-
-/// The bytes of a region of four pages: 512 cells of 32.
-const REGION_SIZE: usize = 512 * 32;
 
 /// A block that was taken, and the byte that it was filled with.
 #[derive(Drop)]

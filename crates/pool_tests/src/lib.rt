@@ -1,0 +1,5 @@
+//! Tests of raw pool memory.
+#![tactic(auto)]
+
+#[cfg(test)]
+mod tests;
