@@ -1,4 +1,4 @@
-//! Tests of raw pool memory.
+//! Tests of raw pool memory, and of the pool.
 #![tactic(auto)]
 
 #[cfg(test)]

@@ -1,0 +1,10 @@
+use Rattle.std.proofs.Common.{sym, ap, ◌∙◌, arith}
+use Rattle.raw_pool.specs.Blocks.{Pool}
+use Rattle.pool_services.proofs.CellBlocks.{count-without}
+use Rattle.pool_services.proofs.extents.PoolExtent.give.Goals as goal
+
+pub invariant_of-self : goal.invariant_of-self
+invariant_of-self g c =
+    let p = c.give.ensures.pool in
+    let n = count-without c.args.cell c.self.inside.region.blocks (sym (c.if-give.ensures.given)) in
+    (ap (λ (p : Pool). p.cells) p ∙ c.self.invariant.0, rw p (omega (arith, n, c.self.invariant.1)), c.longest_free-self-inside.ensures)

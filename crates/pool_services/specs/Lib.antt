@@ -1,0 +1,4 @@
+pub mod Extents
+pub mod PoolRules
+pub mod Laws
+pub mod Searches

@@ -1,0 +1,225 @@
+//! An extent of the pool with its region of memory.
+ghost use Rattle.std.specs.Prelude.{◌≡◌, ◌+◌, ◌<◌, ◌≤◌, ◌↔◌, ◌^◌, [], length, is_some, option_map, true, IsTrue, MatchOption};
+ghost use Rattle.raw_pool.specs.Blocks.{block_at, cells_for, longest_run, lowest_fit, new_block, with_block, without_block};
+ghost use Rattle.pool_services.specs.Extents.{IsExtent, address_of, cell_of, cells_in, max_size, new_extent, pages_for, tail_in, with_blocks};
+ghost use Rattle.pool_services.specs.Searches.{HasRoom, HoldsAddress, IsLastUpTo, IsLocated, written_if};
+
+use page_ranges::{MemoryType, PAGE_SIZE, PageRange};
+use raw_pool::RawPool;
+use std::alloc::Allocator;
+use std::marker::Model;
+
+/// The bytes of a cell.
+const CELL_SIZE: u64 = 32;
+
+/// The bytes of a cell that come before its block's.
+pub(crate) const HEADER_SIZE: u64 = 8;
+
+/// The cells of a page.
+const PAGE_CELLS: usize = 128;
+
+/// The cells that a block of a size takes.
+pub(crate) fn cells_for(size: usize) -> usize
+    requires { size ≤ max_size }
+    ensures { result ≡ cells_for size }
+{
+    (size + 39) / 32
+}
+
+/// The fewest pages that hold a block of a size.
+pub(crate) fn pages_for(size: usize) -> usize
+    requires { size ≤ max_size }
+    ensures pages { result ≡ pages_for size }
+    ensures some { 0 < result }
+    ensures few { result ≤ 2 ^ 21 }
+{
+    (cells_for(size) + 127) / PAGE_CELLS
+}
+
+/// Some pages of one type and the blocks in them.
+#[derive(Drop)]
+pub(crate) struct PoolExtent<A: Allocator> {
+    range: PageRange,
+    mtype: MemoryType,
+    region: RawPool<A>,
+    // How many blocks there are.
+    live: usize,
+    // How many cells the longest run of free cells has.
+    longest: usize,
+}
+
+impl<A: Allocator> Model for PoolExtent<A> {
+    ghost use Rattle.std.specs.Prelude.{◌≡◌, length};
+    ghost use Rattle.raw_pool.specs.Blocks.{longest_run};
+    ghost use Rattle.pool_services.specs.Extents.{Extent, cells_in};
+
+    ghost Value = { Extent };
+
+    ghost view = { λ e. record { first = e.range.first; pages = e.range.pages; mtype = e.mtype; blocks = e.region.blocks } };
+
+    ghost invariant = { λ e. (e.region.cells ≡ cells_in e.range.pages) × (e.live ≡ length e.region.blocks) × (e.longest ≡ longest_run e.region.cells 0 e.region.blocks) };
+}
+
+impl<A: Allocator + Copy> PoolExtent<A> {
+    /// An extent with a first block, for which it is just large enough.
+    pub(crate) fn with_block(
+        first: u64,
+        mtype: MemoryType,
+        mut region: RawPool<A>,
+        pages: u64,
+        size: usize,
+    ) -> PoolExtent<A>
+        requires pages { pages ≡ pages_for size }
+        requires size { size ≤ max_size }
+        requires region { region ≡ record { cells = cells_in pages; blocks = [] } }
+        ensures { result ≡ new_extent first mtype size }
+    {
+        if region.take(size).is_none() {
+            unreachable!();
+        }
+        let longest = region.longest_free();
+        PoolExtent {
+            range: PageRange { first, pages },
+            mtype,
+            region,
+            live: 1,
+            longest,
+        }
+    }
+
+    /// The pages.
+    pub(crate) fn range(&self) -> PageRange
+        ensures first { result.first ≡ self.now.first }
+        ensures pages { result.pages ≡ self.now.pages }
+    {
+        self.range
+    }
+
+    /// The type of the pages.
+    pub(crate) fn mtype(&self) -> MemoryType
+        ensures { result ≡ self.now.mtype }
+    {
+        self.mtype
+    }
+
+    /// How many cells the longest run of free cells has.
+    pub(crate) fn longest(&self) -> usize
+        ensures { result ≡ longest_run (cells_in self.now.pages) 0 self.now.blocks }
+    {
+        self.longest
+    }
+
+    /// Whether there is just one block.
+    pub(crate) fn has_one_block(&self) -> bool
+        ensures { IsTrue result ↔ (length self.now.blocks ≡ 1) }
+    {
+        self.live == 1
+    }
+
+    /// Takes the lowest run of free cells that has room for a block, and answers its first cell.
+    pub(crate) fn take(&mut self, size: usize) -> Option<usize>
+        requires { IsExtent self.old }
+        ensures cell { result ≡ lowest_fit (cells_in self.old.pages) (cells_for size) 0 self.old.blocks }
+        ensures extent { MatchOption result (self.new ≡ self.old) (λ cell. self.new ≡ with_blocks (with_block (new_block cell size) self.old.blocks) self.old) }
+    {
+        let cell = self.region.take(size)?;
+        self.live += 1;
+        self.longest = self.region.longest_free();
+        Some(cell)
+    }
+
+    /// Gives the block at a cell back.
+    pub(crate) fn give(&mut self, cell: usize)
+        requires extent { IsExtent self.old }
+        requires block { is_some (block_at cell self.old.blocks) ≡ true }
+        ensures { self.new ≡ with_blocks (without_block cell self.old.blocks) self.old }
+    {
+        if self.region.give(cell) {
+            self.live -= 1;
+            self.longest = self.region.longest_free();
+        }
+    }
+
+    /// The address of the block at a cell.
+    pub(crate) fn address_of(&self, cell: usize) -> u64
+        requires extent { IsExtent self.now }
+        requires cell { cell < cells_in self.now.pages }
+        ensures { result ≡ address_of self.now.first cell }
+    {
+        PAGE_SIZE * self.range.first + CELL_SIZE * cell as u64 + HEADER_SIZE
+    }
+
+    /// The cell of the block that has an address, which lies in the extent.
+    pub(crate) fn cell_of(&self, address: u64) -> Option<usize>
+        requires extent { IsExtent self.now }
+        requires in_extent { HoldsAddress self.now address }
+        ensures { result ≡ cell_of self.now.first address self.now.blocks }
+    {
+        let offset = address - HEADER_SIZE - PAGE_SIZE * self.range.first;
+        if offset % CELL_SIZE != 0 {
+            return None;
+        }
+        let cell = (offset / CELL_SIZE) as usize;
+        if self.region.size_of(cell).is_some() {
+            Some(cell)
+        } else {
+            None
+        }
+    }
+
+    /// The last cell of some that begins a block, of the first cells up to one.
+    fn block_up_to(&self, cell: usize) -> Option<usize>
+        requires { cell < 2 ^ 60 }
+        ensures { IsLastUpTo cell self.now.blocks result }
+    {
+        let mut end = cell + 1;
+        while end > 0 {
+            end -= 1;
+            if self.region.size_of(end).is_some() {
+                return Some(end);
+            }
+        }
+        None
+    }
+
+    /// The block that alone an address can belong to, which lies in the extent: its cell, and how many
+    /// bytes lie before the address in it or behind it.
+    fn locate(&self, address: u64) -> Option<(usize, usize)>
+        requires extent { IsExtent self.now }
+        requires in_extent { HoldsAddress self.now address }
+        ensures { IsLocated self.now address result }
+    {
+        let offset = address - HEADER_SIZE - PAGE_SIZE * self.range.first;
+        let cell = self.block_up_to((offset / CELL_SIZE) as usize)?;
+        Some((cell, (offset - CELL_SIZE * cell as u64) as usize))
+    }
+
+    /// The bytes from an address on, which lies in the extent, to the end of the block that it belongs to.
+    pub(crate) fn tail(&self, address: u64) -> Option<&[u8]>
+        requires extent { IsExtent self.now }
+        requires in_extent { HoldsAddress self.now address }
+        ensures { option_map (λ s. s.now) result ≡ tail_in self.now.first address self.now.blocks }
+    {
+        let (cell, at) = self.locate(address)?;
+        let bytes = self.region.bytes(cell)?;
+        if at <= bytes.len() {
+            Some(&bytes[at..])
+        } else {
+            None
+        }
+    }
+
+    /// Writes bytes from an address on, which lies in the extent. False, with nothing changed, if they
+    /// do not lie in one block.
+    pub(crate) fn write(&mut self, address: u64, bytes: &[u8]) -> bool
+        requires extent { IsExtent self.old }
+        requires in_extent { HoldsAddress self.old address }
+        ensures written { IsTrue result ↔ HasRoom (length bytes.now) (tail_in self.old.first address self.old.blocks) }
+        ensures extent { self.new ≡ written_if result address bytes.now self.old }
+    {
+        match self.locate(address) {
+            Some((cell, at)) => self.region.write(cell, at, bytes),
+            None => false,
+        }
+    }
+}

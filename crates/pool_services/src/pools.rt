@@ -1,0 +1,233 @@
+//! The pool of a machine.
+ghost use Rattle.std.specs.Prelude.{◌≡◌, ◌<◌, ◌≤◌, ◌^◌, false, [], length, option_map, None, Some};
+ghost use Rattle.page_ranges.specs.MemoryTypes.{is_bad_type};
+ghost use Rattle.page_services.specs.PageRules.{IsBestChoice};
+ghost use Rattle.pool_services.specs.Extents.{first_fit, max_size, tail_at};
+ghost use Rattle.pool_services.specs.PoolRules.{AllocatesPool, FreesPool, OwnsExtents, ReadsPool, WritesPool};
+ghost use Rattle.pool_services.specs.Searches.{IsEnded, IsFound, IsGivable, IsGivenIn, IsHolder, IsTakenIn, IsTakenLive, IsWrittenIn};
+
+use crate::extents::{HEADER_SIZE, PoolExtent, cells_for, pages_for};
+use crate::searches::{add, first_with_room, holder};
+use page_ranges::{MemoryType, PAGE_SIZE, Status, type_for_alloc};
+use page_services::PageBook;
+use placement_certificate::Certificate;
+use raw_pool::RawPool;
+use std::alloc::{Allocator, Global};
+use std::marker::Model;
+
+/// A block may have so many bytes.
+const MAX_SIZE: u64 = 0x1_0000_0000;
+
+/// The pool of a machine: its extents, in the order of their addresses, and the blocks in them.
+///
+/// The calls that are handed the machine's book ask that the pages of the pool in it are the pages
+/// of these extents, and keep it so.
+#[derive(Drop)]
+pub struct Pools<A: Allocator = Global> {
+    alloc: A,
+    extents: Vec<PoolExtent<A>, A>,
+}
+
+impl<A: Allocator> Model for Pools<A> {
+    ghost use Rattle.std.specs.Prelude.{List};
+    ghost use Rattle.pool_services.specs.Extents.{AreExtents, Extent};
+
+    ghost Value = { List Extent };
+
+    ghost view = { λ p. p.extents.items };
+
+    ghost invariant = { λ p. AreExtents p.extents.items };
+}
+
+impl<A: Allocator + Copy> Pools<A> {
+    /// A pool without extents. This takes no memory.
+    pub fn new(alloc: A) -> Pools<A>
+        ensures { result ≡ [] }
+    {
+        Pools {
+            alloc,
+            extents: Vec::new(alloc),
+        }
+    }
+
+    /// AllocatePool: a block of so many bytes, all 0, of the type `mtype`. Of the extents of the type it
+    /// goes into the lowest that has room, at the lowest place there. If none has, new pages are
+    /// placed for it, and the answer has the certificate of their place beside the block's address.
+    ///
+    /// INVALID_PARAMETER: a type that no request may name. OUT_OF_RESOURCES: more than 2^32 bytes; or
+    /// new pages are needed, and no place is permitted or memory ran out. On an `Err` all is as it was.
+    pub fn allocate(
+        &mut self,
+        book: &mut PageBook<A>,
+        mtype: u32,
+        size: u64,
+    ) -> Result<(u64, Option<Certificate<A>>), Status>
+        requires key { book.old.key < 2 ^ 62 }
+        requires owns { OwnsExtents book.old.memory self.old }
+        ensures allocates { AllocatesPool IsBestChoice book.old self.old mtype size result book.new self.new }
+        ensures owns { OwnsExtents book.new.memory self.new }
+    {
+        let mtype = type_for_alloc(mtype)?;
+        if size > MAX_SIZE {
+            return Err(Status::OutOfResources);
+        }
+        let size = size as usize;
+        match self.take_live(mtype, size) {
+            Some(address) => Ok((address, None)),
+            None => self.take_new(book, mtype, size),
+        }
+    }
+
+    // Takes a block in the first extent of its type that has room, and answers its address.
+    fn take_live(&mut self, mtype: MemoryType, size: usize) -> Option<u64>
+        requires { size ≤ max_size }
+        ensures { IsTakenLive mtype size self.old result self.new }
+    {
+        let at = first_with_room(self.extents.as_slice(), mtype, cells_for(size))?;
+        self.take_in(at, size)
+    }
+
+    // Takes a block in an extent.
+    fn take_in(&mut self, at: usize, size: usize) -> Option<u64>
+        requires size { size ≤ max_size }
+        requires index { at < length self.old }
+        ensures { IsTakenIn at size self.old result self.new }
+    {
+        let extent = &mut self.extents[at];
+        let cell = extent.take(size)?;
+        Some(extent.address_of(cell))
+    }
+
+    // Takes a block in a new extent. All memory is taken before the pages.
+    fn take_new(
+        &mut self,
+        book: &mut PageBook<A>,
+        mtype: MemoryType,
+        size: usize,
+    ) -> Result<(u64, Option<Certificate<A>>), Status>
+        requires key { book.old.key < 2 ^ 62 }
+        requires owns { OwnsExtents book.old.memory self.old }
+        requires good { is_bad_type mtype ≡ false }
+        requires size { size ≤ max_size }
+        requires none { first_fit mtype size self.old ≡ None }
+        ensures allocates { AllocatesPool IsBestChoice book.old self.old mtype size result book.new self.new }
+        ensures owns { OwnsExtents book.new.memory self.new }
+    {
+        let pages = pages_for(size);
+        let Ok(region) = RawPool::new(self.alloc, pages) else {
+            return Err(Status::OutOfResources);
+        };
+        let Ok(()) = self.extents.reserve(1) else {
+            return Err(Status::OutOfResources);
+        };
+        // That the book's memory is proper is known of its table's length.
+        let _ = book.table().len();
+        let Ok(placed) = book.take_for_pool(mtype, pages as u64) else {
+            return Err(Status::OutOfResources);
+        };
+        let first = placed.address / PAGE_SIZE;
+        let extent = PoolExtent::with_block(first, mtype, region, pages as u64, size);
+        add(&mut self.extents, extent);
+        Ok((placed.address + HEADER_SIZE, placed.certificate))
+    }
+
+    // Gives the block at a cell of an extent back, which is not the only one there.
+    fn give_in(&mut self, at: usize, cell: usize)
+        requires { IsGivable at cell self.old }
+        ensures { IsGivenIn at cell self.old self.new }
+    {
+        self.extents[at].give(cell);
+    }
+
+    // Ends an extent: its pages are given back.
+    fn end(&mut self, book: &mut PageBook<A>, at: usize) -> Result<(), Status>
+        requires key { book.old.key < 2 ^ 62 }
+        requires owns { OwnsExtents book.old.memory self.old }
+        requires index { at < length self.old }
+        ensures ended { IsEnded at book.old self.old result book.new self.new }
+        ensures owns { OwnsExtents book.new.memory self.new }
+    {
+        book.give_from_pool(self.extents[at].range())?;
+        self.extents.remove(at);
+        Ok(())
+    }
+
+    /// FreePool: gives the block at an address back. An extent that has no other block ends, and its
+    /// pages are conventional again.
+    ///
+    /// INVALID_PARAMETER: no block has the address. OUT_OF_RESOURCES: memory ran out for the book, as an
+    /// extent was to end. On an `Err` all is as it was.
+    pub fn free(&mut self, book: &mut PageBook<A>, address: u64) -> Result<(), Status>
+        requires key { book.old.key < 2 ^ 62 }
+        requires owns { OwnsExtents book.old.memory self.old }
+        ensures frees { FreesPool book.old self.old address result book.new self.new }
+        ensures owns { OwnsExtents book.new.memory self.new }
+    {
+        let Some((at, cell)) = self.find(address) else {
+            return Err(Status::InvalidParameter);
+        };
+        if self.extents[at].has_one_block() {
+            return self.end(book, at);
+        }
+        self.give_in(at, cell);
+        Ok(())
+    }
+
+    // The block that has an address: the index of its extent, and its cell.
+    fn find(&self, address: u64) -> Option<(usize, usize)>
+        ensures { IsFound address self.now result }
+    {
+        let at = holder(self.extents.as_slice(), address)?;
+        let cell = self.extents[at].cell_of(address)?;
+        Some((at, cell))
+    }
+
+    /// Reads the bytes from an address on into a buffer, all of which one block must have.
+    ///
+    /// INVALID_PARAMETER: they do not lie in one block. The buffer is then as it was.
+    pub fn read(&self, address: u64, buffer: &mut [u8]) -> Result<(), Status>
+        ensures { ReadsPool self.now address buffer.old result buffer.new }
+    {
+        match self.tail(address) {
+            Some(bytes) if buffer.len() <= bytes.len() => {
+                buffer.copy_from_slice(&bytes[..buffer.len()]);
+                Ok(())
+            }
+            _ => Err(Status::InvalidParameter),
+        }
+    }
+
+    /// Writes bytes from an address on, all of which must lie in one block.
+    ///
+    /// INVALID_PARAMETER: they do not. All is then as it was.
+    pub fn write(&mut self, address: u64, bytes: &[u8]) -> Result<(), Status>
+        ensures { WritesPool self.old address bytes.now result self.new }
+    {
+        let Some(at) = holder(self.extents.as_slice(), address) else {
+            return Err(Status::InvalidParameter);
+        };
+        if self.write_in(at, address, bytes) {
+            Ok(())
+        } else {
+            Err(Status::InvalidParameter)
+        }
+    }
+
+    // Writes bytes in the extent that holds their address. False, with nothing changed, if they do not
+    // lie in one block.
+    fn write_in(&mut self, at: usize, address: u64, bytes: &[u8]) -> bool
+        requires { IsHolder self.old address (Some at) }
+        ensures { IsWrittenIn address bytes.now self.old result self.new }
+    {
+        self.extents[at].write(address, bytes)
+    }
+
+    /// The bytes from an address on to the end of the block that it belongs to. An address belongs to a
+    /// block from its first byte on up to the end behind its last byte.
+    pub fn tail(&self, address: u64) -> Option<&[u8]>
+        ensures { option_map (λ s. s.now) result ≡ tail_at address self.now }
+    {
+        let at = holder(self.extents.as_slice(), address)?;
+        self.extents[at].tail(address)
+    }
+}
