@@ -8,6 +8,7 @@ mod room;
 mod searches;
 
 pub use laws::{
-    freed_keeps_pool_law, given_pages_law, placed_keeps_pool_law, written_keeps_pool_law,
+    allocated_bytes_law, freed_bytes_law, freed_keeps_pool_law, given_pages_law,
+    placed_keeps_pool_law, read_bytes_law, written_bytes_law, written_keeps_pool_law,
 };
 pub use pools::Pools;
