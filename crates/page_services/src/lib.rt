@@ -3,4 +3,4 @@
 
 mod page_book;
 
-pub use page_book::{PageBook, Placed, placement_request};
+pub use page_book::{PageBook, Placed, placement_request, pool_request};

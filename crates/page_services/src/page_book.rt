@@ -4,7 +4,7 @@ ghost use Rattle.page_ranges.specs.declared.ranges.Owner.TheVariants.{Given, Poo
 ghost use Rattle.page_ranges.specs.MemoryTypes.{conventional, is_bad_type, page_count};
 ghost use Rattle.page_ranges.specs.Memory.{IsPresent, IsOwnedBy, AllInRange};
 ghost use Rattle.placement_certificate.specs.Placement.{IsProperRequest};
-ghost use Rattle.page_services.specs.PageRules.{AllocatesPages, IsBestChoice, PlacesPages, FreesPages, TakesForPool, GivesFromPool, changed_book, fixed_address, new_book, placement_request};
+ghost use Rattle.page_services.specs.PageRules.{AllocatesPages, IsBestChoice, PlacesPages, FreesPages, TakesForPool, GivesFromPool, changed_book, fixed_address, new_book, placement_request, pool_request};
 
 use descriptor_table::RunTable;
 use page_ranges::{
@@ -40,6 +40,17 @@ pub fn placement_request(kind: u32, mtype: MemoryType, pages: u64, memory: u64) 
         pages,
         limit,
     })
+}
+
+/// The request for so many `pages` of the type `mtype` for the pool: they may lie anywhere.
+pub fn pool_request(mtype: MemoryType, pages: u64) -> Request
+    ensures { result ≡ pool_request mtype pages }
+{
+    Request {
+        mtype,
+        pages,
+        limit: PAGE_COUNT,
+    }
 }
 
 /// Where pages were placed.
@@ -180,12 +191,7 @@ impl<A: Allocator + Copy> PageBook<A> {
         requires some { 0 < pages }
         ensures { TakesForPool IsBestChoice self.old mtype pages result self.new }
     {
-        let request = Request {
-            mtype,
-            pages,
-            limit: PAGE_COUNT,
-        };
-        self.place_best(request, Owner::Pool)
+        self.place_best(pool_request(mtype, pages), Owner::Pool)
     }
 
     /// Gives pages of the pool back, as those of an extent that ends: they are conventional again.

@@ -1,5 +1,5 @@
 -- The rules of AllocatePool, of FreePool and of the pool's bytes, and whose pages the pool's are.
-use Rattle.std.specs.Prelude.{◌≡◌, ℕ, ◌≤◌, true, false, cond, List, [], ◌∷◌, length, take, Option, Some, None, Result, Ok, Err}
+use Rattle.std.specs.Prelude.{◌≡◌, ℕ, ◌≤◌, nat_le, if◌then◌else◌, true, false, cond, List, [], ◌∷◌, length, take, Option, Some, None, Result, Ok, Err}
 use Rattle.page_ranges.specs.declared.ranges.Owner.TheVariants.{Pool}
 use Rattle.page_ranges.specs.declared.ranges.PageRange.{PageRange}
 use Rattle.page_ranges.specs.declared.statuses.Status.{Status}
@@ -7,6 +7,7 @@ use Rattle.page_ranges.specs.declared.statuses.Status.TheVariants.{InvalidParame
 use Rattle.page_ranges.specs.MemoryTypes.{is_bad_type}
 use Rattle.page_ranges.specs.Memory.{Page, page_at, is_in_range}
 use Rattle.page_ranges.specs.Runs.{is_same_owner}
+use Rattle.placement_certificate.specs.declared.certificates.Request.{Request}
 use Rattle.placement_certificate.specs.Certificates.{CertificateValue}
 use Rattle.page_services.specs.PageRules.{Book, Choice, changed_book, given_back, pool_request}
 use Rattle.pool_services.specs.Extents.{Extent, Place, address_of, ended, first_fit, max_size, new_extent, pages_for, place_of, range_of, tail_at, with_extent, with_new_block, without, written}
@@ -28,6 +29,10 @@ abbrev pub OwnsExtents : List Page → List Extent → Type 0
 OwnsExtents m es = (k : ℕ) → pool_type (page_at m k) ≡ extent_type k es
 
 -- ---- AllocatePool
+
+-- the request for the pages of a new extent for a block of a size, if a block may have that size
+abbrev pub extent_request : ℕ → ℕ → Option Request
+extent_request t size = if nat_le size max_size then Some (pool_request t (pages_for size)) else None
 
 -- the parts of an answer of AllocatePool: the block's address, and the certificate of the place of a new extent
 abbrev pub Answer : Type 0

@@ -3,20 +3,31 @@ ghost use Rattle.std.specs.Prelude.{◌≡◌, ◌<◌, ◌≤◌, ◌^◌, fals
 ghost use Rattle.page_ranges.specs.MemoryTypes.{is_bad_type};
 ghost use Rattle.page_services.specs.PageRules.{IsBestChoice};
 ghost use Rattle.pool_services.specs.Extents.{first_fit, max_size, tail_at};
-ghost use Rattle.pool_services.specs.PoolRules.{AllocatesPool, FreesPool, OwnsExtents, ReadsPool, WritesPool};
+ghost use Rattle.pool_services.specs.PoolRules.{AllocatesPool, FreesPool, OwnsExtents, ReadsPool, WritesPool, extent_request};
 ghost use Rattle.pool_services.specs.Searches.{IsEnded, IsFound, IsGivable, IsGivenIn, IsHolder, IsTakenIn, IsTakenLive, IsWrittenIn};
 
 use crate::extents::{HEADER_SIZE, PoolExtent, cells_for, pages_for};
 use crate::searches::{add, first_with_room, holder};
 use page_ranges::{MemoryType, PAGE_SIZE, Status, type_for_alloc};
-use page_services::PageBook;
-use placement_certificate::Certificate;
+use page_services::{PageBook, pool_request};
+use placement_certificate::{Certificate, Request};
 use raw_pool::RawPool;
 use std::alloc::{Allocator, Global};
 use std::marker::Model;
 
 /// A block may have so many bytes.
 const MAX_SIZE: u64 = 0x1_0000_0000;
+
+/// The request for the pages of a new extent of the type `mtype` for a block of so many bytes. `None`
+/// where no block may have so many.
+pub fn extent_request(mtype: MemoryType, size: u64) -> Option<Request>
+    ensures { result ≡ extent_request mtype size }
+{
+    if size > MAX_SIZE {
+        return None;
+    }
+    Some(pool_request(mtype, pages_for(size as usize) as u64))
+}
 
 /// The pool of a machine: its extents, in the order of their addresses, and the blocks in them.
 ///
