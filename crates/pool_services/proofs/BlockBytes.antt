@@ -1,22 +1,23 @@
 -- The byte at each address of the pool, as blocks are taken and given back.
-use Rattle.std.proofs.Common.{◌≡◌, ◌⊎◌, ℕ, zero, suc, ◌+◌, ◌-◌, ◌*◌, ◌/◌, ◌<◌, ◌≤◌, ◌==◌, ◌&&◌, nat_le, nat_lt, Bool, true, false, cond, is_some, inl, inr, List, [], ◌∷◌, ◌++◌, length, take, drop, set, replicate, Option, Some, None, Result, Ok, refl, sym, ap, ◌∙◌, arith, subst, eq-eqb, ne_eqb, lt-ltb, le-ltb, le-leb}
+use Rattle.std.proofs.Common.{◌≡◌, ◌⊎◌, ℕ, zero, suc, ◌+◌, ◌-◌, ◌<◌, ◌≤◌, ◌==◌, nat_le, nat_lt, Bool, true, false, cond, is_some, inl, inr, List, [], ◌∷◌, ◌++◌, length, take, drop, set, replicate, Option, Some, None, Ok, refl, sym, ap, ◌∙◌, arith, subst, eq-eqb, ne_eqb, lt-ltb, le-ltb, le-leb}
 use Rattle.std.specs.List.{AllByRecursion}
 use Rattle.std.proofs.lemmas.Bool.{cases_lt, cases_eq, cases_Bool, lt-leb, leb-true, ltb-true, and_from, and_parts, and_left, and_right}
 use Rattle.std.proofs.lemmas.List.{length-replicate, drop_all}
 use Rattle.std.proofs.lemmas.Option.{same_Some}
 use Rattle.page_ranges.specs.Memory.{Page, AllInRange, IsConventional, IsProperMemory}
-use Rattle.page_services.specs.PageRules.{Book, IsBestChoice, pool_request}
+use Rattle.page_services.specs.PageRules.{Book, IsBestChoice}
+use Rattle.page_services.proofs.Choices.{best_is_permitted}
 use Rattle.raw_pool.specs.Blocks.{Block, cells_for, end_of, lowest_fit, new_block, with_block, without_block}
-use Rattle.pool_services.specs.Extents.{Extent, Place, AreBlocks, AreExtents, IsExtent, address_of, at_cell, begins_at, cell_of, cells_in, first_fit, fit_in, is_within, left_of, max_size, new_extent, or_else, pages_for, place_of, range_of, replaced, tail_at, tail_in, with_blocks, with_extent, with_new_block, without}
-use Rattle.pool_services.specs.PoolRules.{Answer, AllocatesPool, FreesPool, IsPut, OwnsExtents, extent_type}
-use Rattle.pool_services.specs.Searches.{HasRoom, HoldsAddress, IsAt}
+use Rattle.pool_services.specs.Extents.{Extent, Place, AreBlocks, AreExtents, IsExtent, address_of, at_cell, begins_at, cell_of, cells_in, first_fit, is_within, left_of, max_size, new_extent, or_else, place_of, range_of, replaced, tail_at, tail_in, with_blocks, with_extent, with_new_block, without}
+use Rattle.pool_services.specs.PoolRules.{Answer, AllocatesPool, FreesPool, IsPut, OwnsExtents}
+use Rattle.pool_services.specs.Searches.{HoldsAddress, IsAt}
 use Rattle.pool_services.specs.Laws.{byte_at, first_byte, first_of, is_among, laid}
-use Rattle.pool_services.proofs.CellBlocks.{fit-within, tail-low, tail-high, within-low, within-high, within-same}
+use Rattle.pool_services.proofs.CellBlocks.{fit-within, tail-low, within-low, within-high, within-same}
 use Rattle.pool_services.proofs.ExtentLists.{above-holder, all-map, below-holder, gone-is, is-extent, no-tail, set-is, tail-elsewhere, tail-here}
 use Rattle.pool_services.proofs.ExtentChanges.{is-given, is-taken}
 use Rattle.pool_services.proofs.NewExtents.{is-new-extent}
 use Rattle.pool_services.proofs.PoolPages.{apart, free-none}
-use Rattle.pool_services.proofs.PoolBytes.{behind, behind-end, holds-tail, laid-in, laid-low, laid-high, set-bytes}
+use Rattle.pool_services.proofs.PoolBytes.{behind-end, holds-tail, laid-in, laid-low, laid-high, set-bytes}
 
 -- ---- a new block
 
@@ -80,7 +81,7 @@ new-bytes cells from first c size k (b ∷ bs) h e = elim (cases_lt b.first (fro
 
 -- ---- the extent that takes a block
 
-abbrev IsFit : ℕ → List Extent → Place → Type 0
+abbrev pub IsFit : ℕ → List Extent → Place → Type 0
 IsFit size es p = (i : ℕ) × (e : Extent) × IsAt es i e × (lowest_fit (cells_in e.pages) (cells_for size) 0 e.blocks ≡ Some p.cell) × (e.first ≡ p.first)
 
 later-fit : (size : ℕ) (x : Extent) (xs : List Extent) (p : Place) → IsFit size xs p → IsFit size (x ∷ xs) p
@@ -93,7 +94,7 @@ fit-by size x xs p (Some c) rest e s f =
     let q = same_Some (record { first = x.first; cell = c }) p s in
     (0, x, (omega arith, refl), e ∙ ap (λ (z : Place). Some z.cell) q, ap (λ (z : Place). z.first) q)
 
-held-fit : (t size : ℕ) (es : List Extent) (p : Place) → first_fit t size es ≡ Some p → IsFit size es p
+pub held-fit : (t size : ℕ) (es : List Extent) (p : Place) → first_fit t size es ≡ Some p → IsFit size es p
 held-fit t size [] p s = absurd cc
 held-fit t size (x ∷ xs) p s = elim (cases_Bool (x.mtype == t)) [
   | inl u ↦ fit-by size x xs p (lowest_fit (cells_in x.pages) (cells_for size) 0 x.blocks) (first_fit t size xs) refl (rw u at s) (λ r. held-fit t size xs p r)
@@ -182,7 +183,7 @@ by-fit : (b new_b : Book) (es new : List Extent) (t size : ℕ) (answer : Answer
 by-fit b new_b es new t size answer (Some p) proper owns a s f (d, c, g, n) k =
     subst (λ (zs : List Extent). IsNewAt answer.0 size es zs k) (sym n) (subst (λ (j : ℕ). IsNewAt j size es (with_new_block p size es) k) (sym d) (live-bytes t size k es p a f))
 by-fit b new_b es new t size answer None proper owns a s f (start, c, d, g, n) k =
-    let x = is-new-extent b.memory t size start answer.1 s c in
+    let x = is-new-extent IsBestChoice best_is_permitted b.memory t size start answer.1 s c in
     subst (λ (zs : List Extent). IsNewAt answer.0 size es zs k) (sym n) (subst (λ (j : ℕ). IsNewAt j size es (with_extent (new_extent start t size) es) k) (sym d) (extent-bytes b.memory t size start k es proper owns a x.0 x.1))
 
 pub took : (b new_b : Book) (es new : List Extent) (t size : ℕ) (answer : Answer) → IsProperMemory b.memory → OwnsExtents b.memory es → AreExtents es → AllocatesPool IsBestChoice b es t size (Ok answer) new_b new →
@@ -273,7 +274,7 @@ gone-bytes cells from first address c (b ∷ bs) h e = elim (cases_eq (address_o
 
 -- ---- the extent that gives a block back
 
-abbrev IsHolding : ℕ → List Extent → Place → Type 0
+abbrev pub IsHolding : ℕ → List Extent → Place → Type 0
 IsHolding address es p = (i : ℕ) × (e : Extent) × IsAt es i e × (cell_of e.first address e.blocks ≡ Some p.cell) × (e.first ≡ p.first)
 
 holding-by : (address : ℕ) (x : Extent) (xs : List Extent) (p : Place) (o : Option ℕ) (rest : Option Place) → cell_of x.first address x.blocks ≡ o → or_else (at_cell x.first o) rest ≡ Some p →
@@ -283,7 +284,7 @@ holding-by address x xs p (Some c) rest e s f =
     let q = same_Some (record { first = x.first; cell = c }) p s in
     (0, x, (omega arith, refl), e ∙ ap (λ (z : Place). Some z.cell) q, ap (λ (z : Place). z.first) q)
 
-holding : (address : ℕ) (es : List Extent) (p : Place) → place_of address es ≡ Some p → IsHolding address es p
+pub holding : (address : ℕ) (es : List Extent) (p : Place) → place_of address es ≡ Some p → IsHolding address es p
 holding address [] p s = absurd cc
 holding address (x ∷ xs) p s = holding-by address x xs p (cell_of x.first address x.blocks) (place_of address xs) refl s (λ r. holding address xs p r)
 

@@ -175,7 +175,7 @@ found-some address es i c x a h s n =
 
 -- ---- a block is given back
 
-ended-at : (c : ℕ) (es : List Extent) (i : ℕ) (e : Extent) → AreExtents es → IsAt es i e → ended (record { first = e.first; cell = c }) es ≡ range_if_ended e (without_block c e.blocks)
+pub ended-at : (c : ℕ) (es : List Extent) (i : ℕ) (e : Extent) → AreExtents es → IsAt es i e → ended (record { first = e.first; cell = c }) es ≡ range_if_ended e (without_block c e.blocks)
 ended-at c [] i e a h = absurd (omega (arith, h.0))
 ended-at c (x ∷ xs) zero e a h = rw (eq-eqb x.first e.first (ap (λ (y : Extent). y.first) (sym h.1))) (ap (λ (y : Extent). range_if_ended y (without_block c y.blocks)) (sym h.1))
 ended-at c (x ∷ xs) (suc i) e a h =
@@ -187,7 +187,7 @@ none-left : (bs : List Block) → length bs ≡ 0 → bs ≡ []
 none-left [] e = refl
 none-left (b ∷ bs) e = absurd (omega arith)
 
-some-left : (e : Extent) (bs : List Block) → 0 < length bs → (range_if_ended e bs ≡ None) × (left_of e bs ≡ with_blocks bs e ∷ [])
+pub some-left : (e : Extent) (bs : List Block) → 0 < length bs → (range_if_ended e bs ≡ None) × (left_of e bs ≡ with_blocks bs e ∷ [])
 some-left e [] l = absurd (omega arith)
 some-left e (b ∷ bs) l = (refl, refl)
 

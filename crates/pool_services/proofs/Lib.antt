@@ -5,3 +5,4 @@ pub mod ExtentChanges
 pub mod NewExtents
 pub mod PoolBytes
 pub mod BlockBytes
+pub mod KeptPools

@@ -1,5 +1,5 @@
 -- What a new extent is, and what is known of memory and pool once its pages are taken.
-use Rattle.std.proofs.Common.{◌≡◌, ℕ, ◌+◌, ◌*◌, ◌/◌, ◌≤◌, List, Option, Some, None, Err, sym, ap, ◌∙◌, arith, subst}
+use Rattle.std.proofs.Common.{◌≡◌, ℕ, ◌+◌, ◌*◌, ◌/◌, ◌≤◌, List, Option, None, Err, sym, ap, ◌∙◌, arith, subst}
 use Rattle.std.proofs.lemmas.List.{length-replicate}
 use Rattle.page_ranges.specs.declared.ranges.Owner.TheVariants.{Pool}
 use Rattle.page_ranges.specs.declared.ranges.PageRange.{PageRange}
@@ -7,10 +7,10 @@ use Rattle.page_ranges.specs.declared.statuses.Status.{Status}
 use Rattle.page_ranges.specs.declared.statuses.Status.TheVariants.{OutOfResources}
 use Rattle.page_ranges.specs.MemoryTypes.{page_size, page_count}
 use Rattle.page_ranges.specs.Memory.{Page, retyped, AllInRange, IsConventional, IsProperMemory}
-use Rattle.placement_certificate.specs.Placement.{IsPermittedStart}
 use Rattle.placement_certificate.specs.Certificates.{CertificateValue}
 use Rattle.page_services.specs.declared.page_book.Placed.{Placed}
-use Rattle.page_services.specs.PageRules.{Book, IsBestChoice, IsChosenPlace, TakesForPool, changed_book, pool_request, range_from}
+use Rattle.page_services.specs.PageRules.{Book, Choice, IsBestChoice, IsChosenPlace, TakesForPool, changed_book, pool_request, range_from}
+use Rattle.page_services.proofs.Choices.{Permits, best_is_permitted}
 use Rattle.pool_services.specs.Extents.{Extent, AreExtents, IsExtent, address_of, first_fit, max_size, new_extent, pages_for, range_of, with_extent}
 use Rattle.pool_services.specs.PoolRules.{IsPut, OwnsExtents}
 use Rattle.pool_services.proofs.PoolPages.{are-more, owns-more}
@@ -19,10 +19,6 @@ use Rattle.pool_services.proofs.PoolPages.{are-more, owns-more}
 pub refused : (A : Type 0) (b : Book) (t pages : ℕ) (status : Status) (new_b : Book) → TakesForPool {A = A} IsBestChoice b t pages (Err status) new_b → new_b ≡ b
 refused A b t pages OutOfResources new_b h = h
 refused A b t pages status new_b h = absurd h
-
-permitted : (m : List Page) (t pages start : ℕ) (c : Option CertificateValue) → IsBestChoice m (pool_request t pages) start c → IsPermittedStart m (pool_request t pages) start
-permitted m t pages start None h = absurd h
-permitted m t pages start (Some c) h = subst (IsPermittedStart m (pool_request t pages)) h.1 h.0.answer.permitted
 
 is-new : (start t size : ℕ) → size ≤ max_size → start + pages_for size ≤ page_count → IsExtent (new_extent start t size)
 is-new start t size s w = record {
@@ -46,9 +42,10 @@ is-start m t pages placed (start, c, a) =
     let w : placed.address / page_size ≡ start = ap (λ (n : ℕ). n / page_size) a ∙ whole start in
     (subst (λ (n : ℕ). IsBestChoice m (pool_request t pages) n placed.certificate) (sym w) c, a ∙ ap (λ (n : ℕ). n * page_size) (sym w))
 
-pub is-new-extent : (m : List Page) (t size first : ℕ) (c : Option CertificateValue) → size ≤ max_size → IsBestChoice m (pool_request t (pages_for size)) first c → IsExtent (new_extent first t size) × AllInRange m (range_of (new_extent first t size)) IsConventional
-is-new-extent m t size first c s h =
-    let p = permitted m t (pages_for size) first c h in
+pub is-new-extent : (Chosen : Choice) → Permits Chosen → (m : List Page) (t size first : ℕ) (c : Option CertificateValue) → size ≤ max_size → Chosen m (pool_request t (pages_for size)) first c →
+    IsExtent (new_extent first t size) × AllInRange m (range_of (new_extent first t size)) IsConventional
+is-new-extent Chosen permits m t size first c s h =
+    let p = permits m (pool_request t (pages_for size)) first c h in
     (is-new first t size s p.within, p.conventional)
 
 -- ---- what is known once the pages are taken and the extent is among the others
@@ -65,7 +62,7 @@ pub is-new-extents : {A : Type 0} (m : List Page) (es had new : List Extent) (e 
     IsChosenPlace IsBestChoice m (pool_request t pages) placed → had ≡ es → e ≡ new_extent (placed.address / page_size) t size → new ≡ with_extent e had → AreExtents new
 is-new-extents m es had new e t size pages placed s p a owns proper h k n w =
     let c = started m t size pages placed p h in
-    let x = is-new-extent m t size (placed.address / page_size) placed.certificate s c.0 in
+    let x = is-new-extent IsBestChoice best_is_permitted m t size (placed.address / page_size) placed.certificate s c.0 in
     let q : new ≡ with_extent (new_extent (placed.address / page_size) t size) es = w ∙ ap (λ (y : Extent). with_extent y had) n ∙ ap (λ (ys : List Extent). with_extent (new_extent (placed.address / page_size) t size) ys) k in
     subst AreExtents (sym q) (are-more m (new_extent (placed.address / page_size) t size) es x.0 a owns proper x.1)
 
@@ -75,7 +72,7 @@ pub owns-new : {A : Type 0} (b new_b : Book) (es had new : List Extent) (e : Ext
     OwnsExtents new_b.memory new
 owns-new b new_b es had new e t size pages placed s p owns proper h f k n w =
     let c = started b.memory t size pages placed p h in
-    let x = is-new-extent b.memory t size (placed.address / page_size) placed.certificate s c.0 in
+    let x = is-new-extent IsBestChoice best_is_permitted b.memory t size (placed.address / page_size) placed.certificate s c.0 in
     let q : new ≡ with_extent (new_extent (placed.address / page_size) t size) es = w ∙ ap (λ (y : Extent). with_extent y had) n ∙ ap (λ (ys : List Extent). with_extent (new_extent (placed.address / page_size) t size) ys) k in
     let r : new_b ≡ changed_book (range_of (new_extent (placed.address / page_size) t size)) t Pool b = f ∙ ap (λ (z : ℕ). changed_book (range_from placed.address z) t Pool b) p in
     subst (λ (z : Book). OwnsExtents z.memory new) (sym r) (subst (λ (ys : List Extent). OwnsExtents (retyped (range_of (new_extent (placed.address / page_size) t size)) t Pool b.memory) ys) (sym q) (owns-more b.memory (new_extent (placed.address / page_size) t size) es owns proper x.1))

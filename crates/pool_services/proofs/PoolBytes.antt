@@ -1,14 +1,13 @@
 -- The byte at each address of the pool, as blocks are read, written, taken and given back.
-use Rattle.std.proofs.Common.{◌≡◌, ◌⊎◌, ℕ, zero, suc, ◌+◌, ◌-◌, ◌*◌, ◌/◌, ◌<◌, ◌≤◌, ◌==◌, ◌&&◌, nat_le, nat_lt, Bool, true, false, cond, is_some, inl, inr, List, [], ◌∷◌, ◌++◌, length, take, drop, set, Option, Some, None, Result, Ok, refl, sym, ap, ◌∙◌, arith, subst, eq-eqb, ne_eqb, lt-ltb, le-ltb, le-leb}
-use Rattle.std.specs.List.{AllByRecursion}
-use Rattle.std.proofs.lemmas.Bool.{cases_lt, cases_eq, cases_Bool, lt-leb, leb-true, and_from, and_parts, and_left, and_right}
+use Rattle.std.proofs.Common.{◌≡◌, ℕ, zero, suc, ◌+◌, ◌-◌, ◌<◌, ◌≤◌, nat_le, nat_lt, Bool, cond, is_some, inl, inr, List, [], ◌∷◌, ◌++◌, length, take, drop, set, Option, Some, None, Ok, refl, sym, ap, ◌∙◌, arith, subst, lt-ltb, le-ltb, le-leb}
+use Rattle.std.proofs.lemmas.Bool.{cases_lt, cases_Bool, lt-leb, leb-true, and_from, and_parts, and_left, and_right}
 use Rattle.std.proofs.lemmas.List.{length-append, length-take-le, length-drop, drop-drop}
 use Rattle.raw_pool.specs.Bytes.{put}
-use Rattle.raw_pool.specs.Blocks.{Block, cells_for, end_of}
-use Rattle.pool_services.specs.Extents.{Extent, AreBlocks, AreExtents, IsExtent, address_of, cells_in, is_within, tail_at, tail_in, with_blocks, written, written_in}
+use Rattle.raw_pool.specs.Blocks.{Block, end_of}
+use Rattle.pool_services.specs.Extents.{Extent, AreBlocks, AreExtents, IsExtent, address_of, cells_in, is_within, tail_at, tail_in, with_blocks, written_in}
 use Rattle.pool_services.specs.PoolRules.{ReadsPool, WritesPool}
 use Rattle.pool_services.specs.Searches.{HasRoom, HoldsAddress, IsAt}
-use Rattle.pool_services.specs.Laws.{byte_at, first_byte, first_of, is_among, laid}
+use Rattle.pool_services.specs.Laws.{byte_at, first_byte, first_of, laid}
 use Rattle.pool_services.proofs.CellBlocks.{tail-low, tail-high, within-low, within-high, within-same}
 use Rattle.pool_services.proofs.ExtentLists.{are-set, is-extent, tail-elsewhere, tail-here, written-is}
 use Rattle.pool_services.proofs.ExtentChanges.{is-written}

@@ -1,4 +1,4 @@
-use Rattle.std.proofs.Common.{◌≡◌, ◌∙◌, sym, refl}
+use Rattle.std.proofs.Common.{◌∙◌, sym, refl}
 use Rattle.pool_services.specs.Extents.{Extent, has_tail, with_blocks, written_in}
 use Rattle.pool_services.proofs.PoolPages.{replaced-type}
 use Rattle.pool_services.proofs.laws.written_keeps_pool_law.Goals as goal
