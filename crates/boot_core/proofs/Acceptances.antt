@@ -1,11 +1,12 @@
 -- Certificates, along runs.
-use Rattle.std.proofs.Common.{◌≡◌, ℕ, ◌∙◌, ap, sym, subst, Bool, true, false, List, [], ◌∷◌, Option, Some, None, Result, Ok, Err, IfSome}
+use Rattle.std.proofs.Common.{◌≡◌, ◌≤◌, ℕ, ◌∙◌, ap, sym, subst, arith, Bool, true, false, List, [], ◌∷◌, Option, Some, None, Result, Ok, Err, IfSome}
+use Rattle.std.proofs.lemmas.Bool.{le-leb}
 use Rattle.std.specs.Option.{option_map, option_and_then}
 use Rattle.std.specs.List.{AllByRecursion}
 use Rattle.page_ranges.specs.declared.ranges.Run.{Run}
 use Rattle.page_ranges.specs.declared.statuses.Status.{Status}
 use Rattle.page_ranges.specs.declared.statuses.Status.TheVariants.{Unsupported}
-use Rattle.page_ranges.specs.MemoryTypes.{is_machine_type}
+use Rattle.page_ranges.specs.MemoryTypes.{is_bad_type, is_machine_type}
 use Rattle.page_ranges.specs.Memory.{Page, IsProperMemory, HasMachineTypes}
 use Rattle.page_ranges.specs.MemoryMap.{memory_map}
 use Rattle.page_ranges.specs.Runs.{page_in, pages_of, IsValidMachine}
@@ -17,19 +18,22 @@ use Rattle.placement_certificate.specs.Acceptance.{IsAccepted}
 use Rattle.placement_certificate.proofs.Accepted.{true_accepted}
 use Rattle.map_keys.specs.Records.{IsRecordEntry}
 use Rattle.page_services.specs.declared.page_book.Placed.{Placed}
-use Rattle.page_services.specs.PageRules.{IsBestChoice, IsPlaced, placement_request, AllocatesPages}
+use Rattle.page_services.specs.PageRules.{Book, IsBestChoice, IsPlaced, placement_request, pool_request, AllocatesPages}
+use Rattle.page_services.proofs.Choices.{best_is_permitted}
+use Rattle.pool_services.specs.Extents.{Extent, Place, first_fit, max_size, pages_for}
+use Rattle.pool_services.specs.PoolRules.{Answer, AllocatesPool, IsPut, extent_request}
 use Rattle.boot_core.specs.declared.calls.Call.{Call}
 use Rattle.boot_core.specs.declared.calls.Call.TheVariants as call
 use Rattle.boot_core.specs.declared.calls.Reply.{Reply}
 use Rattle.boot_core.specs.declared.calls.Reply.TheVariants as reply
 use Rattle.boot_core.specs.MachineRuns.{HasRecordNumbers}
-use Rattle.boot_core.specs.Machines.{Parts, State, first_state}
+use Rattle.boot_core.specs.Machines.{Parts, State, AreSound, first_state}
 use Rattle.boot_core.specs.Certified.{certified}
 use Rattle.boot_core.specs.Steps.{best_starts, Answers, CallRun}
 use Rattle.boot_core.specs.Laws.{IsAcceptedReply, AllAccepted, NamesTypes}
-use Rattle.boot_core.proofs.AnySteps.{best_is_permitted}
-use Rattle.boot_core.proofs.Outcomes.{stays_proper, stays_typed, stays_fitting, outcome, proper_request}
+use Rattle.boot_core.proofs.Outcomes.{stays_typed, stays_fitting, outcome, proper_request}
 use Rattle.boot_core.proofs.RecordPages.{HaveFields, first_fields, record_entries}
+use Rattle.boot_core.proofs.Soundness.{first_sound, stays_sound}
 
 -- the pages of a machine have types of machines
 pub first_types : (rs : List Run) → AllByRecursion (λ r. is_machine_type r.mtype ≡ true) rs → HasMachineTypes (pages_of rs)
@@ -54,6 +58,18 @@ uncertified : (r : Option Request) (P : (Request × CertificateValue) → Type 0
 uncertified None P = tt
 uncertified (Some r) P = tt
 
+module _ (old : Parts) (proper : IsProperMemory old.book.memory) (typed : HasMachineTypes old.book.memory) where
+  accepted_block : (t size : ℕ) (o : Option Place) (answer : Answer) (b : Book) (es : List Extent) → is_bad_type t ≡ false → size ≤ max_size → IsPut IsBestChoice o old.book old.pools t size answer b es →
+      IfSome {T = Request × CertificateValue} (option_and_then (λ r. option_map (λ c. (r, c)) answer.1) (extent_request t size)) (λ told. IsAccepted (memory_map old.book.memory) told.0 told.1)
+  accepted_block t size (Some p) answer b es good few (address, none, book, extents) = rw none (uncertified (extent_request t size) _)
+  accepted_block t size None answer b es good few (start, best, at, book, extents) =
+      rw (le-leb size max_size few) (with_certificate old.book.memory proper typed (pool_request t (pages_for size)) start answer.1 (record { some = omega arith; good = good }) best)
+
+  pool_result : (A : Type 0) (t size : ℕ) (result : Result Answer Status) (b : Book) (es : List Extent) → AllocatesPool IsBestChoice old.book old.pools t size result b es →
+      IfSome (certified {A = A} (call.AllocatePool t size) (reply.AllocatePool result)) (λ told. IsAccepted (memory_map old.book.memory) told.0 told.1)
+  pool_result A t size (Ok answer) b es (good, few, put) = accepted_block t size (first_fit t size old.pools) answer b es good few put
+  pool_result A t size (Err e) b es h = uncertified (extent_request t size) _
+
 module _ {A : Type 0} (old : Parts) (proper : IsProperMemory old.book.memory) (typed : HasMachineTypes old.book.memory) where
   accepted_result : (kind t pages memory : ℕ) (result : Result (Placed A) Status) (new : Parts) → AllocatesPages IsBestChoice old.book kind t pages memory result new.book → IfSome (certified (call.AllocatePages kind t pages memory) (reply.AllocatePages result)) (λ told. IsAccepted (memory_map old.book.memory) told.0 told.1)
   accepted_result kind t pages memory (Ok placed) new (valid, at, e) =
@@ -65,34 +81,42 @@ module _ {A : Type 0} (old : Parts) (proper : IsProperMemory old.book.memory) (t
       let refused : answer ≡ reply.AllocatePages (Err Unsupported) = e ∙ ap reply.AllocatePages h.0 in
       subst (λ (a : Reply A). IfSome (certified (call.AllocatePages kind t pages memory) a) (λ told. IsAccepted (memory_map old.book.memory) told.0 told.1)) (sym refused) (uncertified (placement_request kind t pages memory) _)
   accepted_pages false kind t pages memory answer new (result, e, h) =
-      subst (λ (a : Reply A). IfSome (certified (call.AllocatePages kind t pages memory) a) (λ told. IsAccepted (memory_map old.book.memory) told.0 told.1)) (sym e) (accepted_result kind t pages memory result new h)
+      subst (λ (a : Reply A). IfSome (certified (call.AllocatePages kind t pages memory) a) (λ told. IsAccepted (memory_map old.book.memory) told.0 told.1)) (sym e) (accepted_result kind t pages memory result new h.0)
 
-  pub accepted_reply : (exited : Bool) (calls_left : ℕ) (c : Call) (answer : Reply A) (new : Parts) → Answers best_starts exited old c answer new → IsAcceptedReply (record { parts = old; exited = exited; calls_left = calls_left }) c answer
+  accepted_pool : (exited : Bool) (t size : ℕ) (answer : Reply A) (new : Parts) → Answers best_starts exited old (call.AllocatePool t size) answer new → IfSome (certified (call.AllocatePool t size) answer) (λ told. IsAccepted (memory_map old.book.memory) told.0 told.1)
+  accepted_pool true t size answer new (result, e, h) =
+      let refused : answer ≡ reply.AllocatePool (Err Unsupported) = e ∙ ap reply.AllocatePool h.0 in
+      subst (λ (a : Reply A). IfSome (certified (call.AllocatePool t size) a) (λ told. IsAccepted (memory_map old.book.memory) told.0 told.1)) (sym refused) (uncertified (extent_request t size) _)
+  accepted_pool false t size answer new (result, e, h) =
+      subst (λ (a : Reply A). IfSome (certified (call.AllocatePool t size) a) (λ told. IsAccepted (memory_map old.book.memory) told.0 told.1)) (sym e) (pool_result old proper typed A t size result new.book new.pools h)
+
+  pub accepted_reply : (exited : Bool) (calls_left : ℕ) (c : Call A) (answer : Reply A) (new : Parts) → Answers best_starts exited old c answer new → IsAcceptedReply (record { parts = old; exited = exited; calls_left = calls_left }) c answer
   accepted_reply exited n (call.AllocatePages kind t pages memory) answer new h = accepted_pages exited kind t pages memory answer new h
+  accepted_reply exited n (call.AllocatePool t size) answer new h = accepted_pool exited t size answer new h
   accepted_reply exited n c answer new h = tt
 
-all_accepted : {A : Type 0} (old : State) (calls : List Call) (replies : List (Reply A)) (new : State) (run : CallRun old calls replies new) → IsProperMemory old.parts.book.memory → HasMachineTypes old.parts.book.memory → AllAccepted old calls replies new run
-all_accepted old (c ∷ calls) (r ∷ replies) new (next, step, run) proper typed =
-    let o = outcome best_starts best_is_permitted old.exited old.parts c r next.parts proper step.answers in
-    let still = stays_proper (NamesTypes c) old.parts.book next.parts.book proper o in
-    (accepted_reply old.parts proper typed old.exited old.calls_left c r next.parts step.answers, all_accepted next calls replies new run still (stays_typed (NamesTypes c) old.parts.book next.parts.book typed o))
-all_accepted old [] [] new run proper typed = tt
-all_accepted old [] (r ∷ replies) new run proper typed = tt
-all_accepted old (c ∷ calls) [] new run proper typed = tt
+all_accepted : {A : Type 0} (old : State) (calls : List (Call A)) (replies : List (Reply A)) (new : State) (run : CallRun old calls replies new) → AreSound old.parts → HasMachineTypes old.parts.book.memory → AllAccepted old calls replies new run
+all_accepted old (c ∷ calls) (r ∷ replies) new (next, step, run) sound typed =
+    let o = outcome best_starts best_is_permitted old.exited old.parts c r next.parts sound step.answers in
+    let still = stays_sound best_starts best_is_permitted old.exited old.parts c r next.parts sound step.answers in
+    (accepted_reply old.parts sound.proper typed old.exited old.calls_left c r next.parts step.answers, all_accepted next calls replies new run still (stays_typed (NamesTypes c) old.parts.book next.parts.book typed o))
+all_accepted old [] [] new run sound typed = tt
+all_accepted old [] (r ∷ replies) new run sound typed = tt
+all_accepted old (c ∷ calls) [] new run sound typed = tt
 
-pub accepted_run : {A : Type 0} (machine : List Run) (calls : List Call) (replies : List (Reply A)) (new : State) (run : CallRun (first_state machine) calls replies new) → IsValidMachine machine → AllAccepted (first_state machine) calls replies new run
-accepted_run machine calls replies new run valid = all_accepted (first_state machine) calls replies new run valid.proper (first_types machine valid.mtypes)
+pub accepted_run : {A : Type 0} (machine : List Run) (calls : List (Call A)) (replies : List (Reply A)) (new : State) (run : CallRun (first_state machine) calls replies new) → IsValidMachine machine → AllAccepted (first_state machine) calls replies new run
+accepted_run machine calls replies new run valid = all_accepted (first_state machine) calls replies new run (first_sound machine valid) (first_types machine valid.mtypes)
 
 -- ---- records
 
-entries_after : {A : Type 0} (old : State) (calls : List Call) (replies : List (Reply A)) (new : State) → CallRun old calls replies new → IsProperMemory old.parts.book.memory → HaveFields old.parts.book.memory → AllByRecursion NamesTypes calls → AllByRecursion IsRecordEntry (memory_map new.parts.book.memory)
-entries_after old [] [] new run proper fields names = subst (λ (s : State). AllByRecursion IsRecordEntry (memory_map s.parts.book.memory)) (sym run) (record_entries old.parts.book.memory proper fields)
-entries_after old (c ∷ calls) (r ∷ replies) new (next, step, run) proper fields names =
-    let o = outcome best_starts best_is_permitted old.exited old.parts c r next.parts proper step.answers in
-    let still = stays_proper (NamesTypes c) old.parts.book next.parts.book proper o in
+entries_after : {A : Type 0} (old : State) (calls : List (Call A)) (replies : List (Reply A)) (new : State) → CallRun old calls replies new → AreSound old.parts → HaveFields old.parts.book.memory → AllByRecursion NamesTypes calls → AllByRecursion IsRecordEntry (memory_map new.parts.book.memory)
+entries_after old [] [] new run sound fields names = subst (λ (s : State). AllByRecursion IsRecordEntry (memory_map s.parts.book.memory)) (sym run) (record_entries old.parts.book.memory sound.proper fields)
+entries_after old (c ∷ calls) (r ∷ replies) new (next, step, run) sound fields names =
+    let o = outcome best_starts best_is_permitted old.exited old.parts c r next.parts sound step.answers in
+    let still = stays_sound best_starts best_is_permitted old.exited old.parts c r next.parts sound step.answers in
     entries_after next calls replies new run still (stays_fitting (NamesTypes c) old.parts.book next.parts.book names.0 fields o) names.1
-entries_after old [] (r ∷ replies) new run proper fields names = absurd run
-entries_after old (c ∷ calls) [] new run proper fields names = absurd run
+entries_after old [] (r ∷ replies) new run sound fields names = absurd run
+entries_after old (c ∷ calls) [] new run sound fields names = absurd run
 
-pub entries_of_run : {A : Type 0} (machine : List Run) (calls : List Call) (replies : List (Reply A)) (new : State) → IsValidMachine machine → AllByRecursion HasRecordNumbers machine → AllByRecursion NamesTypes calls → CallRun (first_state machine) calls replies new → AllByRecursion IsRecordEntry (memory_map new.parts.book.memory)
-entries_of_run machine calls replies new valid numbers names run = entries_after (first_state machine) calls replies new run valid.proper (first_fields machine numbers) names
+pub entries_of_run : {A : Type 0} (machine : List Run) (calls : List (Call A)) (replies : List (Reply A)) (new : State) → IsValidMachine machine → AllByRecursion HasRecordNumbers machine → AllByRecursion NamesTypes calls → CallRun (first_state machine) calls replies new → AllByRecursion IsRecordEntry (memory_map new.parts.book.memory)
+entries_of_run machine calls replies new valid numbers names run = entries_after (first_state machine) calls replies new run (first_sound machine valid) (first_fields machine numbers) names

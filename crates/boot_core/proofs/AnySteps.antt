@@ -4,19 +4,16 @@ use Rattle.page_ranges.specs.declared.statuses.Status.{Status}
 use Rattle.page_ranges.specs.declared.statuses.Status.TheVariants as status
 use Rattle.page_ranges.specs.Memory.{Page}
 use Rattle.placement_certificate.specs.declared.certificates.Request.{Request}
-use Rattle.placement_certificate.specs.Placement.{IsPermittedStart}
-use Rattle.placement_certificate.specs.Certificates.{CertificateValue}
 use Rattle.page_services.specs.declared.page_book.Placed.{Placed}
-use Rattle.page_services.specs.PageRules.{Book, IsAnyStart, IsBestChoice, IsPlaced, placement_request, AllocatesPages}
+use Rattle.page_services.specs.PageRules.{Book, IsAnyStart, IsBestChoice, IsPlaced, placement_request, pool_request, AllocatesPages}
+use Rattle.page_services.proofs.Choices.{best_is_permitted}
+use Rattle.pool_services.specs.Extents.{Extent, Place, first_fit, pages_for}
+use Rattle.pool_services.specs.PoolRules.{Answer, AllocatesPool, IsPut}
 use Rattle.boot_core.specs.declared.calls.Call.{Call}
 use Rattle.boot_core.specs.declared.calls.Call.TheVariants as call
 use Rattle.boot_core.specs.declared.calls.Reply.{Reply}
 use Rattle.boot_core.specs.Machines.{Parts, State}
-use Rattle.boot_core.specs.Steps.{best_starts, any_starts, WhileOpen, Serves, Answers, Step, StepAny, CallRunBy, CallRun}
-
-pub best_is_permitted : (m : List Page) (r : Request) (p : ℕ) (c : Option CertificateValue) → IsBestChoice m r p c → IsAnyStart m r p c
-best_is_permitted m r p None h = absurd h
-best_is_permitted m r p (Some c) h = subst (IsPermittedStart m r) h.1 h.0.answer.permitted
+use Rattle.boot_core.specs.Steps.{best_starts, any_starts, OnBook, WhileOpen, Serves, Answers, Step, StepAny, CallRunBy, CallRun}
 
 placed_any : {A : Type 0} (m : List Page) (r : Option Request) (pages memory : ℕ) (placed : Placed A) → IsPlaced IsBestChoice m r pages memory placed → IsPlaced IsAnyStart m r pages memory placed
 placed_any m (Some r) pages memory placed (start, chosen, at) = (start, best_is_permitted m r start placed.certificate chosen, at)
@@ -34,6 +31,16 @@ allocates_any b kind t pages memory (Err status.DeviceError) new h = absurd h
 allocates_any b kind t pages memory (Err status.AccessDenied) new h = absurd h
 allocates_any b kind t pages memory (Err status.AlreadyStarted) new h = absurd h
 
+put_any : (b : Book) (es : List Extent) (t size : ℕ) (o : Option Place) (answer : Answer) (new_b : Book) (new : List Extent) → IsPut IsBestChoice o b es t size answer new_b new → IsPut IsAnyStart o b es t size answer new_b new
+put_any b es t size (Some p) answer new_b new h = h
+put_any b es t size None answer new_b new (start, chosen, at, book, extents) = (start, best_is_permitted b.memory (pool_request t (pages_for size)) start answer.1 chosen, at, book, extents)
+
+pool_any : (b : Book) (es : List Extent) (t size : ℕ) (result : Result Answer Status) (new_b : Book) (new : List Extent) → AllocatesPool IsBestChoice b es t size result new_b new → AllocatesPool IsAnyStart b es t size result new_b new
+pool_any b es t size (Ok answer) new_b new h = (h.0, h.1, put_any b es t size (first_fit t size es) answer new_b new h.2)
+pool_any b es t size (Err status.InvalidParameter) new_b new h = h
+pool_any b es t size (Err status.OutOfResources) new_b new h = h
+pool_any b es t size (Err other) new_b new h = absurd h
+
 while_open : (exited : Bool) (old new : Parts) (P Q Refusal : Type 0) → (P → Q) → WhileOpen exited old new P Refusal → WhileOpen exited old new Q Refusal
 while_open true old new P Q Refusal f h = h
 while_open false old new P Q Refusal f h = f h
@@ -41,18 +48,24 @@ while_open false old new P Q Refusal f h = f h
 served_as : {A R : Type 0} (exited : Bool) (old new : Parts) (answer : Reply A) (tell : Result R Status → Reply A) (P Q : Result R Status → Type 0) → ((result : Result R Status) → P result → Q result) → Serves exited old new answer tell P → Serves exited old new answer tell Q
 served_as exited old new answer tell P Q f (result, told, h) = (result, told, while_open exited old new (P result) (Q result) _ (f result) h)
 
-answers_any : {A : Type 0} (exited : Bool) (old : Parts) (c : Call) (answer : Reply A) (new : Parts) → Answers best_starts exited old c answer new → Answers any_starts exited old c answer new
+answers_any : {A : Type 0} (exited : Bool) (old : Parts) (c : Call A) (answer : Reply A) (new : Parts) → Answers best_starts exited old c answer new → Answers any_starts exited old c answer new
 answers_any exited old (call.AllocatePages kind t pages memory) answer new h =
-    served_as exited old new answer _ (λ result. AllocatesPages IsBestChoice old.book kind t pages memory result new.book) (λ result. AllocatesPages IsAnyStart old.book kind t pages memory result new.book)
-    (λ result. allocates_any old.book kind t pages memory result new.book) h
+    served_as exited old new answer _ (λ result. OnBook (AllocatesPages IsBestChoice old.book kind t pages memory result) old new) (λ result. OnBook (AllocatesPages IsAnyStart old.book kind t pages memory result) old new)
+    (λ result rule. (allocates_any old.book kind t pages memory result new.book rule.0, rule.1)) h
 answers_any exited old (call.FreePages memory pages) answer new h = h
 answers_any exited old (call.GetMemoryMap size) answer new h = h
+answers_any exited old (call.AllocatePool t size) answer new h =
+    served_as exited old new answer _ (λ result. AllocatesPool IsBestChoice old.book old.pools t size result new.book new.pools) (λ result. AllocatesPool IsAnyStart old.book old.pools t size result new.book new.pools)
+    (λ result. pool_any old.book old.pools t size result new.book new.pools) h
+answers_any exited old (call.FreePool address) answer new h = h
+answers_any exited old (call.PoolRead address size) answer new h = h
+answers_any exited old (call.PoolWrite address bytes) answer new h = h
 answers_any exited old (call.ExitBootServices key) answer new h = h
 
-pub step_any : {A : Type 0} (old : State) (c : Call) (answer : Reply A) (new : State) → Step old c answer new → StepAny old c answer new
+pub step_any : {A : Type 0} (old : State) (c : Call A) (answer : Reply A) (new : State) → Step old c answer new → StepAny old c answer new
 step_any old c answer new s = record { answers = answers_any old.exited old.parts c answer new.parts s.answers; exited = s.exited; calls_left = s.calls_left }
 
-pub run_any : {A : Type 0} (old : State) (calls : List Call) (replies : List (Reply A)) (new : State) → CallRun old calls replies new → CallRunBy any_starts old calls replies new
+pub run_any : {A : Type 0} (old : State) (calls : List (Call A)) (replies : List (Reply A)) (new : State) → CallRun old calls replies new → CallRunBy any_starts old calls replies new
 run_any old [] [] new r = r
 run_any old (c ∷ calls) (r ∷ replies) new run = (run.0, step_any old c r run.0 run.1, run_any run.0 calls replies new run.2)
 run_any old [] (r ∷ replies) new run = absurd run

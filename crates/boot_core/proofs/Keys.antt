@@ -2,20 +2,18 @@
 use Rattle.std.proofs.Common.{◌≡◌, ◌↔◌, ℕ, ◌+◌, ◌-◌, ◌≤◌, Bool, true, false, List, [], ◌∷◌, Option, Result, Ok, Err, refl, sym, ap, subst, ◌∙◌, inl, inr, arith}
 use Rattle.page_ranges.specs.declared.statuses.Status.{Status}
 use Rattle.page_ranges.specs.declared.statuses.Status.TheVariants as status
-use Rattle.page_ranges.specs.Memory.{Page, IsProperMemory}
-use Rattle.placement_certificate.specs.declared.certificates.Request.{Request}
-use Rattle.placement_certificate.specs.Placement.{IsPermittedStart}
-use Rattle.placement_certificate.specs.Certificates.{CertificateValue}
+use Rattle.page_services.proofs.Choices.{Permits}
 use Rattle.boot_core.specs.declared.calls.Call.{Call}
 use Rattle.boot_core.specs.declared.calls.Call.TheVariants as call
 use Rattle.boot_core.specs.declared.calls.Reply.{Reply}
 use Rattle.boot_core.specs.declared.calls.Reply.TheVariants as reply
 use Rattle.map_keys.specs.declared.memory_maps.MapReply.{MapReply}
-use Rattle.boot_core.specs.Machines.{Parts, State}
+use Rattle.boot_core.specs.Machines.{Parts, State, AreSound}
 use Rattle.boot_core.specs.Steps.{Setting, Answers, Exits, StepBy, CallRunBy}
 use Rattle.boot_core.specs.Laws.{ChangesNoType, ChangesTypes, TellsKey, GivesKey, NamesTypes}
 use Rattle.boot_core.proofs.MapReplies.{told_key, told_directly}
-use Rattle.boot_core.proofs.Outcomes.{key_rises, stays_proper, type_or_not, outcome}
+use Rattle.boot_core.proofs.Outcomes.{key_rises, type_or_not, outcome}
+use Rattle.boot_core.proofs.Soundness.{stays_sound}
 
 -- what a successful reply of GetMemoryMap says of its key, and of the parts after it
 key_in : {A : Type 0} (exited : Bool) (old : Parts) (size key : ℕ) (S : Setting) (answer : Reply A) (new : Parts) → Answers S exited old (call.GetMemoryMap size) answer new → TellsKey answer key → (key ≡ old.book.key) × (new ≡ old)
@@ -42,23 +40,23 @@ exit_answer : {A : Type 0} (S : Setting) (exited : Bool) (old : Parts) (key : �
 exit_answer S true old key answer new open_still h = absurd (cc)
 exit_answer S false old key answer new open_still (result, e, h) = exit_by old.book.key key answer result e h.0
 
-module _ (S : Setting) (permits : (m : List Page) (r : Request) (p : ℕ) (c : Option CertificateValue) → S.chosen m r p c → IsPermittedStart m r p) where
-  keys_rise : {A : Type 0} (old : State) (calls : List Call) (replies : List (Reply A)) (new : State) → IsProperMemory old.parts.book.memory → CallRunBy S old calls replies new → old.parts.book.key ≤ new.parts.book.key
-  keys_rise old [] [] new proper run = omega (arith, ap (λ (s : State). s.parts.book.key) run)
-  keys_rise old (c ∷ calls) (r ∷ replies) new proper (next, step, run) =
-      let o = outcome S permits old.exited old.parts c r next.parts proper step.answers in
-      omega (arith, key_rises (NamesTypes c) old.parts.book next.parts.book o, keys_rise next calls replies new (stays_proper (NamesTypes c) old.parts.book next.parts.book proper o) run)
-  keys_rise old [] (r ∷ replies) new proper run = absurd run
-  keys_rise old (c ∷ calls) [] new proper run = absurd run
+module _ (S : Setting) (permits : Permits S.chosen) where
+  keys_rise : {A : Type 0} (old : State) (calls : List (Call A)) (replies : List (Reply A)) (new : State) → AreSound old.parts → CallRunBy S old calls replies new → old.parts.book.key ≤ new.parts.book.key
+  keys_rise old [] [] new sound run = omega (arith, ap (λ (s : State). s.parts.book.key) run)
+  keys_rise old (c ∷ calls) (r ∷ replies) new sound (next, step, run) =
+      let o = outcome S permits old.exited old.parts c r next.parts sound step.answers in
+      omega (arith, key_rises (NamesTypes c) old.parts.book next.parts.book o, keys_rise next calls replies new (stays_sound S permits old.exited old.parts c r next.parts sound step.answers) run)
+  keys_rise old [] (r ∷ replies) new sound run = absurd run
+  keys_rise old (c ∷ calls) [] new sound run = absurd run
 
   -- so many calls have changed a type where the key is higher by so many, and the other way round
-  pub key_counts : {A : Type 0} (old : State) (calls : List Call) (replies : List (Reply A)) (new : State) (run : CallRunBy S old calls replies new) (n : ℕ) → IsProperMemory old.parts.book.memory → ChangesTypes S old calls replies new run n ↔ (new.parts.book.key ≡ old.parts.book.key + n)
-  key_counts old [] [] new run n proper =
+  pub key_counts : {A : Type 0} (old : State) (calls : List (Call A)) (replies : List (Reply A)) (new : State) (run : CallRunBy S old calls replies new) (n : ℕ) → AreSound old.parts → ChangesTypes S old calls replies new run n ↔ (new.parts.book.key ≡ old.parts.book.key + n)
+  key_counts old [] [] new run n sound =
       let same : new.parts.book.key ≡ old.parts.book.key = ap (λ (s : State). s.parts.book.key) run in
       (λ (none : n ≡ 0). omega (arith, same, none), λ (e : new.parts.book.key ≡ old.parts.book.key + n). omega (arith, same, e))
-  key_counts old (c ∷ calls) (r ∷ replies) new (next, step, run) n proper =
-      let o = outcome S permits old.exited old.parts c r next.parts proper step.answers in
-      let still = stays_proper (NamesTypes c) old.parts.book next.parts.book proper o in
+  key_counts old (c ∷ calls) (r ∷ replies) new (next, step, run) n sound =
+      let o = outcome S permits old.exited old.parts c r next.parts sound step.answers in
+      let still = stays_sound S permits old.exited old.parts c r next.parts sound step.answers in
       elim (type_or_not (NamesTypes c) old.parts.book next.parts.book o) [
         | inl (same, key) ↦
             let rest = key_counts next calls replies new run n still in (
@@ -79,11 +77,11 @@ module _ (S : Setting) (permits : (m : List Page) (r : Request) (p : ℕ) (c : O
               inr (differs, (n - 1, one, (key_counts next calls replies new run (n - 1) still).1 (omega (arith, key, e, one)))),
         )
       ]
-  key_counts old [] (r ∷ replies) new run n proper = absurd run
-  key_counts old (c ∷ calls) [] new run n proper = absurd run
+  key_counts old [] (r ∷ replies) new run n sound = absurd run
+  key_counts old (c ∷ calls) [] new run n sound = absurd run
 
 -- no call changes a type where none of them does
-no_change : {A : Type 0} (S : Setting) (old : State) (calls : List Call) (replies : List (Reply A)) (new : State) (run : CallRunBy S old calls replies new) → ChangesNoType S old calls replies new run ↔ ChangesTypes S old calls replies new run 0
+no_change : {A : Type 0} (S : Setting) (old : State) (calls : List (Call A)) (replies : List (Reply A)) (new : State) (run : CallRunBy S old calls replies new) → ChangesNoType S old calls replies new run ↔ ChangesTypes S old calls replies new run 0
 no_change S old [] [] new run = (λ h. refl, λ h. tt)
 no_change S old (c ∷ calls) (r ∷ replies) new (next, step, run) = (
   λ h. inl (h.0, (no_change S next calls replies new run).0 h.1),
@@ -92,13 +90,13 @@ no_change S old (c ∷ calls) (r ∷ replies) new (next, step, run) = (
 no_change S old [] (r ∷ replies) new run = absurd run
 no_change S old (c ∷ calls) [] new run = absurd run
 
-module _ (S : Setting) (permits : (m : List Page) (r : Request) (p : ℕ) (c : Option CertificateValue) → S.chosen m r p c → IsPermittedStart m r p) where
-  pub key_law : {A : Type 0} (first old : State) (key : ℕ) (calls : List Call) (replies : List (Reply A)) (new : State) (run : CallRunBy S old calls replies new) (answer : Reply A) (after : State) →
-      IsProperMemory first.parts.book.memory → GivesKey S A first key old → new.exited ≡ false → StepBy S new (call.ExitBootServices key) answer after →
+module _ (S : Setting) (permits : Permits S.chosen) where
+  pub key_law : {A : Type 0} (first old : State) (key : ℕ) (calls : List (Call A)) (replies : List (Reply A)) (new : State) (run : CallRunBy S old calls replies new) (answer : Reply A) (after : State) →
+      AreSound first.parts → GivesKey S A first key old → new.exited ≡ false → StepBy S new (call.ExitBootServices key) answer after →
       (answer ≡ reply.ExitBootServices (Ok tt)) ↔ ChangesNoType S old calls replies new run
-  key_law first old key calls replies new run answer after proper gives open_still step =
+  key_law first old key calls replies new run answer after sound gives open_still step =
       let (is_key, same) = given_key S first key old gives in
-      let still : IsProperMemory old.parts.book.memory = subst (λ (p : Parts). IsProperMemory p.book.memory) (sym same) proper in
+      let still : AreSound old.parts = subst AreSound (sym same) sound in
       let at_first : key ≡ old.parts.book.key = is_key ∙ sym (ap (λ (p : Parts). p.book.key) same) in
       let exit = exit_answer S new.exited new.parts key answer after.parts open_still step.answers in
       let none = no_change S old calls replies new run in

@@ -4,6 +4,9 @@ pub mod Serving
 pub mod AnySteps
 pub mod Running
 pub mod Outcomes
+pub mod Soundness
+pub mod ReadReplies
+pub mod PoolBytes
 pub mod MapReplies
 pub mod Keys
 pub mod Acceptances

@@ -1,28 +1,31 @@
 -- What a step does to a book: it keeps it, or changes the type of a page.
-use Rattle.std.proofs.Common.{◌≡◌, ◌⊎◌, ℕ, ◌+◌, ◌/◌, ◌^◌, ◌<◌, ◌≤◌, ◌==◌, Bool, true, false, cond, List, Option, Some, None, Result, Ok, Err, IfSome, length, refl, sym, ap, subst, ◌∙◌, inl, inr, arith}
+use Rattle.std.proofs.Common.{◌≡◌, ◌⊎◌, ℕ, ◌+◌, ◌/◌, ◌^◌, ◌<◌, ◌≤◌, ◌==◌, Bool, true, false, cond, List, Option, Some, None, Result, Ok, Err, IfSome, length, refl, sym, ap, subst, ◌∙◌, inl, inr, arith, ne_eqb}
 use Rattle.std.specs.Option.{option_map}
 use Rattle.std.proofs.lemmas.Option.{same_Some}
 use Rattle.page_ranges.specs.declared.ranges.Owner.{Owner}
-use Rattle.page_ranges.specs.declared.ranges.Owner.TheVariants.{Given, Pages}
+use Rattle.page_ranges.specs.declared.ranges.Owner.TheVariants.{Given, Pages, Pool}
 use Rattle.page_ranges.specs.declared.ranges.PageRange.{PageRange}
 use Rattle.page_ranges.specs.declared.statuses.Status.{Status}
 use Rattle.page_ranges.specs.declared.statuses.Status.TheVariants as status
 use Rattle.page_ranges.specs.MemoryTypes.{page_size, page_count, pages_below, conventional, is_bad_type}
-use Rattle.page_ranges.specs.Memory.{Page, page_at, IsProperPage, IsProperMemory, HasMachineTypes, IsConventional, IsOwnedBy, retyped}
+use Rattle.page_ranges.specs.Memory.{Page, page_at, IsProperPage, IsProperMemory, HasMachineTypes, IsConventional, IsOwnedBy, AllInRange, retyped}
 use Rattle.page_ranges.specs.MemoryMap.{memory_map}
 use Rattle.page_ranges.proofs.EntryCounts.{two_more}
 use Rattle.page_ranges.proofs.Lookups.{page_at-number, page_at-all}
 use Rattle.page_ranges.proofs.Retyped.{changed, changed_in, page_at-retyped, retyped-proper, retyped-typed, machine_type}
 use Rattle.placement_certificate.specs.declared.certificates.Request.{Request}
-use Rattle.placement_certificate.specs.Placement.{IsPermittedStart, IsProperRequest}
-use Rattle.placement_certificate.specs.Certificates.{CertificateValue}
+use Rattle.placement_certificate.specs.Placement.{IsProperRequest}
 use Rattle.page_services.specs.declared.page_book.Placed.{Placed}
-use Rattle.page_services.specs.PageRules.{Book, any_pages, max_address, range_from, changed_book, placement_request, IsPlaced, AllocatesPages, FreesPages}
+use Rattle.page_services.specs.PageRules.{Book, any_pages, max_address, range_from, changed_book, placement_request, pool_request, IsPlaced, AllocatesPages, FreesPages}
+use Rattle.page_services.proofs.Choices.{Permits}
+use Rattle.pool_services.specs.Extents.{Extent, Place, AreExtents, ended, first_fit, pages_for}
+use Rattle.pool_services.specs.PoolRules.{Answer, AllocatesPool, FreesPool, IsPut, OwnsExtents, WritesPool, given_if}
+use Rattle.pool_services.proofs.KeptPools.{ended-owned}
 use Rattle.boot_core.specs.declared.calls.Call.{Call}
 use Rattle.boot_core.specs.declared.calls.Call.TheVariants as call
 use Rattle.boot_core.specs.declared.calls.Reply.{Reply}
-use Rattle.boot_core.specs.Machines.{Parts}
-use Rattle.boot_core.specs.Steps.{Setting, WhileOpen, Serves, Answers}
+use Rattle.boot_core.specs.Machines.{Parts, AreSound}
+use Rattle.boot_core.specs.Steps.{Setting, OnBook, OnPools, WhileOpen, Serves, Answers}
 use Rattle.boot_core.specs.Laws.{type_at, HaveSameTypes, NamesTypes}
 use Rattle.boot_core.proofs.RecordPages.{HaveFields, retyped-fields}
 
@@ -61,40 +64,57 @@ pub record IsChanged (Fits : Type 0) (old new : Book) : Type 0 where
 abbrev pub Outcome : Type 0 → Book → Book → Type 0
 Outcome Fits old new = (new ≡ old) ⊎ IsChanged Fits old new
 
-allocated : (b : Book) (range : PageRange) (t : ℕ) → IsProperMemory b.memory → is_bad_type t ≡ false → 0 < range.pages → IsConventional (page_at b.memory range.first) → IsChanged (t < 2 ^ 32) b (changed_book range t Pages b)
-allocated b range t proper good some free =
+allocated : (b : Book) (range : PageRange) (t : ℕ) (o : Owner) → IsProperMemory b.memory → is_bad_type t ≡ false → 0 < range.pages → IsConventional (page_at b.memory range.first) → IsChanged (t < 2 ^ 32) b (changed_book range t o b)
+allocated b range t o proper good some free =
     let (x, here, was) = conventional_page (page_at b.memory range.first) free in
     let other : ¬ (t ≡ conventional) = λ (e : t ≡ conventional). let h : is_bad_type conventional ≡ false = subst (λ (u : ℕ). is_bad_type u ≡ false) e good in cc in
     record {
       up = refl;
-      proper = retyped-proper range t Pages (λ e. absurd (other e)) b.memory proper;
-      differs = λ same. other (sym (same_type range t Pages b.memory x here some same) ∙ was);
-      typed = retyped-typed range t Pages (machine_type t (inl good)) b.memory;
-      fields = λ fits. retyped-fields range t Pages fits b.memory;
-      grows = two_more range t Pages b.memory proper.ascending;
+      proper = retyped-proper range t o (λ e. absurd (other e)) b.memory proper;
+      differs = λ same. other (sym (same_type range t o b.memory x here some same) ∙ was);
+      typed = retyped-typed range t o (machine_type t (inl good)) b.memory;
+      fields = λ fits. retyped-fields range t o fits b.memory;
+      grows = two_more range t o b.memory proper.ascending;
     }
 
-freed : (Fits : Type 0) (b : Book) (range : PageRange) → IsProperMemory b.memory → 0 < range.pages → IsOwnedBy Pages (page_at b.memory range.first) → IsChanged Fits b (changed_book range conventional Given b)
-freed Fits b range proper some owned =
-    let (x, here, owner) = owned_page Pages (page_at b.memory range.first) owned in
+freed : (Fits : Type 0) (b : Book) (range : PageRange) (o : Owner) → (¬ (o ≡ Given)) → IsProperMemory b.memory → 0 < range.pages → IsOwnedBy o (page_at b.memory range.first) → IsChanged Fits b (changed_book range conventional Given b)
+freed Fits b range o placed proper some owned =
+    let (x, here, owner) = owned_page o (page_at b.memory range.first) owned in
     let is = page_at-all IsProperPage b.memory range.first x proper.each here in
     record {
       up = refl;
       proper = retyped-proper range conventional Given (λ e. refl) b.memory proper;
-      differs = λ same. let given = is.given (same_type range conventional Given b.memory x here some same) in cc;
+      differs = λ same. placed (sym owner ∙ is.given (same_type range conventional Given b.memory x here some same));
       typed = retyped-typed range conventional Given (machine_type conventional (inr refl)) b.memory;
       fields = λ fits. retyped-fields range conventional Given (omega arith) b.memory;
       grows = two_more range conventional Given b.memory proper.ascending;
     }
 
-frees : (Fits : Type 0) (b : Book) (address pages : ℕ) (result : Result (Unit {0}) Status) (new : Book) → IsProperMemory b.memory → FreesPages b address pages result new → Outcome Fits b new
-frees Fits b address pages (Ok done) new proper (valid, owned, e) = subst (Outcome Fits b) (sym e) (inr (freed Fits b (range_from address pages) proper valid.1 (owned (address / page_size) (omega arith) (omega arith))))
+pub frees : (Fits : Type 0) (b : Book) (address pages : ℕ) (result : Result (Unit {0}) Status) (new : Book) → IsProperMemory b.memory → FreesPages b address pages result new → Outcome Fits b new
+frees Fits b address pages (Ok done) new proper (valid, owned, e) = subst (Outcome Fits b) (sym e) (inr (freed Fits b (range_from address pages) Pages (λ e. absurd cc) proper valid.1 (owned (address / page_size) (omega arith) (omega arith))))
 frees Fits b address pages (Err status.InvalidParameter) new proper h = inl h.1
 frees Fits b address pages (Err status.NotFound) new proper h = inl h.2
 frees Fits b address pages (Err status.OutOfResources) new proper h = inl h.2
 frees Fits b address pages (Err other) new proper h = absurd h
 
+-- the book once an extent ended, if one did
+given : (Fits : Type 0) (b : Book) (o : Option PageRange) → IsProperMemory b.memory → ((range : PageRange) → o ≡ Some range → (0 < range.pages) × AllInRange b.memory range (IsOwnedBy Pool)) → Outcome Fits b (given_if o b)
+given Fits b None proper owned = inl refl
+given Fits b (Some range) proper owned =
+    let (some, all) = owned range refl in
+    rw (ne_eqb range.pages 0 (λ e. omega (arith, some, e))) (inr (freed Fits b range Pool (λ e. absurd cc) proper some (all range.first (omega arith) (omega (arith, some)))))
+
+pub frees_pool : (Fits : Type 0) (b : Book) (es : List Extent) (address : ℕ) (result : Result (Unit {0}) Status) (new_b : Book) (new : List Extent) → IsProperMemory b.memory → AreExtents es → OwnsExtents b.memory es → FreesPool b es address result new_b new → Outcome Fits b new_b
+frees_pool Fits b es address (Ok done) new_b new proper extents owns (p, at, e, rest) = subst (Outcome Fits b) (sym e) (given Fits b (ended p es) proper (λ range is. ended-owned b.memory es p range extents owns is))
+frees_pool Fits b es address (Err status.InvalidParameter) new_b new proper extents owns h = inl h.1
+frees_pool Fits b es address (Err status.OutOfResources) new_b new proper extents owns h = inl h.4
+frees_pool Fits b es address (Err other) new_b new proper extents owns h = absurd h
+
 module _ (Fits : Type 0) (old new : Book) where
+  pub key_at_most : Outcome Fits old new → new.key ≤ old.key + 1
+  key_at_most (inl e) = omega (arith, ap (λ (b : Book). b.key) e)
+  key_at_most (inr changed) = omega (arith, changed.up)
+
   pub key_rises : Outcome Fits old new → old.key ≤ new.key
   key_rises (inl e) = omega (arith, ap (λ (b : Book). b.key) e)
   key_rises (inr changed) = omega (arith, changed.up)
@@ -144,26 +164,45 @@ kept_open : (Fits : Type 0) (exited : Bool) (old new : Parts) (Rule Refusal : Ty
 kept_open Fits true old new Rule Refusal f h = kept Fits old new h.1
 kept_open Fits false old new Rule Refusal f h = kept Fits old new (f h)
 
-module _ (S : Setting) (permits : (m : List Page) (r : Request) (p : ℕ) (c : Option CertificateValue) → S.chosen m r p c → IsPermittedStart m r p) where
+module _ (S : Setting) (permits : Permits S.chosen) where
   first_is_free : {A : Type 0} (m : List Page) (r : Option Request) (pages memory : ℕ) (placed : Placed A) → 0 < pages → IfSome r IsProperRequest → IsPlaced S.chosen m r pages memory placed → IsConventional (page_at m (placed.address / page_size))
   first_is_free m None pages memory placed some good (free, e, none) = subst (λ (a : ℕ). IsConventional (page_at m (a / page_size))) (sym e) (free.1 (memory / page_size) (omega arith) (omega arith))
   first_is_free m (Some r) pages memory placed some good (start, chosen, e) =
       let first : placed.address / page_size ≡ start = omega (arith, e) in
       subst (λ (k : ℕ). IsConventional (page_at m k)) (sym first) ((permits m r start placed.certificate chosen).conventional start (omega arith) (omega (arith, good.some)))
 
-  allocates : {A : Type 0} (b : Book) (kind t pages memory : ℕ) (result : Result (Placed A) Status) (new : Book) → IsProperMemory b.memory → AllocatesPages S.chosen b kind t pages memory result new → Outcome (t < 2 ^ 32) b new
+  pub allocates : {A : Type 0} (b : Book) (kind t pages memory : ℕ) (result : Result (Placed A) Status) (new : Book) → IsProperMemory b.memory → AllocatesPages S.chosen b kind t pages memory result new → Outcome (t < 2 ^ 32) b new
   allocates b kind t pages memory (Ok placed) new proper (valid, at, e) =
       subst (Outcome (t < 2 ^ 32) b) (sym e)
-      (inr (allocated b (range_from placed.address pages) t proper valid.1 valid.2 (first_is_free b.memory (placement_request kind t pages memory) pages memory placed valid.2 (proper_request kind t pages memory valid.1 valid.2) at)))
+      (inr (allocated b (range_from placed.address pages) t Pages proper valid.1 valid.2 (first_is_free b.memory (placement_request kind t pages memory) pages memory placed valid.2 (proper_request kind t pages memory valid.1 valid.2) at)))
   allocates b kind t pages memory (Err status.InvalidParameter) new proper h = inl h.1
   allocates b kind t pages memory (Err status.NotFound) new proper h = inl h.3
   allocates b kind t pages memory (Err status.OutOfResources) new proper h = inl h.2
   allocates b kind t pages memory (Err other) new proper h = absurd h
 
-  pub outcome : {A : Type 0} (exited : Bool) (old : Parts) (c : Call) (answer : Reply A) (new : Parts) → IsProperMemory old.book.memory → Answers S exited old c answer new → Outcome (NamesTypes c) old.book new.book
-  outcome exited old (call.AllocatePages kind t pages memory) answer new proper h =
-      served (t < 2 ^ 32) exited old new answer _ (λ result. AllocatesPages S.chosen old.book kind t pages memory result new.book) (λ result. allocates old.book kind t pages memory result new.book proper) h
-  outcome exited old (call.FreePages memory pages) answer new proper h =
-      served (Unit {0}) exited old new answer _ (λ result. FreesPages old.book memory pages result new.book) (λ result. frees (Unit {0}) old.book memory pages result new.book proper) h
-  outcome exited old (call.GetMemoryMap size) answer new proper (told, bytes, e, h) = kept_open (Unit {0}) exited old new _ _ (λ rule. rule.1) h
-  outcome exited old (call.ExitBootServices key) answer new proper (result, e, h) = kept_open (Unit {0}) exited old new _ _ (λ rule. rule.1) h
+  put : (b : Book) (es : List Extent) (t size : ℕ) (o : Option Place) (answer : Answer) (new_b : Book) (new : List Extent) → IsProperMemory b.memory → is_bad_type t ≡ false → IsPut S.chosen o b es t size answer new_b new → Outcome (t < 2 ^ 32) b new_b
+  put b es t size (Some p) answer new_b new proper good (address, none, same, rest) = inl same
+  put b es t size None answer new_b new proper good (start, chosen, address, e, rest) =
+      let start_is = permits b.memory (pool_request t (pages_for size)) start answer.1 chosen in
+      subst (Outcome (t < 2 ^ 32) b) (sym e) (inr (allocated b (record { first = start; pages = pages_for size }) t Pool proper good (omega arith) (start_is.conventional start (omega arith) (omega arith))))
+
+  pub allocates_pool : (b : Book) (es : List Extent) (t size : ℕ) (result : Result Answer Status) (new_b : Book) (new : List Extent) → IsProperMemory b.memory → AllocatesPool S.chosen b es t size result new_b new → Outcome (t < 2 ^ 32) b new_b
+  allocates_pool b es t size (Ok answer) new_b new proper (good, few, at) = put b es t size (first_fit t size es) answer new_b new proper good at
+  allocates_pool b es t size (Err status.InvalidParameter) new_b new proper h = inl h.1
+  allocates_pool b es t size (Err status.OutOfResources) new_b new proper h = inl h.2
+  allocates_pool b es t size (Err other) new_b new proper h = absurd h
+
+  pub outcome : {A : Type 0} (exited : Bool) (old : Parts) (c : Call A) (answer : Reply A) (new : Parts) → AreSound old → Answers S exited old c answer new → Outcome (NamesTypes c) old.book new.book
+  outcome exited old (call.AllocatePages kind t pages memory) answer new sound h =
+      served (t < 2 ^ 32) exited old new answer _ (λ result. OnBook (AllocatesPages S.chosen old.book kind t pages memory result) old new) (λ result rule. allocates old.book kind t pages memory result new.book sound.proper rule.0) h
+  outcome exited old (call.FreePages memory pages) answer new sound h =
+      served (Unit {0}) exited old new answer _ (λ result. OnBook (FreesPages old.book memory pages result) old new) (λ result rule. frees (Unit {0}) old.book memory pages result new.book sound.proper rule.0) h
+  outcome exited old (call.GetMemoryMap size) answer new sound (told, bytes, e, h) = kept_open (Unit {0}) exited old new _ _ (λ rule. rule.1) h
+  outcome exited old (call.AllocatePool t size) answer new sound h =
+      served (t < 2 ^ 32) exited old new answer _ (λ result. AllocatesPool S.chosen old.book old.pools t size result new.book new.pools) (λ result. allocates_pool old.book old.pools t size result new.book new.pools sound.proper) h
+  outcome exited old (call.FreePool address) answer new sound h =
+      served (Unit {0}) exited old new answer _ (λ result. FreesPool old.book old.pools address result new.book new.pools) (λ result. frees_pool (Unit {0}) old.book old.pools address result new.book new.pools sound.proper sound.extents sound.owned) h
+  outcome exited old (call.PoolRead address size) answer new sound (told, bytes, e, h) = kept_open (Unit {0}) exited old new _ _ (λ rule. rule.1) h
+  outcome exited old (call.PoolWrite address bytes) answer new sound h =
+      served (Unit {0}) exited old new answer _ (λ result. OnPools (WritesPool old.pools address bytes result) old new) (λ result rule. inl rule.1) h
+  outcome exited old (call.ExitBootServices key) answer new sound (result, e, h) = kept_open (Unit {0}) exited old new _ _ (λ rule. rule.1) h

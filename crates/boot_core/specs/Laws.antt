@@ -1,32 +1,38 @@
 -- The laws of the machine. Each is the contract of a public function.
-use Rattle.std.specs.Prelude.{◌≡◌, ◌⊎◌, ◌↔◌, ℕ, ◌+◌, ◌*◌, ◌<◌, ◌≤◌, ◌^◌, false, List, ◌∷◌, ◌++◌, length, take, drop, Option, Ok, IfSome, Vec}
+use Rattle.std.specs.Prelude.{◌≡◌, ◌⊎◌, ◌↔◌, ℕ, ◌+◌, ◌*◌, ◌<◌, ◌≤◌, ◌^◌, false, cond, List, ◌∷◌, ◌++◌, length, take, drop, replicate, Option, Some, None, Ok, IfSome, Vec}
 use Rattle.std.specs.Option.{option_map}
 use Rattle.std.specs.List.{AllByRecursion}
 use Rattle.page_ranges.specs.declared.ranges.Run.{Run}
 use Rattle.page_ranges.specs.declared.statuses.Status.{Status}
 use Rattle.page_ranges.specs.declared.statuses.Status.TheVariants.{Success}
-use Rattle.page_ranges.specs.Memory.{Page, page_at, IsProperMemory}
+use Rattle.page_ranges.specs.Memory.{Page, page_at}
 use Rattle.page_ranges.specs.MemoryMap.{memory_map}
 use Rattle.page_ranges.specs.Runs.{IsValidMachine}
 use Rattle.placement_certificate.specs.Acceptance.{IsAccepted}
 use Rattle.map_keys.specs.declared.memory_maps.MapReply.{MapReply}
 use Rattle.map_keys.specs.Records.{IsRecordEntry}
+use Rattle.pool_services.specs.Extents.{Extent, tail_at}
+use Rattle.pool_services.specs.Laws.{byte_at, first_of, is_among, laid}
 use Rattle.boot_core.specs.declared.calls.Call.{Call}
 use Rattle.boot_core.specs.declared.calls.Call.TheVariants as call
 use Rattle.boot_core.specs.declared.calls.Reply.{Reply}
 use Rattle.boot_core.specs.declared.calls.Reply.TheVariants as reply
 use Rattle.boot_core.specs.MachineRuns.{HasRecordNumbers}
-use Rattle.boot_core.specs.Machines.{State, first_state}
+use Rattle.boot_core.specs.Machines.{State, AreSound, first_state}
 use Rattle.boot_core.specs.Certified.{certified}
-use Rattle.boot_core.specs.Steps.{Setting, any_starts, MapStep, Step, StepAny, StepBy, CallRun, CallRunBy}
+use Rattle.boot_core.specs.Steps.{Setting, any_starts, MapStep, ReadStep, Step, StepAny, StepBy, CallRun, CallRunBy}
 
 -- A step with the best start is a step with any permitted start.
 abbrev pub AnyStepLaw : Type 0 → Type 0
-AnyStepLaw A = (old : State) (c : Call) (answer : Reply A) (new : State) → Step old c answer new → StepAny old c answer new
+AnyStepLaw A = (old : State) (c : Call A) (answer : Reply A) (new : State) → Step old c answer new → StepAny old c answer new
 
 -- A run with the best starts is a run with any permitted starts.
 abbrev pub AnyRunLaw : Type 0 → Type 0
-AnyRunLaw A = (old : State) (calls : List Call) (replies : List (Reply A)) (new : State) → CallRun old calls replies new → CallRunBy any_starts old calls replies new
+AnyRunLaw A = (old : State) (calls : List (Call A)) (replies : List (Reply A)) (new : State) → CallRun old calls replies new → CallRunBy any_starts old calls replies new
+
+-- The parts are sound after calls on a valid machine, however starts are chosen among the permitted ones.
+abbrev pub SoundLaw : Setting → Type 0 → Type 0
+SoundLaw S A = (machine : List Run) (calls : List (Call A)) (replies : List (Reply A)) (new : State) → IsValidMachine machine → CallRunBy S (first_state machine) calls replies new → AreSound new.parts
 
 -- ---- keys
 
@@ -39,20 +45,20 @@ abbrev pub HaveSameTypes : List Page → List Page → Type 0
 HaveSameTypes m n = (k : ℕ) → type_at m k ≡ type_at n k
 
 -- no call of the run changes the type of any page
-abbrev pub ChangesNoType : {A : Type 0} (S : Setting) (old : State) (calls : List Call) (replies : List (Reply A)) (new : State) → CallRunBy S old calls replies new → Type 0
+abbrev pub ChangesNoType : {A : Type 0} (S : Setting) (old : State) (calls : List (Call A)) (replies : List (Reply A)) (new : State) → CallRunBy S old calls replies new → Type 0
 ChangesNoType S old (c ∷ calls) (answer ∷ replies) new (next, step, run) = HaveSameTypes old.parts.book.memory next.parts.book.memory × ChangesNoType S next calls replies new run
 ChangesNoType S old calls replies new run = Unit {0}
 
 -- so many calls of the run change the type of a page
-abbrev pub ChangesTypes : {A : Type 0} (S : Setting) (old : State) (calls : List Call) (replies : List (Reply A)) (new : State) → CallRunBy S old calls replies new → ℕ → Type 0
+abbrev pub ChangesTypes : {A : Type 0} (S : Setting) (old : State) (calls : List (Call A)) (replies : List (Reply A)) (new : State) → CallRunBy S old calls replies new → ℕ → Type 0
 ChangesTypes S old (c ∷ calls) (answer ∷ replies) new (next, step, run) n =
     (HaveSameTypes old.parts.book.memory next.parts.book.memory × ChangesTypes S next calls replies new run n) ⊎ ((¬ HaveSameTypes old.parts.book.memory next.parts.book.memory) × ((others : ℕ) × (n ≡ others + 1) × ChangesTypes S next calls replies new run others))
 ChangesTypes S old calls replies new run n = n ≡ 0
 
 -- The key counts exactly the calls that change the type of a page.
 abbrev pub KeyCountLaw : Setting → Type 0 → Type 0
-KeyCountLaw S A = (old : State) (calls : List Call) (replies : List (Reply A)) (new : State) (run : CallRunBy S old calls replies new) (n : ℕ) →
-    IsProperMemory old.parts.book.memory → ChangesTypes S old calls replies new run n ↔ (new.parts.book.key ≡ old.parts.book.key + n)
+KeyCountLaw S A = (old : State) (calls : List (Call A)) (replies : List (Reply A)) (new : State) (run : CallRunBy S old calls replies new) (n : ℕ) →
+    AreSound old.parts → ChangesTypes S old calls replies new run n ↔ (new.parts.book.key ≡ old.parts.book.key + n)
 
 -- the reply is of a GetMemoryMap that succeeded, with this key
 abbrev pub TellsKey : {A : Type 0} → Reply A → ℕ → Type 0
@@ -66,8 +72,8 @@ GivesKey S A old key new =
 
 -- Before an exit, a key that GetMemoryMap told is accepted exactly where no call since has changed the type of a page.
 abbrev pub KeyLaw : Setting → Type 0 → Type 0
-KeyLaw S A = (first old : State) (key : ℕ) (calls : List Call) (replies : List (Reply A)) (new : State) (run : CallRunBy S old calls replies new) (answer : Reply A) (after : State) →
-    IsProperMemory first.parts.book.memory → GivesKey S A first key old → new.exited ≡ false → StepBy S new (call.ExitBootServices key) answer after →
+KeyLaw S A = (first old : State) (key : ℕ) (calls : List (Call A)) (replies : List (Reply A)) (new : State) (run : CallRunBy S old calls replies new) (answer : Reply A) (after : State) →
+    AreSound first.parts → GivesKey S A first key old → new.exited ≡ false → StepBy S new (call.ExitBootServices key) answer after →
     (answer ≡ reply.ExitBootServices (Ok tt)) ↔ ChangesNoType S old calls replies new run
 
 -- ---- memory maps
@@ -84,32 +90,69 @@ MapStepLaw A = (old : State) (buffer : List ℕ) (told : MapReply) (after : List
     MapStep old buffer told after new → used.items ≡ take (used_size told.status told.size) after →
     Step old (call.GetMemoryMap (length buffer)) (reply.GetMemoryMap told used) new × (after ≡ used.items ++ drop (length used.items) buffer)
 
+-- how many bytes of a buffer a status of a read says were used: all on success
+abbrev pub read_size : Status → ℕ → ℕ
+read_size Success size = size
+read_size status size = 0
+
+-- A read into a buffer of the caller's is a step of the machine, with the status that a call tells and the whole buffer where it
+-- succeeds; else the buffer is as it was.
+abbrev pub ReadStepLaw : Type 0 → Type 0
+ReadStepLaw A = (old : State) (address : ℕ) (buffer : List ℕ) (status : Status) (after : List ℕ) (new : State) (used : Vec ℕ A) →
+    ReadStep old address buffer status after new → used.items ≡ take (read_size status (length buffer)) after →
+    Step old (call.PoolRead address (length buffer)) (reply.PoolRead status used) new × (after ≡ used.items ++ drop (length used.items) buffer)
+
 -- a call that names no type of more than 32 bits
-abbrev pub NamesTypes : Call → Type 0
+abbrev pub NamesTypes : {A : Type 0} → Call A → Type 0
 NamesTypes (call.AllocatePages kind t pages memory) = t < 2 ^ 32
+NamesTypes (call.AllocatePool t size) = t < 2 ^ 32
 NamesTypes c = Unit {0}
 
 -- After calls on a valid machine whose numbers fit their fields, each entry of the memory map is one that a record can spell.
 abbrev pub RecordEntriesLaw : Type 0 → Type 0
-RecordEntriesLaw A = (machine : List Run) (calls : List Call) (replies : List (Reply A)) (new : State) → IsValidMachine machine → AllByRecursion HasRecordNumbers machine → AllByRecursion NamesTypes calls →
+RecordEntriesLaw A = (machine : List Run) (calls : List (Call A)) (replies : List (Reply A)) (new : State) → IsValidMachine machine → AllByRecursion HasRecordNumbers machine → AllByRecursion NamesTypes calls →
     CallRun (first_state machine) calls replies new → AllByRecursion IsRecordEntry (memory_map new.parts.book.memory)
 
 -- After calls on a valid machine the memory map has an entry for each run of the machine and two for each call, or fewer.
 abbrev pub MapGrowthLaw : Setting → Type 0 → Type 0
-MapGrowthLaw S A = (machine : List Run) (calls : List Call) (replies : List (Reply A)) (new : State) → IsValidMachine machine → CallRunBy S (first_state machine) calls replies new →
+MapGrowthLaw S A = (machine : List Run) (calls : List (Call A)) (replies : List (Reply A)) (new : State) → IsValidMachine machine → CallRunBy S (first_state machine) calls replies new →
     length (memory_map new.parts.book.memory) ≤ length machine + 2 * length calls
+
+-- ---- the pool's bytes
+
+-- how many bytes a block has from an address on, to its end
+abbrev pub bytes_left : Option (List ℕ) → ℕ
+bytes_left None = 0
+bytes_left (Some bytes) = length bytes
+
+-- What stands at an address after a call, where a byte of the pool or none stood there: a new block's bytes are 0, a write lays
+-- its bytes, and a block that is given back has none.
+abbrev pub byte_after : {A : Type 0} → Call A → Reply A → List Extent → ℕ → Option ℕ
+byte_after (call.AllocatePool t size) (reply.AllocatePool (Ok block)) es k = laid block.0 (replicate size 0) k (byte_at k es)
+byte_after (call.FreePool address) (reply.FreePool (Ok done)) es k = cond (is_among address (bytes_left (tail_at address es)) k) None (byte_at k es)
+byte_after (call.PoolWrite address bytes) (reply.PoolWrite (Ok done)) es k = laid address bytes k (byte_at k es)
+byte_after c answer es k = byte_at k es
+
+-- So each call leaves the bytes of the pool.
+abbrev pub PoolBytesLaw : Type 0 → Type 0
+PoolBytesLaw A = (old : State) (c : Call A) (answer : Reply A) (new : State) → AreSound old.parts → Step old c answer new → (k : ℕ) → byte_at k new.parts.pools ≡ byte_after c answer old.parts.pools k
+
+-- A read that succeeds gives the bytes that stand at its addresses.
+abbrev pub ReadBytesLaw : Type 0 → Type 0
+ReadBytesLaw A = (old : State) (address size : ℕ) (bytes : Vec ℕ A) (new : State) → AreSound old.parts → Step old (call.PoolRead address size) (reply.PoolRead Success bytes) new →
+    (length bytes.items ≡ size) × ((i : ℕ) → i < size → byte_at (address + i) old.parts.pools ≡ first_of (drop i bytes.items))
 
 -- ---- certificates
 
 -- The certificate of a reply, where it has one, is accepted by the checker with the memory map before the call.
-abbrev pub IsAcceptedReply : {A : Type 0} → State → Call → Reply A → Type 0
+abbrev pub IsAcceptedReply : {A : Type 0} → State → Call A → Reply A → Type 0
 IsAcceptedReply old c answer = IfSome (certified c answer) (λ told. IsAccepted (memory_map old.parts.book.memory) told.0 told.1)
 
 -- so is the certificate of each reply of the run
-abbrev pub AllAccepted : {A : Type 0} (old : State) (calls : List Call) (replies : List (Reply A)) (new : State) → CallRun old calls replies new → Type 0
+abbrev pub AllAccepted : {A : Type 0} (old : State) (calls : List (Call A)) (replies : List (Reply A)) (new : State) → CallRun old calls replies new → Type 0
 AllAccepted old (c ∷ calls) (answer ∷ replies) new (next, step, run) = IsAcceptedReply old c answer × AllAccepted next calls replies new run
 AllAccepted old calls replies new run = Unit {0}
 
 -- On a valid machine the checker accepts each certificate of a run.
 abbrev pub AcceptanceLaw : Type 0 → Type 0
-AcceptanceLaw A = (machine : List Run) (calls : List Call) (replies : List (Reply A)) (new : State) (run : CallRun (first_state machine) calls replies new) → IsValidMachine machine → AllAccepted (first_state machine) calls replies new run
+AcceptanceLaw A = (machine : List Run) (calls : List (Call A)) (replies : List (Reply A)) (new : State) (run : CallRun (first_state machine) calls replies new) → IsValidMachine machine → AllAccepted (first_state machine) calls replies new run

@@ -1,6 +1,7 @@
 pub mod MachineRuns
 pub mod Machines
 pub mod MapCalls
+pub mod PoolCalls
 pub mod Steps
 pub mod Certified
 pub mod Laws

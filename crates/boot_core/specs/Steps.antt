@@ -3,6 +3,8 @@ use Rattle.std.specs.Prelude.{◌≡◌, ◌≢◌, ℕ, ◌+◌, Bool, true, fa
 use Rattle.page_ranges.specs.declared.statuses.Status.{Status}
 use Rattle.page_ranges.specs.declared.statuses.Status.TheVariants.{InvalidParameter, Unsupported}
 use Rattle.page_services.specs.PageRules.{Book, Choice, IsAnyStart, IsBestChoice, AllocatesPages, FreesPages}
+use Rattle.pool_services.specs.Extents.{Extent}
+use Rattle.pool_services.specs.PoolRules.{AllocatesPool, FreesPool, ReadsPool, WritesPool}
 use Rattle.map_keys.specs.declared.memory_maps.MapReply.{MapReply}
 use Rattle.map_keys.specs.MapReplies.{map_reply, buffer_with_map}
 use Rattle.boot_core.specs.declared.calls.Call.{Call}
@@ -11,6 +13,7 @@ use Rattle.boot_core.specs.declared.calls.Reply.{Reply}
 use Rattle.boot_core.specs.declared.calls.Reply.TheVariants as reply
 use Rattle.boot_core.specs.Machines.{Parts, State}
 use Rattle.boot_core.specs.MapCalls.{refused_map, AnswersMap}
+use Rattle.boot_core.specs.PoolCalls.{AnswersRead, told_status}
 
 -- ---- what a step goes by beside the state
 
@@ -30,7 +33,15 @@ any_starts = record { chosen = IsAnyStart }
 
 -- the book is left so, and each other part as it was
 abbrev pub OnBook : (Book → Type 0) → Parts → Parts → Type 0
-OnBook Rule old new = Rule new.book
+OnBook Rule old new = Rule new.book × (new.pools ≡ old.pools)
+
+-- the pool is left so, and each other part as it was
+abbrev pub OnPools : (List Extent → Type 0) → Parts → Parts → Type 0
+OnPools Rule old new = Rule new.pools × (new.book ≡ old.book)
+
+-- the book and the pool are left so, and each other part as it was
+abbrev pub OnBookAndPools : (Book → List Extent → Type 0) → Parts → Parts → Type 0
+OnBookAndPools Rule old new = Rule new.book new.pools
 
 -- ---- before the exit and after it
 
@@ -43,10 +54,10 @@ WhileOpen false old new Rule Refusal = Rule
 abbrev pub Serves : {A R : Type 0} → Bool → Parts → Parts → Reply A → (Result R Status → Reply A) → (Result R Status → Type 0) → Type 0
 Serves {R = R} exited old new answer tell Rule = (result : Result R Status) × (answer ≡ tell result) × WhileOpen exited old new (Rule result) (result ≡ Err Unsupported)
 
--- what a service does whose reply carries fields and the bytes that are used of a buffer
-abbrev pub ServesMap : {A : Type 0} → Bool → Parts → Parts → Reply A → (MapReply → List ℕ → Type 0) → Type 0
-ServesMap {A = A} exited old new answer Rule =
-    (told : MapReply) × (bytes : Vec ℕ A) × (answer ≡ reply.GetMemoryMap told bytes) × WhileOpen exited old new (Rule told bytes.items) ((told ≡ refused_map Unsupported) × (bytes.items ≡ []))
+-- what a service does whose reply tells something and the bytes that are used of a buffer
+abbrev pub ServesBytes : {A T : Type 0} → Bool → Parts → Parts → Reply A → (T → Vec ℕ A → Reply A) → (T → List ℕ → Type 0) → T → Type 0
+ServesBytes {A = A} {T = T} exited old new answer tell Rule refused =
+    (told : T) × (bytes : Vec ℕ A) × (answer ≡ tell told bytes) × WhileOpen exited old new (Rule told bytes.items) ((told ≡ refused) × (bytes.items ≡ []))
 
 -- ---- the services
 
@@ -57,10 +68,14 @@ Exits current key (Err InvalidParameter) = key ≢ current
 Exits current key (Err status) = ⊥
 
 -- what a call answers and how it leaves the parts
-abbrev pub Answers : {A : Type 0} → Setting → Bool → Parts → Call → Reply A → Parts → Type 0
+abbrev pub Answers : {A : Type 0} → Setting → Bool → Parts → Call A → Reply A → Parts → Type 0
 Answers S exited old (call.AllocatePages kind t pages address) answer new = Serves exited old new answer reply.AllocatePages (λ result. OnBook (AllocatesPages S.chosen old.book kind t pages address result) old new)
 Answers S exited old (call.FreePages address pages) answer new = Serves exited old new answer reply.FreePages (λ result. OnBook (FreesPages old.book address pages result) old new)
-Answers S exited old (call.GetMemoryMap size) answer new = ServesMap exited old new answer (λ told bytes. AnswersMap old.book size told bytes × (new ≡ old))
+Answers S exited old (call.GetMemoryMap size) answer new = ServesBytes exited old new answer reply.GetMemoryMap (λ told bytes. AnswersMap old.book size told bytes × (new ≡ old)) (refused_map Unsupported)
+Answers S exited old (call.AllocatePool t size) answer new = Serves exited old new answer reply.AllocatePool (λ result. OnBookAndPools (AllocatesPool S.chosen old.book old.pools t size result) old new)
+Answers S exited old (call.FreePool address) answer new = Serves exited old new answer reply.FreePool (λ result. OnBookAndPools (FreesPool old.book old.pools address result) old new)
+Answers S exited old (call.PoolRead address size) answer new = ServesBytes exited old new answer reply.PoolRead (λ status bytes. AnswersRead old.pools address size status bytes × (new ≡ old)) Unsupported
+Answers S exited old (call.PoolWrite address bytes) answer new = Serves exited old new answer reply.PoolWrite (λ result. OnPools (WritesPool old.pools address bytes result) old new)
 Answers S exited old (call.ExitBootServices key) answer new = Serves exited old new answer reply.ExitBootServices (λ result. Exits old.book.key key result × (new ≡ old))
 
 -- whether the boot services have ended after a reply: they had, or it tells of an exit
@@ -75,17 +90,17 @@ abbrev pub IsCounted : State → State → Type 0
 IsCounted old new = new.calls_left + 1 ≡ old.calls_left
 
 -- the machine may go from one state to another by the call, with this reply
-pub record StepBy {A : Type 0} (S : Setting) (old : State) (c : Call) (answer : Reply A) (new : State) : Type 0 where
+pub record StepBy {A : Type 0} (S : Setting) (old : State) (c : Call A) (answer : Reply A) (new : State) : Type 0 where
   pub answers : Answers S old.exited old.parts c answer new.parts
   pub exited : new.exited ≡ exited_after old.exited answer
   pub calls_left : IsCounted old new
 
 -- a step in which each start is the best
-abbrev pub Step : {A : Type 0} → State → Call → Reply A → State → Type 0
+abbrev pub Step : {A : Type 0} → State → Call A → Reply A → State → Type 0
 Step old c answer new = StepBy best_starts old c answer new
 
 -- a step in which each start is any permitted one
-abbrev pub StepAny : {A : Type 0} → State → Call → Reply A → State → Type 0
+abbrev pub StepAny : {A : Type 0} → State → Call A → Reply A → State → Type 0
 StepAny old c answer new = StepBy any_starts old c answer new
 
 -- What GetMemoryMap does with a buffer of the caller's: its reply, the buffer after it, and the machine, which is as it was but
@@ -95,12 +110,19 @@ pub record MapStep (old : State) (buffer : List ℕ) (told : MapReply) (after : 
   pub exited : new.exited ≡ old.exited
   pub calls_left : IsCounted old new
 
+-- What a read does with a buffer of the caller's: its status, the buffer after it, and the machine, which is as it was but for
+-- one call less.
+pub record ReadStep (old : State) (address : ℕ) (buffer : List ℕ) (status : Status) (after : List ℕ) (new : State) : Type 0 where
+  pub answers : WhileOpen old.exited old.parts new.parts ((result : Result (Unit {0}) Status) × (status ≡ told_status result) × ReadsPool old.parts.pools address buffer result after × (new.parts ≡ old.parts)) ((status ≡ Unsupported) × (after ≡ buffer))
+  pub exited : new.exited ≡ old.exited
+  pub calls_left : IsCounted old new
+
 -- the machine may go from one state to another by the calls, with these replies in order
-abbrev pub CallRunBy : {A : Type 0} → Setting → State → List Call → List (Reply A) → State → Type 0
+abbrev pub CallRunBy : {A : Type 0} → Setting → State → List (Call A) → List (Reply A) → State → Type 0
 CallRunBy S old [] [] new = new ≡ old
 CallRunBy S old (c ∷ calls) (answer ∷ replies) new = (next : State) × StepBy S old c answer next × CallRunBy S next calls replies new
 CallRunBy S old calls replies new = ⊥
 
 -- a run of calls in which each start is the best
-abbrev pub CallRun : {A : Type 0} → State → List Call → List (Reply A) → State → Type 0
+abbrev pub CallRun : {A : Type 0} → State → List (Call A) → List (Reply A) → State → Type 0
 CallRun old calls replies new = CallRunBy best_starts old calls replies new

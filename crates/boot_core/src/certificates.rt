@@ -6,11 +6,12 @@ use crate::calls::{Call, Reply};
 use page_ranges::MemoryType;
 use page_services::placement_request;
 use placement_certificate::{Certificate, Request};
+use pool_services::extent_request;
 use std::alloc::Allocator;
 
 /// The certificate of the reply to a call, and the request that it is for.
 pub fn certified<'a, A: Allocator>(
-    call: &Call,
+    call: &Call<A>,
     reply: &'a Reply<A>,
 ) -> Option<(Request, &'a Certificate<A>)>
     ensures { option_map (λ told. (told.0, told.1.now)) result ≡ certified call.now reply.now }
@@ -23,14 +24,14 @@ pub fn certified<'a, A: Allocator>(
 
 /// Whether a reply to the call may carry a certificate, which says nothing without the memory map
 /// before the call.
-pub fn may_be_certified(call: &Call) -> bool
+pub fn may_be_certified<A: Allocator>(call: &Call<A>) -> bool
     ensures { result ≡ may_be_certified call.now }
 {
     request_for(call).is_some()
 }
 
 /// The request that a call leaves to the service to place.
-fn request_for(call: &Call) -> Option<Request>
+fn request_for<A: Allocator>(call: &Call<A>) -> Option<Request>
     ensures { result ≡ request_for call.now }
 {
     match call {
@@ -40,6 +41,7 @@ fn request_for(call: &Call) -> Option<Request>
             pages,
             memory,
         } => placement_request(*kind, MemoryType::new(*mtype), *pages, *memory),
+        Call::AllocatePool { mtype, size } => extent_request(MemoryType::new(*mtype), *size),
         _ => None,
     }
 }
@@ -50,6 +52,7 @@ fn certificate_in<A: Allocator>(reply: &Reply<A>) -> Option<&Certificate<A>>
 {
     match reply {
         Reply::AllocatePages(Ok(placed)) => placed.certificate.as_ref(),
+        Reply::AllocatePool(Ok((_, certificate))) => certificate.as_ref(),
         _ => None,
     }
 }

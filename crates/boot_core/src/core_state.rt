@@ -3,15 +3,17 @@ ghost use Rattle.std.specs.Prelude.{◌≡◌, ◌+◌, ◌<◌, ◌≤◌, leng
 ghost use Rattle.page_ranges.specs.Memory.{IsProperMemory};
 ghost use Rattle.page_ranges.specs.MemoryMap.{memory_map};
 ghost use Rattle.boot_core.specs.Machines.{all_calls, first_state};
-ghost use Rattle.boot_core.specs.Steps.{IsCounted, MapStep, Step, CallRun};
+ghost use Rattle.boot_core.specs.Steps.{IsCounted, MapStep, ReadStep, Step, CallRun};
 
 use crate::calls::{Call, Reply};
 use crate::machines::Machine;
 use crate::map_buffers::{map_in_buffer, refused_map};
+use crate::pool_buffers::{read_bytes, told_status};
 use descriptor_table::{MapEntries, RunTable};
 use map_keys::{MapReply, get_memory_map};
 use page_ranges::{Descriptor, Status};
 use page_services::PageBook;
+use pool_services::Pools;
 use std::alloc::{AllocError, Allocator, Global};
 use std::marker::Model;
 
@@ -22,18 +24,19 @@ const CALLS: u64 = 0x8000_0000;
 #[derive(Drop)]
 pub struct Core<A: Allocator = Global> {
     book: PageBook<A>,
+    pools: Pools<A>,
     exited: bool,
     calls_left: u64,
 }
 
 impl<A: Allocator> Model for Core<A> {
-    ghost use Rattle.boot_core.specs.Machines.{State, KeyFollowsCalls};
+    ghost use Rattle.boot_core.specs.Machines.{State, AreSound, KeyFollowsCalls};
 
     ghost Value = { State };
 
-    ghost view = { λ c. record { parts = record { book = c.book }; exited = c.exited; calls_left = c.calls_left } };
+    ghost view = { λ c. record { parts = record { book = c.book; pools = c.pools }; exited = c.exited; calls_left = c.calls_left } };
 
-    ghost invariant = { λ c. KeyFollowsCalls c.book.key c.calls_left };
+    ghost invariant = { λ c. KeyFollowsCalls c.book.key c.calls_left × AreSound (record { book = c.book; pools = c.pools }) };
 }
 
 impl<A: Allocator + Copy> Core<A> {
@@ -44,6 +47,7 @@ impl<A: Allocator + Copy> Core<A> {
         let table = RunTable::from_runs(alloc, machine.runs())?;
         Ok(Core {
             book: PageBook::new(table),
+            pools: Pools::new(alloc),
             exited: false,
             calls_left: CALLS,
         })
@@ -118,6 +122,72 @@ impl<A: Allocator + Copy> Core<A> {
         }
     }
 
+    /// AllocatePool: a block of so many bytes, all 0, of the type `mtype`.
+    pub fn allocate_pool(&mut self, mtype: u32, size: u64) -> Reply<A>
+        requires { 0 < self.old.calls_left }
+        ensures { Step self.old (Call.AllocatePool mtype size) result self.new }
+    {
+        Reply::AllocatePool(match self.begin() {
+            Ok(()) => self.pools.allocate(&mut self.book, mtype, size),
+            Err(status) => Err(status),
+        })
+    }
+
+    /// FreePool: gives the block at an address back.
+    pub fn free_pool(&mut self, address: u64) -> Reply<A>
+        requires { 0 < self.old.calls_left }
+        ensures { Step self.old (Call.FreePool address) result self.new }
+    {
+        Reply::FreePool(match self.begin() {
+            Ok(()) => self.pools.free(&mut self.book, address),
+            Err(status) => Err(status),
+        })
+    }
+
+    /// Reads bytes of one pool block, from an address on, into a buffer.
+    ///
+    /// INVALID_PARAMETER: they do not lie in one block. The buffer is then as it was.
+    pub fn pool_read(&mut self, address: u64, buffer: &mut [u8]) -> Status
+        requires { 0 < self.old.calls_left }
+        ensures { ReadStep self.old address buffer.old result buffer.new self.new }
+    {
+        match self.begin() {
+            Ok(()) => told_status(self.pools.read(address, buffer)),
+            Err(status) => status,
+        }
+    }
+
+    // The same with a buffer of its own in the place of one of so many bytes.
+    fn get_pool_bytes(&mut self, address: u64, size: u64) -> Reply<A>
+        requires { 0 < self.old.calls_left }
+        ensures { Step self.old (Call.PoolRead address size) result self.new }
+    {
+        let alloc = self.book.table().allocator();
+        match self.begin() {
+            Ok(()) => {
+                let (status, bytes) = read_bytes(alloc, &self.pools, address, size);
+                Reply::PoolRead { status, bytes }
+            }
+            Err(status) => Reply::PoolRead {
+                status,
+                bytes: Vec::new(alloc),
+            },
+        }
+    }
+
+    /// Writes bytes into one pool block, from an address on.
+    ///
+    /// INVALID_PARAMETER: they do not lie in one block.
+    pub fn pool_write(&mut self, address: u64, bytes: &[u8]) -> Reply<A>
+        requires { 0 < self.old.calls_left }
+        ensures { Step self.old (Call.PoolWrite address bytes.now) result self.new }
+    {
+        Reply::PoolWrite(match self.begin() {
+            Ok(()) => self.pools.write(address, bytes),
+            Err(status) => Err(status),
+        })
+    }
+
     /// ExitBootServices: with the current map key, after which all services answer UNSUPPORTED.
     ///
     /// INVALID_PARAMETER: another key.
@@ -136,7 +206,7 @@ impl<A: Allocator + Copy> Core<A> {
     }
 
     /// The service that a call names.
-    pub fn call(&mut self, call: &Call) -> Reply<A>
+    pub fn call(&mut self, call: &Call<A>) -> Reply<A>
         requires { 0 < self.old.calls_left }
         ensures { Step self.old call.now result self.new }
     {
@@ -149,6 +219,10 @@ impl<A: Allocator + Copy> Core<A> {
             } => self.allocate_pages(*kind, *mtype, *pages, *memory),
             Call::FreePages { memory, pages } => self.free_pages(*memory, *pages),
             Call::GetMemoryMap { size } => self.get_map_bytes(*size),
+            Call::AllocatePool { mtype, size } => self.allocate_pool(*mtype, *size),
+            Call::FreePool { address } => self.free_pool(*address),
+            Call::PoolRead { address, size } => self.get_pool_bytes(*address, *size),
+            Call::PoolWrite { address, bytes } => self.pool_write(*address, bytes.as_slice()),
             Call::ExitBootServices { key } => self.exit_boot_services(*key),
         }
     }
@@ -156,7 +230,7 @@ impl<A: Allocator + Copy> Core<A> {
     /// Makes the calls in order, and answers the reply to each.
     ///
     /// An `Err` means that there was no memory for the replies; then no call was made.
-    pub fn run(&mut self, calls: &[Call]) -> Result<Vec<Reply<A>, A>, AllocError>
+    pub fn run(&mut self, calls: &[Call<A>]) -> Result<Vec<Reply<A>, A>, AllocError>
         requires { length calls.now ≤ self.old.calls_left }
         ensures runs { IfOk result (λ replies. CallRun self.old calls.now replies.items self.new) }
         ensures refused { OnErr result (self.new ≡ self.old) }

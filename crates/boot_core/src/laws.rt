@@ -1,5 +1,5 @@
 //! The laws of the machine, each the contract of a function that does nothing.
-ghost use Rattle.boot_core.specs.Laws.{AcceptanceLaw, AnyRunLaw, AnyStepLaw, KeyCountLaw, KeyLaw, MapGrowthLaw, MapStepLaw, RecordEntriesLaw};
+ghost use Rattle.boot_core.specs.Laws.{AcceptanceLaw, AnyRunLaw, AnyStepLaw, KeyCountLaw, KeyLaw, MapGrowthLaw, MapStepLaw, PoolBytesLaw, ReadBytesLaw, ReadStepLaw, RecordEntriesLaw, SoundLaw};
 ghost use Rattle.boot_core.specs.Steps.{any_starts, best_starts};
 
 use std::alloc::Allocator;
@@ -18,6 +18,30 @@ pub fn any_run_law<A: Allocator>()
 /// the buffer; the rest of the buffer stays as it was.
 pub fn map_step_law<A: Allocator>()
     ensures { MapStepLaw A }
+{}
+
+/// A read of the pool's bytes into a buffer of the caller's is a step of the machine, whose bytes are
+/// the whole buffer where it succeeds.
+pub fn read_step_law<A: Allocator>()
+    ensures { ReadStepLaw A }
+{}
+
+/// After calls on a valid machine the memory is proper and the pages of the pool are those of its
+/// extents, however permitted starts are chosen.
+pub fn sound_law<A: Allocator>()
+    ensures best { SoundLaw best_starts A }
+    ensures any { SoundLaw any_starts A }
+{}
+
+/// A new block's bytes are 0, a write lays its bytes, a block that is given back has no bytes, and no
+/// call changes any other byte of the pool.
+pub fn pool_bytes_law<A: Allocator>()
+    ensures { PoolBytesLaw A }
+{}
+
+/// A read gives the bytes that stand at its addresses.
+pub fn read_bytes_law<A: Allocator>()
+    ensures { ReadBytesLaw A }
 {}
 
 /// Before an exit, a key that GetMemoryMap gave, through a call or with a buffer of the caller's, is

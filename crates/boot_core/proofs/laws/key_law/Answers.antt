@@ -1,5 +1,5 @@
 use Rattle.boot_core.specs.Steps.{any_starts, best_starts}
-use Rattle.boot_core.proofs.AnySteps.{best_is_permitted}
+use Rattle.page_services.proofs.Choices.{best_is_permitted}
 use Rattle.boot_core.proofs.Keys.{key_law}
 use Rattle.boot_core.proofs.laws.key_law.Goals as goal
 

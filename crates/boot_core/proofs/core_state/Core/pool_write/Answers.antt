@@ -1,0 +1,9 @@
+use Rattle.std.proofs.Common.{ap, arith}
+use Rattle.boot_core.specs.Machines.{State}
+use Rattle.boot_core.proofs.Soundness.{writes_kept}
+use Rattle.boot_core.proofs.core_state.Core.pool_write.Goals as goal
+
+pub invariant_of-self : goal.invariant_of-self
+invariant_of-self g c =
+    let kept = writes_kept (record { book = c.self.inside.book; pools = c.self.inside.pools }) c.args.address c.args.bytes.now c.write.result c.write.new.self c.self.invariant.1 c.write.ensures in
+    (omega (arith, kept.key, c.begin.ensures.room, ap (λ (s : State). s.parts.book.key) c.self.view_is, ap (λ (s : State). s.calls_left) c.self.view_is), kept.sound)

@@ -1,0 +1,5 @@
+use Rattle.boot_core.proofs.PoolBytes.{read_bytes}
+use Rattle.boot_core.proofs.laws.read_bytes_law.Goals as goal
+
+pub returns : goal.returns
+returns g c = λ old address size bytes new sound step. read_bytes old.exited old.parts new.parts address size bytes sound step.answers

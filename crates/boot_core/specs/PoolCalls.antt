@@ -1,0 +1,19 @@
+-- What a read of the pool's bytes answers through a call, with a buffer that the core makes.
+use Rattle.std.specs.Prelude.{◌≡◌, ℕ, ◌<◌, ◌≤◌, List, [], length, take, Option, Some, Result, Ok, Err}
+use Rattle.page_ranges.specs.declared.statuses.Status.{Status}
+use Rattle.page_ranges.specs.declared.statuses.Status.TheVariants.{Success, InvalidParameter, OutOfResources}
+use Rattle.pool_services.specs.Extents.{Extent, tail_at}
+use Rattle.pool_services.specs.PoolRules.{IsInBlock}
+
+-- the status that a result is told as
+abbrev pub told_status : Result (Unit {0}) Status → Status
+told_status (Ok done) = Success
+told_status (Err status) = status
+
+-- What is answered of a read of so many bytes from an address on, with the bytes. Memory for the core's own buffer may run out
+-- where there are bytes to be read, and nowhere else.
+abbrev pub AnswersRead : List Extent → ℕ → ℕ → Status → List ℕ → Type 0
+AnswersRead es address size Success bytes = (whole : List ℕ) × (tail_at address es ≡ Some whole) × (size ≤ length whole) × (bytes ≡ take size whole)
+AnswersRead es address size InvalidParameter bytes = (¬ IsInBlock address size es) × (bytes ≡ [])
+AnswersRead es address size OutOfResources bytes = (0 < size) × IsInBlock address size es × (bytes ≡ [])
+AnswersRead es address size status bytes = ⊥
