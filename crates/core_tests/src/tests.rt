@@ -4,6 +4,7 @@ mod firmware;
 mod firmware_blocks;
 mod firmware_maps;
 mod large_requests;
+mod pool_loads;
 mod stretches;
 
 use boot_core::{Core, Machine};

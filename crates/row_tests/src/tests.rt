@@ -5,6 +5,7 @@ mod fault_texts;
 mod line_texts;
 mod machine_texts;
 mod placements;
+mod pools;
 mod rows;
 
 use program_runs::serve_run;
