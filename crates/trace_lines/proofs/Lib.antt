@@ -1,1 +1,2 @@
+pub mod ParameterLists
 pub mod LineCalls

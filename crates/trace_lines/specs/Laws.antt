@@ -1,5 +1,6 @@
 -- The laws of trace lines. Each is the contract of a public function.
 use Rattle.std.specs.Prelude.{◌≡◌, ℕ, ◌^◌, ◌<◌, List, Some, Ok}
+use Rattle.std.specs.List.{AllByRecursion}
 use Rattle.boot_core.specs.declared.calls.Call.{Call}
 use Rattle.boot_core.specs.declared.calls.Call.TheVariants as call
 use Rattle.boot_core.specs.Laws.{NamesTypes}
@@ -7,16 +8,20 @@ use Rattle.trace_lines.specs.declared.lines.TraceCall.TheVariants.{Service}
 use Rattle.trace_lines.specs.TraceLine.{line_of}
 
 -- A call that a line asks for names no type of more than 32 bits.
-abbrev pub NamedTypesLaw : Type 0
-NamedTypesLaw = (line : List ℕ) (c : Call) → line_of line ≡ Ok (Some (Service c)) → NamesTypes c
+abbrev pub NamedTypesLaw : Type 0 → Type 0
+NamedTypesLaw A = (line : List ℕ) (c : Call A) → line_of line ≡ Ok (Some (Service c)) → NamesTypes c
 
--- the numbers of a call are of 32 and 64 bits, as its service takes them
-abbrev pub HasCallNumbers : Call → Type 0
+-- the numbers of a call are of 32 and 64 bits, as its service takes them, and its bytes are below 256
+abbrev pub HasCallNumbers : {A : Type 0} → Call A → Type 0
 HasCallNumbers (call.AllocatePages kind t pages memory) = (kind < 2 ^ 32) × (t < 2 ^ 32) × (pages < 2 ^ 64) × (memory < 2 ^ 64)
 HasCallNumbers (call.FreePages memory pages) = (memory < 2 ^ 64) × (pages < 2 ^ 64)
 HasCallNumbers (call.GetMemoryMap size) = size < 2 ^ 64
+HasCallNumbers (call.AllocatePool t size) = (t < 2 ^ 32) × (size < 2 ^ 64)
+HasCallNumbers (call.FreePool address) = address < 2 ^ 64
+HasCallNumbers (call.PoolRead address size) = (address < 2 ^ 64) × (size < 2 ^ 64)
+HasCallNumbers (call.PoolWrite address bytes) = (address < 2 ^ 64) × AllByRecursion (λ b. b < 256) bytes
 HasCallNumbers (call.ExitBootServices key) = key < 2 ^ 64
 
 -- The numbers of a call that a line asks for are of the bits that its service takes.
-abbrev pub CallNumbersLaw : Type 0
-CallNumbersLaw = (line : List ℕ) (c : Call) → line_of line ≡ Ok (Some (Service c)) → HasCallNumbers c
+abbrev pub CallNumbersLaw : Type 0 → Type 0
+CallNumbersLaw A = (line : List ℕ) (c : Call A) → line_of line ≡ Ok (Some (Service c)) → HasCallNumbers c

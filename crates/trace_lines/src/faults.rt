@@ -1,4 +1,5 @@
 //! What can be wrong with a trace line.
+use hex::FromHexError;
 use std::alloc::AllocError;
 use thiserror::Error;
 
@@ -29,5 +30,19 @@ impl From<AllocError> for TraceFault {
 
     fn from(_error: AllocError) -> TraceFault {
         TraceFault::OutOfMemory
+    }
+}
+
+impl From<FromHexError> for TraceFault {
+    ghost use Rattle.std.specs.Prelude.{◌≡◌};
+    ghost use Rattle.trace_lines.specs.Parameters.{fault_of};
+
+    ghost from_gives = { λ error e. e ≡ fault_of error };
+
+    fn from(error: FromHexError) -> TraceFault {
+        match error {
+            FromHexError::OutOfMemory => TraceFault::OutOfMemory,
+            _ => TraceFault::Hex,
+        }
     }
 }

@@ -1,12 +1,15 @@
 //! The laws of trace lines, each the contract of a function that does nothing.
 ghost use Rattle.trace_lines.specs.Laws.{CallNumbersLaw, NamedTypesLaw};
 
+use std::alloc::Allocator;
+
 /// A call that a line asks for names no type of more than 32 bits.
-pub fn named_types_law()
-    ensures { NamedTypesLaw }
+pub fn named_types_law<A: Allocator>()
+    ensures { NamedTypesLaw A }
 {}
 
-/// The numbers of a call that a line asks for are of the 32 or 64 bits that its service takes.
-pub fn call_numbers_law()
-    ensures { CallNumbersLaw }
+/// The numbers of a call that a line asks for are of the 32 or 64 bits that its service takes, and
+/// its bytes are bytes.
+pub fn call_numbers_law<A: Allocator>()
+    ensures { CallNumbersLaw A }
 {}

@@ -4,6 +4,7 @@
 mod faults;
 mod laws;
 mod lines;
+mod parameters;
 
 pub use faults::TraceFault;
 pub use laws::{call_numbers_law, named_types_law};

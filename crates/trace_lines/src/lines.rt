@@ -1,41 +1,48 @@
 //! What a line asks for.
 ghost use Rattle.std.specs.Prelude.{◌≡◌, ◌⊎◌, [], ◌∷◌, Err, map};
-ghost use Rattle.trace_lines.specs.TraceLine.{u64_of, u32_of, buffer_size_of, call_of, call_of_words, line_of};
+ghost use Rattle.trace_lines.specs.TraceLine.{call_of, call_of_words, line_of};
 
 use crate::faults::TraceFault;
+use crate::parameters::{read_bytes, read_u32, read_u64, read_u64_up_to};
 use boot_core::Call;
-use std::alloc::Allocator;
-use text_lines::{LONGEST_LINE, number_of, without_carriage_return, words_of};
+use std::alloc::{Allocator, Global};
+use text_lines::{LONGEST_LINE, without_carriage_return, words_of};
 use trace_verbs::{Verb, verb_named};
 
 /// The most bytes of a buffer for the memory map.
 const LARGEST_BUFFER: u64 = 16_777_216;
 
+/// The most bytes of the pool that one line reads.
+const LONGEST_READ: u64 = 65_536;
+
 /// What a trace line asks for.
-#[derive(Debug, PartialEq, Eq, Drop)]
-pub enum TraceCall {
+#[derive(Debug, Drop)]
+pub enum TraceCall<A: Allocator = Global> {
     /// To print the memory map, which is no call.
     List,
-    Service(Call),
+    Service(Call<A>),
 }
 
 /// What a line asks for, without its line feed: None for a line that is skipped.
 pub fn read_call<A: Allocator + Copy>(
     alloc: A,
     line: &[u8],
-) -> Result<Option<TraceCall>, TraceFault>
+) -> Result<Option<TraceCall<A>>, TraceFault>
     ensures { (result ≡ Err TraceFault.OutOfMemory) ⊎ (result ≡ line_of line.now) }
 {
     if line.len() > LONGEST_LINE {
         return Err(TraceFault::Long);
     }
     let words = words_of(alloc, without_carriage_return(line))?;
-    read_words(words.as_slice())
+    read_words(alloc, words.as_slice())
 }
 
 /// What the words of a line ask for.
-fn read_words(words: &[&[u8]]) -> Result<Option<TraceCall>, TraceFault>
-    ensures { result ≡ call_of_words (map (λ word. word.now) words.now) }
+fn read_words<A: Allocator + Copy>(
+    alloc: A,
+    words: &[&[u8]],
+) -> Result<Option<TraceCall<A>>, TraceFault>
+    ensures { (result ≡ Err TraceFault.OutOfMemory) ⊎ (result ≡ call_of_words (map (λ word. word.now) words.now)) }
 {
     let [name, parameters @ ..] = words else {
         return Ok(None);
@@ -44,32 +51,37 @@ fn read_words(words: &[&[u8]]) -> Result<Option<TraceCall>, TraceFault>
         return Ok(None);
     }
     let verb = verb_named(name).ok_or(TraceFault::Verb)?;
-    Ok(Some(read_verb(verb, parameters)?))
+    Ok(Some(read_verb(alloc, verb, parameters)?))
 }
 
 /// What a verb asks for with its parameters.
-fn read_verb(verb: Verb, parameters: &[&[u8]]) -> Result<TraceCall, TraceFault>
-    ensures { result ≡ call_of verb (map (λ word. word.now) parameters.now) }
+fn read_verb<A: Allocator + Copy>(
+    alloc: A,
+    verb: Verb,
+    parameters: &[&[u8]],
+) -> Result<TraceCall<A>, TraceFault>
+    ensures { (result ≡ Err TraceFault.OutOfMemory) ⊎ (result ≡ call_of verb (map (λ word. word.now) parameters.now)) }
 {
-    match (verb, parameters) {
-        (Verb::Pages, [kind, mtype, pages, memory]) => read_pages(kind, mtype, pages, memory),
-        (Verb::FreePages, [memory, pages]) => read_free_pages(memory, pages),
-        (Verb::Map, [size]) => read_map(size),
-        (Verb::Exit, [key]) => read_exit(key),
-        (Verb::List, []) => Ok(TraceCall::List),
-        _ => Err(TraceFault::Words),
+    match verb {
+        Verb::Pages => read_pages(parameters),
+        Verb::FreePages => read_free_pages(parameters),
+        Verb::Map => read_map(parameters),
+        Verb::Pool => read_pool(parameters),
+        Verb::FreePool => read_free_pool(parameters),
+        Verb::Read => read_pool_read(parameters),
+        Verb::Write => read_pool_write(alloc, parameters),
+        Verb::Exit => read_exit(parameters),
+        Verb::List => read_list(parameters),
     }
 }
 
 /// What `pages` asks for.
-fn read_pages(
-    kind: &[u8],
-    mtype: &[u8],
-    pages: &[u8],
-    memory: &[u8],
-) -> Result<TraceCall, TraceFault>
-    ensures { result ≡ call_of Verb.Pages (kind.now ∷ mtype.now ∷ pages.now ∷ memory.now ∷ []) }
+fn read_pages<A: Allocator>(parameters: &[&[u8]]) -> Result<TraceCall<A>, TraceFault>
+    ensures { result ≡ call_of Verb.Pages (map (λ word. word.now) parameters.now) }
 {
+    let [kind, mtype, pages, memory] = parameters else {
+        return Err(TraceFault::Words);
+    };
     Ok(TraceCall::Service(Call::AllocatePages {
         kind: read_u32(kind)?,
         mtype: read_u32(mtype)?,
@@ -79,9 +91,12 @@ fn read_pages(
 }
 
 /// What `free-pages` asks for.
-fn read_free_pages(memory: &[u8], pages: &[u8]) -> Result<TraceCall, TraceFault>
-    ensures { result ≡ call_of Verb.FreePages (memory.now ∷ pages.now ∷ []) }
+fn read_free_pages<A: Allocator>(parameters: &[&[u8]]) -> Result<TraceCall<A>, TraceFault>
+    ensures { result ≡ call_of Verb.FreePages (map (λ word. word.now) parameters.now) }
 {
+    let [memory, pages] = parameters else {
+        return Err(TraceFault::Words);
+    };
     Ok(TraceCall::Service(Call::FreePages {
         memory: read_u64(memory)?,
         pages: read_u64(pages)?,
@@ -89,46 +104,87 @@ fn read_free_pages(memory: &[u8], pages: &[u8]) -> Result<TraceCall, TraceFault>
 }
 
 /// What `map` asks for.
-fn read_map(size: &[u8]) -> Result<TraceCall, TraceFault>
-    ensures { result ≡ call_of Verb.Map (size.now ∷ []) }
+fn read_map<A: Allocator>(parameters: &[&[u8]]) -> Result<TraceCall<A>, TraceFault>
+    ensures { result ≡ call_of Verb.Map (map (λ word. word.now) parameters.now) }
 {
+    let [size] = parameters else {
+        return Err(TraceFault::Words);
+    };
     Ok(TraceCall::Service(Call::GetMemoryMap {
-        size: read_buffer_size(size)?,
+        size: read_u64_up_to(LARGEST_BUFFER, size)?,
+    }))
+}
+
+/// What `pool` asks for.
+fn read_pool<A: Allocator>(parameters: &[&[u8]]) -> Result<TraceCall<A>, TraceFault>
+    ensures { result ≡ call_of Verb.Pool (map (λ word. word.now) parameters.now) }
+{
+    let [mtype, size] = parameters else {
+        return Err(TraceFault::Words);
+    };
+    Ok(TraceCall::Service(Call::AllocatePool {
+        mtype: read_u32(mtype)?,
+        size: read_u64(size)?,
+    }))
+}
+
+/// What `free-pool` asks for.
+fn read_free_pool<A: Allocator>(parameters: &[&[u8]]) -> Result<TraceCall<A>, TraceFault>
+    ensures { result ≡ call_of Verb.FreePool (map (λ word. word.now) parameters.now) }
+{
+    let [address] = parameters else {
+        return Err(TraceFault::Words);
+    };
+    Ok(TraceCall::Service(Call::FreePool {
+        address: read_u64(address)?,
+    }))
+}
+
+/// What `read` asks for.
+fn read_pool_read<A: Allocator>(parameters: &[&[u8]]) -> Result<TraceCall<A>, TraceFault>
+    ensures { result ≡ call_of Verb.Read (map (λ word. word.now) parameters.now) }
+{
+    let [address, count] = parameters else {
+        return Err(TraceFault::Words);
+    };
+    Ok(TraceCall::Service(Call::PoolRead {
+        address: read_u64(address)?,
+        size: read_u64_up_to(LONGEST_READ, count)?,
+    }))
+}
+
+/// What `write` asks for.
+fn read_pool_write<A: Allocator>(alloc: A, parameters: &[&[u8]]) -> Result<TraceCall<A>, TraceFault>
+    ensures { (result ≡ Err TraceFault.OutOfMemory) ⊎ (result ≡ call_of Verb.Write (map (λ word. word.now) parameters.now)) }
+{
+    let [address, bytes] = parameters else {
+        return Err(TraceFault::Words);
+    };
+    Ok(TraceCall::Service(Call::PoolWrite {
+        address: read_u64(address)?,
+        bytes: read_bytes(alloc, bytes)?,
     }))
 }
 
 /// What `exit` asks for.
-fn read_exit(key: &[u8]) -> Result<TraceCall, TraceFault>
-    ensures { result ≡ call_of Verb.Exit (key.now ∷ []) }
+fn read_exit<A: Allocator>(parameters: &[&[u8]]) -> Result<TraceCall<A>, TraceFault>
+    ensures { result ≡ call_of Verb.Exit (map (λ word. word.now) parameters.now) }
 {
+    let [key] = parameters else {
+        return Err(TraceFault::Words);
+    };
     Ok(TraceCall::Service(Call::ExitBootServices {
         key: read_u64(key)?,
     }))
 }
 
-/// The size of a buffer for the memory map.
-fn read_buffer_size(word: &[u8]) -> Result<u64, TraceFault>
-    ensures { result ≡ buffer_size_of word.now }
+/// What `list` asks for.
+fn read_list<A: Allocator>(parameters: &[&[u8]]) -> Result<TraceCall<A>, TraceFault>
+    ensures { result ≡ call_of Verb.List (map (λ word. word.now) parameters.now) }
 {
-    let size = read_u64(word)?;
-    if size <= LARGEST_BUFFER {
-        Ok(size)
+    if parameters.is_empty() {
+        Ok(TraceCall::List)
     } else {
-        Err(TraceFault::Number)
+        Err(TraceFault::Words)
     }
-}
-
-/// A parameter of 32 bits.
-fn read_u32(word: &[u8]) -> Result<u32, TraceFault>
-    ensures { result ≡ u32_of word.now }
-{
-    let number = read_u64(word)?;
-    u32::try_from(number).map_err(|_| TraceFault::Number)
-}
-
-/// A parameter of 64 bits.
-fn read_u64(word: &[u8]) -> Result<u64, TraceFault>
-    ensures { result ≡ u64_of word.now }
-{
-    number_of(word).ok_or(TraceFault::Number)
 }

@@ -9,12 +9,16 @@ abbrev pub verb_name : Verb → List ℕ
 verb_name verb.Pages = codes "pages"
 verb_name verb.FreePages = codes "free-pages"
 verb_name verb.Map = codes "map"
+verb_name verb.Pool = codes "pool"
+verb_name verb.FreePool = codes "free-pool"
+verb_name verb.Read = codes "read"
+verb_name verb.Write = codes "write"
 verb_name verb.Exit = codes "exit"
 verb_name verb.List = codes "list"
 
 -- all verbs
 abbrev pub verbs : List Verb
-verbs = verb.Pages ∷ verb.FreePages ∷ verb.Map ∷ verb.Exit ∷ verb.List ∷ []
+verbs = verb.Pages ∷ verb.FreePages ∷ verb.Map ∷ verb.Pool ∷ verb.FreePool ∷ verb.Read ∷ verb.Write ∷ verb.Exit ∷ verb.List ∷ []
 
 -- the verb that is written so
 abbrev pub verb_named : List ℕ → Option Verb

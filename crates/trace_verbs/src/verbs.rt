@@ -9,15 +9,23 @@ pub enum Verb {
     Pages,
     FreePages,
     Map,
+    Pool,
+    FreePool,
+    Read,
+    Write,
     Exit,
     List,
 }
 
 /// All verbs.
-const VERBS: [Verb; 5] = [
+const VERBS: [Verb; 9] = [
     Verb::Pages,
     Verb::FreePages,
     Verb::Map,
+    Verb::Pool,
+    Verb::FreePool,
+    Verb::Read,
+    Verb::Write,
     Verb::Exit,
     Verb::List,
 ];
@@ -31,6 +39,10 @@ impl Verb {
             Verb::Pages => "pages",
             Verb::FreePages => "free-pages",
             Verb::Map => "map",
+            Verb::Pool => "pool",
+            Verb::FreePool => "free-pool",
+            Verb::Read => "read",
+            Verb::Write => "write",
             Verb::Exit => "exit",
             Verb::List => "list",
         }

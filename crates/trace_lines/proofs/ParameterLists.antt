@@ -1,0 +1,24 @@
+-- Parameters, as many as a verb takes.
+use Rattle.std.proofs.Common.{◌≡◌, ℕ, ◌<◌, ◌≤◌, List, [], ◌∷◌, length, map, get_or, refl, arith, Bor}
+
+-- what stands where there is no parameter
+abbrev none : Bor (List ℕ)
+none = record { ref_ptr = (0, 0); now = [] }
+
+-- a parameter
+abbrev at : List (Bor (List ℕ)) → ℕ → List ℕ
+at parameters i = (get_or parameters i none).now
+
+pub two : (parameters : List (Bor (List ℕ))) → 2 ≤ length parameters → length parameters < 3 → map (λ word. word.now) parameters ≡ at parameters 0 ∷ at parameters 1 ∷ []
+two [] h l = absurd (omega arith)
+two (a ∷ []) h l = absurd (omega arith)
+two (a ∷ b ∷ []) h l = refl
+two (a ∷ b ∷ c ∷ more) h l = absurd (omega arith)
+
+pub four : (parameters : List (Bor (List ℕ))) → 4 ≤ length parameters → length parameters < 5 → map (λ word. word.now) parameters ≡ at parameters 0 ∷ at parameters 1 ∷ at parameters 2 ∷ at parameters 3 ∷ []
+four [] h l = absurd (omega arith)
+four (a ∷ []) h l = absurd (omega arith)
+four (a ∷ b ∷ []) h l = absurd (omega arith)
+four (a ∷ b ∷ c ∷ []) h l = absurd (omega arith)
+four (a ∷ b ∷ c ∷ d ∷ []) h l = refl
+four (a ∷ b ∷ c ∷ d ∷ e ∷ more) h l = absurd (omega arith)

@@ -1,0 +1,45 @@
+-- The parameters of a trace line.
+use Rattle.std.specs.Prelude.{ℕ, ◌^◌, nat_le, nat_lt, List, [], ◌∷◌, codes, Result, Ok, Err, if◌then◌else◌}
+use Rattle.std.specs.Str.{bytes_eq}
+use Rattle.hex.specs.Hex.{decode_of}
+use Rattle.hex.specs.declared.error.FromHexError.{FromHexError}
+use Rattle.hex.specs.declared.error.FromHexError.TheVariants as hex
+use Rattle.text_lines.specs.FirstFault.{◌>>=◌, or_fault}
+use Rattle.text_lines.specs.Numbers.{number_of}
+use Rattle.trace_lines.specs.declared.faults.TraceFault.{TraceFault}
+use Rattle.trace_lines.specs.declared.faults.TraceFault.TheVariants as fault
+
+-- ---- numbers
+
+-- a number below 2^64
+abbrev pub u64_of : List ℕ → Result ℕ TraceFault
+u64_of word = or_fault fault.Number (number_of word)
+
+-- a number below 2^32
+abbrev pub u32_of : List ℕ → Result ℕ TraceFault
+u32_of word = do
+  n ← u64_of word
+  if nat_lt n (2 ^ 32) then Ok n else Err fault.Number
+
+-- a number that is so much or less
+abbrev pub u64_up_to : ℕ → List ℕ → Result ℕ TraceFault
+u64_up_to most word = do
+  n ← u64_of word
+  if nat_le n most then Ok n else Err fault.Number
+
+-- ---- bytes
+
+-- the fault of digits that are not decoded
+abbrev pub fault_of : FromHexError → TraceFault
+fault_of hex.OutOfMemory = fault.OutOfMemory
+fault_of error = fault.Hex
+
+-- the bytes that were decoded
+abbrev pub or_hex : Result (List ℕ) FromHexError → Result (List ℕ) TraceFault
+or_hex (Ok bytes) = Ok bytes
+or_hex (Err error) = Err fault.Hex
+
+-- bytes, two hexadecimal digits of either case for each, one byte at least; `-` for none
+abbrev pub bytes_of : List ℕ → Result (List ℕ) TraceFault
+bytes_of [] = Err fault.Hex
+bytes_of (b ∷ bytes) = if bytes_eq (b ∷ bytes) (codes "-") then Ok [] else or_hex (decode_of (b ∷ bytes))

@@ -1,0 +1,46 @@
+//! The parameters of a trace line.
+ghost use Rattle.std.specs.Prelude.{◌≡◌, ◌⊎◌, Err};
+ghost use Rattle.trace_lines.specs.Parameters.{bytes_of, u32_of, u64_of, u64_up_to};
+
+use crate::faults::TraceFault;
+use boot_core::CallBytes;
+use std::alloc::Allocator;
+use text_lines::number_of;
+
+/// A number of 64 bits.
+pub fn read_u64(word: &[u8]) -> Result<u64, TraceFault>
+    ensures { result ≡ u64_of word.now }
+{
+    number_of(word).ok_or(TraceFault::Number)
+}
+
+/// A number of 32 bits.
+pub fn read_u32(word: &[u8]) -> Result<u32, TraceFault>
+    ensures { result ≡ u32_of word.now }
+{
+    let number = read_u64(word)?;
+    u32::try_from(number).map_err(|_| TraceFault::Number)
+}
+
+/// A number that is `most` or less.
+pub fn read_u64_up_to(most: u64, word: &[u8]) -> Result<u64, TraceFault>
+    ensures { result ≡ u64_up_to most word.now }
+{
+    let number = read_u64(word)?;
+    if number <= most {
+        Ok(number)
+    } else {
+        Err(TraceFault::Number)
+    }
+}
+
+/// Bytes: two hexadecimal digits for each, or `-` for none.
+pub fn read_bytes<A: Allocator>(alloc: A, word: &[u8]) -> Result<CallBytes<A>, TraceFault>
+    ensures { (result ≡ Err TraceFault.OutOfMemory) ⊎ (result ≡ bytes_of word.now) }
+{
+    match word {
+        [] => Err(TraceFault::Hex),
+        [b'-'] => Ok(CallBytes::new(Vec::new(alloc))),
+        digits => Ok(CallBytes::new(hex::decode(alloc, digits)?)),
+    }
+}
