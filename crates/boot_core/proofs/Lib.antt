@@ -7,6 +7,7 @@ pub mod Outcomes
 pub mod Soundness
 pub mod ReadReplies
 pub mod PoolBytes
+pub mod LastBytes
 pub mod MapReplies
 pub mod Keys
 pub mod Acceptances

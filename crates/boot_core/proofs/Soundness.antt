@@ -83,7 +83,7 @@ module _ (S : Setting) (permits : Permits S.chosen) where
       (λ result rule. subst (λ (b : Book). AreSound (parts_of b new.pools)) (sym rule.1) (writes_kept old address bytes result new.pools sound rule.0).sound) h
   stays_sound exited old (call.ExitBootServices key) answer new sound (result, e, h) = same exited old new _ _ sound (λ rule. rule.1) h
 
-  run_sound : {A : Type 0} (old : State) (calls : List (Call A)) (replies : List (Reply A)) (new : State) → AreSound old.parts → CallRunBy S old calls replies new → AreSound new.parts
+  pub run_sound : {A : Type 0} (old : State) (calls : List (Call A)) (replies : List (Reply A)) (new : State) → AreSound old.parts → CallRunBy S old calls replies new → AreSound new.parts
   run_sound old [] [] new sound run = subst (λ (s : State). AreSound s.parts) (sym run) sound
   run_sound old (c ∷ calls) (r ∷ replies) new sound (next, step, run) = run_sound next calls replies new (stays_sound old.exited old.parts c r next.parts sound step.answers) run
   run_sound old [] (r ∷ replies) new sound run = absurd run

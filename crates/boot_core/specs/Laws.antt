@@ -142,6 +142,23 @@ abbrev pub ReadBytesLaw : Type 0 → Type 0
 ReadBytesLaw A = (old : State) (address size : ℕ) (bytes : Vec ℕ A) (new : State) → AreSound old.parts → Step old (call.PoolRead address size) (reply.PoolRead Success bytes) new →
     (length bytes.items ≡ size) × ((i : ℕ) → i < size → byte_at (address + i) old.parts.pools ≡ first_of (drop i bytes.items))
 
+-- no call of the run changes what stands at an address of the pool
+abbrev pub LeavesByte : {A : Type 0} (old : State) (calls : List (Call A)) (replies : List (Reply A)) (new : State) → CallRun old calls replies new → ℕ → Type 0
+LeavesByte old (c ∷ calls) (answer ∷ replies) new (next, step, run) k = (byte_after c answer old.parts.pools k ≡ byte_at k old.parts.pools) × LeavesByte next calls replies new run k
+LeavesByte old calls replies new run k = Unit {0}
+
+-- the call laid these bytes from an address of the pool on: a write its own, AllocatePool the zeros of a new block
+abbrev pub LaysBytes : {A : Type 0} → Call A → Reply A → ℕ → List ℕ → Type 0
+LaysBytes (call.AllocatePool t size) (reply.AllocatePool (Ok block)) address bytes = (address ≡ block.0) × (bytes ≡ replicate size 0)
+LaysBytes (call.PoolWrite to its) (reply.PoolWrite (Ok done)) address bytes = (address ≡ to) × (bytes ≡ its)
+LaysBytes c answer address bytes = ⊥
+
+-- A read gives the bytes that were last laid at its addresses.
+abbrev pub LastBytesLaw : Type 0 → Type 0
+LastBytesLaw A = (first old : State) (c : Call A) (answer : Reply A) (address : ℕ) (bytes : List ℕ) (calls : List (Call A)) (replies : List (Reply A)) (new : State) (run : CallRun old calls replies new) (used : Vec ℕ A) (after : State) →
+    AreSound first.parts → Step first c answer old → LaysBytes c answer address bytes → ((i : ℕ) → i < length bytes → LeavesByte old calls replies new run (address + i)) →
+    Step new (call.PoolRead address (length bytes)) (reply.PoolRead Success used) after → used.items ≡ bytes
+
 -- ---- certificates
 
 -- The certificate of a reply, where it has one, is accepted by the checker with the memory map before the call.

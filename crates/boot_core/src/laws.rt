@@ -1,5 +1,5 @@
 //! The laws of the machine, each the contract of a function that does nothing.
-ghost use Rattle.boot_core.specs.Laws.{AcceptanceLaw, AnyRunLaw, AnyStepLaw, KeyCountLaw, KeyLaw, MapGrowthLaw, MapStepLaw, PoolBytesLaw, ReadBytesLaw, ReadStepLaw, RecordEntriesLaw, SoundLaw};
+ghost use Rattle.boot_core.specs.Laws.{AcceptanceLaw, AnyRunLaw, AnyStepLaw, KeyCountLaw, KeyLaw, LastBytesLaw, MapGrowthLaw, MapStepLaw, PoolBytesLaw, ReadBytesLaw, ReadStepLaw, RecordEntriesLaw, SoundLaw};
 ghost use Rattle.boot_core.specs.Steps.{any_starts, best_starts};
 
 use std::alloc::Allocator;
@@ -42,6 +42,12 @@ pub fn pool_bytes_law<A: Allocator>()
 /// A read gives the bytes that stand at its addresses.
 pub fn read_bytes_law<A: Allocator>()
     ensures { ReadBytesLaw A }
+{}
+
+/// A read gives the bytes that were last laid at its addresses: by a write, or as the zeros of a new
+/// block.
+pub fn last_bytes_law<A: Allocator>()
+    ensures { LastBytesLaw A }
 {}
 
 /// Before an exit, a key that GetMemoryMap gave, through a call or with a buffer of the caller's, is

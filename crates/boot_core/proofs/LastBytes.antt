@@ -1,0 +1,61 @@
+-- The bytes that a read gives are those last laid.
+use Rattle.std.proofs.Common.{◌≡◌, ℕ, suc, ◌+◌, ◌-◌, ◌<◌, List, [], ◌∷◌, length, drop, replicate, Option, Some, Ok, Vec, refl, sym, ap, subst, ◌∙◌, arith}
+use Rattle.std.proofs.lemmas.Option.{same_Some}
+use Rattle.page_ranges.specs.declared.statuses.Status.TheVariants.{Success}
+use Rattle.page_services.proofs.Choices.{best_is_permitted}
+use Rattle.pool_services.specs.Laws.{byte_at, first_of, laid}
+use Rattle.pool_services.proofs.PoolBytes.{laid-in}
+use Rattle.boot_core.specs.declared.calls.Call.{Call}
+use Rattle.boot_core.specs.declared.calls.Call.TheVariants as call
+use Rattle.boot_core.specs.declared.calls.Reply.{Reply}
+use Rattle.boot_core.specs.declared.calls.Reply.TheVariants as reply
+use Rattle.boot_core.specs.Machines.{State, AreSound}
+use Rattle.boot_core.specs.Steps.{best_starts, Step, CallRun}
+use Rattle.boot_core.specs.Laws.{byte_after, LaysBytes, LeavesByte}
+use Rattle.boot_core.proofs.PoolBytes.{bytes_after, read_bytes}
+use Rattle.boot_core.proofs.Soundness.{run_sound, stays_sound}
+
+-- lists of one length with the same item at each place are equal
+same_items : (xs ys : List ℕ) → length xs ≡ length ys → ((i : ℕ) → i < length ys → first_of (drop i xs) ≡ first_of (drop i ys)) → xs ≡ ys
+same_items [] [] long same = refl
+same_items [] (y ∷ ys) long same = absurd (omega (arith, long))
+same_items (x ∷ xs) [] long same = absurd (omega (arith, long))
+same_items (x ∷ xs) (y ∷ ys) long same =
+    let head : x ≡ y = same_Some x y (same 0 (omega arith)) in
+    ap (λ (z : ℕ). z ∷ xs) head ∙ ap (λ (zs : List ℕ). y ∷ zs) (same_items xs ys (omega (arith, long)) (λ i low. same (suc i) (omega (arith, low))))
+
+-- the byte at each address of a call's bytes
+laid_at : (address : ℕ) (bytes : List ℕ) (i : ℕ) (old : Option ℕ) → i < length bytes → laid address bytes (address + i) old ≡ first_of (drop i bytes)
+laid_at address bytes i old low =
+    let place : address + i - address ≡ i = omega arith in
+    laid-in address bytes (address + i) old (omega arith) (omega (arith, low)) ∙ ap (λ (n : ℕ). first_of (drop n bytes)) place
+
+lays : {A : Type 0} (first old : State) (c : Call A) (answer : Reply A) (address : ℕ) (bytes : List ℕ) → AreSound first.parts → Step first c answer old → LaysBytes c answer address bytes → (i : ℕ) → i < length bytes → byte_at (address + i) old.parts.pools ≡ first_of (drop i bytes)
+lays first old (call.AllocatePool t size) (reply.AllocatePool (Ok block)) address bytes sound step (here, zeros) i low =
+    bytes_after first.exited first.parts (call.AllocatePool t size) (reply.AllocatePool (Ok block)) old.parts sound step.answers (address + i)
+    ∙ ap (λ (n : ℕ). laid n (replicate size 0) (address + i) (byte_at (address + i) first.parts.pools)) (sym here)
+    ∙ ap (λ (ys : List ℕ). laid address ys (address + i) (byte_at (address + i) first.parts.pools)) (sym zeros)
+    ∙ laid_at address bytes i (byte_at (address + i) first.parts.pools) low
+lays first old (call.PoolWrite to its) (reply.PoolWrite (Ok done)) address bytes sound step (here, same) i low =
+    bytes_after first.exited first.parts (call.PoolWrite to its) (reply.PoolWrite (Ok done)) old.parts sound step.answers (address + i)
+    ∙ ap (λ (n : ℕ). laid n its (address + i) (byte_at (address + i) first.parts.pools)) (sym here)
+    ∙ ap (λ (ys : List ℕ). laid address ys (address + i) (byte_at (address + i) first.parts.pools)) (sym same)
+    ∙ laid_at address bytes i (byte_at (address + i) first.parts.pools) low
+lays first old c answer address bytes sound step none i low = absurd none
+
+-- a byte that no call of a run changes
+kept : {A : Type 0} (old : State) (calls : List (Call A)) (replies : List (Reply A)) (new : State) (run : CallRun old calls replies new) (k : ℕ) → AreSound old.parts → LeavesByte old calls replies new run k → byte_at k new.parts.pools ≡ byte_at k old.parts.pools
+kept old [] [] new run k sound leaves = ap (λ (s : State). byte_at k s.parts.pools) run
+kept old (c ∷ calls) (r ∷ replies) new (next, step, run) k sound leaves =
+    let still = stays_sound best_starts best_is_permitted old.exited old.parts c r next.parts sound step.answers in
+    kept next calls replies new run k still leaves.1 ∙ bytes_after old.exited old.parts c r next.parts sound step.answers k ∙ leaves.0
+kept old [] (r ∷ replies) new run k sound leaves = absurd run
+kept old (c ∷ calls) [] new run k sound leaves = absurd run
+
+pub last_bytes : {A : Type 0} (first old : State) (c : Call A) (answer : Reply A) (address : ℕ) (bytes : List ℕ) (calls : List (Call A)) (replies : List (Reply A)) (new : State) (run : CallRun old calls replies new) (used : Vec ℕ A) (after : State) →
+    AreSound first.parts → Step first c answer old → LaysBytes c answer address bytes → ((i : ℕ) → i < length bytes → LeavesByte old calls replies new run (address + i)) →
+    Step new (call.PoolRead address (length bytes)) (reply.PoolRead Success used) after → used.items ≡ bytes
+last_bytes first old c answer address bytes calls replies new run used after sound step lays_here leaves reads =
+    let still = stays_sound best_starts best_is_permitted first.exited first.parts c answer old.parts sound step.answers in
+    let (long, told) = read_bytes new.exited new.parts after.parts address (length bytes) used (run_sound best_starts best_is_permitted old calls replies new still run) reads.answers in
+    same_items used.items bytes long (λ i low. sym (told i low) ∙ kept old calls replies new run (address + i) still (leaves i low) ∙ lays first old c answer address bytes sound step lays_here i low)
