@@ -1,13 +1,14 @@
 -- What is printed of each line, in the states that a run on a machine file comes to.
-use Rattle.std.proofs.Common.{◌≡◌, ℕ, ◌+◌, ◌*◌, ◌^◌, ◌<◌, ◌≤◌, ◌==◌, Bool, true, false, cond, List, [], ◌∷◌, ◌++◌, length, take, Option, Some, None, Result, Ok, Err, IfSome, Vec, refl, sym, ap, subst, ◌∙◌, arith, append-nil, lit<}
+use Rattle.std.proofs.Common.{◌≡◌, ℕ, ◌+◌, ◌*◌, ◌^◌, ◌<◌, ◌≤◌, ◌==◌, nat_le, Bool, true, false, cond, List, [], ◌∷◌, ◌++◌, length, take, Option, Some, None, Result, Ok, Err, IfSome, Vec, refl, sym, ap, subst, ◌∙◌, arith, append-nil, lit<}
 use Rattle.std.specs.List.{AllByRecursion}
 use Rattle.std.specs.Option.{option_map, option_and_then}
+use Rattle.std.proofs.lemmas.Bool.{leb-true}
 use Rattle.std.proofs.lemmas.List.{length-take}
 use Rattle.page_ranges.specs.declared.ranges.Descriptor.{Descriptor}
 use Rattle.page_ranges.specs.declared.ranges.Run.{Run}
 use Rattle.page_ranges.specs.declared.statuses.Status.TheVariants.{Success}
 use Rattle.page_ranges.specs.MemoryTypes.{page_count, pages_below}
-use Rattle.page_ranges.specs.Memory.{IsProperMemory, HasMachineTypes}
+use Rattle.page_ranges.specs.Memory.{HasMachineTypes}
 use Rattle.page_ranges.specs.MemoryMap.{memory_map}
 use Rattle.page_ranges.proofs.Members.{all_implied}
 use Rattle.page_ranges.proofs.RunMaps.{entries_at_most}
@@ -17,7 +18,10 @@ use Rattle.placement_certificate.specs.Acceptance.{IsAccepted}
 use Rattle.map_keys.specs.declared.memory_maps.MapReply.{MapReply}
 use Rattle.map_keys.specs.Records.{IsRecordEntry, ReadsRecords}
 use Rattle.map_keys.proofs.RecordLists.{read_back}
-use Rattle.page_services.specs.PageRules.{any_pages, max_address}
+use Rattle.page_services.specs.PageRules.{any_pages, max_address, pool_request}
+use Rattle.page_services.proofs.Choices.{best_is_permitted}
+use Rattle.pool_services.specs.Extents.{max_size, pages_for}
+use Rattle.pool_services.specs.PoolRules.{extent_request}
 use Rattle.certificate_blocks.specs.BlockLaws.{HasEntryNumbers, HasRequestNumbers, IsAcceptedBlock}
 use Rattle.certificate_blocks.proofs.AcceptedBlocks.{accepted_block}
 use Rattle.boot_core.specs.declared.calls.Call.{Call}
@@ -26,12 +30,12 @@ use Rattle.boot_core.specs.declared.calls.Reply.{Reply}
 use Rattle.boot_core.specs.declared.calls.Reply.TheVariants as reply
 use Rattle.boot_core.specs.Certified.{request_for, certificate_in, certified}
 use Rattle.boot_core.specs.Laws.{NamesTypes}
-use Rattle.boot_core.specs.Machines.{State, first_state}
+use Rattle.boot_core.specs.Machines.{State, AreSound, first_state}
 use Rattle.boot_core.specs.Steps.{best_starts, Step}
 use Rattle.boot_core.proofs.Acceptances.{first_types, accepted_reply}
-use Rattle.boot_core.proofs.AnySteps.{best_is_permitted}
-use Rattle.boot_core.proofs.Outcomes.{outcome, stays_proper, stays_typed, stays_fitting, map_grows, request_has}
+use Rattle.boot_core.proofs.Outcomes.{outcome, stays_typed, stays_fitting, map_grows, request_has}
 use Rattle.boot_core.proofs.RecordPages.{HaveFields, first_fields, record_entries}
+use Rattle.boot_core.proofs.Soundness.{first_sound, stays_sound}
 use Rattle.machine_files.specs.MachineText.{most_descriptors, machine_of}
 use Rattle.machine_files.proofs.MachineOrder.{machine_in}
 use Rattle.text_lines.specs.Lines.{lines_of}
@@ -49,9 +53,9 @@ use Rattle.boot_trace.specs.TraceRuns.{Prints, PrintsAll, Wrote, most_lines}
 
 -- ---- the states of a run
 
--- A state that so many lines at most came before: its memory is proper, and its map can be told in blocks and in records.
+-- A state that so many lines at most came before: its parts are sound, and its map can be told in blocks and in records.
 record IsReached (lines : ℕ) (s : State) : Type 0 where
-  proper : IsProperMemory s.parts.book.memory
+  sound : AreSound s.parts
   typed : HasMachineTypes s.parts.book.memory
   fields : HaveFields s.parts.book.memory
   few : length (memory_map s.parts.book.memory) ≤ most_descriptors + 2 * lines
@@ -59,26 +63,26 @@ record IsReached (lines : ℕ) (s : State) : Type 0 where
 first_reached : (file : List ℕ) (machine : List Run) → machine_of file ≡ Ok machine → IsReached 0 (first_state machine)
 first_reached file machine said =
     let (valid, numbers, few) = machine_in file machine said in
-    record { proper = valid.proper; typed = first_types machine valid.mtypes; fields = first_fields machine numbers; few = omega (arith, entries_at_most machine valid.runs) }
+    record { sound = first_sound machine valid; typed = first_types machine valid.mtypes; fields = first_fields machine numbers; few = omega (arith, entries_at_most machine valid.runs) }
 
 reached_later : (n : ℕ) (s : State) → IsReached n s → IsReached (n + 1) s
-reached_later n s is = record { proper = is.proper; typed = is.typed; fields = is.fields; few = omega (arith, is.few) }
+reached_later n s is = record { sound = is.sound; typed = is.typed; fields = is.fields; few = omega (arith, is.few) }
 
-reached_by_step : {A : Type 0} (n : ℕ) (old : State) (c : Call) (answer : Reply A) (new : State) → IsReached n old → NamesTypes c → Step old c answer new → IsReached (n + 1) new
+reached_by_step : {A : Type 0} (n : ℕ) (old : State) (c : Call A) (answer : Reply A) (new : State) → IsReached n old → NamesTypes c → Step old c answer new → IsReached (n + 1) new
 reached_by_step n old c answer new is names step =
-    let o = outcome best_starts best_is_permitted old.exited old.parts c answer new.parts is.proper step.answers in
+    let o = outcome best_starts best_is_permitted old.exited old.parts c answer new.parts is.sound step.answers in
     record {
-      proper = stays_proper (NamesTypes c) old.parts.book new.parts.book is.proper o;
+      sound = stays_sound best_starts best_is_permitted old.exited old.parts c answer new.parts is.sound step.answers;
       typed = stays_typed (NamesTypes c) old.parts.book new.parts.book is.typed o;
       fields = stays_fitting (NamesTypes c) old.parts.book new.parts.book names is.fields o;
       few = omega (arith, is.few, map_grows (NamesTypes c) old.parts.book new.parts.book o);
     }
 
 -- what a line says of its call's types
-abbrev AsksForTypes : Result (Option TraceCall) TraceFault → Type 0
-AsksForTypes asks = (c : Call) → asks ≡ Ok (Some (trace_call.Service c)) → NamesTypes c
+abbrev AsksForTypes : {A : Type 0} → Result (Option (TraceCall A)) TraceFault → Type 0
+AsksForTypes {A = A} asks = (c : Call A) → asks ≡ Ok (Some (trace_call.Service c)) → NamesTypes c
 
-reached_by_line : (A : Type 0) (certify : Bool) (n number : ℕ) (asks : Result (Option TraceCall) TraceFault) (old : State) (text : List ℕ) (new : State) → IsReached n old → AsksForTypes asks → Prints A certify number asks old text new → IsReached (n + 1) new
+reached_by_line : (A : Type 0) (certify : Bool) (n number : ℕ) (asks : Result (Option (TraceCall A)) TraceFault) (old : State) (text : List ℕ) (new : State) → IsReached n old → AsksForTypes asks → Prints A certify number asks old text new → IsReached (n + 1) new
 reached_by_line A certify n number (Ok None) old text new is names (none, e) = subst (IsReached (n + 1)) (sym e) (reached_later n old is)
 reached_by_line A certify n number (Ok (Some trace_call.List)) old text new is names (listed, e) = subst (IsReached (n + 1)) (sym e) (reached_later n old is)
 reached_by_line A certify n number (Ok (Some (trace_call.Service c))) old text new is names (answer, step, prints) = reached_by_step n old c answer new is (names c refl) step
@@ -91,13 +95,27 @@ entry_numbers d is =
     let room : page_count < 2 ^ 64 = lit< tt in
     record { mtype = is.mtype; first = omega (arith, is.within); pages = omega (arith, is.within); attributes = is.attributes }
 
-request_numbers : (c : Call) → HasCallNumbers c → IfSome (request_for c) HasRequestNumbers
+extent_numbers_if : (few : Bool) (t size : ℕ) → nat_le size max_size ≡ few → t < 2 ^ 32 → IfSome (cond few (Some (pool_request t (pages_for size))) None) HasRequestNumbers
+extent_numbers_if true t size few mtype =
+    let most : size ≤ max_size = leb-true size max_size few in
+    record { mtype = mtype; pages = omega arith; limit = lit< tt }
+extent_numbers_if false t size few mtype = tt
+
+-- the request for a new extent of a block
+extent_numbers : (t size : ℕ) → t < 2 ^ 32 → IfSome (extent_request t size) HasRequestNumbers
+extent_numbers t size mtype = extent_numbers_if (nat_le size max_size) t size refl mtype
+
+request_numbers : {A : Type 0} (c : Call A) → HasCallNumbers c → IfSome (request_for c) HasRequestNumbers
 request_numbers (call.AllocatePages kind t pages memory) (k, mtype, count, address) =
     request_has HasRequestNumbers (kind == any_pages) (kind == max_address) (record { mtype = t; pages = pages; limit = page_count }) (record { mtype = t; pages = pages; limit = pages_below memory })
     (record { mtype = mtype; pages = count; limit = lit< tt })
     (record { mtype = mtype; pages = count; limit = omega arith })
 request_numbers (call.FreePages memory pages) h = tt
 request_numbers (call.GetMemoryMap size) h = tt
+request_numbers (call.AllocatePool t size) (mtype, fits) = extent_numbers t size mtype
+request_numbers (call.FreePool address) h = tt
+request_numbers (call.PoolRead address size) h = tt
+request_numbers (call.PoolWrite address bytes) h = tt
 request_numbers (call.ExitBootServices key) h = tt
 
 no_block : (certify : Bool) (text : List ℕ) → text ++ cond certify [] [] ≡ text
@@ -109,7 +127,7 @@ module _ (n : ℕ) (old : State) (is : IsReached n old) (below : n < most_lines)
   map_before = memory_map old.parts.book.memory
 
   entries_fit : AllByRecursion IsRecordEntry map_before
-  entries_fit = record_entries old.parts.book.memory is.proper is.fields
+  entries_fit = record_entries old.parts.book.memory is.sound.proper is.fields
 
   with_block : (r : Option Request) (o : Option CertificateValue) → IfSome r HasRequestNumbers → IfSome {T = Request × CertificateValue} (option_and_then (λ r. option_map (λ c. (r, c)) o) r) (λ told. IsAccepted map_before told.0 told.1) →
       IfSome {T = Request × CertificateValue} (option_and_then (λ r. option_map (λ c. (r, c)) o) r) (λ told. IsAcceptedBlock map_before told.0 told.1)
@@ -117,11 +135,11 @@ module _ (n : ℕ) (old : State) (is : IsReached n old) (below : n < most_lines)
   with_block (Some r) None numbers accepted = tt
   with_block (Some r) (Some c) numbers accepted = accepted_block map_before r c accepted (all_implied IsRecordEntry HasEntryNumbers entry_numbers map_before entries_fit) numbers (omega (arith, is.few))
 
-  block_of_step : {A : Type 0} (c : Call) (answer : Reply A) (new : State) → HasCallNumbers c → Step old c answer new → IfSome (certified c answer) (λ told. IsAcceptedBlock map_before told.0 told.1)
+  block_of_step : {A : Type 0} (c : Call A) (answer : Reply A) (new : State) → HasCallNumbers c → Step old c answer new → IfSome (certified c answer) (λ told. IsAcceptedBlock map_before told.0 told.1)
   block_of_step c answer new numbers step =
-      with_block (request_for c) (certificate_in answer) (request_numbers c numbers) (accepted_reply old.parts is.proper is.typed old.exited old.calls_left c answer new.parts step.answers)
+      with_block (request_for c) (certificate_in answer) (request_numbers c numbers) (accepted_reply old.parts is.sound.proper is.typed old.exited old.calls_left c answer new.parts step.answers)
 
-  block_of_line : (A : Type 0) (number : ℕ) (asks : Result (Option TraceCall) TraceFault) (text : List ℕ) (new : State) → ((c : Call) → asks ≡ Ok (Some (trace_call.Service c)) → HasCallNumbers c) → Prints A true number asks old text new → PrintsAcceptedBlock A number asks old text new
+  block_of_line : (A : Type 0) (number : ℕ) (asks : Result (Option (TraceCall A)) TraceFault) (text : List ℕ) (new : State) → ((c : Call A) → asks ≡ Ok (Some (trace_call.Service c)) → HasCallNumbers c) → Prints A true number asks old text new → PrintsAcceptedBlock A number asks old text new
   block_of_line A number (Ok None) text new numbers prints = tt
   block_of_line A number (Ok (Some trace_call.List)) text new numbers prints = tt
   block_of_line A number (Ok (Some (trace_call.Service c))) text new numbers (answer, step, (entries, carries, e)) = (answer, entries, step, e, block_of_step c answer new (numbers c refl) step)
@@ -136,7 +154,7 @@ module _ (n : ℕ) (old : State) (is : IsReached n old) (below : n < most_lines)
     e ∙ no_block certify (reply_text number entries (reply.GetMemoryMap told bytes)) ∙ ap (λ (ds : List Descriptor). reply_text number ds (reply.GetMemoryMap told bytes)) (carried old size told bytes new entries entries_fit step success carries),
   )
 
-  map_of_line : (A : Type 0) (certify : Bool) (number : ℕ) (asks : Result (Option TraceCall) TraceFault) (text : List ℕ) (new : State) → Prints A certify number asks old text new → PrintsReadMap A number asks old text new
+  map_of_line : (A : Type 0) (certify : Bool) (number : ℕ) (asks : Result (Option (TraceCall A)) TraceFault) (text : List ℕ) (new : State) → Prints A certify number asks old text new → PrintsReadMap A number asks old text new
   map_of_line A certify number (Ok (Some (trace_call.Service (call.GetMemoryMap size)))) text new (answer, step, prints) =
       let (told, bytes, e, h) = step.answers in
       let same : Step old (call.GetMemoryMap size) (reply.GetMemoryMap told bytes) new = subst (λ (a : Reply A). Step old (call.GetMemoryMap size) a new) e step in
@@ -146,7 +164,7 @@ module _ (n : ℕ) (old : State) (is : IsReached n old) (below : n < most_lines)
 
 -- ---- each line
 
-module _ (A : Type 0) (certify : Bool) (Is : OfLine) (of_line : (n number : ℕ) (line : List ℕ) (old : State) (text : List ℕ) (new : State) → IsReached n old → n < most_lines → Prints A certify number (line_of line) old text new → Is number (line_of line) old text new) where
+module _ (A : Type 0) (certify : Bool) (Is : OfLine A) (of_line : (n number : ℕ) (line : List ℕ) (old : State) (text : List ℕ) (new : State) → IsReached n old → n < most_lines → Prints A certify number (line_of line) old text new → Is number (line_of line) old text new) where
   each_line : (n number : ℕ) (lines : List (List ℕ)) (old : State) (text : List ℕ) (new : State) → IsReached n old → n + length lines ≤ most_lines → (prints : PrintsAll A certify number lines old text new) → OfEachLine A certify Is number lines old text new prints
   each_line n number [] old text new is few prints = tt
   each_line n number (line ∷ lines) old text new is few (mid, first, rest, prints, more, e) = (

@@ -46,10 +46,10 @@ module _ (A : Type 0) (certify : Bool) (bytes : List ℕ) (old : State) (before 
       let taken : take count (lines_of bytes) ≡ a.lines = rw (a.split, ← a.counted) (take-append-le (length a.lines) a.lines (lines_of a.rest) (omega arith) ∙ take_all (length a.lines) a.lines (omega arith)) in
       record { text = a.text; prints = rw taken a.prints; written = a.written }
 
-  long_line : (line : List ℕ) → longest_line < length line → line_of line ≡ Err trace_fault.Long
+  long_line : (line : List ℕ) → longest_line < length line → line_of {A = A} line ≡ Err trace_fault.Long
   long_line line h = rw (lt-ltb longest_line (length line) h) refl
 
-  same_line : (rest line : List ℕ) (left : Option (List ℕ)) → IsFirstLine rest line left → line_of line ≡ line_of (first_line rest)
+  same_line : (rest line : List ℕ) (left : Option (List ℕ)) → IsFirstLine rest line left → line_of {A = A} line ≡ line_of (first_line rest)
   same_line rest line left (some, inl h) = ap line_of h.0
   same_line rest line left (some, inr h) = long_line line h.0 ∙ sym (long_line (first_line rest) h.1)
 
@@ -74,7 +74,7 @@ module _ (A : Type 0) (certify : Bool) (bytes : List ℕ) (old : State) (before 
   stopped fault.NoCallsLeft count mid new after left line next below a first (asked, p, r) = (
     count,
     below,
-    (first_line a.rest, here count mid after left a first.0, subst AsksForCall (same_line a.rest line next first) asked),
+    (first_line a.rest, here count mid after left a first.0, subst (AsksForCall A) (same_line a.rest line next first) asked),
     ap (λ (s : State). s.calls_left) r ∙ p,
     subst (λ (s : State). Wrote A certify bytes count old s before after) (sym r) (wrote count mid after left a),
   )
@@ -86,7 +86,7 @@ module _ (A : Type 0) (certify : Bool) (bytes : List ℕ) (old : State) (before 
     record {
       mid = mid;
       whole = wrote count mid after left a;
-      next = inr (first_line a.rest, here count mid after left a first.0, subst (λ (asks : Result (Option TraceCall) TraceFault). MakesCall A asks mid new) (same_line a.rest line next first) made);
+      next = inr (first_line a.rest, here count mid after left a first.0, subst (λ (asks : Result (Option (TraceCall A)) TraceFault). MakesCall A asks mid new) (same_line a.rest line next first) made);
     },
   )
   stopped fault.Read count mid new after left line next below a first s = absurd s
@@ -105,7 +105,7 @@ module _ (A : Type 0) (certify : Bool) (bytes : List ℕ) (old : State) (before 
       line = first_line a.rest;
       here = here count mid middle left a first.0;
       text = text;
-      prints = subst (λ (asks : Result (Option TraceCall) TraceFault). Prints A certify (count + 1) asks mid text new) (same_line a.rest line next first) p;
+      prints = subst (λ (asks : Result (Option (TraceCall A)) TraceFault). Prints A certify (count + 1) asks mid text new) (same_line a.rest line next first) p;
       taken = taken;
       written = w;
     },
@@ -128,7 +128,7 @@ module _ (A : Type 0) (certify : Bool) (bytes : List ℕ) (old : State) (before 
         written = appends_more before middle after a.text text a.written w;
       }
   next_line count mid new middle after left line next text a (some, inr (long, more)) p w =
-      absurd (subst (λ (asks : Result (Option TraceCall) TraceFault). Prints A certify (count + 1) asks mid text new) (long_line line long) p)
+      absurd (subst (λ (asks : Result (Option (TraceCall A)) TraceFault). Prints A certify (count + 1) asks mid text new) (long_line line long) p)
 
   -- there is a line after the last that may be
   pub too_many : (count : ℕ) → count ≡ most_lines → (new : State) (after left : Option (List ℕ)) (b : ℕ) (more : List ℕ) (a : AtLine A certify bytes count old new before after left) → a.rest ≡ b ∷ more → Ends A certify bytes old new before after (Err fault.TooManyLines)

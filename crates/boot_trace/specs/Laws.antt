@@ -24,16 +24,16 @@ use Rattle.reply_texts.specs.PrintedText.{reply_text}
 use Rattle.boot_trace.specs.TraceRuns.{PrintsAll, Wrote, most_lines}
 
 -- what is said of a line with this number: what it asks for, the state before it, its text and the state after it
-abbrev pub OfLine : Type 1
-OfLine = ℕ → Result (Option TraceCall) TraceFault → State → List ℕ → State → Type 0
+abbrev pub OfLine : Type 0 → Type 1
+OfLine A = ℕ → Result (Option (TraceCall A)) TraceFault → State → List ℕ → State → Type 0
 
 -- it holds of each of the lines that printed the text
-abbrev pub OfEachLine : (A : Type 0) (certify : Bool) (Is : OfLine) (number : ℕ) (lines : List (List ℕ)) (old : State) (text : List ℕ) (new : State) → PrintsAll A certify number lines old text new → Type 0
+abbrev pub OfEachLine : (A : Type 0) (certify : Bool) (Is : OfLine A) (number : ℕ) (lines : List (List ℕ)) (old : State) (text : List ℕ) (new : State) → PrintsAll A certify number lines old text new → Type 0
 OfEachLine A certify Is number [] old text new done = Unit {0}
 OfEachLine A certify Is number (line ∷ lines) old text new (mid, first, rest, prints, more, whole) = Is number (line_of line) old first mid × OfEachLine A certify Is (number + 1) lines mid rest new more
 
 -- it holds of each line whose text a run on a machine file and a trace wrote
-abbrev pub OfRun : Type 0 → Bool → OfLine → Type 0
+abbrev pub OfRun : (A : Type 0) → Bool → OfLine A → Type 0
 OfRun A certify Is = (file bytes : List ℕ) (machine : List Run) (count : ℕ) (new : State) (before after : Option (List ℕ)) (wrote : Wrote A certify bytes count (first_state machine) new before after) →
     machine_of file ≡ Ok machine → count ≤ most_lines → OfEachLine A certify Is 1 (take count (lines_of bytes)) (first_state machine) wrote.text new wrote.prints
 
@@ -41,7 +41,7 @@ OfRun A certify Is = (file bytes : List ℕ) (machine : List Run) (count : ℕ) 
 
 -- What a call prints is the lines of its reply and, where that carries a certificate, a block: of the memory map before the call,
 -- the call's request and the certificate. The block is read back as these, and its check answers that it is accepted.
-abbrev pub PrintsAcceptedBlock : Type 0 → OfLine
+abbrev pub PrintsAcceptedBlock : (A : Type 0) → OfLine A
 PrintsAcceptedBlock A number (Ok (Some (trace_call.Service c))) old text new =
     (answer : Reply A) × (entries : List Descriptor) × Step old c answer new × (text ≡ reply_text number entries answer ++ certificate_text (memory_map old.parts.book.memory) (certified c answer)) ×
     IfSome (certified c answer) (λ told. IsAcceptedBlock (memory_map old.parts.book.memory) told.0 told.1)
@@ -54,7 +54,7 @@ PrintedBlocksLaw A = OfRun A true (PrintsAcceptedBlock A)
 -- ---- memory maps
 
 -- The bytes that a GetMemoryMap wrote are read as the memory map, and the lines of its entries are printed.
-abbrev pub PrintsReadMap : Type 0 → OfLine
+abbrev pub PrintsReadMap : (A : Type 0) → OfLine A
 PrintsReadMap A number (Ok (Some (trace_call.Service (call.GetMemoryMap size)))) old text new =
     (told : MapReply) × (bytes : Vec ℕ A) × Step old (call.GetMemoryMap size) (reply.GetMemoryMap told bytes) new ×
     (told.status ≡ Success → ((found : Option (List Descriptor)) → ReadsRecords bytes.items found → found ≡ Some (memory_map old.parts.book.memory)) × (text ≡ reply_text number (memory_map old.parts.book.memory) (reply.GetMemoryMap told bytes)))

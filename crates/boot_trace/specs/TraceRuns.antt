@@ -17,27 +17,27 @@ use Rattle.trace_lines.specs.TraceLine.{line_of}
 
 -- What a line asks for prints this text, and takes the machine from one state to another: a call, by a step of the
 -- machine with the reply that is printed; a listing and a skipped line leave it as it is.
-abbrev pub Prints : Type 0 → Bool → ℕ → Result (Option TraceCall) TraceFault → State → List ℕ → State → Type 0
+abbrev pub Prints : (A : Type 0) → Bool → ℕ → Result (Option (TraceCall A)) TraceFault → State → List ℕ → State → Type 0
 Prints A certify number (Ok None) old text new = (text ≡ []) × (new ≡ old)
 Prints A certify number (Ok (Some trace_call.List)) old text new = (text ≡ list_text number (memory_map old.parts.book.memory)) × (new ≡ old)
 Prints A certify number (Ok (Some (trace_call.Service c))) old text new = (answer : Reply A) × Step old c answer new × PrintsCall certify number old.parts.book.memory c answer text
 Prints A certify number (Err e) old text new = ⊥
 
 -- the line asks for a call
-abbrev pub AsksForCall : Result (Option TraceCall) TraceFault → Type 0
-AsksForCall (Ok (Some (trace_call.Service c))) = Unit {0}
-AsksForCall asks = ⊥
+abbrev pub AsksForCall : (A : Type 0) → Result (Option (TraceCall A)) TraceFault → Type 0
+AsksForCall A (Ok (Some (trace_call.Service c))) = Unit {0}
+AsksForCall A asks = ⊥
 
 -- the line's call takes the machine from one state to another
-abbrev pub MakesCall : Type 0 → Result (Option TraceCall) TraceFault → State → State → Type 0
+abbrev pub MakesCall : (A : Type 0) → Result (Option (TraceCall A)) TraceFault → State → State → Type 0
 MakesCall A (Ok (Some (trace_call.Service c))) old new = (answer : Reply A) × Step old c answer new
 MakesCall A asks old new = ⊥
 
 -- Why a line that is read so stops a run, and how it leaves the machine: as it was, or, where memory ran out, perhaps
 -- after the call was made.
-abbrev pub StopsAt : Type 0 → Bool → RunFault → ℕ → Result (Option TraceCall) TraceFault → State → State → Type 0
+abbrev pub StopsAt : (A : Type 0) → Bool → RunFault → ℕ → Result (Option (TraceCall A)) TraceFault → State → State → Type 0
 StopsAt A certify (fault.Line n e) number asks old new = (n ≡ number) × (asks ≡ Err e) × (new ≡ old)
-StopsAt A certify fault.NoCallsLeft number asks old new = AsksForCall asks × (old.calls_left ≡ 0) × (new ≡ old)
+StopsAt A certify fault.NoCallsLeft number asks old new = AsksForCall A asks × (old.calls_left ≡ 0) × (new ≡ old)
 StopsAt A certify fault.OutOfMemory number asks old new = (new ≡ old) ⊎ MakesCall A asks old new
 StopsAt A certify e number asks old new = ⊥
 
@@ -85,9 +85,9 @@ pub record WroteBefore (A : Type 0) (certify : Bool) (bytes : List ℕ) (count :
 -- that stopped the run, and the machine is in the state after their calls. No line after the last that may be is looked at.
 abbrev pub Ends : Type 0 → Bool → List ℕ → State → State → Option (List ℕ) → Option (List ℕ) → Result (Unit {0}) RunFault → Type 0
 Ends A certify bytes old new before after (Ok done) = (length (lines_of bytes) ≤ most_lines) × Wrote A certify bytes (length (lines_of bytes)) old new before after
-Ends A certify bytes old new before after (Err (fault.Line number e)) = (count : ℕ) × (count < most_lines) × (number ≡ count + 1) × ((line : List ℕ) × HasLine bytes count line × (line_of line ≡ Err e)) × Wrote A certify bytes count old new before after
+Ends A certify bytes old new before after (Err (fault.Line number e)) = (count : ℕ) × (count < most_lines) × (number ≡ count + 1) × ((line : List ℕ) × HasLine bytes count line × (line_of {A = A} line ≡ Err e)) × Wrote A certify bytes count old new before after
 Ends A certify bytes old new before after (Err fault.TooManyLines) = (most_lines < length (lines_of bytes)) × Wrote A certify bytes most_lines old new before after
-Ends A certify bytes old new before after (Err fault.NoCallsLeft) = (count : ℕ) × (count < most_lines) × ((line : List ℕ) × HasLine bytes count line × AsksForCall (line_of line)) × (new.calls_left ≡ 0) × Wrote A certify bytes count old new before after
+Ends A certify bytes old new before after (Err fault.NoCallsLeft) = (count : ℕ) × (count < most_lines) × ((line : List ℕ) × HasLine bytes count line × AsksForCall A (line_of line)) × (new.calls_left ≡ 0) × Wrote A certify bytes count old new before after
 Ends A certify bytes old new before after (Err fault.Read) = (count : ℕ) × (count ≤ most_lines) × Wrote A certify bytes count old new before after
 Ends A certify bytes old new before after (Err fault.Write) = (count : ℕ) × (count < most_lines) × WroteFront A certify bytes count old new before after
 Ends A certify bytes old new before after (Err fault.OutOfMemory) = (count : ℕ) × (count < most_lines) × WroteBefore A certify bytes count old new before after

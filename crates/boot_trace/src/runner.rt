@@ -84,7 +84,7 @@ fn make_call<A: Allocator + Copy>(
     alloc: A,
     core: &mut Core<A>,
     number: u64,
-    call: &Call,
+    call: &Call<A>,
     certify: bool,
     text: &mut String<A>,
 ) -> Result<(), RunFault>

@@ -18,12 +18,12 @@ kept None c entries = refl
 kept (Some r) c entries = refl
 
 -- the block after the map that was kept is that of the certificate
-pub block_kept : {A : Type 0} (certify : Bool) (entries : List Descriptor) (c : Call) (answer : Reply A) → block_after (map_before certify entries c) (certified c answer) ≡ cond certify (certificate_text entries (certified c answer)) []
+pub block_kept : {A : Type 0} (certify : Bool) (entries : List Descriptor) (c : Call A) (answer : Reply A) → block_after (map_before certify entries c) (certified c answer) ≡ cond certify (certificate_text entries (certified c answer)) []
 block_kept false entries c answer = refl
 block_kept true entries c answer = kept (request_for c) (certificate_in answer) entries
 
 -- the lines of the reply and the block after them, after no other text, are what is printed of the call
-pub prints_call : {A : Type 0} (certify : Bool) (number : ℕ) (before : List Page) (c : Call) (answer : Reply A) (front text : List ℕ) (map : Option (List Descriptor)) (entries : List Descriptor) → CarriesEntries answer entries → front ≡ [] → map ≡ map_before certify (memory_map before) c → text ≡ front ++ (reply_text number entries answer ++ block_after map (certified c answer)) → PrintsCall certify number before c answer text
+pub prints_call : {A : Type 0} (certify : Bool) (number : ℕ) (before : List Page) (c : Call A) (answer : Reply A) (front text : List ℕ) (map : Option (List Descriptor)) (entries : List Descriptor) → CarriesEntries answer entries → front ≡ [] → map ≡ map_before certify (memory_map before) c → text ≡ front ++ (reply_text number entries answer ++ block_after map (certified c answer)) → PrintsCall certify number before c answer text
 prints_call certify number before c answer front text map entries carries none kept e =
     let line = reply_text number entries answer in
     let told = certified c answer in (

@@ -29,14 +29,14 @@ certificate_text entries None = []
 
 -- What is printed of a call with this reply, with the memory before it: the reply's lines and, where certificates are asked for,
 -- the block of the one that it carries.
-abbrev pub PrintsCall : {A : Type 0} → Bool → ℕ → List Page → Call → Reply A → List ℕ → Type 0
+abbrev pub PrintsCall : {A : Type 0} → Bool → ℕ → List Page → Call A → Reply A → List ℕ → Type 0
 PrintsCall certify number before c answer text =
     (entries : List Descriptor) × CarriesEntries answer entries × (text ≡ reply_text number entries answer ++ (if certify then certificate_text (memory_map before) (certified c answer) else []))
 
 -- ---- what is kept for a block before the call
 
 -- the memory map, where certificates are asked for and the call's reply may carry one
-abbrev pub map_before : Bool → List Descriptor → Call → Option (List Descriptor)
+abbrev pub map_before : {A : Type 0} → Bool → List Descriptor → Call A → Option (List Descriptor)
 map_before true entries c = if may_be_certified c then Some entries else None
 map_before false entries c = None
 

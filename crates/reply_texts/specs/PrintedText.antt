@@ -1,5 +1,5 @@
 -- What is printed of a trace line.
-use Rattle.std.specs.Prelude.{ℕ, ◌*◌, List, ◌++◌, length, flat_map, codes, Ok, Err}
+use Rattle.std.specs.Prelude.{ℕ, ◌*◌, List, ◌++◌, length, flat_map, codes, Result, Ok, Err}
 use Rattle.std.specs.Fmt.{decimal}
 use Rattle.page_ranges.specs.declared.ranges.Descriptor.{Descriptor}
 use Rattle.page_ranges.specs.MemoryTypes.{page_size}
@@ -9,10 +9,12 @@ use Rattle.page_ranges.specs.Statuses.{name_of as status_of}
 use Rattle.map_keys.specs.declared.memory_maps.MapReply.{MapReply}
 use Rattle.boot_core.specs.declared.calls.Reply.{Reply}
 use Rattle.boot_core.specs.declared.calls.Reply.TheVariants as reply
+use Rattle.boot_core.specs.PoolCalls.{told_status}
 use Rattle.trace_verbs.specs.declared.verbs.Verb.{Verb}
 use Rattle.trace_verbs.specs.declared.verbs.Verb.TheVariants as verb
 use Rattle.trace_verbs.specs.Verbs.{verb_name}
 use Rattle.text_lines.specs.Printed.{hexadecimal, space, line_feed}
+use Rattle.hex.specs.Hex.{encode_lower}
 
 -- the start of each reply: the line number and the verb
 abbrev pub reply_start : ℕ → Verb → List ℕ
@@ -30,6 +32,10 @@ size_line number v size = reply_start number v ++ codes " BUFFER_TOO_SMALL size=
 abbrev pub value_line : ℕ → Verb → List ℕ → ℕ → List ℕ
 value_line number v name value = reply_start number v ++ codes " SUCCESS " ++ name ++ codes "=" ++ hexadecimal value ++ line_feed
 
+-- the line of a call that succeeded with bytes: each as two hexadecimal digits
+abbrev pub bytes_line : ℕ → Verb → List ℕ → List ℕ
+bytes_line number v bytes = reply_start number v ++ codes " SUCCESS bytes=" ++ encode_lower bytes ++ line_feed
+
 -- the line of an entry of the memory map: two spaces, and its type, address, pages and attributes
 abbrev pub descriptor_line : Descriptor → List ℕ
 descriptor_line d = codes "  " ++ decimal d.mtype ++ space ++ hexadecimal (d.first * page_size) ++ space ++ decimal d.pages ++ space ++ hexadecimal d.attributes ++ line_feed
@@ -44,15 +50,27 @@ map_text number entries told Success = map_line number told ++ flat_map descript
 map_text number entries told BufferTooSmall = size_line number verb.Map told.size
 map_text number entries told status = status_line number verb.Map (status_of status)
 
+-- the line of a read of the pool's bytes with this status: on success the bytes
+abbrev pub read_line : ℕ → List ℕ → Status → List ℕ
+read_line number bytes Success = bytes_line number verb.Read bytes
+read_line number bytes status = status_line number verb.Read (status_of status)
+
+-- the line of a reply that tells how a call ended, and nothing else
+abbrev pub result_line : ℕ → Verb → Result (Unit {0}) Status → List ℕ
+result_line number v result = status_line number v (status_of (told_status result))
+
 -- what is printed of a reply that carries these entries
 abbrev pub reply_text : {A : Type 0} → ℕ → List Descriptor → Reply A → List ℕ
 reply_text number entries (reply.AllocatePages (Ok placed)) = value_line number verb.Pages (codes "address") placed.address
 reply_text number entries (reply.AllocatePages (Err status)) = status_line number verb.Pages (status_of status)
-reply_text number entries (reply.FreePages (Ok done)) = status_line number verb.FreePages (status_of Success)
-reply_text number entries (reply.FreePages (Err status)) = status_line number verb.FreePages (status_of status)
+reply_text number entries (reply.FreePages result) = result_line number verb.FreePages result
 reply_text number entries (reply.GetMemoryMap told bytes) = map_text number entries told told.status
-reply_text number entries (reply.ExitBootServices (Ok done)) = status_line number verb.Exit (status_of Success)
-reply_text number entries (reply.ExitBootServices (Err status)) = status_line number verb.Exit (status_of status)
+reply_text number entries (reply.AllocatePool (Ok block)) = value_line number verb.Pool (codes "address") block.0
+reply_text number entries (reply.AllocatePool (Err status)) = status_line number verb.Pool (status_of status)
+reply_text number entries (reply.FreePool result) = result_line number verb.FreePool result
+reply_text number entries (reply.PoolRead status bytes) = read_line number bytes.items status
+reply_text number entries (reply.PoolWrite result) = result_line number verb.Write result
+reply_text number entries (reply.ExitBootServices result) = result_line number verb.Exit result
 
 -- what is printed of a listing of these entries
 abbrev pub list_text : ℕ → List Descriptor → List ℕ

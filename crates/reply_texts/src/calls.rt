@@ -16,7 +16,7 @@ use std::alloc::{AllocError, Allocator};
 pub fn map_before<A: Allocator + Copy>(
     alloc: A,
     core: &Core<A>,
-    call: &Call,
+    call: &Call<A>,
     certify: bool,
 ) -> Result<Option<Vec<Descriptor, A>>, AllocError>
     ensures { IfOk result (λ kept. option_map (λ entries. entries.items) kept ≡ map_before certify (memory_map core.now.parts.book.memory) call.now) }
@@ -49,13 +49,13 @@ pub fn print_call<A: Allocator + Copy>(
     text: &mut String<A>,
     number: u64,
     before: &Option<Vec<Descriptor, A>>,
-    call: &Call,
+    call: &Call<A>,
     reply: &Reply<A>,
 ) -> Result<(), AllocError>
     ensures { OnOk result ((entries : List Descriptor) × CarriesEntries reply.now entries × (string_bytes text.new ≡ string_bytes text.old ++ (reply_text number entries reply.now ++ block_after (option_map (λ kept. kept.items) before.now) (certified call.now reply.now)))) }
 {
     let entries = carried_entries(alloc, reply)?;
-    print_reply(text, number, entries.as_slice(), reply)?;
+    print_reply(alloc, text, number, entries.as_slice(), reply)?;
     match (before, certified(call, reply)) {
         (Some(entries), Some((request, certificate))) => {
             print_block(text, entries.as_slice(), &request, certificate)

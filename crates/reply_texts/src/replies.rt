@@ -2,7 +2,7 @@
 ghost use Rattle.std.specs.Prelude.{◌≡◌, ◌++◌, ◌<◌, IfOk, OnOk, flat_map, string_bytes};
 ghost use Rattle.page_ranges.specs.MemoryTypes.{page_count};
 ghost use Rattle.std.specs.List.{AllByRecursion};
-ghost use Rattle.reply_texts.specs.PrintedText.{value_line, reply_text, status_line, size_line, map_line, map_text, descriptor_line};
+ghost use Rattle.reply_texts.specs.PrintedText.{bytes_line, descriptor_line, map_line, map_text, read_line, reply_text, result_line, size_line, status_line, value_line};
 ghost use Rattle.reply_texts.specs.CallText.{CarriesEntries, HoldsEntries};
 ghost use Rattle.map_keys.specs.Records.{IsRecordEntry};
 ghost use Rattle.page_ranges.specs.Statuses.{name_of};
@@ -39,7 +39,8 @@ pub fn carried_entries<A: Allocator + Copy>(
 }
 
 /// Appends the line of a reply, and of a reply with the memory map the lines of its entries.
-pub fn print_reply<A: Allocator>(
+pub fn print_reply<A: Allocator + Copy>(
+    alloc: A,
     text: &mut String<A>,
     number: u64,
     entries: &[Descriptor],
@@ -53,12 +54,65 @@ pub fn print_reply<A: Allocator>(
             print_value(text, number, Verb::Pages, "address", placed.address)
         }
         Reply::AllocatePages(Err(status)) => print_status(text, number, Verb::Pages, *status),
-        Reply::FreePages(Ok(())) => print_status(text, number, Verb::FreePages, Status::Success),
-        Reply::FreePages(Err(status)) => print_status(text, number, Verb::FreePages, *status),
+        Reply::FreePages(result) => print_result(text, number, Verb::FreePages, *result),
         Reply::GetMemoryMap { reply, .. } => print_map(text, number, entries, reply),
-        Reply::ExitBootServices(Ok(())) => print_status(text, number, Verb::Exit, Status::Success),
-        Reply::ExitBootServices(Err(status)) => print_status(text, number, Verb::Exit, *status),
+        Reply::AllocatePool(Ok((address, _))) => {
+            print_value(text, number, Verb::Pool, "address", *address)
+        }
+        Reply::AllocatePool(Err(status)) => print_status(text, number, Verb::Pool, *status),
+        Reply::FreePool(result) => print_result(text, number, Verb::FreePool, *result),
+        Reply::PoolRead { status, bytes } => {
+            print_read(alloc, text, number, *status, bytes.as_slice())
+        }
+        Reply::PoolWrite(result) => print_result(text, number, Verb::Write, *result),
+        Reply::ExitBootServices(result) => print_result(text, number, Verb::Exit, *result),
     }
+}
+
+/// Appends the line of a reply that tells how a call ended, and nothing else.
+fn print_result<A: Allocator>(
+    text: &mut String<A>,
+    number: u64,
+    verb: Verb,
+    done: Result<(), Status>,
+) -> Result<(), AllocError>
+    ensures { OnOk result (string_bytes text.new ≡ string_bytes text.old ++ result_line number verb done) }
+{
+    match done {
+        Ok(()) => print_status(text, number, verb, Status::Success),
+        Err(status) => print_status(text, number, verb, status),
+    }
+}
+
+/// Appends the line of a read of the pool's bytes.
+fn print_read<A: Allocator + Copy>(
+    alloc: A,
+    text: &mut String<A>,
+    number: u64,
+    status: Status,
+    bytes: &[u8],
+) -> Result<(), AllocError>
+    ensures { OnOk result (string_bytes text.new ≡ string_bytes text.old ++ read_line number bytes.now status) }
+{
+    match status {
+        Status::Success => print_bytes(alloc, text, number, Verb::Read, bytes),
+        status => print_status(text, number, Verb::Read, status),
+    }
+}
+
+/// Appends the line of a call that succeeded with bytes.
+fn print_bytes<A: Allocator + Copy>(
+    alloc: A,
+    text: &mut String<A>,
+    number: u64,
+    verb: Verb,
+    bytes: &[u8],
+) -> Result<(), AllocError>
+    ensures { OnOk result (string_bytes text.new ≡ string_bytes text.old ++ bytes_line number verb bytes.now) }
+{
+    let verb = verb.name();
+    let digits = hex::encode(alloc, bytes)?;
+    writeln!(text, "{number} {verb} SUCCESS bytes={digits}")
 }
 
 /// Appends the line of a call that succeeded with a value.

@@ -8,17 +8,26 @@ returns-in-AllocatePages-Ok g c = search rules
 pub returns-in-AllocatePages-Err : goal.returns-in-AllocatePages-Err
 returns-in-AllocatePages-Err g c = search rules
 
-pub returns-in-FreePages-Ok : goal.returns-in-FreePages-Ok
-returns-in-FreePages-Ok g c = search rules
-
-pub returns-in-FreePages-Err : goal.returns-in-FreePages-Err
-returns-in-FreePages-Err g c = search rules
+pub returns-in-FreePages : goal.returns-in-FreePages
+returns-in-FreePages g c = search rules
 
 pub returns-in-GetMemoryMap : goal.returns-in-GetMemoryMap
 returns-in-GetMemoryMap g c = search rules
 
-pub returns-in-ExitBootServices-Ok : goal.returns-in-ExitBootServices-Ok
-returns-in-ExitBootServices-Ok g c = search rules
+pub returns-in-AllocatePool-Ok : goal.returns-in-AllocatePool-Ok
+returns-in-AllocatePool-Ok g c = search rules
 
-pub returns-in-ExitBootServices-Err : goal.returns-in-ExitBootServices-Err
-returns-in-ExitBootServices-Err g c = search rules
+pub returns-in-AllocatePool-Err : goal.returns-in-AllocatePool-Err
+returns-in-AllocatePool-Err g c = search rules
+
+pub returns-in-FreePool : goal.returns-in-FreePool
+returns-in-FreePool g c = search rules
+
+pub returns-in-PoolRead : goal.returns-in-PoolRead
+returns-in-PoolRead g c = search rules
+
+pub returns-in-PoolWrite : goal.returns-in-PoolWrite
+returns-in-PoolWrite g c = search rules
+
+pub returns-in-ExitBootServices : goal.returns-in-ExitBootServices
+returns-in-ExitBootServices g c = search rules
