@@ -1,9 +1,8 @@
 //! Calls of the pool on a map of real firmware, each judged by a plain map of blocks over rows of cells.
-use boot_core::Core;
 use super::firmware::core_of_stretches;
 use super::firmware_maps::maps;
 use super::stretches::stretches_of;
-use boot_core::{Call, CallBytes, Reply};
+use boot_core::{Call, CallBytes, Core, Reply};
 use page_ranges::{PAGE_SIZE, Status};
 use std::process::Abort;
 
@@ -48,7 +47,8 @@ fn fit(taken: &[bool], need: usize) -> Option<usize> {
 fn first_fit(extents: &[Plain], mtype: u32, size: u64) -> Option<u64> {
     let mut lowest = None;
     for extent in extents {
-        let is_lower = lowest.is_none_or(|address| extent.first.saturating_mul(PAGE_SIZE) < address);
+        let is_lower = lowest.is_none_or(|address| extent.first.saturating_mul(PAGE_SIZE)
+            < address);
         if extent.mtype == mtype && is_lower {
             if let Some(cell) = fit(extent.taken.as_slice(), cells_of(size)) {
                 lowest = Some(address_of(extent.first, cell));
@@ -59,7 +59,8 @@ fn first_fit(extents: &[Plain], mtype: u32, size: u64) -> Option<u64> {
 }
 
 fn address_of(first: u64, cell: usize) -> u64 {
-    first.saturating_mul(PAGE_SIZE)
+    first
+        .saturating_mul(PAGE_SIZE)
         .saturating_add((cell as u64).saturating_mul(CELL))
         .saturating_add(8)
 }
@@ -104,7 +105,11 @@ fn assert_filled(rt: &(impl AllocGlobal + Abort), core: &mut Core, block: &Block
     match reply_to(rt, core, &read) {
         Reply::PoolRead { status, bytes } => {
             assert_eq!(rt; status, Status::Success);
-            assert!(rt; bytes == bytes_of(rt, block, fill), "bytes at {}", block.address);
+            assert!(rt;
+                bytes == bytes_of(rt, block, fill),
+                "bytes at {}",
+                block.address
+            );
         }
         _ => panic!(rt; "another reply"),
     }
@@ -124,7 +129,13 @@ fn fill(rt: &(impl AllocGlobal + Abort), core: &mut Core, block: &Block) {
 }
 
 /// The extent that is made for a block, which lies over no other.
-fn new_extent(rt: &(impl AllocGlobal + Abort), extents: &[Plain], mtype: u32, address: u64, size: u64) -> Plain {
+fn new_extent(
+    rt: &(impl AllocGlobal + Abort),
+    extents: &[Plain],
+    mtype: u32,
+    address: u64,
+    size: u64,
+) -> Plain {
     let first = address / PAGE_SIZE;
     let cells = cells_of(size).div_ceil(128).saturating_mul(128);
     assert_eq!(rt; address, address_of(first, 0));
@@ -142,7 +153,13 @@ fn new_extent(rt: &(impl AllocGlobal + Abort), extents: &[Plain], mtype: u32, ad
 }
 
 /// Asks for a block, and answers its address, which is where first fit puts it, or in a new extent.
-fn take(rt: &(impl AllocGlobal + Abort), core: &mut Core, extents: &mut Vec<Plain>, mtype: u32, size: u64) -> u64 {
+fn take(
+    rt: &(impl AllocGlobal + Abort),
+    core: &mut Core,
+    extents: &mut Vec<Plain>,
+    mtype: u32,
+    size: u64,
+) -> u64 {
     let (address, is_new) = match reply_to(rt, core, &Call::AllocatePool { mtype, size }) {
         Reply::AllocatePool(Ok((address, certificate))) => (address, certificate.is_some()),
         _ => panic!(rt; "refused: {size} bytes"),
@@ -176,7 +193,13 @@ fn give(rt: &(impl AllocGlobal + Abort), core: &mut Core, block: &Block) {
 const TYPES: [u32; 4] = [4, 4, 6, 2];
 
 /// Takes a block as it was drawn, or gives one back, and judges the replies.
-fn assert_drawn(rt: &(impl AllocGlobal + Abort), core: &mut Core, extents: &mut Vec<Plain>, blocks: &mut Vec<Block>, draw: usize) {
+fn assert_drawn(
+    rt: &(impl AllocGlobal + Abort),
+    core: &mut Core,
+    extents: &mut Vec<Plain>,
+    blocks: &mut Vec<Block>,
+    draw: usize,
+) {
     if draw % 5 < 2 {
         if let Some(block) = blocks.get(draw / 8 % 512).copied() {
             blocks.retain(|kept| kept.address != block.address);
@@ -215,7 +238,13 @@ fn generated_pool_calls(rt: HostRuntime) {
         seed = seed
             .wrapping_mul(6_364_136_223_846_793_005)
             .wrapping_add(1_442_695_040_888_963_407);
-        assert_drawn(&rt, &mut core, &mut extents, &mut blocks, (seed >> 33) as usize);
+        assert_drawn(
+            &rt,
+            &mut core,
+            &mut extents,
+            &mut blocks,
+            (seed >> 33) as usize,
+        );
     }
     for block in &blocks {
         give(&rt, &mut core, block);
