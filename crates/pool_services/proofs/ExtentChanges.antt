@@ -205,13 +205,16 @@ given-told es i c x y a (e, h, b, n) s d =
       λ k. ap (λ (z : Extent). extent_type k (set es i z)) d ∙ set-type k es i x (with_blocks (without_block c x.blocks) x) g refl refl,
     )
 
-pub are-given : (es : List Extent) (i c : ℕ) (x y : Extent) → AreExtents es → IsGivable i c es → x ≡ slice_index_or es i x → y ≡ with_blocks (without_block c x.blocks) x → AreExtents (set es i y)
-are-given es i c x y a (e, h, b, n) s d =
+pub is-left : (es : List Extent) (i c : ℕ) (x y : Extent) → AreExtents es → IsGivable i c es → x ≡ slice_index_or es i x → y ≡ with_blocks (without_block c x.blocks) x → IsExtent y
+is-left es i c x y a (e, h, b, n) s d =
     let g : IsAt es i x = (h.0, s) in
     let same : e ≡ x = same-at es i e x h g in
     let bx : is_some (block_at c x.blocks) ≡ true = subst (λ (z : Extent). is_some (block_at c z.blocks) ≡ true) same b in
     let nx : length x.blocks ≡ 1 → ⊥ = subst (λ (z : Extent). length z.blocks ≡ 1 → ⊥) same n in
-    are-set es i x y a g (subst IsExtent (sym d) (is-given x c (is-extent es i x a g) (omega (arith, nx, count-without c x.blocks bx)))) (ap (λ (z : Extent). z.first) d) (ap (λ (z : Extent). z.pages) d)
+    subst IsExtent (sym d) (is-given x c (is-extent es i x a g) (omega (arith, nx, count-without c x.blocks bx)))
+
+pub are-given : (es : List Extent) (i c : ℕ) (x y : Extent) → AreExtents es → IsGivable i c es → x ≡ slice_index_or es i x → y ≡ with_blocks (without_block c x.blocks) x → AreExtents (set es i y)
+are-given es i c x y a k s d = let (e, h, b, n) = k in are-set es i x y a (h.0, s) (is-left es i c x y a k s d) (ap (λ (z : Extent). z.first) d) (ap (λ (z : Extent). z.pages) d)
 
 pub freed-in : (b : Book) (es : List Extent) (address i c : ℕ) (new : List Extent) → IsFound address es (Some (i, c)) → IsGivenIn i c es new → FreesPool b es address (Ok tt) b new
 freed-in b es address i c new (e, h, k, p, a) (x, g, n, d, o) =

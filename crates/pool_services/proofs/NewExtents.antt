@@ -57,6 +57,11 @@ Started m t size placed = IsBestChoice m (pool_request t (pages_for size)) (plac
 started : {A : Type 0} (m : List Page) (t size pages : ℕ) (placed : Placed A) → pages ≡ pages_for size → IsChosenPlace IsBestChoice m (pool_request t pages) placed → Started m t size placed
 started m t size pages placed p h = subst (λ (n : ℕ). IsBestChoice m (pool_request t n) (placed.address / page_size) placed.certificate × (placed.address ≡ (placed.address / page_size) * page_size)) p (is-start m t pages placed h)
 
+pub is-made : {A : Type 0} (m : List Page) (e : Extent) (t size pages : ℕ) (placed : Placed A) → size ≤ max_size → pages ≡ pages_for size → IsChosenPlace IsBestChoice m (pool_request t pages) placed → e ≡ new_extent (placed.address / page_size) t size → IsExtent e
+is-made m e t size pages placed s p h n =
+    let c = started m t size pages placed p h in
+    subst IsExtent (sym n) (is-new-extent IsBestChoice best_is_permitted m t size (placed.address / page_size) placed.certificate s c.0).0
+
 -- the extents, with the new one, stand together
 pub is-new-extents : {A : Type 0} (m : List Page) (es had new : List Extent) (e : Extent) (t size pages : ℕ) (placed : Placed A) → size ≤ max_size → pages ≡ pages_for size → AreExtents es → OwnsExtents m es → IsProperMemory m →
     IsChosenPlace IsBestChoice m (pool_request t pages) placed → had ≡ es → e ≡ new_extent (placed.address / page_size) t size → new ≡ with_extent e had → AreExtents new

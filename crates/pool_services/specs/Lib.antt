@@ -1,4 +1,5 @@
 pub mod Extents
+pub mod Rooms
 pub mod PoolRules
 pub mod Laws
 pub mod Searches

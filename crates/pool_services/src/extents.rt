@@ -1,9 +1,11 @@
 //! An extent of the pool with its region of memory.
 ghost use Rattle.std.specs.Prelude.{◌≡◌, ◌+◌, ◌<◌, ◌≤◌, ◌↔◌, ◌^◌, [], length, is_some, option_map, true, IsTrue, MatchOption};
-ghost use Rattle.raw_pool.specs.Blocks.{block_at, cells_for, longest_run, lowest_fit, new_block, with_block, without_block};
+ghost use Rattle.raw_pool.specs.Blocks.{block_at, cells_for, lowest_fit, new_block, with_block, without_block};
 ghost use Rattle.pool_services.specs.Extents.{IsExtent, address_of, cell_of, cells_in, max_size, new_extent, pages_for, tail_in, with_blocks};
+ghost use Rattle.pool_services.specs.Rooms.{room_of};
 ghost use Rattle.pool_services.specs.Searches.{HasRoom, HoldsAddress, IsLastUpTo, IsLocated, written_if};
 
+use crate::rooms::Room;
 use page_ranges::{MemoryType, PAGE_SIZE, PageRange};
 use raw_pool::RawPool;
 use std::alloc::Allocator;
@@ -12,7 +14,7 @@ use std::marker::Model;
 /// The bytes of a cell.
 const CELL_SIZE: u64 = 32;
 
-/// The bytes of a cell that come before its block's.
+/// The bytes of a block's first cell that come before its own.
 pub(crate) const HEADER_SIZE: u64 = 8;
 
 /// The cells of a page.
@@ -23,7 +25,7 @@ pub(crate) fn cells_for(size: usize) -> usize
     requires { size ≤ max_size }
     ensures { result ≡ cells_for size }
 {
-    (size + 39) / 32
+    (size + HEADER_SIZE as usize + (CELL_SIZE as usize - 1)) / CELL_SIZE as usize
 }
 
 /// The fewest pages that hold a block of a size.
@@ -33,7 +35,7 @@ pub(crate) fn pages_for(size: usize) -> usize
     ensures some { 0 < result }
     ensures few { result ≤ 2 ^ 21 }
 {
-    (cells_for(size) + 127) / PAGE_CELLS
+    (cells_for(size) + (PAGE_CELLS - 1)) / PAGE_CELLS
 }
 
 /// Some pages of one type and the blocks in them.
@@ -44,20 +46,17 @@ pub(crate) struct PoolExtent<A: Allocator> {
     region: RawPool<A>,
     // How many blocks there are.
     live: usize,
-    // How many cells the longest run of free cells has.
-    longest: usize,
 }
 
 impl<A: Allocator> Model for PoolExtent<A> {
     ghost use Rattle.std.specs.Prelude.{◌≡◌, length};
-    ghost use Rattle.raw_pool.specs.Blocks.{longest_run};
     ghost use Rattle.pool_services.specs.Extents.{Extent, cells_in};
 
     ghost Value = { Extent };
 
     ghost view = { λ e. record { first = e.range.first; pages = e.range.pages; mtype = e.mtype; blocks = e.region.blocks } };
 
-    ghost invariant = { λ e. (e.region.cells ≡ cells_in e.range.pages) × (e.live ≡ length e.region.blocks) × (e.longest ≡ longest_run e.region.cells 0 e.region.blocks) };
+    ghost invariant = { λ e. (e.region.cells ≡ cells_in e.range.pages) × (e.live ≡ length e.region.blocks) };
 }
 
 impl<A: Allocator + Copy> PoolExtent<A> {
@@ -77,13 +76,11 @@ impl<A: Allocator + Copy> PoolExtent<A> {
         if region.take(size).is_none() {
             unreachable!();
         }
-        let longest = region.longest_free();
         PoolExtent {
             range: PageRange { first, pages },
             mtype,
             region,
             live: 1,
-            longest,
         }
     }
 
@@ -95,18 +92,15 @@ impl<A: Allocator + Copy> PoolExtent<A> {
         self.range
     }
 
-    /// The type of the pages.
-    pub(crate) fn mtype(&self) -> MemoryType
-        ensures { result ≡ self.now.mtype }
+    /// The type of the pages, and how many cells the longest run of free cells has.
+    pub(crate) fn room(&self) -> Room
+        requires { IsExtent self.now }
+        ensures { result ≡ room_of self.now }
     {
-        self.mtype
-    }
-
-    /// How many cells the longest run of free cells has.
-    pub(crate) fn longest(&self) -> usize
-        ensures { result ≡ longest_run (cells_in self.now.pages) 0 self.now.blocks }
-    {
-        self.longest
+        Room {
+            mtype: self.mtype,
+            longest: self.region.longest_free() as u32,
+        }
     }
 
     /// Whether there is just one block.
@@ -124,7 +118,6 @@ impl<A: Allocator + Copy> PoolExtent<A> {
     {
         let cell = self.region.take(size)?;
         self.live += 1;
-        self.longest = self.region.longest_free();
         Some(cell)
     }
 
@@ -136,7 +129,6 @@ impl<A: Allocator + Copy> PoolExtent<A> {
     {
         if self.region.give(cell) {
             self.live -= 1;
-            self.longest = self.region.longest_free();
         }
     }
 

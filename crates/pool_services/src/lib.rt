@@ -5,6 +5,7 @@ mod extents;
 mod laws;
 mod pools;
 mod room;
+mod rooms;
 mod searches;
 
 pub use laws::{

@@ -7,7 +7,8 @@ ghost use Rattle.pool_services.specs.PoolRules.{AllocatesPool, FreesPool, OwnsEx
 ghost use Rattle.pool_services.specs.Searches.{IsEnded, IsFound, IsGivable, IsGivenIn, IsHolder, IsTakenIn, IsTakenLive, IsWrittenIn};
 
 use crate::extents::{HEADER_SIZE, PoolExtent, cells_for, pages_for};
-use crate::searches::{add, first_with_room, holder};
+use crate::rooms::Rooms;
+use crate::searches::{add, holder};
 use page_ranges::{MemoryType, PAGE_SIZE, Status, type_for_alloc};
 use page_services::{PageBook, pool_request};
 use placement_certificate::{Certificate, Request};
@@ -37,17 +38,20 @@ pub fn extent_request(mtype: MemoryType, size: u64) -> Option<Request>
 pub struct Pools<A: Allocator = Global> {
     alloc: A,
     extents: Vec<PoolExtent<A>, A>,
+    // What a search for room asks of each extent.
+    rooms: Rooms<A>,
 }
 
 impl<A: Allocator> Model for Pools<A> {
-    ghost use Rattle.std.specs.Prelude.{List};
+    ghost use Rattle.std.specs.Prelude.{◌≡◌, List, map};
     ghost use Rattle.pool_services.specs.Extents.{AreExtents, Extent};
+    ghost use Rattle.pool_services.specs.Rooms.{room_of};
 
     ghost Value = { List Extent };
 
     ghost view = { λ p. p.extents.items };
 
-    ghost invariant = { λ p. AreExtents p.extents.items };
+    ghost invariant = { λ p. AreExtents p.extents.items × (p.rooms.rooms.items ≡ map room_of p.extents.items) };
 }
 
 impl<A: Allocator + Copy> Pools<A> {
@@ -58,6 +62,7 @@ impl<A: Allocator + Copy> Pools<A> {
         Pools {
             alloc,
             extents: Vec::new(alloc),
+            rooms: Rooms::new(alloc),
         }
     }
 
@@ -94,7 +99,7 @@ impl<A: Allocator + Copy> Pools<A> {
         requires { size ≤ max_size }
         ensures { IsTakenLive mtype size self.old result self.new }
     {
-        let at = first_with_room(self.extents.as_slice(), mtype, cells_for(size))?;
+        let at = self.rooms.first(mtype, cells_for(size))?;
         self.take_in(at, size)
     }
 
@@ -106,7 +111,9 @@ impl<A: Allocator + Copy> Pools<A> {
     {
         let extent = &mut self.extents[at];
         let cell = extent.take(size)?;
-        Some(extent.address_of(cell))
+        let address = extent.address_of(cell);
+        self.rooms.set(at, extent.room());
+        Some(address)
     }
 
     // Takes a block in a new extent. All memory is taken before the pages.
@@ -131,6 +138,9 @@ impl<A: Allocator + Copy> Pools<A> {
         let Ok(()) = self.extents.reserve(1) else {
             return Err(Status::OutOfResources);
         };
+        let Ok(()) = self.rooms.reserve_one() else {
+            return Err(Status::OutOfResources);
+        };
         // That the book's memory is proper is known of its table's length.
         let _ = book.table().len();
         let Ok(placed) = book.take_for_pool(mtype, pages as u64) else {
@@ -138,7 +148,7 @@ impl<A: Allocator + Copy> Pools<A> {
         };
         let first = placed.address / PAGE_SIZE;
         let extent = PoolExtent::with_block(first, mtype, region, pages as u64, size);
-        add(&mut self.extents, extent);
+        add(&mut self.extents, &mut self.rooms, extent);
         Ok((placed.address + HEADER_SIZE, placed.certificate))
     }
 
@@ -147,7 +157,9 @@ impl<A: Allocator + Copy> Pools<A> {
         requires { IsGivable at cell self.old }
         ensures { IsGivenIn at cell self.old self.new }
     {
-        self.extents[at].give(cell);
+        let extent = &mut self.extents[at];
+        extent.give(cell);
+        self.rooms.set(at, extent.room());
     }
 
     // Ends an extent: its pages are given back.
@@ -160,6 +172,7 @@ impl<A: Allocator + Copy> Pools<A> {
     {
         book.give_from_pool(self.extents[at].range())?;
         self.extents.remove(at);
+        self.rooms.remove(at);
         Ok(())
     }
 

@@ -1,11 +1,13 @@
-//! Finding an extent, and room among extents.
-ghost use Rattle.std.specs.Prelude.{◌≡◌, ◌<◌, ◌≤◌, nat_le, nat_lt, length, vec_len, vec_capacity};
-ghost use Rattle.pool_services.specs.Extents.{AreExtents, with_extent};
-ghost use Rattle.pool_services.specs.Searches.{IsFirstWithRoom, IsHolder, has_run, place};
+//! Finding an extent, and the place of a new one.
+ghost use Rattle.std.specs.Prelude.{◌≡◌, ◌<◌, ◌≤◌, nat_le, length, map, vec_len, vec_capacity};
+ghost use Rattle.pool_services.specs.Extents.{AreExtents, IsExtent, with_extent};
+ghost use Rattle.pool_services.specs.Rooms.{HasPlace, room_of};
+ghost use Rattle.pool_services.specs.Searches.{IsHolder, place};
 
 use crate::extents::{HEADER_SIZE, PoolExtent};
 use crate::room::insert_with_room;
-use page_ranges::{MemoryType, PAGE_SIZE};
+use crate::rooms::Rooms;
+use page_ranges::PAGE_SIZE;
 use std::alloc::Allocator;
 
 /// How many extents begin at or below a page.
@@ -42,35 +44,21 @@ pub(crate) fn holder<A: Allocator + Copy>(extents: &[PoolExtent<A>], address: u6
     }
 }
 
-/// Whether an extent is of a type and has so many free cells in a row.
-fn has_run<A: Allocator + Copy>(extent: &PoolExtent<A>, mtype: MemoryType, cells: usize) -> bool
-    ensures { result ≡ has_run mtype cells extent.now }
-{
-    extent.mtype() == mtype && cells <= extent.longest()
-}
-
-/// The first extent of a type that has so many free cells in a row.
-pub(crate) fn first_with_room<A: Allocator + Copy>(
-    extents: &[PoolExtent<A>],
-    mtype: MemoryType,
-    cells: usize,
-) -> Option<usize>
-    ensures { IsFirstWithRoom mtype cells extents.now result }
-{
-    for (at, extent) in extents.iter().enumerate() {
-        if has_run(extent, mtype, cells) {
-            return Some(at);
-        }
-    }
-    None
-}
-
-/// Puts an extent into its place, for which there is room.
-pub(crate) fn add<A: Allocator + Copy>(extents: &mut Vec<PoolExtent<A>, A>, extent: PoolExtent<A>)
+/// Puts an extent and its room into their place, for which there is memory.
+pub(crate) fn add<A: Allocator + Copy>(
+    extents: &mut Vec<PoolExtent<A>, A>,
+    rooms: &mut Rooms<A>,
+    extent: PoolExtent<A>,
+)
     requires order { AreExtents extents.old.items }
     requires room { vec_len extents.old < vec_capacity extents.old }
-    ensures { extents.new.items ≡ with_extent extent extents.old.items }
+    requires rooms { rooms.old.rooms.items ≡ map room_of extents.old.items }
+    requires place { HasPlace (vec_len rooms.old.rooms) (vec_capacity rooms.old.rooms) (vec_len rooms.old.bounds) }
+    requires extent { IsExtent extent }
+    ensures extents { extents.new.items ≡ with_extent extent extents.old.items }
+    ensures rooms { rooms.new.rooms.items ≡ map room_of extents.new.items }
 {
     let at = count_up_to(extents.as_slice(), extent.range().first);
+    rooms.insert(at, extent.room());
     insert_with_room(extents, at, extent);
 }

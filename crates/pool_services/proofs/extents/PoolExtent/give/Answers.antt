@@ -7,4 +7,4 @@ pub invariant_of-self : goal.invariant_of-self
 invariant_of-self g c =
     let p = c.give.ensures.pool in
     let n = count-without c.args.cell c.self.inside.region.blocks (sym (c.if-give.ensures.given)) in
-    (ap (λ (p : Pool). p.cells) p ∙ c.self.invariant.0, rw p (omega (arith, n, c.self.invariant.1)), c.longest_free-self-inside.ensures)
+    (ap (λ (p : Pool). p.cells) p ∙ c.self.invariant.0, rw p (omega (arith, n, c.self.invariant.1)))

@@ -13,4 +13,4 @@ pub invariant_of-self-2 : goal.invariant_of-self-2
 invariant_of-self-2 g c =
     let p = c.in_ok-cell.ensures.pool in
     let n = count-with (new_block c.in_ok-cell.cell c.args.size) c.self.inside.region.blocks in
-    (ap (λ (p : Pool). p.cells) p ∙ c.self.invariant.0, rw p (omega (arith, n, c.self.invariant.1)), c.longest_free-self-inside.ensures)
+    (ap (λ (p : Pool). p.cells) p ∙ c.self.invariant.0, rw p (omega (arith, n, c.self.invariant.1)))

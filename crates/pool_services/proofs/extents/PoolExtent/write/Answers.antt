@@ -6,7 +6,7 @@ pub invariant_of-self : goal.invariant_of-self
 invariant_of-self g c =
     let k = written-kept c.write.result c.in-Some.cell c.in-Some.at c.args.bytes.now c.self.inside.region in
     let i = c.self.invariant in
-    rw c.write.ensures.pool (k.0 ∙ i.0, i.1 ∙ sym k.1, i.2 ∙ sym k.2)
+    rw c.write.ensures.pool (k.0 ∙ i.0, i.1 ∙ sym k.1)
 
 pub returns-in-Some-clause-written : goal.returns-in-Some-clause-written
 returns-in-Some-clause-written g c =

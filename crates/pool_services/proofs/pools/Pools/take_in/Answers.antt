@@ -4,32 +4,40 @@ use Rattle.pool_services.specs.Extents.{Extent, IsExtent, cells_in}
 use Rattle.pool_services.proofs.CellBlocks.{fit-within}
 use Rattle.pool_services.proofs.ExtentLists.{is-extent}
 use Rattle.pool_services.proofs.ExtentChanges.{is-taken, taken-none, taken-some, are-taken}
+use Rattle.pool_services.proofs.RoomLists.{rooms-set}
 use Rattle.pool_services.proofs.pools.Pools.take_in.Goals as goal
 
 pub take-requires : goal.take-requires
 take-requires g c =
-    is-extent c.self.inside.extents.items c.args.at c.index_mut-extent.result.now c.self.invariant (rw (← c.self.view_is) at c.requires.index, c.index_mut-extent.ensures.value)
+    is-extent c.self.inside.extents.items c.args.at c.index_mut-extent.result.now c.self.invariant.0 (rw (← c.self.view_is) at c.requires.index, c.index_mut-extent.ensures.value)
 
 pub returns-in_err-cell : goal.returns-in_err-cell
 returns-in_err-cell g c =
     rw (c.from_residual.ensures, ← c.self.view_is) (taken-none c.self.inside.extents.items c.args.at c.args.size c.index_mut-extent.result.now c.take.new.self (rw (← c.self.view_is) at c.requires.index, c.index_mut-extent.ensures.value) (c.in_err-cell.ensures.extent) (c.in_err-cell.ensures.cell))
 
-pub address_of-requires-clause-extent : goal.address_of-requires-clause-extent
-address_of-requires-clause-extent g c =
-    let x = is-extent c.self.inside.extents.items c.args.at c.index_mut-extent.result.now c.self.invariant (rw (← c.self.view_is) at c.requires.index, c.index_mut-extent.ensures.value) in
+pub address_of-address-requires-clause-extent : goal.address_of-address-requires-clause-extent
+address_of-address-requires-clause-extent g c =
+    let x = is-extent c.self.inside.extents.items c.args.at c.index_mut-extent.result.now c.self.invariant.0 (rw (← c.self.view_is) at c.requires.index, c.index_mut-extent.ensures.value) in
     subst IsExtent (sym (c.in_ok-cell.ensures.extent)) (is-taken c.index_mut-extent.result.now c.args.size c.in_ok-cell.cell x (sym (c.in_ok-cell.ensures.cell)))
 
-pub address_of-requires-clause-cell : goal.address_of-requires-clause-cell
-address_of-requires-clause-cell g c =
-    let x = is-extent c.self.inside.extents.items c.args.at c.index_mut-extent.result.now c.self.invariant (rw (← c.self.view_is) at c.requires.index, c.index_mut-extent.ensures.value) in
+pub address_of-address-requires-clause-cell : goal.address_of-address-requires-clause-cell
+address_of-address-requires-clause-cell g c =
+    let x = is-extent c.self.inside.extents.items c.args.at c.index_mut-extent.result.now c.self.invariant.0 (rw (← c.self.view_is) at c.requires.index, c.index_mut-extent.ensures.value) in
     let f = fit-within (cells_in c.index_mut-extent.result.now.pages) (cells_for c.args.size) 0 c.in_ok-cell.cell c.index_mut-extent.result.now.blocks x.blocks (sym (c.in_ok-cell.ensures.cell)) in
     let p = ap (λ (e : Extent). e.pages) (c.in_ok-cell.ensures.extent) in
     omega (arith, f.1, p)
 
+pub room-requires : goal.room-requires
+room-requires g c =
+    let x = is-extent c.self.inside.extents.items c.args.at c.index_mut-extent.result.now c.self.invariant.0 (rw (← c.self.view_is) at c.requires.index, c.index_mut-extent.ensures.value) in
+    subst IsExtent (sym (c.in_ok-cell.ensures.extent)) (is-taken c.index_mut-extent.result.now c.args.size c.in_ok-cell.cell x (sym (c.in_ok-cell.ensures.cell)))
+
 pub invariant_of-self-2 : goal.invariant_of-self-2
-invariant_of-self-2 g c =
-    are-taken c.self.inside.extents.items c.args.at c.args.size c.in_ok-cell.cell c.index_mut-extent.result.now c.take.new.self c.self.invariant (rw (← c.self.view_is) at c.requires.index, c.index_mut-extent.ensures.value) (c.in_ok-cell.ensures.extent) (c.in_ok-cell.ensures.cell)
+invariant_of-self-2 g c = (
+  are-taken c.self.inside.extents.items c.args.at c.args.size c.in_ok-cell.cell c.index_mut-extent.result.now c.take.new.self c.self.invariant.0 (rw (← c.self.view_is) at c.requires.index, c.index_mut-extent.ensures.value) (c.in_ok-cell.ensures.extent) (c.in_ok-cell.ensures.cell),
+  rooms-set c.self.inside.rooms.rooms.items c.set.new.self.rooms.items c.self.inside.extents.items c.args.at c.take.new.self c.room.result c.self.invariant.1 c.room.ensures c.set.ensures,
+)
 
 pub returns : goal.returns
 returns g c =
-    rw (c.address_of.ensures, ← c.self.view_is) (taken-some c.self.inside.extents.items c.args.at c.args.size c.in_ok-cell.cell c.index_mut-extent.result.now c.take.new.self c.self.invariant (rw (← c.self.view_is) at c.requires.index, c.index_mut-extent.ensures.value) (c.in_ok-cell.ensures.extent) (c.in_ok-cell.ensures.cell))
+    rw (c.address_of-address.ensures, ← c.self.view_is) (taken-some c.self.inside.extents.items c.args.at c.args.size c.in_ok-cell.cell c.index_mut-extent.result.now c.take.new.self c.self.invariant.0 (rw (← c.self.view_is) at c.requires.index, c.index_mut-extent.ensures.value) (c.in_ok-cell.ensures.extent) (c.in_ok-cell.ensures.cell))

@@ -3,7 +3,7 @@ use Rattle.page_ranges.specs.Memory.{IsProperMemory}
 use Rattle.page_services.specs.PageRules.{Book}
 use Rattle.pool_services.specs.Extents.{Extent, AreExtents}
 use Rattle.pool_services.specs.PoolRules.{OwnsExtents}
-use Rattle.pool_services.proofs.NewExtents.{is-new-extents, is-put, owns-new, refused}
+use Rattle.pool_services.proofs.NewExtents.{is-made, is-new-extents, is-put, owns-new, refused}
 use Rattle.pool_services.proofs.pools.Pools.take_new.Goals as goal
 
 pub returns-in_default-take_for_pool-clause-allocates : goal.returns-in_default-take_for_pool-clause-allocates
@@ -20,11 +20,17 @@ returns-in_default-take_for_pool-clause-owns g c =
     let e : c.reserve.new.self.items ≡ c.args.self.now = c.reserve.ensures.items ∙ c.self.view_is in
     subst (λ (x : Book). OwnsExtents x.memory c.reserve.new.self.items) (sym b) (subst (λ (es : List Extent). OwnsExtents c.args.book.now.memory es) (sym e) c.requires.owns)
 
+pub add-requires-clause-extent : goal.add-requires-clause-extent
+add-requires-clause-extent g c =
+    is-made c.args.book.now.memory c.with_block-extent.result c.args.mtype c.args.size c.pages_for-pages.result c.in-Ok-take_for_pool.placed c.requires.size c.pages_for-pages.ensures.pages (c.in-Ok-take_for_pool.ensures.0) c.with_block-extent.ensures
+
 pub invariant_of-self-2 : goal.invariant_of-self-2
-invariant_of-self-2 g c =
-    is-new-extents c.args.book.now.memory c.args.self.now c.reserve.new.self.items c.add.new.extents.items c.with_block-extent.result c.args.mtype c.args.size c.pages_for-pages.result c.in-Ok-take_for_pool.placed
-    c.requires.size c.pages_for-pages.ensures.pages (subst AreExtents c.self.view_is c.self.invariant) c.requires.owns (subst IsProperMemory c.table.ensures c.len.ensures.proper) (c.in-Ok-take_for_pool.ensures.0)
-    (c.reserve.ensures.items ∙ c.self.view_is) c.with_block-extent.ensures c.add.ensures
+invariant_of-self-2 g c = (
+  is-new-extents c.args.book.now.memory c.args.self.now c.reserve.new.self.items c.add.new.extents.items c.with_block-extent.result c.args.mtype c.args.size c.pages_for-pages.result c.in-Ok-take_for_pool.placed
+      c.requires.size c.pages_for-pages.ensures.pages (subst AreExtents c.self.view_is c.self.invariant.0) c.requires.owns (subst IsProperMemory c.table.ensures c.len.ensures.proper) (c.in-Ok-take_for_pool.ensures.0)
+      (c.reserve.ensures.items ∙ c.self.view_is) c.with_block-extent.ensures c.add.ensures.extents,
+  c.add.ensures.rooms,
+)
 
 pub returns-clause-allocates : goal.returns-clause-allocates
 returns-clause-allocates g c = (
@@ -32,11 +38,11 @@ returns-clause-allocates g c = (
   c.requires.size,
   is-put c.args.book.now c.take_for_pool.new.self c.args.self.now c.reserve.new.self.items c.add.new.extents.items c.with_block-extent.result c.args.mtype c.args.size c.pages_for-pages.result c.in-Ok-take_for_pool.placed
       c.requires.size c.pages_for-pages.ensures.pages c.requires.none (c.in-Ok-take_for_pool.ensures.0) (c.in-Ok-take_for_pool.ensures.1)
-      (c.reserve.ensures.items ∙ c.self.view_is) c.with_block-extent.ensures c.add.ensures,
+      (c.reserve.ensures.items ∙ c.self.view_is) c.with_block-extent.ensures c.add.ensures.extents,
 )
 
 pub returns-clause-owns : goal.returns-clause-owns
 returns-clause-owns g c =
     owns-new c.args.book.now c.take_for_pool.new.self c.args.self.now c.reserve.new.self.items c.add.new.extents.items c.with_block-extent.result c.args.mtype c.args.size c.pages_for-pages.result c.in-Ok-take_for_pool.placed
     c.requires.size c.pages_for-pages.ensures.pages c.requires.owns (subst IsProperMemory c.table.ensures c.len.ensures.proper) (c.in-Ok-take_for_pool.ensures.0) (c.in-Ok-take_for_pool.ensures.1)
-    (c.reserve.ensures.items ∙ c.self.view_is) c.with_block-extent.ensures c.add.ensures
+    (c.reserve.ensures.items ∙ c.self.view_is) c.with_block-extent.ensures c.add.ensures.extents

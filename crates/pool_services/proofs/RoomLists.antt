@@ -1,0 +1,111 @@
+-- The rooms of extents, through what the calls do to these.
+use Rattle.std.proofs.Common.{◌≡◌, ℕ, zero, suc, ◌+◌, ◌-◌, ◌≤◌, add-one, max, Bool, true, false, cond, List, [], ◌∷◌, ◌++◌, length, map, take, drop, set, Option, Some, None, refl, sym, ap, ◌∙◌, arith, subst}
+use Rattle.std.specs.List.{AllByRecursion, insert}
+use Rattle.std.proofs.lemmas.List.{map-set}
+use Rattle.raw_pool.specs.Bytes.{put}
+use Rattle.raw_pool.specs.Blocks.{Block, cells_for, end_of, longest_run}
+use Rattle.pool_services.specs.declared.rooms.Room.{Room}
+use Rattle.pool_services.specs.Extents.{Extent, AreBlocks, address_of, cells_in, is_within, written_in}
+use Rattle.pool_services.specs.Searches.{IsAt, IsFirstWithRoom, has_run, written_if}
+use Rattle.pool_services.specs.Rooms.{IsFirstServing, IsRoomAt, NoneServes, room_of, serves}
+
+-- ---- how long a run is
+
+from-within : (cells from : ℕ) (bs : List Block) → AreBlocks cells from bs → from ≤ cells
+from-within cells from [] h = h
+from-within cells from (b ∷ bs) h = omega (arith, h.0, from-within cells (end_of b) bs h.2)
+
+pub longest-within : (cells from : ℕ) (bs : List Block) → AreBlocks cells from bs → longest_run cells from bs ≤ cells
+longest-within cells from [] h = omega arith
+longest-within cells from (b ∷ bs) h = omega (arith, longest-within cells (end_of b) bs h.2, from-within cells (end_of b) bs h.2)
+
+longest-case : (w : Bool) (cells from : ℕ) (bytes : List ℕ) (b : Block) (bs ws : List Block) → longest_run cells (end_of b) ws ≡ longest_run cells (end_of b) bs →
+    longest_run cells from (cond w (record { first = b.first; size = b.size; bytes = bytes } ∷ bs) (b ∷ ws)) ≡ longest_run cells from (b ∷ bs)
+longest-case true cells from bytes b bs ws e = refl
+longest-case false cells from bytes b bs ws e = ap (λ (n : ℕ). max (b.first - from) n) e
+
+longest-written-in : (cells from first address : ℕ) (bytes : List ℕ) (bs : List Block) → longest_run cells from (written_in first address bytes bs) ≡ longest_run cells from bs
+longest-written-in cells from first address bytes [] = refl
+longest-written-in cells from first address bytes (b ∷ bs) =
+    longest-case (is_within first address b) cells from (put b.bytes (address - address_of first b.first) bytes) b bs (written_in first address bytes bs) (longest-written-in cells (end_of b) first address bytes bs)
+
+abbrev room : ℕ → ℕ → Room
+room t n = record { mtype = t; longest = n }
+
+pub room-written : (done : Bool) (address : ℕ) (bytes : List ℕ) (e : Extent) → room_of (written_if done address bytes e) ≡ room_of e
+room-written true address bytes e = ap (λ (n : ℕ). room e.mtype n) (longest-written-in (cells_in e.pages) 0 e.first address bytes e.blocks)
+room-written false address bytes e = refl
+
+-- ---- the first that serves
+
+none-told : (t cells : ℕ) (es : List Extent) (n : ℕ) → NoneServes t cells (map room_of es) 0 n → AllByRecursion (λ (e : Extent). has_run t cells e ≡ false) (take n es)
+none-told t cells [] zero h = tt
+none-told t cells [] (suc n) h = tt
+none-told t cells (e ∷ es) zero h = tt
+none-told t cells (e ∷ es) (suc n) h = (
+  h 0 (room_of e) (omega arith) (omega arith) (omega arith, refl),
+  none-told t cells es n (λ k q l u r. h (suc k) q (omega arith) (omega (arith, u)) (omega (arith, r.0), r.1)),
+)
+
+all-told : (t cells : ℕ) (es : List Extent) → NoneServes t cells (map room_of es) 0 (length (map room_of es)) → AllByRecursion (λ (e : Extent). has_run t cells e ≡ false) es
+all-told t cells [] h = tt
+all-told t cells (e ∷ es) h = (
+  h 0 (room_of e) (omega arith) (omega arith) (omega arith, refl),
+  all-told t cells es (λ k q l u r. h (suc k) q (omega arith) (omega (arith, u)) (omega (arith, r.0), r.1)),
+)
+
+extent-at : (es : List Extent) (i : ℕ) (r : Room) → IsRoomAt (map room_of es) i r → (e : Extent) × IsAt es i e × (room_of e ≡ r)
+extent-at [] i r h = absurd (omega (arith, h.0))
+extent-at (e ∷ es) zero r h = (e, (omega arith, refl), sym h.1)
+extent-at (e ∷ es) (suc i) r h = let (x, a, q) = extent-at es i r (omega (arith, h.0), h.1) in (x, (omega (arith, a.0), a.1), q)
+
+told : (t cells : ℕ) (es : List Extent) (o : Option ℕ) → IsFirstServing t cells (map room_of es) 0 (length (map room_of es)) o → IsFirstWithRoom t cells es o
+told t cells es None h = all-told t cells es h
+told t cells es (Some i) (r, a, s, n) =
+    let (e, x, q) = extent-at es i r a in
+    (e, x, ap (λ (z : Room). serves t cells z) q ∙ s, none-told t cells es i n)
+
+pub first-told : (t size cells : ℕ) (o : Option ℕ) (rs : List Room) (es : List Extent) → rs ≡ map room_of es → cells ≡ cells_for size → IsFirstServing t cells rs 0 (length rs) o → IsFirstWithRoom t (cells_for size) es o
+first-told t size cells o rs es e c h =
+    told t (cells_for size) es o (subst (λ (zs : List Room). IsFirstServing t (cells_for size) zs 0 (length zs) o) e (subst (λ (k : ℕ). IsFirstServing t k rs 0 (length rs) o) c h))
+
+pub first-none : (t size cells : ℕ) (rs : List Room) (es : List Extent) → rs ≡ map room_of es → cells ≡ cells_for size → IsFirstServing t cells rs 0 (length rs) None → IsFirstWithRoom t (cells_for size) es None
+first-none t size cells rs es e c h = first-told t size cells None rs es e c h
+
+pub first-some : (t size cells i : ℕ) (rs : List Room) (es : List Extent) → rs ≡ map room_of es → cells ≡ cells_for size → IsFirstServing t cells rs 0 (length rs) (Some i) → IsFirstWithRoom t (cells_for size) es (Some i)
+first-some t size cells i rs es e c h = first-told t size cells (Some i) rs es e c h
+
+-- ---- one changes, comes or goes
+
+pub rooms-set : (rs new : List Room) (es : List Extent) (i : ℕ) (y : Extent) (r : Room) → rs ≡ map room_of es → r ≡ room_of y → new ≡ set rs i r → new ≡ map room_of (set es i y)
+rooms-set rs new es i y r e q n =
+    n ∙ ap (λ (z : Room). set rs i z) q ∙ ap (λ (zs : List Room). set zs i (room_of y)) e ∙ sym (map-set room_of es i y)
+
+set-alike : (es : List Extent) (i : ℕ) (x y : Extent) → IsAt es i x → room_of y ≡ room_of x → map room_of (set es i y) ≡ map room_of es
+set-alike [] i x y h q = refl
+set-alike (e ∷ es) zero x y h q = ap (λ (r : Room). r ∷ map room_of es) (q ∙ ap room_of h.1)
+set-alike (e ∷ es) (suc i) x y h q = ap (λ (rs : List Room). room_of e ∷ rs) (set-alike es i x y (omega (arith, h.0), h.1) q)
+
+pub rooms-written : (rs : List Room) (es : List Extent) (i : ℕ) (x y : Extent) (done : Bool) (address : ℕ) (bytes : List ℕ) → rs ≡ map room_of es → IsAt es i x → y ≡ written_if done address bytes x → rs ≡ map room_of (set es i y)
+rooms-written rs es i x y done address bytes e h w = e ∙ sym (set-alike es i x y h (ap room_of w ∙ room-written done address bytes x))
+
+gone : (es : List Extent) (i : ℕ) → take i (map room_of es) ++ drop (suc i) (map room_of es) ≡ map room_of (take i es ++ drop (suc i) es)
+gone [] zero = refl
+gone [] (suc i) = refl
+gone (e ∷ es) zero = refl
+gone (e ∷ es) (suc i) = ap (λ (rs : List Room). room_of e ∷ rs) (gone es i)
+
+pub rooms-gone : (rs new : List Room) (es left : List Extent) (i : ℕ) → rs ≡ map room_of es → new ≡ take i rs ++ drop (i + 1) rs → left ≡ take i es ++ drop (i + 1) es → new ≡ map room_of left
+rooms-gone rs new es left i e n l =
+    n ∙ ap (λ (zs : List Room). take i zs ++ drop (i + 1) zs) e ∙ ap (λ (k : ℕ). take i (map room_of es) ++ drop k (map room_of es)) (add-one i) ∙ gone es i
+    ∙ ap (λ (ys : List Extent). map room_of ys) (sym (l ∙ ap (λ (k : ℕ). take i es ++ drop k es) (add-one i)))
+
+inserted : (es : List Extent) (i : ℕ) (e : Extent) → insert (map room_of es) i (room_of e) ≡ map room_of (insert es i e)
+inserted [] zero e = refl
+inserted [] (suc i) e = refl
+inserted (x ∷ xs) zero e = refl
+inserted (x ∷ xs) (suc i) e = ap (λ (rs : List Room). room_of x ∷ rs) (inserted xs i e)
+
+pub rooms-inserted : (rs new : List Room) (es more : List Extent) (i : ℕ) (e : Extent) (r : Room) → rs ≡ map room_of es → r ≡ room_of e → new ≡ insert rs i r → more ≡ insert es i e → new ≡ map room_of more
+rooms-inserted rs new es more i e r q s n m =
+    n ∙ ap (λ (z : Room). insert rs i z) s ∙ ap (λ (zs : List Room). insert zs i (room_of e)) q ∙ inserted es i e ∙ ap (λ (ys : List Extent). map room_of ys) (sym m)
