@@ -227,7 +227,7 @@ fn assert_drawn(
 /// Generated calls, after which all blocks are given back: then the memory map is what it was.
 #[test]
 fn generated_pool_calls(rt: HostRuntime) {
-    let (_, map) = maps()[0];
+    let (_, map) = maps().first().expect(&rt, "a map");
     let stretches = stretches_of(&rt, map);
     let mut core = core_of_stretches(&rt, stretches.as_slice());
     let entries = core.descriptors();

@@ -35,7 +35,7 @@ fn run(first: u64, pages: u64, number: u32, attributes: u64) -> Run
 }
 
 // Free memory with a hole, and runtime data in its upper part.
-fn machine_a() -> [Run; 4]
+pub fn machine_a() -> [Run; 4]
     ensures runs { AreRuns result }
     ensures proper { IsProperMemory (pages_of result) }
     ensures owns { OwnsExtents (pages_of result) [] }
