@@ -127,7 +127,7 @@ pool 4 24
         "bytes of either case, a number of hexadecimal digits, and reads at both ends",
         "pool 4 8
 write 0x7ff00A aBcD
-read 0X7FF008 0x8
+read 0x7Ff008 0x8
 read 0x7ff00f 1
 read 0x7ff010 0
 read 0x7ff010 1
@@ -195,8 +195,10 @@ fn pool_runs(rt: HostRuntime) {
 /// Blocks in the last page of all, up to its last byte.
 #[test]
 fn last_page_of_all(rt: HostRuntime) {
-    let machine = b"{\"memory\":[{\"type\":7,\"start\":\"0xfffffffffffff000\",\"pages\":1,\"attributes\":\"0xf\"}]}";
-    let trace = b"pool 4 4088\nwrite 0xffffffffffffffff 5a\nread 0xfffffffffffffffe 2\nread 0xffffffffffffffff 2\nread 0 0\npool 4 0\nfree-pool 0xfffffffffffff008\npool 4 4056\npool 4 0\nread 0xffffffffffffffe8 0\nread 0xffffffffffffffe9 0\n";
+    let machine =
+        b"{\"memory\":[{\"type\":7,\"start\":\"0xfffffffffffff000\",\"pages\":1,\"attributes\":\"0xf\"}]}";
+    let trace =
+        b"pool 4 4088\nwrite 0xffffffffffffffff 5a\nread 0xfffffffffffffffe 2\nread 0xffffffffffffffff 2\nread 0 0\npool 4 0\nfree-pool 0xfffffffffffff008\npool 4 4056\npool 4 0\nread 0xffffffffffffffe8 0\nread 0xffffffffffffffe9 0\n";
     let out = "1 pool SUCCESS address=0xfffffffffffff008
 2 write SUCCESS
 3 read SUCCESS bytes=005a
@@ -228,7 +230,9 @@ const FAULTS: [(&str, &str); 9] = [
 #[test]
 fn lines_that_are_no_pool_calls(rt: HostRuntime) {
     for (line, fault) in &FAULTS {
-        let text = format!(in rt.alloc(); "bootcore: trace line 1: {fault}\n").expect(&rt, "memory");
+        let text = format!(in rt.alloc(); "bootcore: trace line 1: {fault}\n").expect(
+            &rt, "memory",
+        );
         assert_stops(&rt, MACHINE.as_bytes(), line.as_bytes(), "", text.as_str());
     }
 }
@@ -238,10 +242,12 @@ fn lines_that_are_no_pool_calls(rt: HostRuntime) {
 fn longest_read_and_write(rt: HostRuntime) {
     let digits = "5a".repeat(rt.alloc(), 32_760).expect(&rt, "memory");
     let rest = "00".repeat(rt.alloc(), 32_776).expect(&rt, "memory");
-    let trace = format!(in rt.alloc(); "pool 4 65536\nwrite 0x7ef008 {digits}\nread 0x7ef008 65536\n")
-        .expect(&rt, "memory");
-    let out = format!(in rt.alloc(); "1 pool SUCCESS address=0x7ef008\n2 write SUCCESS\n3 read SUCCESS bytes={digits}{rest}\n")
-        .expect(&rt, "memory");
+    let trace = format!(in rt.alloc();
+        "pool 4 65536\nwrite 0x7ef008 {digits}\nread 0x7ef008 65536\n"
+    ).expect(&rt, "memory");
+    let out = format!(in rt.alloc();
+        "1 pool SUCCESS address=0x7ef008\n2 write SUCCESS\n3 read SUCCESS bytes={digits}{rest}\n"
+    ).expect(&rt, "memory");
     assert_prints(
         &rt,
         "the longest",
