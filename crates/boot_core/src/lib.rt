@@ -13,7 +13,8 @@ pub use calls::{Call, CallBytes, Reply};
 pub use certificates::{certified, may_be_certified};
 pub use core_state::Core;
 pub use laws::{
-    acceptance_law, any_run_law, any_step_law, key_count_law, key_law, last_bytes_law, map_growth_law,
-    map_step_law, pool_bytes_law, read_bytes_law, read_step_law, record_entries_law, sound_law,
+    acceptance_law, any_run_law, any_step_law, key_count_law, key_law, last_bytes_law,
+    map_growth_law, map_step_law, pool_bytes_law, read_bytes_law, read_step_law,
+    record_entries_law, sound_law,
 };
 pub use machines::Machine;
