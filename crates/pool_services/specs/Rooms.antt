@@ -1,12 +1,12 @@
--- What is kept of the extents beside them, so that room is found soon.
+-- What is kept of the extents beside them, so that room, or the extent of an address, is found soon.
 use Rattle.std.specs.Prelude.{◌≡◌, ℕ, ◌+◌, ◌-◌, ◌*◌, ◌/◌, ◌%◌, ◌≤◌, ◌<◌, ◌==◌, ◌&&◌, nat_le, slice_index, slice_index_or, Bool, true, false, List, length, Option, Some, None}
 use Rattle.raw_pool.specs.Blocks.{longest_run}
 use Rattle.pool_services.specs.declared.rooms.Room.{Room}
 use Rattle.pool_services.specs.Extents.{Extent, cells_in}
 
--- what is kept of an extent: its type, and how many cells its longest run of free cells has
+-- what is kept of an extent: its first page, its type, and how many cells its longest run of free cells has
 abbrev pub room_of : Extent → Room
-room_of e = record { mtype = e.mtype; longest = longest_run (cells_in e.pages) 0 e.blocks }
+room_of e = record { first = e.first; mtype = e.mtype; longest = longest_run (cells_in e.pages) 0 e.blocks }
 
 -- whether a room is of a type and has so many cells
 abbrev pub serves : ℕ → ℕ → Room → Bool

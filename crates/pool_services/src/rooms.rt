@@ -1,4 +1,4 @@
-//! The types of extents and their longest free runs, kept so that a search passes over most of them.
+//! What a search asks of each extent, kept in a row so that it looks at few of the extents themselves.
 ghost use Rattle.std.specs.Prelude.{◌≡◌, ℕ, ◌+◌, ◌*◌, ◌/◌, ◌%◌, ◌<◌, ◌≤◌, ◌^◌, [], set, take, drop, ◌++◌, length, min, slice_index, vec_len, vec_capacity, OnOk};
 ghost use Rattle.std.specs.List.{insert};
 ghost use Rattle.pool_services.specs.Rooms.{AreBounded, AreBoundedBut, Covers, HasPlace, IsFirstServing, IsRaised, IsRoomAt, KeepsBounds, class_of, serves, slot, stretch};
@@ -13,9 +13,10 @@ const STRETCH: usize = 128;
 /// How many bounds a stretch has, one for each class of types.
 const CLASSES: usize = 16;
 
-/// The type of an extent, and how many cells its longest run of free cells has.
+/// The first page of an extent, its type, and how many cells its longest run of free cells has.
 #[derive(Clone, Copy)]
 pub(crate) struct Room {
+    pub(crate) first: u64,
     pub(crate) mtype: MemoryType,
     pub(crate) longest: u32,
 }
