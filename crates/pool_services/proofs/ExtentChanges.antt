@@ -250,9 +250,9 @@ owns-given m i c es new owns (e, h, n, d, o) k = owns k ∙ sym (o k)
 
 -- ---- an extent more, and one less
 
-pub insert-at : (e : Extent) (es ys : List Extent) (n f : ℕ) → ys ≡ es → f ≡ e.first → n ≡ place (λ (x : Extent). nat_le x.first f) ys → insert es n e ≡ with_extent e es
-insert-at e es ys n f y q p =
-    ap (λ (k : ℕ). insert es k e) (p ∙ ap (λ (zs : List Extent). place (λ (x : Extent). nat_le x.first f) zs) y ∙ ap (λ (k : ℕ). place (λ (x : Extent). nat_le x.first k) es) q) ∙ insert-is e es
+pub insert-at : (e : Extent) (es : List Extent) (n f : ℕ) → f ≡ e.first → n ≡ place (λ (x : Extent). nat_le x.first f) es → insert es n e ≡ with_extent e es
+insert-at e es n f q p =
+    ap (λ (k : ℕ). insert es k e) (p ∙ ap (λ (k : ℕ). place (λ (x : Extent). nat_le x.first k) es) q) ∙ insert-is e es
 
 pub owned-range : (m : List Page) (es : List Extent) (i : ℕ) (e : Extent) (r : PageRange) → AreExtents es → OwnsExtents m es → IsAt es i e → r.first ≡ e.first → r.pages ≡ e.pages → AllInRange m r (IsOwnedBy Pool)
 owned-range m es i e r a owns h f p k l u = owned-extent m es i e a owns h k (omega (arith, f, l)) (omega (arith, f, p, u))

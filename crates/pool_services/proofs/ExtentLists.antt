@@ -28,16 +28,16 @@ all-map P Q f (x ∷ xs) a = (f x a.0, all-map P Q f xs a.1)
 -- ---- how many begin at or below a page
 
 -- once an item fails the test, all behind it do
-abbrev Falls : (Extent → Bool) → List Extent → Type 0
+abbrev pub Falls : {X : Type 0} → (X → Bool) → List X → Type 0
 Falls p [] = Unit {0}
 Falls p (x ∷ xs) = (p x ≡ false → AllByRecursion (λ y. p y ≡ false) xs) × Falls p xs
 
-all-get : (P : Extent → Type 0) (xs : List Extent) (i : ℕ) (d : Extent) → i < length xs → AllByRecursion P xs → P (get_or xs i d)
+all-get : {X : Type 0} (P : X → Type 0) (xs : List X) (i : ℕ) (d : X) → i < length xs → AllByRecursion P xs → P (get_or xs i d)
 all-get P [] i d l h = absurd (omega arith)
 all-get P (x ∷ xs) zero d l h = h.0
 all-get P (x ∷ xs) (suc i) d l h = all-get P xs i d (omega arith) h.1
 
-partitioned : (p : Extent → Bool) (xs : List Extent) → Falls p xs → IsPartitionedBy p xs
+pub partitioned : {X : Type 0} (p : X → Bool) (xs : List X) → Falls p xs → IsPartitionedBy p xs
 partitioned p [] f i j d le l h = absurd (omega arith)
 partitioned p (x ∷ xs) f zero zero d le l h = h
 partitioned p (x ∷ xs) f zero (suc j) d le l h = elim (cases_Bool (p x)) [
@@ -47,7 +47,7 @@ partitioned p (x ∷ xs) f zero (suc j) d le l h = elim (cases_Bool (p x)) [
 partitioned p (x ∷ xs) f (suc i) zero d le l h = absurd (omega arith)
 partitioned p (x ∷ xs) f (suc i) (suc j) d le l h = partitioned p xs f.1 i j d (omega arith) (omega arith) h
 
-falls : (page : ℕ) (es : List Extent) → AreExtents es → Falls (λ (e : Extent). nat_le e.first page) es
+pub falls : (page : ℕ) (es : List Extent) → AreExtents es → Falls (λ (e : Extent). nat_le e.first page) es
 falls page [] a = tt
 falls page (e ∷ es) a = (
   λ n. let l : page < e.first = leb-false e.first page n in
@@ -55,10 +55,7 @@ falls page (e ∷ es) a = (
   falls page es a.2,
 )
 
-pub parted : (page : ℕ) (es : List Extent) → AreExtents es → IsPartitionedBy (λ (e : Extent). nat_le e.first page) es
-parted page es a = partitioned (λ (e : Extent). nat_le e.first page) es (falls page es a)
-
-pub place-is : (p : Extent → Bool) (xs : List Extent) (i : ℕ) → i ≤ length xs → IsPartitionPoint (λ y. p y ≡ true) (λ y. p y ≡ false) xs i → i ≡ place p xs
+pub place-is : {X : Type 0} (p : X → Bool) (xs : List X) (i : ℕ) → i ≤ length xs → IsPartitionPoint (λ y. p y ≡ true) (λ y. p y ≡ false) xs i → i ≡ place p xs
 place-is p [] i l h = omega arith
 place-is p (x ∷ xs) zero l h = let e : p x ≡ false = h.1 0 x (omega arith) (omega arith) in rw e refl
 place-is p (x ∷ xs) (suc i) l h =

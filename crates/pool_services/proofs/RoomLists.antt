@@ -1,13 +1,15 @@
 -- The rooms of extents, through what the calls do to these.
-use Rattle.std.proofs.Common.{◌≡◌, ℕ, zero, suc, ◌+◌, ◌-◌, ◌≤◌, add-one, max, Bool, true, false, cond, List, [], ◌∷◌, ◌++◌, length, map, take, drop, set, Option, Some, None, refl, sym, ap, ◌∙◌, arith, subst}
+use Rattle.std.proofs.Common.{◌≡◌, ℕ, zero, suc, ◌+◌, ◌-◌, ◌≤◌, add-one, max, Bool, true, false, cond, List, [], ◌∷◌, ◌++◌, length, map, take, drop, set, Option, Some, None, refl, sym, ap, ◌∙◌, arith, subst, nat_le}
 use Rattle.std.specs.List.{AllByRecursion, insert}
-use Rattle.std.proofs.lemmas.List.{map-set}
+use Rattle.std.specs.List.Sorted.{IsPartitionedBy}
+use Rattle.std.proofs.lemmas.List.{length-map, map-set}
 use Rattle.raw_pool.specs.Bytes.{put}
 use Rattle.raw_pool.specs.Blocks.{Block, cells_for, end_of, longest_run}
 use Rattle.pool_services.specs.declared.rooms.Room.{Room}
-use Rattle.pool_services.specs.Extents.{Extent, AreBlocks, address_of, cells_in, is_within, written_in}
-use Rattle.pool_services.specs.Searches.{IsAt, IsFirstWithRoom, has_run, written_if}
+use Rattle.pool_services.specs.Extents.{Extent, AreBlocks, AreExtents, address_of, cells_in, is_within, written_in}
+use Rattle.pool_services.specs.Searches.{IsAt, IsFirstWithRoom, has_run, place, written_if}
 use Rattle.pool_services.specs.Rooms.{IsFirstServing, IsRoomAt, NoneServes, room_of, serves}
+use Rattle.pool_services.proofs.ExtentLists.{Falls, falls, partitioned}
 
 -- ---- how long a run is
 
@@ -29,12 +31,37 @@ longest-written-in cells from first address bytes [] = refl
 longest-written-in cells from first address bytes (b ∷ bs) =
     longest-case (is_within first address b) cells from (put b.bytes (address - address_of first b.first) bytes) b bs (written_in first address bytes bs) (longest-written-in cells (end_of b) first address bytes bs)
 
-abbrev room : ℕ → ℕ → Room
-room t n = record { mtype = t; longest = n }
+abbrev room : ℕ → ℕ → ℕ → Room
+room f t n = record { first = f; mtype = t; longest = n }
 
 pub room-written : (done : Bool) (address : ℕ) (bytes : List ℕ) (e : Extent) → room_of (written_if done address bytes e) ≡ room_of e
-room-written true address bytes e = ap (λ (n : ℕ). room e.mtype n) (longest-written-in (cells_in e.pages) 0 e.first address bytes e.blocks)
+room-written true address bytes e = ap (λ (n : ℕ). room e.first e.mtype n) (longest-written-in (cells_in e.pages) 0 e.first address bytes e.blocks)
 room-written false address bytes e = refl
+
+-- ---- how many begin at or below a page
+
+all-rooms : (P : Room → Type 0) (es : List Extent) → AllByRecursion (λ (e : Extent). P (room_of e)) es → AllByRecursion P (map room_of es)
+all-rooms P [] a = tt
+all-rooms P (e ∷ es) a = (a.0, all-rooms P es a.1)
+
+rooms-fall : (p : Room → Bool) (es : List Extent) → Falls (λ (e : Extent). p (room_of e)) es → Falls p (map room_of es)
+rooms-fall p [] f = tt
+rooms-fall p (e ∷ es) f = ((λ n. all-rooms (λ (r : Room). p r ≡ false) es (f.0 n)), rooms-fall p es f.1)
+
+pub rooms-parted : (page : ℕ) (rs : List Room) (es : List Extent) → AreExtents es → rs ≡ map room_of es → IsPartitionedBy (λ (r : Room). nat_le r.first page) rs
+rooms-parted page rs es a e =
+    subst (λ (zs : List Room). IsPartitionedBy (λ (r : Room). nat_le r.first page) zs) (sym e)
+    (partitioned (λ (r : Room). nat_le r.first page) (map room_of es) (rooms-fall (λ (r : Room). nat_le r.first page) es (falls page es a)))
+
+place-map : (p : Room → Bool) (es : List Extent) → place p (map room_of es) ≡ place (λ (e : Extent). p (room_of e)) es
+place-map p [] = refl
+place-map p (e ∷ es) = ap (λ (n : ℕ). cond (p (room_of e)) (suc n) 0) (place-map p es)
+
+pub rooms-place : (page : ℕ) (rs : List Room) (es : List Extent) → rs ≡ map room_of es → place (λ (r : Room). nat_le r.first page) rs ≡ place (λ (e : Extent). nat_le e.first page) es
+rooms-place page rs es e = ap (λ (zs : List Room). place (λ (r : Room). nat_le r.first page) zs) e ∙ place-map (λ (r : Room). nat_le r.first page) es
+
+pub rooms-within : (rs : List Room) (es : List Extent) (n : ℕ) → rs ≡ map room_of es → n ≤ length rs → n ≤ length es
+rooms-within rs es n e l = omega (arith, l, ap (λ (zs : List Room). length zs) e ∙ length-map es room_of)
 
 -- ---- the first that serves
 

@@ -1,12 +1,12 @@
--- What is kept of the extents beside them, so that room is found soon.
-use Rattle.std.specs.Prelude.{◌≡◌, ℕ, ◌+◌, ◌*◌, ◌/◌, ◌%◌, ◌≤◌, ◌<◌, ◌==◌, ◌&&◌, nat_le, slice_index, slice_index_or, Bool, true, false, List, length, Option, Some, None}
+-- What is kept of the extents beside them, so that room, or the extent of an address, is found soon.
+use Rattle.std.specs.Prelude.{◌≡◌, ℕ, ◌+◌, ◌-◌, ◌*◌, ◌/◌, ◌%◌, ◌≤◌, ◌<◌, ◌==◌, ◌&&◌, nat_le, slice_index, slice_index_or, Bool, true, false, List, length, Option, Some, None}
 use Rattle.raw_pool.specs.Blocks.{longest_run}
 use Rattle.pool_services.specs.declared.rooms.Room.{Room}
 use Rattle.pool_services.specs.Extents.{Extent, cells_in}
 
--- what is kept of an extent: its type, and how many cells its longest run of free cells has
+-- what is kept of an extent: its first page, its type, and how many cells its longest run of free cells has
 abbrev pub room_of : Extent → Room
-room_of e = record { mtype = e.mtype; longest = longest_run (cells_in e.pages) 0 e.blocks }
+room_of e = record { first = e.first; mtype = e.mtype; longest = longest_run (cells_in e.pages) 0 e.blocks }
 
 -- whether a room is of a type and has so many cells
 abbrev pub serves : ℕ → ℕ → Room → Bool
@@ -16,13 +16,17 @@ serves t cells r = (r.mtype == t) && nat_le cells r.longest
 abbrev pub IsRoomAt : List Room → ℕ → Room → Type 0
 IsRoomAt rs i r = (i < length rs) × (r ≡ slice_index_or rs i r)
 
+-- so many rooms in a row share bounds
+abbrev pub stretch : ℕ
+stretch = 128
+
 -- the class of a type, of 16
 abbrev pub class_of : ℕ → ℕ
 class_of t = t % 16
 
--- the place of the bound of a class of types in the stretch of 64 rooms that has an index
+-- the place of the bound of a class of types in the stretch that has an index
 abbrev pub slot : ℕ → ℕ → ℕ
-slot i class = 16 * (i / 64) + class
+slot i class = 16 * (i / stretch) + class
 
 -- the bound of a room is not too low
 abbrev pub IsBounded : List ℕ → ℕ → Room → Type 0
@@ -34,7 +38,7 @@ AreBounded rs bounds = (i : ℕ) (r : Room) → IsRoomAt rs i r → IsBounded bo
 
 -- The same of all rooms but those at an index and by stretches behind it.
 abbrev pub AreBoundedBut : ℕ → List Room → List ℕ → Type 0
-AreBoundedBut from rs bounds = (i : ℕ) (r : Room) → IsRoomAt rs i r → (from ≤ i → i % 64 ≡ from % 64 → ⊥) → IsBounded bounds i r
+AreBoundedBut from rs bounds = (i : ℕ) (r : Room) → IsRoomAt rs i r → (from ≤ i → i % stretch ≡ from % stretch → ⊥) → IsBounded bounds i r
 
 -- no bound is lower than it was
 abbrev pub KeepsBounds : List ℕ → List ℕ → Type 0
@@ -42,7 +46,7 @@ KeepsBounds old new = (k : ℕ) → slice_index old k ≤ slice_index new k
 
 -- there are bounds for so many rooms
 abbrev pub Covers : ℕ → ℕ → Type 0
-Covers bounds rooms = 16 * ((rooms + 63) / 64) ≤ bounds
+Covers bounds rooms = 16 * ((rooms + (stretch - 1)) / stretch) ≤ bounds
 
 -- none of the rooms from one index up to another serves
 abbrev pub NoneServes : ℕ → ℕ → List Room → ℕ → ℕ → Type 0

@@ -1,12 +1,14 @@
 -- What is found in an extent and among extents.
-use Rattle.std.specs.Prelude.{◌≡◌, ℕ, suc, ◌+◌, ◌==◌, ◌&&◌, take, ◌<◌, ◌≤◌, nat_le, slice_index_or, Bool, true, false, cond, is_some, List, [], ◌∷◌, length, drop, Option, Some, None, Result, Ok, Err, ◌≢◌, ◌++◌}
+use Rattle.std.specs.Prelude.{◌≡◌, ℕ, suc, ◌+◌, ◌==◌, ◌&&◌, take, ◌<◌, ◌≤◌, nat_le, slice_index_or, Bool, true, false, cond, is_some, List, [], ◌∷◌, length, drop, map, Option, Some, None, Result, Ok, Err, ◌≢◌, ◌++◌}
 use Rattle.std.specs.List.{AllByRecursion}
 use Rattle.raw_pool.specs.Blocks.{Block, block_at, longest_run}
 use Rattle.page_ranges.specs.declared.statuses.Status.{Status}
 use Rattle.page_ranges.specs.declared.statuses.Status.TheVariants.{OutOfResources}
 use Rattle.page_services.specs.PageRules.{Book, given_back}
+use Rattle.pool_services.specs.declared.rooms.Room.{Room}
 use Rattle.pool_services.specs.PoolRules.{IsInBlock, extent_type}
 use Rattle.pool_services.specs.Extents.{place_of, written, AreExtents, Extent, Place, ended, range_of, without, address_of, cells_in, first_fit, fit_in, with_new_block, tail_in, with_blocks, written_in}
+use Rattle.pool_services.specs.Rooms.{room_of}
 
 -- an address lies between the lowest that a block of the extent can have and the end of the last
 abbrev pub HoldsAddress : Extent → ℕ → Type 0
@@ -54,6 +56,10 @@ IsHolder es address (Some i) = (e : Extent) × IsAt es i e × HoldsAddress e add
 abbrev pub place : {X : Type 0} → (X → Bool) → List X → ℕ
 place p [] = 0
 place p (x ∷ xs) = cond (p x) (suc (place p xs)) 0
+
+-- how many extents in order begin at or below a page, told of their rooms
+abbrev pub IsCountUpTo : ℕ → List Room → ℕ → Type 0
+IsCountUpTo page rs n = (es : List Extent) → AreExtents es → rs ≡ map room_of es → n ≡ place (λ e. nat_le e.first page) es
 
 -- whether an extent is of a type and has so many free cells in a row
 abbrev pub has_run : ℕ → ℕ → Extent → Bool

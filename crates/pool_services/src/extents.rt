@@ -92,12 +92,13 @@ impl<A: Allocator + Copy> PoolExtent<A> {
         self.range
     }
 
-    /// The type of the pages, and how many cells the longest run of free cells has.
+    /// The first page, the type of the pages, and how many cells the longest run of free cells has.
     pub(crate) fn room(&self) -> Room
         requires { IsExtent self.now }
         ensures { result ≡ room_of self.now }
     {
         Room {
+            first: self.range.first,
             mtype: self.mtype,
             longest: self.region.longest_free() as u32,
         }

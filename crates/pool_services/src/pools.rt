@@ -38,7 +38,7 @@ pub fn extent_request(mtype: MemoryType, size: u64) -> Option<Request>
 pub struct Pools<A: Allocator = Global> {
     alloc: A,
     extents: Vec<PoolExtent<A>, A>,
-    // What a search for room asks of each extent.
+    // What a search asks of each extent.
     rooms: Rooms<A>,
 }
 
@@ -201,7 +201,7 @@ impl<A: Allocator + Copy> Pools<A> {
     fn find(&self, address: u64) -> Option<(usize, usize)>
         ensures { IsFound address self.now result }
     {
-        let at = holder(self.extents.as_slice(), address)?;
+        let at = holder(self.extents.as_slice(), &self.rooms, address)?;
         let cell = self.extents[at].cell_of(address)?;
         Some((at, cell))
     }
@@ -227,7 +227,7 @@ impl<A: Allocator + Copy> Pools<A> {
     pub fn write(&mut self, address: u64, bytes: &[u8]) -> Result<(), Status>
         ensures { WritesPool self.old address bytes.now result self.new }
     {
-        let Some(at) = holder(self.extents.as_slice(), address) else {
+        let Some(at) = holder(self.extents.as_slice(), &self.rooms, address) else {
             return Err(Status::InvalidParameter);
         };
         if self.write_in(at, address, bytes) {
@@ -251,7 +251,7 @@ impl<A: Allocator + Copy> Pools<A> {
     pub fn tail(&self, address: u64) -> Option<&[u8]>
         ensures { option_map (λ s. s.now) result ≡ tail_at address self.now }
     {
-        let at = holder(self.extents.as_slice(), address)?;
+        let at = holder(self.extents.as_slice(), &self.rooms, address)?;
         self.extents[at].tail(address)
     }
 }

@@ -1,21 +1,22 @@
-//! The types of extents and their longest free runs, kept so that a search passes over most of them.
+//! What a search asks of each extent, kept in a row so that it looks at few of the extents themselves.
 ghost use Rattle.std.specs.Prelude.{◌≡◌, ℕ, ◌+◌, ◌*◌, ◌/◌, ◌%◌, ◌<◌, ◌≤◌, ◌^◌, [], set, take, drop, ◌++◌, length, min, slice_index, vec_len, vec_capacity, OnOk};
 ghost use Rattle.std.specs.List.{insert};
-ghost use Rattle.pool_services.specs.Rooms.{AreBounded, AreBoundedBut, Covers, HasPlace, IsFirstServing, IsRaised, IsRoomAt, KeepsBounds, class_of, serves, slot};
+ghost use Rattle.pool_services.specs.Rooms.{AreBounded, AreBoundedBut, Covers, HasPlace, IsFirstServing, IsRaised, IsRoomAt, KeepsBounds, class_of, serves, slot, stretch};
 
 use crate::room::insert_with_room;
 use page_ranges::MemoryType;
 use std::alloc::{AllocError, Allocator};
 
 /// How many rooms in a row share bounds.
-const STRETCH: usize = 64;
+const STRETCH: usize = 128;
 
 /// How many bounds a stretch has, one for each class of types.
 const CLASSES: usize = 16;
 
-/// The type of an extent, and how many cells its longest run of free cells has.
+/// The first page of an extent, its type, and how many cells its longest run of free cells has.
 #[derive(Clone, Copy)]
 pub(crate) struct Room {
+    pub(crate) first: u64,
     pub(crate) mtype: MemoryType,
     pub(crate) longest: u32,
 }
@@ -95,11 +96,11 @@ fn first_in_stretch<A: Allocator>(
     mtype: MemoryType,
     cells: usize,
 ) -> Option<usize>
-    requires start { (start < length rooms.now) × (start % 64 ≡ 0) }
+    requires start { (start < length rooms.now) × (start % stretch ≡ 0) }
     requires covers { Covers (vec_len bounds.old) (length rooms.now) }
     requires bounded { AreBounded rooms.now bounds.old.items }
     requires few { length rooms.now < 2 ^ 63 }
-    ensures first { IsFirstServing mtype cells rooms.now start (min (start + 64) (length rooms.now)) result }
+    ensures first { IsFirstServing mtype cells rooms.now start (min (start + stretch) (length rooms.now)) result }
     ensures bounded { AreBounded rooms.now bounds.new.items }
     ensures len { vec_len bounds.new ≡ vec_len bounds.old }
 {
@@ -183,7 +184,7 @@ fn extend_bounds<A: Allocator>(bounds: &mut Vec<u32, A>, count: usize) -> Result
     bounds.resize(count, 0)
 }
 
-/// The rooms of extents, in their order. Stretches of 64 rooms have bounds, by which a search passes
+/// The rooms of extents, in their order. Stretches of 128 rooms have bounds, by which a search passes
 /// over those in which no room of a type is large enough.
 #[derive(Drop)]
 pub(crate) struct Rooms<A: Allocator> {

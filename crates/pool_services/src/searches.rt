@@ -2,37 +2,41 @@
 ghost use Rattle.std.specs.Prelude.{◌≡◌, ◌<◌, ◌≤◌, nat_le, length, map, vec_len, vec_capacity};
 ghost use Rattle.pool_services.specs.Extents.{AreExtents, IsExtent, with_extent};
 ghost use Rattle.pool_services.specs.Rooms.{HasPlace, room_of};
-ghost use Rattle.pool_services.specs.Searches.{IsHolder, place};
+ghost use Rattle.pool_services.specs.Searches.{IsCountUpTo, IsHolder};
 
 use crate::extents::{HEADER_SIZE, PoolExtent};
 use crate::room::insert_with_room;
-use crate::rooms::Rooms;
+use crate::rooms::{Room, Rooms};
 use page_ranges::PAGE_SIZE;
 use std::alloc::Allocator;
 
-/// How many extents begin at or below a page.
-pub(crate) fn count_up_to<A: Allocator + Copy>(extents: &[PoolExtent<A>], page: u64) -> usize
-    requires { AreExtents extents.now }
-    ensures place { result ≡ place (λ e. nat_le e.first page) extents.now }
-    ensures bound { result ≤ length extents.now }
+/// How many of the extents that have these rooms begin at or below a page.
+fn count_up_to(rooms: &[Room], page: u64) -> usize
+    ensures place { IsCountUpTo page rooms.now result }
+    ensures bound { result ≤ length rooms.now }
 {
-    extents.partition_point(
-        |e: &PoolExtent<A>| -> bool
-            ensures { result ≡ nat_le e.now.first page }
-        { e.range().first <= page },
+    rooms.partition_point(
+        |room: &Room| -> bool
+            ensures { result ≡ nat_le room.now.first page }
+        { room.first <= page },
     )
 }
 
 /// The extent in which a block with an address lies, if there is one.
-pub(crate) fn holder<A: Allocator + Copy>(extents: &[PoolExtent<A>], address: u64) -> Option<usize>
-    requires { AreExtents extents.now }
+pub(crate) fn holder<A: Allocator + Copy>(
+    extents: &[PoolExtent<A>],
+    rooms: &Rooms<A>,
+    address: u64,
+) -> Option<usize>
+    requires order { AreExtents extents.now }
+    requires rooms { rooms.now.rooms.items ≡ map room_of extents.now }
     ensures { IsHolder extents.now address result }
 {
     if address < HEADER_SIZE {
         return None;
     }
     let page = (address - HEADER_SIZE) / PAGE_SIZE;
-    let count = count_up_to(extents, page);
+    let count = count_up_to(rooms.rooms.as_slice(), page);
     if count == 0 {
         return None;
     }
@@ -58,7 +62,7 @@ pub(crate) fn add<A: Allocator + Copy>(
     ensures extents { extents.new.items ≡ with_extent extent extents.old.items }
     ensures rooms { rooms.new.rooms.items ≡ map room_of extents.new.items }
 {
-    let at = count_up_to(extents.as_slice(), extent.range().first);
+    let at = count_up_to(rooms.rooms.as_slice(), extent.range().first);
     rooms.insert(at, extent.room());
     insert_with_room(extents, at, extent);
 }

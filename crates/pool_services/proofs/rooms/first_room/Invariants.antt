@@ -1,10 +1,10 @@
 use Rattle.std.proofs.Common.{◌≡◌, ◌-◌, ◌%◌, length, vec_len}
-use Rattle.pool_services.specs.Rooms.{AreBounded, NoneServes}
+use Rattle.pool_services.specs.Rooms.{AreBounded, NoneServes, stretch}
 use Rattle.pool_services.proofs.rooms.first_room.Given as goal
 
 abbrev pub invariant-loop-start : goal.invariant-loop-start
 invariant-loop-start g l = record {
-  start : l.start % 64 ≡ 0;
+  start : l.start % stretch ≡ 0;
   none : NoneServes l.mtype l.cells l.rooms 0 l.start;
   bounded : AreBounded l.rooms l.bounds.items;
   len : vec_len l.bounds ≡ vec_len l.fn.bounds;
