@@ -2,3 +2,4 @@ pub mod SortedLists
 pub mod GuidOrder
 pub mod Indexed
 pub mod Stored
+pub mod Found

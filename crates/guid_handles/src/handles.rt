@@ -175,6 +175,46 @@ impl<A: Allocator + Copy> Handles<A> {
         handle == 0 && self.live.len() >= MAX_HANDLES
     }
 
+    /// Why a valid installation is refused, if it is.
+    fn limit_refusal(&self, handle: u64) -> Option<Status>
+        ensures { result ≡ refusal false (past_limit self.now handle) }
+    {
+        if self.is_past_limit(handle) {
+            Some(Status::OutOfResources)
+        } else {
+            None
+        }
+    }
+
+    /// Why `install` would refuse, memory aside: INVALID_PARAMETER for a kind other than 0, a handle
+    /// that is neither 0 nor live, or a GUID that is on the handle; OUT_OF_RESOURCES where a new
+    /// handle would be one too many.
+    pub fn install_refusal(&self, handle: u64, guid: Uuid, kind: u32) -> Option<Status>
+        ensures { result ≡ install_refusal self.now handle guid kind }
+    {
+        if kind != 0 || self.is_dead(handle) || self.is_taken(handle, guid) {
+            return Some(Status::InvalidParameter);
+        }
+        self.limit_refusal(handle)
+    }
+
+    /// Why `install_many` would refuse, memory aside: INVALID_PARAMETER for no pair or more than
+    /// `MAX_INSTALLED`, a handle that is neither 0 nor live, a GUID that stands twice, or one that is
+    /// on the handle; OUT_OF_RESOURCES where a new handle would be one too many.
+    pub fn install_many_refusal(&self, handle: u64, pairs: &[(Uuid, u64)]) -> Option<Status>
+        ensures { result ≡ install_many_refusal self.now handle pairs.now }
+    {
+        if pairs.is_empty()
+            || pairs.len() > MAX_INSTALLED
+            || self.is_dead(handle)
+            || has_guid_twice(pairs)
+            || self.is_any_taken(handle, pairs)
+        {
+            return Some(Status::InvalidParameter);
+        }
+        self.limit_refusal(handle)
+    }
+
     /// Installs interfaces on a live handle that carries none of their GUIDs.
     fn install_on(&mut self, handle: u64, pairs: &[(Uuid, u64)]) -> Result<(), AllocError>
         requires live { is_live self.old handle ≡ true }
@@ -218,15 +258,13 @@ impl<A: Allocator + Copy> Handles<A> {
         requires live { is_dead self.old handle ≡ false }
         requires absent { list_any (λ p. is_taken self.old handle p.0) pairs.now ≡ false }
         requires once { has_guid_twice pairs.now ≡ false }
+        requires room { past_limit self.old handle ≡ false }
         requires numbers { self.old.last_number < 2 ^ 62 }
         requires stamps { self.old.last_stamp < 2 ^ 62 }
-        ensures installs { Installs self.old handle pairs.now (refusal false (past_limit self.old handle)) result self.new }
+        ensures installs { Installs self.old handle pairs.now None result self.new }
         ensures numbers { self.new.last_number ≤ self.old.last_number + 1 }
         ensures stamps { self.new.last_stamp ≤ self.old.last_stamp + length pairs.now }
     {
-        if self.is_past_limit(handle) {
-            return Err(Status::OutOfResources);
-        }
         if handle != 0 {
             match self.install_on(handle, pairs) {
                 Ok(()) => Ok(handle),
@@ -249,8 +287,8 @@ impl<A: Allocator + Copy> Handles<A> {
         ensures numbers { self.new.last_number ≤ self.old.last_number + 1 }
         ensures stamps { self.new.last_stamp ≤ self.old.last_stamp + 1 }
     {
-        if kind != 0 || self.is_dead(handle) || self.is_taken(handle, guid) {
-            return Err(Status::InvalidParameter);
+        if let Some(status) = self.install_refusal(handle, guid, kind) {
+            return Err(status);
         }
         self.install_valid(handle, &[(guid, value)])
     }
@@ -264,13 +302,8 @@ impl<A: Allocator + Copy> Handles<A> {
         ensures numbers { self.new.last_number ≤ self.old.last_number + 1 }
         ensures stamps { self.new.last_stamp ≤ self.old.last_stamp + max_installed }
     {
-        if pairs.is_empty()
-            || pairs.len() > MAX_INSTALLED
-            || self.is_dead(handle)
-            || has_guid_twice(pairs)
-            || self.is_any_taken(handle, pairs)
-        {
-            return Err(Status::InvalidParameter);
+        if let Some(status) = self.install_many_refusal(handle, pairs) {
+            return Err(status);
         }
         self.install_valid(handle, pairs)
     }
