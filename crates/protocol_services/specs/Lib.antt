@@ -1,0 +1,5 @@
+pub mod Lists
+pub mod Installing
+pub mod Searches
+pub mod Opening
+pub mod ListBytes

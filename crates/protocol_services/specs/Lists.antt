@@ -1,0 +1,38 @@
+-- The lists that the protocol services work on, and how far a call may bring their counts.
+use Rattle.std.specs.Prelude.{ℕ, ◌+◌, ◌-◌, ◌<◌, ◌≤◌, ◌^◌, ◌≡◌, List, [], length}
+use Rattle.std.specs.List.{AllByRecursion}
+use Rattle.guid_handles.specs.HandleTables.{HandleTable}
+use Rattle.open_agents.specs.declared.items.OpenRecord.{OpenRecord}
+use Rattle.protocol_notify.specs.declared.notify.Registration.{Registration}
+
+-- the handle table, the open items and the registrations
+pub record Lists : Type 0 where
+  pub handles : HandleTable
+  pub opens : List OpenRecord
+  pub registrations : List Registration
+
+-- before any call there is nothing in them
+abbrev pub no_lists : Lists
+no_lists = record { handles = record { handles = []; interfaces = []; last_number = 0; last_stamp = 0 }; opens = []; registrations = [] }
+
+-- the handles are left so, and the other lists as they were
+abbrev pub OnHandles : (HandleTable → Type 0) → Lists → Lists → Type 0
+OnHandles Rule old new = Rule new.handles × (new.opens ≡ old.opens) × (new.registrations ≡ old.registrations)
+
+-- Numbers, stamps, keys and counts are far from their ends.
+pub record HasRoom (l : Lists) : Type 0 where
+  pub numbers : l.handles.last_number < 2 ^ 62
+  pub stamps : l.handles.last_stamp < 2 ^ 62
+  pub keys : length l.registrations < 2 ^ 62
+  pub counts : AllByRecursion (λ o. o.count < 2 ^ 32 - 1) l.opens
+
+-- a call gives no more numbers, and no more stamps
+abbrev pub most_given : ℕ
+most_given = 0x10000
+
+-- A call gives so many numbers and stamps at most, one key at most, and raises each item's count by 1 at most.
+pub record IsRaised (old new : Lists) : Type 0 where
+  pub numbers : new.handles.last_number ≤ old.handles.last_number + most_given
+  pub stamps : new.handles.last_stamp ≤ old.handles.last_stamp + most_given
+  pub keys : length new.registrations ≤ length old.registrations + 1
+  pub counts : (n : ℕ) → AllByRecursion (λ o. o.count ≤ n) old.opens → AllByRecursion (λ o. o.count ≤ n + 1) new.opens

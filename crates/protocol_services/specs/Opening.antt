@@ -1,0 +1,73 @@
+-- The rules of OpenProtocol, HandleProtocol and CloseProtocol.
+use Rattle.std.specs.Prelude.{◌≡◌, ◌≢◌, ℕ, ◌==◌, ◌&&◌, ◌||◌, not, Bool, true, false, cond, Option, Some, None, Result, Ok, Err, List, Vec, length, ◌<◌}
+use Rattle.std.specs.List.{list_any}
+use Rattle.page_ranges.specs.declared.statuses.Status.{Status}
+use Rattle.page_ranges.specs.declared.statuses.Status.TheVariants.{InvalidParameter, NotFound, AccessDenied, OutOfResources}
+use Rattle.guid_handles.specs.HandleTables.{is_live, carries, value_at}
+use Rattle.guid_handles.specs.HandleChanges.{is_dead}
+use Rattle.open_agents.specs.declared.items.Decision.{Decision}
+use Rattle.open_agents.specs.declared.items.OpenItem.{OpenItem}
+use Rattle.open_agents.specs.declared.items.Decision.TheVariants.{Refuse, Count, Add, StopFirst}
+use Rattle.open_agents.specs.OpenItems.{is_closed_by, items_on, with_item, without_items}
+use Rattle.open_agents.specs.OpenRule.{open_rule}
+use Rattle.protocol_services.specs.Lists.{Lists}
+
+-- EFI_OPEN_PROTOCOL_BY_HANDLE_PROTOCOL
+abbrev pub by_handle_protocol : ℕ
+by_handle_protocol = 0x1
+
+-- EFI_OPEN_PROTOCOL_TEST_PROTOCOL, which gives no interface
+abbrev pub test_protocol : ℕ
+test_protocol = 0x4
+
+-- the value that OpenProtocol tells
+abbrev pub opened_value : Lists → ℕ → List ℕ → ℕ → Option ℕ
+opened_value l handle guid attributes = cond (attributes == test_protocol) None (value_at l.handles handle guid)
+
+-- the lists once an open is counted, or has its item
+abbrev pub once_opened : Lists → ℕ → List ℕ → ℕ → ℕ → ℕ → Lists
+once_opened l handle guid agent controller attributes = record l { opens = with_item handle guid agent controller attributes l.opens }
+
+-- What OpenProtocol answers where so much was decided, and the lists after it. No driver can be stopped yet. Memory may run out
+-- for a new item only, and agent 0 has none.
+abbrev pub OpensAs : Decision → Lists → ℕ → List ℕ → ℕ → ℕ → ℕ → Result (Option ℕ) Status → Lists → Type 0
+OpensAs (Refuse status) l handle guid agent controller attributes (Ok value) new = ⊥
+OpensAs (Refuse status) l handle guid agent controller attributes (Err e) new = (e ≡ status) × (new ≡ l)
+OpensAs (StopFirst pair) l handle guid agent controller attributes (Ok value) new = ⊥
+OpensAs (StopFirst pair) l handle guid agent controller attributes (Err e) new = (e ≡ AccessDenied) × (new ≡ l)
+OpensAs Count l handle guid agent controller attributes (Ok value) new = (value ≡ opened_value l handle guid attributes) × (new ≡ once_opened l handle guid agent controller attributes)
+OpensAs Count l handle guid agent controller attributes (Err e) new = ⊥
+OpensAs Add l handle guid agent controller attributes (Ok value) new = (value ≡ opened_value l handle guid attributes) × (new ≡ once_opened l handle guid agent controller attributes)
+OpensAs Add l handle guid agent controller attributes (Err e) new = (agent ≢ 0) × (e ≡ OutOfResources) × (new ≡ l)
+
+-- what OpenProtocol answers, and the lists after it
+abbrev pub OpensProtocol : Lists → ℕ → List ℕ → ℕ → ℕ → ℕ → Result (Option ℕ) Status → Lists → Type 0
+OpensProtocol l handle guid agent controller attributes result new = OpensAs (open_rule l.handles l.opens handle guid agent controller attributes) l handle guid agent controller attributes result new
+
+-- what HandleProtocol answers, and the lists after it: those of OpenProtocol by no agent and no controller
+abbrev pub HandlesProtocol : Lists → ℕ → List ℕ → Result ℕ Status → Lists → Type 0
+HandlesProtocol l handle guid (Ok value) new = OpensProtocol l handle guid 0 0 by_handle_protocol (Ok (Some value)) new
+HandlesProtocol l handle guid (Err status) new = OpensProtocol l handle guid 0 0 by_handle_protocol (Err status) new
+
+-- A handle or an agent that is not live, or a controller that is neither 0 nor live.
+abbrev pub names_none : Lists → ℕ → ℕ → ℕ → Bool
+names_none l handle agent controller = not (is_live l.handles handle) || (not (is_live l.handles agent) || is_dead l.handles controller)
+
+-- the GUID is on the handle, and the agent and the controller have an item there
+abbrev pub has_open : Lists → ℕ → List ℕ → ℕ → ℕ → Bool
+has_open l handle guid agent controller = carries l.handles guid handle && list_any (is_closed_by handle guid agent controller) l.opens
+
+-- What CloseProtocol answers, and the lists after it: all items of the agent and the controller are gone, or a refusal leaves the lists.
+abbrev pub Closes : Lists → ℕ → List ℕ → ℕ → ℕ → Result (Unit {0}) Status → Lists → Type 0
+Closes l handle guid agent controller (Ok done) new =
+    (names_none l handle agent controller ≡ false) × (has_open l handle guid agent controller ≡ true) × (new ≡ record l { opens = without_items (is_closed_by handle guid agent controller) l.opens })
+Closes l handle guid agent controller (Err InvalidParameter) new = (names_none l handle agent controller ≡ true) × (new ≡ l)
+Closes l handle guid agent controller (Err NotFound) new = (names_none l handle agent controller ≡ false) × (has_open l handle guid agent controller ≡ false) × (new ≡ l)
+Closes l handle guid agent controller (Err status) new = ⊥
+
+-- what is told of the open items of an interface, in the order in which they were made
+abbrev pub TellsItems : {A : Type 0} → Lists → ℕ → List ℕ → Result (Vec OpenItem A) Status → Type 0
+TellsItems l handle guid (Ok items) = (carries l.handles guid handle ≡ true) × (items.items ≡ items_on l.opens handle guid)
+TellsItems l handle guid (Err NotFound) = carries l.handles guid handle ≡ false
+TellsItems l handle guid (Err OutOfResources) = (carries l.handles guid handle ≡ true) × (0 < length (items_on l.opens handle guid))
+TellsItems l handle guid (Err status) = ⊥

@@ -1,0 +1,12 @@
+//! The protocol services on their lists: handles with their interfaces, open items, registrations.
+#![tactic(auto)]
+
+mod list_bytes;
+mod opening;
+mod protocols;
+mod replies;
+mod searches;
+
+pub use list_bytes::{handle_bytes, item_bytes};
+pub use protocols::Protocols;
+pub use replies::{Installed, LocateReply};

@@ -1,0 +1,147 @@
+//! The lists of the protocol services, and what installs interfaces.
+ghost use Rattle.std.specs.Prelude.{◌≡◌, [], ◌∷◌, IfOk};
+ghost use Rattle.guid_handles.specs.HandleChanges.{install_refusal};
+ghost use Rattle.protocol_services.specs.Installing.{InstallsPairs, Registers, many_refusal, or_out_of_memory, signaled, unless_path};
+ghost use Rattle.protocol_services.specs.Lists.{HasRoom, IsRaised, no_lists};
+
+use crate::replies::Installed;
+use guid_handles::Handles;
+use open_agents::Opens;
+use page_ranges::Status;
+use protocol_notify::Notify;
+use std::alloc::{AllocError, Allocator, Global};
+use std::marker::Model;
+use uuid::Uuid;
+
+/// The handles with their interfaces, the open items and the registrations.
+#[derive(Drop)]
+pub struct Protocols<A: Allocator = Global> {
+    pub(crate) alloc: A,
+    pub(crate) handles: Handles<A>,
+    pub(crate) opens: Opens<A>,
+    pub(crate) registrations: Notify<A>,
+}
+
+impl<A: Allocator> Model for Protocols<A> {
+    ghost use Rattle.protocol_services.specs.Lists.{Lists};
+
+    ghost Value = { Lists };
+
+    ghost view = { λ p. record { handles = p.handles; opens = p.opens; registrations = p.registrations } };
+}
+
+impl<A: Allocator + Copy> Protocols<A> {
+    /// No handles, items or registrations. This takes no memory.
+    pub fn new(alloc: A) -> Protocols<A>
+        ensures { result ≡ no_lists }
+    {
+        Protocols {
+            alloc,
+            handles: Handles::new(alloc),
+            opens: Opens::new(alloc),
+            registrations: Notify::new(alloc),
+        }
+    }
+
+    /// The handles and the interfaces on them.
+    pub fn handles(&self) -> &Handles<A>
+        ensures { result.now ≡ self.now.handles }
+    {
+        &self.handles
+    }
+
+    /// InstallProtocolInterface: installs an interface on a handle, on a new one for handle 0.
+    ///
+    /// INVALID_PARAMETER: the kind is not 0 (EFI_NATIVE_INTERFACE), the handle is neither 0 nor live,
+    /// or it carries the GUID. OUT_OF_RESOURCES: 4,096 handles are live, or memory ran out.
+    pub fn install(
+        &mut self,
+        handle: u64,
+        guid: Uuid,
+        kind: u32,
+        value: u64,
+    ) -> Result<Installed<A>, Status>
+        requires { HasRoom self.old }
+        ensures installs { InstallsPairs self.old handle ((guid, value) ∷ []) (install_refusal self.old.handles handle guid kind) result self.new }
+        ensures raised { IsRaised self.old self.new }
+    {
+        let events = match self.signaled(&[(guid, value)]) {
+            Ok(events) => events,
+            Err(_) => return Err(or_out_of_memory(self.handles.install_refusal(handle, guid, kind))),
+        };
+        let handle = self.handles.install(handle, guid, kind, value)?;
+        Ok(Installed { handle, events })
+    }
+
+    /// InstallMultipleProtocolInterfaces: installs all of some interfaces, pairs of GUID and value, on a
+    /// handle, on a new one for handle 0. `has_path` says whether one of them is a device path that is
+    /// installed already.
+    ///
+    /// INVALID_PARAMETER: there are none, or more than 16; the handle is neither 0 nor live; a GUID is
+    /// there twice, or the handle carries it. ALREADY_STARTED: such a device path. OUT_OF_RESOURCES:
+    /// 4,096 handles are live, or memory ran out.
+    pub fn install_many(
+        &mut self,
+        handle: u64,
+        pairs: &[(Uuid, u64)],
+        has_path: bool,
+    ) -> Result<Installed<A>, Status>
+        requires { HasRoom self.old }
+        ensures installs { InstallsPairs self.old handle pairs.now (many_refusal self.old handle pairs.now has_path) result self.new }
+        ensures raised { IsRaised self.old self.new }
+    {
+        let refusal = unless_path(has_path, self.handles.install_many_refusal(handle, pairs));
+        if let Some(status) = refusal {
+            return Err(status);
+        }
+        let events = match self.signaled(pairs) {
+            Ok(events) => events,
+            Err(_) => return Err(Status::OutOfResources),
+        };
+        let handle = self.handles.install_many(handle, pairs)?;
+        Ok(Installed { handle, events })
+    }
+
+    /// The events that are signaled when the pairs are installed.
+    fn signaled(&self, pairs: &[(Uuid, u64)]) -> Result<Vec<u64, A>, AllocError>
+        ensures { IfOk result (λ events. events.items ≡ signaled self.now.registrations pairs.now) }
+    {
+        let mut events = Vec::new(self.alloc);
+        for pair in pairs {
+            let more = self.registrations.signaled(pair.0)?;
+            events.extend_from_slice(more.as_slice())?;
+        }
+        Ok(events)
+    }
+
+    /// RegisterProtocolNotify: registers an event for the interfaces of a GUID that are installed from
+    /// now on, and answers its key. OUT_OF_RESOURCES: memory ran out.
+    pub fn register(&mut self, guid: Uuid, event: u64) -> Result<u64, Status>
+        requires { HasRoom self.old }
+        ensures registers { Registers self.old guid event result self.new }
+        ensures raised { IsRaised self.old self.new }
+    {
+        self.registrations.register(&self.handles, guid, event)
+    }
+}
+
+/// A refusal, or OUT_OF_RESOURCES where there is none.
+fn or_out_of_memory(refusal: Option<Status>) -> Status
+    ensures { result ≡ or_out_of_memory refusal }
+{
+    match refusal {
+        Some(status) => status,
+        None => Status::OutOfResources,
+    }
+}
+
+/// A refusal, where the path of one of the pairs is installed already or not.
+fn unless_path(has_path: bool, refusal: Option<Status>) -> Option<Status>
+    ensures { result ≡ unless_path has_path refusal }
+{
+    match refusal {
+        _ if !has_path => refusal,
+        Some(Status::InvalidParameter) => refusal,
+        _ => Some(Status::AlreadyStarted),
+    }
+}
