@@ -1,5 +1,5 @@
 -- The laws of the machine. Each is the contract of a public function.
-use Rattle.std.specs.Prelude.{◌≡◌, ◌⊎◌, ◌↔◌, ℕ, ◌+◌, ◌*◌, ◌<◌, ◌≤◌, ◌^◌, false, cond, List, ◌∷◌, ◌++◌, length, take, drop, replicate, Option, Some, None, Ok, IfSome, Vec}
+use Rattle.std.specs.Prelude.{◌≡◌, ◌⊎◌, ◌↔◌, ℕ, ◌+◌, ◌*◌, ◌<◌, ◌≤◌, ◌^◌, false, cond, List, ◌∷◌, ◌++◌, length, take, drop, replicate, Option, Some, None, Ok, IfSome, Vec, Bool, true}
 use Rattle.std.specs.Option.{option_map}
 use Rattle.std.specs.List.{AllByRecursion}
 use Rattle.page_ranges.specs.declared.ranges.Run.{Run}
@@ -13,12 +13,15 @@ use Rattle.map_keys.specs.declared.memory_maps.MapReply.{MapReply}
 use Rattle.map_keys.specs.Records.{IsRecordEntry}
 use Rattle.pool_services.specs.Extents.{Extent, tail_at}
 use Rattle.pool_services.specs.Laws.{byte_at, first_of, is_among, laid}
+use Rattle.open_agents.specs.OpenItems.{items_on}
+use Rattle.protocol_services.specs.ListBytes.{handle_bytes, item_bytes}
+use Rattle.protocol_services.specs.Searches.{found_handles}
 use Rattle.boot_core.specs.declared.calls.Call.{Call}
 use Rattle.boot_core.specs.declared.calls.Call.TheVariants as call
 use Rattle.boot_core.specs.declared.calls.Reply.{Reply}
 use Rattle.boot_core.specs.declared.calls.Reply.TheVariants as reply
 use Rattle.boot_core.specs.MachineRuns.{HasRecordNumbers}
-use Rattle.boot_core.specs.Machines.{State, AreSound, first_state}
+use Rattle.boot_core.specs.Machines.{Parts, State, AreSound, first_state}
 use Rattle.boot_core.specs.Certified.{certified}
 use Rattle.boot_core.specs.Steps.{Setting, any_starts, MapStep, ReadStep, Step, StepAny, StepBy, CallRun, CallRunBy}
 
@@ -125,17 +128,54 @@ abbrev pub bytes_left : Option (List ℕ) → ℕ
 bytes_left None = 0
 bytes_left (Some bytes) = length bytes
 
--- What stands at an address after a call, where a byte of the pool or none stood there: a new block's bytes are 0, a write lays
--- its bytes, and a block that is given back has none.
-abbrev pub byte_after : {A : Type 0} → Call A → Reply A → List Extent → ℕ → Option ℕ
-byte_after (call.AllocatePool t size) (reply.AllocatePool (Ok block)) es k = laid block.0 (replicate size 0) k (byte_at k es)
-byte_after (call.FreePool address) (reply.FreePool (Ok done)) es k = cond (is_among address (bytes_left (tail_at address es)) k) None (byte_at k es)
-byte_after (call.PoolWrite address bytes) (reply.PoolWrite (Ok done)) es k = laid address bytes k (byte_at k es)
-byte_after c answer es k = byte_at k es
+-- the address of the block that a reply tells
+abbrev pub told_block : {A : Type 0} → Reply A → Option ℕ
+told_block (reply.AllocatePool (Ok block)) = Some block.0
+told_block (reply.LocateHandleBuffer (Ok told)) = Some told.address
+told_block (reply.OpenProtocolInformation (Ok told)) = Some told.address
+told_block answer = None
+
+-- whether a reply says that a block was given back, or written to
+abbrev pub is_done : {A : Type 0} → Reply A → Bool
+is_done (reply.FreePool (Ok done)) = true
+is_done (reply.PoolWrite (Ok done)) = true
+is_done answer = false
+
+-- the handles that a search finds, if any
+abbrev pub handles_of : Option (List ℕ) → List ℕ
+handles_of None = []
+handles_of (Some handles) = handles
+
+-- from which address on a call lays bytes in the pool, and which: the zeros of a new block, those of a write, or a list
+abbrev pub lays : {A : Type 0} → Parts → Call A → Reply A → Option (ℕ × List ℕ)
+lays p (call.AllocatePool t size) answer = option_map (λ address. (address, replicate size 0)) (told_block answer)
+lays p (call.PoolWrite address bytes) answer = cond (is_done answer) (Some (address, bytes)) None
+lays p (call.LocateHandleBuffer search guid key) answer = option_map (λ address. (address, handle_bytes (handles_of (found_handles p.lists search guid key)))) (told_block answer)
+lays p (call.OpenProtocolInformation handle guid) answer = option_map (λ address. (address, item_bytes (items_on p.lists.opens handle guid))) (told_block answer)
+lays p c answer = None
+
+-- the block that a call gives back
+abbrev pub gives_back : {A : Type 0} → Call A → Reply A → Option ℕ
+gives_back (call.FreePool address) answer = cond (is_done answer) (Some address) None
+gives_back c answer = None
+
+-- what stands at an address once bytes are laid, if any are
+abbrev pub laid_over : Option (ℕ × List ℕ) → ℕ → Option ℕ → Option ℕ
+laid_over None k old = old
+laid_over (Some (address, bytes)) k old = laid address bytes k old
+
+-- what stands at an address once the block at another is given back, if one is
+abbrev pub left_by : Option ℕ → List Extent → ℕ → Option ℕ
+left_by None es k = byte_at k es
+left_by (Some address) es k = cond (is_among address (bytes_left (tail_at address es)) k) None (byte_at k es)
+
+-- What stands at an address after a call: what it lays there, and else what stood there, but for a block that it gives back.
+abbrev pub byte_after : {A : Type 0} → Parts → Call A → Reply A → ℕ → Option ℕ
+byte_after p c answer k = laid_over (lays p c answer) k (left_by (gives_back c answer) p.pools k)
 
 -- So each call leaves the bytes of the pool.
 abbrev pub PoolBytesLaw : Type 0 → Type 0
-PoolBytesLaw A = (old : State) (c : Call A) (answer : Reply A) (new : State) → AreSound old.parts → Step old c answer new → (k : ℕ) → byte_at k new.parts.pools ≡ byte_after c answer old.parts.pools k
+PoolBytesLaw A = (old : State) (c : Call A) (answer : Reply A) (new : State) → AreSound old.parts → Step old c answer new → (k : ℕ) → byte_at k new.parts.pools ≡ byte_after old.parts c answer k
 
 -- A read that succeeds gives the bytes that stand at its addresses.
 abbrev pub ReadBytesLaw : Type 0 → Type 0
@@ -144,19 +184,13 @@ ReadBytesLaw A = (old : State) (address size : ℕ) (bytes : Vec ℕ A) (new : S
 
 -- no call of the run changes what stands at an address of the pool
 abbrev pub LeavesByte : {A : Type 0} (old : State) (calls : List (Call A)) (replies : List (Reply A)) (new : State) → CallRun old calls replies new → ℕ → Type 0
-LeavesByte old (c ∷ calls) (answer ∷ replies) new (next, step, run) k = (byte_after c answer old.parts.pools k ≡ byte_at k old.parts.pools) × LeavesByte next calls replies new run k
+LeavesByte old (c ∷ calls) (answer ∷ replies) new (next, step, run) k = (byte_after old.parts c answer k ≡ byte_at k old.parts.pools) × LeavesByte next calls replies new run k
 LeavesByte old calls replies new run k = Unit {0}
-
--- the call laid these bytes from an address of the pool on: a write its own, AllocatePool the zeros of a new block
-abbrev pub LaysBytes : {A : Type 0} → Call A → Reply A → ℕ → List ℕ → Type 0
-LaysBytes (call.AllocatePool t size) (reply.AllocatePool (Ok block)) address bytes = (address ≡ block.0) × (bytes ≡ replicate size 0)
-LaysBytes (call.PoolWrite to its) (reply.PoolWrite (Ok done)) address bytes = (address ≡ to) × (bytes ≡ its)
-LaysBytes c answer address bytes = ⊥
 
 -- A read gives the bytes that were last laid at its addresses.
 abbrev pub LastBytesLaw : Type 0 → Type 0
 LastBytesLaw A = (first old : State) (c : Call A) (answer : Reply A) (address : ℕ) (bytes : List ℕ) (calls : List (Call A)) (replies : List (Reply A)) (new : State) (run : CallRun old calls replies new) (used : Vec ℕ A) (after : State) →
-    AreSound first.parts → Step first c answer old → LaysBytes c answer address bytes → ((i : ℕ) → i < length bytes → LeavesByte old calls replies new run (address + i)) →
+    AreSound first.parts → Step first c answer old → lays first.parts c answer ≡ Some (address, bytes) → ((i : ℕ) → i < length bytes → LeavesByte old calls replies new run (address + i)) →
     Step new (call.PoolRead address (length bytes)) (reply.PoolRead Success used) after → used.items ≡ bytes
 
 -- ---- certificates

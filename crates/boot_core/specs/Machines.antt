@@ -1,16 +1,19 @@
 -- The state of the machine that serves the calls.
-use Rattle.std.specs.Prelude.{ℕ, ◌+◌, ◌≤◌, Bool, false, List, []}
+use Rattle.std.specs.Prelude.{ℕ, ◌+◌, ◌*◌, ◌≤◌, Bool, false, List, [], length}
+use Rattle.std.specs.List.{AllByRecursion}
 use Rattle.page_ranges.specs.declared.ranges.Run.{Run}
 use Rattle.page_ranges.specs.Memory.{IsProperMemory}
 use Rattle.page_ranges.specs.Runs.{pages_of}
 use Rattle.page_services.specs.PageRules.{Book, new_book}
 use Rattle.pool_services.specs.Extents.{Extent, AreExtents}
 use Rattle.pool_services.specs.PoolRules.{OwnsExtents}
+use Rattle.protocol_services.specs.Lists.{Lists, most_given, no_lists}
 
--- what the services work on: the memory with its key, and the extents of the pool
+-- what the services work on: the memory with its key, the extents of the pool, and the lists of the protocol services
 pub record Parts : Type 0 where
   pub book : Book
   pub pools : List Extent
+  pub lists : Lists
 
 -- the parts, whether the boot services have ended, and how many calls may still be made
 pub record State : Type 0 where
@@ -24,11 +27,16 @@ all_calls = 0x80000000
 
 -- the state of a machine of these runs before any call
 abbrev pub first_state : List Run → State
-first_state runs = record { parts = record { book = new_book (pages_of runs); pools = [] }; exited = false; calls_left = all_calls }
+first_state runs = record { parts = record { book = new_book (pages_of runs); pools = []; lists = no_lists }; exited = false; calls_left = all_calls }
 
--- a key that is one more than the calls so far at most
-abbrev pub KeyFollowsCalls : ℕ → ℕ → Type 0
-KeyFollowsCalls key calls_left = key + calls_left ≤ all_calls + 1
+-- What the calls so far can have brought: the key is one more than these at most, and numbers, stamps, registrations and the
+-- counts of open items follow them too.
+pub record FollowsCalls (p : Parts) (calls_left : ℕ) : Type 0 where
+  pub key : p.book.key + calls_left ≤ all_calls + 1
+  pub numbers : p.lists.handles.last_number + most_given * calls_left ≤ most_given * all_calls
+  pub stamps : p.lists.handles.last_stamp + most_given * calls_left ≤ most_given * all_calls
+  pub registrations : length p.lists.registrations + calls_left ≤ all_calls
+  pub counts : AllByRecursion (λ o. o.count + calls_left ≤ all_calls) p.lists.opens
 
 -- The memory is proper, the extents stand apart, and the pages of the pool are theirs.
 pub record AreSound (p : Parts) : Type 0 where

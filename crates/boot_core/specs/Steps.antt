@@ -5,6 +5,12 @@ use Rattle.page_ranges.specs.declared.statuses.Status.TheVariants.{InvalidParame
 use Rattle.page_services.specs.PageRules.{Book, Choice, IsAnyStart, IsBestChoice, AllocatesPages, FreesPages}
 use Rattle.pool_services.specs.Extents.{Extent}
 use Rattle.pool_services.specs.PoolRules.{AllocatesPool, FreesPool, ReadsPool, WritesPool}
+use Rattle.guid_handles.specs.HandleChanges.{install_refusal}
+use Rattle.protocol_services.specs.declared.replies.LocateReply.{LocateReply}
+use Rattle.protocol_services.specs.Lists.{Lists}
+use Rattle.protocol_services.specs.Installing.{InstallsPairs, Registers, many_refusal}
+use Rattle.protocol_services.specs.Searches.{LocatesHandles, LocatesProtocol, TellsProtocols}
+use Rattle.protocol_services.specs.Opening.{Closes, HandlesProtocol, OpensProtocol}
 use Rattle.map_keys.specs.declared.memory_maps.MapReply.{MapReply}
 use Rattle.map_keys.specs.MapReplies.{map_reply, buffer_with_map}
 use Rattle.boot_core.specs.declared.calls.Call.{Call}
@@ -12,6 +18,7 @@ use Rattle.boot_core.specs.declared.calls.Call.TheVariants as call
 use Rattle.boot_core.specs.declared.calls.Reply.{Reply}
 use Rattle.boot_core.specs.declared.calls.Reply.TheVariants as reply
 use Rattle.boot_core.specs.Machines.{Parts, State}
+use Rattle.boot_core.specs.PoolLists.{LocatesBuffer, ListsOpens}
 use Rattle.boot_core.specs.MapCalls.{refused_map, AnswersMap}
 use Rattle.boot_core.specs.PoolCalls.{AnswersRead, told_status}
 
@@ -33,15 +40,19 @@ any_starts = record { chosen = IsAnyStart }
 
 -- the book is left so, and each other part as it was
 abbrev pub OnBook : (Book → Type 0) → Parts → Parts → Type 0
-OnBook Rule old new = Rule new.book × (new.pools ≡ old.pools)
+OnBook Rule old new = Rule new.book × (new.pools ≡ old.pools) × (new.lists ≡ old.lists)
 
 -- the pool is left so, and each other part as it was
 abbrev pub OnPools : (List Extent → Type 0) → Parts → Parts → Type 0
-OnPools Rule old new = Rule new.pools × (new.book ≡ old.book)
+OnPools Rule old new = Rule new.pools × (new.book ≡ old.book) × (new.lists ≡ old.lists)
 
 -- the book and the pool are left so, and each other part as it was
 abbrev pub OnBookAndPools : (Book → List Extent → Type 0) → Parts → Parts → Type 0
-OnBookAndPools Rule old new = Rule new.book new.pools
+OnBookAndPools Rule old new = Rule new.book new.pools × (new.lists ≡ old.lists)
+
+-- the lists of the protocol services are left so, and each other part as it was
+abbrev pub OnLists : (Lists → Type 0) → Parts → Parts → Type 0
+OnLists Rule old new = Rule new.lists × (new.book ≡ old.book) × (new.pools ≡ old.pools)
 
 -- ---- before the exit and after it
 
@@ -58,6 +69,11 @@ Serves {R = R} exited old new answer tell Rule = (result : Result R Status) × (
 abbrev pub ServesBytes : {A T : Type 0} → Bool → Parts → Parts → Reply A → (T → Vec ℕ A → Reply A) → (T → List ℕ → Type 0) → T → Type 0
 ServesBytes {A = A} {T = T} exited old new answer tell Rule refused =
     (told : T) × (bytes : Vec ℕ A) × (answer ≡ tell told bytes) × WhileOpen exited old new (Rule told bytes.items) ((told ≡ refused) × (bytes.items ≡ []))
+
+-- what a search for handles does
+abbrev pub ServesSearch : {A : Type 0} → Bool → Parts → Parts → Reply A → (LocateReply A → Type 0) → Type 0
+ServesSearch {A = A} exited old new answer Rule =
+    (told : LocateReply A) × (answer ≡ reply.LocateHandle told) × WhileOpen exited old new (Rule told) ((told.status ≡ Unsupported) × (told.size ≡ 0) × (told.handles.items ≡ []))
 
 -- ---- the services
 
@@ -76,6 +92,20 @@ Answers S exited old (call.AllocatePool t size) answer new = Serves exited old n
 Answers S exited old (call.FreePool address) answer new = Serves exited old new answer reply.FreePool (λ result. OnBookAndPools (FreesPool old.book old.pools address result) old new)
 Answers S exited old (call.PoolRead address size) answer new = ServesBytes exited old new answer reply.PoolRead (λ status bytes. AnswersRead old.pools address size status bytes × (new ≡ old)) Unsupported
 Answers S exited old (call.PoolWrite address bytes) answer new = Serves exited old new answer reply.PoolWrite (λ result. OnPools (WritesPool old.pools address bytes result) old new)
+Answers S exited old (call.InstallProtocolInterface handle guid kind value) answer new =
+    Serves exited old new answer reply.InstallProtocolInterface (λ result. OnLists (InstallsPairs old.lists handle ((guid, value) ∷ []) (install_refusal old.lists.handles handle guid kind) result) old new)
+Answers S exited old (call.InstallMultipleProtocolInterfaces handle pairs) answer new =
+    Serves exited old new answer reply.InstallMultipleProtocolInterfaces (λ result. OnLists (InstallsPairs old.lists handle pairs (many_refusal old.lists handle pairs false) result) old new)
+Answers S exited old (call.RegisterProtocolNotify guid event) answer new = Serves exited old new answer reply.RegisterProtocolNotify (λ result. OnLists (Registers old.lists guid event result) old new)
+Answers S exited old (call.LocateHandle search guid key size) answer new = ServesSearch exited old new answer (λ told. OnLists (LocatesHandles old.lists search guid key size told) old new)
+Answers S exited old (call.LocateHandleBuffer search guid key) answer new = Serves exited old new answer reply.LocateHandleBuffer (λ result. LocatesBuffer S.chosen old search guid key result new)
+Answers S exited old (call.LocateProtocol guid key) answer new = Serves exited old new answer reply.LocateProtocol (λ result. OnLists (LocatesProtocol old.lists guid key result) old new)
+Answers S exited old (call.ProtocolsPerHandle handle) answer new = Serves exited old new answer reply.ProtocolsPerHandle (λ result. TellsProtocols old.lists handle result × (new ≡ old))
+Answers S exited old (call.OpenProtocol handle guid agent controller attributes) answer new =
+    Serves exited old new answer reply.OpenProtocol (λ result. OnLists (OpensProtocol old.lists handle guid agent controller attributes result) old new)
+Answers S exited old (call.CloseProtocol handle guid agent controller) answer new = Serves exited old new answer reply.CloseProtocol (λ result. OnLists (Closes old.lists handle guid agent controller result) old new)
+Answers S exited old (call.OpenProtocolInformation handle guid) answer new = Serves exited old new answer reply.OpenProtocolInformation (λ result. ListsOpens S.chosen old handle guid result new)
+Answers S exited old (call.HandleProtocol handle guid) answer new = Serves exited old new answer reply.HandleProtocol (λ result. OnLists (HandlesProtocol old.lists handle guid result) old new)
 Answers S exited old (call.ExitBootServices key) answer new = Serves exited old new answer reply.ExitBootServices (λ result. Exits old.book.key key result × (new ≡ old))
 
 -- whether the boot services have ended after a reply: they had, or it tells of an exit

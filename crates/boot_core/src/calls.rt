@@ -5,8 +5,10 @@ use map_keys::MapReply;
 use page_ranges::Status;
 use page_services::Placed;
 use placement_certificate::Certificate;
+use protocol_services::{Installed, LocateReply};
 use std::alloc::{Allocator, Global};
 use std::marker::Model;
+use uuid::Uuid;
 
 /// Bytes that a call carries.
 #[derive(Debug, Drop)]
@@ -35,6 +37,36 @@ impl<A: Allocator> CallBytes<A> {
         ensures { result.now ≡ self.now }
     {
         self.bytes.as_slice()
+    }
+}
+
+/// Interfaces that a call carries, as pairs of GUID and value.
+#[derive(Debug, Drop)]
+pub struct CallPairs<A: Allocator = Global> {
+    pairs: Vec<(Uuid, u64), A>,
+}
+
+impl<A: Allocator> Model for CallPairs<A> {
+    ghost use Rattle.std.specs.Prelude.{ℕ, List};
+
+    ghost Value = { List (List ℕ × ℕ) };
+
+    ghost view = { λ c. c.pairs.items };
+}
+
+impl<A: Allocator> CallPairs<A> {
+    /// The pairs of a vector.
+    pub fn new(pairs: Vec<(Uuid, u64), A>) -> CallPairs<A>
+        ensures { result ≡ pairs.items }
+    {
+        CallPairs { pairs }
+    }
+
+    /// The pairs.
+    pub fn as_slice(&self) -> &[(Uuid, u64)]
+        ensures { result.now ≡ self.now }
+    {
+        self.pairs.as_slice()
     }
 }
 
@@ -70,9 +102,73 @@ pub enum Call<A: Allocator = Global> {
         address: u64,
         bytes: CallBytes<A>,
     },
+    InstallProtocolInterface {
+        handle: u64,
+        guid: Uuid,
+        kind: u32,
+        value: u64,
+    },
+    InstallMultipleProtocolInterfaces {
+        handle: u64,
+        pairs: CallPairs<A>,
+    },
+    RegisterProtocolNotify {
+        guid: Uuid,
+        event: u64,
+    },
+    LocateHandle {
+        search: u32,
+        guid: Uuid,
+        key: u64,
+        size: u64,
+    },
+    LocateHandleBuffer {
+        search: u32,
+        guid: Uuid,
+        key: u64,
+    },
+    LocateProtocol {
+        guid: Uuid,
+        key: u64,
+    },
+    ProtocolsPerHandle {
+        handle: u64,
+    },
+    OpenProtocol {
+        handle: u64,
+        guid: Uuid,
+        agent: u64,
+        controller: u64,
+        attributes: u32,
+    },
+    CloseProtocol {
+        handle: u64,
+        guid: Uuid,
+        agent: u64,
+        controller: u64,
+    },
+    OpenProtocolInformation {
+        handle: u64,
+        guid: Uuid,
+    },
+    HandleProtocol {
+        handle: u64,
+        guid: Uuid,
+    },
     ExitBootServices {
         key: u64,
     },
+}
+
+/// A list in a pool block of its own, which the caller frees.
+#[derive(Debug, Drop)]
+pub struct PoolList<A: Allocator = Global> {
+    /// How many items are in it.
+    pub count: u64,
+    /// The address of the block; 0 where there are no items and no block.
+    pub address: u64,
+    /// Where new pages were placed for the block, why their place is the best.
+    pub certificate: Option<Certificate<A>>,
 }
 
 /// What a boot service answers; of a buffer, the bytes that were used.
@@ -86,5 +182,21 @@ pub enum Reply<A: Allocator = Global> {
     FreePool(Result<(), Status>),
     PoolRead { status: Status, bytes: Vec<u8, A> },
     PoolWrite(Result<(), Status>),
+    InstallProtocolInterface(Result<Installed<A>, Status>),
+    InstallMultipleProtocolInterfaces(Result<Installed<A>, Status>),
+    /// The key of the registration.
+    RegisterProtocolNotify(Result<u64, Status>),
+    LocateHandle(LocateReply<A>),
+    LocateHandleBuffer(Result<PoolList<A>, Status>),
+    /// The value of the interface.
+    LocateProtocol(Result<u64, Status>),
+    /// The GUIDs on the handle, in order of installation.
+    ProtocolsPerHandle(Result<Vec<Uuid, A>, Status>),
+    /// The value of the interface, none for TEST_PROTOCOL.
+    OpenProtocol(Result<Option<u64>, Status>),
+    CloseProtocol(Result<(), Status>),
+    OpenProtocolInformation(Result<PoolList<A>, Status>),
+    /// The value of the interface.
+    HandleProtocol(Result<u64, Status>),
     ExitBootServices(Result<(), Status>),
 }

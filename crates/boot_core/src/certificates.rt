@@ -1,8 +1,9 @@
 //! The certificates that replies carry.
-ghost use Rattle.std.specs.Prelude.{◌≡◌, option_map};
-ghost use Rattle.boot_core.specs.Certified.{certificate_in, certified, may_be_certified, request_for};
+ghost use Rattle.std.specs.Prelude.{◌≡◌, ◌<◌, option_map};
+ghost use Rattle.boot_core.specs.Certified.{certificate_in, certified, list_request, may_be_certified, request_for, told_count};
 
 use crate::calls::{Call, Reply};
+use crate::pool_lists::{ENTRY_SIZE, HANDLE_SIZE, LIST_TYPE};
 use page_ranges::MemoryType;
 use page_services::placement_request;
 use placement_certificate::{Certificate, Request};
@@ -16,7 +17,7 @@ pub fn certified<'a, A: Allocator>(
 ) -> Option<(Request, &'a Certificate<A>)>
     ensures { option_map (λ told. (told.0, told.1.now)) result ≡ certified call.now reply.now }
 {
-    match (request_for(call), certificate_in(reply)) {
+    match (request_for(call, reply), certificate_in(reply)) {
         (Some(request), Some(certificate)) => Some((request, certificate)),
         _ => None,
     }
@@ -27,12 +28,24 @@ pub fn certified<'a, A: Allocator>(
 pub fn may_be_certified<A: Allocator>(call: &Call<A>) -> bool
     ensures { result ≡ may_be_certified call.now }
 {
-    request_for(call).is_some()
+    match call {
+        Call::AllocatePages {
+            kind,
+            mtype,
+            pages,
+            memory,
+        } => placement_request(*kind, MemoryType::new(*mtype), *pages, *memory).is_some(),
+        Call::AllocatePool { mtype, size } => {
+            extent_request(MemoryType::new(*mtype), *size).is_some()
+        }
+        Call::LocateHandleBuffer { .. } | Call::OpenProtocolInformation { .. } => true,
+        _ => false,
+    }
 }
 
 /// The request that a call leaves to the service to place.
-fn request_for<A: Allocator>(call: &Call<A>) -> Option<Request>
-    ensures { result ≡ request_for call.now }
+fn request_for<A: Allocator>(call: &Call<A>, reply: &Reply<A>) -> Option<Request>
+    ensures { result ≡ request_for call.now reply.now }
 {
     match call {
         Call::AllocatePages {
@@ -42,8 +55,31 @@ fn request_for<A: Allocator>(call: &Call<A>) -> Option<Request>
             memory,
         } => placement_request(*kind, MemoryType::new(*mtype), *pages, *memory),
         Call::AllocatePool { mtype, size } => extent_request(MemoryType::new(*mtype), *size),
+        Call::LocateHandleBuffer { .. } => list_request(HANDLE_SIZE, told_count(reply)),
+        Call::OpenProtocolInformation { .. } => list_request(ENTRY_SIZE, told_count(reply)),
         _ => None,
     }
+}
+
+/// How many items a reply says are in a pool block.
+fn told_count<A: Allocator>(reply: &Reply<A>) -> Option<u64>
+    ensures { result ≡ told_count reply.now }
+{
+    match reply {
+        Reply::LocateHandleBuffer(Ok(told)) => Some(told.count),
+        Reply::OpenProtocolInformation(Ok(told)) => Some(told.count),
+        _ => None,
+    }
+}
+
+/// The request for a block of so many items of so many bytes each, where they are so few that a block
+/// can have them.
+fn list_request(size: u64, count: Option<u64>) -> Option<Request>
+    requires { 0 < size }
+    ensures { result ≡ list_request size count }
+{
+    let bytes = count?.checked_mul(size)?;
+    extent_request(MemoryType::new(LIST_TYPE), bytes)
 }
 
 /// The certificate that a reply carries.
@@ -53,6 +89,8 @@ fn certificate_in<A: Allocator>(reply: &Reply<A>) -> Option<&Certificate<A>>
     match reply {
         Reply::AllocatePages(Ok(placed)) => placed.certificate.as_ref(),
         Reply::AllocatePool(Ok((_, certificate))) => certificate.as_ref(),
+        Reply::LocateHandleBuffer(Ok(told)) => told.certificate.as_ref(),
+        Reply::OpenProtocolInformation(Ok(told)) => told.certificate.as_ref(),
         _ => None,
     }
 }

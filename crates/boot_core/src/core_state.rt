@@ -2,20 +2,24 @@
 ghost use Rattle.std.specs.Prelude.{◌≡◌, ◌+◌, ◌<◌, ◌≤◌, length, IfOk, OnErr, slice_get, if◌then◌else◌};
 ghost use Rattle.page_ranges.specs.Memory.{IsProperMemory};
 ghost use Rattle.page_ranges.specs.MemoryMap.{memory_map};
-ghost use Rattle.boot_core.specs.Machines.{all_calls, first_state};
+ghost use Rattle.protocol_services.specs.Lists.{HasRoom};
+ghost use Rattle.boot_core.specs.Machines.{all_calls, first_state, FollowsCalls};
 ghost use Rattle.boot_core.specs.Steps.{IsCounted, MapStep, ReadStep, Step, CallRun};
 
 use crate::calls::{Call, Reply};
 use crate::machines::Machine;
 use crate::map_buffers::{map_in_buffer, refused_map};
 use crate::pool_buffers::{read_bytes, told_status};
+use crate::pool_lists::{list_opens, locate_buffer};
 use descriptor_table::{MapEntries, RunTable};
 use map_keys::{MapReply, get_memory_map};
 use page_ranges::{Descriptor, Status};
 use page_services::PageBook;
 use pool_services::Pools;
+use protocol_services::{LocateReply, Protocols};
 use std::alloc::{AllocError, Allocator, Global};
 use std::marker::Model;
+use uuid::Uuid;
 
 /// How many calls a core serves.
 const CALLS: u64 = 0x8000_0000;
@@ -25,18 +29,19 @@ const CALLS: u64 = 0x8000_0000;
 pub struct Core<A: Allocator = Global> {
     book: PageBook<A>,
     pools: Pools<A>,
+    protocols: Protocols<A>,
     exited: bool,
     calls_left: u64,
 }
 
 impl<A: Allocator> Model for Core<A> {
-    ghost use Rattle.boot_core.specs.Machines.{State, AreSound, KeyFollowsCalls};
+    ghost use Rattle.boot_core.specs.Machines.{State, AreSound, FollowsCalls};
 
     ghost Value = { State };
 
-    ghost view = { λ c. record { parts = record { book = c.book; pools = c.pools }; exited = c.exited; calls_left = c.calls_left } };
+    ghost view = { λ c. record { parts = record { book = c.book; pools = c.pools; lists = c.protocols }; exited = c.exited; calls_left = c.calls_left } };
 
-    ghost invariant = { λ c. KeyFollowsCalls c.book.key c.calls_left × AreSound (record { book = c.book; pools = c.pools }) };
+    ghost invariant = { λ c. FollowsCalls (record { book = c.book; pools = c.pools; lists = c.protocols }) c.calls_left × AreSound (record { book = c.book; pools = c.pools; lists = c.protocols }) };
 }
 
 impl<A: Allocator + Copy> Core<A> {
@@ -48,6 +53,7 @@ impl<A: Allocator + Copy> Core<A> {
         Ok(Core {
             book: PageBook::new(table),
             pools: Pools::new(alloc),
+            protocols: Protocols::new(alloc),
             exited: false,
             calls_left: CALLS,
         })
@@ -61,6 +67,8 @@ impl<A: Allocator + Copy> Core<A> {
         ensures exited { self.new.exited ≡ self.old.exited }
         ensures counted { IsCounted self.old self.new }
         ensures room { self.new.parts.book.key + self.new.calls_left ≤ all_calls }
+        ensures follows { FollowsCalls self.new.parts (self.new.calls_left + 1) }
+        ensures lists { HasRoom self.new.parts.lists }
     {
         self.calls_left -= 1;
         if self.exited {
@@ -188,6 +196,170 @@ impl<A: Allocator + Copy> Core<A> {
         })
     }
 
+    /// InstallProtocolInterface: an interface of a GUID, with a value, on a handle, on a new one for
+    /// handle 0. The reply tells the handle, and the events of the registrations for the GUID.
+    pub fn install_protocol_interface(
+        &mut self,
+        handle: u64,
+        guid: Uuid,
+        kind: u32,
+        value: u64,
+    ) -> Reply<A>
+        requires { 0 < self.old.calls_left }
+        ensures { Step self.old (Call.InstallProtocolInterface handle guid kind value) result self.new }
+    {
+        Reply::InstallProtocolInterface(match self.begin() {
+            Ok(()) => self.protocols.install(handle, guid, kind, value),
+            Err(status) => Err(status),
+        })
+    }
+
+    /// InstallMultipleProtocolInterfaces: all of some interfaces, pairs of GUID and value, or none.
+    pub fn install_multiple(&mut self, handle: u64, pairs: &[(Uuid, u64)]) -> Reply<A>
+        requires { 0 < self.old.calls_left }
+        ensures { Step self.old (Call.InstallMultipleProtocolInterfaces handle pairs.now) result self.new }
+    {
+        Reply::InstallMultipleProtocolInterfaces(match self.begin() {
+            Ok(()) => self.protocols.install_many(handle, pairs, false),
+            Err(status) => Err(status),
+        })
+    }
+
+    /// RegisterProtocolNotify: an event for the interfaces of a GUID that are installed from now on. The
+    /// reply tells the key of the registration.
+    pub fn register_protocol_notify(&mut self, guid: Uuid, event: u64) -> Reply<A>
+        requires { 0 < self.old.calls_left }
+        ensures { Step self.old (Call.RegisterProtocolNotify guid event) result self.new }
+    {
+        Reply::RegisterProtocolNotify(match self.begin() {
+            Ok(()) => self.protocols.register(guid, event),
+            Err(status) => Err(status),
+        })
+    }
+
+    /// LocateHandle: all handles (search 0), the handle that is next for a registration's key, which is
+    /// taken (1), or those that carry a GUID (2), where a buffer of so many bytes has room for them, 8
+    /// bytes each.
+    pub fn locate_handle(&mut self, search: u32, guid: Uuid, key: u64, size: u64) -> Reply<A>
+        requires { 0 < self.old.calls_left }
+        ensures { Step self.old (Call.LocateHandle search guid key size) result self.new }
+    {
+        Reply::LocateHandle(match self.begin() {
+            Ok(()) => self.protocols.locate(search, guid, key, size),
+            Err(status) => LocateReply {
+                status,
+                size: 0,
+                handles: Vec::new(self.book.table().allocator()),
+            },
+        })
+    }
+
+    /// LocateHandleBuffer: the handles of such a search in a pool block, which the caller frees.
+    pub fn locate_handle_buffer(&mut self, search: u32, guid: Uuid, key: u64) -> Reply<A>
+        requires { 0 < self.old.calls_left }
+        ensures { Step self.old (Call.LocateHandleBuffer search guid key) result self.new }
+    {
+        Reply::LocateHandleBuffer(match self.begin() {
+            Ok(()) => locate_buffer(
+                &mut self.book,
+                &mut self.pools,
+                &mut self.protocols,
+                search,
+                guid,
+                key,
+            ),
+            Err(status) => Err(status),
+        })
+    }
+
+    /// LocateProtocol: the value of the interface of a GUID, for key 0 on the lowest handle that carries
+    /// it, else on the handle that is next for the key, which is taken.
+    pub fn locate_protocol(&mut self, guid: Uuid, key: u64) -> Reply<A>
+        requires { 0 < self.old.calls_left }
+        ensures { Step self.old (Call.LocateProtocol guid key) result self.new }
+    {
+        Reply::LocateProtocol(match self.begin() {
+            Ok(()) => self.protocols.locate_protocol(guid, key),
+            Err(status) => Err(status),
+        })
+    }
+
+    /// ProtocolsPerHandle: the GUIDs on a handle, in order of installation.
+    pub fn protocols_per_handle(&mut self, handle: u64) -> Reply<A>
+        requires { 0 < self.old.calls_left }
+        ensures { Step self.old (Call.ProtocolsPerHandle handle) result self.new }
+    {
+        Reply::ProtocolsPerHandle(match self.begin() {
+            Ok(()) => self.protocols.protocols_of(handle),
+            Err(status) => Err(status),
+        })
+    }
+
+    /// OpenProtocol: the value of an interface, and who has it open for which controller, and how.
+    pub fn open_protocol(
+        &mut self,
+        handle: u64,
+        guid: Uuid,
+        agent: u64,
+        controller: u64,
+        attributes: u32,
+    ) -> Reply<A>
+        requires { 0 < self.old.calls_left }
+        ensures { Step self.old (Call.OpenProtocol handle guid agent controller attributes) result self.new }
+    {
+        Reply::OpenProtocol(match self.begin() {
+            Ok(()) => self
+                .protocols
+                .open(handle, guid, agent, controller, attributes),
+            Err(status) => Err(status),
+        })
+    }
+
+    /// CloseProtocol: takes out all items of an agent and a controller on an interface.
+    pub fn close_protocol(
+        &mut self,
+        handle: u64,
+        guid: Uuid,
+        agent: u64,
+        controller: u64,
+    ) -> Reply<A>
+        requires { 0 < self.old.calls_left }
+        ensures { Step self.old (Call.CloseProtocol handle guid agent controller) result self.new }
+    {
+        Reply::CloseProtocol(match self.begin() {
+            Ok(()) => self.protocols.close(handle, guid, agent, controller),
+            Err(status) => Err(status),
+        })
+    }
+
+    /// OpenProtocolInformation: the open items of an interface in a pool block, which the caller frees.
+    pub fn open_protocol_information(&mut self, handle: u64, guid: Uuid) -> Reply<A>
+        requires { 0 < self.old.calls_left }
+        ensures { Step self.old (Call.OpenProtocolInformation handle guid) result self.new }
+    {
+        Reply::OpenProtocolInformation(match self.begin() {
+            Ok(()) => list_opens(
+                &mut self.book,
+                &mut self.pools,
+                &self.protocols,
+                handle,
+                guid,
+            ),
+            Err(status) => Err(status),
+        })
+    }
+
+    /// HandleProtocol: the value of the interface of a GUID on a handle.
+    pub fn handle_protocol(&mut self, handle: u64, guid: Uuid) -> Reply<A>
+        requires { 0 < self.old.calls_left }
+        ensures { Step self.old (Call.HandleProtocol handle guid) result self.new }
+    {
+        Reply::HandleProtocol(match self.begin() {
+            Ok(()) => self.protocols.handle_protocol(handle, guid),
+            Err(status) => Err(status),
+        })
+    }
+
     /// ExitBootServices: with the current map key, after which all services answer UNSUPPORTED.
     ///
     /// INVALID_PARAMETER: another key.
@@ -223,6 +395,46 @@ impl<A: Allocator + Copy> Core<A> {
             Call::FreePool { address } => self.free_pool(*address),
             Call::PoolRead { address, size } => self.get_pool_bytes(*address, *size),
             Call::PoolWrite { address, bytes } => self.pool_write(*address, bytes.as_slice()),
+            Call::InstallProtocolInterface {
+                handle,
+                guid,
+                kind,
+                value,
+            } => self.install_protocol_interface(*handle, *guid, *kind, *value),
+            Call::InstallMultipleProtocolInterfaces { handle, pairs } => {
+                self.install_multiple(*handle, pairs.as_slice())
+            }
+            Call::RegisterProtocolNotify { guid, event } => {
+                self.register_protocol_notify(*guid, *event)
+            }
+            Call::LocateHandle {
+                search,
+                guid,
+                key,
+                size,
+            } => self.locate_handle(*search, *guid, *key, *size),
+            Call::LocateHandleBuffer { search, guid, key } => {
+                self.locate_handle_buffer(*search, *guid, *key)
+            }
+            Call::LocateProtocol { guid, key } => self.locate_protocol(*guid, *key),
+            Call::ProtocolsPerHandle { handle } => self.protocols_per_handle(*handle),
+            Call::OpenProtocol {
+                handle,
+                guid,
+                agent,
+                controller,
+                attributes,
+            } => self.open_protocol(*handle, *guid, *agent, *controller, *attributes),
+            Call::CloseProtocol {
+                handle,
+                guid,
+                agent,
+                controller,
+            } => self.close_protocol(*handle, *guid, *agent, *controller),
+            Call::OpenProtocolInformation { handle, guid } => {
+                self.open_protocol_information(*handle, *guid)
+            }
+            Call::HandleProtocol { handle, guid } => self.handle_protocol(*handle, *guid),
             Call::ExitBootServices { key } => self.exit_boot_services(*key),
         }
     }

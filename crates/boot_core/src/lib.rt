@@ -8,8 +8,9 @@ mod laws;
 mod machines;
 mod map_buffers;
 mod pool_buffers;
+mod pool_lists;
 
-pub use calls::{Call, CallBytes, Reply};
+pub use calls::{Call, CallBytes, CallPairs, PoolList, Reply};
 pub use certificates::{certified, may_be_certified};
 pub use core_state::Core;
 pub use laws::{

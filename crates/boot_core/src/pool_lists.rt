@@ -1,0 +1,92 @@
+//! Lists in pool blocks of their own, which the caller frees.
+ghost use Rattle.std.specs.Prelude.{◌≡◌, ◌<◌, ◌^◌};
+ghost use Rattle.page_services.specs.PageRules.{IsBestChoice};
+ghost use Rattle.pool_services.specs.PoolRules.{OwnsExtents};
+ghost use Rattle.boot_core.specs.PoolLists.{ListsOpens, LocatesBuffer};
+
+use crate::calls::PoolList;
+use page_ranges::Status;
+use page_services::PageBook;
+use pool_services::Pools;
+use protocol_services::{Protocols, handle_bytes, item_bytes};
+use std::alloc::Allocator;
+use uuid::Uuid;
+
+/// The memory type of such a block (EfiBootServicesData).
+pub(crate) const LIST_TYPE: u32 = 4;
+
+/// The bytes of a handle.
+pub(crate) const HANDLE_SIZE: u64 = 8;
+
+/// The bytes of an open item (EFI_OPEN_PROTOCOL_INFORMATION_ENTRY).
+pub(crate) const ENTRY_SIZE: u64 = 24;
+
+/// LocateHandleBuffer: puts the handles that a search is for into a pool block, 8 bytes each. A search by
+/// a key takes its handle, but where it is refused.
+///
+/// INVALID_PARAMETER: another search, or a key that was never given. NOT_FOUND: there are none.
+/// OUT_OF_RESOURCES: memory ran out, the machine's or the host's.
+pub(crate) fn locate_buffer<A: Allocator + Copy>(
+    book: &mut PageBook<A>,
+    pools: &mut Pools<A>,
+    protocols: &mut Protocols<A>,
+    search: u32,
+    guid: Uuid,
+    key: u64,
+) -> Result<PoolList<A>, Status>
+    requires key { book.old.key < 2 ^ 62 }
+    requires owns { OwnsExtents book.old.memory pools.old }
+    ensures locates { LocatesBuffer IsBestChoice (record { book = book.old; pools = pools.old; lists = protocols.old }) search guid key result (record { book = book.new; pools = pools.new; lists = protocols.new }) }
+{
+    let found = protocols.find(search, guid, key, u64::MAX);
+    if found.status != Status::Success {
+        return Err(found.status);
+    }
+    let bytes = match handle_bytes(book.table().allocator(), found.handles.as_slice()) {
+        Ok(bytes) => bytes,
+        Err(_) => return Err(Status::OutOfResources),
+    };
+    let (address, certificate) = pools.allocate_filled(book, LIST_TYPE, bytes.as_slice())?;
+    protocols.take_found(search, key);
+    Ok(PoolList {
+        count: found.handles.len() as u64,
+        address,
+        certificate,
+    })
+}
+
+/// OpenProtocolInformation: puts the open items of an interface into a pool block, 24 bytes each, in the
+/// order in which they were made. Without any there is no block.
+///
+/// NOT_FOUND: the handle is not live, or does not carry the GUID. OUT_OF_RESOURCES: memory ran out, the
+/// machine's or the host's.
+pub(crate) fn list_opens<A: Allocator + Copy>(
+    book: &mut PageBook<A>,
+    pools: &mut Pools<A>,
+    protocols: &Protocols<A>,
+    handle: u64,
+    guid: Uuid,
+) -> Result<PoolList<A>, Status>
+    requires key { book.old.key < 2 ^ 62 }
+    requires owns { OwnsExtents book.old.memory pools.old }
+    ensures lists { ListsOpens IsBestChoice (record { book = book.old; pools = pools.old; lists = protocols.now }) handle guid result (record { book = book.new; pools = pools.new; lists = protocols.now }) }
+{
+    let items = protocols.items(handle, guid)?;
+    if items.is_empty() {
+        return Ok(PoolList {
+            count: 0,
+            address: 0,
+            certificate: None,
+        });
+    }
+    let bytes = match item_bytes(book.table().allocator(), items.as_slice()) {
+        Ok(bytes) => bytes,
+        Err(_) => return Err(Status::OutOfResources),
+    };
+    let (address, certificate) = pools.allocate_filled(book, LIST_TYPE, bytes.as_slice())?;
+    Ok(PoolList {
+        count: items.len() as u64,
+        address,
+        certificate,
+    })
+}
