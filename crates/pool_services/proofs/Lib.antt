@@ -7,3 +7,4 @@ pub mod NewExtents
 pub mod PoolBytes
 pub mod BlockBytes
 pub mod KeptPools
+pub mod FilledBlocks

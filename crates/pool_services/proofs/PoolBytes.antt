@@ -185,7 +185,7 @@ behind-end cells from first address count t bs h s l =
 
 -- ---- one extent gets other blocks
 
-at-set : (es : List Extent) (i : ℕ) (y : Extent) → i < length es → IsAt (set es i y) i y
+pub at-set : (es : List Extent) (i : ℕ) (y : Extent) → i < length es → IsAt (set es i y) i y
 at-set [] i y l = absurd (omega arith)
 at-set (x ∷ xs) zero y l = (omega arith, refl)
 at-set (x ∷ xs) (suc i) y l = let r = at-set xs i y (omega arith) in (omega (arith, r.0), r.1)

@@ -7,7 +7,7 @@ use Rattle.page_ranges.specs.Runs.{pages_of, IsValidMachine}
 use Rattle.page_services.specs.declared.page_book.Placed.{Placed}
 use Rattle.page_services.specs.PageRules.{Book, Choice, AllocatesPages, FreesPages}
 use Rattle.pool_services.specs.Extents.{Extent, AreExtents, tail_at, written}
-use Rattle.pool_services.specs.PoolRules.{Answer, AllocatesPool, FreesPool, OwnsExtents, ReadsPool, WritesPool}
+use Rattle.pool_services.specs.PoolRules.{Answer, AllocatesPool, FillsPool, FreesPool, OwnsExtents, ReadsPool, WritesPool}
 
 -- A machine's own pages are no pool's.
 abbrev pub GivenPagesLaw : Type 0
@@ -69,6 +69,12 @@ abbrev pub AllocatedBytesLaw : Choice → Type 0
 AllocatedBytesLaw Chosen =
     (b new_b : Book) (es new : List Extent) (t size : ℕ) (answer : Answer) → IsProperMemory b.memory → OwnsExtents b.memory es → AreExtents es → AllocatesPool Chosen b es t size (Ok answer) new_b new →
     (k : ℕ) → (byte_at k new ≡ laid answer.0 (replicate size 0) k (byte_at k es)) × (is_among answer.0 size k ≡ true → byte_at k es ≡ None)
+
+-- A block that is filled has the bytes that it was filled with, which stood in no block before; no other byte changes.
+abbrev pub FilledBytesLaw : Choice → Type 0
+FilledBytesLaw Chosen =
+    (b new_b : Book) (es new : List Extent) (t : ℕ) (bytes : List ℕ) (answer : Answer) → IsProperMemory b.memory → OwnsExtents b.memory es → AreExtents es → FillsPool Chosen b es t bytes (Ok answer) new_b new →
+    (k : ℕ) → (byte_at k new ≡ laid answer.0 bytes k (byte_at k es)) × (is_among answer.0 (length bytes) k ≡ true → byte_at k es ≡ None)
 
 -- FreePool takes the bytes of the block at the address away, and changes no other byte.
 abbrev pub FreedBytesLaw : Type 0

@@ -60,6 +60,13 @@ AllocatesPool Chosen b es t size (Err InvalidParameter) new_b new_es = (is_bad_t
 AllocatesPool Chosen b es t size (Err OutOfResources) new_b new_es = (is_bad_type t ≡ false) × (size ≤ max_size → first_fit t size es ≡ None) × (new_b ≡ b) × (new_es ≡ es)
 AllocatesPool Chosen b es t size (Err status) new_b new_es = ⊥
 
+-- What AllocatePool answers for a block as long as some bytes that is then filled with them, and the book and the extents after
+-- it. A refusal leaves both.
+abbrev pub FillsPool : Choice → Book → List Extent → ℕ → List ℕ → Result Answer Status → Book → List Extent → Type 0
+FillsPool Chosen b es t bytes (Ok answer) new_b new_es =
+    (placed : List Extent) × AllocatesPool Chosen b es t (length bytes) (Ok answer) new_b placed × (new_es ≡ written answer.0 bytes placed)
+FillsPool Chosen b es t bytes (Err status) new_b new_es = AllocatesPool Chosen b es t (length bytes) (Err status) new_b new_es
+
 -- ---- FreePool
 
 -- the book once an extent ended, if one did

@@ -1,6 +1,6 @@
 //! The laws of the pool, each the contract of a function that does nothing.
 ghost use Rattle.page_services.specs.PageRules.{IsAnyStart, IsBestChoice};
-ghost use Rattle.pool_services.specs.Laws.{AllocatedBytesLaw, FreedBytesLaw, FreedKeepsPoolLaw, GivenPagesLaw, PlacedKeepsPoolLaw, ReadBytesLaw, WrittenBytesLaw, WrittenKeepsPoolLaw};
+ghost use Rattle.pool_services.specs.Laws.{AllocatedBytesLaw, FilledBytesLaw, FreedBytesLaw, FreedKeepsPoolLaw, GivenPagesLaw, PlacedKeepsPoolLaw, ReadBytesLaw, WrittenBytesLaw, WrittenKeepsPoolLaw};
 
 use std::alloc::Allocator;
 
@@ -38,6 +38,12 @@ pub fn written_bytes_law()
 /// A new block's bytes are 0 and stood in no block before; AllocatePool changes no other byte.
 pub fn allocated_bytes_law()
     ensures { AllocatedBytesLaw IsBestChoice }
+{}
+
+/// A block that is filled has the bytes that it was filled with, which stood in no block before; no
+/// other byte changes.
+pub fn filled_bytes_law()
+    ensures { FilledBytesLaw IsBestChoice }
 {}
 
 /// FreePool takes the bytes of the block at the address away, and changes no other byte.

@@ -3,7 +3,7 @@ ghost use Rattle.std.specs.Prelude.{◌≡◌, ◌<◌, ◌≤◌, ◌^◌, fals
 ghost use Rattle.page_ranges.specs.MemoryTypes.{is_bad_type};
 ghost use Rattle.page_services.specs.PageRules.{IsBestChoice};
 ghost use Rattle.pool_services.specs.Extents.{first_fit, max_size, tail_at};
-ghost use Rattle.pool_services.specs.PoolRules.{AllocatesPool, FreesPool, OwnsExtents, ReadsPool, WritesPool, extent_request};
+ghost use Rattle.pool_services.specs.PoolRules.{AllocatesPool, FillsPool, FreesPool, OwnsExtents, ReadsPool, WritesPool, extent_request};
 ghost use Rattle.pool_services.specs.Searches.{IsEnded, IsFound, IsGivable, IsGivenIn, IsHolder, IsTakenIn, IsTakenLive, IsWrittenIn};
 
 use crate::extents::{HEADER_SIZE, PoolExtent, cells_for, pages_for};
@@ -92,6 +92,31 @@ impl<A: Allocator + Copy> Pools<A> {
             Some(address) => Ok((address, None)),
             None => self.take_new(book, mtype, size),
         }
+    }
+
+    /// AllocatePool for a block as long as some bytes, which it then holds. It goes where `allocate`
+    /// puts a block of so many bytes, and the answer has the same parts.
+    ///
+    /// INVALID_PARAMETER, OUT_OF_RESOURCES: as `allocate` answers. On an `Err` all is as it was.
+    pub fn allocate_filled(
+        &mut self,
+        book: &mut PageBook<A>,
+        mtype: u32,
+        bytes: &[u8],
+    ) -> Result<(u64, Option<Certificate<A>>), Status>
+        requires key { book.old.key < 2 ^ 62 }
+        requires owns { OwnsExtents book.old.memory self.old }
+        ensures fills { FillsPool IsBestChoice book.old self.old mtype bytes.now result book.new self.new }
+        ensures owns { OwnsExtents book.new.memory self.new }
+    {
+        // That the extents stand together is known where a field is named.
+        let _ = &self.extents;
+        let answer = self.allocate(book, mtype, bytes.len() as u64)?;
+        let _ = &self.extents;
+        let Ok(()) = self.write(answer.0, bytes) else {
+            unreachable!();
+        };
+        Ok(answer)
     }
 
     // Takes a block in the first extent of its type that has room, and answers its address.
