@@ -1,5 +1,5 @@
 -- Certificates, along runs.
-use Rattle.std.proofs.Common.{◌≡◌, ◌≤◌, ℕ, ◌∙◌, ap, sym, subst, arith, Bool, true, false, List, [], ◌∷◌, Option, Some, None, Result, Ok, Err, IfSome}
+use Rattle.std.proofs.Common.{◌≡◌, ◌≤◌, ◌*◌, ℕ, length, refl, ◌∙◌, ap, sym, subst, arith, Bool, true, false, List, [], ◌∷◌, Option, Some, None, Result, Ok, Err, IfSome}
 use Rattle.std.proofs.lemmas.Bool.{le-leb}
 use Rattle.std.specs.Option.{option_map, option_and_then}
 use Rattle.std.specs.List.{AllByRecursion}
@@ -21,7 +21,12 @@ use Rattle.page_services.specs.declared.page_book.Placed.{Placed}
 use Rattle.page_services.specs.PageRules.{Book, IsBestChoice, IsPlaced, placement_request, pool_request, AllocatesPages}
 use Rattle.page_services.proofs.Choices.{best_is_permitted}
 use Rattle.pool_services.specs.Extents.{Extent, Place, first_fit, max_size, pages_for}
-use Rattle.pool_services.specs.PoolRules.{Answer, AllocatesPool, IsPut, extent_request}
+use Rattle.pool_services.specs.PoolRules.{Answer, AllocatesPool, FillsPool, IsPut, extent_request}
+use Rattle.open_agents.specs.declared.items.OpenItem.{OpenItem}
+use Rattle.open_agents.specs.OpenItems.{items_on}
+use Rattle.protocol_services.specs.ListBytes.{handle_bytes, item_bytes}
+use Rattle.protocol_services.proofs.ListSizes.{handle_bytes-length, item_bytes-length}
+use Rattle.boot_core.specs.declared.calls.PoolList.{PoolList}
 use Rattle.boot_core.specs.declared.calls.Call.{Call}
 use Rattle.boot_core.specs.declared.calls.Call.TheVariants as call
 use Rattle.boot_core.specs.declared.calls.Reply.{Reply}
@@ -29,6 +34,7 @@ use Rattle.boot_core.specs.declared.calls.Reply.TheVariants as reply
 use Rattle.boot_core.specs.MachineRuns.{HasRecordNumbers}
 use Rattle.boot_core.specs.Machines.{Parts, State, AreSound, first_state}
 use Rattle.boot_core.specs.Certified.{certified}
+use Rattle.boot_core.specs.PoolLists.{LocatesBuffer, ListsOpens, PutsItems, list_type}
 use Rattle.boot_core.specs.Steps.{best_starts, Answers, CallRun}
 use Rattle.boot_core.specs.Laws.{IsAcceptedReply, AllAccepted, NamesTypes}
 use Rattle.boot_core.proofs.Outcomes.{stays_typed, stays_fitting, outcome, proper_request}
@@ -70,6 +76,29 @@ module _ (old : Parts) (proper : IsProperMemory old.book.memory) (typed : HasMac
   pool_result A t size (Ok answer) b es (good, few, put) = accepted_block t size (first_fit t size old.pools) answer b es good few put
   pool_result A t size (Err e) b es h = uncertified (extent_request t size) _
 
+  -- the block of a list, with the certificate of a new extent
+  list_result : {A : Type 0} (size : ℕ) (bytes : List ℕ) (told : PoolList A) (b : Book) (es : List Extent) → length bytes ≡ size * told.count → FillsPool IsBestChoice old.book old.pools list_type bytes (Ok (told.address, told.certificate)) b es →
+      IfSome {T = Request × CertificateValue} (option_and_then (λ r. option_map (λ c. (r, c)) told.certificate) (extent_request list_type (size * told.count))) (λ told. IsAccepted (memory_map old.book.memory) told.0 told.1)
+  list_result size bytes told b es long (placed, (good, few, put), e) =
+      subst (λ (n : ℕ). IfSome {T = Request × CertificateValue} (option_and_then (λ r. option_map (λ c. (r, c)) told.certificate) (extent_request list_type n)) (λ told. IsAccepted (memory_map old.book.memory) told.0 told.1)) long
+      (accepted_block list_type (length bytes) (first_fit list_type (length bytes) old.pools) (told.address, told.certificate) b placed good few put)
+
+  buffer_result : {A : Type 0} (search : ℕ) (guid : List ℕ) (key : ℕ) (result : Result (PoolList A) Status) (new : Parts) → LocatesBuffer IsBestChoice old search guid key result new →
+      IfSome (certified (call.LocateHandleBuffer search guid key) (reply.LocateHandleBuffer result)) (λ told. IsAccepted (memory_map old.book.memory) told.0 told.1)
+  buffer_result search guid key (Ok told) new (handles, found, some, count, filled, lists) =
+      list_result 8 (handle_bytes handles) told new.book new.pools (handle_bytes-length handles ∙ ap (λ (n : ℕ). 8 * n) (sym count)) filled
+  buffer_result search guid key (Err e) new h = tt
+
+  items_result : {A : Type 0} (handle : ℕ) (guid : List ℕ) (items : List OpenItem) (told : PoolList A) (new : Parts) → told.count ≡ length items → PutsItems IsBestChoice old items told new →
+      IfSome (certified (call.OpenProtocolInformation handle guid) (reply.OpenProtocolInformation (Ok told))) (λ told. IsAccepted (memory_map old.book.memory) told.0 told.1)
+  items_result handle guid [] told new count h = rw h.1 (uncertified (extent_request list_type (24 * told.count)) _)
+  items_result handle guid (i ∷ items) told new count h = list_result 24 (item_bytes (i ∷ items)) told new.book new.pools (item_bytes-length (i ∷ items) ∙ ap (λ (n : ℕ). 24 * n) (sym count)) h.0
+
+  opens_result : {A : Type 0} (handle : ℕ) (guid : List ℕ) (result : Result (PoolList A) Status) (new : Parts) → ListsOpens IsBestChoice old handle guid result new →
+      IfSome (certified (call.OpenProtocolInformation handle guid) (reply.OpenProtocolInformation result)) (λ told. IsAccepted (memory_map old.book.memory) told.0 told.1)
+  opens_result handle guid (Ok told) new h = items_result handle guid (items_on old.lists.opens handle guid) told new h.1 h.2
+  opens_result handle guid (Err e) new h = tt
+
 module _ {A : Type 0} (old : Parts) (proper : IsProperMemory old.book.memory) (typed : HasMachineTypes old.book.memory) where
   accepted_result : (kind t pages memory : ℕ) (result : Result (Placed A) Status) (new : Parts) → AllocatesPages IsBestChoice old.book kind t pages memory result new.book → IfSome (certified (call.AllocatePages kind t pages memory) (reply.AllocatePages result)) (λ told. IsAccepted (memory_map old.book.memory) told.0 told.1)
   accepted_result kind t pages memory (Ok placed) new (valid, at, e) =
@@ -88,11 +117,27 @@ module _ {A : Type 0} (old : Parts) (proper : IsProperMemory old.book.memory) (t
       let refused : answer ≡ reply.AllocatePool (Err Unsupported) = e ∙ ap reply.AllocatePool h.0 in
       subst (λ (a : Reply A). IfSome (certified (call.AllocatePool t size) a) (λ told. IsAccepted (memory_map old.book.memory) told.0 told.1)) (sym refused) (uncertified (extent_request t size) _)
   accepted_pool false t size answer new (result, e, h) =
-      subst (λ (a : Reply A). IfSome (certified (call.AllocatePool t size) a) (λ told. IsAccepted (memory_map old.book.memory) told.0 told.1)) (sym e) (pool_result old proper typed A t size result new.book new.pools h)
+      subst (λ (a : Reply A). IfSome (certified (call.AllocatePool t size) a) (λ told. IsAccepted (memory_map old.book.memory) told.0 told.1)) (sym e) (pool_result old proper typed A t size result new.book new.pools h.0)
+
+  accepted_buffer : (exited : Bool) (search : ℕ) (guid : List ℕ) (key : ℕ) (answer : Reply A) (new : Parts) → Answers best_starts exited old (call.LocateHandleBuffer search guid key) answer new → IfSome (certified (call.LocateHandleBuffer search guid key) answer) (λ told. IsAccepted (memory_map old.book.memory) told.0 told.1)
+  accepted_buffer true search guid key answer new (result, e, h) =
+      let refused : answer ≡ reply.LocateHandleBuffer (Err Unsupported) = e ∙ ap reply.LocateHandleBuffer h.0 in
+      subst (λ (a : Reply A). IfSome (certified (call.LocateHandleBuffer search guid key) a) (λ told. IsAccepted (memory_map old.book.memory) told.0 told.1)) (sym refused) tt
+  accepted_buffer false search guid key answer new (result, e, h) =
+      subst (λ (a : Reply A). IfSome (certified (call.LocateHandleBuffer search guid key) a) (λ told. IsAccepted (memory_map old.book.memory) told.0 told.1)) (sym e) (buffer_result old proper typed search guid key result new h)
+
+  accepted_opens : (exited : Bool) (handle : ℕ) (guid : List ℕ) (answer : Reply A) (new : Parts) → Answers best_starts exited old (call.OpenProtocolInformation handle guid) answer new → IfSome (certified (call.OpenProtocolInformation handle guid) answer) (λ told. IsAccepted (memory_map old.book.memory) told.0 told.1)
+  accepted_opens true handle guid answer new (result, e, h) =
+      let refused : answer ≡ reply.OpenProtocolInformation (Err Unsupported) = e ∙ ap reply.OpenProtocolInformation h.0 in
+      subst (λ (a : Reply A). IfSome (certified (call.OpenProtocolInformation handle guid) a) (λ told. IsAccepted (memory_map old.book.memory) told.0 told.1)) (sym refused) tt
+  accepted_opens false handle guid answer new (result, e, h) =
+      subst (λ (a : Reply A). IfSome (certified (call.OpenProtocolInformation handle guid) a) (λ told. IsAccepted (memory_map old.book.memory) told.0 told.1)) (sym e) (opens_result old proper typed handle guid result new h)
 
   pub accepted_reply : (exited : Bool) (calls_left : ℕ) (c : Call A) (answer : Reply A) (new : Parts) → Answers best_starts exited old c answer new → IsAcceptedReply (record { parts = old; exited = exited; calls_left = calls_left }) c answer
   accepted_reply exited n (call.AllocatePages kind t pages memory) answer new h = accepted_pages exited kind t pages memory answer new h
   accepted_reply exited n (call.AllocatePool t size) answer new h = accepted_pool exited t size answer new h
+  accepted_reply exited n (call.LocateHandleBuffer search guid key) answer new h = accepted_buffer exited search guid key answer new h
+  accepted_reply exited n (call.OpenProtocolInformation handle guid) answer new h = accepted_opens exited handle guid answer new h
   accepted_reply exited n c answer new h = tt
 
 all_accepted : {A : Type 0} (old : State) (calls : List (Call A)) (replies : List (Reply A)) (new : State) (run : CallRun old calls replies new) → AreSound old.parts → HasMachineTypes old.parts.book.memory → AllAccepted old calls replies new run

@@ -1,5 +1,5 @@
 -- A step with the best start is a step with any permitted start.
-use Rattle.std.proofs.Common.{ℕ, Bool, true, false, List, [], ◌∷◌, Option, Some, None, Result, Ok, Err, subst}
+use Rattle.std.proofs.Common.{ℕ, Bool, true, false, List, [], ◌∷◌, length, Option, Some, None, Result, Ok, Err, subst}
 use Rattle.page_ranges.specs.declared.statuses.Status.{Status}
 use Rattle.page_ranges.specs.declared.statuses.Status.TheVariants as status
 use Rattle.page_ranges.specs.Memory.{Page}
@@ -8,12 +8,17 @@ use Rattle.page_services.specs.declared.page_book.Placed.{Placed}
 use Rattle.page_services.specs.PageRules.{Book, IsAnyStart, IsBestChoice, IsPlaced, placement_request, pool_request, AllocatesPages}
 use Rattle.page_services.proofs.Choices.{best_is_permitted}
 use Rattle.pool_services.specs.Extents.{Extent, Place, first_fit, pages_for}
-use Rattle.pool_services.specs.PoolRules.{Answer, AllocatesPool, IsPut}
+use Rattle.pool_services.specs.PoolRules.{Answer, AllocatesPool, FillsPool, IsPut}
+use Rattle.open_agents.specs.declared.items.OpenItem.{OpenItem}
+use Rattle.open_agents.specs.OpenItems.{items_on}
+use Rattle.protocol_services.specs.ListBytes.{handle_bytes, item_bytes}
 use Rattle.boot_core.specs.declared.calls.Call.{Call}
 use Rattle.boot_core.specs.declared.calls.Call.TheVariants as call
+use Rattle.boot_core.specs.declared.calls.PoolList.{PoolList}
 use Rattle.boot_core.specs.declared.calls.Reply.{Reply}
 use Rattle.boot_core.specs.Machines.{Parts, State}
-use Rattle.boot_core.specs.Steps.{best_starts, any_starts, OnBook, WhileOpen, Serves, Answers, Step, StepAny, CallRunBy, CallRun}
+use Rattle.boot_core.specs.PoolLists.{LocatesBuffer, ListsOpens, PutsItems, list_type}
+use Rattle.boot_core.specs.Steps.{best_starts, any_starts, OnBook, OnBookAndPools, WhileOpen, Serves, Answers, Step, StepAny, CallRunBy, CallRun}
 
 placed_any : {A : Type 0} (m : List Page) (r : Option Request) (pages memory : ℕ) (placed : Placed A) → IsPlaced IsBestChoice m r pages memory placed → IsPlaced IsAnyStart m r pages memory placed
 placed_any m (Some r) pages memory placed (start, chosen, at) = (start, best_is_permitted m r start placed.certificate chosen, at)
@@ -48,19 +53,39 @@ while_open false old new P Q Refusal f h = f h
 served_as : {A R : Type 0} (exited : Bool) (old new : Parts) (answer : Reply A) (tell : Result R Status → Reply A) (P Q : Result R Status → Type 0) → ((result : Result R Status) → P result → Q result) → Serves exited old new answer tell P → Serves exited old new answer tell Q
 served_as exited old new answer tell P Q f (result, told, h) = (result, told, while_open exited old new (P result) (Q result) _ (f result) h)
 
+fills_any : (b : Book) (es : List Extent) (t : ℕ) (bytes : List ℕ) (result : Result Answer Status) (new_b : Book) (new : List Extent) → FillsPool IsBestChoice b es t bytes result new_b new → FillsPool IsAnyStart b es t bytes result new_b new
+fills_any b es t bytes (Ok answer) new_b new (placed, h, e) = (placed, pool_any b es t (length bytes) (Ok answer) new_b placed h, e)
+fills_any b es t bytes (Err e) new_b new h = pool_any b es t (length bytes) (Err e) new_b new h
+
+buffer_any : {A : Type 0} (old : Parts) (search : ℕ) (guid : List ℕ) (key : ℕ) (result : Result (PoolList A) Status) (new : Parts) → LocatesBuffer IsBestChoice old search guid key result new → LocatesBuffer IsAnyStart old search guid key result new
+buffer_any old search guid key (Ok told) new (handles, found, some, count, filled, lists) = (handles, found, some, count, fills_any old.book old.pools list_type (handle_bytes handles) (Ok (told.address, told.certificate)) new.book new.pools filled, lists)
+buffer_any old search guid key (Err status.InvalidParameter) new h = h
+buffer_any old search guid key (Err status.NotFound) new h = h
+buffer_any old search guid key (Err status.OutOfResources) new h = h
+buffer_any old search guid key (Err other) new h = absurd h
+
+items_any : {A : Type 0} (old : Parts) (items : List OpenItem) (told : PoolList A) (new : Parts) → PutsItems IsBestChoice old items told new → PutsItems IsAnyStart old items told new
+items_any old [] told new h = h
+items_any old (i ∷ items) told new h = (fills_any old.book old.pools list_type (item_bytes (i ∷ items)) (Ok (told.address, told.certificate)) new.book new.pools h.0, h.1)
+
+opens_any : {A : Type 0} (old : Parts) (handle : ℕ) (guid : List ℕ) (result : Result (PoolList A) Status) (new : Parts) → ListsOpens IsBestChoice old handle guid result new → ListsOpens IsAnyStart old handle guid result new
+opens_any old handle guid (Ok told) new h = (h.0, h.1, items_any old (items_on old.lists.opens handle guid) told new h.2)
+opens_any old handle guid (Err status.NotFound) new h = h
+opens_any old handle guid (Err status.OutOfResources) new h = h
+opens_any old handle guid (Err other) new h = absurd h
+
 answers_any : {A : Type 0} (exited : Bool) (old : Parts) (c : Call A) (answer : Reply A) (new : Parts) → Answers best_starts exited old c answer new → Answers any_starts exited old c answer new
 answers_any exited old (call.AllocatePages kind t pages memory) answer new h =
     served_as exited old new answer _ (λ result. OnBook (AllocatesPages IsBestChoice old.book kind t pages memory result) old new) (λ result. OnBook (AllocatesPages IsAnyStart old.book kind t pages memory result) old new)
-    (λ result rule. (allocates_any old.book kind t pages memory result new.book rule.0, rule.1)) h
-answers_any exited old (call.FreePages memory pages) answer new h = h
-answers_any exited old (call.GetMemoryMap size) answer new h = h
+    (λ result rule. (allocates_any old.book kind t pages memory result new.book rule.0, rule.1, rule.2)) h
 answers_any exited old (call.AllocatePool t size) answer new h =
-    served_as exited old new answer _ (λ result. AllocatesPool IsBestChoice old.book old.pools t size result new.book new.pools) (λ result. AllocatesPool IsAnyStart old.book old.pools t size result new.book new.pools)
-    (λ result. pool_any old.book old.pools t size result new.book new.pools) h
-answers_any exited old (call.FreePool address) answer new h = h
-answers_any exited old (call.PoolRead address size) answer new h = h
-answers_any exited old (call.PoolWrite address bytes) answer new h = h
-answers_any exited old (call.ExitBootServices key) answer new h = h
+    served_as exited old new answer _ (λ result. OnBookAndPools (AllocatesPool IsBestChoice old.book old.pools t size result) old new) (λ result. OnBookAndPools (AllocatesPool IsAnyStart old.book old.pools t size result) old new)
+    (λ result rule. (pool_any old.book old.pools t size result new.book new.pools rule.0, rule.1)) h
+answers_any exited old (call.LocateHandleBuffer search guid key) answer new h =
+    served_as exited old new answer _ (λ result. LocatesBuffer IsBestChoice old search guid key result new) (λ result. LocatesBuffer IsAnyStart old search guid key result new) (λ result. buffer_any old search guid key result new) h
+answers_any exited old (call.OpenProtocolInformation handle guid) answer new h =
+    served_as exited old new answer _ (λ result. ListsOpens IsBestChoice old handle guid result new) (λ result. ListsOpens IsAnyStart old handle guid result new) (λ result. opens_any old handle guid result new) h
+answers_any exited old c answer new h = h
 
 pub step_any : {A : Type 0} (old : State) (c : Call A) (answer : Reply A) (new : State) → Step old c answer new → StepAny old c answer new
 step_any old c answer new s = record { answers = answers_any old.exited old.parts c answer new.parts s.answers; exited = s.exited; calls_left = s.calls_left }

@@ -11,7 +11,7 @@ use Rattle.boot_core.specs.declared.calls.Reply.{Reply}
 use Rattle.boot_core.specs.declared.calls.Reply.TheVariants as reply
 use Rattle.boot_core.specs.Machines.{State, AreSound}
 use Rattle.boot_core.specs.Steps.{best_starts, Step, CallRun}
-use Rattle.boot_core.specs.Laws.{byte_after, LaysBytes, LeavesByte}
+use Rattle.boot_core.specs.Laws.{byte_after, gives_back, laid_over, lays, left_by, LeavesByte}
 use Rattle.boot_core.proofs.PoolBytes.{bytes_after, read_bytes}
 use Rattle.boot_core.proofs.Soundness.{run_sound, stays_sound}
 
@@ -30,18 +30,10 @@ laid_at address bytes i old low =
     let place : address + i - address ≡ i = omega arith in
     laid-in address bytes (address + i) old (omega arith) (omega (arith, low)) ∙ ap (λ (n : ℕ). first_of (drop n bytes)) place
 
-lays : {A : Type 0} (first old : State) (c : Call A) (answer : Reply A) (address : ℕ) (bytes : List ℕ) → AreSound first.parts → Step first c answer old → LaysBytes c answer address bytes → (i : ℕ) → i < length bytes → byte_at (address + i) old.parts.pools ≡ first_of (drop i bytes)
-lays first old (call.AllocatePool t size) (reply.AllocatePool (Ok block)) address bytes sound step (here, zeros) i low =
-    bytes_after first.exited first.parts (call.AllocatePool t size) (reply.AllocatePool (Ok block)) old.parts sound step.answers (address + i)
-    ∙ ap (λ (n : ℕ). laid n (replicate size 0) (address + i) (byte_at (address + i) first.parts.pools)) (sym here)
-    ∙ ap (λ (ys : List ℕ). laid address ys (address + i) (byte_at (address + i) first.parts.pools)) (sym zeros)
-    ∙ laid_at address bytes i (byte_at (address + i) first.parts.pools) low
-lays first old (call.PoolWrite to its) (reply.PoolWrite (Ok done)) address bytes sound step (here, same) i low =
-    bytes_after first.exited first.parts (call.PoolWrite to its) (reply.PoolWrite (Ok done)) old.parts sound step.answers (address + i)
-    ∙ ap (λ (n : ℕ). laid n its (address + i) (byte_at (address + i) first.parts.pools)) (sym here)
-    ∙ ap (λ (ys : List ℕ). laid address ys (address + i) (byte_at (address + i) first.parts.pools)) (sym same)
-    ∙ laid_at address bytes i (byte_at (address + i) first.parts.pools) low
-lays first old c answer address bytes sound step none i low = absurd none
+lies : {A : Type 0} (first old : State) (c : Call A) (answer : Reply A) (address : ℕ) (bytes : List ℕ) → AreSound first.parts → Step first c answer old → lays first.parts c answer ≡ Some (address, bytes) → (i : ℕ) → i < length bytes → byte_at (address + i) old.parts.pools ≡ first_of (drop i bytes)
+lies first old c answer address bytes sound step laid_here i low =
+    let before = left_by (gives_back c answer) first.parts.pools (address + i) in
+    bytes_after first.exited first.parts c answer old.parts sound step.answers (address + i) ∙ ap (λ (o : Option (ℕ × List ℕ)). laid_over o (address + i) before) laid_here ∙ laid_at address bytes i before low
 
 -- a byte that no call of a run changes
 kept : {A : Type 0} (old : State) (calls : List (Call A)) (replies : List (Reply A)) (new : State) (run : CallRun old calls replies new) (k : ℕ) → AreSound old.parts → LeavesByte old calls replies new run k → byte_at k new.parts.pools ≡ byte_at k old.parts.pools
@@ -53,9 +45,9 @@ kept old [] (r ∷ replies) new run k sound leaves = absurd run
 kept old (c ∷ calls) [] new run k sound leaves = absurd run
 
 pub last_bytes : {A : Type 0} (first old : State) (c : Call A) (answer : Reply A) (address : ℕ) (bytes : List ℕ) (calls : List (Call A)) (replies : List (Reply A)) (new : State) (run : CallRun old calls replies new) (used : Vec ℕ A) (after : State) →
-    AreSound first.parts → Step first c answer old → LaysBytes c answer address bytes → ((i : ℕ) → i < length bytes → LeavesByte old calls replies new run (address + i)) →
+    AreSound first.parts → Step first c answer old → lays first.parts c answer ≡ Some (address, bytes) → ((i : ℕ) → i < length bytes → LeavesByte old calls replies new run (address + i)) →
     Step new (call.PoolRead address (length bytes)) (reply.PoolRead Success used) after → used.items ≡ bytes
 last_bytes first old c answer address bytes calls replies new run used after sound step lays_here leaves reads =
     let still = stays_sound best_starts best_is_permitted first.exited first.parts c answer old.parts sound step.answers in
     let (long, told) = read_bytes new.exited new.parts after.parts address (length bytes) used (run_sound best_starts best_is_permitted old calls replies new still run) reads.answers in
-    same_items used.items bytes long (λ i low. sym (told i low) ∙ kept old calls replies new run (address + i) still (leaves i low) ∙ lays first old c answer address bytes sound step lays_here i low)
+    same_items used.items bytes long (λ i low. sym (told i low) ∙ kept old calls replies new run (address + i) still (leaves i low) ∙ lies first old c answer address bytes sound step lays_here i low)

@@ -3,6 +3,8 @@ pub mod RecordPages
 pub mod Serving
 pub mod AnySteps
 pub mod Running
+pub mod Quiet
+pub mod Follows
 pub mod Outcomes
 pub mod Soundness
 pub mod ReadReplies

@@ -1,5 +1,5 @@
 -- What a step does to a book: it keeps it, or changes the type of a page.
-use Rattle.std.proofs.Common.{◌≡◌, ◌⊎◌, ℕ, ◌+◌, ◌/◌, ◌^◌, ◌<◌, ◌≤◌, ◌==◌, Bool, true, false, cond, List, Option, Some, None, Result, Ok, Err, IfSome, length, refl, sym, ap, subst, ◌∙◌, inl, inr, arith, ne_eqb}
+use Rattle.std.proofs.Common.{◌≡◌, ◌⊎◌, ℕ, ◌+◌, ◌/◌, ◌^◌, ◌<◌, ◌≤◌, ◌==◌, Bool, true, false, cond, List, [], ◌∷◌, Option, Some, None, Result, Ok, Err, IfSome, length, refl, sym, ap, subst, ◌∙◌, inl, inr, arith, ne_eqb}
 use Rattle.std.specs.Option.{option_map}
 use Rattle.std.proofs.lemmas.Option.{same_Some}
 use Rattle.page_ranges.specs.declared.ranges.Owner.{Owner}
@@ -19,13 +19,19 @@ use Rattle.page_services.specs.declared.page_book.Placed.{Placed}
 use Rattle.page_services.specs.PageRules.{Book, any_pages, max_address, range_from, changed_book, placement_request, pool_request, IsPlaced, AllocatesPages, FreesPages}
 use Rattle.page_services.proofs.Choices.{Permits}
 use Rattle.pool_services.specs.Extents.{Extent, Place, AreExtents, ended, first_fit, pages_for}
-use Rattle.pool_services.specs.PoolRules.{Answer, AllocatesPool, FreesPool, IsPut, OwnsExtents, WritesPool, given_if}
+use Rattle.pool_services.specs.PoolRules.{Answer, AllocatesPool, FillsPool, FreesPool, IsPut, OwnsExtents, WritesPool, given_if}
 use Rattle.pool_services.proofs.KeptPools.{ended-owned}
 use Rattle.boot_core.specs.declared.calls.Call.{Call}
 use Rattle.boot_core.specs.declared.calls.Call.TheVariants as call
 use Rattle.boot_core.specs.declared.calls.Reply.{Reply}
 use Rattle.boot_core.specs.Machines.{Parts, AreSound}
-use Rattle.boot_core.specs.Steps.{Setting, OnBook, OnPools, WhileOpen, Serves, Answers}
+use Rattle.open_agents.specs.declared.items.OpenItem.{OpenItem}
+use Rattle.open_agents.specs.OpenItems.{items_on}
+use Rattle.protocol_services.specs.ListBytes.{handle_bytes, item_bytes}
+use Rattle.boot_core.specs.declared.calls.PoolList.{PoolList}
+use Rattle.boot_core.specs.PoolLists.{LocatesBuffer, ListsOpens, PutsItems, list_type}
+use Rattle.boot_core.specs.Steps.{Setting, OnBook, OnBookAndPools, OnPools, Serves, Answers}
+use Rattle.boot_core.proofs.Quiet.{quiet}
 use Rattle.boot_core.specs.Laws.{type_at, HaveSameTypes, NamesTypes}
 use Rattle.boot_core.proofs.RecordPages.{HaveFields, retyped-fields}
 
@@ -160,9 +166,10 @@ served Fits false old new answer tell Rule f (result, told, h) = f result h
 kept : (Fits : Type 0) (old new : Parts) → new ≡ old → Outcome Fits old.book new.book
 kept Fits old new e = inl (ap (λ (p : Parts). p.book) e)
 
-kept_open : (Fits : Type 0) (exited : Bool) (old new : Parts) (Rule Refusal : Type 0) → (Rule → new ≡ old) → WhileOpen exited old new Rule Refusal → Outcome Fits old.book new.book
-kept_open Fits true old new Rule Refusal f h = kept Fits old new h.1
-kept_open Fits false old new Rule Refusal f h = kept Fits old new (f h)
+-- types that fit by themselves
+any_fits : (Fits : Type 0) (old new : Book) → Fits → Outcome Fits old new → Outcome (Unit {0}) old new
+any_fits Fits old new fits (inl e) = inl e
+any_fits Fits old new fits (inr changed) = inr (record { up = changed.up; proper = changed.proper; differs = changed.differs; typed = changed.typed; fields = λ u. changed.fields fits; grows = changed.grows })
 
 module _ (S : Setting) (permits : Permits S.chosen) where
   first_is_free : {A : Type 0} (m : List Page) (r : Option Request) (pages memory : ℕ) (placed : Placed A) → 0 < pages → IfSome r IsProperRequest → IsPlaced S.chosen m r pages memory placed → IsConventional (page_at m (placed.address / page_size))
@@ -192,17 +199,44 @@ module _ (S : Setting) (permits : Permits S.chosen) where
   allocates_pool b es t size (Err status.OutOfResources) new_b new proper h = inl h.2
   allocates_pool b es t size (Err other) new_b new proper h = absurd h
 
+  pub fills_pool : (b : Book) (es : List Extent) (t : ℕ) (bytes : List ℕ) (result : Result Answer Status) (new_b : Book) (new : List Extent) → IsProperMemory b.memory → FillsPool S.chosen b es t bytes result new_b new → Outcome (t < 2 ^ 32) b new_b
+  fills_pool b es t bytes (Ok answer) new_b new proper (placed, h, e) = allocates_pool b es t (length bytes) (Ok answer) new_b placed proper h
+  fills_pool b es t bytes (Err e) new_b new proper h = allocates_pool b es t (length bytes) (Err e) new_b new proper h
+
+  -- the type of a list's block has 32 bits
+  listed : (b : Book) (es : List Extent) (bytes : List ℕ) (result : Result Answer Status) (new_b : Book) (new : List Extent) → IsProperMemory b.memory → FillsPool S.chosen b es list_type bytes result new_b new → Outcome (Unit {0}) b new_b
+  listed b es bytes result new_b new proper h = any_fits (list_type < 2 ^ 32) b new_b (omega arith) (fills_pool b es list_type bytes result new_b new proper h)
+
+  locates_buffer : {A : Type 0} (old : Parts) (search : ℕ) (guid : List ℕ) (key : ℕ) (result : Result (PoolList A) Status) (new : Parts) → IsProperMemory old.book.memory → LocatesBuffer S.chosen old search guid key result new → Outcome (Unit {0}) old.book new.book
+  locates_buffer old search guid key (Ok told) new proper (handles, found, some, count, filled, lists) = listed old.book old.pools (handle_bytes handles) (Ok (told.address, told.certificate)) new.book new.pools proper filled
+  locates_buffer old search guid key (Err status.InvalidParameter) new proper h = kept (Unit {0}) old new h.1
+  locates_buffer old search guid key (Err status.NotFound) new proper h = kept (Unit {0}) old new h.1
+  locates_buffer old search guid key (Err status.OutOfResources) new proper h = kept (Unit {0}) old new h.3
+  locates_buffer old search guid key (Err other) new proper h = absurd h
+
+  puts_items : {A : Type 0} (old : Parts) (items : List OpenItem) (told : PoolList A) (new : Parts) → IsProperMemory old.book.memory → PutsItems S.chosen old items told new → Outcome (Unit {0}) old.book new.book
+  puts_items old [] told new proper h = kept (Unit {0}) old new h.2
+  puts_items old (i ∷ items) told new proper h = listed old.book old.pools (item_bytes (i ∷ items)) (Ok (told.address, told.certificate)) new.book new.pools proper h.0
+
+  lists_opens : {A : Type 0} (old : Parts) (handle : ℕ) (guid : List ℕ) (result : Result (PoolList A) Status) (new : Parts) → IsProperMemory old.book.memory → ListsOpens S.chosen old handle guid result new → Outcome (Unit {0}) old.book new.book
+  lists_opens old handle guid (Ok told) new proper h = puts_items old (items_on old.lists.opens handle guid) told new proper h.2
+  lists_opens old handle guid (Err status.NotFound) new proper h = kept (Unit {0}) old new h.1
+  lists_opens old handle guid (Err status.OutOfResources) new proper h = kept (Unit {0}) old new h.2
+  lists_opens old handle guid (Err other) new proper h = absurd h
+
   pub outcome : {A : Type 0} (exited : Bool) (old : Parts) (c : Call A) (answer : Reply A) (new : Parts) → AreSound old → Answers S exited old c answer new → Outcome (NamesTypes c) old.book new.book
   outcome exited old (call.AllocatePages kind t pages memory) answer new sound h =
       served (t < 2 ^ 32) exited old new answer _ (λ result. OnBook (AllocatesPages S.chosen old.book kind t pages memory result) old new) (λ result rule. allocates old.book kind t pages memory result new.book sound.proper rule.0) h
   outcome exited old (call.FreePages memory pages) answer new sound h =
       served (Unit {0}) exited old new answer _ (λ result. OnBook (FreesPages old.book memory pages result) old new) (λ result rule. frees (Unit {0}) old.book memory pages result new.book sound.proper rule.0) h
-  outcome exited old (call.GetMemoryMap size) answer new sound (told, bytes, e, h) = kept_open (Unit {0}) exited old new _ _ (λ rule. rule.1) h
   outcome exited old (call.AllocatePool t size) answer new sound h =
-      served (t < 2 ^ 32) exited old new answer _ (λ result. AllocatesPool S.chosen old.book old.pools t size result new.book new.pools) (λ result. allocates_pool old.book old.pools t size result new.book new.pools sound.proper) h
+      served (t < 2 ^ 32) exited old new answer _ (λ result. OnBookAndPools (AllocatesPool S.chosen old.book old.pools t size result) old new) (λ result rule. allocates_pool old.book old.pools t size result new.book new.pools sound.proper rule.0) h
   outcome exited old (call.FreePool address) answer new sound h =
-      served (Unit {0}) exited old new answer _ (λ result. FreesPool old.book old.pools address result new.book new.pools) (λ result. frees_pool (Unit {0}) old.book old.pools address result new.book new.pools sound.proper sound.extents sound.owned) h
-  outcome exited old (call.PoolRead address size) answer new sound (told, bytes, e, h) = kept_open (Unit {0}) exited old new _ _ (λ rule. rule.1) h
+      served (Unit {0}) exited old new answer _ (λ result. OnBookAndPools (FreesPool old.book old.pools address result) old new) (λ result rule. frees_pool (Unit {0}) old.book old.pools address result new.book new.pools sound.proper sound.extents sound.owned rule.0) h
   outcome exited old (call.PoolWrite address bytes) answer new sound h =
       served (Unit {0}) exited old new answer _ (λ result. OnPools (WritesPool old.pools address bytes result) old new) (λ result rule. inl rule.1) h
-  outcome exited old (call.ExitBootServices key) answer new sound (result, e, h) = kept_open (Unit {0}) exited old new _ _ (λ rule. rule.1) h
+  outcome exited old (call.LocateHandleBuffer search guid key) answer new sound h =
+      served (Unit {0}) exited old new answer _ (λ result. LocatesBuffer S.chosen old search guid key result new) (λ result rule. locates_buffer old search guid key result new sound.proper rule) h
+  outcome exited old (call.OpenProtocolInformation handle guid) answer new sound h =
+      served (Unit {0}) exited old new answer _ (λ result. ListsOpens S.chosen old handle guid result new) (λ result rule. lists_opens old handle guid result new sound.proper rule) h
+  outcome exited old c answer new sound h = inl (quiet S exited old c answer new tt h).0

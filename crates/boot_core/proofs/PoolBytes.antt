@@ -1,82 +1,163 @@
 -- The pool's bytes, call after call.
-use Rattle.std.proofs.Common.{◌≡◌, ℕ, ◌+◌, ◌<◌, ◌≤◌, Bool, true, false, cond, List, [], length, take, drop, replicate, Option, Some, None, Result, Ok, Err, refl, sym, ap, subst, ◌∙◌, arith, Vec}
+use Rattle.std.proofs.Common.{◌≡◌, ℕ, ◌+◌, ◌<◌, ◌≤◌, is_ok, inl, inr, Bool, true, false, cond, List, [], ◌∷◌, length, take, drop, replicate, Option, Some, None, Result, Ok, Err, refl, sym, ap, subst, ◌∙◌, arith, Vec}
+use Rattle.std.proofs.lemmas.Bool.{cases_lt}
 use Rattle.std.proofs.lemmas.List.{length-take-le}
 use Rattle.page_ranges.specs.declared.statuses.Status.{Status}
 use Rattle.page_ranges.specs.declared.statuses.Status.TheVariants as status
 use Rattle.page_services.specs.PageRules.{Book, IsBestChoice, AllocatesPages, FreesPages}
 use Rattle.pool_services.specs.Extents.{Extent, tail_at}
-use Rattle.pool_services.specs.PoolRules.{Answer, AllocatesPool, FreesPool, ReadsPool, WritesPool}
+use Rattle.pool_services.specs.PoolRules.{Answer, AllocatesPool, FillsPool, FreesPool, ReadsPool, WritesPool}
+use Rattle.pool_services.proofs.FilledBlocks.{filled}
+use Rattle.open_agents.specs.declared.items.OpenItem.{OpenItem}
+use Rattle.open_agents.specs.OpenItems.{items_on}
+use Rattle.protocol_services.specs.ListBytes.{handle_bytes, item_bytes}
+use Rattle.protocol_services.specs.Lists.{Lists}
+use Rattle.protocol_services.specs.Searches.{found_handles}
 use Rattle.pool_services.specs.Laws.{byte_at, first_of, is_among, laid}
 use Rattle.pool_services.proofs.BlockBytes.{took, freed}
-use Rattle.pool_services.proofs.PoolBytes.{read, wrote}
+use Rattle.pool_services.proofs.PoolBytes.{laid-high, laid-low, read, wrote}
 use Rattle.boot_core.specs.declared.calls.Call.{Call}
 use Rattle.boot_core.specs.declared.calls.Call.TheVariants as call
+use Rattle.boot_core.specs.declared.calls.PoolList.{PoolList}
 use Rattle.boot_core.specs.declared.calls.Reply.{Reply}
 use Rattle.boot_core.specs.declared.calls.Reply.TheVariants as reply
 use Rattle.boot_core.specs.Machines.{Parts, State, AreSound}
 use Rattle.boot_core.specs.PoolCalls.{AnswersRead}
-use Rattle.boot_core.specs.Steps.{best_starts, OnBook, OnPools, WhileOpen, Serves, Answers, Step}
-use Rattle.boot_core.specs.Laws.{byte_after, bytes_left}
+use Rattle.boot_core.specs.PoolLists.{LocatesBuffer, ListsOpens, PutsItems, list_type}
+use Rattle.boot_core.specs.Steps.{best_starts, OnBookAndPools, OnPools, WhileOpen, Serves, Answers, Step}
+use Rattle.boot_core.specs.Laws.{byte_after, bytes_left, gives_back, handles_of, laid_over, lays, left_by}
+use Rattle.boot_core.proofs.Quiet.{quiet}
+use Rattle.boot_core.proofs.Soundness.{parts_of}
 
--- ---- the calls that change bytes
+-- ---- the rules that change bytes
 
-allocated : (A : Type 0) (b new_b : Book) (es new : List Extent) (t size : ℕ) (result : Result Answer Status) → AreSound (record { book = b; pools = es }) → AllocatesPool IsBestChoice b es t size result new_b new → (k : ℕ) →
-    byte_at k new ≡ byte_after {A = A} (call.AllocatePool t size) (reply.AllocatePool result) es k
-allocated A b new_b es new t size (Ok answer) sound h k = (took b new_b es new t size answer sound.proper sound.owned sound.extents h k).0
-allocated A b new_b es new t size (Err status.InvalidParameter) sound h k = ap (byte_at k) h.2
-allocated A b new_b es new t size (Err status.OutOfResources) sound h k = ap (byte_at k) h.3
-allocated A b new_b es new t size (Err other) sound h k = absurd h
+-- the bytes that a block of the pool begins with, if there is one
+abbrev Laid : Option (ℕ × List ℕ) → List Extent → List Extent → Type 0
+Laid block es new = (k : ℕ) → byte_at k new ≡ laid_over block k (byte_at k es)
 
-given_back : (A : Type 0) (b new_b : Book) (es new : List Extent) (address : ℕ) (result : Result (Unit {0}) Status) → AreSound (record { book = b; pools = es }) → FreesPool b es address result new_b new → (k : ℕ) →
-    byte_at k new ≡ byte_after {A = A} (call.FreePool address) (reply.FreePool result) es k
-given_back A b new_b es new address (Ok done) sound h k =
+same_bytes : (block : Option (ℕ × List ℕ)) (es new : List Extent) → block ≡ None → new ≡ es → Laid block es new
+same_bytes block es new none e k = ap (byte_at k) e ∙ sym (ap (λ (o : Option (ℕ × List ℕ)). laid_over o k (byte_at k es)) none)
+
+-- what a result tells of a block, with its bytes
+abbrev block_told : {R : Type 0} → (R → ℕ) → List ℕ → Result R Status → Option (ℕ × List ℕ)
+block_told address bytes (Ok told) = Some (address told, bytes)
+block_told address bytes (Err e) = None
+
+allocated : (b new_b : Book) (es new : List Extent) (t size : ℕ) (result : Result Answer Status) (l : Lists) → AreSound (parts_of b es l) → AllocatesPool IsBestChoice b es t size result new_b new → Laid (block_told (λ (block : Answer). block.0) (replicate size 0) result) es new
+allocated b new_b es new t size (Ok answer) l sound h k = (took b new_b es new t size answer sound.proper sound.owned sound.extents h k).0
+allocated b new_b es new t size (Err status.InvalidParameter) l sound h k = ap (byte_at k) h.2
+allocated b new_b es new t size (Err status.OutOfResources) l sound h k = ap (byte_at k) h.3
+allocated b new_b es new t size (Err other) l sound h k = absurd h
+
+given_back : (b new_b : Book) (es new : List Extent) (address : ℕ) (result : Result (Unit {0}) Status) (l : Lists) → AreSound (parts_of b es l) → FreesPool b es address result new_b new → (k : ℕ) →
+    byte_at k new ≡ left_by (cond (is_ok result) (Some address) None) es k
+given_back b new_b es new address (Ok done) l sound h k =
     let (bytes, here, is) = freed b new_b es new address done sound.extents h in
     is k ∙ ap (λ (n : ℕ). cond (is_among address n k) None (byte_at k es)) (sym (ap bytes_left here))
-given_back A b new_b es new address (Err status.InvalidParameter) sound h k = ap (byte_at k) h.2
-given_back A b new_b es new address (Err status.OutOfResources) sound h k = ap (byte_at k) h.5
-given_back A b new_b es new address (Err other) sound h k = absurd h
+given_back b new_b es new address (Err status.InvalidParameter) l sound h k = ap (byte_at k) h.2
+given_back b new_b es new address (Err status.OutOfResources) l sound h k = ap (byte_at k) h.5
+given_back b new_b es new address (Err other) l sound h k = absurd h
 
-written_bytes : (A : Type 0) (es new : List Extent) (address : ℕ) (bytes : List ℕ) (result : Result (Unit {0}) Status) (b : Book) → AreSound (record { book = b; pools = es }) → WritesPool es address bytes result new → (k : ℕ) →
-    byte_at k new ≡ byte_after {A = A} (call.PoolWrite address bytes) (reply.PoolWrite result) es k
-written_bytes A es new address bytes (Ok done) b sound h k = wrote es new address bytes done sound.extents h k
-written_bytes A es new address bytes (Err status.InvalidParameter) b sound h k = ap (byte_at k) h.1
-written_bytes A es new address bytes (Err other) b sound h k = absurd h
+written_bytes : (es new : List Extent) (address : ℕ) (bytes : List ℕ) (result : Result (Unit {0}) Status) (b : Book) (l : Lists) → AreSound (parts_of b es l) → WritesPool es address bytes result new → Laid (block_told (λ (done : Unit {0}). address) bytes result) es new
+written_bytes es new address bytes (Ok done) b l sound h k = wrote es new address bytes done sound.extents h k
+written_bytes es new address bytes (Err status.InvalidParameter) b l sound h k = ap (byte_at k) h.1
+written_bytes es new address bytes (Err other) b l sound h k = absurd h
+
+filled_bytes : {A : Type 0} (old new : Parts) (bytes : List ℕ) (told : PoolList A) → AreSound old → FillsPool IsBestChoice old.book old.pools list_type bytes (Ok (told.address, told.certificate)) new.book new.pools → Laid (Some (told.address, bytes)) old.pools new.pools
+filled_bytes old new bytes told sound h k = (filled old.book new.book old.pools new.pools list_type bytes (told.address, told.certificate) sound.proper sound.owned sound.extents h k).0
+
+buffer_bytes : {A : Type 0} (old new : Parts) (search : ℕ) (guid : List ℕ) (key : ℕ) (result : Result (PoolList A) Status) → AreSound old → LocatesBuffer IsBestChoice old search guid key result new →
+    Laid (block_told (λ (told : PoolList A). told.address) (handle_bytes (handles_of (found_handles old.lists search guid key))) result) old.pools new.pools
+buffer_bytes old new search guid key (Ok told) sound (handles, found, some, count, filled, lists) k =
+    rw found (filled_bytes old new (handle_bytes handles) told sound filled k)
+buffer_bytes old new search guid key (Err status.InvalidParameter) sound h k = ap (λ (p : Parts). byte_at k p.pools) h.1
+buffer_bytes old new search guid key (Err status.NotFound) sound h k = ap (λ (p : Parts). byte_at k p.pools) h.1
+buffer_bytes old new search guid key (Err status.OutOfResources) sound h k = ap (λ (p : Parts). byte_at k p.pools) h.3
+buffer_bytes old new search guid key (Err other) sound h k = absurd h
+
+-- no bytes are laid anywhere
+nothing_laid : (address k : ℕ) (o : Option ℕ) → laid address [] k o ≡ o
+nothing_laid address k o = elim (cases_lt k address) [
+  | inl l ↦ laid-low address [] k o l
+  | inr l ↦ laid-high address [] k o (omega (arith, l))
+]
+
+item_list : {A : Type 0} (old new : Parts) (items : List OpenItem) (told : PoolList A) → AreSound old → PutsItems IsBestChoice old items told new → Laid (Some (told.address, item_bytes items)) old.pools new.pools
+item_list old new [] told sound h k = ap (λ (p : Parts). byte_at k p.pools) h.2 ∙ sym (nothing_laid told.address k (byte_at k old.pools))
+item_list old new (i ∷ items) told sound h k = filled_bytes old new (item_bytes (i ∷ items)) told sound h.0 k
+
+list_bytes : {A : Type 0} (old new : Parts) (handle : ℕ) (guid : List ℕ) (result : Result (PoolList A) Status) → AreSound old → ListsOpens IsBestChoice old handle guid result new →
+    Laid (block_told (λ (told : PoolList A). told.address) (item_bytes (items_on old.lists.opens handle guid)) result) old.pools new.pools
+list_bytes old new handle guid (Ok told) sound h k = item_list old new (items_on old.lists.opens handle guid) told sound h.2 k
+list_bytes old new handle guid (Err status.NotFound) sound h k = ap (λ (p : Parts). byte_at k p.pools) h.1
+list_bytes old new handle guid (Err status.OutOfResources) sound h k = ap (λ (p : Parts). byte_at k p.pools) h.2
+list_bytes old new handle guid (Err other) sound h k = absurd h
 
 -- ---- a step
 
--- a reply that tells an error changes no byte
-abbrev LeavesBytes : {A : Type 0} → Call A → (Reply A) → Type 0
-LeavesBytes c answer = (es : List Extent) (k : ℕ) → byte_after c answer es k ≡ byte_at k es
+-- what the replies tell of blocks
+told_pool : (A : Type 0) (p : Parts) (t size : ℕ) (result : Result Answer Status) → lays {A = A} p (call.AllocatePool t size) (reply.AllocatePool result) ≡ block_told (λ (block : Answer). block.0) (replicate size 0) result
+told_pool A p t size (Ok block) = refl
+told_pool A p t size (Err e) = refl
+
+told_write : (A : Type 0) (p : Parts) (address : ℕ) (bytes : List ℕ) (result : Result (Unit {0}) Status) → lays {A = A} p (call.PoolWrite address bytes) (reply.PoolWrite result) ≡ block_told (λ (done : Unit {0}). address) bytes result
+told_write A p address bytes (Ok done) = refl
+told_write A p address bytes (Err e) = refl
+
+told_buffer : {A : Type 0} (p : Parts) (search : ℕ) (guid : List ℕ) (key : ℕ) (result : Result (PoolList A) Status) →
+    lays p (call.LocateHandleBuffer search guid key) (reply.LocateHandleBuffer result) ≡ block_told (λ (told : PoolList A). told.address) (handle_bytes (handles_of (found_handles p.lists search guid key))) result
+told_buffer p search guid key (Ok told) = refl
+told_buffer p search guid key (Err e) = refl
+
+told_list : {A : Type 0} (p : Parts) (handle : ℕ) (guid : List ℕ) (result : Result (PoolList A) Status) →
+    lays p (call.OpenProtocolInformation handle guid) (reply.OpenProtocolInformation result) ≡ block_told (λ (told : PoolList A). told.address) (item_bytes (items_on p.lists.opens handle guid)) result
+told_list p handle guid (Ok told) = refl
+told_list p handle guid (Err e) = refl
+
+told_free : (A : Type 0) (address : ℕ) (result : Result (Unit {0}) Status) → gives_back {A = A} (call.FreePool address) (reply.FreePool result) ≡ cond (is_ok result) (Some address) None
+told_free A address (Ok done) = refl
+told_free A address (Err e) = refl
 
 -- a service that leaves all parts and tells an error, or goes by a rule
-changed : {A R : Type 0} (exited : Bool) (old new : Parts) (c : Call A) (answer : Reply A) (tell : Result R Status → Reply A) (Rule : Result R Status → Type 0) (k : ℕ) → LeavesBytes c (tell (Err status.Unsupported)) →
-    ((result : Result R Status) → Rule result → byte_at k new.pools ≡ byte_after c (tell result) old.pools k) → Serves exited old new answer tell Rule → byte_at k new.pools ≡ byte_after c answer old.pools k
+changed : {A R : Type 0} (exited : Bool) (old new : Parts) (c : Call A) (answer : Reply A) (tell : Result R Status → Reply A) (Rule : Result R Status → Type 0) (k : ℕ) → byte_after old c (tell (Err status.Unsupported)) k ≡ byte_at k old.pools →
+    ((result : Result R Status) → Rule result → byte_at k new.pools ≡ byte_after old c (tell result) k) → Serves exited old new answer tell Rule → byte_at k new.pools ≡ byte_after old c answer k
 changed true old new c answer tell Rule k leaves f (result, told, h) =
-    ap (λ (p : Parts). byte_at k p.pools) h.1 ∙ sym (leaves old.pools k) ∙ sym (ap (λ a. byte_after c a old.pools k) (told ∙ ap tell h.0))
-changed false old new c answer tell Rule k leaves f (result, told, h) = f result h ∙ sym (ap (λ a. byte_after c a old.pools k) told)
+    ap (λ (p : Parts). byte_at k p.pools) h.1 ∙ sym leaves ∙ sym (ap (λ a. byte_after old c a k) (told ∙ ap tell h.0))
+changed false old new c answer tell Rule k leaves f (result, told, h) = f result h ∙ sym (ap (λ a. byte_after old c a k) told)
 
--- what such a service does that leaves the pool
+-- by what a reply tells of a block
+laid_by : (old new : Parts) (block told : Option (ℕ × List ℕ)) (k : ℕ) → told ≡ block → Laid block old.pools new.pools → byte_at k new.pools ≡ laid_over told k (byte_at k old.pools)
+laid_by old new block told k e h = h k ∙ sym (ap (λ (o : Option (ℕ × List ℕ)). laid_over o k (byte_at k old.pools)) e)
+
+-- what a service on the pages does
 same_pools : (exited : Bool) (old new : Parts) (Rule Refusal : Type 0) → (Rule → new.pools ≡ old.pools) → WhileOpen exited old new Rule Refusal → new.pools ≡ old.pools
 same_pools true old new Rule Refusal f h = ap (λ (p : Parts). p.pools) h.1
 same_pools false old new Rule Refusal f h = f h
 
-pub bytes_after : {A : Type 0} (exited : Bool) (old : Parts) (c : Call A) (answer : Reply A) (new : Parts) → AreSound old → Answers best_starts exited old c answer new → (k : ℕ) → byte_at k new.pools ≡ byte_after c answer old.pools k
+pub bytes_after : {A : Type 0} (exited : Bool) (old : Parts) (c : Call A) (answer : Reply A) (new : Parts) → AreSound old → Answers best_starts exited old c answer new → (k : ℕ) → byte_at k new.pools ≡ byte_after old c answer k
 bytes_after {A = A} exited old (call.AllocatePages kind t pages memory) answer new sound (result, e, h) k = ap (byte_at k) (same_pools exited old new _ _ (λ rule. rule.1) h)
 bytes_after {A = A} exited old (call.FreePages memory pages) answer new sound (result, e, h) k = ap (byte_at k) (same_pools exited old new _ _ (λ rule. rule.1) h)
-bytes_after {A = A} exited old (call.GetMemoryMap size) answer new sound (told, bytes, e, h) k = ap (byte_at k) (same_pools exited old new _ _ (λ rule. ap (λ (p : Parts). p.pools) rule.1) h)
 bytes_after {A = A} exited old (call.AllocatePool t size) answer new sound h k =
-    changed exited old new (call.AllocatePool t size) answer reply.AllocatePool (λ result. AllocatesPool IsBestChoice old.book old.pools t size result new.book new.pools) k (λ es j. refl) (λ result rule. allocated A old.book new.book old.pools new.pools t size result sound rule k) h
+    changed exited old new (call.AllocatePool t size) answer reply.AllocatePool (λ result. OnBookAndPools (AllocatesPool IsBestChoice old.book old.pools t size result) old new) k refl
+    (λ result rule. laid_by old new _ _ k (told_pool A old t size result) (allocated old.book new.book old.pools new.pools t size result old.lists sound rule.0)) h
 bytes_after {A = A} exited old (call.FreePool address) answer new sound h k =
-    changed exited old new (call.FreePool address) answer reply.FreePool (λ result. FreesPool old.book old.pools address result new.book new.pools) k (λ es j. refl) (λ result rule. given_back A old.book new.book old.pools new.pools address result sound rule k) h
-bytes_after {A = A} exited old (call.PoolRead address size) answer new sound (told, bytes, e, h) k = ap (byte_at k) (same_pools exited old new _ _ (λ rule. ap (λ (p : Parts). p.pools) rule.1) h)
+    changed exited old new (call.FreePool address) answer reply.FreePool (λ result. OnBookAndPools (FreesPool old.book old.pools address result) old new) k refl
+    (λ result rule. given_back old.book new.book old.pools new.pools address result old.lists sound rule.0 k ∙ sym (ap (λ (o : Option ℕ). left_by o old.pools k) (told_free A address result))) h
 bytes_after {A = A} exited old (call.PoolWrite address bytes) answer new sound h k =
-    changed exited old new (call.PoolWrite address bytes) answer reply.PoolWrite (λ result. OnPools (WritesPool old.pools address bytes result) old new) k (λ es j. refl) (λ result rule. written_bytes A old.pools new.pools address bytes result old.book sound rule.0 k) h
-bytes_after {A = A} exited old (call.ExitBootServices key) answer new sound (result, e, h) k = ap (byte_at k) (same_pools exited old new _ _ (λ rule. ap (λ (p : Parts). p.pools) rule.1) h)
+    changed exited old new (call.PoolWrite address bytes) answer reply.PoolWrite (λ result. OnPools (WritesPool old.pools address bytes result) old new) k refl
+    (λ result rule. laid_by old new _ _ k (told_write A old address bytes result) (written_bytes old.pools new.pools address bytes result old.book old.lists sound rule.0)) h
+bytes_after {A = A} exited old (call.LocateHandleBuffer search guid key) answer new sound h k =
+    changed exited old new (call.LocateHandleBuffer search guid key) answer reply.LocateHandleBuffer (λ result. LocatesBuffer IsBestChoice old search guid key result new) k refl
+    (λ result rule. laid_by old new _ _ k (told_buffer old search guid key result) (buffer_bytes old new search guid key result sound rule)) h
+bytes_after {A = A} exited old (call.OpenProtocolInformation handle guid) answer new sound h k =
+    changed exited old new (call.OpenProtocolInformation handle guid) answer reply.OpenProtocolInformation (λ result. ListsOpens IsBestChoice old handle guid result new) k refl
+    (λ result rule. laid_by old new _ _ k (told_list old handle guid result) (list_bytes old new handle guid result sound rule)) h
+bytes_after {A = A} exited old c answer new sound h k = ap (byte_at k) (quiet best_starts exited old c answer new tt h).1
 
 -- ---- reads
 
-read_rule : (es : List Extent) (address size : ℕ) (bytes : List ℕ) (b : Book) → AreSound (record { book = b; pools = es }) → AnswersRead es address size status.Success bytes → (length bytes ≡ size) × ((i : ℕ) → i < size → byte_at (address + i) es ≡ first_of (drop i bytes))
-read_rule es address size bytes b sound (whole, here, room, is) =
+read_rule : (es : List Extent) (address size : ℕ) (bytes : List ℕ) (b : Book) (l : Lists) → AreSound (parts_of b es l) → AnswersRead es address size status.Success bytes → (length bytes ≡ size) × ((i : ℕ) → i < size → byte_at (address + i) es ≡ first_of (drop i bytes))
+read_rule es address size bytes b l sound (whole, here, room, is) =
     let long : length bytes ≡ size = ap (λ (ys : List ℕ). length ys) is ∙ length-take-le size whole room in
     (long, λ i low. read es address bytes bytes tt sound.extents (whole, here, omega (arith, long, room), is ∙ ap (λ (n : ℕ). take n whole) (sym long)) i (omega (arith, long, low)))
 
@@ -87,4 +168,4 @@ read_bytes {A = A} false old new address size bytes sound (told, used, e, h) =
     let success : told ≡ status.Success = cc in
     let same : used ≡ bytes = cc in
     let is : AnswersRead old.pools address size told bytes.items = subst (λ (v : Vec ℕ A). AnswersRead old.pools address size told v.items) same h.0 in
-    read_rule old.pools address size bytes.items old.book sound (subst (λ (s : Status). AnswersRead old.pools address size s bytes.items) success is)
+    read_rule old.pools address size bytes.items old.book old.lists sound (subst (λ (s : Status). AnswersRead old.pools address size s bytes.items) success is)

@@ -1,33 +1,46 @@
 -- Sound parts stay sound.
-use Rattle.std.proofs.Common.{◌≡◌, ℕ, ◌+◌, ◌≤◌, Bool, true, false, List, [], ◌∷◌, Result, refl, sym, ap, subst, arith}
+use Rattle.std.proofs.Common.{◌≡◌, ℕ, ◌+◌, ◌≤◌, Bool, true, false, List, [], ◌∷◌, Result, Ok, Err, refl, sym, ap, subst, arith}
 use Rattle.page_ranges.specs.declared.ranges.Run.{Run}
 use Rattle.page_ranges.specs.declared.statuses.Status.{Status}
+use Rattle.page_ranges.specs.declared.statuses.Status.TheVariants as status
 use Rattle.page_ranges.specs.Memory.{IsProperMemory}
 use Rattle.page_ranges.specs.Runs.{IsValidMachine}
 use Rattle.page_services.specs.declared.page_book.Placed.{Placed}
 use Rattle.page_services.specs.PageRules.{Book, AllocatesPages, FreesPages}
 use Rattle.page_services.proofs.Choices.{Permits}
 use Rattle.pool_services.specs.Extents.{Extent, AreExtents}
-use Rattle.pool_services.specs.PoolRules.{Answer, AllocatesPool, FreesPool, OwnsExtents, WritesPool}
+use Rattle.pool_services.specs.PoolRules.{Answer, AllocatesPool, FillsPool, FreesPool, OwnsExtents, WritesPool}
+use Rattle.pool_services.proofs.FilledBlocks.{filled-keeps}
 use Rattle.pool_services.proofs.KeptPools.{placed-keeps, freed-keeps, given-keeps, allocated-keeps, freed-block-keeps, written-keeps}
 use Rattle.boot_core.specs.declared.calls.Call.{Call}
 use Rattle.boot_core.specs.declared.calls.Call.TheVariants as call
 use Rattle.boot_core.specs.declared.calls.Reply.{Reply}
 use Rattle.boot_core.specs.Machines.{Parts, State, AreSound, first_state}
-use Rattle.boot_core.specs.Steps.{Setting, OnBook, OnPools, WhileOpen, Serves, Answers, CallRunBy}
-use Rattle.boot_core.proofs.Outcomes.{Outcome, allocates, frees, allocates_pool, frees_pool, key_at_most, stays_proper}
+use Rattle.open_agents.specs.declared.items.OpenItem.{OpenItem}
+use Rattle.open_agents.specs.OpenItems.{items_on}
+use Rattle.protocol_services.specs.ListBytes.{handle_bytes, item_bytes}
+use Rattle.protocol_services.specs.Lists.{Lists}
+use Rattle.boot_core.specs.declared.calls.PoolList.{PoolList}
+use Rattle.boot_core.specs.PoolLists.{LocatesBuffer, ListsOpens, PutsItems, list_type}
+use Rattle.boot_core.specs.Steps.{Setting, OnBook, OnBookAndPools, OnPools, Serves, Answers, CallRunBy}
+use Rattle.boot_core.proofs.Quiet.{IsQuiet, quiet}
+use Rattle.boot_core.proofs.Outcomes.{Outcome, allocates, fills_pool, frees, allocates_pool, frees_pool, key_at_most, stays_proper}
 
-abbrev pub parts_of : Book → List Extent → Parts
-parts_of b es = record { book = b; pools = es }
+abbrev pub parts_of : Book → List Extent → Lists → Parts
+parts_of b es l = record { book = b; pools = es; lists = l }
+
+-- no rule is about the lists of the protocol services
+pub any_lists : (b : Book) (es : List Extent) (l m : Lists) → AreSound (parts_of b es l) → AreSound (parts_of b es m)
+any_lists b es l m sound = record { proper = sound.proper; extents = sound.extents; owned = sound.owned }
 
 -- what each rule keeps: the parts are sound, and the key rises by 1 at most
 pub record IsKept (old : Parts) (b : Book) (es : List Extent) : Type 0 where
-  pub sound : AreSound (parts_of b es)
+  pub sound : (l : Lists) → AreSound (parts_of b es l)
   pub key : b.key ≤ old.book.key + 1
 
 kept_by : (Fits : Type 0) (old : Parts) (b : Book) (es : List Extent) → AreSound old → Outcome Fits old.book b → AreExtents es → OwnsExtents b.memory es → IsKept old b es
 kept_by Fits old b es sound o extents owned = record {
-  sound = record { proper = stays_proper Fits old.book b sound.proper o; extents = extents; owned = owned };
+  sound = λ l. record { proper = stays_proper Fits old.book b sound.proper o; extents = extents; owned = owned };
   key = key_at_most Fits old.book b o;
 }
 
@@ -43,16 +56,21 @@ frees_pool_kept old address result b es sound h =
 pub writes_kept : (old : Parts) (address : ℕ) (bytes : List ℕ) (result : Result (Unit {0}) Status) (es : List Extent) → AreSound old → WritesPool old.pools address bytes result es → IsKept old old.book es
 writes_kept old address bytes result es sound h =
     let (extents, owned) = written-keeps old.book.memory old.pools address bytes result es sound.extents sound.owned h in
-    record { sound = record { proper = sound.proper; extents = extents; owned = owned }; key = omega arith }
+    record { sound = λ l. record { proper = sound.proper; extents = extents; owned = owned }; key = omega arith }
 
 -- a service that leaves all parts, or goes by a rule
 served : {A R : Type 0} (exited : Bool) (old new : Parts) (answer : Reply A) (tell : Result R Status → Reply A) (Rule : Result R Status → Type 0) → AreSound old → ((result : Result R Status) → Rule result → AreSound new) → Serves exited old new answer tell Rule → AreSound new
 served true old new answer tell Rule sound f (result, told, h) = subst AreSound (sym h.1) sound
 served false old new answer tell Rule sound f (result, told, h) = f result h
 
-same : (exited : Bool) (old new : Parts) (Rule Refusal : Type 0) → AreSound old → (Rule → new ≡ old) → WhileOpen exited old new Rule Refusal → AreSound new
-same true old new Rule Refusal sound f h = subst AreSound (sym h.1) sound
-same false old new Rule Refusal sound f h = subst AreSound (sym (f h)) sound
+-- a refusal leaves all
+unchanged_kept : (old new : Parts) → AreSound old → new ≡ old → IsKept old new.book new.pools
+unchanged_kept old new sound e = subst (λ (p : Parts). IsKept old p.book p.pools) (sym e) (record { sound = λ l. any_lists old.book old.pools old.lists l sound; key = omega arith })
+
+-- what leaves the book and the pool
+quiet_sound : (old new : Parts) → AreSound old → IsQuiet old new → AreSound new
+quiet_sound old new sound (book, pools) =
+    subst (λ (b : Book). AreSound (parts_of b new.pools new.lists)) (sym book) (subst (λ (es : List Extent). AreSound (parts_of old.book es new.lists)) (sym pools) (any_lists old.book old.pools old.lists new.lists sound))
 
 module _ (S : Setting) (permits : Permits S.chosen) where
   pub allocates_kept : {A : Type 0} (old : Parts) (kind t pages memory : ℕ) (result : Result (Placed A) Status) (new : Book) → AreSound old → AllocatesPages S.chosen old.book kind t pages memory result new → IsKept old new old.pools
@@ -64,24 +82,48 @@ module _ (S : Setting) (permits : Permits S.chosen) where
       let (extents, owned) = allocated-keeps S.chosen permits old.book old.pools t size result b es sound.proper sound.extents sound.owned h in
       kept_by _ old b es sound (allocates_pool S permits old.book old.pools t size result b es sound.proper h) extents owned
 
+  pub fills_pool_kept : (old : Parts) (t : ℕ) (bytes : List ℕ) (result : Result Answer Status) (b : Book) (es : List Extent) → AreSound old → FillsPool S.chosen old.book old.pools t bytes result b es → IsKept old b es
+  fills_pool_kept old t bytes result b es sound h =
+      let (extents, owned) = filled-keeps S.chosen permits old.book old.pools t bytes result b es sound.proper sound.extents sound.owned h in
+      kept_by _ old b es sound (fills_pool S permits old.book old.pools t bytes result b es sound.proper h) extents owned
+
+  pub locates_buffer_kept : {A : Type 0} (old : Parts) (search : ℕ) (guid : List ℕ) (key : ℕ) (result : Result (PoolList A) Status) (new : Parts) → AreSound old → LocatesBuffer S.chosen old search guid key result new → IsKept old new.book new.pools
+  locates_buffer_kept old search guid key (Ok told) new sound (handles, found, some, count, filled, lists) = fills_pool_kept old list_type (handle_bytes handles) (Ok (told.address, told.certificate)) new.book new.pools sound filled
+  locates_buffer_kept old search guid key (Err status.InvalidParameter) new sound h = unchanged_kept old new sound h.1
+  locates_buffer_kept old search guid key (Err status.NotFound) new sound h = unchanged_kept old new sound h.1
+  locates_buffer_kept old search guid key (Err status.OutOfResources) new sound h = unchanged_kept old new sound h.3
+  locates_buffer_kept old search guid key (Err other) new sound h = absurd h
+
+  puts_items_kept : {A : Type 0} (old : Parts) (items : List OpenItem) (told : PoolList A) (new : Parts) → AreSound old → PutsItems S.chosen old items told new → IsKept old new.book new.pools
+  puts_items_kept old [] told new sound h = unchanged_kept old new sound h.2
+  puts_items_kept old (i ∷ items) told new sound h = fills_pool_kept old list_type (item_bytes (i ∷ items)) (Ok (told.address, told.certificate)) new.book new.pools sound h.0
+
+  pub lists_opens_kept : {A : Type 0} (old : Parts) (handle : ℕ) (guid : List ℕ) (result : Result (PoolList A) Status) (new : Parts) → AreSound old → ListsOpens S.chosen old handle guid result new → IsKept old new.book new.pools
+  lists_opens_kept old handle guid (Ok told) new sound h = puts_items_kept old (items_on old.lists.opens handle guid) told new sound h.2
+  lists_opens_kept old handle guid (Err status.NotFound) new sound h = unchanged_kept old new sound h.1
+  lists_opens_kept old handle guid (Err status.OutOfResources) new sound h = unchanged_kept old new sound h.2
+  lists_opens_kept old handle guid (Err other) new sound h = absurd h
+
   -- the parts after a call
   pub stays_sound : {A : Type 0} (exited : Bool) (old : Parts) (c : Call A) (answer : Reply A) (new : Parts) → AreSound old → Answers S exited old c answer new → AreSound new
   stays_sound exited old (call.AllocatePages kind t pages memory) answer new sound h =
       served exited old new answer _ (λ result. OnBook (AllocatesPages S.chosen old.book kind t pages memory result) old new) sound
-      (λ result rule. subst (λ (es : List Extent). AreSound (parts_of new.book es)) (sym rule.1) (allocates_kept old kind t pages memory result new.book sound rule.0).sound) h
+      (λ result rule. subst (λ (es : List Extent). AreSound (parts_of new.book es new.lists)) (sym rule.1) ((allocates_kept old kind t pages memory result new.book sound rule.0).sound new.lists)) h
   stays_sound exited old (call.FreePages memory pages) answer new sound h =
       served exited old new answer _ (λ result. OnBook (FreesPages old.book memory pages result) old new) sound
-      (λ result rule. subst (λ (es : List Extent). AreSound (parts_of new.book es)) (sym rule.1) (frees_kept old memory pages result new.book sound rule.0).sound) h
-  stays_sound exited old (call.GetMemoryMap size) answer new sound (told, bytes, e, h) = same exited old new _ _ sound (λ rule. rule.1) h
+      (λ result rule. subst (λ (es : List Extent). AreSound (parts_of new.book es new.lists)) (sym rule.1) ((frees_kept old memory pages result new.book sound rule.0).sound new.lists)) h
   stays_sound exited old (call.AllocatePool t size) answer new sound h =
-      served exited old new answer _ (λ result. AllocatesPool S.chosen old.book old.pools t size result new.book new.pools) sound (λ result rule. (allocates_pool_kept old t size result new.book new.pools sound rule).sound) h
+      served exited old new answer _ (λ result. OnBookAndPools (AllocatesPool S.chosen old.book old.pools t size result) old new) sound (λ result rule. (allocates_pool_kept old t size result new.book new.pools sound rule.0).sound new.lists) h
   stays_sound exited old (call.FreePool address) answer new sound h =
-      served exited old new answer _ (λ result. FreesPool old.book old.pools address result new.book new.pools) sound (λ result rule. (frees_pool_kept old address result new.book new.pools sound rule).sound) h
-  stays_sound exited old (call.PoolRead address size) answer new sound (told, bytes, e, h) = same exited old new _ _ sound (λ rule. rule.1) h
+      served exited old new answer _ (λ result. OnBookAndPools (FreesPool old.book old.pools address result) old new) sound (λ result rule. (frees_pool_kept old address result new.book new.pools sound rule.0).sound new.lists) h
   stays_sound exited old (call.PoolWrite address bytes) answer new sound h =
       served exited old new answer _ (λ result. OnPools (WritesPool old.pools address bytes result) old new) sound
-      (λ result rule. subst (λ (b : Book). AreSound (parts_of b new.pools)) (sym rule.1) (writes_kept old address bytes result new.pools sound rule.0).sound) h
-  stays_sound exited old (call.ExitBootServices key) answer new sound (result, e, h) = same exited old new _ _ sound (λ rule. rule.1) h
+      (λ result rule. subst (λ (b : Book). AreSound (parts_of b new.pools new.lists)) (sym rule.1) ((writes_kept old address bytes result new.pools sound rule.0).sound new.lists)) h
+  stays_sound exited old (call.LocateHandleBuffer search guid key) answer new sound h =
+      served exited old new answer _ (λ result. LocatesBuffer S.chosen old search guid key result new) sound (λ result rule. (locates_buffer_kept old search guid key result new sound rule).sound new.lists) h
+  stays_sound exited old (call.OpenProtocolInformation handle guid) answer new sound h =
+      served exited old new answer _ (λ result. ListsOpens S.chosen old handle guid result new) sound (λ result rule. (lists_opens_kept old handle guid result new sound rule).sound new.lists) h
+  stays_sound exited old c answer new sound h = quiet_sound old new sound (quiet S exited old c answer new tt h)
 
   pub run_sound : {A : Type 0} (old : State) (calls : List (Call A)) (replies : List (Reply A)) (new : State) → AreSound old.parts → CallRunBy S old calls replies new → AreSound new.parts
   run_sound old [] [] new sound run = subst (λ (s : State). AreSound s.parts) (sym run) sound

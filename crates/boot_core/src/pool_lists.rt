@@ -2,6 +2,7 @@
 ghost use Rattle.std.specs.Prelude.{◌≡◌, ◌<◌, ◌^◌};
 ghost use Rattle.page_services.specs.PageRules.{IsBestChoice};
 ghost use Rattle.pool_services.specs.PoolRules.{OwnsExtents};
+ghost use Rattle.protocol_services.specs.Lists.{IsRaised};
 ghost use Rattle.boot_core.specs.PoolLists.{ListsOpens, LocatesBuffer};
 
 use crate::calls::PoolList;
@@ -36,6 +37,7 @@ pub(crate) fn locate_buffer<A: Allocator + Copy>(
 ) -> Result<PoolList<A>, Status>
     requires key { book.old.key < 2 ^ 62 }
     requires owns { OwnsExtents book.old.memory pools.old }
+    ensures raised { IsRaised protocols.old protocols.new }
     ensures locates { LocatesBuffer IsBestChoice (record { book = book.old; pools = pools.old; lists = protocols.old }) search guid key result (record { book = book.new; pools = pools.new; lists = protocols.new }) }
 {
     let found = protocols.find(search, guid, key, u64::MAX);

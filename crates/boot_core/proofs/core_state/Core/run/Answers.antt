@@ -1,6 +1,6 @@
-use Rattle.std.proofs.Common.{rules, arith, subst}
+use Rattle.std.proofs.Common.{List, rules, arith, subst, take_all}
 use Rattle.boot_core.specs.declared.calls.Call.{Call}
-use Rattle.boot_core.specs.Steps.{best_starts, Step}
+use Rattle.boot_core.specs.Steps.{best_starts, CallRun, Step}
 use Rattle.boot_core.proofs.Running.{run_more}
 use Rattle.boot_core.proofs.core_state.Core.run.Goals as goal
 
@@ -14,3 +14,7 @@ loop-call-preserved g c =
       count = omega (arith, rw c.in-Ok.is at c.push.ensures.len, i.count);
       room = omega (arith, c.push.ensures.capacity, i.room);
     }
+
+pub returns-clause-runs : goal.returns-clause-runs
+returns-clause-runs g c =
+    subst (λ (calls : List (Call g.row.A.Denot)). CallRun c.args.self.now calls c.loop-call.replies.items c.loop-call.self) (take_all c.loop-call.call-index c.args.calls.now c.loop-call-test.false) c.loop-call.invariant.runs

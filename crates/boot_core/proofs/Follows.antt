@@ -1,0 +1,49 @@
+-- What the calls so far can have brought, one call more.
+use Rattle.std.proofs.Common.{◌≡◌, ℕ, ◌+◌, ◌-◌, ◌*◌, ◌<◌, ◌≤◌, ◌^◌, Bool, List, [], ◌∷◌, length, sym, subst, arith}
+use Rattle.std.specs.List.{AllByRecursion}
+use Rattle.page_ranges.specs.declared.ranges.Run.{Run}
+use Rattle.open_agents.specs.declared.items.OpenRecord.{OpenRecord}
+use Rattle.protocol_services.specs.Lists.{Lists, HasRoom, IsRaised}
+use Rattle.boot_core.specs.Machines.{Parts, State, FollowsCalls, all_calls, first_state}
+
+weaken : (P Q : OpenRecord → Type 0) → ((o : OpenRecord) → P o → Q o) → (opens : List OpenRecord) → AllByRecursion P opens → AllByRecursion Q opens
+weaken P Q f [] a = tt
+weaken P Q f (o ∷ opens) a = (f o a.0, weaken P Q f opens a.1)
+
+-- lists that stay are raised by nothing
+pub not_raised : (old new : Lists) → new ≡ old → IsRaised old new
+not_raised old new e = subst (IsRaised old) (sym e) (record {
+  numbers = omega arith;
+  stamps = omega arith;
+  keys = omega arith;
+  counts = λ n a. weaken (λ o. o.count ≤ n) (λ o. o.count ≤ n + 1) (λ o h. omega (arith, h)) old.opens a;
+})
+
+-- what begins a call says of the parts that a core has
+pub follows_now : (p : Parts) (exited : Bool) (n : ℕ) (s : State) → record { parts = p; exited = exited; calls_left = n } ≡ s → FollowsCalls s.parts (s.calls_left + 1) → FollowsCalls p (n + 1)
+follows_now p exited n s is follows = subst (λ (t : State). FollowsCalls t.parts (t.calls_left + 1)) (sym is) follows
+
+pub follows_on : (old new : Parts) (n : ℕ) → FollowsCalls old (n + 1) → new.book.key ≤ old.book.key + 1 → IsRaised old.lists new.lists → FollowsCalls new n
+follows_on old new n follows key raised =
+    let few : n + 1 ≤ all_calls = omega (arith, follows.registrations) in
+    let before = weaken (λ o. o.count + (n + 1) ≤ all_calls) (λ o. o.count ≤ all_calls - (n + 1)) (λ o h. omega (arith, h)) old.lists.opens follows.counts in
+    record {
+      key = omega (arith, follows.key, key);
+      numbers = omega (arith, follows.numbers, raised.numbers);
+      stamps = omega (arith, follows.stamps, raised.stamps);
+      registrations = omega (arith, follows.registrations, raised.keys);
+      counts = weaken (λ o. o.count ≤ all_calls - (n + 1) + 1) (λ o. o.count + n ≤ all_calls) (λ o h. omega (arith, h, few)) new.lists.opens (raised.counts (all_calls - (n + 1)) before);
+    }
+
+-- there is room for a call that may still be made
+pub has_room : (p : Parts) (n : ℕ) → FollowsCalls p (n + 1) → HasRoom p.lists
+has_room p n follows = record {
+  numbers = omega (arith, follows.numbers);
+  stamps = omega (arith, follows.stamps);
+  keys = omega (arith, follows.registrations);
+  counts = weaken (λ o. o.count + (n + 1) ≤ all_calls) (λ o. o.count < 2 ^ 32 - 1) (λ o h. omega (arith, h)) p.lists.opens follows.counts;
+}
+
+-- before any call
+pub first_follows : (machine : List Run) → FollowsCalls (first_state machine).parts all_calls
+first_follows machine = record { key = omega arith; numbers = omega arith; stamps = omega arith; registrations = omega arith; counts = tt }
