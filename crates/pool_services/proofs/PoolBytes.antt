@@ -1,5 +1,5 @@
 -- The byte at each address of the pool, as blocks are read, written, taken and given back.
-use Rattle.std.proofs.Common.{◌≡◌, ℕ, zero, suc, ◌+◌, ◌-◌, ◌<◌, ◌≤◌, nat_le, nat_lt, Bool, cond, is_some, inl, inr, List, [], ◌∷◌, ◌++◌, length, take, drop, set, Option, Some, None, Ok, refl, sym, ap, ◌∙◌, arith, subst, lt-ltb, le-ltb, le-leb}
+use Rattle.std.proofs.Common.{◌≡◌, ℕ, zero, suc, ◌+◌, ◌-◌, ◌*◌, ◌^◌, ◌<◌, ◌≤◌, nat_le, nat_lt, Bool, cond, is_some, inl, inr, List, [], ◌∷◌, ◌++◌, length, take, drop, set, Option, Some, None, Ok, refl, sym, ap, ◌∙◌, arith, subst, lt-ltb, le-ltb, le-leb}
 use Rattle.std.proofs.lemmas.Bool.{cases_lt, cases_Bool, lt-leb, leb-true, and_from, and_parts, and_left, and_right}
 use Rattle.std.proofs.lemmas.List.{length-append, length-take-le, length-drop, drop-drop}
 use Rattle.raw_pool.specs.Bytes.{put}
@@ -8,7 +8,7 @@ use Rattle.pool_services.specs.Extents.{Extent, AreBlocks, AreExtents, IsExtent,
 use Rattle.pool_services.specs.PoolRules.{ReadsPool, WritesPool}
 use Rattle.pool_services.specs.Searches.{HasRoom, HoldsAddress, IsAt}
 use Rattle.pool_services.specs.Laws.{byte_at, first_byte, first_of, laid}
-use Rattle.pool_services.proofs.CellBlocks.{tail-low, tail-high, within-low, within-high, within-same}
+use Rattle.pool_services.proofs.CellBlocks.{ends-after, tail-low, tail-high, within-low, within-high, within-same}
 use Rattle.pool_services.proofs.ExtentLists.{are-set, is-extent, tail-elsewhere, tail-here, written-is}
 use Rattle.pool_services.proofs.ExtentChanges.{is-written}
 
@@ -182,6 +182,29 @@ behind-end cells from first address count t bs h s l =
       | inl u ↦ u
       | inr u ↦ let n = tail-high cells from first (address + count) bs h u in let z : Some (drop count t) ≡ None = sym m ∙ n in absurd cc
     ]
+
+-- the bytes from an address on end with the block, and so at the last cell or before it
+tail-end : (cells from first address : ℕ) (t : List ℕ) (bs : List Block) → AreBlocks cells from bs → tail_in first address bs ≡ Some t → address + length t ≤ 4096 * first + 32 * cells
+tail-end cells from first address t [] h e = absurd cc
+tail-end cells from first address t (b ∷ bs) h e = elim (cases_Bool (is_within first address b)) [
+  | inl w ↦
+      let a : ℕ = address_of first b.first in
+      let p = and_parts (nat_le a address) (nat_le address (a + b.size)) w in
+      let low : a ≤ address = leb-true a address p.0 in
+      let high : address ≤ a + b.size = leb-true address (a + b.size) p.1 in
+      let s : Some (drop (address - a) b.bytes) ≡ Some t = rw w at e in
+      let d : drop (address - a) b.bytes ≡ t = cc in
+      let n : length t ≡ length b.bytes - (address - a) = sym (ap (λ (xs : List ℕ). length xs) d) ∙ length-drop (address - a) b.bytes in
+      omega (arith, low, high, n, h.1, ends-after cells (end_of b) bs h.2)
+  | inr w ↦ tail-end cells (end_of b) first address t bs h.2 (rw w at e)
+]
+
+-- the bytes from an address on end at the last page or before it
+pub tail-within : (address : ℕ) (es : List Extent) (t : List ℕ) → AreExtents es → tail_at address es ≡ Some t → address + length t ≤ 2 ^ 64
+tail-within address es t a s =
+    let (i, e, h, u, d) = held-tail address es t a s in
+    let x = is-extent es i e a h in
+    omega (arith, x.within, tail-end (cells_in e.pages) 0 e.first address t e.blocks x.blocks d)
 
 -- ---- one extent gets other blocks
 

@@ -1,5 +1,5 @@
 //! The pool of a machine.
-ghost use Rattle.std.specs.Prelude.{◌≡◌, ◌<◌, ◌≤◌, ◌^◌, false, [], length, option_map, None, Some};
+ghost use Rattle.std.specs.Prelude.{◌≡◌, ◌+◌, ◌<◌, ◌≤◌, ◌^◌, false, [], length, option_map, IfSome, None, Some};
 ghost use Rattle.page_ranges.specs.MemoryTypes.{is_bad_type};
 ghost use Rattle.page_services.specs.PageRules.{IsBestChoice};
 ghost use Rattle.pool_services.specs.Extents.{first_fit, max_size, tail_at};
@@ -274,7 +274,8 @@ impl<A: Allocator + Copy> Pools<A> {
     /// The bytes from an address on to the end of the block that it belongs to. An address belongs to a
     /// block from its first byte on up to the end behind its last byte.
     pub fn tail(&self, address: u64) -> Option<&[u8]>
-        ensures { option_map (λ s. s.now) result ≡ tail_at address self.now }
+        ensures bytes { option_map (λ s. s.now) result ≡ tail_at address self.now }
+        ensures within { IfSome result (λ s. address + length s.now ≤ 2 ^ 64) }
     {
         let at = holder(self.extents.as_slice(), &self.rooms, address)?;
         self.extents[at].tail(address)
