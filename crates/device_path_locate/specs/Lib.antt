@@ -1,0 +1,3 @@
+pub mod DevicePaths
+pub mod Locating
+pub mod Reading

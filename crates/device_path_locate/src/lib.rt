@@ -1,0 +1,9 @@
+//! Device paths in the bytes of the pool, and the handles that they lead to.
+#![tactic(auto)]
+
+mod matches;
+mod nodes;
+mod spans;
+
+pub use matches::{device_path_guid, has_path_installed, locate};
+pub use spans::{PathSpan, read_path};

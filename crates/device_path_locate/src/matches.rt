@@ -1,0 +1,159 @@
+//! The handles that device paths lead to.
+ghost use Rattle.std.specs.Prelude.{◌≡◌, ◌+◌, ◌&&◌, ◌≤◌, ◌<◌, ◌^◌, IfSome, length, option_map};
+ghost use Rattle.std.specs.List.{concat};
+ghost use Rattle.device_path_locate.specs.DevicePaths.{first_instance};
+ghost use Rattle.device_path_locate.specs.Locating.{are_same, device_path_guid, has_path_installed, is_path_of_any, located, path_at, path_of, whole_bytes};
+ghost use Rattle.device_path_locate.specs.Reading.{IsBestMatch, IsMatch, longer_if};
+
+use crate::spans::read_path;
+use guid_handles::Handles;
+use page_ranges::Status;
+use pool_services::Pools;
+use std::alloc::Allocator;
+use uuid::Uuid;
+
+/// The GUID of device paths (EFI_DEVICE_PATH_PROTOCOL_GUID), 09576e91-6d3f-11d2-8e39-00a0c969723b.
+pub fn device_path_guid() -> Uuid
+    ensures { result ≡ device_path_guid }
+{
+    Uuid::from_bytes([
+        0x09, 0x57, 0x6e, 0x91, 0x6d, 0x3f, 0x11, 0xd2, 0x8e, 0x39, 0x00, 0xa0, 0xc9, 0x69, 0x72,
+        0x3b,
+    ])
+}
+
+/// The bytes of all nodes of the path at an address, if one stands there.
+fn whole_at<A: Allocator + Copy>(pools: &Pools<A>, address: u64) -> Option<&[u8]>
+    ensures { option_map (λ s. s.now) result ≡ whole_bytes (path_at address pools.now) }
+{
+    let bytes = pools.tail(address)?;
+    let span = read_path(bytes)?;
+    Some(&bytes[..span.whole])
+}
+
+/// The bytes of the first instance of the path at an address, if one stands there.
+fn first_instance_at<A: Allocator + Copy>(pools: &Pools<A>, address: u64) -> Option<&[u8]>
+    ensures nodes { option_map (λ s. s.now) result ≡ option_map (λ path. concat (first_instance path)) (path_at address pools.now) }
+    ensures within { IfSome result (λ s. address + length s.now < 2 ^ 64) }
+{
+    let bytes = pools.tail(address)?;
+    let span = read_path(bytes)?;
+    Some(&bytes[..span.first_instance])
+}
+
+/// The bytes of all nodes of a handle's path, if it has one.
+fn whole_of<'a, A: Allocator + Copy>(
+    handles: &Handles<A>,
+    pools: &'a Pools<A>,
+    handle: u64,
+) -> Option<&'a [u8]>
+    ensures { option_map (λ s. s.now) result ≡ whole_bytes (path_of handles.now pools.now handle) }
+{
+    whole_at(pools, handles.interface(handle, device_path_guid())?)
+}
+
+/// A handle whose path matches the bytes of some nodes, with how many it matches: all of its own.
+fn match_of<A: Allocator + Copy>(
+    handles: &Handles<A>,
+    pools: &Pools<A>,
+    handle: u64,
+    nodes: &[u8],
+) -> Option<(u64, usize)>
+    ensures found { IsMatch handles.now pools.now handle nodes.now result }
+    ensures within { IfSome result (λ m. m.1 ≤ length nodes.now) }
+{
+    let path = whole_of(handles, pools, handle)?;
+    if nodes.starts_with(path) {
+        Some((handle, path.len()))
+    } else {
+        None
+    }
+}
+
+/// The longer of two matches, the first where they are equally long.
+fn longer(best: Option<(u64, usize)>, found: Option<(u64, usize)>) -> Option<(u64, usize)>
+    ensures { result ≡ longer_if best found }
+{
+    match (best, found) {
+        (Some(b), Some(f)) if b.1 < f.1 => found,
+        (Some(_), _) => best,
+        (None, _) => found,
+    }
+}
+
+/// The longest match of the bytes of some nodes among the handles that carry a GUID, of equally long
+/// ones that of the lowest handle.
+fn best_match<A: Allocator + Copy>(
+    handles: &Handles<A>,
+    pools: &Pools<A>,
+    guid: Uuid,
+    nodes: &[u8],
+) -> Option<(u64, usize)>
+    ensures found { IsBestMatch handles.now pools.now guid nodes.now result }
+    ensures within { IfSome result (λ m. m.1 ≤ length nodes.now) }
+{
+    let holders = handles.by_protocol(guid);
+    let mut best = None;
+    for handle in holders {
+        best = longer(best, match_of(handles, pools, *handle, nodes));
+    }
+    best
+}
+
+/// LocateDevicePath: the handle that carries a GUID and whose device path leads furthest along the
+/// path at an address, and the address behind the nodes of that path that it matches. All nodes of
+/// the handle's path must be the first of those before the end of the path's first instance. Of
+/// equally long ones the lowest handle is answered. Every path is read as its bytes stand in the
+/// pool now. This takes no memory.
+///
+/// INVALID_PARAMETER: no path stands at the address. NOT_FOUND: no handle's path matches.
+pub fn locate<A: Allocator + Copy>(
+    handles: &Handles<A>,
+    pools: &Pools<A>,
+    guid: Uuid,
+    address: u64,
+) -> Result<(u64, u64), Status>
+    ensures { result ≡ located handles.now pools.now guid address }
+{
+    let Some(nodes) = first_instance_at(pools, address) else {
+        return Err(Status::InvalidParameter);
+    };
+    match best_match(handles, pools, guid, nodes) {
+        Some((handle, size)) => Ok((handle, address + size as u64)),
+        None => Err(Status::NotFound),
+    }
+}
+
+/// Whether the bytes of two paths, if both are there, are the same.
+fn are_same(bytes: Option<&[u8]>, other: Option<&[u8]>) -> bool
+    ensures { result ≡ are_same (option_map (λ s. s.now) bytes) (option_map (λ s. s.now) other) }
+{
+    match (bytes, other) {
+        (Some(a), Some(b)) => a == b,
+        _ => false,
+    }
+}
+
+/// Whether the path at an address is the path of some live handle too.
+fn is_path_of_any<A: Allocator + Copy>(handles: &Handles<A>, pools: &Pools<A>, address: u64) -> bool
+    ensures { result ≡ is_path_of_any handles.now pools.now address }
+{
+    let bytes = whole_at(pools, address);
+    handles.by_protocol(device_path_guid()).iter().any(|handle| are_same(
+        bytes,
+        whole_of(handles, pools, *handle),
+    ))
+}
+
+/// Whether one of some pairs of GUID and value is a device path that a live handle has already, with
+/// the same bytes, ends of instances among them. A value at which no path stands is passed over.
+/// This takes no memory.
+pub fn has_path_installed<A: Allocator + Copy>(
+    handles: &Handles<A>,
+    pools: &Pools<A>,
+    pairs: &[(Uuid, u64)],
+) -> bool
+    ensures { result ≡ has_path_installed handles.now pools.now pairs.now }
+{
+    pairs.iter().any(|pair| pair.0 == device_path_guid() && is_path_of_any(handles, pools, pair.1))
+}
