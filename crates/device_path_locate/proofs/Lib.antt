@@ -1,2 +1,3 @@
 pub mod NodeLists
 pub mod SpanSteps
+pub mod Fronts

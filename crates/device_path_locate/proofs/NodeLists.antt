@@ -2,10 +2,11 @@
 use Rattle.std.proofs.Common.{◌≡◌, ℕ, zero, suc, ◌+◌, ◌-◌, ◌*◌, ◌<◌, ◌≤◌, ◌++◌, ◌&&◌, ◌⊎◌, nat_lt, nat_eq, Bool, true, false, cond, not, List, [], ◌∷◌, length, take, drop, get_or, Option, Some, None, option_map, refl, sym, ap, ◌∙◌, arith, lt-ltb, le-ltb, append_assoc, inl, inr, eqb-true}
 use Rattle.std.proofs.lemmas.List.{drop_all, length-append, length-drop, length-take-le, take-append-drop}
 use Rattle.std.proofs.lemmas.Bool.{and_parts, cases_Bool, cases_lt}
+use Rattle.std.proofs.lemmas.Slice.Eq.{bytes_eq-Decides}
 use Rattle.std.specs.List.{AllByRecursion, concat}
 use Rattle.byteorder.specs.Endian.{little_number}
-use Rattle.device_path_locate.specs.DevicePaths.{Node, end_of_path, is_inner, nodes_behind, nodes_from, path_in, same_bytes, size_of, told_length}
-use Rattle.device_path_locate.specs.Reading.{IsFrontNode, IsNode}
+use Rattle.device_path_locate.specs.DevicePaths.{BeginsWith, IsPathNode, Node, bytes_of, end_of_instance, end_of_path, is_inner, nodes_behind, nodes_from, path_in, same_bytes, size_of, told_length}
+use Rattle.device_path_locate.specs.Reading.{IsFrontNode}
 
 -- bytes that are passed over do not matter
 pub passed_over : (k : ℕ) (bytes : List ℕ) → nodes_behind k bytes ≡ path_in (drop k bytes)
@@ -42,7 +43,7 @@ end_told t s l h rest e =
     let u = and_parts (nat_eq h 0) (same_bytes rest []) r.1 in
     omega (arith, eqb-true l 4 r.0, eqb-true h 0 u.0)
 
-path_here : (t s l h n : ℕ) (rest : List ℕ) → n ≡ l + 256 * h → 4 ≤ n → path_in (t ∷ s ∷ l ∷ h ∷ rest) ≡ nodes_from (take n (t ∷ s ∷ l ∷ h ∷ rest)) (path_in (drop n (t ∷ s ∷ l ∷ h ∷ rest)))
+pub path_here : (t s l h n : ℕ) (rest : List ℕ) → n ≡ l + 256 * h → 4 ≤ n → path_in (t ∷ s ∷ l ∷ h ∷ rest) ≡ nodes_from (take n (t ∷ s ∷ l ∷ h ∷ rest)) (path_in (drop n (t ∷ s ∷ l ∷ h ∷ rest)))
 path_here t s l h n rest e m =
     let z : n ≡ n - 4 + 4 = omega arith in
     rw (← e, le-ltb n 4 m, take_behind n (n - 4) t s l h rest z, drop_behind n (n - 4) t s l h rest z, passed_over (n - 4) rest) refl
@@ -74,3 +75,71 @@ no_node (t ∷ s ∷ a ∷ b ∷ rest) n h e (inr o) =
           absurd (omega (arith, end_told t s a b (take (n - 4) rest) d))
       | inr c ↦ none_behind (take n xs) c
     ]
+
+-- ---- paths by their bytes
+
+same_end : (t s l h : ℕ) (held rest : List ℕ) → t ∷ s ∷ l ∷ h ∷ held ≡ end_of_path → t ∷ s ∷ l ∷ h ∷ rest ≡ end_of_path ++ rest
+same_end t s l h held rest e =
+    let a : t ≡ 0x7f = cc in
+    let b : s ≡ 0xff = cc in
+    let c : l ≡ 4 = cc in
+    let d : h ≡ 0 = cc in
+    rw (a, b, c, d) refl
+
+mapped : (n : Node) (behind : Option (List Node)) (ns : List Node) → option_map (λ xs. n ∷ xs) behind ≡ Some ns → (ms : List Node) × (behind ≡ Some ms) × (ns ≡ n ∷ ms)
+mapped n None ns e = absurd cc
+mapped n (Some ms) ns e = (ms, refl, cc)
+
+-- how a path begins
+begins : (n : Node) (behind : Option (List Node)) (ns : List Node) → nodes_from n behind ≡ Some ns →
+    ((n ≡ end_of_path) × (ns ≡ [])) ⊎ ((is_inner n ≡ true) × (ms : List Node) × (behind ≡ Some ms) × (ns ≡ n ∷ ms))
+begins n behind ns e = elim (cases_Bool (same_bytes n end_of_path)) [
+  | inl c ↦ let z : Some [] ≡ Some ns = rw c at e in inl ((bytes_eq-Decides n end_of_path).0 c, cc)
+  | inr c ↦
+      let f = rw c at e in
+      elim (cases_Bool (is_inner n)) [
+        | inl i ↦ let m = mapped n behind ns (rw i at f) in inr (i, m.0, m.1, m.2)
+        | inr i ↦ let z : None ≡ Some ns = rw i at f in absurd cc
+      ]
+]
+
+-- a node before some bytes that begin with a path
+begins_more : (t s l h : ℕ) (rest : List ℕ) (ms : List Node) → 4 ≤ told_length l h → told_length l h - 4 ≤ length rest → is_inner (t ∷ s ∷ l ∷ h ∷ take (told_length l h - 4) rest) ≡ true →
+    BeginsWith (drop (told_length l h - 4) rest) ms → BeginsWith (t ∷ s ∷ l ∷ h ∷ rest) ((t ∷ s ∷ l ∷ h ∷ take (told_length l h - 4) rest) ∷ ms)
+begins_more t s l h rest ms m k i b =
+    let d : ℕ = told_length l h - 4 in
+    let n : Node = t ∷ s ∷ l ∷ h ∷ take d rest in
+    let z : length (take d rest) ≡ d = length-take-le d rest k in
+    record {
+      nodes = (record { header = omega arith; told = omega (arith, z, m); inner = i }, b.nodes);
+      rest = b.rest;
+      is =
+          ap (λ (xs : List ℕ). t ∷ s ∷ l ∷ h ∷ xs) (sym (take-append-drop d rest) ∙ ap (λ (xs : List ℕ). take d rest ++ xs) b.is)
+          ∙ ap (λ (xs : List ℕ). n ++ xs) (append_assoc (concat ms) end_of_path b.rest)
+          ∙ sym (append_assoc n (concat ms) (end_of_path ++ b.rest))
+          ∙ sym (append_assoc (n ++ concat ms) end_of_path b.rest);
+    }
+
+begins_behind : (k : ℕ) (bytes : List ℕ) (ns : List Node) → nodes_behind k bytes ≡ Some ns → BeginsWith (drop k bytes) ns
+begins_behind (suc k) [] ns e = absurd cc
+begins_behind (suc k) (b ∷ bytes) ns e = begins_behind k bytes ns e
+begins_behind zero [] ns e = absurd cc
+begins_behind zero (t ∷ []) ns e = absurd cc
+begins_behind zero (t ∷ s ∷ []) ns e = absurd cc
+begins_behind zero (t ∷ s ∷ l ∷ []) ns e = absurd cc
+begins_behind zero (t ∷ s ∷ l ∷ h ∷ rest) ns e = elim (cases_lt (told_length l h) 4) [
+  | inl o ↦ let z : None ≡ Some ns = rw (lt-ltb (told_length l h) 4 o) at e in absurd cc
+  | inr o ↦
+      let d : ℕ = told_length l h - 4 in
+      let f = rw (le-ltb (told_length l h) 4 o) at e in
+      elim (begins (t ∷ s ∷ l ∷ h ∷ take d rest) (nodes_behind d rest) ns f) [
+        | inl (c, z) ↦ rw z (record { nodes = tt; rest = rest; is = same_end t s l h (take d rest) rest c })
+        | inr (i, ms, b, z) ↦ elim (cases_lt (length rest) d) [
+          | inl u ↦ let y : None ≡ Some ms = sym (run_out d rest (omega (arith, u))) ∙ b in absurd cc
+          | inr u ↦ rw z (begins_more t s l h rest ms o u i (begins_behind d rest ms b))
+        ]
+      ]
+]
+
+pub begins_with : (bytes : List ℕ) (ns : List Node) → path_in bytes ≡ Some ns → BeginsWith bytes ns
+begins_with bytes ns e = begins_behind 0 bytes ns e

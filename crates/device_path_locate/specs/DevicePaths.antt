@@ -1,7 +1,7 @@
 -- Device paths (EFI_DEVICE_PATH_PROTOCOL), read from bytes.
-use Rattle.std.specs.Prelude.{ℕ, zero, suc, ◌+◌, ◌-◌, ◌*◌, ◌==◌, ◌||◌, nat_eq, nat_lt, Bool, false, cond, not, List, [], ◌∷◌, length, take, Option, Some, None}
+use Rattle.std.specs.Prelude.{◌≡◌, ℕ, zero, suc, ◌+◌, ◌-◌, ◌*◌, ◌≤◌, ◌++◌, ◌==◌, ◌||◌, nat_eq, nat_lt, Bool, true, false, cond, not, List, [], ◌∷◌, length, take, slice_index, Option, Some, None}
 use Rattle.std.specs.Cmp.Lexicographic.{pointwise}
-use Rattle.std.specs.List.{concat}
+use Rattle.std.specs.List.{AllByRecursion, concat}
 use Rattle.std.specs.Option.{option_map}
 use Rattle.device_path_locate.specs.declared.spans.PathSpan.{PathSpan}
 
@@ -62,3 +62,21 @@ size_of ns = length (concat ns)
 -- the sizes of a path, without the end of the entire path
 abbrev pub span_of : List Node → PathSpan
 span_of ns = record { first_instance = size_of (first_instance ns); whole = size_of ns }
+
+-- ---- paths by their bytes
+
+-- A node that may stand before the end of the entire path. It has the length that it tells, its header counted.
+pub record IsPathNode (n : Node) : Type 0 where
+  pub header : 4 ≤ length n
+  pub told : told_length (slice_index n 2) (slice_index n 3) ≡ length n
+  pub inner : is_inner n ≡ true
+
+-- the bytes of a path: those of its nodes, one behind the other, and the end of the entire path
+abbrev pub bytes_of : List Node → List ℕ
+bytes_of ns = concat ns ++ end_of_path
+
+-- some bytes begin with a path
+pub record BeginsWith (bytes : List ℕ) (ns : List Node) : Type 0 where
+  pub nodes : AllByRecursion IsPathNode ns
+  pub rest : List ℕ
+  pub is : bytes ≡ bytes_of ns ++ rest

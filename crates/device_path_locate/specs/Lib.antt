@@ -1,3 +1,4 @@
 pub mod DevicePaths
 pub mod Locating
 pub mod Reading
+pub mod Laws

@@ -1,9 +1,11 @@
 //! Device paths in the bytes of the pool, and the handles that they lead to.
 #![tactic(auto)]
 
+mod laws;
 mod matches;
 mod nodes;
 mod spans;
 
+pub use laws::{front_bytes_law, path_bytes_law};
 pub use matches::{device_path_guid, has_path_installed, locate};
 pub use spans::{PathSpan, read_path};

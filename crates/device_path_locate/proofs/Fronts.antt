@@ -1,0 +1,87 @@
+-- The nodes that come first, and their bytes.
+use Rattle.std.proofs.Common.{◌≡◌, ◌↔◌, ℕ, zero, suc, ◌+◌, ◌-◌, ◌*◌, ◌<◌, ◌≤◌, ◌++◌, ◌&&◌, ◌⊎◌, nat_eq, Bool, true, false, cond, List, [], ◌∷◌, length, take, drop, get_or, Option, Some, None, option_map, refl, sym, ap, ◌∙◌, arith, append_assoc, inl, inr}
+use Rattle.std.proofs.lemmas.List.{append-nil, append_cancel_left, drop_at, get_or_append_left, length-append, take_at}
+use Rattle.std.proofs.lemmas.Bool.{and_from, and_parts, cases_Bool}
+use Rattle.std.proofs.lemmas.Slice.Eq.{bytes_eq-Decides}
+use Rattle.std.specs.List.{AllByRecursion, concat}
+use Rattle.device_path_locate.specs.DevicePaths.{BeginsWith, IsPathNode, Node, bytes_of, end_of_instance, end_of_path, first_instance, is_inner, nodes_from, path_in, same_bytes, told_length}
+use Rattle.device_path_locate.specs.Locating.{is_front}
+use Rattle.device_path_locate.proofs.NodeLists.{path_here}
+
+-- ---- bytes that begin with a path are read as it
+
+no_end : (n : Node) → is_inner n ≡ true → same_bytes n end_of_path ≡ false
+no_end n i = elim (cases_Bool (same_bytes n end_of_path)) [
+  | inl c ↦ let z : false ≡ true = rw ((bytes_eq-Decides n end_of_path).0 c) at i in absurd cc
+  | inr c ↦ c
+]
+
+node_read : (n : Node) (behind : List ℕ) → IsPathNode n → path_in (n ++ behind) ≡ nodes_from n (path_in behind)
+node_read [] behind p = absurd (omega (arith, p.header))
+node_read (t ∷ []) behind p = absurd (omega (arith, p.header))
+node_read (t ∷ s ∷ []) behind p = absurd (omega (arith, p.header))
+node_read (t ∷ s ∷ l ∷ []) behind p = absurd (omega (arith, p.header))
+node_read (t ∷ s ∷ l ∷ h ∷ rest) behind p =
+    let n : Node = t ∷ s ∷ l ∷ h ∷ rest in
+    path_here t s l h (length n) (rest ++ behind) (sym p.told) p.header
+    ∙ ap (λ (xs : List ℕ). nodes_from xs (path_in (drop (length n) (n ++ behind)))) (take_at n behind (length n) refl)
+    ∙ ap (λ (xs : List ℕ). nodes_from n (path_in xs)) (drop_at n behind (length n) refl)
+
+pub read_back : (ns : List Node) (rest : List ℕ) → AllByRecursion IsPathNode ns → path_in (bytes_of ns ++ rest) ≡ Some ns
+read_back [] rest a = refl
+read_back (n ∷ ns) rest a =
+    ap path_in (ap (λ (xs : List ℕ). xs ++ rest) (append_assoc n (concat ns) end_of_path) ∙ append_assoc n (bytes_of ns) rest)
+    ∙ node_read n (bytes_of ns ++ rest) a.0
+    ∙ ap (nodes_from n) (read_back ns rest a.1)
+    ∙ rw (no_end n a.0.inner, a.0.inner) refl
+
+pub read_of : (bytes : List ℕ) (ns : List Node) → BeginsWith bytes ns → path_in bytes ≡ Some ns
+read_of bytes ns b = ap path_in b.is ∙ read_back ns b.rest b.nodes
+
+-- ---- the front of some nodes, and of their bytes
+
+abbrev pub HasFront : List ℕ → List ℕ → Type 0
+HasFront bytes front = (rest : List ℕ) × (bytes ≡ front ++ rest)
+
+pub front_has : (ns ms : List Node) → is_front ns ms ≡ true → HasFront (concat ms) (concat ns)
+front_has [] ms e = (concat ms, refl)
+front_has (n ∷ ns) [] e = absurd cc
+front_has (n ∷ ns) (m ∷ ms) e =
+    let p = and_parts (same_bytes n m) (is_front ns ms) e in
+    let z : n ≡ m = (bytes_eq-Decides n m).0 p.0 in
+    let r = front_has ns ms p.1 in
+    (r.0, ap (λ (xs : List ℕ). xs ++ concat ms) (sym z) ∙ ap (λ (xs : List ℕ). n ++ xs) r.1 ∙ sym (append_assoc n (concat ns) r.0))
+
+-- the nodes at the front of the same bytes are the same
+same_node : (n m : Node) (behind rest : List ℕ) → IsPathNode n → IsPathNode m → m ++ behind ≡ n ++ rest → (n ≡ m) × (behind ≡ rest)
+same_node n m behind rest p q e =
+    let at2 : get_or m 2 0 ≡ get_or n 2 0 =
+        sym (get_or_append_left m behind 0 2 (omega (arith, q.header))) ∙ ap (λ (xs : List ℕ). get_or xs 2 0) e ∙ get_or_append_left n rest 0 2 (omega (arith, p.header)) in
+    let at3 : get_or m 3 0 ≡ get_or n 3 0 =
+        sym (get_or_append_left m behind 0 3 (omega (arith, q.header))) ∙ ap (λ (xs : List ℕ). get_or xs 3 0) e ∙ get_or_append_left n rest 0 3 (omega (arith, p.header)) in
+    let z : length m ≡ length n = omega (arith, p.told, q.told, at2, at3) in
+    let same : n ≡ m = sym (take_at n rest (length n) refl) ∙ ap (take (length n)) (sym e) ∙ take_at m behind (length n) z in
+    (same, append_cancel_left n behind rest (ap (λ (xs : List ℕ). xs ++ behind) same ∙ e))
+
+pub has_front : (ns ms : List Node) → AllByRecursion IsPathNode ns → AllByRecursion IsPathNode ms → HasFront (concat ms) (concat ns) → is_front ns ms ≡ true
+has_front [] ms a b h = refl
+has_front (n ∷ ns) [] a b h = absurd (omega (arith, a.0.header, ap length h.1, length-append (n ++ concat ns) h.0, length-append n (concat ns)))
+has_front (n ∷ ns) (m ∷ ms) a b h =
+    let s = same_node n m (concat ms) (concat ns ++ h.0) a.0 b.0 (h.1 ∙ append_assoc n (concat ns) h.0) in
+    and_from (same_bytes n m) (is_front ns ms) ((bytes_eq-Decides n m).1 s.0) (has_front ns ms a.1 b.1 (h.0, s.1))
+
+-- ---- the first instance
+
+pub first_nodes : (P : Node → Type 0) (ns : List Node) → AllByRecursion P ns → AllByRecursion P (first_instance ns)
+first_nodes P [] a = tt
+first_nodes P (n ∷ ns) a = elim (cases_Bool (same_bytes n end_of_instance)) [
+  | inl c ↦ rw c tt
+  | inr c ↦ rw c (a.0, first_nodes P ns a.1)
+]
+
+pub first_front : (ns : List Node) → HasFront (concat ns) (concat (first_instance ns))
+first_front [] = ([], refl)
+first_front (n ∷ ns) = elim (cases_Bool (same_bytes n end_of_instance)) [
+  | inl c ↦ rw c (n ++ concat ns, refl)
+  | inr c ↦ let r = first_front ns in rw c (r.0, ap (λ (xs : List ℕ). n ++ xs) r.1 ∙ sym (append_assoc n (concat (first_instance ns)) r.0))
+]
