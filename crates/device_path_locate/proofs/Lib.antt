@@ -1,3 +1,4 @@
 pub mod NodeLists
 pub mod SpanSteps
 pub mod Fronts
+pub mod PathMatches

@@ -126,7 +126,7 @@ pub fn locate<A: Allocator + Copy>(
 
 /// Whether the bytes of two paths, if both are there, are the same.
 fn are_same(bytes: Option<&[u8]>, other: Option<&[u8]>) -> bool
-    ensures { result ≡ are_same (option_map (λ s. s.now) bytes) (option_map (λ s. s.now) other) }
+    ensures { result ≡ are_same (option_map (λ s. s.now) bytes.entry) (option_map (λ s. s.now) other.entry) }
 {
     match (bytes, other) {
         (Some(a), Some(b)) => a == b,

@@ -1,0 +1,148 @@
+-- Paths in the pool, and which of them match.
+use Rattle.std.proofs.Common.{◌≡◌, ℕ, ◌+◌, ◌<◌, ◌≤◌, ◌++◌, nat_lt, Bool, true, false, cond, List, [], ◌∷◌, length, take, drop, get_or, IfSome, Option, Some, None, option_map, option_and_then, refl, sym, ap, ◌∙◌, arith, subst, append_assoc, inl, inr, lt-ltb, le-ltb}
+use Rattle.std.proofs.lemmas.List.{length-append, take_at, take-append-le}
+use Rattle.std.proofs.lemmas.Bool.{cases_Bool, cases_lt}
+use Rattle.std.specs.List.{AllByRecursion, concat, cons_option, filter_map}
+use Rattle.pool_services.specs.Extents.{Extent, tail_at}
+use Rattle.guid_handles.specs.HandleTables.{HandleTable, value_at}
+use Rattle.guid_handles.proofs.SortedLists.{drop_next}
+use Rattle.device_path_locate.specs.declared.spans.PathSpan.{PathSpan}
+use Rattle.device_path_locate.specs.DevicePaths.{IsPathNode, Node, end_of_path, first_instance, path_in, size_of, span_of}
+use Rattle.device_path_locate.specs.Locating.{answer_at, device_path_guid, is_front, located, located_by, longer_of, longest, match_of, matched_size, path_at, path_of, whole_bytes}
+use Rattle.device_path_locate.specs.Reading.{IsBestMatch, IsMatch, longer_if}
+use Rattle.device_path_locate.proofs.NodeLists.{begins_with}
+use Rattle.device_path_locate.proofs.Fronts.{HasFront, first_front, first_nodes, front_has, has_front}
+
+-- ---- the bytes of a path that was read
+
+spanned : (path : Option (List Node)) (span : PathSpan) → Some span ≡ option_map span_of path → (ns : List Node) × (path ≡ Some ns) × (span ≡ span_of ns)
+spanned None span e = absurd cc
+spanned (Some ns) span e = (ns, refl, cc)
+
+front_taken : (bytes front : List ℕ) → HasFront bytes front → take (length front) bytes ≡ front
+front_taken bytes front h = ap (take (length front)) h.1 ∙ take_at front h.0 (length front) refl
+
+-- a span and the bytes that it reaches over
+pub record Reached (bytes : List ℕ) (size : ℕ) (found : Option (List ℕ)) : Type 0 where
+  pub within : size + 4 ≤ length bytes
+  pub taken : Some (take size bytes) ≡ found
+
+pub whole_read : (bytes : List ℕ) (span : PathSpan) → Some span ≡ option_map span_of (path_in bytes) → Reached bytes span.whole (whole_bytes (path_in bytes))
+whole_read bytes span e =
+    let s = spanned (path_in bytes) span e in
+    let b = begins_with bytes s.0 s.1 in
+    let front : HasFront bytes (concat s.0) = (end_of_path ++ b.rest, b.is ∙ append_assoc (concat s.0) end_of_path b.rest) in
+    let size : span.whole ≡ length (concat s.0) = ap (λ (x : PathSpan). x.whole) s.2 in
+    record {
+      within = omega (arith, size, ap length front.1, length-append (concat s.0) (end_of_path ++ b.rest));
+      taken = ap (λ (k : ℕ). Some (take k bytes)) size ∙ ap (λ (xs : List ℕ). Some xs) (front_taken bytes (concat s.0) front) ∙ ap whole_bytes (sym s.1);
+    }
+
+pub first_read : (bytes : List ℕ) (span : PathSpan) → Some span ≡ option_map span_of (path_in bytes) → Reached bytes span.first_instance (option_map (λ path. concat (first_instance path)) (path_in bytes))
+first_read bytes span e =
+    let s = spanned (path_in bytes) span e in
+    let b = begins_with bytes s.0 s.1 in
+    let f = first_front s.0 in
+    let first : List ℕ = concat (first_instance s.0) in
+    let more : List ℕ = f.0 ++ (end_of_path ++ b.rest) in
+    let front : HasFront bytes first =
+        (more, b.is ∙ append_assoc (concat s.0) end_of_path b.rest ∙ ap (λ (xs : List ℕ). xs ++ (end_of_path ++ b.rest)) f.1 ∙ append_assoc first f.0 (end_of_path ++ b.rest)) in
+    let size : span.first_instance ≡ length first = ap (λ (x : PathSpan). x.first_instance) s.2 in
+    record {
+      within = omega (arith, size, ap length front.1, length-append first more, length-append f.0 (end_of_path ++ b.rest));
+      taken =
+          ap (λ (k : ℕ). Some (take k bytes)) size ∙ ap (λ (xs : List ℕ). Some xs) (front_taken bytes first front)
+          ∙ ap (option_map (λ (path : List Node). concat (first_instance path))) (sym s.1);
+    }
+
+-- ---- the path of a handle
+
+from_then : {X Y : Type 0} (f : X → Option Y) (o : Option X) (y : Y) → option_and_then f o ≡ Some y → (x : X) × (o ≡ Some x) × (f x ≡ Some y)
+from_then f None y e = absurd cc
+from_then f (Some x) y e = (x, refl, e)
+
+pub at_nodes : (address : ℕ) (es : List Extent) (ns : List Node) → path_at address es ≡ Some ns → AllByRecursion IsPathNode ns
+at_nodes address es ns e = let t = from_then path_in (tail_at address es) ns e in (begins_with t.0 ns t.2).nodes
+
+of_nodes : (t : HandleTable) (es : List Extent) (handle : ℕ) (ns : List Node) → path_of t es handle ≡ Some ns → AllByRecursion IsPathNode ns
+of_nodes t es handle ns e = let k = from_then (λ value. path_at value es) (value_at t handle device_path_guid) ns e in at_nodes k.0 es ns k.2
+
+held : (path : Option (List Node)) (bytes : List ℕ) → Some bytes ≡ whole_bytes path → (ns : List Node) × (path ≡ Some ns) × (bytes ≡ concat ns)
+held None bytes e = absurd cc
+held (Some ns) bytes e = (ns, refl, cc)
+
+-- ---- the match of a handle
+
+abbrev match_by : List Node → ℕ → Option (List Node) → Option (ℕ × ℕ)
+match_by nodes handle path = option_map (λ size. (handle, size)) (option_and_then (matched_size nodes) path)
+
+pub matches : (t : HandleTable) (es : List Extent) (handle : ℕ) (nodes path : List ℕ) → Some path ≡ whole_bytes (path_of t es handle) → HasFront nodes path → IsMatch t es handle nodes (Some (handle, length path))
+matches t es handle nodes path e f = λ ns all z.
+    let w = held (path_of t es handle) path e in
+    let a = of_nodes t es handle w.0 w.1 in
+    let g : is_front w.0 ns ≡ true = has_front w.0 ns a all (f.0, sym z ∙ f.1 ∙ ap (λ (xs : List ℕ). xs ++ f.0) w.2) in
+    let h : match_by ns handle (Some w.0) ≡ Some (handle, size_of w.0) = rw g refl in
+    ap (λ (xs : List ℕ). Some (handle, length xs)) w.2 ∙ sym h ∙ ap (match_by ns handle) (sym w.1)
+
+pub matches_not : (t : HandleTable) (es : List Extent) (handle : ℕ) (nodes path : List ℕ) → Some path ≡ whole_bytes (path_of t es handle) → (HasFront nodes path → ⊥) → IsMatch t es handle nodes None
+matches_not t es handle nodes path e f = λ ns all z.
+    let w = held (path_of t es handle) path e in
+    elim (cases_Bool (is_front w.0 ns)) [
+      | inl g ↦ let r = front_has w.0 ns g in absurd (f (r.0, z ∙ r.1 ∙ ap (λ (xs : List ℕ). xs ++ r.0) (sym w.2)))
+      | inr g ↦ let h : match_by ns handle (Some w.0) ≡ None = rw g refl in sym h ∙ ap (match_by ns handle) (sym w.1)
+    ]
+
+-- ---- the longest of some matches
+
+pub longer_none : (m : Option (ℕ × ℕ)) → longer_if m None ≡ m
+longer_none None = refl
+longer_none (Some m) = refl
+
+longer_assoc : (a b c : Option (ℕ × ℕ)) → longer_if (longer_if a b) c ≡ longer_if a (longer_if b c)
+longer_assoc None b c = refl
+longer_assoc (Some a) None c = refl
+longer_assoc (Some a) (Some b) None = longer_none (longer_of a (Some b))
+longer_assoc (Some a) (Some b) (Some d) = elim (cases_lt a.1 b.1) [
+  | inl k ↦ elim (cases_lt b.1 d.1) [
+    | inl l ↦ rw (lt-ltb a.1 b.1 k, lt-ltb b.1 d.1 l, lt-ltb a.1 d.1 (omega (arith, k, l))) refl
+    | inr l ↦ rw (lt-ltb a.1 b.1 k, le-ltb b.1 d.1 l) (rw (lt-ltb a.1 b.1 k) refl)
+  ]
+  | inr k ↦ elim (cases_lt b.1 d.1) [
+    | inl l ↦ rw (le-ltb a.1 b.1 k, lt-ltb b.1 d.1 l) refl
+    | inr l ↦ rw (le-ltb a.1 b.1 k, le-ltb b.1 d.1 l, le-ltb a.1 d.1 (omega (arith, k, l))) (rw (le-ltb a.1 b.1 k) refl)
+  ]
+]
+
+longest-cons : (m : Option (ℕ × ℕ)) (ms : List (ℕ × ℕ)) → longest (cons_option m ms) ≡ longer_if m (longest ms)
+longest-cons None ms = refl
+longest-cons (Some m) ms = refl
+
+-- one handle more is looked at
+pub one_more : (f : ℕ → Option (ℕ × ℕ)) (best found : Option (ℕ × ℕ)) (hs : List ℕ) (k h : ℕ) (whole : Option (ℕ × ℕ)) → k < length hs → h ≡ get_or hs k h → found ≡ f h →
+    longer_if best (longest (filter_map f (drop k hs))) ≡ whole → longer_if (longer_if best found) (longest (filter_map f (drop (k + 1) hs))) ≡ whole
+one_more f best found hs k h whole l e m w =
+    longer_assoc best found (longest (filter_map f (drop (k + 1) hs)))
+    ∙ ap (λ (o : Option (ℕ × ℕ)). longer_if best (longer_if o (longest (filter_map f (drop (k + 1) hs))))) m
+    ∙ ap (longer_if best) (sym (longest-cons (f h) (filter_map f (drop (k + 1) hs))))
+    ∙ ap (λ (xs : List ℕ). longer_if best (longest (filter_map f xs))) (sym (drop_next hs k h l e))
+    ∙ w
+
+pub longer_bound : (n : ℕ) (a b : Option (ℕ × ℕ)) → IfSome a (λ m. m.1 ≤ n) → IfSome b (λ m. m.1 ≤ n) → IfSome (longer_if a b) (λ m. m.1 ≤ n)
+longer_bound n None b p q = q
+longer_bound n (Some a) None p q = p
+longer_bound n (Some a) (Some b) p q = elim (cases_Bool (nat_lt a.1 b.1)) [
+  | inl c ↦ rw c q
+  | inr c ↦ rw c p
+]
+
+-- ---- the answer
+
+first_held : (path : Option (List Node)) (bytes : List ℕ) → Some bytes ≡ option_map (λ p. concat (first_instance p)) path → (ns : List Node) × (path ≡ Some ns) × (bytes ≡ concat (first_instance ns))
+first_held None bytes e = absurd cc
+first_held (Some ns) bytes e = (ns, refl, cc)
+
+pub answered : (t : HandleTable) (es : List Extent) (guid : List ℕ) (address : ℕ) (nodes : List ℕ) (found : Option (ℕ × ℕ)) → Some nodes ≡ option_map (λ p. concat (first_instance p)) (path_at address es) →
+    IsBestMatch t es guid nodes found → answer_at address found ≡ located t es guid address
+answered t es guid address nodes found e b =
+    let w = first_held (path_at address es) nodes e in
+    ap (answer_at address) (b (first_instance w.0) (first_nodes IsPathNode w.0 (at_nodes address es w.0 w.1)) w.2) ∙ ap (located_by t es guid address) (sym w.1)
