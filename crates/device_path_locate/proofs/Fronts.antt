@@ -1,10 +1,10 @@
 -- The nodes that come first, and their bytes.
-use Rattle.std.proofs.Common.{◌≡◌, ◌↔◌, ℕ, zero, suc, ◌+◌, ◌-◌, ◌*◌, ◌<◌, ◌≤◌, ◌++◌, ◌&&◌, ◌⊎◌, nat_eq, Bool, true, false, cond, List, [], ◌∷◌, length, take, drop, get_or, Option, Some, None, option_map, refl, sym, ap, ◌∙◌, arith, append_assoc, inl, inr}
-use Rattle.std.proofs.lemmas.List.{append-nil, append_cancel_left, drop_at, get_or_append_left, length-append, take_at}
-use Rattle.std.proofs.lemmas.Bool.{and_from, and_parts, cases_Bool}
+use Rattle.std.proofs.Common.{◌≡◌, ℕ, ◌++◌, true, false, List, [], ◌∷◌, length, take, drop, get_or, Some, refl, sym, ap, ◌∙◌, arith, append_assoc, inl, inr}
+use Rattle.std.proofs.lemmas.List.{append_cancel_left, drop_at, get_or_append_left, length-append, take_at}
+use Rattle.std.proofs.lemmas.Bool.{and_from, and_left, and_parts, and_right, cases_Bool}
 use Rattle.std.proofs.lemmas.Slice.Eq.{bytes_eq-Decides}
-use Rattle.std.specs.List.{AllByRecursion, concat}
-use Rattle.device_path_locate.specs.DevicePaths.{BeginsWith, IsPathNode, Node, bytes_of, end_of_instance, end_of_path, first_instance, is_inner, nodes_from, path_in, same_bytes, told_length}
+use Rattle.std.specs.List.{AllByRecursion, concat, list_any}
+use Rattle.device_path_locate.specs.DevicePaths.{BeginsWith, IsPathNode, Node, bytes_of, end_of_instance, end_of_path, first_instance, is_inner, nodes_from, path_in, same_bytes}
 use Rattle.device_path_locate.specs.Locating.{is_front}
 use Rattle.device_path_locate.proofs.NodeLists.{path_here}
 
@@ -56,9 +56,9 @@ front_has (n ∷ ns) (m ∷ ms) e =
 same_node : (n m : Node) (behind rest : List ℕ) → IsPathNode n → IsPathNode m → m ++ behind ≡ n ++ rest → (n ≡ m) × (behind ≡ rest)
 same_node n m behind rest p q e =
     let at2 : get_or m 2 0 ≡ get_or n 2 0 =
-        sym (get_or_append_left m behind 0 2 (omega (arith, q.header))) ∙ ap (λ (xs : List ℕ). get_or xs 2 0) e ∙ get_or_append_left n rest 0 2 (omega (arith, p.header)) in
+    sym (get_or_append_left m behind 0 2 (omega (arith, q.header))) ∙ ap (λ (xs : List ℕ). get_or xs 2 0) e ∙ get_or_append_left n rest 0 2 (omega (arith, p.header)) in
     let at3 : get_or m 3 0 ≡ get_or n 3 0 =
-        sym (get_or_append_left m behind 0 3 (omega (arith, q.header))) ∙ ap (λ (xs : List ℕ). get_or xs 3 0) e ∙ get_or_append_left n rest 0 3 (omega (arith, p.header)) in
+    sym (get_or_append_left m behind 0 3 (omega (arith, q.header))) ∙ ap (λ (xs : List ℕ). get_or xs 3 0) e ∙ get_or_append_left n rest 0 3 (omega (arith, p.header)) in
     let z : length m ≡ length n = omega (arith, p.told, q.told, at2, at3) in
     let same : n ≡ m = sym (take_at n rest (length n) refl) ∙ ap (take (length n)) (sym e) ∙ take_at m behind (length n) z in
     (same, append_cancel_left n behind rest (ap (λ (xs : List ℕ). xs ++ behind) same ∙ e))
@@ -84,4 +84,24 @@ first_front [] = ([], refl)
 first_front (n ∷ ns) = elim (cases_Bool (same_bytes n end_of_instance)) [
   | inl c ↦ rw c (n ++ concat ns, refl)
   | inr c ↦ let r = first_front ns in rw c (r.0, ap (λ (xs : List ℕ). n ++ xs) r.1 ∙ sym (append_assoc n (concat (first_instance ns)) r.0))
+]
+
+-- an end of an instance is no node of a first instance
+pub not_first : (path ns : List Node) → list_any (λ n. same_bytes n end_of_instance) path ≡ true → is_front path (first_instance ns) ≡ false
+not_first [] ns e = absurd cc
+not_first (p ∷ path) [] e = refl
+not_first (p ∷ path) (n ∷ ns) e = elim (cases_Bool (same_bytes n end_of_instance)) [
+  | inl c ↦ rw c refl
+  | inr c ↦ elim (cases_Bool (same_bytes p end_of_instance)) [
+    | inl d ↦
+        let f : same_bytes p n ≡ false = elim (cases_Bool (same_bytes p n)) [
+          | inl g ↦
+              let same : n ≡ end_of_instance = sym ((bytes_eq-Decides p n).0 g) ∙ (bytes_eq-Decides p end_of_instance).0 d in
+              let z : true ≡ false = sym ((bytes_eq-Decides n end_of_instance).1 same) ∙ c in
+              absurd cc
+          | inr g ↦ g
+        ] in
+        rw c (and_left (same_bytes p n) (is_front path (first_instance ns)) f)
+    | inr d ↦ rw c (and_right (same_bytes p n) (is_front path (first_instance ns)) (not_first path ns (rw d at e)))
+  ]
 ]

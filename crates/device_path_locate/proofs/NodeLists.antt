@@ -1,11 +1,11 @@
 -- The nodes that bytes are read as.
-use Rattle.std.proofs.Common.{◌≡◌, ℕ, zero, suc, ◌+◌, ◌-◌, ◌*◌, ◌<◌, ◌≤◌, ◌++◌, ◌&&◌, ◌⊎◌, nat_lt, nat_eq, Bool, true, false, cond, not, List, [], ◌∷◌, length, take, drop, get_or, Option, Some, None, option_map, refl, sym, ap, ◌∙◌, arith, lt-ltb, le-ltb, append_assoc, inl, inr, eqb-true}
-use Rattle.std.proofs.lemmas.List.{drop_all, length-append, length-drop, length-take-le, take-append-drop}
+use Rattle.std.proofs.Common.{◌≡◌, ℕ, zero, suc, ◌+◌, ◌-◌, ◌*◌, ◌<◌, ◌≤◌, ◌++◌, ◌⊎◌, nat_eq, Bool, true, false, cond, List, [], ◌∷◌, length, take, drop, Option, Some, None, option_map, refl, sym, ap, ◌∙◌, arith, lt-ltb, le-ltb, append_assoc, inl, inr, eqb-true}
+use Rattle.std.proofs.lemmas.List.{drop_all, length-take-le, take-append-drop}
 use Rattle.std.proofs.lemmas.Bool.{and_parts, cases_Bool, cases_lt}
 use Rattle.std.proofs.lemmas.Slice.Eq.{bytes_eq-Decides}
-use Rattle.std.specs.List.{AllByRecursion, concat}
+use Rattle.std.specs.List.{concat}
 use Rattle.byteorder.specs.Endian.{little_number}
-use Rattle.device_path_locate.specs.DevicePaths.{BeginsWith, IsPathNode, Node, bytes_of, end_of_instance, end_of_path, is_inner, nodes_behind, nodes_from, path_in, same_bytes, size_of, told_length}
+use Rattle.device_path_locate.specs.DevicePaths.{BeginsWith, Node, end_of_path, is_inner, nodes_behind, nodes_from, path_in, same_bytes, told_length}
 use Rattle.device_path_locate.specs.Reading.{IsFrontNode}
 
 -- bytes that are passed over do not matter

@@ -1,14 +1,13 @@
 -- Paths in the pool, and which of them match.
-use Rattle.std.proofs.Common.{◌≡◌, ℕ, ◌+◌, ◌<◌, ◌≤◌, ◌++◌, nat_lt, Bool, true, false, cond, List, [], ◌∷◌, length, take, drop, get_or, IfSome, Option, Some, None, option_map, option_and_then, refl, sym, ap, ◌∙◌, arith, subst, append_assoc, inl, inr, lt-ltb, le-ltb}
-use Rattle.std.proofs.lemmas.List.{length-append, take_at, take-append-le}
+use Rattle.std.proofs.Common.{◌≡◌, ℕ, ◌+◌, ◌<◌, ◌≤◌, ◌++◌, nat_lt, true, List, length, take, drop, get_or, IfSome, Option, Some, None, option_map, option_and_then, refl, sym, ap, ◌∙◌, arith, append_assoc, inl, inr, lt-ltb, le-ltb}
+use Rattle.std.proofs.lemmas.List.{drop_more, length-append, take_at}
 use Rattle.std.proofs.lemmas.Bool.{cases_Bool, cases_lt}
 use Rattle.std.specs.List.{AllByRecursion, concat, cons_option, filter_map}
 use Rattle.pool_services.specs.Extents.{Extent, tail_at}
 use Rattle.guid_handles.specs.HandleTables.{HandleTable, value_at}
-use Rattle.guid_handles.proofs.SortedLists.{drop_next}
 use Rattle.device_path_locate.specs.declared.spans.PathSpan.{PathSpan}
 use Rattle.device_path_locate.specs.DevicePaths.{IsPathNode, Node, end_of_path, first_instance, path_in, size_of, span_of}
-use Rattle.device_path_locate.specs.Locating.{answer_at, device_path_guid, is_front, located, located_by, longer_of, longest, match_of, matched_size, path_at, path_of, whole_bytes}
+use Rattle.device_path_locate.specs.Locating.{answer_at, device_path_guid, is_front, located, located_by, longer_of, longest, matched_size, path_at, path_of, whole_bytes}
 use Rattle.device_path_locate.specs.Reading.{IsBestMatch, IsMatch, longer_if}
 use Rattle.device_path_locate.proofs.NodeLists.{begins_with}
 use Rattle.device_path_locate.proofs.Fronts.{HasFront, first_front, first_nodes, front_has, has_front}
@@ -46,7 +45,7 @@ first_read bytes span e =
     let first : List ℕ = concat (first_instance s.0) in
     let more : List ℕ = f.0 ++ (end_of_path ++ b.rest) in
     let front : HasFront bytes first =
-        (more, b.is ∙ append_assoc (concat s.0) end_of_path b.rest ∙ ap (λ (xs : List ℕ). xs ++ (end_of_path ++ b.rest)) f.1 ∙ append_assoc first f.0 (end_of_path ++ b.rest)) in
+    (more, b.is ∙ append_assoc (concat s.0) end_of_path b.rest ∙ ap (λ (xs : List ℕ). xs ++ (end_of_path ++ b.rest)) f.1 ∙ append_assoc first f.0 (end_of_path ++ b.rest)) in
     let size : span.first_instance ≡ length first = ap (λ (x : PathSpan). x.first_instance) s.2 in
     record {
       within = omega (arith, size, ap length front.1, length-append first more, length-append f.0 (end_of_path ++ b.rest));
@@ -56,6 +55,9 @@ first_read bytes span e =
     }
 
 -- ---- the path of a handle
+
+pub path_there : (bytes : List ℕ) (address : ℕ) (es : List Extent) → Some bytes ≡ tail_at address es → path_in bytes ≡ path_at address es
+path_there bytes address es e = ap (option_and_then path_in) e
 
 from_then : {X Y : Type 0} (f : X → Option Y) (o : Option X) (y : Y) → option_and_then f o ≡ Some y → (x : X) × (o ≡ Some x) × (f x ≡ Some y)
 from_then f None y e = absurd cc
@@ -118,13 +120,14 @@ longest-cons None ms = refl
 longest-cons (Some m) ms = refl
 
 -- one handle more is looked at
-pub one_more : (f : ℕ → Option (ℕ × ℕ)) (best found : Option (ℕ × ℕ)) (hs : List ℕ) (k h : ℕ) (whole : Option (ℕ × ℕ)) → k < length hs → h ≡ get_or hs k h → found ≡ f h →
+pub one_more : (f : ℕ → Option (ℕ × ℕ)) (best found : Option (ℕ × ℕ)) (hs : List ℕ) (k : ℕ) (whole : Option (ℕ × ℕ)) → k < length hs → found ≡ f (get_or hs k 0) →
     longer_if best (longest (filter_map f (drop k hs))) ≡ whole → longer_if (longer_if best found) (longest (filter_map f (drop (k + 1) hs))) ≡ whole
-one_more f best found hs k h whole l e m w =
-    longer_assoc best found (longest (filter_map f (drop (k + 1) hs)))
-    ∙ ap (λ (o : Option (ℕ × ℕ)). longer_if best (longer_if o (longest (filter_map f (drop (k + 1) hs))))) m
-    ∙ ap (longer_if best) (sym (longest-cons (f h) (filter_map f (drop (k + 1) hs))))
-    ∙ ap (λ (xs : List ℕ). longer_if best (longest (filter_map f xs))) (sym (drop_next hs k h l e))
+one_more f best found hs k whole l m w =
+    let rest : List (ℕ × ℕ) = filter_map f (drop (k + 1) hs) in
+    longer_assoc best found (longest rest)
+    ∙ ap (λ (o : Option (ℕ × ℕ)). longer_if best (longer_if o (longest rest))) m
+    ∙ ap (longer_if best) (sym (longest-cons (f (get_or hs k 0)) rest))
+    ∙ ap (λ (xs : List ℕ). longer_if best (longest (filter_map f xs))) (sym (drop_more hs k 0 l))
     ∙ w
 
 pub longer_bound : (n : ℕ) (a b : Option (ℕ × ℕ)) → IfSome a (λ m. m.1 ≤ n) → IfSome b (λ m. m.1 ≤ n) → IfSome (longer_if a b) (λ m. m.1 ≤ n)

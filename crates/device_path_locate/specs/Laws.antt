@@ -1,8 +1,8 @@
 -- The laws of device paths. Each is the contract of a public function.
-use Rattle.std.specs.Prelude.{◌≡◌, ◌↔◌, List, ◌++◌, true, Some, ℕ}
-use Rattle.std.specs.List.{AllByRecursion, concat}
-use Rattle.device_path_locate.specs.DevicePaths.{BeginsWith, IsPathNode, Node, path_in}
-use Rattle.device_path_locate.specs.Locating.{is_front}
+use Rattle.std.specs.Prelude.{◌≡◌, ◌↔◌, List, ◌++◌, true, Some, None, ℕ}
+use Rattle.std.specs.List.{AllByRecursion, concat, list_any}
+use Rattle.device_path_locate.specs.DevicePaths.{BeginsWith, IsPathNode, Node, end_of_instance, first_instance, path_in, same_bytes}
+use Rattle.device_path_locate.specs.Locating.{is_front, matched_size}
 
 -- A path is read of just the bytes that begin with it.
 abbrev pub PathBytesLaw : Type 0
@@ -12,3 +12,7 @@ PathBytesLaw = (bytes : List ℕ) (ns : List Node) → (path_in bytes ≡ Some n
 abbrev pub FrontBytesLaw : Type 0
 FrontBytesLaw =
     (ns ms : List Node) → AllByRecursion IsPathNode ns → AllByRecursion IsPathNode ms → (is_front ns ms ≡ true) ↔ ((rest : List ℕ) × (concat ms ≡ concat ns ++ rest))
+
+-- A path that has the end of an instance matches nothing: no first instance has one.
+abbrev pub InstanceEndsLaw : Type 0
+InstanceEndsLaw = (path ns : List Node) → list_any (λ n. same_bytes n end_of_instance) path ≡ true → matched_size (first_instance ns) path ≡ None

@@ -1,5 +1,5 @@
 //! The laws of device paths, each the contract of a function that does nothing.
-ghost use Rattle.device_path_locate.specs.Laws.{FrontBytesLaw, PathBytesLaw};
+ghost use Rattle.device_path_locate.specs.Laws.{FrontBytesLaw, InstanceEndsLaw, PathBytesLaw};
 
 /// A path is read of just the bytes that begin with its nodes and the end of the entire path.
 pub fn path_bytes_law()
@@ -9,4 +9,9 @@ pub fn path_bytes_law()
 /// The nodes of one path are the first of another exactly where their bytes are.
 pub fn front_bytes_law()
     ensures { FrontBytesLaw }
+{}
+
+/// A path that has the end of an instance matches nothing.
+pub fn instance_ends_law()
+    ensures { InstanceEndsLaw }
 {}

@@ -6,6 +6,6 @@ mod matches;
 mod nodes;
 mod spans;
 
-pub use laws::{front_bytes_law, path_bytes_law};
+pub use laws::{front_bytes_law, instance_ends_law, path_bytes_law};
 pub use matches::{device_path_guid, has_path_installed, locate};
 pub use spans::{PathSpan, read_path};

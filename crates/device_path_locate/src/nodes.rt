@@ -17,6 +17,9 @@ const END_TYPE: u8 = 0x7f;
 /// The bytes of a type, a subtype and a length, with which each node begins.
 const HEADER_SIZE: usize = 4;
 
+/// A node's length, which counts its header too, is at least this.
+const MIN_LENGTH: usize = HEADER_SIZE;
+
 /// The node at the front of some bytes. `None` where they run out in it, or its length is too small.
 pub(crate) fn front_node(bytes: &[u8]) -> Option<&[u8]>
     ensures { IsFrontNode bytes.now (option_map (λ s. s.now) result) }
@@ -25,7 +28,7 @@ pub(crate) fn front_node(bytes: &[u8]) -> Option<&[u8]>
         return None;
     }
     let length = LittleEndian::read_u16(&bytes[2..]) as usize;
-    if length < HEADER_SIZE || length > bytes.len() {
+    if length < MIN_LENGTH || length > bytes.len() {
         return None;
     }
     Some(&bytes[..length])

@@ -1,8 +1,8 @@
-use Rattle.std.proofs.Common.{ℕ, List, Option, option_and_then, length, sym, ap, ◌∙◌, arith}
+use Rattle.std.proofs.Common.{ℕ, List, Option, option_and_then, sym, ap, ◌∙◌, arith}
 use Rattle.std.proofs.lemmas.List.{length-take-le}
 use Rattle.device_path_locate.specs.DevicePaths.{path_in}
 use Rattle.device_path_locate.specs.Locating.{whole_bytes}
-use Rattle.device_path_locate.proofs.PathMatches.{whole_read}
+use Rattle.device_path_locate.proofs.PathMatches.{path_there, whole_read}
 use Rattle.device_path_locate.proofs.matches.whole_at.Goals as goal
 
 pub slice_bounds-result-end : goal.slice_bounds-result-end
@@ -13,4 +13,4 @@ slice_bounds-result-end g c =
 pub returns : goal.returns
 returns g c =
     let r = whole_read c.in_ok-bytes.bytes.now c.in_ok-span.span c.in_ok-span.ensures in
-    r.taken ∙ ap (λ (o : Option (List ℕ)). whole_bytes (option_and_then path_in o)) c.in_ok-bytes.ensures.bytes
+    r.taken ∙ ap whole_bytes (path_there c.in_ok-bytes.bytes.now c.args.address c.args.pools.now c.in_ok-bytes.ensures.bytes)

@@ -2,20 +2,20 @@ use Rattle.std.proofs.Common.{◌≡◌, ap, ◌∙◌, drop, inl, inr}
 use Rattle.std.proofs.lemmas.List.{take_rest}
 use Rattle.byteorder.specs.Endian.{little_number}
 use Rattle.device_path_locate.proofs.NodeLists.{front_node, no_node}
-use Rattle.device_path_locate.proofs.nodes.front_node.Goals.{then-length-lt-HEADER_SIZE-via-then-length-lt-HEADER_SIZE, then-length-lt-HEADER_SIZE-via-else-length-lt-HEADER_SIZE+then-length-bytes}
+use Rattle.device_path_locate.proofs.nodes.front_node.Goals.{then-length-lt-MIN_LENGTH-via-then-length-lt-MIN_LENGTH, then-length-lt-MIN_LENGTH-via-else-length-lt-MIN_LENGTH+then-length-bytes}
 use Rattle.device_path_locate.proofs.nodes.front_node.Goals as goal
 
-pub returns-then-length-lt-HEADER_SIZE : goal.returns-then-length-lt-HEADER_SIZE
-returns-then-length-lt-HEADER_SIZE c =
+pub returns-then-length-lt-MIN_LENGTH : goal.returns-then-length-lt-MIN_LENGTH
+returns-then-length-lt-MIN_LENGTH c =
     let xs = c.args.bytes.now in
     let n : c.read_u16-length.result ≡ little_number 2 (drop 2 xs) = c.read_u16-length.ensures ∙ ap (little_number 2) (take_rest xs 2) in
-    elim c.then-length-lt-HEADER_SIZE.branch [
-      | then-length-lt-HEADER_SIZE-via-then-length-lt-HEADER_SIZE w ↦ no_node xs _ c.if-bytes-lt-HEADER_SIZE.false n (inl w.if-length-lt-HEADER_SIZE.true)
-      | then-length-lt-HEADER_SIZE-via-else-length-lt-HEADER_SIZE+then-length-bytes w ↦ no_node xs _ c.if-bytes-lt-HEADER_SIZE.false n (inr w.if-length-bytes.true)
+    elim c.then-length-lt-MIN_LENGTH.branch [
+      | then-length-lt-MIN_LENGTH-via-then-length-lt-MIN_LENGTH w ↦ no_node xs _ c.if-bytes-lt-HEADER_SIZE.false n (inl w.if-length-lt-MIN_LENGTH.true)
+      | then-length-lt-MIN_LENGTH-via-else-length-lt-MIN_LENGTH+then-length-bytes w ↦ no_node xs _ c.if-bytes-lt-HEADER_SIZE.false n (inr w.if-length-bytes.true)
     ]
 
 pub returns : goal.returns
 returns c =
     let xs = c.args.bytes.now in
     let n : c.read_u16-length.result ≡ little_number 2 (drop 2 xs) = c.read_u16-length.ensures ∙ ap (little_number 2) (take_rest xs 2) in
-    front_node xs _ c.if-bytes-lt-HEADER_SIZE.false n c.if-length-lt-HEADER_SIZE.false c.if-length-bytes.false
+    front_node xs _ c.if-bytes-lt-HEADER_SIZE.false n c.if-length-lt-MIN_LENGTH.false c.if-length-bytes.false

@@ -1,4 +1,4 @@
-use Rattle.std.proofs.Common.{◌∙◌, arith, drop, inl, inr, length, sym, Some}
+use Rattle.std.proofs.Common.{◌∙◌, arith, drop, inl, inr, sym, Some}
 use Rattle.std.proofs.lemmas.List.{length-drop, take_rest}
 use Rattle.device_path_locate.specs.Reading.{IsFrontNode}
 use Rattle.device_path_locate.proofs.SpanSteps.{goes_on}
