@@ -38,6 +38,7 @@ quiet S exited old (call.PoolRead address size) answer new q (told, bytes, e, h)
 quiet S exited old (call.LocateHandle search guid key size) answer new q (told, e, h) = open_quiet exited old new _ _ (λ rule. (rule.1, rule.2)) h
 quiet S exited old (call.ExitBootServices key) answer new q h = served_quiet exited old new answer _ _ (λ result rule. same_quiet old new rule.1) h
 quiet S exited old (call.ProtocolsPerHandle handle) answer new q h = served_quiet exited old new answer _ _ (λ result rule. same_quiet old new rule.1) h
+quiet S exited old (call.LocateDevicePath guid address) answer new q h = served_quiet exited old new answer _ _ (λ result rule. same_quiet old new rule.1) h
 quiet S exited old (call.InstallProtocolInterface handle guid kind value) answer new q h = served_quiet exited old new answer _ _ (λ result rule. (rule.1, rule.2)) h
 quiet S exited old (call.InstallMultipleProtocolInterfaces handle pairs) answer new q h = served_quiet exited old new answer _ _ (λ result rule. (rule.1, rule.2)) h
 quiet S exited old (call.RegisterProtocolNotify guid event) answer new q h = served_quiet exited old new answer _ _ (λ result rule. (rule.1, rule.2)) h

@@ -5,6 +5,7 @@ use Rattle.page_ranges.specs.declared.statuses.Status.TheVariants.{InvalidParame
 use Rattle.page_services.specs.PageRules.{Book, Choice, IsAnyStart, IsBestChoice, AllocatesPages, FreesPages}
 use Rattle.pool_services.specs.Extents.{Extent}
 use Rattle.pool_services.specs.PoolRules.{AllocatesPool, FreesPool, ReadsPool, WritesPool}
+use Rattle.device_path_locate.specs.Locating.{has_path_installed, located}
 use Rattle.guid_handles.specs.HandleChanges.{install_refusal}
 use Rattle.protocol_services.specs.declared.replies.LocateReply.{LocateReply}
 use Rattle.protocol_services.specs.Lists.{Lists}
@@ -95,7 +96,7 @@ Answers S exited old (call.PoolWrite address bytes) answer new = Serves exited o
 Answers S exited old (call.InstallProtocolInterface handle guid kind value) answer new =
     Serves exited old new answer reply.InstallProtocolInterface (λ result. OnLists (InstallsPairs old.lists handle ((guid, value) ∷ []) (install_refusal old.lists.handles handle guid kind) result) old new)
 Answers S exited old (call.InstallMultipleProtocolInterfaces handle pairs) answer new =
-    Serves exited old new answer reply.InstallMultipleProtocolInterfaces (λ result. OnLists (InstallsPairs old.lists handle pairs (many_refusal old.lists handle pairs false) result) old new)
+    Serves exited old new answer reply.InstallMultipleProtocolInterfaces (λ result. OnLists (InstallsPairs old.lists handle pairs (many_refusal old.lists handle pairs (has_path_installed old.lists.handles old.pools pairs)) result) old new)
 Answers S exited old (call.RegisterProtocolNotify guid event) answer new = Serves exited old new answer reply.RegisterProtocolNotify (λ result. OnLists (Registers old.lists guid event result) old new)
 Answers S exited old (call.LocateHandle search guid key size) answer new = ServesSearch exited old new answer (λ told. OnLists (LocatesHandles old.lists search guid key size told) old new)
 Answers S exited old (call.LocateHandleBuffer search guid key) answer new = Serves exited old new answer reply.LocateHandleBuffer (λ result. LocatesBuffer S.chosen old search guid key result new)
@@ -106,6 +107,7 @@ Answers S exited old (call.OpenProtocol handle guid agent controller attributes)
 Answers S exited old (call.CloseProtocol handle guid agent controller) answer new = Serves exited old new answer reply.CloseProtocol (λ result. OnLists (Closes old.lists handle guid agent controller result) old new)
 Answers S exited old (call.OpenProtocolInformation handle guid) answer new = Serves exited old new answer reply.OpenProtocolInformation (λ result. ListsOpens S.chosen old handle guid result new)
 Answers S exited old (call.HandleProtocol handle guid) answer new = Serves exited old new answer reply.HandleProtocol (λ result. OnLists (HandlesProtocol old.lists handle guid result) old new)
+Answers S exited old (call.LocateDevicePath guid address) answer new = Serves exited old new answer reply.LocateDevicePath (λ result. (result ≡ located old.lists.handles old.pools guid address) × (new ≡ old))
 Answers S exited old (call.ExitBootServices key) answer new = Serves exited old new answer reply.ExitBootServices (λ result. Exits old.book.key key result × (new ≡ old))
 
 -- whether the boot services have ended after a reply: they had, or it tells of an exit

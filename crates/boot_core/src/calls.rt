@@ -155,6 +155,10 @@ pub enum Call<A: Allocator = Global> {
         handle: u64,
         guid: Uuid,
     },
+    LocateDevicePath {
+        guid: Uuid,
+        address: u64,
+    },
     ExitBootServices {
         key: u64,
     },
@@ -198,5 +202,7 @@ pub enum Reply<A: Allocator = Global> {
     OpenProtocolInformation(Result<PoolList<A>, Status>),
     /// The value of the interface.
     HandleProtocol(Result<u64, Status>),
+    /// The handle, and the address behind the nodes that its path matched.
+    LocateDevicePath(Result<(u64, u64), Status>),
     ExitBootServices(Result<(), Status>),
 }

@@ -12,6 +12,7 @@ use crate::map_buffers::{map_in_buffer, refused_map};
 use crate::pool_buffers::{read_bytes, told_status};
 use crate::pool_lists::{list_opens, locate_buffer};
 use descriptor_table::{MapEntries, RunTable};
+use device_path_locate::{has_path_installed, locate};
 use map_keys::{MapReply, get_memory_map};
 use page_ranges::{Descriptor, Status};
 use page_services::PageBook;
@@ -215,12 +216,16 @@ impl<A: Allocator + Copy> Core<A> {
     }
 
     /// InstallMultipleProtocolInterfaces: all of some interfaces, pairs of GUID and value, or none.
+    /// ALREADY_STARTED: one is a device path that a live handle has already.
     pub fn install_multiple(&mut self, handle: u64, pairs: &[(Uuid, u64)]) -> Reply<A>
         requires { 0 < self.old.calls_left }
         ensures { Step self.old (Call.InstallMultipleProtocolInterfaces handle pairs.now) result self.new }
     {
         Reply::InstallMultipleProtocolInterfaces(match self.begin() {
-            Ok(()) => self.protocols.install_many(handle, pairs, false),
+            Ok(()) => {
+                let has_path = has_path_installed(self.protocols.handles(), &self.pools, pairs);
+                self.protocols.install_many(handle, pairs, has_path)
+            }
             Err(status) => Err(status),
         })
     }
@@ -360,6 +365,18 @@ impl<A: Allocator + Copy> Core<A> {
         })
     }
 
+    /// LocateDevicePath: of the handles that carry a GUID, the one whose device path is the longest front
+    /// of the path at an address in the pool.
+    pub fn locate_device_path(&mut self, guid: Uuid, address: u64) -> Reply<A>
+        requires { 0 < self.old.calls_left }
+        ensures { Step self.old (Call.LocateDevicePath guid address) result self.new }
+    {
+        Reply::LocateDevicePath(match self.begin() {
+            Ok(()) => locate(self.protocols.handles(), &self.pools, guid, address),
+            Err(status) => Err(status),
+        })
+    }
+
     /// ExitBootServices: with the current map key, after which all services answer UNSUPPORTED.
     ///
     /// INVALID_PARAMETER: another key.
@@ -435,6 +452,7 @@ impl<A: Allocator + Copy> Core<A> {
                 self.open_protocol_information(*handle, *guid)
             }
             Call::HandleProtocol { handle, guid } => self.handle_protocol(*handle, *guid),
+            Call::LocateDevicePath { guid, address } => self.locate_device_path(*guid, *address),
             Call::ExitBootServices { key } => self.exit_boot_services(*key),
         }
     }
