@@ -65,9 +65,9 @@ impl<A: Allocator + Copy> Protocols<A> {
         ensures installs { InstallsPairs self.old handle ((guid, value) ∷ []) (install_refusal self.old.handles handle guid kind) result self.new }
         ensures raised { IsRaised self.old self.new }
     {
-        let events = match self.signaled(&[(guid, value)]) {
-            Ok(events) => events,
-            Err(_) => return Err(or_out_of_memory(self.handles.install_refusal(handle, guid, kind))),
+        let Ok(events) = self.signaled(&[(guid, value)]) else {
+            let refusal = self.handles.install_refusal(handle, guid, kind);
+            return Err(or_out_of_memory(refusal));
         };
         let handle = self.handles.install(handle, guid, kind, value)?;
         Ok(Installed { handle, events })
@@ -94,9 +94,8 @@ impl<A: Allocator + Copy> Protocols<A> {
         if let Some(status) = refusal {
             return Err(status);
         }
-        let events = match self.signaled(pairs) {
-            Ok(events) => events,
-            Err(_) => return Err(Status::OutOfResources),
+        let Ok(events) = self.signaled(pairs) else {
+            return Err(Status::OutOfResources);
         };
         let handle = self.handles.install_many(handle, pairs)?;
         Ok(Installed { handle, events })
