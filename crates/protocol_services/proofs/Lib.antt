@@ -1,3 +1,4 @@
 pub mod Carried
 pub mod OpenCounts
 pub mod WrittenOver
+pub mod ListSizes

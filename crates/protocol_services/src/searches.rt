@@ -56,7 +56,8 @@ impl<A: Allocator + Copy> Protocols<A> {
     /// Takes the handle of a search by a key; after another search all stays as it was.
     pub fn take_found(&mut self, search: u32, key: u64)
         requires { search ≡ by_register_notify → IsSome (next_handle self.old.handles self.old.registrations key) }
-        ensures { self.new ≡ once_found search key self.old }
+        ensures taken { self.new ≡ once_found search key self.old }
+        ensures raised { IsRaised self.old self.new }
     {
         if search == BY_REGISTER_NOTIFY {
             self.registrations.take(&self.handles, key);
