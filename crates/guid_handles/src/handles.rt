@@ -82,6 +82,13 @@ impl<A: Allocator + Copy> Handles<A> {
         self.numbers.as_slice()
     }
 
+    /// The interfaces of all handles, in order of installation.
+    pub fn interfaces(&self) -> &[Interface]
+        ensures { result.now ≡ self.now.interfaces }
+    {
+        self.interfaces.listed.as_slice()
+    }
+
     /// Whether a handle is live.
     pub fn is_live(&self, handle: u64) -> bool
         ensures { result ≡ is_live self.now handle }
@@ -368,7 +375,7 @@ impl<A: Allocator + Copy> Handles<A> {
 }
 
 /// Whether a GUID stands twice in a list.
-fn has_guid_twice(pairs: &[(Uuid, u64)]) -> bool
+pub fn has_guid_twice(pairs: &[(Uuid, u64)]) -> bool
     ensures { result ≡ has_guid_twice pairs.now }
 {
     for (k, pair) in pairs.iter().enumerate() {

@@ -7,5 +7,5 @@ mod records;
 mod room;
 mod searches;
 
-pub use handles::{Handles, MAX_HANDLES, MAX_INSTALLED};
+pub use handles::{Handles, MAX_HANDLES, MAX_INSTALLED, has_guid_twice};
 pub use records::{Interface, LiveHandle};

@@ -52,6 +52,13 @@ impl<A: Allocator + Copy> Opens<A> {
         Ok(Opens { items })
     }
 
+    /// All items, in the order in which they were made.
+    pub fn all(&self) -> &[OpenRecord]
+        ensures { result.now ≡ self.now }
+    {
+        self.items.as_slice()
+    }
+
     /// Whether there is an item equal to what a call asks for.
     fn has_equal(
         &self,
@@ -76,7 +83,7 @@ impl<A: Allocator + Copy> Opens<A> {
     }
 
     /// Whether an interface is open for a driver or exclusively.
-    fn has_holder(&self, handle: u64, guid: Uuid) -> bool
+    pub fn has_holder(&self, handle: u64, guid: Uuid) -> bool
         ensures { result ≡ rule.has_holder self.now handle guid }
     {
         self.items.iter().any(|o| {
