@@ -1,7 +1,7 @@
-use Rattle.std.proofs.Common.{ℕ, List, Option, option_and_then, option_map, sym, ap, ◌∙◌, arith}
+use Rattle.std.proofs.Common.{List, option_map, sym, ap, ◌∙◌, arith}
 use Rattle.std.specs.List.{concat}
 use Rattle.std.proofs.lemmas.List.{length-take-le}
-use Rattle.device_path_locate.specs.DevicePaths.{Node, first_instance, path_in}
+use Rattle.device_path_locate.specs.DevicePaths.{Node, first_instance}
 use Rattle.device_path_locate.proofs.PathMatches.{first_read, path_there}
 use Rattle.device_path_locate.proofs.matches.first_instance_at.Goals as goal
 

@@ -1,6 +1,5 @@
-use Rattle.std.proofs.Common.{ℕ, List, Option, option_and_then, sym, ap, ◌∙◌, arith}
+use Rattle.std.proofs.Common.{sym, ap, ◌∙◌, arith}
 use Rattle.std.proofs.lemmas.List.{length-take-le}
-use Rattle.device_path_locate.specs.DevicePaths.{path_in}
 use Rattle.device_path_locate.specs.Locating.{whole_bytes}
 use Rattle.device_path_locate.proofs.PathMatches.{path_there, whole_read}
 use Rattle.device_path_locate.proofs.matches.whole_at.Goals as goal
