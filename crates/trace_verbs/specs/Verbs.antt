@@ -13,12 +13,26 @@ verb_name verb.Pool = codes "pool"
 verb_name verb.FreePool = codes "free-pool"
 verb_name verb.Read = codes "read"
 verb_name verb.Write = codes "write"
+verb_name verb.Install = codes "install"
+verb_name verb.InstallMany = codes "install-many"
+verb_name verb.Open = codes "open"
+verb_name verb.Close = codes "close"
+verb_name verb.Information = codes "information"
+verb_name verb.HandleProtocol = codes "handle-protocol"
+verb_name verb.Notify = codes "notify"
+verb_name verb.Locate = codes "locate"
+verb_name verb.LocateBuffer = codes "locate-buffer"
+verb_name verb.LocateProtocol = codes "locate-protocol"
+verb_name verb.Protocols = codes "protocols"
 verb_name verb.Exit = codes "exit"
 verb_name verb.List = codes "list"
 
 -- all verbs
 abbrev pub verbs : List Verb
-verbs = verb.Pages ∷ verb.FreePages ∷ verb.Map ∷ verb.Pool ∷ verb.FreePool ∷ verb.Read ∷ verb.Write ∷ verb.Exit ∷ verb.List ∷ []
+verbs = verb.Pages ∷ verb.FreePages ∷ verb.Map ∷ verb.Pool ∷ verb.FreePool ∷ verb.Read ∷ verb.Write
+    ∷ verb.Install ∷ verb.InstallMany ∷ verb.Open ∷ verb.Close ∷ verb.Information ∷ verb.HandleProtocol
+    ∷ verb.Notify ∷ verb.Locate ∷ verb.LocateBuffer ∷ verb.LocateProtocol ∷ verb.Protocols
+    ∷ verb.Exit ∷ verb.List ∷ []
 
 -- the verb that is written so
 abbrev pub verb_named : List ℕ → Option Verb

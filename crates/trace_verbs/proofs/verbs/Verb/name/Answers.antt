@@ -23,6 +23,39 @@ returns-in-Read c = sym (ap verb_name c.in-Read.is)
 pub returns-in-Write : goal.returns-in-Write
 returns-in-Write c = sym (ap verb_name c.in-Write.is)
 
+pub returns-in-Install : goal.returns-in-Install
+returns-in-Install c = sym (ap verb_name c.in-Install.is)
+
+pub returns-in-InstallMany : goal.returns-in-InstallMany
+returns-in-InstallMany c = sym (ap verb_name c.in-InstallMany.is)
+
+pub returns-in-Open : goal.returns-in-Open
+returns-in-Open c = sym (ap verb_name c.in-Open.is)
+
+pub returns-in-Close : goal.returns-in-Close
+returns-in-Close c = sym (ap verb_name c.in-Close.is)
+
+pub returns-in-Information : goal.returns-in-Information
+returns-in-Information c = sym (ap verb_name c.in-Information.is)
+
+pub returns-in-HandleProtocol : goal.returns-in-HandleProtocol
+returns-in-HandleProtocol c = sym (ap verb_name c.in-HandleProtocol.is)
+
+pub returns-in-Notify : goal.returns-in-Notify
+returns-in-Notify c = sym (ap verb_name c.in-Notify.is)
+
+pub returns-in-Locate : goal.returns-in-Locate
+returns-in-Locate c = sym (ap verb_name c.in-Locate.is)
+
+pub returns-in-LocateBuffer : goal.returns-in-LocateBuffer
+returns-in-LocateBuffer c = sym (ap verb_name c.in-LocateBuffer.is)
+
+pub returns-in-LocateProtocol : goal.returns-in-LocateProtocol
+returns-in-LocateProtocol c = sym (ap verb_name c.in-LocateProtocol.is)
+
+pub returns-in-Protocols : goal.returns-in-Protocols
+returns-in-Protocols c = sym (ap verb_name c.in-Protocols.is)
+
 pub returns-in-Exit : goal.returns-in-Exit
 returns-in-Exit c = sym (ap verb_name c.in-Exit.is)
 
