@@ -24,6 +24,7 @@ verb_name verb.Locate = codes "locate"
 verb_name verb.LocateBuffer = codes "locate-buffer"
 verb_name verb.LocateProtocol = codes "locate-protocol"
 verb_name verb.Protocols = codes "protocols"
+verb_name verb.Path = codes "path"
 verb_name verb.Exit = codes "exit"
 verb_name verb.List = codes "list"
 
@@ -32,7 +33,7 @@ abbrev pub verbs : List Verb
 verbs = verb.Pages ∷ verb.FreePages ∷ verb.Map ∷ verb.Pool ∷ verb.FreePool ∷ verb.Read ∷ verb.Write
     ∷ verb.Install ∷ verb.InstallMany ∷ verb.Open ∷ verb.Close ∷ verb.Information ∷ verb.HandleProtocol
     ∷ verb.Notify ∷ verb.Locate ∷ verb.LocateBuffer ∷ verb.LocateProtocol ∷ verb.Protocols
-    ∷ verb.Exit ∷ verb.List ∷ []
+    ∷ verb.Path ∷ verb.Exit ∷ verb.List ∷ []
 
 -- the verb that is written so
 abbrev pub verb_named : List ℕ → Option Verb

@@ -24,12 +24,13 @@ pub enum Verb {
     LocateBuffer,
     LocateProtocol,
     Protocols,
+    Path,
     Exit,
     List,
 }
 
 /// All verbs.
-const VERBS: [Verb; 20] = [
+const VERBS: [Verb; 21] = [
     Verb::Pages,
     Verb::FreePages,
     Verb::Map,
@@ -48,6 +49,7 @@ const VERBS: [Verb; 20] = [
     Verb::LocateBuffer,
     Verb::LocateProtocol,
     Verb::Protocols,
+    Verb::Path,
     Verb::Exit,
     Verb::List,
 ];
@@ -76,6 +78,7 @@ impl Verb {
             Verb::LocateBuffer => "locate-buffer",
             Verb::LocateProtocol => "locate-protocol",
             Verb::Protocols => "protocols",
+            Verb::Path => "path",
             Verb::Exit => "exit",
             Verb::List => "list",
         }

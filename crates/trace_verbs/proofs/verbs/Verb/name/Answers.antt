@@ -56,6 +56,9 @@ returns-in-LocateProtocol c = sym (ap verb_name c.in-LocateProtocol.is)
 pub returns-in-Protocols : goal.returns-in-Protocols
 returns-in-Protocols c = sym (ap verb_name c.in-Protocols.is)
 
+pub returns-in-Path : goal.returns-in-Path
+returns-in-Path c = sym (ap verb_name c.in-Path.is)
+
 pub returns-in-Exit : goal.returns-in-Exit
 returns-in-Exit c = sym (ap verb_name c.in-Exit.is)
 
