@@ -7,6 +7,7 @@ use Rattle.page_ranges.specs.MemoryMap.{memory_map}
 use Rattle.placement_certificate.specs.declared.certificates.Request.{Request}
 use Rattle.placement_certificate.specs.Certificates.{CertificateValue}
 use Rattle.boot_core.specs.declared.calls.Call.{Call}
+use Rattle.boot_core.specs.declared.calls.Call.TheVariants as call
 use Rattle.boot_core.specs.declared.calls.Reply.{Reply}
 use Rattle.boot_core.specs.Certified.{request_for, certificate_in, certified}
 use Rattle.reply_texts.specs.PrintedText.{reply_text}
@@ -17,10 +18,19 @@ kept : (r : Option Request) (c : Option CertificateValue) (entries : List Descri
 kept None c entries = refl
 kept (Some r) c entries = refl
 
+-- a map that is always kept
+always : (told : Option (Request × CertificateValue)) (entries : List Descriptor) → block_after (Some entries) told ≡ certificate_text entries told
+always None entries = refl
+always (Some (r, c)) entries = refl
+
 -- the block after the map that was kept is that of the certificate
 pub block_kept : {A : Type 0} (certify : Bool) (entries : List Descriptor) (c : Call A) (answer : Reply A) → block_after (map_before certify entries c) (certified c answer) ≡ cond certify (certificate_text entries (certified c answer)) []
 block_kept false entries c answer = refl
-block_kept true entries c answer = kept (request_for c) (certificate_in answer) entries
+block_kept true entries (call.AllocatePages kind t pages memory) answer = kept (request_for (call.AllocatePages kind t pages memory) answer) (certificate_in answer) entries
+block_kept true entries (call.AllocatePool t size) answer = kept (request_for (call.AllocatePool t size) answer) (certificate_in answer) entries
+block_kept true entries (call.LocateHandleBuffer search guid key) answer = always (certified (call.LocateHandleBuffer search guid key) answer) entries
+block_kept true entries (call.OpenProtocolInformation handle guid) answer = always (certified (call.OpenProtocolInformation handle guid) answer) entries
+block_kept true entries c answer = refl
 
 -- the lines of the reply and the block after them, after no other text, are what is printed of the call
 pub prints_call : {A : Type 0} (certify : Bool) (number : ℕ) (before : List Page) (c : Call A) (answer : Reply A) (front text : List ℕ) (map : Option (List Descriptor)) (entries : List Descriptor) → CarriesEntries answer entries → front ≡ [] → map ≡ map_before certify (memory_map before) c → text ≡ front ++ (reply_text number entries answer ++ block_after map (certified c answer)) → PrintsCall certify number before c answer text

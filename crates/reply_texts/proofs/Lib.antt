@@ -1,2 +1,3 @@
 pub mod CallTexts
 pub mod MapEntries
+pub mod JoinedTexts

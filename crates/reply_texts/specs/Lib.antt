@@ -1,3 +1,4 @@
+pub mod ListTexts
 pub mod PrintedText
 pub mod CallText
 pub mod Laws

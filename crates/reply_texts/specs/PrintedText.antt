@@ -1,5 +1,5 @@
 -- What is printed of a trace line.
-use Rattle.std.specs.Prelude.{ℕ, ◌*◌, List, ◌++◌, length, flat_map, codes, Result, Ok, Err}
+use Rattle.std.specs.Prelude.{ℕ, ◌*◌, List, [], ◌++◌, length, flat_map, codes, Option, Some, None, Result, Ok, Err, Vec}
 use Rattle.std.specs.Fmt.{decimal}
 use Rattle.page_ranges.specs.declared.ranges.Descriptor.{Descriptor}
 use Rattle.page_ranges.specs.MemoryTypes.{page_size}
@@ -9,7 +9,11 @@ use Rattle.page_ranges.specs.Statuses.{name_of as status_of}
 use Rattle.map_keys.specs.declared.memory_maps.MapReply.{MapReply}
 use Rattle.boot_core.specs.declared.calls.Reply.{Reply}
 use Rattle.boot_core.specs.declared.calls.Reply.TheVariants as reply
+use Rattle.boot_core.specs.declared.calls.PoolList.{PoolList}
 use Rattle.boot_core.specs.PoolCalls.{told_status}
+use Rattle.protocol_services.specs.declared.replies.Installed.{Installed}
+use Rattle.protocol_services.specs.declared.replies.LocateReply.{LocateReply}
+use Rattle.reply_texts.specs.ListTexts.{events_text, guids_text, numbers_text}
 use Rattle.trace_verbs.specs.declared.verbs.Verb.{Verb}
 use Rattle.trace_verbs.specs.declared.verbs.Verb.TheVariants as verb
 use Rattle.trace_verbs.specs.Verbs.{verb_name}
@@ -59,6 +63,67 @@ read_line number bytes status = status_line number verb.Read (status_of status)
 abbrev pub result_line : ℕ → Verb → Result (Unit {0}) Status → List ℕ
 result_line number v result = status_line number v (status_of (told_status result))
 
+-- the line of a reply with fields, or of a refusal
+abbrev pub told_line : {R : Type 0} → (R → List ℕ) → ℕ → Verb → Result R Status → List ℕ
+told_line fields number v (Ok told) = reply_start number v ++ codes " SUCCESS " ++ fields told ++ line_feed
+told_line fields number v (Err status) = status_line number v (status_of status)
+
+-- the fields of an installation
+abbrev pub installed_fields : {A : Type 0} → Installed A → List ℕ
+installed_fields told = codes "handle=" ++ decimal told.handle ++ codes " events=" ++ events_text told.events.items
+
+-- the fields of a list in a pool block
+abbrev pub pool_list_fields : {A : Type 0} → PoolList A → List ℕ
+pool_list_fields told = codes "count=" ++ decimal told.count ++ codes " address=" ++ hexadecimal told.address
+
+-- the field of an interface
+abbrev pub interface_field : ℕ → List ℕ
+interface_field value = codes "interface=" ++ hexadecimal value
+
+-- the field of a registration
+abbrev pub registration_field : ℕ → List ℕ
+registration_field key = codes "registration=" ++ decimal key
+
+-- the field of the GUIDs on a handle
+abbrev pub guids_field : {A : Type 0} → Vec (List ℕ) A → List ℕ
+guids_field guids = codes "guids=" ++ guids_text guids.items
+
+-- the fields of a handle that a device path leads to
+abbrev pub path_fields : ℕ × ℕ → List ℕ
+path_fields found = codes "handle=" ++ decimal found.0 ++ codes " address=" ++ hexadecimal found.1
+
+-- the line of an open, which may tell no interface
+abbrev pub opened_line : ℕ → Result (Option ℕ) Status → List ℕ
+opened_line number (Ok None) = status_line number verb.Open (status_of Success)
+opened_line number (Ok (Some value)) = told_line interface_field number verb.Open (Ok value)
+opened_line number (Err status) = status_line number verb.Open (status_of status)
+
+-- the fields of a search that found handles: their size, and the handles
+abbrev pub handles_fields : {A : Type 0} → LocateReply A → List ℕ
+handles_fields told = codes "size=" ++ decimal told.size ++ codes " handles=" ++ numbers_text told.handles.items
+
+-- the line of a search for handles, of this status
+abbrev pub located_line : {A : Type 0} → ℕ → LocateReply A → Status → List ℕ
+located_line number told Success = told_line handles_fields number verb.Locate (Ok told)
+located_line number told BufferTooSmall = size_line number verb.Locate told.size
+located_line number told status = status_line number verb.Locate (status_of status)
+
+-- what is printed of a reply of the protocol services
+abbrev pub protocol_text : {A : Type 0} → ℕ → Reply A → List ℕ
+protocol_text number (reply.InstallProtocolInterface result) = told_line installed_fields number verb.Install result
+protocol_text number (reply.InstallMultipleProtocolInterfaces result) = told_line installed_fields number verb.InstallMany result
+protocol_text number (reply.RegisterProtocolNotify result) = told_line registration_field number verb.Notify result
+protocol_text number (reply.LocateHandle told) = located_line number told told.status
+protocol_text number (reply.LocateHandleBuffer result) = told_line pool_list_fields number verb.LocateBuffer result
+protocol_text number (reply.LocateProtocol result) = told_line interface_field number verb.LocateProtocol result
+protocol_text number (reply.ProtocolsPerHandle result) = told_line guids_field number verb.Protocols result
+protocol_text number (reply.OpenProtocol result) = opened_line number result
+protocol_text number (reply.CloseProtocol result) = result_line number verb.Close result
+protocol_text number (reply.OpenProtocolInformation result) = told_line pool_list_fields number verb.Information result
+protocol_text number (reply.HandleProtocol result) = told_line interface_field number verb.HandleProtocol result
+protocol_text number (reply.LocateDevicePath result) = told_line path_fields number verb.Path result
+protocol_text number answer = []
+
 -- what is printed of a reply that carries these entries
 abbrev pub reply_text : {A : Type 0} → ℕ → List Descriptor → Reply A → List ℕ
 reply_text number entries (reply.AllocatePages (Ok placed)) = value_line number verb.Pages (codes "address") placed.address
@@ -71,6 +136,7 @@ reply_text number entries (reply.FreePool result) = result_line number verb.Free
 reply_text number entries (reply.PoolRead status bytes) = read_line number bytes.items status
 reply_text number entries (reply.PoolWrite result) = result_line number verb.Write result
 reply_text number entries (reply.ExitBootServices result) = result_line number verb.Exit result
+reply_text number entries answer = protocol_text number answer
 
 -- what is printed of a listing of these entries
 abbrev pub list_text : ℕ → List Descriptor → List ℕ

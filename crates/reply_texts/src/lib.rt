@@ -3,7 +3,9 @@
 
 mod calls;
 mod laws;
+mod list_texts;
 mod listings;
+mod protocol_replies;
 mod replies;
 
 pub use calls::{map_before, print_call};

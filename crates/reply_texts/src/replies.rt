@@ -7,6 +7,7 @@ ghost use Rattle.reply_texts.specs.CallText.{CarriesEntries, HoldsEntries};
 ghost use Rattle.map_keys.specs.Records.{IsRecordEntry};
 ghost use Rattle.page_ranges.specs.Statuses.{name_of};
 
+use crate::protocol_replies::print_protocols;
 use boot_core::Reply;
 use map_keys::{MapReply, read_descriptors};
 use page_ranges::{Descriptor, PAGE_SIZE, Status};
@@ -66,11 +67,12 @@ pub fn print_reply<A: Allocator + Copy>(
         }
         Reply::PoolWrite(result) => print_result(text, number, Verb::Write, *result),
         Reply::ExitBootServices(result) => print_result(text, number, Verb::Exit, *result),
+        _ => print_protocols(text, number, reply),
     }
 }
 
 /// Appends the line of a reply that tells how a call ended, and nothing else.
-fn print_result<A: Allocator>(
+pub(crate) fn print_result<A: Allocator>(
     text: &mut String<A>,
     number: u64,
     verb: Verb,
@@ -130,7 +132,7 @@ fn print_value<A: Allocator>(
 }
 
 /// Appends the line of a reply without fields.
-fn print_status<A: Allocator>(
+pub(crate) fn print_status<A: Allocator>(
     text: &mut String<A>,
     number: u64,
     verb: Verb,
@@ -183,7 +185,7 @@ fn print_map_line<A: Allocator>(
 }
 
 /// Appends the line of a call that was given too small a buffer.
-fn print_size<A: Allocator>(
+pub(crate) fn print_size<A: Allocator>(
     text: &mut String<A>,
     number: u64,
     verb: Verb,

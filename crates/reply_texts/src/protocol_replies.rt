@@ -1,0 +1,213 @@
+//! The lines of replies of the protocol services.
+ghost use Rattle.std.specs.Prelude.{◌≡◌, ◌++◌, Ok, OnOk, string_bytes};
+ghost use Rattle.reply_texts.specs.PrintedText.{guids_field, handles_fields, installed_fields, interface_field, located_line, opened_line, path_fields, pool_list_fields, protocol_text, registration_field, told_line};
+
+use crate::list_texts::{print_events, print_guids, print_numbers};
+use crate::replies::{print_result, print_size, print_status};
+use boot_core::{PoolList, Reply};
+use page_ranges::Status;
+use protocol_services::{Installed, LocateReply};
+use std::alloc::{AllocError, Allocator};
+use trace_verbs::Verb;
+use uuid::Uuid;
+
+/// Appends the line of a reply of the protocol services, and of another reply nothing.
+pub(crate) fn print_protocols<A: Allocator>(
+    text: &mut String<A>,
+    number: u64,
+    reply: &Reply<A>,
+) -> Result<(), AllocError>
+    ensures { OnOk result (string_bytes text.new ≡ string_bytes text.old ++ protocol_text number reply.now) }
+{
+    match reply {
+        Reply::InstallProtocolInterface(result) => {
+            print_installed(text, number, Verb::Install, result)
+        }
+        Reply::InstallMultipleProtocolInterfaces(result) => {
+            print_installed(text, number, Verb::InstallMany, result)
+        }
+        Reply::RegisterProtocolNotify(result) => print_registration(text, number, *result),
+        Reply::LocateHandle(told) => print_located(text, number, told),
+        Reply::LocateHandleBuffer(result) => {
+            print_pool_list(text, number, Verb::LocateBuffer, result)
+        }
+        Reply::LocateProtocol(result) => {
+            print_interface(text, number, Verb::LocateProtocol, *result)
+        }
+        Reply::ProtocolsPerHandle(result) => print_protocols_on(text, number, result),
+        Reply::OpenProtocol(result) => print_opened(text, number, *result),
+        Reply::CloseProtocol(result) => print_result(text, number, Verb::Close, *result),
+        Reply::OpenProtocolInformation(result) => {
+            print_pool_list(text, number, Verb::Information, result)
+        }
+        Reply::HandleProtocol(result) => {
+            print_interface(text, number, Verb::HandleProtocol, *result)
+        }
+        Reply::LocateDevicePath(result) => print_path(text, number, *result),
+        _ => Ok(()),
+    }
+}
+
+/// Appends the line of an installation.
+fn print_installed<A: Allocator>(
+    text: &mut String<A>,
+    number: u64,
+    verb: Verb,
+    done: &Result<Installed<A>, Status>,
+) -> Result<(), AllocError>
+    ensures { OnOk result (string_bytes text.new ≡ string_bytes text.old ++ told_line installed_fields number verb done.now) }
+{
+    match done {
+        Ok(told) => {
+            let verb = verb.name();
+            let handle = told.handle;
+            write!(text, "{number} {verb} SUCCESS handle={handle} events=")?;
+            print_events(text, told.events.as_slice())?;
+            writeln!(text)
+        }
+        Err(status) => print_status(text, number, verb, *status),
+    }
+}
+
+/// Appends the line of a list in a pool block.
+fn print_pool_list<A: Allocator>(
+    text: &mut String<A>,
+    number: u64,
+    verb: Verb,
+    done: &Result<PoolList<A>, Status>,
+) -> Result<(), AllocError>
+    ensures { OnOk result (string_bytes text.new ≡ string_bytes text.old ++ told_line pool_list_fields number verb done.now) }
+{
+    match done {
+        Ok(told) => {
+            let verb = verb.name();
+            let count = told.count;
+            let address = told.address;
+            writeln!(
+                text,
+                "{number} {verb} SUCCESS count={count} address=0x{address:x}"
+            )
+        }
+        Err(status) => print_status(text, number, verb, *status),
+    }
+}
+
+/// Appends the line of a call that tells the value of an interface.
+fn print_interface<A: Allocator>(
+    text: &mut String<A>,
+    number: u64,
+    verb: Verb,
+    done: Result<u64, Status>,
+) -> Result<(), AllocError>
+    ensures { OnOk result (string_bytes text.new ≡ string_bytes text.old ++ told_line interface_field number verb done) }
+{
+    match done {
+        Ok(value) => {
+            let verb = verb.name();
+            writeln!(text, "{number} {verb} SUCCESS interface=0x{value:x}")
+        }
+        Err(status) => print_status(text, number, verb, status),
+    }
+}
+
+/// Appends the line of an open, which may tell no interface.
+fn print_opened<A: Allocator>(
+    text: &mut String<A>,
+    number: u64,
+    done: Result<Option<u64>, Status>,
+) -> Result<(), AllocError>
+    ensures { OnOk result (string_bytes text.new ≡ string_bytes text.old ++ opened_line number done) }
+{
+    match done {
+        Ok(Some(value)) => print_interface(text, number, Verb::Open, Ok(value)),
+        Ok(None) => print_status(text, number, Verb::Open, Status::Success),
+        Err(status) => print_status(text, number, Verb::Open, status),
+    }
+}
+
+/// Appends the line of a registration.
+fn print_registration<A: Allocator>(
+    text: &mut String<A>,
+    number: u64,
+    done: Result<u64, Status>,
+) -> Result<(), AllocError>
+    ensures { OnOk result (string_bytes text.new ≡ string_bytes text.old ++ told_line registration_field number Verb.Notify done) }
+{
+    match done {
+        Ok(key) => {
+            let verb = Verb::Notify.name();
+            writeln!(text, "{number} {verb} SUCCESS registration={key}")
+        }
+        Err(status) => print_status(text, number, Verb::Notify, status),
+    }
+}
+
+/// Appends the line of the GUIDs on a handle.
+fn print_protocols_on<A: Allocator>(
+    text: &mut String<A>,
+    number: u64,
+    done: &Result<Vec<Uuid, A>, Status>,
+) -> Result<(), AllocError>
+    ensures { OnOk result (string_bytes text.new ≡ string_bytes text.old ++ told_line guids_field number Verb.Protocols done.now) }
+{
+    match done {
+        Ok(guids) => {
+            let verb = Verb::Protocols.name();
+            write!(text, "{number} {verb} SUCCESS guids=")?;
+            print_guids(text, guids.as_slice())?;
+            writeln!(text)
+        }
+        Err(status) => print_status(text, number, Verb::Protocols, *status),
+    }
+}
+
+/// Appends the line of a handle that a device path leads to.
+fn print_path<A: Allocator>(
+    text: &mut String<A>,
+    number: u64,
+    done: Result<(u64, u64), Status>,
+) -> Result<(), AllocError>
+    ensures { OnOk result (string_bytes text.new ≡ string_bytes text.old ++ told_line path_fields number Verb.Path done) }
+{
+    match done {
+        Ok((handle, address)) => {
+            let verb = Verb::Path.name();
+            writeln!(
+                text,
+                "{number} {verb} SUCCESS handle={handle} address=0x{address:x}"
+            )
+        }
+        Err(status) => print_status(text, number, Verb::Path, status),
+    }
+}
+
+/// Appends the line of a search that found handles.
+fn print_handles<A: Allocator>(
+    text: &mut String<A>,
+    number: u64,
+    verb: Verb,
+    told: &LocateReply<A>,
+) -> Result<(), AllocError>
+    ensures { OnOk result (string_bytes text.new ≡ string_bytes text.old ++ told_line handles_fields number verb (Ok told.now)) }
+{
+    let verb = verb.name();
+    let size = told.size;
+    write!(text, "{number} {verb} SUCCESS size={size} handles=")?;
+    print_numbers(text, told.handles.as_slice())?;
+    writeln!(text)
+}
+
+/// Appends the line of a search for handles.
+fn print_located<A: Allocator>(
+    text: &mut String<A>,
+    number: u64,
+    told: &LocateReply<A>,
+) -> Result<(), AllocError>
+    ensures { OnOk result (string_bytes text.new ≡ string_bytes text.old ++ located_line number told.now told.now.status) }
+{
+    match told.status {
+        Status::Success => print_handles(text, number, Verb::Locate, told),
+        Status::BufferTooSmall => print_size(text, number, Verb::Locate, told.size),
+        status => print_status(text, number, Verb::Locate, status),
+    }
+}
