@@ -28,7 +28,8 @@ use Rattle.boot_core.specs.declared.calls.Call.{Call}
 use Rattle.boot_core.specs.declared.calls.Call.TheVariants as call
 use Rattle.boot_core.specs.declared.calls.Reply.{Reply}
 use Rattle.boot_core.specs.declared.calls.Reply.TheVariants as reply
-use Rattle.boot_core.specs.Certified.{request_for, certificate_in, certified}
+use Rattle.boot_core.specs.Certified.{list_request, request_for, certificate_in, certified, told_count}
+use Rattle.boot_core.specs.PoolLists.{list_type}
 use Rattle.boot_core.specs.Laws.{NamesTypes}
 use Rattle.boot_core.specs.Machines.{State, AreSound, first_state}
 use Rattle.boot_core.specs.Steps.{best_starts, Step}
@@ -105,18 +106,20 @@ extent_numbers_if false t size few mtype = tt
 extent_numbers : (t size : ℕ) → t < 2 ^ 32 → IfSome (extent_request t size) HasRequestNumbers
 extent_numbers t size mtype = extent_numbers_if (nat_le size max_size) t size refl mtype
 
-request_numbers : {A : Type 0} (c : Call A) → HasCallNumbers c → IfSome (request_for c) HasRequestNumbers
-request_numbers (call.AllocatePages kind t pages memory) (k, mtype, count, address) =
+-- the request for the block of a list
+list_numbers : (size : ℕ) (count : Option ℕ) → IfSome (list_request size count) HasRequestNumbers
+list_numbers size None = tt
+list_numbers size (Some n) = extent_numbers list_type (size * n) (omega arith)
+
+request_numbers : {A : Type 0} (c : Call A) (answer : Reply A) → HasCallNumbers c → IfSome (request_for c answer) HasRequestNumbers
+request_numbers (call.AllocatePages kind t pages memory) answer (k, mtype, count, address) =
     request_has HasRequestNumbers (kind == any_pages) (kind == max_address) (record { mtype = t; pages = pages; limit = page_count }) (record { mtype = t; pages = pages; limit = pages_below memory })
     (record { mtype = mtype; pages = count; limit = lit< tt })
     (record { mtype = mtype; pages = count; limit = omega arith })
-request_numbers (call.FreePages memory pages) h = tt
-request_numbers (call.GetMemoryMap size) h = tt
-request_numbers (call.AllocatePool t size) (mtype, fits) = extent_numbers t size mtype
-request_numbers (call.FreePool address) h = tt
-request_numbers (call.PoolRead address size) h = tt
-request_numbers (call.PoolWrite address bytes) h = tt
-request_numbers (call.ExitBootServices key) h = tt
+request_numbers (call.AllocatePool t size) answer (mtype, fits) = extent_numbers t size mtype
+request_numbers (call.LocateHandleBuffer search guid key) answer h = list_numbers 8 (told_count answer)
+request_numbers (call.OpenProtocolInformation handle guid) answer h = list_numbers 24 (told_count answer)
+request_numbers c answer h = tt
 
 no_block : (certify : Bool) (text : List ℕ) → text ++ cond certify [] [] ≡ text
 no_block true text = append-nil text
@@ -137,7 +140,7 @@ module _ (n : ℕ) (old : State) (is : IsReached n old) (below : n < most_lines)
 
   block_of_step : {A : Type 0} (c : Call A) (answer : Reply A) (new : State) → HasCallNumbers c → Step old c answer new → IfSome (certified c answer) (λ told. IsAcceptedBlock map_before told.0 told.1)
   block_of_step c answer new numbers step =
-      with_block (request_for c) (certificate_in answer) (request_numbers c numbers) (accepted_reply old.parts is.sound.proper is.typed old.exited old.calls_left c answer new.parts step.answers)
+      with_block (request_for c answer) (certificate_in answer) (request_numbers c answer numbers) (accepted_reply old.parts is.sound.proper is.typed old.exited old.calls_left c answer new.parts step.answers)
 
   block_of_line : (A : Type 0) (number : ℕ) (asks : Result (Option (TraceCall A)) TraceFault) (text : List ℕ) (new : State) → ((c : Call A) → asks ≡ Ok (Some (trace_call.Service c)) → HasCallNumbers c) → Prints A true number asks old text new → PrintsAcceptedBlock A number asks old text new
   block_of_line A number (Ok None) text new numbers prints = tt
