@@ -6,6 +6,7 @@ mod line_texts;
 mod machine_texts;
 mod placements;
 mod pools;
+mod protocols;
 mod rows;
 
 use program_runs::serve_run;
