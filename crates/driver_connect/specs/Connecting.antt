@@ -1,0 +1,54 @@
+-- Connecting a handle, and the handles that are made.
+use Rattle.std.specs.Prelude.{◌≡◌, ℕ, zero, suc, ◌||◌, nat_lt, Bool, true, false, not, cond, List, [], ◌∷◌, length, Result, Ok, Err}
+use Rattle.std.specs.List.{filter}
+use Rattle.page_ranges.specs.declared.statuses.Status.{Status}
+use Rattle.page_ranges.specs.declared.statuses.Status.TheVariants.{InvalidParameter, OutOfResources, NotFound}
+use Rattle.guid_handles.specs.HandleTables.{HandleTable, numbers, is_live}
+use Rattle.open_agents.specs.declared.items.OpenRecord.{OpenRecord}
+use Rattle.driver_connect.specs.Starting.{Site, Progress, starts_on, is_any_carried_out}
+
+-- the handles made after a number was given, ascending
+abbrev pub made_after : ℕ → HandleTable → List ℕ
+made_after last t = filter (λ n. nat_lt last n) (numbers t)
+
+-- something done for one handle after the other
+abbrev pub for_each : (ℕ → Progress → Progress) → List ℕ → Progress → Progress
+for_each f [] p = p
+for_each f (n ∷ ns) p = for_each f ns (f n p)
+
+-- A handle is connected, and then, so many levels below it, each handle that this made, with all below it before the next.
+abbrev pub connected : ℕ → Site → List ℕ → Progress → Progress
+connected zero c named p = (starts_on c named p).progress
+connected (suc k) c named p =
+    for_each (λ n q. connected k (record c { controller = n }) [] q) (made_after p.handles.last_number (starts_on c named p).progress.handles) (starts_on c named p).progress
+
+-- the named handle is at the first of eight levels
+abbrev pub levels_below : Bool → ℕ
+levels_below recursive = cond recursive 7 0
+
+-- so many drivers may be named
+abbrev pub max_named : ℕ
+max_named = 16
+
+abbrev pub connect_refused : HandleTable → ℕ → List ℕ → Bool
+connect_refused t handle named = not (is_live t handle) || nat_lt max_named (length named)
+
+abbrev pub first_progress : HandleTable → List OpenRecord → Progress
+first_progress t opens = record { handles = t; opens = opens; events = [] }
+
+-- What ConnectController answers, and what it leaves. Where a start on the handle is carried out, its events are answered; otherwise
+-- all stays. Where the call is valid, OUT_OF_RESOURCES means out of memory.
+abbrev pub Connects : Site → List ℕ → Bool → HandleTable → List OpenRecord → Result (List ℕ) Status → HandleTable → List OpenRecord → Type 0
+Connects c named recursive t opens (Ok events) new_t new_opens =
+    (connect_refused t c.controller named ≡ false)
+    × (is_any_carried_out (starts_on c named (first_progress t opens)).starts ≡ true)
+    × (record { handles = new_t; opens = new_opens; events = events } ≡ connected (levels_below recursive) c named (first_progress t opens))
+Connects c named recursive t opens (Err InvalidParameter) new_t new_opens =
+    (connect_refused t c.controller named ≡ true) × (new_t ≡ t) × (new_opens ≡ opens)
+Connects c named recursive t opens (Err NotFound) new_t new_opens =
+    (connect_refused t c.controller named ≡ false)
+    × (is_any_carried_out (starts_on c named (first_progress t opens)).starts ≡ false)
+    × (new_t ≡ t) × (new_opens ≡ opens)
+Connects c named recursive t opens (Err OutOfResources) new_t new_opens =
+    (connect_refused t c.controller named ≡ false) × (new_t ≡ t) × (new_opens ≡ opens)
+Connects c named recursive t opens (Err e) new_t new_opens = ⊥

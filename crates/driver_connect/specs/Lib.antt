@@ -1,0 +1,4 @@
+pub mod Drivers
+pub mod Stopping
+pub mod Starting
+pub mod Connecting

@@ -1,0 +1,160 @@
+-- Starting drivers on one handle.
+use Rattle.std.specs.Prelude.{ℕ, zero, suc, ◌+◌, ◌==◌, ◌&&◌, ◌||◌, nat_le, Bool, false, not, cond, List, [], ◌∷◌, ◌++◌, map, length, Some}
+use Rattle.std.specs.List.{filter, filter_map, list_any, list_all, insert, concat, cons_option}
+use Rattle.guid_handles.specs.HandleTables.{HandleTable, same_guid, holders_of}
+use Rattle.guid_handles.specs.HandleChanges.{max_handles, has_guid_twice, with_interfaces, with_handle}
+use Rattle.guid_handles.specs.Sorting.{place}
+use Rattle.open_agents.specs.declared.items.OpenRecord.{OpenRecord}
+use Rattle.open_agents.specs.OpenItems.{with_item}
+use Rattle.protocol_notify.specs.declared.notify.Registration.{Registration}
+use Rattle.protocol_notify.specs.Registrations.{events_for}
+use Rattle.driver_connect.specs.declared.agents.Agent.{Agent}
+use Rattle.driver_connect.specs.declared.view.ProtocolView.{ProtocolView}
+use Rattle.driver_connect.specs.Drivers.{Meaning, Sight, Plan, sight_of, protocols_on, is_free, driver_binding, agent_of, supports_at, plan_at}
+
+-- ---- the list of drivers
+
+abbrev pub is_listed : List Agent → ℕ → Bool
+is_listed agents n = list_any (λ a. a.handle == n) agents
+
+-- a driver handle joins a list, unless it is on it
+abbrev pub with_named : List Meaning → HandleTable → List Agent → ℕ → List Agent
+with_named ds t agents n = cond (is_listed agents n) agents (agents ++ cons_option (agent_of ds t n) [])
+
+-- the driver handles among those that a caller names, in order, each once, behind others
+abbrev pub with_all_named : List Meaning → HandleTable → List Agent → List ℕ → List Agent
+with_all_named ds t agents [] = agents
+with_all_named ds t agents (n ∷ ns) = with_all_named ds t (with_named ds t agents n) ns
+
+-- an agent goes behind those whose versions are not lower
+abbrev pub with_agent : List Agent → Agent → List Agent
+with_agent agents a = insert agents (place (λ b. nat_le a.version b.version) agents) a
+
+-- agents by version downwards, those of one version in their order
+abbrev pub by_version : List Agent → List Agent → List Agent
+by_version agents [] = agents
+by_version agents (a ∷ more) = by_version (with_agent agents a) more
+
+-- the driver handles that are not on a list
+abbrev pub others : List Meaning → HandleTable → List Agent → List Agent
+others ds t agents = filter_map (agent_of ds t) (filter (λ n. not (is_listed agents n)) (holders_of t driver_binding))
+
+-- the drivers to be tried: those named, and then all others by version
+abbrev pub agents_for : List Meaning → HandleTable → List ℕ → List Agent
+agents_for ds t named = with_all_named ds t [] named ++ by_version [] (others ds t (with_all_named ds t [] named))
+
+-- ---- a start
+
+-- The drivers, the registrations for their events, and the handle that drivers are started on.
+pub record Site : Type 0 where
+  pub drivers : List Meaning
+  pub registrations : List Registration
+  pub controller : ℕ
+
+-- The handles, the open items and the events signaled, as far as a connect has come.
+pub record Progress : Type 0 where
+  pub handles : HandleTable
+  pub opens : List OpenRecord
+  pub events : List ℕ
+
+abbrev pub has_twice : List (List ℕ) → Bool
+has_twice [] = false
+has_twice (g ∷ gs) = list_any (same_guid g) gs || has_twice gs
+
+-- a child has interfaces, of different GUIDs
+abbrev pub is_child : List (List ℕ × ℕ) → Bool
+is_child pairs = not (length pairs == 0) && not (has_guid_twice pairs)
+
+-- A plan can be carried out: it opens some GUIDs, each once, that are on the handle and not held, and there may be its children.
+abbrev pub can_start : HandleTable → List ProtocolView → Plan → Bool
+can_start t protocols plan =
+    not (length plan.opens == 0)
+    && (not (has_twice plan.opens)
+    && (list_all (is_free protocols) plan.opens
+    && (list_all is_child plan.children && nat_le (length t.handles + length plan.children) max_handles)))
+
+-- an item of BY_DRIVER for each GUID, in order
+abbrev pub with_driver_items : ℕ → ℕ → List (List ℕ) → List OpenRecord → List OpenRecord
+with_driver_items controller agent [] opens = opens
+with_driver_items controller agent (g ∷ gs) opens = with_driver_items controller agent gs (with_item controller g agent controller 0x10 opens)
+
+abbrev pub with_child : ℕ × ℕ → List (List ℕ × ℕ) → HandleTable → HandleTable
+with_child maker pairs t = with_interfaces (t.last_number + 1) pairs (with_handle (Some maker) t)
+
+-- a new handle of a maker for each child, in order
+abbrev pub with_children : ℕ × ℕ → List (List (List ℕ × ℕ)) → HandleTable → HandleTable
+with_children maker [] t = t
+with_children maker (pairs ∷ children) t = with_children maker children (with_child maker pairs t)
+
+-- the events signaled for a child's interfaces, in order
+abbrev pub events_of : List Registration → List (List ℕ × ℕ) → List ℕ
+events_of rs pairs = concat (map (λ p. events_for rs p.0) pairs)
+
+-- a plan, carried out whole
+abbrev pub carried_out : Site → ℕ → Plan → Progress → Progress
+carried_out c agent plan p = record {
+  handles = with_children (c.controller, agent) plan.children p.handles;
+  opens = with_driver_items c.controller agent plan.opens p.opens;
+  events = p.events ++ concat (map (events_of c.registrations) plan.children);
+}
+
+-- what a driver is shown at its turn
+abbrev pub sight_at : Site → Progress → Agent → Sight
+sight_at c p a = sight_of p.handles p.opens a.handle c.controller
+
+abbrev pub is_supported : Site → Progress → Agent → Bool
+is_supported c p a = supports_at c.drivers a.driver (sight_at c p a)
+
+abbrev pub plan_for : Site → Progress → Agent → Plan
+plan_for c p a = plan_at c.drivers a.driver (sight_at c p a)
+
+abbrev pub is_carried_out : Site → Progress → Agent → Bool
+is_carried_out c p a = can_start p.handles (protocols_on p.handles p.opens c.controller) (plan_for c p a)
+
+-- A start carries out the driver's plan whole, or not at all.
+abbrev pub started : Site → Progress → Agent → Progress
+started c p a = cond (is_carried_out c p a) (carried_out c a.handle (plan_for c p a) p) p
+
+-- ---- passes
+
+pub record Start : Type 0 where
+  pub agent : ℕ
+  pub is_carried_out : Bool
+
+-- The starts made, the drivers that are left, and how far the connect has come.
+pub record Passed : Type 0 where
+  pub starts : List Start
+  pub left : List Agent
+  pub progress : Progress
+
+abbrev pub with_start : Start → Passed → Passed
+with_start s r = record r { starts = s ∷ r.starts }
+
+abbrev pub with_left : Agent → Passed → Passed
+with_left a r = record r { left = a ∷ r.left }
+
+-- In a pass each driver in turn that is supported is started. The others are left.
+abbrev pub pass : Site → List Agent → Progress → Passed
+pass c [] p = record { starts = []; left = []; progress = p }
+pass c (a ∷ agents) p =
+    cond (is_supported c p a)
+    (with_start (record { agent = a.handle; is_carried_out = is_carried_out c p a }) (pass c agents (started c p a)))
+    (with_left a (pass c agents p))
+
+abbrev pub with_starts : List Start → Passed → Passed
+with_starts starts r = record r { starts = starts ++ r.starts }
+
+-- Passes over those that are left, up to one that starts none, so many at most.
+abbrev pub passes : ℕ → Site → List Agent → Progress → Passed
+passes zero c agents p = record { starts = []; left = agents; progress = p }
+passes (suc k) c agents p =
+    cond (length (pass c agents p).starts == 0) (pass c agents p)
+    (with_starts (pass c agents p).starts (passes k c (pass c agents p).left (pass c agents p).progress))
+
+-- The starts on a handle. Each driver is started once at most, so there are enough passes.
+abbrev pub starts_on : Site → List ℕ → Progress → Passed
+starts_on c named p = passes (length (agents_for c.drivers p.handles named)) c (agents_for c.drivers p.handles named) p
+
+-- a start on the handle is carried out
+abbrev pub is_any_carried_out : List Start → Bool
+is_any_carried_out starts = list_any (λ s. s.is_carried_out) starts

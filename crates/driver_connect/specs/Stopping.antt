@@ -1,0 +1,140 @@
+-- Stopping drivers. A pair is a controller and the agent of a driver that has it open.
+use Rattle.std.specs.Prelude.{◌≡◌, ℕ, zero, suc, ◌+◌, ◌==◌, ◌&&◌, ◌||◌, Bool, true, false, not, cond, List, [], ◌∷◌, ◌++◌, map, length, Option, Some, None, Result, Ok, Err}
+use Rattle.std.specs.List.{filter, list_any, list_all}
+use Rattle.page_ranges.specs.declared.statuses.Status.{Status}
+use Rattle.page_ranges.specs.declared.statuses.Status.TheVariants.{InvalidParameter, OutOfResources, DeviceError}
+use Rattle.guid_handles.specs.HandleTables.{HandleTable, numbers, maker_of, is_live, carries}
+use Rattle.open_agents.specs.declared.items.OpenRecord.{OpenRecord}
+use Rattle.open_agents.specs.OpenItems.{is_for_driver, names, managers_of, without_items}
+use Rattle.driver_connect.specs.Drivers.{Meaning, Sight, sight_of, driver_binding, driver_of, may_stop_at}
+
+-- ---- pairs
+
+abbrev pub same_pair : ℕ × ℕ → ℕ × ℕ → Bool
+same_pair p q = (p.0 == q.0) && (p.1 == q.1)
+
+abbrev pub has_pair : List (ℕ × ℕ) → ℕ × ℕ → Bool
+has_pair pairs p = list_any (same_pair p) pairs
+
+abbrev pub pair_of : OpenRecord → ℕ × ℕ
+pair_of o = (o.controller, o.agent)
+
+-- each of some pairs joins others, unless it is there
+abbrev pub with_pair : List (ℕ × ℕ) → ℕ × ℕ → List (ℕ × ℕ)
+with_pair pairs p = cond (has_pair pairs p) pairs (pairs ++ p ∷ [])
+
+abbrev pub with_pairs : List (ℕ × ℕ) → List (ℕ × ℕ) → List (ℕ × ℕ)
+with_pairs pairs [] = pairs
+with_pairs pairs (p ∷ ps) = with_pairs (with_pair pairs p) ps
+
+-- ---- the stop set
+
+abbrev pub is_maker : List (ℕ × ℕ) → Option (ℕ × ℕ) → Bool
+is_maker pairs None = false
+is_maker pairs (Some p) = has_pair pairs p
+
+-- a live handle's maker is one of some pairs
+abbrev pub is_made_by : HandleTable → List (ℕ × ℕ) → ℕ → Bool
+is_made_by t pairs n = is_maker pairs (maker_of t n)
+
+-- the handles that some pairs made, ascending
+abbrev pub made_by : HandleTable → List (ℕ × ℕ) → List ℕ
+made_by t pairs = filter (is_made_by t pairs) (numbers t)
+
+-- the pairs that manage a handle that some pairs made, by items on any handle
+abbrev pub managers_of_made : HandleTable → List OpenRecord → List (ℕ × ℕ) → List (ℕ × ℕ)
+managers_of_made t opens pairs = map pair_of (filter (λ o. is_for_driver o.attributes && is_made_by t pairs o.controller) opens)
+
+-- a round adds the managers of the handles that the pairs of the set made
+abbrev pub round : HandleTable → List OpenRecord → List (ℕ × ℕ) → List (ℕ × ℕ)
+round t opens set = with_pairs set (managers_of_made t opens set)
+
+abbrev pub rounds : ℕ → HandleTable → List OpenRecord → List (ℕ × ℕ) → List (ℕ × ℕ)
+rounds zero t opens set = set
+rounds (suc k) t opens set = rounds k t opens (round t opens set)
+
+-- The stop set of some pairs: as many rounds as there are handles and open items make it of them. Its handles are those that its
+-- pairs made.
+abbrev pub stop_set : HandleTable → List OpenRecord → List (ℕ × ℕ) → List (ℕ × ℕ)
+stop_set t opens pairs = rounds (length t.handles + length opens) t opens (with_pairs [] pairs)
+
+-- ---- whether it can be stopped
+
+-- the driver at a place, if there is one, may be stopped on what it is shown
+abbrev pub may_stop_if_any : List Meaning → Option ℕ → Sight → Bool
+may_stop_if_any ds None s = false
+may_stop_if_any ds (Some i) s = may_stop_at ds i s
+
+-- the agent of a pair is a driver handle, and its driver may be stopped on the controller
+abbrev pub may_stop : List Meaning → HandleTable → List OpenRecord → ℕ × ℕ → Bool
+may_stop ds t opens p = may_stop_if_any ds (driver_of ds t p.1) (sight_of t opens p.1 p.0)
+
+-- opens that are for no driver, not exclusive and not for a child
+abbrev pub is_passing : ℕ → Bool
+is_passing a = (a == 0x1) || ((a == 0x2) || (a == 0x4))
+
+-- an item is no obstacle to a stop: it is a passing one, it goes with its pair, or it is for a child that goes
+abbrev pub is_no_obstacle : HandleTable → List (ℕ × ℕ) → OpenRecord → Bool
+is_no_obstacle t set o = is_passing o.attributes || (has_pair set (pair_of o) || ((o.attributes == 0x8) && is_made_by t set o.controller))
+
+-- the items on the handles of a set are no obstacles
+abbrev pub is_unobstructed : HandleTable → List OpenRecord → List (ℕ × ℕ) → Bool
+is_unobstructed t opens set = list_all (λ o. not (is_made_by t set o.handle) || is_no_obstacle t set o) opens
+
+-- the agent and the controller of a call of OpenProtocol, if there is one, stay
+abbrev pub spares_opener : HandleTable → List (ℕ × ℕ) → Option (ℕ × ℕ) → Bool
+spares_opener t set None = true
+spares_opener t set (Some o) = not (list_any (λ p. p.1 == o.0) set) && (not (is_made_by t set o.0) && not (is_made_by t set o.1))
+
+-- A set can be stopped: each driver may be, no item is an obstacle, and the handle and the opener of the call stay.
+abbrev pub can_be_stopped : List Meaning → HandleTable → List OpenRecord → List (ℕ × ℕ) → ℕ → Option (ℕ × ℕ) → Bool
+can_be_stopped ds t opens set handle opener =
+    list_all (may_stop ds t opens) set && (is_unobstructed t opens set && (not (is_made_by t set handle) && spares_opener t set opener))
+
+-- ---- what stopping takes out
+
+abbrev pub is_one_of : List ℕ → ℕ → Bool
+is_one_of ns n = list_any (λ m. m == n) ns
+
+-- handles go with their interfaces
+abbrev pub without_handles : List ℕ → HandleTable → HandleTable
+without_handles ns t = record t { handles = filter (λ h. not (is_one_of ns h.number)) t.handles; interfaces = filter (λ i. not (is_one_of ns i.handle)) t.interfaces }
+
+-- an item names one of some handles
+abbrev pub names_any : List ℕ → OpenRecord → Bool
+names_any ns o = list_any (λ n. names n o) ns
+
+-- the items that name one of some handles, or are of one of some pairs, go
+abbrev pub without_opens : List ℕ → List (ℕ × ℕ) → List OpenRecord → List OpenRecord
+without_opens ns pairs opens = without_items (λ o. names_any ns o || has_pair pairs (pair_of o)) opens
+
+-- What is answered about a stop of some pairs, and what it leaves: their stop set goes, or all stays.
+abbrev pub Stops : List Meaning → HandleTable → List OpenRecord → List (ℕ × ℕ) → ℕ → Option (ℕ × ℕ) → Bool → HandleTable → List OpenRecord → Type 0
+Stops ds t opens pairs handle opener true new_t new_opens =
+    (can_be_stopped ds t opens (stop_set t opens pairs) handle opener ≡ true)
+    × (new_t ≡ without_handles (made_by t (stop_set t opens pairs)) t)
+    × (new_opens ≡ without_opens (made_by t (stop_set t opens pairs)) (stop_set t opens pairs) opens)
+Stops ds t opens pairs handle opener false new_t new_opens =
+    (can_be_stopped ds t opens (stop_set t opens pairs) handle opener ≡ false) × (new_t ≡ t) × (new_opens ≡ opens)
+
+-- ---- disconnecting
+
+-- a handle that is not live, or a driver other than 0 that does not carry the driver binding protocol
+abbrev pub disconnect_refused : HandleTable → ℕ → ℕ → Bool
+disconnect_refused t handle driver = not (is_live t handle) || (not (driver == 0) && (not (is_live t driver) || not (carries t driver_binding driver)))
+
+-- the pairs that manage a handle, those of one driver alone if it is not 0
+abbrev pub managers_meant : List OpenRecord → ℕ → ℕ → List (ℕ × ℕ)
+managers_meant opens handle driver = filter (λ p. (driver == 0) || (p.1 == driver)) (managers_of opens handle)
+
+-- What DisconnectController answers, and what it leaves. Where the call is valid, OUT_OF_RESOURCES means out of memory.
+abbrev pub Disconnects : List Meaning → HandleTable → List OpenRecord → ℕ → ℕ → Result (Unit {0}) Status → HandleTable → List OpenRecord → Type 0
+Disconnects ds t opens handle driver (Ok done) new_t new_opens =
+    (disconnect_refused t handle driver ≡ false) × Stops ds t opens (managers_meant opens handle driver) handle None true new_t new_opens
+Disconnects ds t opens handle driver (Err InvalidParameter) new_t new_opens =
+    (disconnect_refused t handle driver ≡ true) × (new_t ≡ t) × (new_opens ≡ opens)
+Disconnects ds t opens handle driver (Err DeviceError) new_t new_opens =
+    (disconnect_refused t handle driver ≡ false) × Stops ds t opens (managers_meant opens handle driver) handle None false new_t new_opens
+Disconnects ds t opens handle driver (Err OutOfResources) new_t new_opens =
+    (disconnect_refused t handle driver ≡ false) × (new_t ≡ t) × (new_opens ≡ opens)
+Disconnects ds t opens handle driver (Err e) new_t new_opens = ⊥

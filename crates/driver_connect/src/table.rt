@@ -1,0 +1,96 @@
+//! Drivers that are tables.
+ghost use Rattle.std.specs.Prelude.{◌≡◌, map};
+ghost use Rattle.driver_connect.specs.Drivers.{is_free};
+
+use crate::driver::Driver;
+use crate::view::{ProtocolView, StartPlan, View};
+use arrayvec::ArrayVec;
+use uuid::Uuid;
+
+/// A driver that supports each controller with the protocols that it needs, none of them held, and
+/// always has the same plan.
+#[derive(Drop)]
+pub struct TableDriver {
+    pub version: u32,
+    pub needs: ArrayVec<Uuid, 8>,
+    pub plan: StartPlan,
+    /// Whether the driver lets itself be stopped.
+    pub stops: bool,
+}
+
+/// Whether a GUID is among some protocols and is not held.
+pub(crate) fn is_free(protocols: &[ProtocolView], guid: Uuid) -> bool
+    ensures { result ≡ is_free protocols.now guid }
+{
+    protocols.iter().any(|p| p.guid == guid && !p.held)
+}
+
+/// The same GUIDs.
+fn copied(guids: &ArrayVec<Uuid, 8>) -> ArrayVec<Uuid, 8>
+    ensures { result.items ≡ guids.now.items }
+{
+    let mut copy = ArrayVec::new();
+    for guid in guids.as_slice() {
+        copy.push(*guid);
+    }
+    copy
+}
+
+/// The same interfaces.
+fn copied_child(pairs: &ArrayVec<(Uuid, u64), 4>) -> ArrayVec<(Uuid, u64), 4>
+    ensures { result.items ≡ pairs.now.items }
+{
+    let mut copy = ArrayVec::new();
+    for pair in pairs.as_slice() {
+        copy.push(*pair);
+    }
+    copy
+}
+
+/// The same children.
+fn copied_children(
+    children: &ArrayVec<ArrayVec<(Uuid, u64), 4>, 8>,
+) -> ArrayVec<ArrayVec<(Uuid, u64), 4>, 8>
+    ensures { map (λ c. c.items) result.items ≡ map (λ c. c.items) children.now.items }
+{
+    let mut copy = ArrayVec::new();
+    for child in children.as_slice() {
+        copy.push(copied_child(child));
+    }
+    copy
+}
+
+impl StartPlan {
+    /// The same plan.
+    pub fn copied(&self) -> StartPlan
+        ensures { result ≡ self.now }
+    {
+        StartPlan {
+            opens: copied(&self.opens),
+            children: copied_children(&self.children),
+        }
+    }
+}
+
+impl Driver for TableDriver {
+    ghost use Rattle.std.specs.List.{list_all};
+    ghost use Rattle.driver_connect.specs.Drivers.{is_free};
+
+    ghost meaning = { λ d. record { version = d.version; supports = λ s. list_all (is_free s.protocols) d.needs.items; plan = λ s. d.plan; may_stop = λ s. d.stops } };
+
+    fn version(&self) -> u32 {
+        self.version
+    }
+
+    fn supported(&self, v: &View) -> bool {
+        self.needs.iter().all(|guid| is_free(v.protocols, *guid))
+    }
+
+    fn plan(&self, _v: &View) -> StartPlan {
+        self.plan.copied()
+    }
+
+    fn may_stop(&self, _v: &View) -> bool {
+        self.stops
+    }
+}

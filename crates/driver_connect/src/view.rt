@@ -1,0 +1,55 @@
+//! What a driver is shown of a handle, and what it answers to be done.
+use arrayvec::ArrayVec;
+use std::marker::Model;
+use uuid::Uuid;
+
+/// A protocol on a handle.
+#[derive(Clone, Copy, Debug, PartialEq, Eq)]
+pub struct ProtocolView {
+    pub guid: Uuid,
+    pub value: u64,
+    /// Whether it is open for a driver or exclusively.
+    pub held: bool,
+}
+
+/// A controller as a driver is shown it.
+#[derive(Drop)]
+pub struct View<'a> {
+    /// The handle of the driver.
+    pub agent: u64,
+    pub controller: u64,
+    /// The protocols on the controller, in order of installation.
+    pub protocols: &'a [ProtocolView],
+}
+
+impl<'a> Model for View<'a> {
+    ghost use Rattle.driver_connect.specs.Drivers.{Sight};
+
+    ghost Value = { Sight };
+
+    ghost view = { λ v. record { agent = v.agent; controller = v.controller; protocols = v.protocols.now } };
+}
+
+/// So many GUIDs and so many children may stand in a plan.
+pub const MAX_PLANNED: usize = 8;
+
+/// So many interfaces may be on a child.
+pub const MAX_CHILD_INTERFACES: usize = 4;
+
+/// What the start of a driver does.
+#[derive(Drop)]
+pub struct StartPlan {
+    /// The GUIDs of the controller that are opened.
+    pub opens: ArrayVec<Uuid, 8>,
+    /// The children that are made, each with its interfaces as pairs of GUID and value.
+    pub children: ArrayVec<ArrayVec<(Uuid, u64), 4>, 8>,
+}
+
+impl Model for StartPlan {
+    ghost use Rattle.std.specs.Prelude.{map};
+    ghost use Rattle.driver_connect.specs.Drivers.{Plan};
+
+    ghost Value = { Plan };
+
+    ghost view = { λ p. record { opens = p.opens.items; children = map (λ c. c.items) p.children.items } };
+}
