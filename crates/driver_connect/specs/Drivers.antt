@@ -2,6 +2,7 @@
 use Rattle.std.specs.Prelude.{ℕ, ◌&&◌, nat_lt, Bool, false, not, List, [], ◌∷◌, map, length, Option, Some, None}
 use Rattle.std.specs.List.{filter, list_any, slice_get}
 use Rattle.std.specs.Option.{option_map}
+use Rattle.guid_handles.specs.declared.records.Interface.{Interface}
 use Rattle.guid_handles.specs.HandleTables.{HandleTable, same_guid, is_on, value_at}
 use Rattle.guid_handles.specs.Sorting.{kept_if}
 use Rattle.open_agents.specs.declared.items.OpenRecord.{OpenRecord}
@@ -29,9 +30,13 @@ pub record Meaning : Type 0 where
 
 -- ---- what is shown
 
--- the protocols on a handle; one is held if it is open for a driver or exclusively
+-- an interface; it is held if it is open for a driver or exclusively
+abbrev pub protocol_view : List OpenRecord → Interface → ProtocolView
+protocol_view opens i = record { guid = i.guid; value = i.value; held = has_holder opens i.handle i.guid }
+
+-- the protocols on a handle, in order of installation
 abbrev pub protocols_on : HandleTable → List OpenRecord → ℕ → List ProtocolView
-protocols_on t opens n = map (λ i. record { guid = i.guid; value = i.value; held = has_holder opens n i.guid }) (filter (is_on n) t.interfaces)
+protocols_on t opens n = map (protocol_view opens) (filter (is_on n) t.interfaces)
 
 abbrev pub sight_of : HandleTable → List OpenRecord → ℕ → ℕ → Sight
 sight_of t opens agent controller = record { agent = agent; controller = controller; protocols = protocols_on t opens controller }

@@ -41,9 +41,13 @@ is_made_by t pairs n = is_maker pairs (maker_of t n)
 abbrev pub made_by : HandleTable → List (ℕ × ℕ) → List ℕ
 made_by t pairs = filter (is_made_by t pairs) (numbers t)
 
+-- an item makes its pair manage a handle that some pairs made
+abbrev pub manages_made : HandleTable → List (ℕ × ℕ) → OpenRecord → Bool
+manages_made t pairs o = is_for_driver o.attributes && is_made_by t pairs o.controller
+
 -- the pairs that manage a handle that some pairs made, by items on any handle
 abbrev pub managers_of_made : HandleTable → List OpenRecord → List (ℕ × ℕ) → List (ℕ × ℕ)
-managers_of_made t opens pairs = map pair_of (filter (λ o. is_for_driver o.attributes && is_made_by t pairs o.controller) opens)
+managers_of_made t opens pairs = map pair_of (filter (manages_made t pairs) opens)
 
 -- a round adds the managers of the handles that the pairs of the set made
 abbrev pub round : HandleTable → List OpenRecord → List (ℕ × ℕ) → List (ℕ × ℕ)
@@ -81,10 +85,13 @@ is_no_obstacle t set o = is_passing o.attributes || (has_pair set (pair_of o) ||
 abbrev pub is_unobstructed : HandleTable → List OpenRecord → List (ℕ × ℕ) → Bool
 is_unobstructed t opens set = list_all (λ o. not (is_made_by t set o.handle) || is_no_obstacle t set o) opens
 
+abbrev pub has_agent : List (ℕ × ℕ) → ℕ → Bool
+has_agent pairs agent = list_any (λ p. p.1 == agent) pairs
+
 -- the agent and the controller of a call of OpenProtocol, if there is one, stay
 abbrev pub spares_opener : HandleTable → List (ℕ × ℕ) → Option (ℕ × ℕ) → Bool
 spares_opener t set None = true
-spares_opener t set (Some o) = not (list_any (λ p. p.1 == o.0) set) && (not (is_made_by t set o.0) && not (is_made_by t set o.1))
+spares_opener t set (Some o) = not (has_agent set o.0) && (not (is_made_by t set o.0) && not (is_made_by t set o.1))
 
 -- A set can be stopped: each driver may be, no item is an obstacle, and the handle and the opener of the call stay.
 abbrev pub can_be_stopped : List Meaning → HandleTable → List OpenRecord → List (ℕ × ℕ) → ℕ → Option (ℕ × ℕ) → Bool
@@ -94,7 +101,7 @@ can_be_stopped ds t opens set handle opener =
 -- ---- what stopping takes out
 
 abbrev pub is_one_of : List ℕ → ℕ → Bool
-is_one_of ns n = list_any (λ m. m == n) ns
+is_one_of ns n = list_any (λ m. n == m) ns
 
 -- handles go with their interfaces
 abbrev pub without_handles : List ℕ → HandleTable → HandleTable
@@ -104,9 +111,13 @@ without_handles ns t = record t { handles = filter (λ h. not (is_one_of ns h.nu
 abbrev pub names_any : List ℕ → OpenRecord → Bool
 names_any ns o = list_any (λ n. names n o) ns
 
--- the items that name one of some handles, or are of one of some pairs, go
+-- the items of some pairs go, whatever their attributes
+abbrev pub without_pairs : List (ℕ × ℕ) → List OpenRecord → List OpenRecord
+without_pairs pairs opens = without_items (λ o. has_pair pairs (pair_of o)) opens
+
+-- the items that name one of some handles, and those of some pairs, go
 abbrev pub without_opens : List ℕ → List (ℕ × ℕ) → List OpenRecord → List OpenRecord
-without_opens ns pairs opens = without_items (λ o. names_any ns o || has_pair pairs (pair_of o)) opens
+without_opens ns pairs opens = without_pairs pairs (without_items (names_any ns) opens)
 
 -- What is answered about a stop of some pairs, and what it leaves: their stop set goes, or all stays.
 abbrev pub Stops : List Meaning → HandleTable → List OpenRecord → List (ℕ × ℕ) → ℕ → Option (ℕ × ℕ) → Bool → HandleTable → List OpenRecord → Type 0
@@ -123,9 +134,13 @@ Stops ds t opens pairs handle opener false new_t new_opens =
 abbrev pub disconnect_refused : HandleTable → ℕ → ℕ → Bool
 disconnect_refused t handle driver = not (is_live t handle) || (not (driver == 0) && (not (is_live t driver) || not (carries t driver_binding driver)))
 
+-- driver 0 means all
+abbrev pub is_meant : ℕ → ℕ × ℕ → Bool
+is_meant driver p = (driver == 0) || (p.1 == driver)
+
 -- the pairs that manage a handle, those of one driver alone if it is not 0
 abbrev pub managers_meant : List OpenRecord → ℕ → ℕ → List (ℕ × ℕ)
-managers_meant opens handle driver = filter (λ p. (driver == 0) || (p.1 == driver)) (managers_of opens handle)
+managers_meant opens handle driver = filter (is_meant driver) (managers_of opens handle)
 
 -- What DisconnectController answers, and what it leaves. Where the call is valid, OUT_OF_RESOURCES means out of memory.
 abbrev pub Disconnects : List Meaning → HandleTable → List OpenRecord → ℕ → ℕ → Result (Unit {0}) Status → HandleTable → List OpenRecord → Type 0

@@ -3,9 +3,14 @@
 
 mod agents;
 mod driver;
+mod pairs;
+mod protocols;
+mod stopping;
 mod table;
 mod view;
 
+pub use agents::driver_binding;
 pub use driver::Driver;
+pub use stopping::{disconnect, stop};
 pub use table::TableDriver;
 pub use view::{ProtocolView, StartPlan, View};

@@ -35,7 +35,7 @@ pub(crate) fn is_known(attributes: u32) -> bool
 }
 
 /// Whether an open is for a driver.
-pub(crate) fn is_for_driver(attributes: u32) -> bool
+pub fn is_for_driver(attributes: u32) -> bool
     ensures { result ≡ items.is_for_driver attributes }
 {
     attributes == BY_DRIVER || attributes == EXCLUSIVE_BY_DRIVER

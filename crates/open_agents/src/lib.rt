@@ -7,6 +7,7 @@ mod opens;
 
 pub use attributes::{
     BY_CHILD_CONTROLLER, BY_DRIVER, BY_HANDLE_PROTOCOL, EXCLUSIVE, GET_PROTOCOL, TEST_PROTOCOL,
+    is_for_driver,
 };
 pub use items::{Decision, OpenItem, OpenRecord};
 pub use opens::Opens;

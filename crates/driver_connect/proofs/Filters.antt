@@ -1,0 +1,72 @@
+-- Filters one after the other, and loops over what they leave out.
+use Rattle.std.proofs.Common.{◌≡◌, ℕ, ◌==◌, ◌||◌, not, Bool, List, [], ◌∷◌, ◌++◌, inl, inr, refl, sym, ap, ◌∙◌}
+use Rattle.std.specs.List.{filter, list_any}
+use Rattle.std.proofs.lemmas.Bool.{cases_Bool}
+use Rattle.guid_handles.specs.HandleTables.{HandleTable}
+use Rattle.guid_handles.specs.HandleChanges.{without_handle}
+use Rattle.guid_handles.proofs.SortedLists.{filter_same, all_of}
+use Rattle.open_agents.specs.declared.items.OpenRecord.{OpenRecord}
+use Rattle.open_agents.specs.OpenItems.{names, is_of_pair, without_items}
+use Rattle.driver_connect.specs.Stopping.{same_pair, pair_of, names_any, without_handles, without_pairs}
+
+pub any_more : {X : Type 0} (p : X → Bool) (xs : List X) (x : X) → list_any p (xs ++ x ∷ []) ≡ (list_any p xs || p x)
+any_more p [] x = elim (cases_Bool (p x)) [
+  | inl e ↦ rw e refl
+  | inr e ↦ rw e refl
+]
+any_more p (y ∷ ys) x = elim (cases_Bool (p y)) [
+  | inl e ↦ rw e refl
+  | inr e ↦ rw e (any_more p ys x)
+]
+
+-- those that one more takes out
+pub left_out_more : {X Y : Type 0} (takes : Y → X → Bool) (ys : List Y) (y : Y) (xs : List X)
+    → filter (λ x. not (takes y x)) (filter (λ x. not (list_any (λ z. takes z x) ys)) xs) ≡ filter (λ x. not (list_any (λ z. takes z x) (ys ++ y ∷ []))) xs
+left_out_more takes ys y [] = refl
+left_out_more takes ys y (x ∷ xs) =
+    let e = any_more (λ z. takes z x) ys y in
+    elim (cases_Bool (list_any (λ z. takes z x) ys)) [
+      | inl h ↦ rw e (rw h (left_out_more takes ys y xs))
+      | inr h ↦ elim (cases_Bool (takes y x)) [
+        | inl k ↦ rw e (rw h (rw k (left_out_more takes ys y xs)))
+        | inr k ↦ rw e (rw h (rw k (ap (λ r. x ∷ r) (left_out_more takes ys y xs))))
+      ]
+    ]
+
+pub left_out_none : {X Y : Type 0} (takes : Y → X → Bool) (xs : List X) → filter (λ x. not (list_any (λ z. takes z x) [])) xs ≡ xs
+left_out_none takes [] = refl
+left_out_none takes (x ∷ xs) = ap (λ r. x ∷ r) (left_out_none takes xs)
+
+pub handles_none : (t : HandleTable) → t ≡ without_handles [] t
+handles_none t = rw (left_out_none (λ k h. h.number == k) t.handles) (rw (left_out_none (λ k i. i.handle == k) t.interfaces) refl)
+
+pub names_none : (opens : List OpenRecord) → opens ≡ without_items (names_any []) opens
+names_none opens = sym (left_out_none names opens)
+
+pub pairs_none : (opens : List OpenRecord) → opens ≡ without_pairs [] opens
+pairs_none opens = sym (left_out_none (λ q o. same_pair (pair_of o) q) opens)
+
+pub handles_more : (ns : List ℕ) (n : ℕ) (t : HandleTable) → without_handle n (without_handles ns t) ≡ without_handles (ns ++ n ∷ []) t
+handles_more ns n t =
+    rw (left_out_more (λ k h. h.number == k) ns n t.handles)
+    (rw (left_out_more (λ k i. i.handle == k) ns n t.interfaces) refl)
+
+pub names_more : (ns : List ℕ) (n : ℕ) (opens : List OpenRecord) → without_items (names n) (without_items (names_any ns) opens) ≡ without_items (names_any (ns ++ n ∷ [])) opens
+names_more ns n opens = left_out_more names ns n opens
+
+same_as_pair : (p : ℕ × ℕ) (o : OpenRecord) → not (is_of_pair p.0 p.1 o) ≡ not (same_pair (pair_of o) p)
+same_as_pair p o = elim (cases_Bool (o.controller == p.0)) [
+  | inl e ↦ elim (cases_Bool (o.agent == p.1)) [
+    | inl k ↦ rw e (rw k refl)
+    | inr k ↦ rw e (rw k refl)
+  ]
+  | inr e ↦ elim (cases_Bool (o.agent == p.1)) [
+    | inl k ↦ rw e (rw k refl)
+    | inr k ↦ rw e (rw k refl)
+  ]
+]
+
+pub pairs_more : (ps : List (ℕ × ℕ)) (p : ℕ × ℕ) (opens : List OpenRecord) → without_items (is_of_pair p.0 p.1) (without_pairs ps opens) ≡ without_pairs (ps ++ p ∷ []) opens
+pairs_more ps p opens =
+    filter_same (λ o. not (is_of_pair p.0 p.1 o)) (λ o. not (same_pair (pair_of o) p)) (without_pairs ps opens) (all_of (λ o. not (is_of_pair p.0 p.1 o) ≡ not (same_pair (pair_of o) p)) (same_as_pair p) (without_pairs ps opens))
+    ∙ left_out_more (λ q o. same_pair (pair_of o) q) ps p opens

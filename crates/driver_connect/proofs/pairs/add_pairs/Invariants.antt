@@ -1,0 +1,6 @@
+use Rattle.std.proofs.Common.{◌≡◌, drop}
+use Rattle.driver_connect.specs.Stopping.{with_pairs}
+use Rattle.driver_connect.proofs.pairs.add_pairs.Given as goal
+
+abbrev pub invariant-loop-pair : goal.invariant-loop-pair
+invariant-loop-pair g l = with_pairs l.pairs.items (drop l.pair-index l.more) ≡ with_pairs l.fn.pairs.items l.more

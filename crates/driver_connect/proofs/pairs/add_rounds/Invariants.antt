@@ -1,0 +1,6 @@
+use Rattle.std.proofs.Common.{◌≡◌, ◌-◌}
+use Rattle.driver_connect.specs.Stopping.{rounds}
+use Rattle.driver_connect.proofs.pairs.add_rounds.Given as goal
+
+abbrev pub invariant-loop-k : goal.invariant-loop-k
+invariant-loop-k g l = rounds (l.count - l.k) l.handles l.opens l.set.items ≡ rounds l.count l.handles l.opens l.fn.set.items
