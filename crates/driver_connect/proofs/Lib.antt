@@ -1,2 +1,4 @@
 pub mod Filters
 pub mod Rounds
+pub mod VersionOrder
+pub mod Opened

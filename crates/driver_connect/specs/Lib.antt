@@ -1,4 +1,5 @@
 pub mod Drivers
 pub mod Stopping
+pub mod Room
 pub mod Starting
 pub mod Connecting

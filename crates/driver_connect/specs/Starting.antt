@@ -1,6 +1,6 @@
 -- Starting drivers on one handle.
-use Rattle.std.specs.Prelude.{ℕ, zero, suc, ◌+◌, ◌==◌, ◌&&◌, ◌||◌, nat_le, Bool, false, not, cond, List, [], ◌∷◌, ◌++◌, map, length, Some}
-use Rattle.std.specs.List.{filter, filter_map, list_any, list_all, insert, concat, cons_option}
+use Rattle.std.specs.Prelude.{ℕ, zero, suc, ◌+◌, ◌≤◌, ◌==◌, ◌&&◌, ◌||◌, nat_le, Bool, false, not, cond, List, [], ◌∷◌, ◌++◌, length, Some}
+use Rattle.std.specs.List.{list_any, list_all, insert, cons_option}
 use Rattle.guid_handles.specs.HandleTables.{HandleTable, same_guid, holders_of}
 use Rattle.guid_handles.specs.HandleChanges.{max_handles, has_guid_twice, with_interfaces, with_handle}
 use Rattle.guid_handles.specs.Sorting.{place}
@@ -35,9 +35,22 @@ abbrev pub by_version : List Agent → List Agent → List Agent
 by_version agents [] = agents
 by_version agents (a ∷ more) = by_version (with_agent agents a) more
 
--- the driver handles that are not on a list
+-- the version of one agent is not lower than that of another
+abbrev pub IsNotLower : Agent → Agent → Type 0
+IsNotLower a b = b.version ≤ a.version
+
+-- a driver handle that is not on a list
+abbrev pub other : List Meaning → HandleTable → List Agent → ℕ → List Agent
+other ds t agents n = cond (is_listed agents n) [] (cons_option (agent_of ds t n) [])
+
+-- some handles, those alone that are driver handles and not on a list
+abbrev pub others_among : List Meaning → HandleTable → List Agent → List ℕ → List Agent
+others_among ds t agents [] = []
+others_among ds t agents (n ∷ ns) = other ds t agents n ++ others_among ds t agents ns
+
+-- the driver handles that are not on a list, ascending
 abbrev pub others : List Meaning → HandleTable → List Agent → List Agent
-others ds t agents = filter_map (agent_of ds t) (filter (λ n. not (is_listed agents n)) (holders_of t driver_binding))
+others ds t agents = others_among ds t agents (holders_of t driver_binding)
 
 -- the drivers to be tried: those named, and then all others by version
 abbrev pub agents_for : List Meaning → HandleTable → List ℕ → List Agent
@@ -51,15 +64,21 @@ pub record Site : Type 0 where
   pub registrations : List Registration
   pub controller : ℕ
 
+abbrev pub site : List Meaning → List Registration → ℕ → Site
+site ds rs n = record { drivers = ds; registrations = rs; controller = n }
+
 -- The handles, the open items and the events signaled, as far as a connect has come.
 pub record Progress : Type 0 where
   pub handles : HandleTable
   pub opens : List OpenRecord
   pub events : List ℕ
 
+abbrev pub has_guid : List (List ℕ) → List ℕ → Bool
+has_guid guids guid = list_any (same_guid guid) guids
+
 abbrev pub has_twice : List (List ℕ) → Bool
 has_twice [] = false
-has_twice (g ∷ gs) = list_any (same_guid g) gs || has_twice gs
+has_twice (g ∷ gs) = has_guid gs g || has_twice gs
 
 -- a child has interfaces, of different GUIDs
 abbrev pub is_child : List (List ℕ × ℕ) → Bool
@@ -88,14 +107,20 @@ with_children maker (pairs ∷ children) t = with_children maker children (with_
 
 -- the events signaled for a child's interfaces, in order
 abbrev pub events_of : List Registration → List (List ℕ × ℕ) → List ℕ
-events_of rs pairs = concat (map (λ p. events_for rs p.0) pairs)
+events_of rs [] = []
+events_of rs (p ∷ pairs) = events_for rs p.0 ++ events_of rs pairs
+
+-- the events signaled for the interfaces of children, in order
+abbrev pub events_of_all : List Registration → List (List (List ℕ × ℕ)) → List ℕ
+events_of_all rs [] = []
+events_of_all rs (pairs ∷ children) = events_of rs pairs ++ events_of_all rs children
 
 -- a plan, carried out whole
 abbrev pub carried_out : Site → ℕ → Plan → Progress → Progress
 carried_out c agent plan p = record {
   handles = with_children (c.controller, agent) plan.children p.handles;
   opens = with_driver_items c.controller agent plan.opens p.opens;
-  events = p.events ++ concat (map (events_of c.registrations) plan.children);
+  events = p.events ++ events_of_all c.registrations plan.children;
 }
 
 -- what a driver is shown at its turn

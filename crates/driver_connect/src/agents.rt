@@ -3,7 +3,7 @@ ghost use Rattle.std.specs.Prelude.{◌≡◌, map};
 ghost use Rattle.driver_connect.specs.Drivers as spec;
 
 use crate::driver::Driver;
-use crate::view::View;
+use crate::view::{StartPlan, View};
 use guid_handles::Handles;
 use std::alloc::Allocator;
 use uuid::Uuid;
@@ -52,4 +52,53 @@ pub(crate) fn may_stop_at<D: Driver>(drivers: &[D], place: u64, view: &View) -> 
     } else {
         false
     }
+}
+
+/// The version of the driver at a place.
+fn version_at<D: Driver>(drivers: &[D], place: u64) -> u32
+    ensures { result ≡ spec.version_at (map D.meaning drivers.now) place }
+{
+    if place < drivers.len() as u64 {
+        drivers[place as usize].version()
+    } else {
+        0
+    }
+}
+
+/// Whether the driver at a place can be started on a controller.
+pub(crate) fn supports_at<D: Driver>(drivers: &[D], place: u64, view: &View) -> bool
+    ensures { result ≡ spec.supports_at (map D.meaning drivers.now) place view.now }
+{
+    if place < drivers.len() as u64 {
+        drivers[place as usize].supported(view)
+    } else {
+        false
+    }
+}
+
+/// What starting the driver at a place does.
+pub(crate) fn plan_at<D: Driver>(drivers: &[D], place: u64, view: &View) -> StartPlan
+    ensures { result ≡ spec.plan_at (map D.meaning drivers.now) place view.now }
+{
+    if place < drivers.len() as u64 {
+        drivers[place as usize].plan(view)
+    } else {
+        StartPlan::none()
+    }
+}
+
+/// A driver handle, if the handle is one.
+pub(crate) fn agent_of<D: Driver, A: Allocator + Copy>(
+    drivers: &[D],
+    handles: &Handles<A>,
+    handle: u64,
+) -> Option<Agent>
+    ensures { result ≡ spec.agent_of (map D.meaning drivers.now) handles.now handle }
+{
+    let driver = driver_of(drivers, handles, handle)?;
+    Some(Agent {
+        handle,
+        driver,
+        version: version_at(drivers, driver),
+    })
 }

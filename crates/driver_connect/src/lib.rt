@@ -2,8 +2,10 @@
 #![tactic(auto)]
 
 mod agents;
+mod candidates;
 mod driver;
 mod pairs;
+mod progress;
 mod protocols;
 mod stopping;
 mod table;

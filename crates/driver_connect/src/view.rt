@@ -1,4 +1,7 @@
 //! What a driver is shown of a handle, and what it answers to be done.
+ghost use Rattle.std.specs.Prelude.{◌≡◌};
+ghost use Rattle.driver_connect.specs.Drivers.{no_plan};
+
 use arrayvec::ArrayVec;
 use std::marker::Model;
 use uuid::Uuid;
@@ -30,12 +33,6 @@ impl<'a> Model for View<'a> {
     ghost view = { λ v. record { agent = v.agent; controller = v.controller; protocols = v.protocols.now } };
 }
 
-/// So many GUIDs and so many children may stand in a plan.
-pub const MAX_PLANNED: usize = 8;
-
-/// So many interfaces may be on a child.
-pub const MAX_CHILD_INTERFACES: usize = 4;
-
 /// What the start of a driver does.
 #[derive(Drop)]
 pub struct StartPlan {
@@ -52,4 +49,16 @@ impl Model for StartPlan {
     ghost Value = { Plan };
 
     ghost view = { λ p. record { opens = p.opens.items; children = map (λ c. c.items) p.children.items } };
+}
+
+impl StartPlan {
+    /// A plan that does nothing.
+    pub fn none() -> StartPlan
+        ensures { result ≡ no_plan }
+    {
+        StartPlan {
+            opens: ArrayVec::new(),
+            children: ArrayVec::new(),
+        }
+    }
 }

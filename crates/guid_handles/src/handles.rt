@@ -140,6 +140,13 @@ impl<A: Allocator + Copy> Handles<A> {
         }
     }
 
+    /// The last number that was given, 0 at first.
+    pub fn last_number(&self) -> u64
+        ensures { result ≡ self.now.last_number }
+    {
+        self.last_number
+    }
+
     /// The last stamp that was given, 0 at first.
     pub fn last_stamp(&self) -> u64
         ensures { result ≡ self.now.last_stamp }
