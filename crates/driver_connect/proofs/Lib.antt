@@ -2,3 +2,4 @@ pub mod Filters
 pub mod Rounds
 pub mod VersionOrder
 pub mod Opened
+pub mod Passes

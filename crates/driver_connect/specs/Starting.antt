@@ -1,5 +1,5 @@
 -- Starting drivers on one handle.
-use Rattle.std.specs.Prelude.{ℕ, zero, suc, ◌+◌, ◌≤◌, ◌==◌, ◌&&◌, ◌||◌, nat_le, Bool, false, not, cond, List, [], ◌∷◌, ◌++◌, length, Some}
+use Rattle.std.specs.Prelude.{ℕ, zero, suc, ◌+◌, ◌≤◌, ◌==◌, ◌&&◌, ◌||◌, nat_le, Bool, false, not, cond, List, [], ◌∷◌, ◌++◌, length, Option, Some, None}
 use Rattle.std.specs.List.{list_any, list_all, insert, cons_option}
 use Rattle.guid_handles.specs.HandleTables.{HandleTable, same_guid, holders_of}
 use Rattle.guid_handles.specs.HandleChanges.{max_handles, has_guid_twice, with_interfaces, with_handle}
@@ -9,6 +9,7 @@ use Rattle.open_agents.specs.OpenItems.{with_item}
 use Rattle.protocol_notify.specs.declared.notify.Registration.{Registration}
 use Rattle.protocol_notify.specs.Registrations.{events_for}
 use Rattle.driver_connect.specs.declared.agents.Agent.{Agent}
+use Rattle.driver_connect.specs.declared.starting.Start.{Start}
 use Rattle.driver_connect.specs.declared.view.ProtocolView.{ProtocolView}
 use Rattle.driver_connect.specs.Drivers.{Meaning, Sight, Plan, sight_of, protocols_on, is_free, driver_binding, agent_of, supports_at, plan_at}
 
@@ -115,12 +116,12 @@ abbrev pub events_of_all : List Registration → List (List (List ℕ × ℕ)) �
 events_of_all rs [] = []
 events_of_all rs (pairs ∷ children) = events_of rs pairs ++ events_of_all rs children
 
--- a plan, carried out whole
-abbrev pub carried_out : Site → ℕ → Plan → Progress → Progress
-carried_out c agent plan p = record {
-  handles = with_children (c.controller, agent) plan.children p.handles;
-  opens = with_driver_items c.controller agent plan.opens p.opens;
-  events = p.events ++ events_of_all c.registrations plan.children;
+-- a plan for a controller and an agent, carried out whole
+abbrev pub carried_out : List Registration → ℕ → ℕ → Plan → Progress → Progress
+carried_out rs controller agent plan p = record {
+  handles = with_children (controller, agent) plan.children p.handles;
+  opens = with_driver_items controller agent plan.opens p.opens;
+  events = p.events ++ events_of_all rs plan.children;
 }
 
 -- what a driver is shown at its turn
@@ -138,13 +139,21 @@ is_carried_out c p a = can_start p.handles (protocols_on p.handles p.opens c.con
 
 -- A start carries out the driver's plan whole, or not at all.
 abbrev pub started : Site → Progress → Agent → Progress
-started c p a = cond (is_carried_out c p a) (carried_out c a.handle (plan_for c p a) p) p
+started c p a = cond (is_carried_out c p a) (carried_out c.registrations c.controller a.handle (plan_for c p a) p) p
+
+-- what comes of an agent's turn: nothing, or a start that is carried out or not
+abbrev pub turn : Site → Progress → Agent → Option Bool
+turn c p a = cond (is_supported c p a) (Some (is_carried_out c p a)) None
+
+abbrev pub after_turn : Site → Progress → Agent → Progress
+after_turn c p a = cond (is_supported c p a) (started c p a) p
+
+-- a turn changes something
+abbrev pub is_change : Option Bool → Bool
+is_change None = false
+is_change (Some b) = b
 
 -- ---- passes
-
-pub record Start : Type 0 where
-  pub agent : ℕ
-  pub is_carried_out : Bool
 
 -- The starts made, the drivers that are left, and how far the connect has come.
 pub record Passed : Type 0 where
@@ -152,29 +161,31 @@ pub record Passed : Type 0 where
   pub left : List Agent
   pub progress : Progress
 
-abbrev pub with_start : Start → Passed → Passed
-with_start s r = record r { starts = s ∷ r.starts }
+-- an agent that was started, by its turn
+abbrev pub starts_of : Agent → Option Bool → List Start
+starts_of a None = []
+starts_of a (Some b) = record { agent = a.handle; is_carried_out = b } ∷ []
 
-abbrev pub with_left : Agent → Passed → Passed
-with_left a r = record r { left = a ∷ r.left }
+-- an agent that was not started, by its turn
+abbrev pub left_of : Agent → Option Bool → List Agent
+left_of a None = a ∷ []
+left_of a (Some b) = []
+
+-- starts and agents that are left come before those of what follows
+abbrev pub joined : List Start → List Agent → Passed → Passed
+joined starts left r = record { starts = starts ++ r.starts; left = left ++ r.left; progress = r.progress }
 
 -- In a pass each driver in turn that is supported is started. The others are left.
 abbrev pub pass : Site → List Agent → Progress → Passed
 pass c [] p = record { starts = []; left = []; progress = p }
-pass c (a ∷ agents) p =
-    cond (is_supported c p a)
-    (with_start (record { agent = a.handle; is_carried_out = is_carried_out c p a }) (pass c agents (started c p a)))
-    (with_left a (pass c agents p))
-
-abbrev pub with_starts : List Start → Passed → Passed
-with_starts starts r = record r { starts = starts ++ r.starts }
+pass c (a ∷ agents) p = joined (starts_of a (turn c p a)) (left_of a (turn c p a)) (pass c agents (after_turn c p a))
 
 -- Passes over those that are left, up to one that starts none, so many at most.
 abbrev pub passes : ℕ → Site → List Agent → Progress → Passed
 passes zero c agents p = record { starts = []; left = agents; progress = p }
 passes (suc k) c agents p =
     cond (length (pass c agents p).starts == 0) (pass c agents p)
-    (with_starts (pass c agents p).starts (passes k c (pass c agents p).left (pass c agents p).progress))
+    (joined (pass c agents p).starts [] (passes k c (pass c agents p).left (pass c agents p).progress))
 
 -- The starts on a handle. Each driver is started once at most, so there are enough passes.
 abbrev pub starts_on : Site → List ℕ → Progress → Passed

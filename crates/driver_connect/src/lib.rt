@@ -7,6 +7,7 @@ mod driver;
 mod pairs;
 mod progress;
 mod protocols;
+mod starting;
 mod stopping;
 mod table;
 mod view;

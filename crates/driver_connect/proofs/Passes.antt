@@ -1,0 +1,90 @@
+-- A pass over drivers, one turn after the other.
+use Rattle.std.proofs.Common.{◌≡◌, ℕ, ◌+◌, ◌<◌, ◌==◌, true, false, List, [], ◌∷◌, ◌++◌, map, length, drop, get_or, inl, inr, refl, sym, ap, ◌∙◌, append_assoc, append-nil, arith}
+use Rattle.std.specs.List.{list_all, filter, AllByRecursion}
+use Rattle.std.proofs.lemmas.Bool.{cases_Bool}
+use Rattle.std.proofs.lemmas.Bool.Decides.{eqb_tells}
+use Rattle.guid_handles.specs.declared.records.Interface.{Interface}
+use Rattle.guid_handles.specs.HandleTables.{HandleTable, same_guid, is_on}
+use Rattle.guid_handles.proofs.SortedLists.{drop_next}
+use Rattle.guid_handles.proofs.GuidOrder.{same_guid-true}
+use Rattle.open_agents.specs.declared.items.OpenRecord.{OpenRecord}
+use Rattle.open_agents.specs.OpenRule.{has_holder}
+use Rattle.driver_connect.specs.declared.agents.Agent.{Agent}
+use Rattle.driver_connect.specs.declared.starting.Start.{Start}
+use Rattle.driver_connect.specs.declared.view.ProtocolView.{ProtocolView}
+use Rattle.driver_connect.specs.Drivers.{Plan, protocol_view, protocols_on, is_free}
+use Rattle.driver_connect.specs.Room.{HasRoom, Grows}
+use Rattle.driver_connect.specs.Starting.{Site, Progress, Passed, can_start, has_twice, joined, turn, after_turn, starts_of, left_of, pass}
+
+pub grows_same : (t : HandleTable) → Grows t t
+grows_same t = record { handles = omega arith; numbers = omega arith; stamps = omega arith }
+
+pub grows_further : (s t u : HandleTable) → Grows s t → Grows t u → Grows s u
+grows_further s t u a b = record {
+  handles = omega (arith, a.handles, b.handles);
+  numbers = omega (arith, a.numbers, b.numbers);
+  stamps = omega (arith, a.stamps, b.stamps);
+}
+
+pub room_stays : (s t : HandleTable) → HasRoom s → Grows s t → HasRoom t
+room_stays s t r a = record {
+  numbers = omega (arith, r.numbers, a.numbers);
+  stamps = omega (arith, r.stamps, a.stamps);
+}
+
+-- ---- what can be started is not held
+
+pub free_unheld : (opens : List OpenRecord) (n : ℕ) (guid : List ℕ) (is : List Interface) → is_free (map (protocol_view opens) (filter (is_on n) is)) guid ≡ true → has_holder opens n guid ≡ false
+free_unheld opens n guid [] h = cc
+free_unheld opens n guid (i ∷ is) h = elim (eqb_tells i.handle n) [
+  | inr f ↦ free_unheld opens n guid is (rw f.0 at h)
+  | inl t ↦
+      let k = rw t.0 at h in
+      elim (cases_Bool (same_guid i.guid guid)) [
+        | inr f ↦ free_unheld opens n guid is (rw f at k)
+        | inl s ↦ elim (cases_Bool (has_holder opens i.handle i.guid)) [
+          | inr u ↦ rw (← t.1) (rw (← same_guid-true i.guid guid s) u)
+          | inl u ↦ free_unheld opens n guid is (rw u at (rw s at k))
+        ]
+      ]
+]
+
+pub can_start-free : (t : HandleTable) (protocols : List ProtocolView) (plan : Plan) → can_start t protocols plan ≡ true → list_all (is_free protocols) plan.opens ≡ true
+can_start-free t protocols plan h = elim (cases_Bool (list_all (is_free protocols) plan.opens)) [
+  | inl e ↦ e
+  | inr e ↦ absurd (let k = rw e at h in elim (cases_Bool (length plan.opens == 0)) [
+    | inl a ↦ let m = rw a at k in cc
+    | inr a ↦ let m = rw a at k in elim (cases_Bool (has_twice plan.opens)) [
+      | inl b ↦ let n = rw b at m in cc
+      | inr b ↦ let n = rw b at m in cc
+    ]
+  ])
+]
+
+pub all_unheld : (t : HandleTable) (opens : List OpenRecord) (n : ℕ) (guids : List (List ℕ)) → list_all (is_free (protocols_on t opens n)) guids ≡ true → AllByRecursion (λ guid. has_holder opens n guid ≡ false) guids
+all_unheld t opens n [] h = tt
+all_unheld t opens n (g ∷ gs) h = elim (cases_Bool (is_free (protocols_on t opens n) g)) [
+  | inl e ↦ (free_unheld opens n g t.interfaces e, all_unheld t opens n gs (rw e at h))
+  | inr e ↦ absurd (let k = rw e at h in cc)
+]
+
+-- the GUIDs of a plan that can be carried out are not held
+pub planned_unheld : (p : Progress) (n : ℕ) (plan : Plan) → can_start p.handles (protocols_on p.handles p.opens n) plan ≡ true → AllByRecursion (λ guid. has_holder p.opens n guid ≡ false) plan.opens
+planned_unheld p n plan h = all_unheld p.handles p.opens n plan.opens (can_start-free p.handles (protocols_on p.handles p.opens n) plan h)
+
+-- ---- turns
+
+joined_twice : (s u : List Start) (l m : List Agent) (r : Passed) → joined s l (joined u m r) ≡ joined (s ++ u) (l ++ m) r
+joined_twice s u l m r = rw (append_assoc s u r.starts) (rw (append_assoc l m r.left) refl)
+
+-- one turn more
+pub turn_more : (c : Site) (starts : List Start) (left : List Agent) (agents : List Agent) (k : ℕ) (a : Agent) (p : Progress) (whole : Passed) → k < length agents → a ≡ get_or agents k a
+    → joined starts left (pass c (drop k agents) p) ≡ whole
+    → joined (starts ++ starts_of a (turn c p a)) (left ++ left_of a (turn c p a)) (pass c (drop (k + 1) agents) (after_turn c p a)) ≡ whole
+turn_more c starts left agents k a p whole l e h =
+    sym (joined_twice starts (starts_of a (turn c p a)) left (left_of a (turn c p a)) (pass c (drop (k + 1) agents) (after_turn c p a))) ∙ (rw (drop_next agents k a l e) at h)
+
+-- the last turn was taken
+pub turns_end : (c : Site) (starts : List Start) (left : List Agent) (p : Progress) (whole : Passed) → joined starts left (pass c [] p) ≡ whole
+    → (starts ≡ whole.starts) × (left ≡ whole.left) × (p ≡ whole.progress)
+turns_end c starts left p whole h = (sym (append-nil starts) ∙ ap (λ r. r.starts) h, sym (append-nil left) ∙ ap (λ r. r.left) h, ap (λ r. r.progress) h)

@@ -1,0 +1,15 @@
+use Rattle.std.proofs.Common.{◌≡◌, map, drop}
+use Rattle.driver_connect.specs.Drivers.{protocols_on}
+use Rattle.driver_connect.specs.Room.{HasRoom, Grows}
+use Rattle.driver_connect.specs.Starting.{site, joined, pass}
+use Rattle.driver_connect.proofs.starting.run_pass.Given as goal
+
+abbrev pub invariant-loop-agent : goal.invariant-loop-agent
+invariant-loop-agent g l = record {
+  whole :
+      joined l.pass.starts.items l.pass.left.items (pass (site (map g.D.Driver.meaning l.drivers) l.notify l.controller) (drop l.agent-index l.agents) l.connecting)
+      ≡ pass (site (map g.D.Driver.meaning l.drivers) l.notify l.controller) l.agents l.fn.connecting;
+  protocols : l.protocols.items ≡ protocols_on l.connecting.handles l.connecting.opens l.controller;
+  grows : Grows l.fn.connecting.handles l.connecting.handles;
+  room : HasRoom l.connecting.handles;
+}

@@ -1,0 +1,192 @@
+//! Starting drivers on one handle.
+ghost use Rattle.std.specs.Prelude.{◌≡◌, ◌++◌, [], true, false, map, IfOk, OnOk};
+ghost use Rattle.driver_connect.specs.Drivers.{protocols_on};
+ghost use Rattle.driver_connect.specs.Room.{HasRoom, Grows};
+ghost use Rattle.driver_connect.specs.Starting as spec;
+
+use crate::agents::{Agent, plan_at, supports_at};
+use crate::candidates::agents_for;
+use crate::driver::Driver;
+use crate::progress::{can_start, make_children, open_for_driver, signal_children};
+use crate::protocols::protocols_on;
+use crate::view::{ProtocolView, StartPlan, View};
+use guid_handles::Handles;
+use open_agents::Opens;
+use protocol_notify::Notify;
+use std::alloc::{AllocError, Allocator};
+use std::marker::Model;
+
+/// A start of a driver.
+#[derive(Clone, Copy)]
+pub struct Start {
+    /// The driver's handle.
+    pub agent: u64,
+    pub is_carried_out: bool,
+}
+
+/// How far a connect has come: the handles, the open items, and the events signaled.
+#[derive(Drop)]
+pub(crate) struct Connecting<A: Allocator> {
+    pub(crate) handles: Handles<A>,
+    pub(crate) opens: Opens<A>,
+    pub(crate) events: Vec<u64, A>,
+}
+
+impl<A: Allocator> Model for Connecting<A> {
+    ghost use Rattle.driver_connect.specs.Starting.{Progress};
+
+    ghost Value = { Progress };
+
+    ghost view = { λ c. record { handles = c.handles; opens = c.opens; events = c.events.items } };
+}
+
+/// What a pass over drivers has done: the starts made, and the drivers that are left.
+#[derive(Drop)]
+pub(crate) struct Pass<A: Allocator> {
+    starts: Vec<Start, A>,
+    left: Vec<Agent, A>,
+}
+
+impl<A: Allocator + Copy> Connecting<A> {
+    /// Copies of the handles and the open items, to be changed.
+    pub(crate) fn begin(
+        alloc: A,
+        handles: &Handles<A>,
+        opens: &Opens<A>,
+    ) -> Result<Connecting<A>, AllocError>
+        ensures { IfOk result (λ c. c ≡ record { handles = handles.now; opens = opens.now; events = [] }) }
+    {
+        let handles = handles.try_copy()?;
+        let opens = opens.try_copy()?;
+        Ok(Connecting {
+            handles,
+            opens,
+            events: Vec::new(alloc),
+        })
+    }
+
+    /// Carries out a plan that can be.
+    fn carry_out(
+        &mut self,
+        notify: &Notify<A>,
+        controller: u64,
+        agent: u64,
+        plan: &StartPlan,
+    ) -> Result<(), AllocError>
+        requires room { HasRoom self.old.handles }
+        requires can { spec.can_start self.old.handles (protocols_on self.old.handles self.old.opens controller) plan.now ≡ true }
+        ensures progress { OnOk result (self.new ≡ spec.carried_out notify.now controller agent plan.now self.old) }
+        ensures grows { OnOk result (Grows self.old.handles self.new.handles) }
+    {
+        open_for_driver(&mut self.opens, controller, agent, plan.opens.as_slice())?;
+        make_children(
+            &mut self.handles,
+            controller,
+            agent,
+            plan.children.as_slice(),
+        )?;
+        signal_children(&mut self.events, notify, plan.children.as_slice())
+    }
+}
+
+/// Starts an agent's driver if it is supported on the controller, whose protocols are given, and
+/// answers whether the start was carried out. It answers none where the driver is not supported.
+fn take_turn<D: Driver, A: Allocator + Copy>(
+    connecting: &mut Connecting<A>,
+    drivers: &[D],
+    notify: &Notify<A>,
+    controller: u64,
+    agent: &Agent,
+    protocols: &[ProtocolView],
+) -> Result<Option<bool>, AllocError>
+    requires room { HasRoom connecting.old.handles }
+    requires protocols { protocols.now ≡ protocols_on connecting.old.handles connecting.old.opens controller }
+    ensures turn { IfOk result (λ t. t ≡ spec.turn (spec.site (map D.meaning drivers.now) notify.now controller) connecting.old agent.now) }
+    ensures progress { OnOk result (connecting.new ≡ spec.after_turn (spec.site (map D.meaning drivers.now) notify.now controller) connecting.old agent.now) }
+    ensures stays { IfOk result (λ t. spec.is_change t ≡ false → connecting.new ≡ connecting.old) }
+    ensures grows { OnOk result (Grows connecting.old.handles connecting.new.handles) }
+{
+    let view = View {
+        agent: agent.handle,
+        controller,
+        protocols,
+    };
+    if !supports_at(drivers, agent.driver, &view) {
+        return Ok(None);
+    }
+    let plan = plan_at(drivers, agent.driver, &view);
+    if !can_start(&connecting.handles, protocols, &plan) {
+        return Ok(Some(false));
+    }
+    connecting.carry_out(notify, controller, agent.handle, &plan)?;
+    Ok(Some(true))
+}
+
+/// The protocols on a controller after a turn, where those before it are given.
+fn refreshed<A: Allocator + Copy>(
+    alloc: A,
+    connecting: &Connecting<A>,
+    controller: u64,
+    protocols: Vec<ProtocolView, A>,
+    turn: Option<bool>,
+) -> Result<Vec<ProtocolView, A>, AllocError>
+    requires { spec.is_change turn ≡ false → protocols.items ≡ protocols_on connecting.now.handles connecting.now.opens controller }
+    ensures { IfOk result (λ v. v.items ≡ protocols_on connecting.now.handles connecting.now.opens controller) }
+{
+    match turn {
+        Some(true) => protocols_on(alloc, &connecting.handles, &connecting.opens, controller),
+        _ => Ok(protocols),
+    }
+}
+
+impl<A: Allocator + Copy> Pass<A> {
+    /// Notes what came of an agent's turn.
+    fn note(&mut self, agent: &Agent, turn: Option<bool>) -> Result<(), AllocError>
+        ensures starts { OnOk result (self.new.starts.items ≡ self.old.starts.items ++ spec.starts_of agent.now turn) }
+        ensures left { OnOk result (self.new.left.items ≡ self.old.left.items ++ spec.left_of agent.now turn) }
+    {
+        match turn {
+            Some(is_carried_out) => self.starts.push(Start {
+                agent: agent.handle,
+                is_carried_out,
+            })?,
+            None => self.left.push(*agent)?,
+        }
+        Ok(())
+    }
+}
+
+/// Starts each of some drivers in turn that is supported on a controller.
+fn run_pass<D: Driver, A: Allocator + Copy>(
+    alloc: A,
+    connecting: &mut Connecting<A>,
+    drivers: &[D],
+    notify: &Notify<A>,
+    controller: u64,
+    agents: &[Agent],
+) -> Result<Pass<A>, AllocError>
+    requires { HasRoom connecting.old.handles }
+    ensures starts { IfOk result (λ p. p.starts.items ≡ (spec.pass (spec.site (map D.meaning drivers.now) notify.now controller) agents.now connecting.old).starts) }
+    ensures left { IfOk result (λ p. p.left.items ≡ (spec.pass (spec.site (map D.meaning drivers.now) notify.now controller) agents.now connecting.old).left) }
+    ensures progress { OnOk result (connecting.new ≡ (spec.pass (spec.site (map D.meaning drivers.now) notify.now controller) agents.now connecting.old).progress) }
+    ensures grows { OnOk result (Grows connecting.old.handles connecting.new.handles) }
+{
+    let mut pass = Pass {
+        starts: Vec::new(alloc),
+        left: Vec::new(alloc),
+    };
+    let mut protocols = protocols_on(alloc, &connecting.handles, &connecting.opens, controller)?;
+    for agent in agents {
+        let turn = take_turn(
+            connecting,
+            drivers,
+            notify,
+            controller,
+            agent,
+            protocols.as_slice(),
+        )?;
+        pass.note(agent, turn)?;
+        protocols = refreshed(alloc, connecting, controller, protocols, turn)?;
+    }
+    Ok(pass)
+}
