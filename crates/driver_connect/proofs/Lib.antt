@@ -3,3 +3,4 @@ pub mod Rounds
 pub mod VersionOrder
 pub mod Opened
 pub mod Passes
+pub mod Levels

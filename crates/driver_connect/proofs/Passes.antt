@@ -1,10 +1,11 @@
 -- A pass over drivers, one turn after the other.
-use Rattle.std.proofs.Common.{◌≡◌, ℕ, ◌+◌, ◌<◌, ◌==◌, true, false, List, [], ◌∷◌, ◌++◌, map, length, drop, get_or, inl, inr, refl, sym, ap, ◌∙◌, append_assoc, append-nil, arith}
+use Rattle.std.proofs.Common.{◌≡◌, ℕ, suc, ◌+◌, ◌-◌, ◌<◌, ◌≤◌, ◌==◌, true, false, List, [], ◌∷◌, ◌++◌, map, length, drop, get_or, inl, inr, refl, sym, ap, ◌∙◌, append_assoc, append-nil, arith}
 use Rattle.std.specs.List.{list_all, filter, AllByRecursion}
 use Rattle.std.proofs.lemmas.Bool.{cases_Bool}
 use Rattle.std.proofs.lemmas.Bool.Decides.{eqb_tells}
 use Rattle.guid_handles.specs.declared.records.Interface.{Interface}
 use Rattle.guid_handles.specs.HandleTables.{HandleTable, same_guid, is_on}
+use Rattle.guid_handles.specs.HandleChanges.{max_handles}
 use Rattle.guid_handles.proofs.SortedLists.{drop_next}
 use Rattle.guid_handles.proofs.GuidOrder.{same_guid-true}
 use Rattle.open_agents.specs.declared.items.OpenRecord.{OpenRecord}
@@ -14,7 +15,7 @@ use Rattle.driver_connect.specs.declared.starting.Start.{Start}
 use Rattle.driver_connect.specs.declared.view.ProtocolView.{ProtocolView}
 use Rattle.driver_connect.specs.Drivers.{Plan, protocol_view, protocols_on, is_free}
 use Rattle.driver_connect.specs.Room.{HasRoom, Grows}
-use Rattle.driver_connect.specs.Starting.{Site, Progress, Passed, can_start, has_twice, joined, turn, after_turn, starts_of, left_of, pass}
+use Rattle.driver_connect.specs.Starting.{Site, Progress, Passed, can_start, has_twice, joined, turn, after_turn, starts_of, left_of, pass, passes}
 
 pub grows_same : (t : HandleTable) → Grows t t
 grows_same t = record { handles = omega arith; numbers = omega arith; stamps = omega arith }
@@ -88,3 +89,30 @@ turn_more c starts left agents k a p whole l e h =
 pub turns_end : (c : Site) (starts : List Start) (left : List Agent) (p : Progress) (whole : Passed) → joined starts left (pass c [] p) ≡ whole
     → (starts ≡ whole.starts) × (left ≡ whole.left) × (p ≡ whole.progress)
 turns_end c starts left p whole h = (sym (append-nil starts) ∙ ap (λ r. r.starts) h, sym (append-nil left) ∙ ap (λ r. r.left) h, ap (λ r. r.progress) h)
+
+-- ---- passes
+
+-- a pass that starts none is the last
+pub passes_end : (c : Site) (starts : List Start) (agents : List Agent) (n k : ℕ) (p : Progress) (whole : Passed) → k < n → (length (pass c agents p).starts == 0) ≡ true
+    → joined starts [] (passes (n - k) c agents p) ≡ whole → (starts ++ (pass c agents p).starts ≡ whole.starts) × ((pass c agents p).progress ≡ whole.progress)
+passes_end c starts agents n k p whole l z h =
+    let e : n - k ≡ suc (n - (k + 1)) = omega arith in
+    let w : joined starts [] (pass c agents p) ≡ whole = rw z at (rw e at h) in
+    (ap (λ r. r.starts) w, ap (λ r. r.progress) w)
+
+-- one pass more
+pub passes_more : (c : Site) (starts : List Start) (agents : List Agent) (n k : ℕ) (p : Progress) (whole : Passed) → k < n → (length (pass c agents p).starts == 0) ≡ false
+    → joined starts [] (passes (n - k) c agents p) ≡ whole
+    → joined (starts ++ (pass c agents p).starts) [] (passes (n - (k + 1)) c (pass c agents p).left (pass c agents p).progress) ≡ whole
+passes_more c starts agents n k p whole l z h =
+    let e : n - k ≡ suc (n - (k + 1)) = omega arith in
+    let w : joined starts [] (joined (pass c agents p).starts [] (passes (n - (k + 1)) c (pass c agents p).left (pass c agents p).progress)) ≡ whole = rw z at (rw e at h) in
+    sym (joined_twice starts (pass c agents p).starts [] [] (passes (n - (k + 1)) c (pass c agents p).left (pass c agents p).progress)) ∙ w
+
+-- ---- bounds
+
+pub numbers_rise : (s t : HandleTable) → Grows s t → length t.handles ≤ max_handles → t.last_number ≤ s.last_number + 4096
+numbers_rise s t a l = omega (arith, a.numbers, l)
+
+pub stamps_rise : (s t : HandleTable) → Grows s t → length t.handles ≤ max_handles → t.last_stamp ≤ s.last_stamp + 16384
+stamps_rise s t a l = omega (arith, a.stamps, l)

@@ -5,7 +5,9 @@ use Rattle.page_ranges.specs.declared.statuses.Status.{Status}
 use Rattle.page_ranges.specs.declared.statuses.Status.TheVariants.{InvalidParameter, OutOfResources, NotFound}
 use Rattle.guid_handles.specs.HandleTables.{HandleTable, numbers, is_live}
 use Rattle.open_agents.specs.declared.items.OpenRecord.{OpenRecord}
-use Rattle.driver_connect.specs.Starting.{Site, Progress, starts_on, is_any_carried_out}
+use Rattle.protocol_notify.specs.declared.notify.Registration.{Registration}
+use Rattle.driver_connect.specs.Drivers.{Meaning}
+use Rattle.driver_connect.specs.Starting.{Site, site, Progress, starts_on, is_any_carried_out}
 
 -- the handles made after a number was given, ascending
 abbrev pub made_after : ℕ → HandleTable → List ℕ
@@ -20,7 +22,11 @@ for_each f (n ∷ ns) p = for_each f ns (f n p)
 abbrev pub connected : ℕ → Site → List ℕ → Progress → Progress
 connected zero c named p = (starts_on c named p).progress
 connected (suc k) c named p =
-    for_each (λ n q. connected k (record c { controller = n }) [] q) (made_after p.handles.last_number (starts_on c named p).progress.handles) (starts_on c named p).progress
+    for_each (λ n q. connected k (site c.drivers c.registrations n) [] q) (made_after p.handles.last_number (starts_on c named p).progress.handles) (starts_on c named p).progress
+
+-- each of some handles is connected, so many levels deep, with no driver named
+abbrev pub each_connected : ℕ → List Meaning → List Registration → List ℕ → Progress → Progress
+each_connected k ds rs ns p = for_each (λ n q. connected k (site ds rs n) [] q) ns p
 
 -- the named handle is at the first of eight levels
 abbrev pub levels_below : Bool → ℕ

@@ -3,6 +3,7 @@
 
 mod agents;
 mod candidates;
+mod connecting;
 mod driver;
 mod pairs;
 mod progress;
@@ -13,6 +14,7 @@ mod table;
 mod view;
 
 pub use agents::driver_binding;
+pub use connecting::{MAX_NAMED, connect};
 pub use driver::Driver;
 pub use stopping::{disconnect, stop};
 pub use table::TableDriver;

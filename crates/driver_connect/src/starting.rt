@@ -1,5 +1,6 @@
 //! Starting drivers on one handle.
-ghost use Rattle.std.specs.Prelude.{◌≡◌, ◌++◌, [], true, false, map, IfOk, OnOk};
+ghost use Rattle.std.specs.Prelude.{◌≡◌, ◌≤◌, ◌++◌, [], true, false, length, map, IfOk, OnOk};
+ghost use Rattle.guid_handles.specs.HandleChanges.{max_handles};
 ghost use Rattle.driver_connect.specs.Drivers.{protocols_on};
 ghost use Rattle.driver_connect.specs.Room.{HasRoom, Grows};
 ghost use Rattle.driver_connect.specs.Starting as spec;
@@ -63,6 +64,25 @@ impl<A: Allocator + Copy> Connecting<A> {
             opens,
             events: Vec::new(alloc),
         })
+    }
+
+    /// Puts the changed handles and open items into the place of those that were copied, and answers
+    /// the events.
+    pub(crate) fn put_in_place(self, handles: &mut Handles<A>, opens: &mut Opens<A>) -> Vec<u64, A>
+        ensures handles { handles.new ≡ self.handles }
+        ensures opens { opens.new ≡ self.opens }
+        ensures events { result.items ≡ self.events }
+        ensures limit { length handles.new.handles ≤ max_handles }
+    {
+        let Connecting {
+            handles: new_handles,
+            opens: new_opens,
+            events,
+        } = self;
+        let _count = new_handles.all().len();
+        *handles = new_handles;
+        *opens = new_opens;
+        events
     }
 
     /// Carries out a plan that can be.
@@ -189,4 +209,70 @@ fn run_pass<D: Driver, A: Allocator + Copy>(
         protocols = refreshed(alloc, connecting, controller, protocols, turn)?;
     }
     Ok(pass)
+}
+
+/// Starts drivers on a controller, in passes over those that are left, up to a pass that starts
+/// none. Drivers that are named come first.
+pub(crate) fn run_passes<D: Driver, A: Allocator + Copy>(
+    alloc: A,
+    connecting: &mut Connecting<A>,
+    drivers: &[D],
+    notify: &Notify<A>,
+    controller: u64,
+    named: &[u64],
+) -> Result<Vec<Start, A>, AllocError>
+    requires { HasRoom connecting.old.handles }
+    ensures starts { IfOk result (λ v. v.items ≡ (spec.starts_on (spec.site (map D.meaning drivers.now) notify.now controller) named.now connecting.old).starts) }
+    ensures progress { OnOk result (connecting.new ≡ (spec.starts_on (spec.site (map D.meaning drivers.now) notify.now controller) named.now connecting.old).progress) }
+    ensures grows { OnOk result (Grows connecting.old.handles connecting.new.handles) }
+{
+    let agents = agents_for(alloc, drivers, &connecting.handles, named)?;
+    run_passes_over(alloc, connecting, drivers, notify, controller, agents)
+}
+
+/// Starts drivers on a controller, in passes over those that are left, up to a pass that starts
+/// none.
+fn run_passes_over<D: Driver, A: Allocator + Copy>(
+    alloc: A,
+    connecting: &mut Connecting<A>,
+    drivers: &[D],
+    notify: &Notify<A>,
+    controller: u64,
+    agents: Vec<Agent, A>,
+) -> Result<Vec<Start, A>, AllocError>
+    requires { HasRoom connecting.old.handles }
+    ensures starts { IfOk result (λ v. v.items ≡ (spec.passes (length agents.items) (spec.site (map D.meaning drivers.now) notify.now controller) agents.items connecting.old).starts) }
+    ensures progress { OnOk result (connecting.new ≡ (spec.passes (length agents.items) (spec.site (map D.meaning drivers.now) notify.now controller) agents.items connecting.old).progress) }
+    ensures grows { OnOk result (Grows connecting.old.handles connecting.new.handles) }
+{
+    let count = agents.len();
+    let mut left = agents;
+    let mut starts = Vec::new(alloc);
+    for k in 0..count {
+        let pass = run_pass(
+            alloc,
+            connecting,
+            drivers,
+            notify,
+            controller,
+            left.as_slice(),
+        )?;
+        starts.extend_from_slice(pass.starts.as_slice())?;
+        if pass.starts.is_empty() {
+            return Ok(starts);
+        }
+        let Pass {
+            starts: _,
+            left: rest,
+        } = pass;
+        left = rest;
+    }
+    Ok(starts)
+}
+
+/// Whether a start was carried out.
+pub(crate) fn is_any_carried_out(starts: &[Start]) -> bool
+    ensures { result ≡ spec.is_any_carried_out starts.now }
+{
+    starts.iter().any(|s| s.is_carried_out)
 }

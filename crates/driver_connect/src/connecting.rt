@@ -1,0 +1,139 @@
+//! Connecting a handle, and the handles that are made.
+ghost use Rattle.std.specs.Prelude.{◌≡◌, ◌+◌, ◌<◌, ◌≤◌, ◌^◌, [], map, IfOk, OnOk};
+ghost use Rattle.std.specs.Result.{result_map_both};
+ghost use Rattle.driver_connect.specs.Connecting as spec;
+ghost use Rattle.driver_connect.specs.Room.{HasRoom, Grows};
+ghost use Rattle.driver_connect.specs.Starting.{site, starts_on, is_any_carried_out as is_any};
+
+use crate::driver::Driver;
+use crate::starting::{Connecting, is_any_carried_out, run_passes};
+use guid_handles::Handles;
+use open_agents::Opens;
+use page_ranges::Status;
+use protocol_notify::Notify;
+use std::alloc::{AllocError, Allocator};
+
+/// So many drivers may be named.
+pub const MAX_NAMED: usize = 16;
+
+/// So many levels of handles are connected below the one that is named.
+const LEVELS_BELOW: u8 = 7;
+
+/// The handles that were made after a number was given, ascending.
+fn made_after<A: Allocator + Copy>(
+    alloc: A,
+    handles: &Handles<A>,
+    last: u64,
+) -> Result<Vec<u64, A>, AllocError>
+    ensures { IfOk result (λ v. v.items ≡ spec.made_after last handles.now) }
+{
+    let mut made = Vec::new(alloc);
+    let numbers = handles.all();
+    for n in numbers {
+        if *n > last {
+            made.push(*n)?;
+        }
+    }
+    Ok(made)
+}
+
+/// Connects a controller, and so many levels of the handles that are made below it. It answers
+/// whether a start on the controller was carried out.
+#[cycle(levels)]
+fn connect_levels<D: Driver, A: Allocator + Copy>(
+    alloc: A,
+    connecting: &mut Connecting<A>,
+    drivers: &[D],
+    notify: &Notify<A>,
+    controller: u64,
+    named: &[u64],
+    levels: u8,
+) -> Result<bool, AllocError>
+    requires { HasRoom connecting.old.handles }
+    ensures carried_out { IfOk result (λ b. b ≡ is_any (starts_on (site (map D.meaning drivers.now) notify.now controller) named.now connecting.old).starts) }
+    ensures progress { OnOk result (connecting.new ≡ spec.connected levels (site (map D.meaning drivers.now) notify.now controller) named.now connecting.old) }
+    ensures grows { OnOk result (Grows connecting.old.handles connecting.new.handles) }
+{
+    let last = connecting.handles.last_number();
+    let starts = run_passes(alloc, connecting, drivers, notify, controller, named)?;
+    if levels > 0 {
+        let made = made_after(alloc, &connecting.handles, last)?;
+        connect_each(
+            alloc,
+            connecting,
+            drivers,
+            notify,
+            made.as_slice(),
+            levels - 1,
+        )?;
+    }
+    Ok(is_any_carried_out(starts.as_slice()))
+}
+
+/// Connects each of some handles, with so many levels of the handles that are made below it.
+#[cycle(levels)]
+fn connect_each<D: Driver, A: Allocator + Copy>(
+    alloc: A,
+    connecting: &mut Connecting<A>,
+    drivers: &[D],
+    notify: &Notify<A>,
+    made: &[u64],
+    levels: u8,
+) -> Result<(), AllocError>
+    requires { HasRoom connecting.old.handles }
+    ensures progress { OnOk result (connecting.new ≡ spec.each_connected levels (map D.meaning drivers.now) notify.now made.now connecting.old) }
+    ensures grows { OnOk result (Grows connecting.old.handles connecting.new.handles) }
+{
+    for n in made {
+        connect_levels(alloc, connecting, drivers, notify, *n, &[], levels)?;
+    }
+    Ok(())
+}
+
+/// Whether a call of ConnectController names a handle that is not live, or too many drivers.
+fn is_refused<A: Allocator + Copy>(handles: &Handles<A>, handle: u64, named: &[u64]) -> bool
+    ensures { result ≡ spec.connect_refused handles.now handle named.now }
+{
+    !handles.is_live(handle) || named.len() > MAX_NAMED
+}
+
+/// Starts drivers on a handle, those first that are named, and where `recursive` is set on the
+/// handles that this makes, eight levels deep. It answers the events that are signaled. On an `Err`
+/// nothing changes.
+pub fn connect<D: Driver, A: Allocator + Copy>(
+    alloc: A,
+    handles: &mut Handles<A>,
+    opens: &mut Opens<A>,
+    notify: &Notify<A>,
+    drivers: &[D],
+    handle: u64,
+    named: &[u64],
+    recursive: bool,
+) -> Result<Vec<u64, A>, Status>
+    requires numbers { handles.old.last_number < 2 ^ 61 }
+    requires stamps { handles.old.last_stamp < 2 ^ 61 }
+    ensures connects { spec.Connects (site (map D.meaning drivers.now) notify.now handle) named.now recursive handles.old opens.old (result_map_both (λ v. v.items) (λ e. e) result) handles.new opens.new }
+    ensures numbers { handles.new.last_number ≤ handles.old.last_number + 4096 }
+    ensures stamps { handles.new.last_stamp ≤ handles.old.last_stamp + 16384 }
+{
+    if is_refused(handles, handle, named) {
+        return Err(Status::InvalidParameter);
+    }
+    let Ok(mut connecting) = Connecting::begin(alloc, handles, opens) else {
+        return Err(Status::OutOfResources);
+    };
+    let levels = if recursive { LEVELS_BELOW } else { 0 };
+    match connect_levels(
+        alloc,
+        &mut connecting,
+        drivers,
+        notify,
+        handle,
+        named,
+        levels,
+    ) {
+        Ok(true) => Ok(connecting.put_in_place(handles, opens)),
+        Ok(false) => Err(Status::NotFound),
+        Err(_) => Err(Status::OutOfResources),
+    }
+}
