@@ -4,3 +4,6 @@ pub mod VersionOrder
 pub mod Opened
 pub mod Passes
 pub mod Levels
+pub mod StopSets
+pub mod Left
+pub mod Idle

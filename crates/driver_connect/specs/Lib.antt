@@ -3,3 +3,4 @@ pub mod Stopping
 pub mod Room
 pub mod Starting
 pub mod Connecting
+pub mod Laws

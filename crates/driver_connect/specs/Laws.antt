@@ -1,0 +1,52 @@
+-- The laws of stopping and connecting. Each is the contract of a public function.
+use Rattle.std.specs.Prelude.{◌≡◌, ℕ, true, false, List, []}
+use Rattle.std.specs.List.{filter, list_any}
+use Rattle.guid_handles.specs.HandleTables.{HandleTable, has_number, is_on}
+use Rattle.guid_handles.specs.HandleChanges.{IsHandleTable}
+use Rattle.open_agents.specs.declared.items.OpenRecord.{OpenRecord}
+use Rattle.open_agents.specs.OpenItems.{names}
+use Rattle.driver_connect.specs.Stopping.{has_pair, managers_of_made, rounds, stop_set, is_one_of, without_handles, without_opens}
+use Rattle.driver_connect.specs.Starting.{Site, Progress, starts_on, is_any_carried_out}
+use Rattle.driver_connect.specs.Connecting.{connected}
+
+-- ---- the stop set
+
+-- A set holds some pairs, and each pair that manages a handle that a pair of the set made.
+pub record IsClosed (t : HandleTable) (opens : List OpenRecord) (pairs set : List (ℕ × ℕ)) : Type 0 where
+  pub given : (p : ℕ × ℕ) → has_pair pairs p ≡ true → has_pair set p ≡ true
+  pub managers : (p : ℕ × ℕ) → has_pair (managers_of_made t opens set) p ≡ true → has_pair set p ≡ true
+
+-- The stop set of some pairs is the least such set.
+abbrev pub StopSetLaw : Type 0
+StopSetLaw =
+    (t : HandleTable) (opens : List OpenRecord) (pairs : List (ℕ × ℕ)) →
+    IsClosed t opens pairs (stop_set t opens pairs)
+    × ((set : List (ℕ × ℕ)) → IsClosed t opens pairs set → (p : ℕ × ℕ) → has_pair (stop_set t opens pairs) p ≡ true → has_pair set p ≡ true)
+
+-- No further round adds anything to it.
+abbrev pub RoundsLaw : Type 0
+RoundsLaw = (k : ℕ) (t : HandleTable) (opens : List OpenRecord) (pairs : List (ℕ × ℕ)) → rounds k t opens (stop_set t opens pairs) ≡ stop_set t opens pairs
+
+-- ---- what stopping takes out
+
+-- Of the handles that go, no interface is left, and no item that names one.
+abbrev pub GoneLaw : Type 0
+GoneLaw =
+    (ns : List ℕ) (pairs : List (ℕ × ℕ)) (t : HandleTable) (opens : List OpenRecord) (n : ℕ) → is_one_of ns n ≡ true →
+    (filter (has_number n) (without_handles ns t).handles ≡ [])
+    × (filter (is_on n) (without_handles ns t).interfaces ≡ [])
+    × (list_any (names n) (without_opens ns pairs opens) ≡ false)
+
+-- Every other handle stays, with its maker and its interfaces.
+abbrev pub StaysLaw : Type 0
+StaysLaw =
+    (ns : List ℕ) (t : HandleTable) (n : ℕ) → is_one_of ns n ≡ false →
+    (filter (has_number n) (without_handles ns t).handles ≡ filter (has_number n) t.handles)
+    × (filter (is_on n) (without_handles ns t).interfaces ≡ filter (is_on n) t.interfaces)
+
+-- ---- connecting
+
+-- Where no start on the handle is carried out, all stays as it was, however deep the connect goes.
+abbrev pub NothingCarriedOutLaw : Type 0
+NothingCarriedOutLaw =
+    (levels : ℕ) (c : Site) (named : List ℕ) (p : Progress) → IsHandleTable p.handles → is_any_carried_out (starts_on c named p).starts ≡ false → connected levels c named p ≡ p

@@ -1,0 +1,28 @@
+//! The laws of stopping and connecting, each the contract of a function that does nothing.
+ghost use Rattle.driver_connect.specs.Laws.{GoneLaw, NothingCarriedOutLaw, RoundsLaw, StaysLaw, StopSetLaw};
+
+/// The stop set of some pairs holds them and the managers of all handles that its pairs made, and it
+/// is the least set that does.
+pub fn stop_set_law()
+    ensures { StopSetLaw }
+{}
+
+/// As many rounds as there are handles and open items make the whole stop set.
+pub fn rounds_law()
+    ensures { RoundsLaw }
+{}
+
+/// What stopping leaves has no interface on a handle that went, and names none.
+pub fn gone_law()
+    ensures { GoneLaw }
+{}
+
+/// Stopping takes out no handle outside the stop set, and no interface of such a handle.
+pub fn stays_law()
+    ensures { StaysLaw }
+{}
+
+/// A connect that carries out no start on its handle changes nothing.
+pub fn nothing_carried_out_law()
+    ensures { NothingCarriedOutLaw }
+{}
