@@ -7,3 +7,4 @@ pub mod Levels
 pub mod StopSets
 pub mod Left
 pub mod Idle
+pub mod Samples
