@@ -1,2 +1,4 @@
 pub mod ParameterLists
+pub mod PairLists
+pub mod ParsedGuids
 pub mod LineCalls

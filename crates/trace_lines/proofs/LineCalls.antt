@@ -1,5 +1,5 @@
 -- The calls that lines ask for.
-use Rattle.std.proofs.Common.{◌≡◌, ℕ, suc, ◌<◌, ◌^◌, Bool, true, false, cond, nat_lt, nat_le, nat_eq, List, [], ◌∷◌, length, codes, Option, Some, None, Result, Ok, Err, refl, subst}
+use Rattle.std.proofs.Common.{◌≡◌, ℕ, suc, ◌<◌, ◌^◌, ◌%◌, ◌==◌, Bool, true, false, cond, nat_lt, nat_le, nat_eq, List, [], ◌∷◌, length, codes, Option, Some, None, Result, Ok, Err, refl, subst}
 use Rattle.std.proofs.lemmas.Bool.{ltb-true}
 use Rattle.std.specs.Io.BufRead.{strip_last}
 use Rattle.std.specs.List.{starts_with, AllByRecursion}
@@ -23,8 +23,10 @@ use Rattle.trace_lines.specs.declared.faults.TraceFault.{TraceFault}
 use Rattle.trace_lines.specs.declared.faults.TraceFault.TheVariants as fault
 use Rattle.trace_lines.specs.declared.lines.TraceCall.{TraceCall}
 use Rattle.trace_lines.specs.declared.lines.TraceCall.TheVariants as trace_call
-use Rattle.trace_lines.specs.Laws.{HasCallNumbers}
-use Rattle.trace_lines.specs.Parameters.{u64_of, u32_of, u64_up_to, or_hex, bytes_of}
+use Rattle.uuid.specs.Text.{parsed}
+use Rattle.trace_lines.specs.Laws.{IsGuid, HasCallNumbers}
+use Rattle.trace_lines.specs.Parameters.{u64_of, u32_of, u64_up_to, or_hex, bytes_of, guid_of, pairs_of}
+use Rattle.trace_lines.proofs.ParsedGuids.{parsed_guid}
 use Rattle.trace_lines.specs.TraceLine.{largest_buffer, longest_read, call_of, call_of_words, line_of}
 
 -- ---- numbers
@@ -74,6 +76,27 @@ bytes_below : (word bytes : List ℕ) → bytes_of word ≡ Ok bytes → AreByte
 bytes_below [] bytes e = absurd (cc)
 bytes_below (b ∷ word) bytes e = of_digits (bytes_eq (b ∷ word) (codes "-")) (b ∷ word) bytes e
 
+-- ---- GUIDs
+
+guid_fits : (word guid : List ℕ) → guid_of word ≡ Ok guid → IsGuid guid
+unfolding guid_of
+guid_fits word guid e = parsed_guid word guid (found fault.Guid (parsed word) guid e)
+
+abbrev IsPair : List ℕ × ℕ → Type 0
+IsPair pair = IsGuid pair.0 × (pair.1 < 2 ^ 64)
+
+same_pairs : (front pairs : List (List ℕ × ℕ)) → fine front ≡ Ok pairs → AllByRecursion IsPair front → AllByRecursion IsPair pairs
+same_pairs front pairs e h = let same : front ≡ pairs = cc in subst (AllByRecursion IsPair) same h
+
+pairs_fit : (words : List (List ℕ)) (pairs : List (List ℕ × ℕ)) → pairs_of words ≡ Ok pairs → AllByRecursion IsPair pairs
+pairs_fit [] pairs e = same_pairs [] pairs e tt
+pairs_fit (guid ∷ []) pairs e = same_pairs [] pairs e tt
+pairs_fit (guid ∷ value ∷ words) pairs e =
+    let (g, ge, e1) = bind_ok (guid_of guid) _ _ e in
+    let (v, ve, e2) = bind_ok (u64_of value) _ _ e1 in
+    let (ps, pe, e3) = bind_ok (pairs_of words) _ _ e2 in
+    same_pairs ((g, v) ∷ ps) pairs e3 ((guid_fits guid g ge, u64_below value v ve), pairs_fit words ps pe)
+
 -- ---- calls
 
 abbrev Asked : Type 0 → Type 0
@@ -83,14 +106,9 @@ abbrev asks : {A : Type 0} → Call A → Asked A
 asks c = Ok (trace_call.Service c)
 
 module _ {A : Type 0} where
-  abbrev with_pages : List ℕ → ℕ → ℕ → ℕ → Asked A
-  with_pages memory k t p = u64_of memory >>= λ m. asks (call.AllocatePages k t p m)
-
-  abbrev with_type : List ℕ → List ℕ → ℕ → ℕ → Asked A
-  with_type pages memory k t = u64_of pages >>= with_pages memory k t
-
-  abbrev with_kind : List ℕ → List ℕ → List ℕ → ℕ → Asked A
-  with_kind mtype pages memory k = u32_of mtype >>= with_type pages memory k
+  chosen_left : (b : Bool) (r : Asked A) (f : TraceFault) (asked : TraceCall A) → cond b r (Err f) ≡ Ok asked → r ≡ Ok asked
+  chosen_left true r f asked e = e
+  chosen_left false r f asked e = absurd (cc)
 
   same_numbers : (b c : Call A) → b ≡ c → HasCallNumbers b → HasCallNumbers c
   same_numbers b c e h = subst HasCallNumbers e h
@@ -98,35 +116,93 @@ module _ {A : Type 0} where
   -- the numbers of the call that a verb asks for with its words
   of_verb : (v : Verb) (words : List (List ℕ)) (c : Call A) → call_of v words ≡ asks c → HasCallNumbers c
   of_verb verb.Pages (kind ∷ mtype ∷ pages ∷ memory ∷ []) c e =
-      let (k, ke, e1) = bind_ok (u32_of kind) (with_kind mtype pages memory) _ e in
-      let (t, te, e2) = bind_ok (u32_of mtype) (with_type pages memory k) _ e1 in
-      let (p, pe, e3) = bind_ok (u64_of pages) (with_pages memory k t) _ e2 in
-      let (m, me, e4) = bind_ok (u64_of memory) (λ m. asks (call.AllocatePages k t p m)) _ e3 in
+      let (k, ke, e1) = bind_ok (u32_of kind) _ _ e in
+      let (t, te, e2) = bind_ok (u32_of mtype) _ _ e1 in
+      let (p, pe, e3) = bind_ok (u64_of pages) _ _ e2 in
+      let (m, me, e4) = bind_ok (u64_of memory) _ _ e3 in
       same_numbers (call.AllocatePages k t p m) c (cc) (u32_below kind k ke, u32_below mtype t te, u64_below pages p pe, u64_below memory m me)
   of_verb verb.FreePages (memory ∷ pages ∷ []) c e =
-      let (m, me, e1) = bind_ok (u64_of memory) (λ m. u64_of pages >>= λ p. asks (call.FreePages m p)) _ e in
-      let (p, pe, e2) = bind_ok (u64_of pages) (λ p. asks (call.FreePages m p)) _ e1 in
+      let (m, me, e1) = bind_ok (u64_of memory) _ _ e in
+      let (p, pe, e2) = bind_ok (u64_of pages) _ _ e1 in
       same_numbers (call.FreePages m p) c (cc) (u64_below memory m me, u64_below pages p pe)
   of_verb verb.Map (size ∷ []) c e =
-      let (n, ne, e1) = bind_ok (u64_up_to largest_buffer size) (λ n. asks (call.GetMemoryMap n)) _ e in
+      let (n, ne, e1) = bind_ok (u64_up_to largest_buffer size) _ _ e in
       same_numbers (call.GetMemoryMap n) c (cc) (u64_up_to-below largest_buffer size n ne)
   of_verb verb.Pool (mtype ∷ size ∷ []) c e =
-      let (t, te, e1) = bind_ok (u32_of mtype) (λ t. u64_of size >>= λ n. asks (call.AllocatePool t n)) _ e in
-      let (n, ne, e2) = bind_ok (u64_of size) (λ n. asks (call.AllocatePool t n)) _ e1 in
+      let (t, te, e1) = bind_ok (u32_of mtype) _ _ e in
+      let (n, ne, e2) = bind_ok (u64_of size) _ _ e1 in
       same_numbers (call.AllocatePool t n) c (cc) (u32_below mtype t te, u64_below size n ne)
   of_verb verb.FreePool (address ∷ []) c e =
-      let (a, ae, e1) = bind_ok (u64_of address) (λ a. asks (call.FreePool a)) _ e in
+      let (a, ae, e1) = bind_ok (u64_of address) _ _ e in
       same_numbers (call.FreePool a) c (cc) (u64_below address a ae)
   of_verb verb.Read (address ∷ count ∷ []) c e =
-      let (a, ae, e1) = bind_ok (u64_of address) (λ a. u64_up_to longest_read count >>= λ n. asks (call.PoolRead a n)) _ e in
-      let (n, ne, e2) = bind_ok (u64_up_to longest_read count) (λ n. asks (call.PoolRead a n)) _ e1 in
+      let (a, ae, e1) = bind_ok (u64_of address) _ _ e in
+      let (n, ne, e2) = bind_ok (u64_up_to longest_read count) _ _ e1 in
       same_numbers (call.PoolRead a n) c (cc) (u64_below address a ae, u64_up_to-below longest_read count n ne)
   of_verb verb.Write (address ∷ bytes ∷ []) c e =
-      let (a, ae, e1) = bind_ok (u64_of address) (λ a. bytes_of bytes >>= λ b. asks (call.PoolWrite a b)) _ e in
-      let (b, be, e2) = bind_ok (bytes_of bytes) (λ b. asks (call.PoolWrite a b)) _ e1 in
+      let (a, ae, e1) = bind_ok (u64_of address) _ _ e in
+      let (b, be, e2) = bind_ok (bytes_of bytes) _ _ e1 in
       same_numbers (call.PoolWrite a b) c (cc) (u64_below address a ae, bytes_below bytes b be)
+  of_verb verb.Install (handle ∷ guid ∷ kind ∷ value ∷ []) c e =
+      let (h, he, e1) = bind_ok (u64_of handle) _ _ e in
+      let (g, ge, e2) = bind_ok (guid_of guid) _ _ e1 in
+      let (k, ke, e3) = bind_ok (u32_of kind) _ _ e2 in
+      let (v, ve, e4) = bind_ok (u64_of value) _ _ e3 in
+      same_numbers (call.InstallProtocolInterface h g k v) c (cc) (u64_below handle h he, guid_fits guid g ge, u32_below kind k ke, u64_below value v ve)
+  of_verb verb.InstallMany (handle ∷ guid ∷ value ∷ words) c e =
+      let e1 = chosen_left (length words % 2 == 0) (u64_of handle >>= λ h. pairs_of (guid ∷ value ∷ words) >>= λ ps. asks (call.InstallMultipleProtocolInterfaces h ps)) fault.Words _ e in
+      let (h, he, e2) = bind_ok (u64_of handle) _ _ e1 in
+      let (ps, pe, e3) = bind_ok (pairs_of (guid ∷ value ∷ words)) _ _ e2 in
+      same_numbers (call.InstallMultipleProtocolInterfaces h ps) c (cc) (u64_below handle h he, pairs_fit (guid ∷ value ∷ words) ps pe)
+  of_verb verb.Open (handle ∷ guid ∷ agent ∷ controller ∷ attributes ∷ []) c e =
+      let (h, he, e1) = bind_ok (u64_of handle) _ _ e in
+      let (g, ge, e2) = bind_ok (guid_of guid) _ _ e1 in
+      let (a, ae, e3) = bind_ok (u64_of agent) _ _ e2 in
+      let (k, ke, e4) = bind_ok (u64_of controller) _ _ e3 in
+      let (t, te, e5) = bind_ok (u32_of attributes) _ _ e4 in
+      same_numbers (call.OpenProtocol h g a k t) c (cc) (u64_below handle h he, guid_fits guid g ge, u64_below agent a ae, u64_below controller k ke, u32_below attributes t te)
+  of_verb verb.Close (handle ∷ guid ∷ agent ∷ controller ∷ []) c e =
+      let (h, he, e1) = bind_ok (u64_of handle) _ _ e in
+      let (g, ge, e2) = bind_ok (guid_of guid) _ _ e1 in
+      let (a, ae, e3) = bind_ok (u64_of agent) _ _ e2 in
+      let (k, ke, e4) = bind_ok (u64_of controller) _ _ e3 in
+      same_numbers (call.CloseProtocol h g a k) c (cc) (u64_below handle h he, guid_fits guid g ge, u64_below agent a ae, u64_below controller k ke)
+  of_verb verb.Information (handle ∷ guid ∷ []) c e =
+      let (h, he, e1) = bind_ok (u64_of handle) _ _ e in
+      let (g, ge, e2) = bind_ok (guid_of guid) _ _ e1 in
+      same_numbers (call.OpenProtocolInformation h g) c (cc) (u64_below handle h he, guid_fits guid g ge)
+  of_verb verb.HandleProtocol (handle ∷ guid ∷ []) c e =
+      let (h, he, e1) = bind_ok (u64_of handle) _ _ e in
+      let (g, ge, e2) = bind_ok (guid_of guid) _ _ e1 in
+      same_numbers (call.HandleProtocol h g) c (cc) (u64_below handle h he, guid_fits guid g ge)
+  of_verb verb.Notify (guid ∷ event ∷ []) c e =
+      let (g, ge, e1) = bind_ok (guid_of guid) _ _ e in
+      let (v, ve, e2) = bind_ok (u64_of event) _ _ e1 in
+      same_numbers (call.RegisterProtocolNotify g v) c (cc) (guid_fits guid g ge, u64_below event v ve)
+  of_verb verb.Locate (search ∷ guid ∷ key ∷ size ∷ []) c e =
+      let (s, se, e1) = bind_ok (u32_of search) _ _ e in
+      let (g, ge, e2) = bind_ok (guid_of guid) _ _ e1 in
+      let (k, ke, e3) = bind_ok (u64_of key) _ _ e2 in
+      let (n, ne, e4) = bind_ok (u64_of size) _ _ e3 in
+      same_numbers (call.LocateHandle s g k n) c (cc) (u32_below search s se, guid_fits guid g ge, u64_below key k ke, u64_below size n ne)
+  of_verb verb.LocateBuffer (search ∷ guid ∷ key ∷ []) c e =
+      let (s, se, e1) = bind_ok (u32_of search) _ _ e in
+      let (g, ge, e2) = bind_ok (guid_of guid) _ _ e1 in
+      let (k, ke, e3) = bind_ok (u64_of key) _ _ e2 in
+      same_numbers (call.LocateHandleBuffer s g k) c (cc) (u32_below search s se, guid_fits guid g ge, u64_below key k ke)
+  of_verb verb.LocateProtocol (guid ∷ key ∷ []) c e =
+      let (g, ge, e1) = bind_ok (guid_of guid) _ _ e in
+      let (k, ke, e2) = bind_ok (u64_of key) _ _ e1 in
+      same_numbers (call.LocateProtocol g k) c (cc) (guid_fits guid g ge, u64_below key k ke)
+  of_verb verb.Protocols (handle ∷ []) c e =
+      let (h, he, e1) = bind_ok (u64_of handle) _ _ e in
+      same_numbers (call.ProtocolsPerHandle h) c (cc) (u64_below handle h he)
+  of_verb verb.Path (guid ∷ address ∷ []) c e =
+      let (g, ge, e1) = bind_ok (guid_of guid) _ _ e in
+      let (a, ae, e2) = bind_ok (u64_of address) _ _ e1 in
+      same_numbers (call.LocateDevicePath g a) c (cc) (guid_fits guid g ge, u64_below address a ae)
   of_verb verb.Exit (key ∷ []) c e =
-      let (k, ke, e1) = bind_ok (u64_of key) (λ k. asks (call.ExitBootServices k)) _ e in
+      let (k, ke, e1) = bind_ok (u64_of key) _ _ e in
       same_numbers (call.ExitBootServices k) c (cc) (u64_below key k ke)
   of_verb verb.List [] c e = absurd (cc)
   of_verb verb.List (word ∷ words) c e = absurd (cc)

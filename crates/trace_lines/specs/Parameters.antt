@@ -4,6 +4,7 @@ use Rattle.std.specs.Str.{bytes_eq}
 use Rattle.hex.specs.Hex.{decode_of}
 use Rattle.hex.specs.declared.error.FromHexError.{FromHexError}
 use Rattle.hex.specs.declared.error.FromHexError.TheVariants as hex
+use Rattle.uuid.specs.Text.{parsed}
 use Rattle.text_lines.specs.FirstFault.{◌>>=◌, or_fault}
 use Rattle.text_lines.specs.Numbers.{number_of}
 use Rattle.trace_lines.specs.declared.faults.TraceFault.{TraceFault}
@@ -43,3 +44,18 @@ or_hex (Err error) = Err fault.Hex
 abbrev pub bytes_of : List ℕ → Result (List ℕ) TraceFault
 bytes_of [] = Err fault.Hex
 bytes_of (b ∷ bytes) = if bytes_eq (b ∷ bytes) (codes "-") then Ok [] else or_hex (decode_of (b ∷ bytes))
+
+-- ---- GUIDs
+
+-- a GUID, of any form that `uuid` parses
+unfoldable pub guid_of : List ℕ → Result (List ℕ) TraceFault
+guid_of word = or_fault fault.Guid (parsed word)
+
+-- the pairs of a GUID and a value, from left to right; a word that is left over belongs to none
+abbrev pub pairs_of : List (List ℕ) → Result (List (List ℕ × ℕ)) TraceFault
+pairs_of (guid ∷ value ∷ words) = do
+  g ← guid_of guid
+  v ← u64_of value
+  pairs ← pairs_of words
+  Ok ((g, v) ∷ pairs)
+pairs_of words = Ok []

@@ -1,13 +1,13 @@
 -- What a trace line asks for.
-use Rattle.std.specs.Prelude.{ℕ, nat_lt, nat_eq, List, [], ◌∷◌, length, codes, Option, Some, None, Result, Ok, Err, if◌then◌else◌}
+use Rattle.std.specs.Prelude.{ℕ, ◌%◌, ◌==◌, nat_lt, nat_eq, List, [], ◌∷◌, length, codes, Option, Some, None, Result, Ok, Err, if◌then◌else◌}
 use Rattle.std.specs.List.{starts_with}
 use Rattle.std.specs.Io.BufRead.{strip_last}
-use Rattle.boot_core.specs.declared.calls.Call.TheVariants.{AllocatePages, FreePages, GetMemoryMap, AllocatePool, FreePool, PoolRead, PoolWrite, ExitBootServices}
+use Rattle.boot_core.specs.declared.calls.Call.TheVariants.{AllocatePages, FreePages, GetMemoryMap, AllocatePool, FreePool, PoolRead, PoolWrite, InstallProtocolInterface, InstallMultipleProtocolInterfaces, OpenProtocol, CloseProtocol, OpenProtocolInformation, HandleProtocol, RegisterProtocolNotify, LocateHandle, LocateHandleBuffer, LocateProtocol, ProtocolsPerHandle, LocateDevicePath, ExitBootServices}
 use Rattle.trace_lines.specs.declared.lines.TraceCall.{TraceCall}
 use Rattle.trace_lines.specs.declared.lines.TraceCall.TheVariants as trace_call
 use Rattle.trace_lines.specs.declared.faults.TraceFault.{TraceFault}
 use Rattle.trace_lines.specs.declared.faults.TraceFault.TheVariants as fault
-use Rattle.trace_lines.specs.Parameters.{u64_of, u32_of, u64_up_to, bytes_of}
+use Rattle.trace_lines.specs.Parameters.{u64_of, u32_of, u64_up_to, bytes_of, guid_of, pairs_of}
 use Rattle.trace_verbs.specs.declared.verbs.Verb.{Verb}
 use Rattle.trace_verbs.specs.declared.verbs.Verb.TheVariants as verb
 use Rattle.text_lines.specs.FirstFault.{◌>>=◌, or_fault}
@@ -55,6 +55,63 @@ call_of verb.Write (address ∷ bytes ∷ []) = do
   a ← u64_of address
   b ← bytes_of bytes
   Ok (trace_call.Service (PoolWrite a b))
+call_of verb.Install (handle ∷ guid ∷ kind ∷ value ∷ []) = do
+  h ← u64_of handle
+  g ← guid_of guid
+  k ← u32_of kind
+  v ← u64_of value
+  Ok (trace_call.Service (InstallProtocolInterface h g k v))
+call_of verb.InstallMany (handle ∷ guid ∷ value ∷ words) = if length words % 2 == 0 then (do
+  h ← u64_of handle
+  pairs ← pairs_of (guid ∷ value ∷ words)
+  Ok (trace_call.Service (InstallMultipleProtocolInterfaces h pairs))) else Err fault.Words
+call_of verb.Open (handle ∷ guid ∷ agent ∷ controller ∷ attributes ∷ []) = do
+  h ← u64_of handle
+  g ← guid_of guid
+  a ← u64_of agent
+  c ← u64_of controller
+  t ← u32_of attributes
+  Ok (trace_call.Service (OpenProtocol h g a c t))
+call_of verb.Close (handle ∷ guid ∷ agent ∷ controller ∷ []) = do
+  h ← u64_of handle
+  g ← guid_of guid
+  a ← u64_of agent
+  c ← u64_of controller
+  Ok (trace_call.Service (CloseProtocol h g a c))
+call_of verb.Information (handle ∷ guid ∷ []) = do
+  h ← u64_of handle
+  g ← guid_of guid
+  Ok (trace_call.Service (OpenProtocolInformation h g))
+call_of verb.HandleProtocol (handle ∷ guid ∷ []) = do
+  h ← u64_of handle
+  g ← guid_of guid
+  Ok (trace_call.Service (HandleProtocol h g))
+call_of verb.Notify (guid ∷ event ∷ []) = do
+  g ← guid_of guid
+  e ← u64_of event
+  Ok (trace_call.Service (RegisterProtocolNotify g e))
+call_of verb.Locate (search ∷ guid ∷ key ∷ size ∷ []) = do
+  s ← u32_of search
+  g ← guid_of guid
+  k ← u64_of key
+  n ← u64_of size
+  Ok (trace_call.Service (LocateHandle s g k n))
+call_of verb.LocateBuffer (search ∷ guid ∷ key ∷ []) = do
+  s ← u32_of search
+  g ← guid_of guid
+  k ← u64_of key
+  Ok (trace_call.Service (LocateHandleBuffer s g k))
+call_of verb.LocateProtocol (guid ∷ key ∷ []) = do
+  g ← guid_of guid
+  k ← u64_of key
+  Ok (trace_call.Service (LocateProtocol g k))
+call_of verb.Protocols (handle ∷ []) = do
+  h ← u64_of handle
+  Ok (trace_call.Service (ProtocolsPerHandle h))
+call_of verb.Path (guid ∷ address ∷ []) = do
+  g ← guid_of guid
+  a ← u64_of address
+  Ok (trace_call.Service (LocateDevicePath g a))
 call_of verb.Exit (key ∷ []) = do
   k ← u64_of key
   Ok (trace_call.Service (ExitBootServices k))

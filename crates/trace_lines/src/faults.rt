@@ -1,6 +1,6 @@
 //! What can be wrong with a trace line.
 use hex::FromHexError;
-use std::alloc::AllocError;
+use std::alloc::{AllocError, AllocFailed};
 use thiserror::Error;
 
 /// Why a trace line is refused, the first cause in this order.
@@ -29,6 +29,17 @@ impl From<AllocError> for TraceFault {
     ghost from_gives = { λ _ e. e ≡ OutOfMemory };
 
     fn from(_error: AllocError) -> TraceFault {
+        TraceFault::OutOfMemory
+    }
+}
+
+impl<T: Drop> From<AllocFailed<T>> for TraceFault {
+    ghost use Rattle.std.specs.Prelude.{◌≡◌};
+    ghost use Rattle.trace_lines.specs.declared.faults.TraceFault.TheVariants.{OutOfMemory};
+
+    ghost from_gives = { λ _ e. e ≡ OutOfMemory };
+
+    fn from(_error: AllocFailed<T>) -> TraceFault {
         TraceFault::OutOfMemory
     }
 }

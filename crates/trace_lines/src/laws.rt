@@ -8,8 +8,8 @@ pub fn named_types_law<A: Allocator>()
     ensures { NamedTypesLaw A }
 {}
 
-/// The numbers of a call that a line asks for are of the 32 or 64 bits that its service takes, and
-/// its bytes are bytes.
+/// The numbers of a call that a line asks for are of the 32 or 64 bits that its service takes, its
+/// bytes are bytes, and its GUIDs have 16 of them.
 pub fn call_numbers_law<A: Allocator>()
     ensures { CallNumbersLaw A }
 {}

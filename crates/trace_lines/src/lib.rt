@@ -5,6 +5,7 @@ mod faults;
 mod laws;
 mod lines;
 mod parameters;
+mod protocols;
 
 pub use faults::TraceFault;
 pub use laws::{call_numbers_law, named_types_law};

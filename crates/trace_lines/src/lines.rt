@@ -4,6 +4,7 @@ ghost use Rattle.trace_lines.specs.TraceLine.{call_of, call_of_words, line_of};
 
 use crate::faults::TraceFault;
 use crate::parameters::{read_bytes, read_u32, read_u64, read_u64_up_to};
+use crate::protocols;
 use boot_core::Call;
 use std::alloc::{Allocator, Global};
 use text_lines::{LONGEST_LINE, without_carriage_return, words_of};
@@ -70,6 +71,18 @@ fn read_verb<A: Allocator + Copy>(
         Verb::FreePool => read_free_pool(parameters),
         Verb::Read => read_pool_read(parameters),
         Verb::Write => read_pool_write(alloc, parameters),
+        Verb::Install => protocols::read_install(parameters),
+        Verb::InstallMany => protocols::read_install_many(alloc, parameters),
+        Verb::Open => protocols::read_open(parameters),
+        Verb::Close => protocols::read_close(parameters),
+        Verb::Information => protocols::read_information(parameters),
+        Verb::HandleProtocol => protocols::read_handle_protocol(parameters),
+        Verb::Notify => protocols::read_notify(parameters),
+        Verb::Locate => protocols::read_locate(parameters),
+        Verb::LocateBuffer => protocols::read_locate_buffer(parameters),
+        Verb::LocateProtocol => protocols::read_locate_protocol(parameters),
+        Verb::Protocols => protocols::read_protocols(parameters),
+        Verb::Path => protocols::read_path(parameters),
         Verb::Exit => read_exit(parameters),
         Verb::List => read_list(parameters),
     }

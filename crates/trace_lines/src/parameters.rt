@@ -1,11 +1,12 @@
 //! The parameters of a trace line.
-ghost use Rattle.std.specs.Prelude.{◌≡◌, ◌⊎◌, Err};
-ghost use Rattle.trace_lines.specs.Parameters.{bytes_of, u32_of, u64_of, u64_up_to};
+ghost use Rattle.std.specs.Prelude.{◌≡◌, ◌⊎◌, Err, map};
+ghost use Rattle.trace_lines.specs.Parameters.{bytes_of, guid_of, pairs_of, u32_of, u64_of, u64_up_to};
 
 use crate::faults::TraceFault;
-use boot_core::CallBytes;
+use boot_core::{CallBytes, CallPairs};
 use std::alloc::Allocator;
 use text_lines::number_of;
+use uuid::Uuid;
 
 /// A number of 64 bits.
 pub fn read_u64(word: &[u8]) -> Result<u64, TraceFault>
@@ -43,4 +44,27 @@ pub fn read_bytes<A: Allocator>(alloc: A, word: &[u8]) -> Result<CallBytes<A>, T
         [b'-'] => Ok(CallBytes::new(Vec::new(alloc))),
         digits => Ok(CallBytes::new(hex::decode(alloc, digits)?)),
     }
+}
+
+/// A GUID, of any form that `uuid` parses.
+pub fn read_guid(word: &[u8]) -> Result<Uuid, TraceFault>
+    ensures { result ≡ guid_of word.now }
+{
+    match Uuid::try_parse_ascii(word) {
+        Ok(guid) => Ok(guid),
+        Err(_) => Err(TraceFault::Guid),
+    }
+}
+
+/// Pairs of a GUID and a value, from left to right. A word that is left over belongs to none.
+pub fn read_pairs<A: Allocator>(alloc: A, words: &[&[u8]]) -> Result<CallPairs<A>, TraceFault>
+    ensures { (result ≡ Err TraceFault.OutOfMemory) ⊎ (result ≡ pairs_of (map (λ word. word.now) words.now)) }
+{
+    let mut pairs = Vec::with_capacity(alloc, words.len() / 2)?;
+    let mut rest = words;
+    while let [guid, value, others @ ..] = rest {
+        pairs.push((read_guid(guid)?, read_u64(value)?))?;
+        rest = others;
+    }
+    Ok(CallPairs::new(pairs))
 }

@@ -1,0 +1,9 @@
+use Rattle.std.proofs.Common.{rules}
+use Rattle.trace_lines.proofs.ParameterLists.{three}
+use Rattle.trace_lines.proofs.protocols.read_locate_buffer.Goals as goal
+
+pub returns-in_err-read_u32 : goal.returns-in_err-read_u32
+returns-in_err-read_u32 g c = rw (three c.args.parameters.now c.in-len3.len_at_least c.in-len3.len_below) (search rules)
+
+pub returns-in_err-read_guid : goal.returns-in_err-read_guid
+returns-in_err-read_guid g c = rw (three c.args.parameters.now c.in-len3.len_at_least c.in-len3.len_below) (search rules)

@@ -1,0 +1,15 @@
+use Rattle.std.proofs.Common.{rules}
+use Rattle.trace_lines.proofs.ParameterLists.{five}
+use Rattle.trace_lines.proofs.protocols.read_open.Goals as goal
+
+pub returns-in_err-read_u64 : goal.returns-in_err-read_u64
+returns-in_err-read_u64 g c = rw (five c.args.parameters.now c.in-len5.len_at_least c.in-len5.len_below) (search rules)
+
+pub returns-in_err-read_guid : goal.returns-in_err-read_guid
+returns-in_err-read_guid g c = rw (five c.args.parameters.now c.in-len5.len_at_least c.in-len5.len_below) (search rules)
+
+pub returns-in_err-read_u64-2 : goal.returns-in_err-read_u64-2
+returns-in_err-read_u64-2 g c = rw (five c.args.parameters.now c.in-len5.len_at_least c.in-len5.len_below) (search rules)
+
+pub returns-in_err-read_u64-3 : goal.returns-in_err-read_u64-3
+returns-in_err-read_u64-3 g c = rw (five c.args.parameters.now c.in-len5.len_at_least c.in-len5.len_below) (search rules)
