@@ -1,0 +1,39 @@
+//! The protocol services of a core, judged by plain lists.
+mod drawn_calls;
+mod handle_limits;
+mod plain_lists;
+
+use boot_core::{Call, Core, Machine, Reply};
+use page_ranges::{MemoryType, Owner, PageRange, Run};
+use std::process::Abort;
+use uuid::Uuid;
+
+/// A GUID whose bytes are all this one.
+pub fn guid(byte: u8) -> Uuid {
+    Uuid::from_bytes([byte; 16])
+}
+
+/// A core of a machine of 512 free pages.
+pub fn small_core(rt: &(impl AllocGlobal + Abort)) -> Core {
+    let mut runs = Vec::new(rt.alloc());
+    runs.push(Run {
+        range: PageRange {
+            first: 16,
+            pages: 512,
+        },
+        mtype: MemoryType::new(7),
+        attributes: 0xf,
+        owner: Owner::Given,
+    })
+    .expect(rt, "memory");
+    let machine = Machine::new(runs).expect(rt, "a machine");
+    Core::new(rt.alloc(), machine).expect(rt, "memory")
+}
+
+/// The reply to a call, if one may still be made.
+pub fn reply_to(rt: &impl Abort, core: &mut Core, call: &Call) -> Reply {
+    if core.calls_left() == 0 {
+        panic!(rt; "no calls left");
+    }
+    core.call(call)
+}
