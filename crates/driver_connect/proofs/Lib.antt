@@ -7,4 +7,5 @@ pub mod Levels
 pub mod StopSets
 pub mod Left
 pub mod Idle
+pub mod Makers
 pub mod Samples

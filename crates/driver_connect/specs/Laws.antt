@@ -1,10 +1,11 @@
 -- The laws of stopping and connecting. Each is the contract of a public function.
-use Rattle.std.specs.Prelude.{◌≡◌, ℕ, true, false, List, []}
-use Rattle.std.specs.List.{filter, list_any}
+use Rattle.std.specs.Prelude.{◌≡◌, ℕ, ◌==◌, ◌&&◌, ◌++◌, Bool, true, false, List, [], Option, Some, None}
+use Rattle.std.specs.List.{filter, list_any, AllByRecursion}
+use Rattle.guid_handles.specs.declared.records.LiveHandle.{LiveHandle}
 use Rattle.guid_handles.specs.HandleTables.{HandleTable, has_number, is_on}
 use Rattle.guid_handles.specs.HandleChanges.{IsHandleTable}
 use Rattle.open_agents.specs.declared.items.OpenRecord.{OpenRecord}
-use Rattle.open_agents.specs.OpenItems.{names}
+use Rattle.open_agents.specs.OpenItems.{is_of_pair, names}
 use Rattle.driver_connect.specs.Stopping.{has_pair, managers_of_made, rounds, stop_set, is_one_of, without_handles, without_opens}
 use Rattle.driver_connect.specs.Starting.{Site, Progress, starts_on, is_any_carried_out}
 use Rattle.driver_connect.specs.Connecting.{connected}
@@ -50,3 +51,21 @@ StaysLaw =
 abbrev pub NothingCarriedOutLaw : Type 0
 NothingCarriedOutLaw =
     (levels : ℕ) (c : Site) (named : List ℕ) (p : Progress) → IsHandleTable p.handles → is_any_carried_out (starts_on c named p).starts ≡ false → connected levels c named p ≡ p
+
+-- an item of BY_DRIVER of a handle's maker
+abbrev pub is_of_maker : Option (ℕ × ℕ) → OpenRecord → Bool
+is_of_maker None o = false
+is_of_maker (Some m) o = is_of_pair m.0 m.1 o && (o.attributes == 0x10)
+
+abbrev pub has_makers_item : List OpenRecord → LiveHandle → Bool
+has_makers_item opens h = list_any (is_of_maker h.maker) opens
+
+-- All handles stay, in their order, and with each that was made there is an item of its maker.
+pub record MakesHandles (old new : Progress) : Type 0 where
+  pub made : List LiveHandle
+  pub handles : new.handles.handles ≡ old.handles.handles ++ made
+  pub items : AllByRecursion (λ h. has_makers_item new.opens h ≡ true) made
+
+-- A connect takes out no handle, and has its maker's item beside each that it makes.
+abbrev pub MakersItemLaw : Type 0
+MakersItemLaw = (levels : ℕ) (c : Site) (named : List ℕ) (p : Progress) → IsHandleTable p.handles → MakesHandles p (connected levels c named p)

@@ -1,5 +1,5 @@
 //! The laws of stopping and connecting, each the contract of a function that does nothing.
-ghost use Rattle.driver_connect.specs.Laws.{GoneLaw, NothingCarriedOutLaw, RoundsLaw, StaysLaw, StopSetLaw};
+ghost use Rattle.driver_connect.specs.Laws.{GoneLaw, MakersItemLaw, NothingCarriedOutLaw, RoundsLaw, StaysLaw, StopSetLaw};
 
 /// The stop set of some pairs holds them and the managers of all handles that its pairs made, and it
 /// is the least set that does.
@@ -25,4 +25,10 @@ pub fn stays_law()
 /// A connect that carries out no start on its handle changes nothing.
 pub fn nothing_carried_out_law()
     ensures { NothingCarriedOutLaw }
+{}
+
+/// A connect takes out no handle, and beside each that it makes stands the item by which the driver
+/// that made it has the controller open.
+pub fn makers_item_law()
+    ensures { MakersItemLaw }
 {}
