@@ -1,4 +1,5 @@
 //! Drivers on handles, by values worked out by hand.
+mod crowds;
 mod probes;
 mod tables;
 
