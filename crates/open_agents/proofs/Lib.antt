@@ -1,1 +1,3 @@
 pub mod Loops
+pub mod HandleRanges
+pub mod Asked

@@ -1,2 +1,3 @@
 pub mod OpenItems
 pub mod OpenRule
+pub mod HandleLists

@@ -2,8 +2,10 @@
 #![tactic(auto)]
 
 mod attributes;
+mod by_handle;
 mod items;
 mod opens;
+mod questions;
 
 pub use attributes::{
     BY_CHILD_CONTROLLER, BY_DRIVER, BY_HANDLE_PROTOCOL, EXCLUSIVE, GET_PROTOCOL, TEST_PROTOCOL,

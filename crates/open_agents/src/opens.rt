@@ -1,17 +1,20 @@
 //! The open items of all interfaces.
 ghost use Rattle.std.specs.Prelude.{◌≡◌, true, not, [], map, IfOk, IsOk, OnOk, OnErr};
-ghost use Rattle.std.specs.List.{list_any};
+ghost use Rattle.std.specs.List.{filter, list_any};
 ghost use Rattle.guid_handles.specs.HandleChanges.{is_dead as dead};
 ghost use Rattle.open_agents.specs.OpenItems as spec;
 ghost use Rattle.open_agents.specs.OpenItems.{is_closed_by, names, items_on, managers_of, with_item, CanCount, without_items};
 ghost use Rattle.open_agents.specs.OpenRule as rule;
+ghost use Rattle.open_agents.specs.HandleLists.{is_on};
 
 use crate::attributes::{
     BY_CHILD_CONTROLLER, BY_DRIVER, EXCLUSIVE, is_exclusive, is_for_driver, is_known, needs_agent,
     needs_controller,
 };
-use crate::items::{
-    Decision, OpenItem, OpenRecord, counted, is_equal_item, is_of_pair, is_open_on, item_of,
+use crate::by_handle::{items_at, push_item};
+use crate::items::{Decision, OpenItem, OpenRecord, counted, is_of_pair, is_open_on, item_of};
+use crate::questions::{
+    first_driver_item, has_closed, has_equal, has_exclusive, has_of_agent, is_held,
 };
 use guid_handles::Handles;
 use page_ranges::Status;
@@ -19,19 +22,25 @@ use std::alloc::{AllocError, Allocator, Global};
 use std::marker::Model;
 use uuid::Uuid;
 
-/// The open items, in the order in which they were made.
+/// The open items.
 #[derive(Drop)]
 pub struct Opens<A: Allocator = Global> {
+    // In the order in which they were made.
     items: Vec<OpenRecord, A>,
+    // The same by handle, those of a handle in the order in which they were made.
+    sorted: Vec<OpenRecord, A>,
 }
 
 impl<A: Allocator> Model for Opens<A> {
     ghost use Rattle.std.specs.Prelude.{List};
     ghost use Rattle.open_agents.specs.declared.items.OpenRecord.{OpenRecord};
+    ghost use Rattle.open_agents.specs.HandleLists.{AreByHandle};
 
     ghost Value = { List OpenRecord };
 
     ghost view = { λ o. o.items.items };
+
+    ghost invariant = { λ o. AreByHandle o.items.items o.sorted.items };
 }
 
 impl<A: Allocator + Copy> Opens<A> {
@@ -41,6 +50,7 @@ impl<A: Allocator + Copy> Opens<A> {
     {
         Opens {
             items: Vec::new(alloc),
+            sorted: Vec::new(alloc),
         }
     }
 
@@ -48,8 +58,10 @@ impl<A: Allocator + Copy> Opens<A> {
     pub fn try_copy(&self) -> Result<Opens<A>, AllocError>
         ensures { IfOk result (λ copy. copy ≡ self.now) }
     {
-        let items = Vec::from_slice(*self.items.allocator(), self.items.as_slice())?;
-        Ok(Opens { items })
+        let alloc = *self.items.allocator();
+        let items = Vec::from_slice(alloc, self.items.as_slice())?;
+        let sorted = Vec::from_slice(alloc, self.sorted.as_slice())?;
+        Ok(Opens { items, sorted })
     }
 
     /// All items, in the order in which they were made.
@@ -59,51 +71,18 @@ impl<A: Allocator + Copy> Opens<A> {
         self.items.as_slice()
     }
 
-    /// Whether there is an item equal to what a call asks for.
-    fn has_equal(
-        &self,
-        handle: u64,
-        guid: Uuid,
-        agent: u64,
-        controller: u64,
-        attributes: u32,
-    ) -> bool
-        ensures { result ≡ rule.has_equal self.now handle guid agent controller attributes }
+    /// The items on a handle, in the order in which they were made.
+    fn on(&self, handle: u64) -> &[OpenRecord]
+        ensures { result.now ≡ filter (is_on handle) self.now }
     {
-        self.items.iter().any(|o| is_equal_item(o, handle, guid, agent, controller, attributes))
-    }
-
-    /// Whether an agent has an interface open with some attributes.
-    fn has_of_agent(&self, handle: u64, guid: Uuid, agent: u64, attributes: u32) -> bool
-        ensures { result ≡ rule.has_of_agent self.now handle guid agent attributes }
-    {
-        self.items.iter().any(|o| is_open_on(o, handle, guid)
-            && o.agent == agent
-            && o.attributes == attributes)
+        items_at(self.sorted.as_slice(), handle)
     }
 
     /// Whether an interface is open for a driver or exclusively.
     pub fn has_holder(&self, handle: u64, guid: Uuid) -> bool
         ensures { result ≡ rule.has_holder self.now handle guid }
     {
-        self.items.iter().any(|o| {
-            is_open_on(o, handle, guid)
-                && (is_for_driver(o.attributes) || is_exclusive(o.attributes))
-        })
-    }
-
-    /// Whether an interface is open exclusively.
-    fn has_exclusive(&self, handle: u64, guid: Uuid) -> bool
-        ensures { result ≡ rule.has_exclusive self.now handle guid }
-    {
-        self.items.iter().any(|o| is_open_on(o, handle, guid) && is_exclusive(o.attributes))
-    }
-
-    /// The first item for a driver on an interface that is not exclusive.
-    fn driver_item(&self, handle: u64, guid: Uuid) -> Option<OpenRecord>
-        ensures { result ≡ rule.driver_item self.now handle guid }
-    {
-        first_driver_item(self.items.as_slice(), handle, guid)
+        is_held(self.on(handle), handle, guid)
     }
 
     /// What is to be done about a call of OpenProtocol. This takes no memory.
@@ -118,37 +97,15 @@ impl<A: Allocator + Copy> Opens<A> {
     ) -> Decision
         ensures { result ≡ rule.open_rule handles.now self.now handle guid agent controller attributes }
     {
-        if !is_known(attributes) || names_badly(handles, handle, agent, controller, attributes) {
-            return Decision::Refuse(Status::InvalidParameter);
-        }
-        if handles.interface(handle, guid).is_none() {
-            return Decision::Refuse(Status::Unsupported);
-        }
-        if self.has_equal(handle, guid, agent, controller, attributes) {
-            return if is_for_driver(attributes) {
-                Decision::Refuse(Status::AlreadyStarted)
-            } else if attributes == EXCLUSIVE {
-                Decision::Refuse(Status::AccessDenied)
-            } else {
-                Decision::Count
-            };
-        }
-        if is_for_driver(attributes) && self.has_of_agent(handle, guid, agent, attributes) {
-            return Decision::Refuse(Status::AlreadyStarted);
-        }
-        if attributes == BY_DRIVER && self.has_holder(handle, guid) {
-            return Decision::Refuse(Status::AccessDenied);
-        }
-        if !is_exclusive(attributes) {
-            return Decision::Add;
-        }
-        if self.has_exclusive(handle, guid) {
-            return Decision::Refuse(Status::AccessDenied);
-        }
-        match self.driver_item(handle, guid) {
-            Some(item) => Decision::StopFirst((item.controller, item.agent)),
-            None => Decision::Add,
-        }
+        decide_among(
+            handles,
+            self.on(handle),
+            handle,
+            guid,
+            agent,
+            controller,
+            attributes,
+        )
     }
 
     /// Closes all items of an agent and a controller on an interface, and answers whether there
@@ -157,10 +114,12 @@ impl<A: Allocator + Copy> Opens<A> {
         ensures found { result ≡ list_any (is_closed_by handle guid agent controller) self.old }
         ensures items { self.new ≡ without_items (is_closed_by handle guid agent controller) self.old }
     {
-        let found = self.items.iter().any(|o| is_open_on(o, handle, guid)
-            && is_of_pair(o, controller, agent));
+        if !has_closed(self.on(handle), handle, guid, agent, controller) {
+            return false;
+        }
         drop_closed(&mut self.items, handle, guid, agent, controller);
-        found
+        drop_closed(&mut self.sorted, handle, guid, agent, controller);
+        true
     }
 
     /// Takes out all items of a controller and an agent.
@@ -168,6 +127,7 @@ impl<A: Allocator + Copy> Opens<A> {
         ensures { self.new ≡ without_items (spec.is_of_pair controller agent) self.old }
     {
         drop_of_pair(&mut self.items, controller, agent);
+        drop_of_pair(&mut self.sorted, controller, agent);
     }
 
     /// Takes out all items that name a handle, as their handle, agent or controller.
@@ -175,6 +135,7 @@ impl<A: Allocator + Copy> Opens<A> {
         ensures { self.new ≡ without_items (names handle) self.old }
     {
         drop_naming(&mut self.items, handle);
+        drop_naming(&mut self.sorted, handle);
     }
 
     /// Counts an equal item once more, or makes a new one where there is none and the agent is not
@@ -193,19 +154,28 @@ impl<A: Allocator + Copy> Opens<A> {
         ensures counts { rule.has_equal self.old handle guid agent controller attributes ≡ true → IsOk result }
         ensures no_agent { agent ≡ 0 → IsOk result }
     {
-        if self.has_equal(handle, guid, agent, controller, attributes) {
+        if has_equal(self.on(handle), handle, guid, agent, controller, attributes) {
             count_equal(&mut self.items, handle, guid, agent, controller, attributes);
+            count_equal(
+                &mut self.sorted,
+                handle,
+                guid,
+                agent,
+                controller,
+                attributes,
+            );
             return Ok(());
         }
         if agent != 0 {
-            self.items.push(OpenRecord {
+            let item = OpenRecord {
                 handle,
                 guid,
                 agent,
                 controller,
                 attributes,
                 count: 1,
-            })?;
+            };
+            push_item(&mut self.items, &mut self.sorted, &item)?;
         }
         Ok(())
     }
@@ -216,7 +186,7 @@ impl<A: Allocator + Copy> Opens<A> {
         ensures items { IfOk result (λ v. v.items ≡ items_on self.now handle guid) }
         ensures none { items_on self.now handle guid ≡ [] → IsOk result }
     {
-        items_among(*self.items.allocator(), self.items.as_slice(), handle, guid)
+        items_among(*self.items.allocator(), self.on(handle), handle, guid)
     }
 
     /// The pairs of controller and agent that manage a handle: one for each item for a driver with
@@ -227,6 +197,51 @@ impl<A: Allocator + Copy> Opens<A> {
         ensures none { managers_of self.now handle ≡ [] → IsOk result }
     {
         managers_among(*self.items.allocator(), self.items.as_slice(), handle)
+    }
+}
+
+/// What is to be done about a call of OpenProtocol, by the items on its handle.
+fn decide_among<A: Allocator + Copy>(
+    handles: &Handles<A>,
+    on: &[OpenRecord],
+    handle: u64,
+    guid: Uuid,
+    agent: u64,
+    controller: u64,
+    attributes: u32,
+) -> Decision
+    ensures { result ≡ rule.open_rule handles.now on.now handle guid agent controller attributes }
+{
+    if !is_known(attributes) || names_badly(handles, handle, agent, controller, attributes) {
+        return Decision::Refuse(Status::InvalidParameter);
+    }
+    if handles.interface(handle, guid).is_none() {
+        return Decision::Refuse(Status::Unsupported);
+    }
+    if has_equal(on, handle, guid, agent, controller, attributes) {
+        return if is_for_driver(attributes) {
+            Decision::Refuse(Status::AlreadyStarted)
+        } else if attributes == EXCLUSIVE {
+            Decision::Refuse(Status::AccessDenied)
+        } else {
+            Decision::Count
+        };
+    }
+    if is_for_driver(attributes) && has_of_agent(on, handle, guid, agent, attributes) {
+        return Decision::Refuse(Status::AlreadyStarted);
+    }
+    if attributes == BY_DRIVER && is_held(on, handle, guid) {
+        return Decision::Refuse(Status::AccessDenied);
+    }
+    if !is_exclusive(attributes) {
+        return Decision::Add;
+    }
+    if has_exclusive(on, handle, guid) {
+        return Decision::Refuse(Status::AccessDenied);
+    }
+    match first_driver_item(on, handle, guid) {
+        Some(item) => Decision::StopFirst((item.controller, item.agent)),
+        None => Decision::Add,
     }
 }
 
@@ -254,25 +269,6 @@ fn is_dead<A: Allocator + Copy>(handles: &Handles<A>, handle: u64) -> bool
     ensures { result ≡ dead handles.now handle }
 {
     handle != 0 && !handles.is_live(handle)
-}
-
-/// Whether an item is for a driver and not exclusive, on the interface of a GUID on a handle.
-fn is_driver_item(o: &OpenRecord, handle: u64, guid: Uuid) -> bool
-    ensures { result ≡ rule.is_driver_item handle guid o.now }
-{
-    is_open_on(o, handle, guid) && o.attributes == BY_DRIVER
-}
-
-/// The first item for a driver on an interface that is not exclusive, among some items.
-fn first_driver_item(items: &[OpenRecord], handle: u64, guid: Uuid) -> Option<OpenRecord>
-    ensures { result ≡ rule.driver_item items.now handle guid }
-{
-    for o in items {
-        if is_driver_item(o, handle, guid) {
-            return Some(*o);
-        }
-    }
-    None
 }
 
 /// Takes out the items of a pair on an interface.
