@@ -78,24 +78,19 @@ pub(crate) fn item_of(o: &OpenRecord) -> OpenItem
     }
 }
 
-/// An item, counted once more if it is equal to what a call asks for.
-pub(crate) fn counted(
-    o: OpenRecord,
+/// Counts an item once more if it is equal to what a call asks for.
+pub(crate) fn count_if_equal(
+    o: &mut OpenRecord,
     handle: u64,
     guid: Uuid,
     agent: u64,
     controller: u64,
     attributes: u32,
-) -> OpenRecord
-    requires { spec.is_equal_item handle guid agent controller attributes o ≡ true → o.count < 2 ^ 32 - 1 }
-    ensures { result ≡ spec.counted (spec.is_equal_item handle guid agent controller attributes) o }
+)
+    requires { spec.is_equal_item handle guid agent controller attributes o.old ≡ true → o.old.count < 2 ^ 32 - 1 }
+    ensures { o.new ≡ spec.counted (spec.is_equal_item handle guid agent controller attributes) o.old }
 {
-    if is_equal_item(&o, handle, guid, agent, controller, attributes) {
-        OpenRecord {
-            count: o.count + 1,
-            ..o
-        }
-    } else {
-        o
+    if is_equal_item(o, handle, guid, agent, controller, attributes) {
+        o.count += 1;
     }
 }

@@ -12,7 +12,9 @@ use crate::attributes::{
     needs_controller,
 };
 use crate::by_handle::{items_at, push_item};
-use crate::items::{Decision, OpenItem, OpenRecord, counted, is_of_pair, is_open_on, item_of};
+use crate::items::{
+    Decision, OpenItem, OpenRecord, count_if_equal, is_of_pair, is_open_on, item_of,
+};
 use crate::questions::{
     first_driver_item, has_closed, has_equal, has_exclusive, has_of_agent, is_held,
 };
@@ -323,7 +325,7 @@ fn count_equal<A: Allocator>(
     ensures { items.new.items ≡ map (spec.counted (spec.is_equal_item handle guid agent controller attributes)) items.old.items }
 {
     for o in items.iter_mut() {
-        *o = counted(*o, handle, guid, agent, controller, attributes);
+        count_if_equal(o, handle, guid, agent, controller, attributes);
     }
 }
 

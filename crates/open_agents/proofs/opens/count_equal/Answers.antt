@@ -10,10 +10,10 @@ loop-o-preserved g c =
     let e = rw c.loop-o.invariant at c.o-item.is in
     let n = rw c.deref_mut-o-items.ensures.value at c.loop-o-test.true in
     let s = changed_so_far f c.args.items.now.items c.loop-o.o-index c.o-item.result n e in
-    rw (add-one, c.counted.ensures, ← c.o-item.is, c.loop-o.invariant) s
+    rw (add-one, c.count_if_equal.ensures, ← c.o-item.is, c.loop-o.invariant) s
 
-pub counted-requires : goal.counted-requires
-counted-requires g c =
+pub count_if_equal-requires : goal.count_if_equal-requires
+count_if_equal-requires g c =
     let f = counted (is_equal_item c.args.handle c.args.guid c.args.agent c.args.controller c.args.attributes) in
     let e = rw c.loop-o.invariant at c.o-item.is in
     let n = rw c.deref_mut-o-items.ensures.value at c.loop-o-test.true in
