@@ -4,10 +4,12 @@ use Rattle.std.specs.List.{filter, list_any, AllByRecursion}
 use Rattle.guid_handles.specs.declared.records.LiveHandle.{LiveHandle}
 use Rattle.guid_handles.specs.HandleTables.{HandleTable, has_number, is_on}
 use Rattle.guid_handles.specs.HandleChanges.{IsHandleTable}
+use Rattle.guid_handles.specs.Sorting.{Ascending}
 use Rattle.open_agents.specs.declared.items.OpenRecord.{OpenRecord}
 use Rattle.open_agents.specs.OpenItems.{is_of_pair, names}
+use Rattle.driver_connect.specs.declared.agents.Agent.{Agent}
 use Rattle.driver_connect.specs.Stopping.{has_pair, managers_of_made, rounds, stop_set, is_one_of, without_handles, without_opens}
-use Rattle.driver_connect.specs.Starting.{Site, Progress, starts_on, is_any_carried_out}
+use Rattle.driver_connect.specs.Starting.{IsNotLower, by_version, Site, Progress, starts_on, is_any_carried_out}
 use Rattle.driver_connect.specs.Connecting.{connected}
 
 -- ---- the stop set
@@ -46,6 +48,13 @@ StaysLaw =
     × (filter (is_on n) (without_handles ns t).interfaces ≡ filter (is_on n) t.interfaces)
 
 -- ---- connecting
+
+-- Agents are put by version downwards, and those of each version keep their order.
+abbrev pub VersionsLaw : Type 0
+VersionsLaw =
+    (agents : List Agent) →
+    Ascending IsNotLower (by_version [] agents)
+    × ((v : ℕ) → filter (λ a. a.version == v) (by_version [] agents) ≡ filter (λ a. a.version == v) agents)
 
 -- Where no start on the handle is carried out, all stays as it was, however deep the connect goes.
 abbrev pub NothingCarriedOutLaw : Type 0

@@ -137,7 +137,7 @@ plan_for c p a = plan_at c.drivers a.driver (sight_at c p a)
 abbrev pub is_carried_out : Site → Progress → Agent → Bool
 is_carried_out c p a = can_start p.handles (protocols_on p.handles p.opens c.controller) (plan_for c p a)
 
--- A start carries out the driver's plan whole, or not at all.
+-- By a start either the driver's whole plan is carried out, or nothing.
 abbrev pub started : Site → Progress → Agent → Progress
 started c p a = cond (is_carried_out c p a) (carried_out c.registrations c.controller a.handle (plan_for c p a) p) p
 

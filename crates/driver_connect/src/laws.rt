@@ -1,5 +1,5 @@
 //! The laws of stopping and connecting, each the contract of a function that does nothing.
-ghost use Rattle.driver_connect.specs.Laws.{GoneLaw, MakersItemLaw, NothingCarriedOutLaw, RoundsLaw, StaysLaw, StopSetLaw};
+ghost use Rattle.driver_connect.specs.Laws.{GoneLaw, MakersItemLaw, NothingCarriedOutLaw, RoundsLaw, StaysLaw, StopSetLaw, VersionsLaw};
 
 /// The stop set of some pairs holds them and the managers of all handles that its pairs made, and it
 /// is the least set that does.
@@ -20,6 +20,11 @@ pub fn gone_law()
 /// Stopping takes out no handle outside the stop set, and no interface of such a handle.
 pub fn stays_law()
     ensures { StaysLaw }
+{}
+
+/// Drivers are tried by version downwards, and those of one version keep their order.
+pub fn versions_law()
+    ensures { VersionsLaw }
 {}
 
 /// A connect that carries out no start on its handle changes nothing.

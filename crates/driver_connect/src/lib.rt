@@ -19,6 +19,7 @@ pub use connecting::{MAX_NAMED, connect};
 pub use driver::Driver;
 pub use laws::{
     gone_law, makers_item_law, nothing_carried_out_law, rounds_law, stays_law, stop_set_law,
+    versions_law,
 };
 pub use stopping::{disconnect, stop};
 pub use table::TableDriver;
