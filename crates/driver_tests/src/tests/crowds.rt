@@ -1,10 +1,11 @@
 //! Many children, and many drivers.
 use super::{guid, opening, table};
 use arrayvec::ArrayVec;
-use driver_connect::{StartPlan, connect, driver_binding};
+use driver_connect::{Driver, StartPlan, connect, disconnect, driver_binding};
 use guid_handles::Handles;
 use open_agents::Opens;
 use protocol_notify::Notify;
+use std::test::Fail;
 use uuid::Uuid;
 
 /// A child with four interfaces, the first two of which are given.
@@ -79,4 +80,36 @@ fn all_handles_are_drivers(rt: HostRuntime) {
     );
     assert_eq!(rt; events.is_ok(), true);
     assert_eq!(rt; handles.all().len(), 4089);
+}
+
+#[test]
+fn boxed_drivers(rt: HostRuntime) -> Result<(), Fail> {
+    let alloc = rt.alloc();
+    let one = guid(1);
+    let mut handles = Handles::new(alloc);
+    let mut opens = Opens::new(alloc);
+    let notify = Notify::new(alloc);
+    assert_eq!(rt; handles.install(0, one, 0, 0), Ok(1));
+    assert_eq!(rt; handles.install(0, driver_binding(), 0, 0), Ok(2));
+    let mut drivers: Vec<Box<dyn Driver>> = Vec::new(alloc);
+    drivers.push(Box::new(alloc, table(1, one, opening(one)))?)?;
+    let boxes = drivers.as_slice();
+    let events = connect(
+        alloc,
+        &mut handles,
+        &mut opens,
+        &notify,
+        boxes,
+        1,
+        &[2],
+        true,
+    );
+    assert_eq!(rt; events.is_ok(), true);
+    assert_eq!(rt; opens.managers(1)?.as_slice(), [(1, 2)].as_slice());
+    assert_eq!(rt;
+        disconnect(alloc, &mut handles, &mut opens, boxes, 1, 0),
+        Ok(())
+    );
+    assert_eq!(rt; opens.managers(1)?.len(), 0);
+    Ok(())
 }
