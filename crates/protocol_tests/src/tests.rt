@@ -1,7 +1,5 @@
-//! The protocol services of a core, judged by plain lists.
-mod drawn_calls;
+//! The protocol services of a core.
 mod handle_limits;
-mod plain_lists;
 
 use boot_core::{Call, Core, Machine, Reply};
 use page_ranges::{MemoryType, Owner, PageRange, Run};
