@@ -1,6 +1,8 @@
 //! Handles and what goes with them, by values worked out by hand.
 mod handles;
+mod open_pairs;
 mod opens;
+mod orders;
 mod registrations;
 
 use uuid::Uuid;

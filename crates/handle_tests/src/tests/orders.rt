@@ -1,0 +1,145 @@
+//! Which handles carry a GUID, and which interface is next, after each change; worked out by hand.
+use super::guid;
+use guid_handles::Handles;
+use std::process::Abort;
+
+/// What happens to the interface of a GUID on a handle.
+#[derive(Clone, Copy)]
+enum Change {
+    Install(u64),
+    Remove(u64),
+    Replace(u64),
+}
+
+/// A change, the handles that carry the GUID then, and for marks the handle and the stamp of the
+/// interface that is next.
+struct Row {
+    change: Change,
+    carriers: &'static [u64],
+    next: &'static [(u64, Option<(u64, u64)>)],
+}
+
+/// Two handles that go on to live, as they carry another GUID with stamps 1 and 2.
+const ROWS: [Row; 12] = [
+    Row {
+        change: Change::Install(1),
+        carriers: &[1],
+        next: &[(0, Some((1, 3))), (2, Some((1, 3))), (3, None)],
+    },
+    Row {
+        change: Change::Install(2),
+        carriers: &[1, 2],
+        next: &[(0, Some((1, 3))), (3, Some((2, 4))), (4, None)],
+    },
+    Row {
+        change: Change::Remove(1),
+        carriers: &[2],
+        next: &[(0, Some((2, 4))), (3, Some((2, 4))), (4, None)],
+    },
+    Row {
+        change: Change::Install(1),
+        carriers: &[1, 2],
+        next: &[(0, Some((2, 4))), (4, Some((1, 5))), (5, None)],
+    },
+    Row {
+        change: Change::Remove(2),
+        carriers: &[1],
+        next: &[(0, Some((1, 5))), (4, Some((1, 5))), (5, None)],
+    },
+    Row {
+        change: Change::Remove(1),
+        carriers: &[],
+        next: &[(0, None), (4, None)],
+    },
+    Row {
+        change: Change::Install(2),
+        carriers: &[2],
+        next: &[(0, Some((2, 6))), (5, Some((2, 6))), (6, None)],
+    },
+    Row {
+        change: Change::Install(1),
+        carriers: &[1, 2],
+        next: &[(0, Some((2, 6))), (6, Some((1, 7))), (7, None)],
+    },
+    Row {
+        change: Change::Replace(2),
+        carriers: &[1, 2],
+        next: &[
+            (0, Some((1, 7))),
+            (6, Some((1, 7))),
+            (7, Some((2, 8))),
+            (8, None),
+        ],
+    },
+    Row {
+        change: Change::Replace(2),
+        carriers: &[1, 2],
+        next: &[
+            (0, Some((1, 7))),
+            (7, Some((2, 9))),
+            (8, Some((2, 9))),
+            (9, None),
+        ],
+    },
+    Row {
+        change: Change::Replace(1),
+        carriers: &[1, 2],
+        next: &[
+            (0, Some((2, 9))),
+            (7, Some((2, 9))),
+            (9, Some((1, 10))),
+            (10, None),
+        ],
+    },
+    Row {
+        change: Change::Remove(1),
+        carriers: &[2],
+        next: &[(0, Some((2, 9))), (9, None)],
+    },
+];
+
+/// Installs an interface, which gets the next stamp.
+fn install(rt: &impl Abort, handles: &mut Handles, handle: u64, byte: u8) {
+    if handles.last_number() >= 100 || handles.last_stamp() >= 100 {
+        panic!(rt; "many changes");
+    }
+    assert!(rt; handles.install(handle, guid(byte), 0, 0).is_ok());
+}
+
+fn remove(rt: &impl Abort, handles: &mut Handles, handle: u64) {
+    if handles.interface(handle, guid(1)).is_none() {
+        panic!(rt; "no interface");
+    }
+    handles.remove(handle, guid(1));
+}
+
+fn replace(rt: &impl Abort, handles: &mut Handles, handle: u64) {
+    if handles.interface(handle, guid(1)).is_none() || handles.last_stamp() >= 100 {
+        panic!(rt; "no interface");
+    }
+    handles.replace(handle, guid(1), 7);
+    assert_eq!(rt; handles.interface(handle, guid(1)), Some(7));
+}
+
+fn assert_row(rt: &impl Abort, handles: &mut Handles, row: &Row) {
+    match row.change {
+        Change::Install(handle) => install(rt, handles, handle, 1),
+        Change::Remove(handle) => remove(rt, handles, handle),
+        Change::Replace(handle) => replace(rt, handles, handle),
+    }
+    assert_eq!(rt; handles.by_protocol(guid(1)), row.carriers);
+    for (mark, next) in row.next {
+        assert_eq!(rt; handles.after_stamp(guid(1), *mark), *next, "{mark}");
+    }
+    assert_eq!(rt; handles.by_protocol(guid(2)), [1, 2].as_slice());
+}
+
+#[test]
+fn orders(rt: HostRuntime) {
+    let mut handles = Handles::new(rt.alloc());
+    install(&rt, &mut handles, 0, 2);
+    install(&rt, &mut handles, 0, 2);
+    for row in &ROWS {
+        assert_row(&rt, &mut handles, row);
+    }
+}
