@@ -88,7 +88,7 @@ first_holder t guid n ns e =
 pub live_is : (t : HandleTable) (n : ℕ) → is_live t n ≡ list_any (λ m. nat_eq m n) (numbers t)
 live_is t n = any_found (has_number n) t.handles ∙ sym (any_map (λ (l : LiveHandle). l.number) (λ m. nat_eq m n) t.handles)
 
-among_own : (ns : List ℕ) → AllByRecursion (λ n. list_any (λ m. nat_eq m n) ns ≡ true) ns
+pub among_own : (ns : List ℕ) → AllByRecursion (λ n. list_any (λ m. nat_eq m n) ns ≡ true) ns
 among_own [] = tt
 among_own (x ∷ xs) = (
   rw (eq-eqb x x refl) refl,

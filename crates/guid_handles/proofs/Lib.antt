@@ -3,3 +3,4 @@ pub mod GuidOrder
 pub mod Indexed
 pub mod Stored
 pub mod Found
+pub mod Grouped

@@ -1,13 +1,12 @@
 -- Lists in order: where a test stops passing, what is found there, and what insertions, filters and changes keep.
 use Rattle.std.proofs.Math.Seq.{drop-cons}
 use Rattle.std.proofs.Math.ListN.{set}
-use Rattle.std.proofs.Common.{append_assoc, add-one, ◌≡◌, ◌⊎◌, ℕ, zero, suc, ◌+◌, ◌-◌, ◌<◌, ◌≤◌, ◌==◌, ◌||◌, nat_lt, subst, Bool, true, false, cond, List, [], ◌∷◌, ◌++◌, map, length, take, drop, get_or, Some, None, is_some, inl, inr, refl, sym, ap, ◌∙◌, arith}
-use Rattle.std.specs.List.{filter, find, list_any, AllByRecursion, slice_get, slice_range, insert}
+use Rattle.std.proofs.Common.{append_assoc, add-one, ◌≡◌, ◌⊎◌, ℕ, zero, suc, ◌+◌, ◌<◌, ◌≤◌, ◌==◌, ◌||◌, nat_lt, subst, Bool, true, false, cond, List, [], ◌∷◌, ◌++◌, map, length, take, drop, get_or, Some, None, is_some, inl, inr, refl, sym, ap, ◌∙◌, arith}
+use Rattle.std.specs.List.{filter, find, list_any, AllByRecursion, slice_get, insert}
 use Rattle.std.specs.List.Sorted.{IsPartitionedBy, IsPartitionPoint}
 use Rattle.std.specs.Option.{option_map}
 use Rattle.std.specs.declared.cmp.Ordering.{Ordering}
 use Rattle.std.specs.declared.cmp.Ordering.TheVariants.{Less, Equal, Greater}
-use Rattle.std.specs.Ordering.{is_lt, is_eq, is_le}
 use Rattle.std.proofs.lemmas.List.Elements.{filter_more}
 use Rattle.std.proofs.lemmas.Bool.{cases_Bool, ne_eqb, ltb-true, ltb-false, le-ltb}
 use Rattle.std.proofs.lemmas.Bool.Decides.{eqb_tells}
@@ -34,6 +33,10 @@ all_filter P p (x ∷ xs) h = elim (cases_Bool (p x)) [
 pub all_mapped : {X Y : Type 0} (P : Y → Type 0) (Q : X → Type 0) (f : X → Y) → ((x : X) → Q x → P (f x)) → (xs : List X) → AllByRecursion Q xs → AllByRecursion P (map f xs)
 all_mapped P Q f g [] h = tt
 all_mapped P Q f g (x ∷ xs) h = (g x h.0, all_mapped P Q f g xs h.1)
+
+pub all_under : {X Y : Type 0} (f : X → Y) (P : Y → Type 0) (xs : List X) → AllByRecursion P (map f xs) → AllByRecursion (λ x. P (f x)) xs
+all_under f P [] h = tt
+all_under f P (x ∷ xs) h = (h.0, all_under f P xs h.1)
 
 pub all_push : {X : Type 0} (P : X → Type 0) (xs : List X) (y : X) → AllByRecursion P xs → P y → AllByRecursion P (xs ++ y ∷ [])
 all_push P [] y h p = (p, tt)
@@ -80,6 +83,10 @@ place_le p (x ∷ xs) = elim (cases_Bool (p x)) [
   | inl e ↦ rw e (omega (arith, place_le p xs))
   | inr e ↦ rw e (omega arith)
 ]
+
+pub place_map : {X Y : Type 0} (f : X → Y) (p : Y → Bool) (xs : List X) → place p (map f xs) ≡ place (λ x. p (f x)) xs
+place_map f p [] = refl
+place_map f p (x ∷ xs) = ap (λ r. cond (p (f x)) (suc r) 0) (place_map f p xs)
 
 pub place_none : {X : Type 0} (p : X → Bool) (xs : List X) → AllByRecursion (λ y. p y ≡ false) xs → place p xs ≡ 0
 place_none p [] h = refl
@@ -181,6 +188,10 @@ ascending_insert R trans before (x ∷ xs) y a h = elim (cases_Bool (before x)) 
   | inr e ↦ rw e ((a.0.1 e, all_map (R x) (R y) (λ z r. trans y x z (a.0.1 e) r) xs h.0), h)
 ]
 
+pub map_same : {X Y : Type 0} (f : X → X) (g : X → Y) → ((x : X) → g (f x) ≡ g x) → (xs : List X) → map g (map f xs) ≡ map g xs
+map_same f g h [] = refl
+map_same f g h (x ∷ xs) = rw (h x) (ap (λ r. g x ∷ r) (map_same f g h xs))
+
 pub map_insert : {X Y : Type 0} (f : X → Y) (xs : List X) (i : ℕ) (y : X) → map f (insert xs i y) ≡ insert (map f xs) i (f y)
 map_insert f [] zero y = refl
 map_insert f [] (suc i) y = refl
@@ -227,33 +238,10 @@ pub any_none : {X : Type 0} (p : X → Bool) (xs : List X) → AllByRecursion (�
 any_none p [] h = refl
 any_none p (x ∷ xs) h = rw h.0 (any_none p xs h.1)
 
--- ---- a band of items that tie
-
--- behind an item that ties none comes before, and behind one that comes behind all do
-abbrev pub IsBanded : {X : Type 0} → (X → Ordering) → List X → Type 0
-IsBanded order [] = Unit {0}
-IsBanded order (x ∷ xs) = (order x ≡ Equal → AllByRecursion (λ y. is_lt (order y) ≡ false) xs) × (order x ≡ Greater → AllByRecursion (λ y. order y ≡ Greater) xs) × IsBanded order xs
-
 pub cases_Ordering : (o : Ordering) → (o ≡ Less) ⊎ ((o ≡ Equal) ⊎ (o ≡ Greater))
 cases_Ordering Less = inl refl
 cases_Ordering Equal = inr (inl refl)
 cases_Ordering Greater = inr (inr refl)
-
-pub band : {X : Type 0} (order : X → Ordering) (xs : List X) → IsBanded order xs
-    → filter (λ x. is_eq (order x)) xs ≡ slice_range xs (place (λ x. is_lt (order x)) xs) (place (λ x. is_le (order x)) xs)
-band order [] h = refl
-band order (x ∷ xs) h = elim (cases_Ordering (order x)) [
-  | inl e ↦
-      let n : suc (place (λ y. is_le (order y)) xs) - suc (place (λ y. is_lt (order y)) xs) ≡ place (λ y. is_le (order y)) xs - place (λ y. is_lt (order y)) xs = omega arith in
-      rw e (rw n (band order xs h.2))
-  | inr (inl e) ↦
-      let z = place_none (λ y. is_lt (order y)) xs (h.0 e) in
-      let n : suc (place (λ y. is_le (order y)) xs) - 0 ≡ suc (place (λ y. is_le (order y)) xs) = omega arith in
-      let m : place (λ y. is_le (order y)) xs - 0 ≡ place (λ y. is_le (order y)) xs = omega arith in
-      let r = rw m at (rw z at (band order xs h.2)) in
-      rw e (rw n (ap (λ l. x ∷ l) r))
-  | inr (inr e) ↦ rw e (filter_none (λ y. is_eq (order y)) xs (all_map (λ y. order y ≡ Greater) (λ y. is_eq (order y) ≡ false) (λ y g. rw g refl) xs (h.1 e)))
-]
 
 -- ---- ascending numbers among others
 
@@ -310,13 +298,14 @@ numbers_fall number n (x ∷ xs) a = (
   numbers_fall number n xs a.1,
 )
 
--- ---- loops over a list
+pub less_fall : (n : ℕ) (xs : List ℕ) → Ascending (λ a b. a < b) xs → Falls (λ x. nat_lt x n) xs
+less_fall n [] a = tt
+less_fall n (x ∷ xs) a = (
+  λ h. all_map (λ m. x < m) (λ m. nat_lt m n ≡ false) (λ m l. le-ltb m n (omega (arith, ltb-false x n h))) xs a.0,
+  less_fall n xs a.1,
+)
 
-pub moved_over : {X Y : Type 0} (f : X → Y) (done : List Y) (xs : List X) (k : ℕ) (x : X) (whole : List Y) → k < length xs → x ≡ get_or xs k x → done ++ map f (drop k xs) ≡ whole → (done ++ f x ∷ []) ++ map f (drop (k + 1) xs) ≡ whole
-moved_over f done xs k x whole l e h =
-    append_assoc done (f x ∷ []) (map f (drop (k + 1) xs))
-    ∙ ap (λ r. done ++ r) (rw add-one (rw e (sym (ap (map f) (drop-cons xs k x l)))))
-    ∙ h
+-- ---- loops over a list
 
 pub changed_so_far : {X : Type 0} (f : X → X) (xs : List X) (k : ℕ) (x : X) → k < length xs → x ≡ get_or (map f (take k xs) ++ drop k xs) k x
     → set (map f (take k xs) ++ drop k xs) k (f x) ≡ map f (take (suc k) xs) ++ drop (suc k) xs

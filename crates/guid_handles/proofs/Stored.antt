@@ -1,34 +1,34 @@
 -- What is asked of a handle table, by how it is kept; and what its changes keep.
 use Rattle.std.proofs.Common.{◌≡◌, ℕ, ◌+◌, ◌<◌, ◌≤◌, ◌==◌, nat_eq, not, Bool, true, false, List, [], ◌∷◌, ◌++◌, map, length, Option, Some, None, is_some, inl, inr, refl, sym, ap, ◌∙◌, arith, length-append}
-use Rattle.std.specs.List.{filter, find, list_any, AllByRecursion, slice_range}
-use Rattle.std.proofs.lemmas.List.{take-map, drop-map}
+use Rattle.std.specs.List.{filter, find, list_any, AllByRecursion}
 use Rattle.std.proofs.lemmas.Bool.{cases_Bool, ne_eqb, eq-eqb}
 use Rattle.guid_handles.specs.declared.records.Interface.{Interface}
 use Rattle.guid_handles.specs.declared.records.LiveHandle.{LiveHandle}
-use Rattle.guid_handles.specs.HandleTables.{HandleTable, numbers, is_on, is_of, is_at, is_live, has_number, carries, holders_of}
+use Rattle.guid_handles.specs.HandleTables.{HandleTable, numbers, is_on, is_at, is_live, has_number, carries, holders_of}
 use Rattle.guid_handles.specs.HandleChanges.{IsHandleTable, max_handles, is_taken, stamped, restamped, with_interfaces, with_handle, with_value, without_handle}
-use Rattle.guid_handles.specs.Indexes.{IsIndex, AreOn, AreAbsent}
+use Rattle.guid_handles.specs.Sorting.{Ascending}
+use Rattle.guid_handles.specs.Indexes.{Group, grouped_at, IsIndex, AreOn, AreAbsent}
 use Rattle.guid_handles.specs.Stores.{IsStore}
-use Rattle.guid_handles.proofs.SortedLists.{filter_same, all_of, all_map, all_mapped, all_push, all_append, all_filter, all_filtered, any_map, any_found, any_push, any_last, any_kept, any_member, filter_map_filter, filter_shorter, map_append, ascending_filter, ascending_push, find_none}
+use Rattle.guid_handles.proofs.SortedLists.{those_among, filter_same, all_of, all_map, all_mapped, all_push, all_append, all_filter, all_filtered, any_map, any_found, any_push, any_last, any_kept, any_member, filter_map_filter, filter_shorter, map_append, ascending_filter, ascending_push, find_none}
 use Rattle.guid_handles.proofs.Indexed.{restamped_handle}
-use Rattle.guid_handles.proofs.GuidOrder.{holders_are}
+use Rattle.guid_handles.proofs.Found.{among_own, carried_live, live_is}
 
--- the handles of a GUID, between two places
-pub by_guid : (t : HandleTable) (ns : List ℕ) (sorted : List Interface) (hs : List ℕ) → IsStore t ns sorted hs → (guid : List ℕ) (low high : ℕ)
-    → filter (is_of guid) sorted ≡ slice_range sorted low high → slice_range hs low high ≡ holders_of t guid
-by_guid t ns sorted hs s guid low high h =
-    rw (s.index.holders, drop-map, take-map)
-    (ap (map (λ i. i.handle)) (sym h)
-    ∙ holders_are guid sorted (numbers t) s.index.ascending s.table.ascending s.sorted_on_live
-    ∙ filter_same (λ n. is_some (find (is_at n guid) sorted)) (carries t guid) (numbers t)
-    (all_of (λ n. is_some (find (is_at n guid) sorted) ≡ carries t guid n) (λ n. ap is_some (s.index.same n guid)) (numbers t)))
+-- the handles of a GUID are those on which the groups have it
+pub by_guid : (t : HandleTable) (ns : List ℕ) (groups : List Group) → IsStore t ns groups → (guid hs : List ℕ) → Ascending (λ a b. a < b) hs
+    → ((n : ℕ) → list_any (λ h. h == n) hs ≡ is_some (grouped_at groups guid n)) → hs ≡ holders_of t guid
+by_guid t ns groups s guid hs ascending those =
+    let told : (n : ℕ) → list_any (λ h. h == n) hs ≡ carries t guid n = λ n. those n ∙ ap is_some (s.index n guid) in
+    sym (filter_same (carries t guid) (λ n. list_any (λ h. h == n) hs) (numbers t) (all_of (λ n. carries t guid n ≡ list_any (λ h. h == n) hs) (λ n. sym (told n)) (numbers t))
+    ∙ those_among (numbers t) hs s.table.ascending ascending
+    (all_map (λ h. list_any (λ k. nat_eq k h) hs ≡ true) (λ h. list_any (λ n. nat_eq n h) (numbers t) ≡ true)
+    (λ h m. sym (live_is t h) ∙ carried_live t s.table guid h (sym (told h) ∙ m)) hs (among_own hs)))
 
 -- ---- fewer
 
-pub store_without_interface : (t : HandleTable) (ns : List ℕ) (sorted : List Interface) (hs ks : List ℕ) (n : ℕ) (guid : List ℕ) → IsStore t ns sorted hs
-    → IsIndex (filter (λ i. not (is_at n guid i)) t.interfaces) (filter (λ i. not (is_at n guid i)) sorted) ks
-    → IsStore (record t { interfaces = filter (λ i. not (is_at n guid i)) t.interfaces }) ns (filter (λ i. not (is_at n guid i)) sorted) ks
-store_without_interface t ns sorted hs ks n guid s index = record {
+pub store_without_interface : (t : HandleTable) (ns : List ℕ) (groups new : List Group) (n : ℕ) (guid : List ℕ) → IsStore t ns groups
+    → IsIndex (filter (λ i. not (is_at n guid i)) t.interfaces) new
+    → IsStore (record t { interfaces = filter (λ i. not (is_at n guid i)) t.interfaces }) ns new
+store_without_interface t ns groups new n guid s index = record {
   table = record {
     ascending = s.table.ascending;
     given = s.table.given;
@@ -37,7 +37,6 @@ store_without_interface t ns sorted hs ks n guid s index = record {
   };
   numbered = s.numbered;
   index = index;
-  sorted_on_live = all_filter (λ i. list_any (λ m. nat_eq m i.handle) (numbers t) ≡ true) (λ i. not (is_at n guid i)) sorted s.sorted_on_live;
 }
 
 left_on_live : (n : ℕ) (ns : List ℕ) (is : List Interface) → AreOn ns is → AreOn (filter (λ m. not (m == n)) ns) (filter (λ i. not (is_on n i)) is)
@@ -45,10 +44,10 @@ left_on_live n ns is a =
     all_filtered (λ i. list_any (λ m. nat_eq m i.handle) (filter (λ m. not (m == n)) ns) ≡ true) (λ i. list_any (λ m. nat_eq m i.handle) ns ≡ true) (λ i. not (is_on n i))
     (λ i k h. any_kept i.handle (λ m. not (m == n)) ns k h) is a
 
-pub store_without_handle : (t : HandleTable) (ns : List ℕ) (sorted : List Interface) (hs ks : List ℕ) (n : ℕ) → IsStore t ns sorted hs
-    → IsIndex (filter (λ i. not (is_on n i)) t.interfaces) (filter (λ i. not (is_on n i)) sorted) ks
-    → IsStore (without_handle n t) (filter (λ m. not (m == n)) ns) (filter (λ i. not (is_on n i)) sorted) ks
-store_without_handle t ns sorted hs ks n s index =
+pub store_without_handle : (t : HandleTable) (ns : List ℕ) (groups new : List Group) (n : ℕ) → IsStore t ns groups
+    → IsIndex (filter (λ i. not (is_on n i)) t.interfaces) new
+    → IsStore (without_handle n t) (filter (λ m. not (m == n)) ns) new
+store_without_handle t ns groups new n s index =
     let e : numbers (without_handle n t) ≡ filter (λ m. not (m == n)) (numbers t) = filter_map_filter (λ (h : LiveHandle). h.number) (λ m. not (m == n)) t.handles in
     record {
       table = record {
@@ -59,7 +58,6 @@ store_without_handle t ns sorted hs ks n s index =
       };
       numbered = rw (e, s.numbered);
       index = index;
-      sorted_on_live = rw e (left_on_live n (numbers t) sorted s.sorted_on_live);
     }
 
 -- ---- changed
@@ -69,10 +67,10 @@ restamped_on_live n guid value stamp ns is a =
     all_mapped (λ i. list_any (λ m. nat_eq m i.handle) ns ≡ true) (λ i. list_any (λ m. nat_eq m i.handle) ns ≡ true) (restamped n guid value stamp)
     (λ i h. rw (restamped_handle n guid value stamp i) h) is a
 
-pub store_with_value : (t : HandleTable) (ns : List ℕ) (sorted : List Interface) (hs ks : List ℕ) (n : ℕ) (guid : List ℕ) (value : ℕ) → IsStore t ns sorted hs
-    → IsIndex (map (restamped n guid value (t.last_stamp + 1)) t.interfaces) (map (restamped n guid value (t.last_stamp + 1)) sorted) ks
-    → IsStore (with_value n guid value t) ns (map (restamped n guid value (t.last_stamp + 1)) sorted) ks
-store_with_value t ns sorted hs ks n guid value s index = record {
+pub store_with_value : (t : HandleTable) (ns : List ℕ) (groups new : List Group) (n : ℕ) (guid : List ℕ) (value : ℕ) → IsStore t ns groups
+    → IsIndex (map (restamped n guid value (t.last_stamp + 1)) t.interfaces) new
+    → IsStore (with_value n guid value t) ns new
+store_with_value t ns groups new n guid value s index = record {
   table = record {
     ascending = s.table.ascending;
     given = s.table.given;
@@ -81,7 +79,6 @@ store_with_value t ns sorted hs ks n guid value s index = record {
   };
   numbered = s.numbered;
   index = index;
-  sorted_on_live = restamped_on_live n guid value (t.last_stamp + 1) (numbers t) sorted s.sorted_on_live;
 }
 
 -- ---- more
@@ -94,11 +91,10 @@ stamped_on P n stamp (p ∷ ps) h = (h, stamped_on P n (stamp + 1) ps h)
 pub live_number : (t : HandleTable) (n : ℕ) → is_live t n ≡ true → list_any (λ m. nat_eq m n) (numbers t) ≡ true
 live_number t n h = any_map (λ (l : LiveHandle). l.number) (λ m. nat_eq m n) t.handles ∙ sym (any_found (has_number n) t.handles) ∙ h
 
-pub store_with_interfaces : (t : HandleTable) (ns : List ℕ) (sorted new : List Interface) (hs ks : List ℕ) (n : ℕ) (pairs : List (List ℕ × ℕ)) → IsStore t ns sorted hs → is_live t n ≡ true
-    → IsIndex (t.interfaces ++ stamped n t.last_stamp pairs) new ks
-    → ((P : ℕ → Bool) → P n ≡ true → AllByRecursion (λ i. P i.handle ≡ true) sorted → AllByRecursion (λ i. P i.handle ≡ true) new)
-    → IsStore (with_interfaces n pairs t) ns new ks
-store_with_interfaces t ns sorted new hs ks n pairs s live index on = record {
+pub store_with_interfaces : (t : HandleTable) (ns : List ℕ) (groups new : List Group) (n : ℕ) (pairs : List (List ℕ × ℕ)) → IsStore t ns groups → is_live t n ≡ true
+    → IsIndex (t.interfaces ++ stamped n t.last_stamp pairs) new
+    → IsStore (with_interfaces n pairs t) ns new
+store_with_interfaces t ns groups new n pairs s live index = record {
   table = record {
     ascending = s.table.ascending;
     given = s.table.given;
@@ -108,16 +104,15 @@ store_with_interfaces t ns sorted new hs ks n pairs s live index on = record {
   };
   numbered = s.numbered;
   index = index;
-  sorted_on_live = on (λ h. list_any (λ m. nat_eq m h) (numbers t)) (live_number t n live) s.sorted_on_live;
 }
 
 with_handle_on_live : (n : ℕ) (ns : List ℕ) (is : List Interface) → AreOn ns is → AreOn (ns ++ n ∷ []) is
 with_handle_on_live n ns is a =
     all_map (λ i. list_any (λ m. nat_eq m i.handle) ns ≡ true) (λ i. list_any (λ m. nat_eq m i.handle) (ns ++ n ∷ []) ≡ true) (λ i h. any_push (λ m. nat_eq m i.handle) ns n h) is a
 
-pub store_with_handle : (t : HandleTable) (ns : List ℕ) (sorted : List Interface) (hs : List ℕ) (maker : Option (ℕ × ℕ)) → IsStore t ns sorted hs → length t.handles < max_handles
-    → IsStore (with_handle maker t) (ns ++ (t.last_number + 1) ∷ []) sorted hs
-store_with_handle t ns sorted hs maker s room =
+pub store_with_handle : (t : HandleTable) (ns : List ℕ) (groups : List Group) (maker : Option (ℕ × ℕ)) → IsStore t ns groups → length t.handles < max_handles
+    → IsStore (with_handle maker t) (ns ++ (t.last_number + 1) ∷ []) groups
+store_with_handle t ns groups maker s room =
     let e : numbers (with_handle maker t) ≡ numbers t ++ (t.last_number + 1) ∷ [] = map_append (λ (h : LiveHandle). h.number) t.handles (record { number = t.last_number + 1; maker = maker } ∷ []) in
     record {
       table = record {
@@ -131,7 +126,6 @@ store_with_handle t ns sorted hs maker s room =
       };
       numbered = rw (e, s.numbered);
       index = s.index;
-      sorted_on_live = rw e (with_handle_on_live (t.last_number + 1) (numbers t) sorted s.sorted_on_live);
     }
 
 -- the new handle is live
@@ -154,8 +148,8 @@ absent_on_new t h [] = tt
 absent_on_new t h (p ∷ ps) = (find_none (is_at (t.last_number + 1) p.0) t.interfaces (none_on_new t h p.0 t.interfaces h.on_live), absent_on_new t h ps)
 
 -- nothing comes
-pub store_same : (t : HandleTable) (ns : List ℕ) (sorted : List Interface) (hs ks : List ℕ) → IsStore t ns sorted hs → IsIndex t.interfaces sorted ks → IsStore t ns sorted ks
-store_same t ns sorted hs ks s index = record { table = s.table; numbered = s.numbered; index = index; sorted_on_live = s.sorted_on_live }
+pub store_same : (t : HandleTable) (ns : List ℕ) (groups new : List Group) → IsStore t ns groups → IsIndex t.interfaces new → IsStore t ns new
+store_same t ns groups new s index = record { table = s.table; numbered = s.numbered; index = index }
 
 none_found : {X : Type 0} (o : Option X) → is_some o ≡ false → o ≡ None
 none_found None h = refl
@@ -169,9 +163,8 @@ absent_from t n (p ∷ ps) z h = elim (cases_Bool (is_taken t n p.0)) [
 ]
 
 -- a new handle comes, with interfaces on it
-pub store_with_new : (t : HandleTable) (ns : List ℕ) (sorted new : List Interface) (hs ks : List ℕ) (maker : Option (ℕ × ℕ)) (pairs : List (List ℕ × ℕ)) → IsStore t ns sorted hs → length t.handles < max_handles
-    → IsIndex (t.interfaces ++ stamped (t.last_number + 1) t.last_stamp pairs) new ks
-    → ((P : ℕ → Bool) → P (t.last_number + 1) ≡ true → AllByRecursion (λ i. P i.handle ≡ true) sorted → AllByRecursion (λ i. P i.handle ≡ true) new)
-    → IsStore (with_interfaces (t.last_number + 1) pairs (with_handle maker t)) (ns ++ (t.last_number + 1) ∷ []) new ks
-store_with_new t ns sorted new hs ks maker pairs s room index on =
-    store_with_interfaces (with_handle maker t) (ns ++ (t.last_number + 1) ∷ []) sorted new hs ks (t.last_number + 1) pairs (store_with_handle t ns sorted hs maker s room) (new_is_live t maker) index on
+pub store_with_new : (t : HandleTable) (ns : List ℕ) (groups new : List Group) (maker : Option (ℕ × ℕ)) (pairs : List (List ℕ × ℕ)) → IsStore t ns groups → length t.handles < max_handles
+    → IsIndex (t.interfaces ++ stamped (t.last_number + 1) t.last_stamp pairs) new
+    → IsStore (with_interfaces (t.last_number + 1) pairs (with_handle maker t)) (ns ++ (t.last_number + 1) ∷ []) new
+store_with_new t ns groups new maker pairs s room index =
+    store_with_interfaces (with_handle maker t) (ns ++ (t.last_number + 1) ∷ []) groups new (t.last_number + 1) pairs (store_with_handle t ns groups maker s room) (new_is_live t maker) index

@@ -1,32 +1,59 @@
--- The interfaces in the order in which they are looked up: by GUID, and by handle among those of a GUID.
-use Rattle.std.specs.Prelude.{◌≡◌, ℕ, nat_eq, Bool, true, List, map, None}
-use Rattle.std.specs.List.{find, list_any, AllByRecursion}
-use Rattle.std.specs.declared.cmp.Ordering.{Ordering}
+-- The interfaces by GUID, in groups, and by handle in each group.
+use Rattle.std.specs.Prelude.{◌≡◌, ℕ, ◌<◌, nat_eq, nat_lt, Bool, true, not, List, map, length, Option, None}
+use Rattle.std.specs.List.{find, filter, list_any, AllByRecursion, insert, slice_get}
+use Rattle.std.specs.Option.{option_and_then}
 use Rattle.std.specs.declared.cmp.Ordering.TheVariants.{Less}
-use Rattle.std.specs.Ordering.{nat_cmp, ordering_then, is_lt}
+use Rattle.std.specs.Ordering.{nat_cmp, is_lt}
 use Rattle.std.specs.Cmp.Lexicographic.{slice_cmp}
 use Rattle.guid_handles.specs.declared.records.Interface.{Interface}
-use Rattle.guid_handles.specs.HandleTables.{is_at}
-use Rattle.guid_handles.specs.Sorting.{Ascending}
+use Rattle.guid_handles.specs.HandleTables.{same_guid, is_on, is_at}
+use Rattle.guid_handles.specs.Sorting.{Ascending, place}
 
--- how the GUID of an interface compares to another GUID, by bytes
-abbrev pub guid_order : List ℕ → Interface → Ordering
-guid_order guid i = slice_cmp nat_cmp i.guid guid
+-- a GUID and interfaces of it
+pub record Group : Type 0 where
+  pub guid : List ℕ
+  pub members : List Interface
 
-abbrev pub key_order : List ℕ → ℕ → Interface → Ordering
-key_order guid n i = ordering_then (guid_order guid i) (nat_cmp i.handle n)
+-- the handles of interfaces
+abbrev pub handles_of : List Interface → List ℕ
+handles_of members = map (λ i. i.handle) members
 
-abbrev pub is_before : List ℕ → ℕ → Interface → Bool
-is_before guid n i = is_lt (key_order guid n i)
+-- numbers beside interfaces: their handles, which ascend
+pub record AreHolders (members : List Interface) (hs : List ℕ) : Type 0 where
+  pub ascending : Ascending (λ a b. a < b) hs
+  pub holders : hs ≡ handles_of members
 
-abbrev pub ComesBefore : Interface → Interface → Type 0
-ComesBefore i j = key_order j.guid j.handle i ≡ Less
+-- a group is of a GUID
+abbrev pub is_group_of : List ℕ → Group → Bool
+is_group_of guid g = same_guid g.guid guid
 
--- Interfaces in order of their keys, where the same is found as in those listed, and their handles beside them.
-pub record IsIndex (listed sorted : List Interface) (hs : List ℕ) : Type 0 where
-  pub ascending : Ascending ComesBefore sorted
-  pub same : (n : ℕ) (guid : List ℕ) → find (is_at n guid) sorted ≡ find (is_at n guid) listed
-  pub holders : hs ≡ map (λ i. i.handle) sorted
+-- a group's GUID comes before a GUID, by bytes
+abbrev pub is_before : List ℕ → Group → Bool
+is_before guid g = is_lt (slice_cmp nat_cmp g.guid guid)
+
+-- groups by ascending GUID
+abbrev pub AscendByGuid : List Group → Type 0
+AscendByGuid groups = Ascending (λ a b. slice_cmp nat_cmp a b ≡ Less) (map (λ g. g.guid) groups)
+
+-- the place of the group of a GUID
+abbrev pub IsPlaceOf : List ℕ → List Group → ℕ → Type 0
+IsPlaceOf guid groups at = (at < length groups) × (find (is_group_of guid) groups ≡ slice_get groups at) × (at ≡ place (is_before guid) groups)
+
+-- a group with one more interface, before the first of a handle that is not lower
+abbrev pub with_member : Interface → Group → Group
+with_member i g = record g { members = insert g.members (place (λ j. nat_lt j.handle i.handle) g.members) i }
+
+-- a group without the interface on a handle
+abbrev pub without_member : ℕ → Group → Group
+without_member n g = record g { members = filter (λ i. not (is_on n i)) g.members }
+
+-- the interface on a handle in the group of a GUID
+abbrev pub grouped_at : List Group → List ℕ → ℕ → Option Interface
+grouped_at groups guid n = option_and_then (λ g. find (is_on n) g.members) (find (is_group_of guid) groups)
+
+-- On each handle the groups have the same interface of each GUID as those listed.
+abbrev pub IsIndex : List Interface → List Group → Type 0
+IsIndex listed groups = (n : ℕ) (guid : List ℕ) → grouped_at groups guid n ≡ find (is_at n guid) listed
 
 -- each interface is on a handle of these numbers
 abbrev pub AreOn : List ℕ → List Interface → Type 0

@@ -7,8 +7,8 @@ ghost use Rattle.guid_handles.specs.Indexes.{AreAbsent};
 
 use crate::interfaces::Interfaces;
 use crate::records::{Interface, LiveHandle};
-use crate::room::push_with_room;
-use crate::searches::{find_after, find_handle, find_interface, has_any_on, range_of, write_guids};
+use crate::room::{drop_number, push_with_room};
+use crate::searches::{find_after, find_handle, has_any_on, write_guids};
 use page_ranges::Status;
 use std::alloc::{AllocError, Allocator, Global};
 use std::marker::Model;
@@ -39,7 +39,7 @@ impl<A: Allocator> Model for Handles<A> {
 
     ghost view = { λ h. record { handles = h.live.items; interfaces = h.interfaces.listed.items; last_number = h.last_number; last_stamp = h.last_stamp } };
 
-    ghost invariant = { λ h. IsStore (record { handles = h.live.items; interfaces = h.interfaces.listed.items; last_number = h.last_number; last_stamp = h.last_stamp }) h.numbers.items h.interfaces.sorted.items h.interfaces.holders.items };
+    ghost invariant = { λ h. IsStore (record { handles = h.live.items; interfaces = h.interfaces.listed.items; last_number = h.last_number; last_stamp = h.last_stamp }) h.numbers.items h.interfaces.groups };
 }
 
 impl<A: Allocator + Copy> Handles<A> {
@@ -107,7 +107,7 @@ impl<A: Allocator + Copy> Handles<A> {
     fn find(&self, handle: u64, guid: Uuid) -> Option<Interface>
         ensures { result ≡ interface_at self.now handle guid }
     {
-        find_interface(self.interfaces.sorted.as_slice(), handle, guid)
+        self.interfaces.groups.find(handle, guid)
     }
 
     /// The value of the interface of a GUID on a handle.
@@ -122,8 +122,7 @@ impl<A: Allocator + Copy> Handles<A> {
     pub fn by_protocol(&self, guid: Uuid) -> &[u64]
         ensures { result.now ≡ holders_of self.now guid }
     {
-        let (low, high) = range_of(self.interfaces.sorted.as_slice(), guid);
-        &self.interfaces.holders.as_slice()[low..high]
+        self.interfaces.groups.holders(guid)
     }
 
     /// Writes the GUIDs on a live handle in order of installation, as many as fit, and answers how
@@ -408,16 +407,5 @@ fn drop_live<A: Allocator>(live: &mut Vec<LiveHandle, A>, number: u64)
         |h: &LiveHandle| -> bool
             ensures { result ≡ not (has_number number h.now) }
         { h.number != number },
-    );
-}
-
-/// Takes out a number.
-fn drop_number<A: Allocator>(numbers: &mut Vec<u64, A>, number: u64)
-    ensures { numbers.new.items ≡ filter (λ n. not (n == number)) numbers.old.items }
-{
-    numbers.retain(
-        |n: &u64| -> bool
-            ensures { result ≡ not (n.now == number) }
-        { *n != number },
     );
 }

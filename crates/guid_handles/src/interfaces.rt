@@ -1,24 +1,22 @@
 //! The interfaces of the handle table, in order of installation and by GUID.
-ghost use Rattle.std.specs.Prelude.{◌≡◌, ◌+◌, ◌-◌, ◌<◌, ◌≤◌, ◌^◌, ℕ, Bool, true, false, [], ◌∷◌, ◌++◌, not, length, map, None, vec_len, vec_capacity, IfOk, OnOk, OnErr};
-ghost use Rattle.std.specs.List.{filter, find, insert, AllByRecursion};
+ghost use Rattle.std.specs.Prelude.{◌≡◌, ◌+◌, ◌<◌, ◌≤◌, ◌^◌, ℕ, List, false, [], ◌++◌, not, length, map, None, vec_len, vec_capacity, IfOk, OnOk, OnErr};
+ghost use Rattle.std.specs.List.{filter, AllByRecursion};
+ghost use Rattle.guid_handles.specs.declared.records.Interface.{Interface as Listed};
 ghost use Rattle.guid_handles.specs.HandleTables.{is_at, is_on};
 ghost use Rattle.guid_handles.specs.HandleChanges.{restamped, stamped, has_guid_twice};
-ghost use Rattle.guid_handles.specs.Sorting.{Ascending, place};
-ghost use Rattle.guid_handles.specs.Indexes.{ComesBefore, IsIndex, is_before, AreAbsent};
+ghost use Rattle.guid_handles.specs.Indexes.{IsIndex, AreAbsent, grouped_at};
 
+use crate::groups::Groups;
 use crate::records::Interface;
-use crate::room::{insert_with_room, push_with_room};
-use crate::searches::count_before;
+use crate::room::push_with_room;
 use std::alloc::{AllocError, Allocator};
 use uuid::Uuid;
 
-/// The interfaces in order of installation; the same by GUID and handle, to find them; and beside
-/// these their handles alone.
+/// The interfaces in order of installation, and the same in groups by GUID, to find them.
 #[derive(Drop)]
 pub(crate) struct Interfaces<A: Allocator> {
     pub(crate) listed: Vec<Interface, A>,
-    pub(crate) sorted: Vec<Interface, A>,
-    pub(crate) holders: Vec<u64, A>,
+    pub(crate) groups: Groups<A>,
 }
 
 /// Takes out the interface of a GUID on a handle.
@@ -34,7 +32,7 @@ fn drop_interface<A: Allocator>(interfaces: &mut Vec<Interface, A>, handle: u64,
 }
 
 /// Takes out all interfaces on a handle.
-fn drop_all_on<A: Allocator>(interfaces: &mut Vec<Interface, A>, handle: u64)
+pub(crate) fn drop_all_on<A: Allocator>(interfaces: &mut Vec<Interface, A>, handle: u64)
     ensures items { interfaces.new.items ≡ filter (λ i. not (is_on handle i)) interfaces.old.items }
     ensures bound { vec_len interfaces.new ≤ vec_len interfaces.old }
 {
@@ -57,7 +55,7 @@ fn with_stamp(i: Interface, handle: u64, guid: Uuid, value: u64, stamp: u64) -> 
 }
 
 /// Gives the interface of a GUID on a handle a value and a stamp.
-fn restamp<A: Allocator>(
+pub(crate) fn restamp<A: Allocator>(
     interfaces: &mut Vec<Interface, A>,
     handle: u64,
     guid: Uuid,
@@ -71,170 +69,135 @@ fn restamp<A: Allocator>(
     }
 }
 
-/// Writes the handles of interfaces, for which there is room.
-fn write_holders<A: Allocator>(holders: &mut Vec<u64, A>, sorted: &[Interface])
-    requires { length sorted.now ≤ vec_capacity holders.old }
-    ensures items { holders.new.items ≡ map (λ i. i.handle) sorted.now }
-    ensures capacity { vec_capacity holders.old ≤ vec_capacity holders.new }
+/// Puts interfaces on a handle that carries none of their GUIDs into groups, with the stamps after a
+/// stamp. On an `Err` the groups have the same ones as before.
+fn group_all<A: Allocator + Copy>(
+    groups: &mut Groups<A>,
+    handle: u64,
+    pairs: &[(Uuid, u64)],
+    last_stamp: u64,
+) -> Result<(), AllocError>
+    requires absent { AllByRecursion (λ p. grouped_at groups.old p.0 handle ≡ None) pairs.now }
+    requires once { has_guid_twice pairs.now ≡ false }
+    requires stamps { last_stamp + length pairs.now < 2 ^ 64 }
+    ensures ok { OnOk result ((listed : List Listed) → IsIndex listed groups.old → IsIndex (listed ++ stamped handle last_stamp pairs.now) groups.new) }
+    ensures err { OnErr result ((guid : List ℕ) (n : ℕ) → grouped_at groups.new guid n ≡ grouped_at groups.old guid n) }
 {
-    holders.clear();
-    for i in sorted {
-        push_with_room(holders, i.handle);
+    let Some((pair, others)) = pairs.split_first() else {
+        return Ok(());
+    };
+    let (guid, value) = *pair;
+    let stamp = last_stamp + 1;
+    groups.add(&Interface {
+        handle,
+        guid,
+        value,
+        stamp,
+    })?;
+    if let Err(error) = group_all(groups, handle, others, stamp) {
+        groups.remove(handle, guid);
+        return Err(error);
     }
+    Ok(())
 }
 
-/// Puts an interface into its place by GUID and handle.
-fn insert_sorted<A: Allocator>(
-    sorted: &mut Vec<Interface, A>,
-    holders: &mut Vec<u64, A>,
-    interface: &Interface,
+/// Lists interfaces on a handle, for which there is room, with the stamps after a stamp.
+fn list_all<A: Allocator>(
+    listed: &mut Vec<Interface, A>,
+    handle: u64,
+    pairs: &[(Uuid, u64)],
+    last_stamp: u64,
 )
-    requires order { Ascending ComesBefore sorted.old.items }
-    requires handles { holders.old.items ≡ map (λ i. i.handle) sorted.old.items }
-    requires room { vec_len sorted.old < vec_capacity sorted.old }
-    requires room_beside { vec_len holders.old < vec_capacity holders.old }
-    ensures items { sorted.new.items ≡ insert sorted.old.items (place (is_before interface.now.guid interface.now.handle) sorted.old.items) interface.now }
-    ensures handles { holders.new.items ≡ map (λ i. i.handle) sorted.new.items }
-    ensures capacity { vec_capacity sorted.old ≤ vec_capacity sorted.new }
-    ensures capacity_beside { vec_capacity holders.old ≤ vec_capacity holders.new }
+    requires room { vec_len listed.old + length pairs.now ≤ vec_capacity listed.old }
+    requires stamps { last_stamp + length pairs.now < 2 ^ 64 }
+    ensures { listed.new.items ≡ listed.old.items ++ stamped handle last_stamp pairs.now }
 {
-    let at = count_before(sorted.as_slice(), interface.guid, interface.handle);
-    insert_with_room(sorted, at, *interface);
-    insert_with_room(holders, at, interface.handle);
+    let mut stamp = last_stamp;
+    for pair in pairs {
+        let (guid, value) = *pair;
+        stamp += 1;
+        let interface = Interface {
+            handle,
+            guid,
+            value,
+            stamp,
+        };
+        push_with_room(listed, interface);
+    }
 }
 
 impl<A: Allocator + Copy> Interfaces<A> {
     /// No interfaces.
     pub(crate) fn new(alloc: A) -> Interfaces<A>
         ensures listed { result.listed.items ≡ [] }
-        ensures sorted { result.sorted.items ≡ [] }
-        ensures holders { result.holders.items ≡ [] }
+        ensures groups { result.groups ≡ [] }
     {
         Interfaces {
             listed: Vec::new(alloc),
-            sorted: Vec::new(alloc),
-            holders: Vec::new(alloc),
+            groups: Groups::new(alloc),
         }
     }
 
     /// The same interfaces, in memory of their own.
     pub(crate) fn try_copy(&self) -> Result<Interfaces<A>, AllocError>
         ensures listed { IfOk result (λ r. r.listed.items ≡ self.now.listed.items) }
-        ensures sorted { IfOk result (λ r. r.sorted.items ≡ self.now.sorted.items) }
-        ensures holders { IfOk result (λ r. r.holders.items ≡ self.now.holders.items) }
+        ensures groups { IfOk result (λ r. r.groups ≡ self.now.groups) }
     {
         let alloc = *self.listed.allocator();
         let listed = Vec::from_slice(alloc, self.listed.as_slice())?;
-        let sorted = Vec::from_slice(alloc, self.sorted.as_slice())?;
-        let holders = Vec::from_slice(alloc, self.holders.as_slice())?;
-        Ok(Interfaces {
-            listed,
-            sorted,
-            holders,
-        })
-    }
-
-    /// Makes room for more interfaces.
-    fn reserve(&mut self, count: usize) -> Result<(), AllocError>
-        ensures listed { self.new.listed.items ≡ self.old.listed.items }
-        ensures sorted { self.new.sorted.items ≡ self.old.sorted.items }
-        ensures holders { self.new.holders.items ≡ self.old.holders.items }
-        ensures room_listed { OnOk result (vec_len self.new.listed + count ≤ vec_capacity self.new.listed) }
-        ensures room_sorted { OnOk result (vec_len self.new.sorted + count ≤ vec_capacity self.new.sorted) }
-        ensures room_holders { OnOk result (vec_len self.new.holders + count ≤ vec_capacity self.new.holders) }
-    {
-        self.listed.reserve(count)?;
-        self.sorted.reserve(count)?;
-        self.holders.reserve(count)?;
-        Ok(())
-    }
-
-    /// Adds an interface that is not there, for which there is room.
-    fn add(&mut self, interface: Interface)
-        requires index { IsIndex self.old.listed.items self.old.sorted.items self.old.holders.items }
-        requires absent { find (is_at interface.handle interface.guid) self.old.listed.items ≡ None }
-        requires room_listed { vec_len self.old.listed < vec_capacity self.old.listed }
-        requires room_sorted { vec_len self.old.sorted < vec_capacity self.old.sorted }
-        requires room_holders { vec_len self.old.holders < vec_capacity self.old.holders }
-        ensures index { IsIndex self.new.listed.items self.new.sorted.items self.new.holders.items }
-        ensures listed { self.new.listed.items ≡ self.old.listed.items ++ interface ∷ [] }
-        ensures sorted { self.new.sorted.items ≡ insert self.old.sorted.items (place (is_before interface.guid interface.handle) self.old.sorted.items) interface }
-        ensures len_listed { vec_len self.new.listed ≡ vec_len self.old.listed + 1 }
-        ensures len_sorted { vec_len self.new.sorted ≡ vec_len self.old.sorted + 1 }
-        ensures len_holders { vec_len self.new.holders ≡ vec_len self.old.holders + 1 }
-        ensures capacity_listed { vec_capacity self.old.listed ≤ vec_capacity self.new.listed }
-        ensures capacity_sorted { vec_capacity self.old.sorted ≤ vec_capacity self.new.sorted }
-        ensures capacity_holders { vec_capacity self.old.holders ≤ vec_capacity self.new.holders }
-    {
-        insert_sorted(&mut self.sorted, &mut self.holders, &interface);
-        push_with_room(&mut self.listed, interface);
+        let groups = self.groups.try_copy()?;
+        Ok(Interfaces { listed, groups })
     }
 
     /// Adds interfaces on a handle that carries none of their GUIDs, with the stamps after a stamp.
-    /// All room is taken before the first is added.
+    /// On an `Err` the same interfaces are there as before.
     pub(crate) fn add_all(
         &mut self,
         handle: u64,
         pairs: &[(Uuid, u64)],
         last_stamp: u64,
     ) -> Result<(), AllocError>
-        requires index { IsIndex self.old.listed.items self.old.sorted.items self.old.holders.items }
+        requires index { IsIndex self.old.listed.items self.old.groups }
         requires absent { AreAbsent handle pairs.now self.old.listed.items }
         requires once { has_guid_twice pairs.now ≡ false }
         requires stamps { last_stamp < 2 ^ 62 }
-        ensures index { IsIndex self.new.listed.items self.new.sorted.items self.new.holders.items }
-        ensures listed { OnOk result (self.new.listed.items ≡ self.old.listed.items ++ stamped handle last_stamp pairs.now) }
-        ensures sorted { (P : ℕ → Bool) → P handle ≡ true → AllByRecursion (λ i. P i.handle ≡ true) self.old.sorted.items → AllByRecursion (λ i. P i.handle ≡ true) self.new.sorted.items }
+        ensures index { IsIndex self.new.listed.items self.new.groups }
+        ensures ok { OnOk result (self.new.listed.items ≡ self.old.listed.items ++ stamped handle last_stamp pairs.now) }
         ensures err { OnErr result (self.new.listed.items ≡ self.old.listed.items) }
-        ensures err_sorted { OnErr result (self.new.sorted.items ≡ self.old.sorted.items) }
     {
-        self.reserve(pairs.len())?;
-        let mut stamp = last_stamp;
-        for pair in pairs {
-            let (guid, value) = *pair;
-            stamp += 1;
-            self.add(Interface {
-                handle,
-                guid,
-                value,
-                stamp,
-            });
-        }
+        self.listed.reserve(pairs.len())?;
+        group_all(&mut self.groups, handle, pairs, last_stamp)?;
+        list_all(&mut self.listed, handle, pairs, last_stamp);
         Ok(())
     }
 
     /// Takes out the interface of a GUID on a handle.
     pub(crate) fn remove(&mut self, handle: u64, guid: Uuid)
-        requires { IsIndex self.old.listed.items self.old.sorted.items self.old.holders.items }
-        ensures index { IsIndex self.new.listed.items self.new.sorted.items self.new.holders.items }
+        requires { IsIndex self.old.listed.items self.old.groups }
+        ensures index { IsIndex self.new.listed.items self.new.groups }
         ensures listed { self.new.listed.items ≡ filter (λ i. not (is_at handle guid i)) self.old.listed.items }
-        ensures sorted { self.new.sorted.items ≡ filter (λ i. not (is_at handle guid i)) self.old.sorted.items }
     {
         drop_interface(&mut self.listed, handle, guid);
-        drop_interface(&mut self.sorted, handle, guid);
-        write_holders(&mut self.holders, self.sorted.as_slice());
+        self.groups.remove(handle, guid);
     }
 
     /// Takes out all interfaces on a handle.
     pub(crate) fn remove_all_on(&mut self, handle: u64)
-        requires { IsIndex self.old.listed.items self.old.sorted.items self.old.holders.items }
-        ensures index { IsIndex self.new.listed.items self.new.sorted.items self.new.holders.items }
+        requires { IsIndex self.old.listed.items self.old.groups }
+        ensures index { IsIndex self.new.listed.items self.new.groups }
         ensures listed { self.new.listed.items ≡ filter (λ i. not (is_on handle i)) self.old.listed.items }
-        ensures sorted { self.new.sorted.items ≡ filter (λ i. not (is_on handle i)) self.old.sorted.items }
     {
         drop_all_on(&mut self.listed, handle);
-        drop_all_on(&mut self.sorted, handle);
-        write_holders(&mut self.holders, self.sorted.as_slice());
+        self.groups.remove_all_on(handle);
     }
 
     /// Gives the interface of a GUID on a handle a value and a stamp.
     pub(crate) fn replace(&mut self, handle: u64, guid: Uuid, value: u64, stamp: u64)
-        requires { IsIndex self.old.listed.items self.old.sorted.items self.old.holders.items }
-        ensures index { IsIndex self.new.listed.items self.new.sorted.items self.new.holders.items }
+        requires { IsIndex self.old.listed.items self.old.groups }
+        ensures index { IsIndex self.new.listed.items self.new.groups }
         ensures listed { self.new.listed.items ≡ map (restamped handle guid value stamp) self.old.listed.items }
-        ensures sorted { self.new.sorted.items ≡ map (restamped handle guid value stamp) self.old.sorted.items }
     {
         restamp(&mut self.listed, handle, guid, value, stamp);
-        restamp(&mut self.sorted, handle, guid, value, stamp);
+        self.groups.replace(handle, guid, value, stamp);
     }
 }

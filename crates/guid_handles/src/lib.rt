@@ -1,6 +1,8 @@
 //! The handle table: handles, the protocol interfaces on them, and how they are found.
 #![tactic(auto)]
 
+mod groups;
+mod guid_group;
 mod handles;
 mod interfaces;
 mod records;

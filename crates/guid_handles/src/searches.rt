@@ -1,86 +1,30 @@
-//! Finding a place among sorted interfaces and handles.
-ghost use Rattle.std.specs.Prelude.{◌≡◌, ℕ, ◌<◌, ◌≤◌, ◌&&◌, cond, length, nat_lt, map, slice_get, slice_set};
-ghost use Rattle.std.specs.List.{find, filter, list_any, slice_range};
-ghost use Rattle.std.specs.Ordering.{is_lt, is_le};
-ghost use Rattle.guid_handles.specs.HandleTables.{has_number, is_at, is_of, is_on, written_over, earlier_of, earliest};
+//! Finding handles and interfaces.
+ghost use Rattle.std.specs.Prelude.{◌≡◌, ◌<◌, ◌≤◌, ◌&&◌, length, nat_lt, map, slice_get, slice_set};
+ghost use Rattle.std.specs.List.{find, filter, list_any};
+ghost use Rattle.guid_handles.specs.HandleTables.{has_number, is_of, is_on, written_over, earlier_of, earliest};
 ghost use Rattle.guid_handles.specs.Sorting.{Ascending, place, kept_if};
-ghost use Rattle.guid_handles.specs.Indexes.{ComesBefore, guid_order, is_before};
 
 use crate::records::{Interface, LiveHandle};
-use std::cmp::Ordering;
 use uuid::Uuid;
 
-/// How many interfaces come before a GUID and handle.
-pub(crate) fn count_before(sorted: &[Interface], guid: Uuid, handle: u64) -> usize
-    requires { Ascending ComesBefore sorted.now }
-    ensures place { result ≡ place (is_before guid handle) sorted.now }
-    ensures bound { result ≤ length sorted.now }
+/// How many of some ascending numbers are less than one.
+pub(crate) fn count_less(numbers: &[u64], number: u64) -> usize
+    requires { Ascending (λ a b. a < b) numbers.now }
+    ensures place { result ≡ place (λ n. nat_lt n number) numbers.now }
+    ensures bound { result ≤ length numbers.now }
 {
-    sorted.partition_point(
-        |i: &Interface| -> bool
-            ensures { result ≡ is_before guid handle i.now }
-        {
-            match i.guid.cmp(&guid) {
-                Ordering::Less => true,
-                Ordering::Equal => i.handle < handle,
-                Ordering::Greater => false,
-            }
-        },
+    numbers.partition_point(
+        |n: &u64| -> bool
+            ensures { result ≡ nat_lt n.now number }
+        { *n < number },
     )
 }
 
-/// How many interfaces are of lower GUIDs.
-fn count_below(sorted: &[Interface], guid: Uuid) -> usize
-    requires { Ascending ComesBefore sorted.now }
-    ensures place { result ≡ place (λ i. is_lt (guid_order guid i)) sorted.now }
-    ensures bound { result ≤ length sorted.now }
+/// The interface at a place, if it is on a handle.
+pub(crate) fn member_if(members: &[Interface], at: usize, handle: u64) -> Option<Interface>
+    ensures { result ≡ kept_if (is_on handle) (slice_get members.now at) }
 {
-    sorted.partition_point(
-        |i: &Interface| -> bool
-            ensures { result ≡ is_lt (guid_order guid i.now) }
-        { i.guid.cmp(&guid).is_lt() },
-    )
-}
-
-/// How many interfaces are of lower GUIDs or of this one.
-fn count_up_to(sorted: &[Interface], guid: Uuid) -> usize
-    requires { Ascending ComesBefore sorted.now }
-    ensures place { result ≡ place (λ i. is_le (guid_order guid i)) sorted.now }
-    ensures bound { result ≤ length sorted.now }
-{
-    sorted.partition_point(
-        |i: &Interface| -> bool
-            ensures { result ≡ is_le (guid_order guid i.now) }
-        { i.guid.cmp(&guid).is_le() },
-    )
-}
-
-/// Between which places the interfaces of a GUID stand.
-pub(crate) fn range_of(sorted: &[Interface], guid: Uuid) -> (usize, usize)
-    requires { Ascending ComesBefore sorted.now }
-    ensures range { filter (is_of guid) sorted.now ≡ slice_range sorted.now result.0 result.1 }
-    ensures order { result.0 ≤ result.1 }
-    ensures bound { result.1 ≤ length sorted.now }
-{
-    (count_below(sorted, guid), count_up_to(sorted, guid))
-}
-
-/// The interface at a place, if it is on a handle and of a GUID.
-fn interface_if(sorted: &[Interface], at: usize, handle: u64, guid: Uuid) -> Option<Interface>
-    ensures { result ≡ kept_if (is_at handle guid) (slice_get sorted.now at) }
-{
-    sorted
-        .get(at)
-        .copied()
-        .filter(|i| i.handle == handle && i.guid == guid)
-}
-
-/// The interface of a GUID on a handle.
-pub(crate) fn find_interface(sorted: &[Interface], handle: u64, guid: Uuid) -> Option<Interface>
-    requires { Ascending ComesBefore sorted.now }
-    ensures { result ≡ find (is_at handle guid) sorted.now }
-{
-    interface_if(sorted, count_before(sorted, guid, handle), handle, guid)
+    members.get(at).copied().filter(|i| i.handle == handle)
 }
 
 /// How many handles have lower numbers.

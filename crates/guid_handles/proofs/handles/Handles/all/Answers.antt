@@ -1,4 +1,3 @@
-use Rattle.std.proofs.Common.{ap, length, ◌∙◌}
 use Rattle.std.proofs.lemmas.List.{length-map}
 use Rattle.guid_handles.proofs.handles.Handles.all.Goals as goal
 
