@@ -1,3 +1,3 @@
-pub mod Loops
-pub mod HandleRanges
+pub mod BlockLists
+pub mod Blocked
 pub mod Asked

@@ -1,3 +1,3 @@
 pub mod OpenItems
 pub mod OpenRule
-pub mod HandleLists
+pub mod Blocks

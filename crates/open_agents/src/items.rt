@@ -1,5 +1,5 @@
 //! Open items, and what may be decided about a call of OpenProtocol.
-ghost use Rattle.std.specs.Prelude.{◌≡◌, ◌-◌, ◌<◌, ◌^◌, true};
+ghost use Rattle.std.specs.Prelude.{◌≡◌};
 ghost use Rattle.open_agents.specs.OpenItems as spec;
 
 use page_ranges::Status;
@@ -75,22 +75,5 @@ pub(crate) fn item_of(o: &OpenRecord) -> OpenItem
         controller: o.controller,
         attributes: o.attributes,
         count: o.count,
-    }
-}
-
-/// Counts an item once more if it is equal to what a call asks for.
-pub(crate) fn count_if_equal(
-    o: &mut OpenRecord,
-    handle: u64,
-    guid: Uuid,
-    agent: u64,
-    controller: u64,
-    attributes: u32,
-)
-    requires { spec.is_equal_item handle guid agent controller attributes o.old ≡ true → o.old.count < 2 ^ 32 - 1 }
-    ensures { o.new ≡ spec.counted (spec.is_equal_item handle guid agent controller attributes) o.old }
-{
-    if is_equal_item(o, handle, guid, agent, controller, attributes) {
-        o.count += 1;
     }
 }

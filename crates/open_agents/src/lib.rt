@@ -2,7 +2,8 @@
 #![tactic(auto)]
 
 mod attributes;
-mod by_handle;
+mod blocks;
+mod item_block;
 mod items;
 mod opens;
 mod questions;

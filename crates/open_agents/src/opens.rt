@@ -1,22 +1,21 @@
 //! The open items of all interfaces.
-ghost use Rattle.std.specs.Prelude.{◌≡◌, true, not, [], map, IfOk, IsOk, OnOk, OnErr};
-ghost use Rattle.std.specs.List.{filter, list_any};
+ghost use Rattle.std.specs.Prelude.{◌≡◌, ◌<◌, ◌==◌, true, false, [], ◌∷◌, ◌++◌, length, map, slice_get, Some, vec_len, vec_capacity, IfOk, IsOk, IfSome, IfNone, OnOk, OnErr};
+ghost use Rattle.std.specs.List.{filter, list_any, remove};
 ghost use Rattle.guid_handles.specs.HandleChanges.{is_dead as dead};
 ghost use Rattle.open_agents.specs.OpenItems as spec;
 ghost use Rattle.open_agents.specs.OpenItems.{is_closed_by, names, items_on, managers_of, with_item, CanCount, without_items};
 ghost use Rattle.open_agents.specs.OpenRule as rule;
-ghost use Rattle.open_agents.specs.HandleLists.{is_on};
+ghost use Rattle.open_agents.specs.Blocks.{HoldsAt, IsPlaceInBlock, are_equal, is_near};
 
 use crate::attributes::{
     BY_CHILD_CONTROLLER, BY_DRIVER, EXCLUSIVE, is_exclusive, is_for_driver, is_known, needs_agent,
     needs_controller,
 };
-use crate::by_handle::{items_at, push_item};
-use crate::items::{
-    Decision, OpenItem, OpenRecord, count_if_equal, is_of_pair, is_open_on, item_of,
-};
+use crate::blocks::{Blocks, block_of, count_less};
+use crate::items::{Decision, OpenItem, OpenRecord, is_open_on, item_of};
 use crate::questions::{
-    first_driver_item, has_closed, has_equal, has_exclusive, has_of_agent, is_held,
+    find_closed, find_equal, find_naming, find_of_pair, find_open_on, first_driver_item,
+    has_closed, has_equal, has_exclusive, has_of_agent, is_held,
 };
 use guid_handles::Handles;
 use page_ranges::Status;
@@ -29,20 +28,24 @@ use uuid::Uuid;
 pub struct Opens<A: Allocator = Global> {
     // In the order in which they were made.
     items: Vec<OpenRecord, A>,
-    // The same by handle, those of a handle in the order in which they were made.
-    sorted: Vec<OpenRecord, A>,
+    // A number of each item, ascending.
+    serials: Vec<u64, A>,
+    // The number of the next item.
+    next: u64,
+    // The items and their numbers by handle.
+    blocks: Blocks<A>,
 }
 
 impl<A: Allocator> Model for Opens<A> {
     ghost use Rattle.std.specs.Prelude.{List};
     ghost use Rattle.open_agents.specs.declared.items.OpenRecord.{OpenRecord};
-    ghost use Rattle.open_agents.specs.HandleLists.{AreByHandle};
+    ghost use Rattle.open_agents.specs.Blocks.{IsOpenStore};
 
     ghost Value = { List OpenRecord };
 
     ghost view = { λ o. o.items.items };
 
-    ghost invariant = { λ o. AreByHandle o.items.items o.sorted.items };
+    ghost invariant = { λ o. IsOpenStore o.items.items o.serials.items o.next o.blocks };
 }
 
 impl<A: Allocator + Copy> Opens<A> {
@@ -52,7 +55,9 @@ impl<A: Allocator + Copy> Opens<A> {
     {
         Opens {
             items: Vec::new(alloc),
-            sorted: Vec::new(alloc),
+            serials: Vec::new(alloc),
+            next: 0,
+            blocks: Blocks::new(alloc),
         }
     }
 
@@ -62,8 +67,14 @@ impl<A: Allocator + Copy> Opens<A> {
     {
         let alloc = *self.items.allocator();
         let items = Vec::from_slice(alloc, self.items.as_slice())?;
-        let sorted = Vec::from_slice(alloc, self.sorted.as_slice())?;
-        Ok(Opens { items, sorted })
+        let serials = Vec::from_slice(alloc, self.serials.as_slice())?;
+        let blocks = self.blocks.try_copy()?;
+        Ok(Opens {
+            items,
+            serials,
+            next: self.next,
+            blocks,
+        })
     }
 
     /// All items, in the order in which they were made.
@@ -73,18 +84,120 @@ impl<A: Allocator + Copy> Opens<A> {
         self.items.as_slice()
     }
 
-    /// The items on a handle, in the order in which they were made.
-    fn on(&self, handle: u64) -> &[OpenRecord]
-        ensures { result.now ≡ filter (is_on handle) self.now }
+    /// The items in the block of a handle, in the order in which they were made.
+    fn near(&self, handle: u64) -> &[OpenRecord]
+        ensures { result.now ≡ filter (is_near handle) self.now }
     {
-        items_at(self.sorted.as_slice(), handle)
+        self.blocks.items(block_of(handle))
+    }
+
+    /// The place among all items of the item at a place in the block of a handle.
+    fn place_among_all(&self, handle: u64, place: usize) -> usize
+        requires { place < length (filter (is_near handle) self.now) }
+        ensures { slice_get self.now result ≡ slice_get (filter (is_near handle) self.now) place }
+    {
+        let serial = serial_at(self.blocks.serials(block_of(handle)), place);
+        count_less(self.serials.as_slice(), serial)
+    }
+
+    /// The place of an item that is equal to what a call asks for.
+    fn place_of_equal(
+        &self,
+        handle: u64,
+        guid: Uuid,
+        agent: u64,
+        controller: u64,
+        attributes: u32,
+    ) -> Option<usize>
+        ensures there { IfSome result (HoldsAt (spec.is_equal_item handle guid agent controller attributes) self.now) }
+        ensures none { IfNone result (rule.has_equal self.now handle guid agent controller attributes ≡ false) }
+    {
+        let place = find_equal(
+            self.near(handle),
+            handle,
+            guid,
+            agent,
+            controller,
+            attributes,
+        )?;
+        Some(self.place_among_all(handle, place))
+    }
+
+    /// The place of an item of a controller and an agent on an interface.
+    fn place_of_closed(&self, handle: u64, guid: Uuid, agent: u64, controller: u64) -> Option<usize>
+        ensures there { IfSome result (HoldsAt (is_closed_by handle guid agent controller) self.now) }
+        ensures none { IfNone result (list_any (is_closed_by handle guid agent controller) self.now ≡ false) }
+    {
+        let place = find_closed(self.near(handle), handle, guid, agent, controller)?;
+        Some(self.place_among_all(handle, place))
+    }
+
+    /// The place in its block of the item at a place.
+    fn place_in_block(&self, at: usize) -> usize
+        requires { at < length self.now }
+        ensures { IsPlaceInBlock self.now at result }
+    {
+        let item = self.items[at];
+        let serial = serial_at(self.serials.as_slice(), at);
+        count_less(self.blocks.serials(block_of(item.handle)), serial)
+    }
+
+    /// Counts the item at a place once more, which is equal to what a call asks for.
+    fn count_at(
+        &mut self,
+        at: usize,
+        handle: u64,
+        guid: Uuid,
+        agent: u64,
+        controller: u64,
+        attributes: u32,
+    )
+        requires there { HoldsAt (spec.is_equal_item handle guid agent controller attributes) self.old at }
+        requires counts { CanCount handle guid agent controller attributes self.old }
+        ensures { self.new ≡ map (spec.counted (spec.is_equal_item handle guid agent controller attributes)) self.old }
+    {
+        let place = self.place_in_block(at);
+        let mut item = self.items[at];
+        item.count += 1;
+        self.items[at] = item;
+        self.blocks.put(block_of(item.handle), place, &item);
+    }
+
+    /// Takes out the item at a place.
+    fn remove_at(&mut self, at: usize)
+        requires { at < length self.old }
+        ensures { self.new ≡ remove self.old at }
+    {
+        let place = self.place_in_block(at);
+        let item = self.items.remove(at);
+        self.serials.remove(at);
+        self.blocks.remove(block_of(item.handle), place);
+    }
+
+    /// Appends an item of an agent that is equal to none. On an `Err` the items are as they were.
+    fn push(&mut self, item: &OpenRecord) -> Result<(), AllocError>
+        requires new { list_any (are_equal item.now) self.old ≡ false }
+        requires agent { (item.now.agent == 0) ≡ false }
+        ensures ok { OnOk result (self.new ≡ self.old ++ item.now ∷ []) }
+        ensures err { OnErr result (self.new ≡ self.old) }
+    {
+        if self.next == u64::MAX {
+            return Err(AllocError);
+        }
+        self.items.reserve(1)?;
+        self.serials.reserve(1)?;
+        self.blocks.push(block_of(item.handle), self.next, item)?;
+        push_with_room(&mut self.serials, self.next);
+        push_with_room(&mut self.items, *item);
+        self.next += 1;
+        Ok(())
     }
 
     /// Whether an interface is open for a driver or exclusively.
     pub fn has_holder(&self, handle: u64, guid: Uuid) -> bool
         ensures { result ≡ rule.has_holder self.now handle guid }
     {
-        is_held(self.on(handle), handle, guid)
+        is_held(self.near(handle), handle, guid)
     }
 
     /// What is to be done about a call of OpenProtocol. This takes no memory.
@@ -101,7 +214,7 @@ impl<A: Allocator + Copy> Opens<A> {
     {
         decide_among(
             handles,
-            self.on(handle),
+            self.near(handle),
             handle,
             guid,
             agent,
@@ -116,28 +229,47 @@ impl<A: Allocator + Copy> Opens<A> {
         ensures found { result ≡ list_any (is_closed_by handle guid agent controller) self.old }
         ensures items { self.new ≡ without_items (is_closed_by handle guid agent controller) self.old }
     {
-        if !has_closed(self.on(handle), handle, guid, agent, controller) {
+        if !has_closed(self.near(handle), handle, guid, agent, controller) {
             return false;
         }
-        drop_closed(&mut self.items, handle, guid, agent, controller);
-        drop_closed(&mut self.sorted, handle, guid, agent, controller);
+        self.drop_closed(handle, guid, agent, controller);
         true
+    }
+
+    /// Takes out all items of a controller and an agent on an interface.
+    fn drop_closed(&mut self, handle: u64, guid: Uuid, agent: u64, controller: u64)
+        ensures { self.new ≡ without_items (is_closed_by handle guid agent controller) self.old }
+    {
+        while let Some(at) = self.place_of_closed(handle, guid, agent, controller) {
+            self.remove_at(at);
+        }
     }
 
     /// Takes out all items of a controller and an agent.
     pub fn drop_pair(&mut self, controller: u64, agent: u64)
         ensures { self.new ≡ without_items (spec.is_of_pair controller agent) self.old }
     {
-        drop_of_pair(&mut self.items, controller, agent);
-        drop_of_pair(&mut self.sorted, controller, agent);
+        while let Some(at) = find_of_pair(self.items.as_slice(), controller, agent) {
+            self.remove_at(at);
+        }
     }
 
     /// Takes out all items that name a handle, as their handle, agent or controller.
     pub fn drop_handle(&mut self, handle: u64)
         ensures { self.new ≡ without_items (names handle) self.old }
     {
-        drop_naming(&mut self.items, handle);
-        drop_naming(&mut self.sorted, handle);
+        while let Some(at) = find_naming(self.items.as_slice(), handle) {
+            self.remove_at(at);
+        }
+    }
+
+    /// Takes out all items of an interface.
+    pub fn drop_interface(&mut self, handle: u64, guid: Uuid)
+        ensures { self.new ≡ without_items (spec.is_open_on handle guid) self.old }
+    {
+        while let Some(at) = find_open_on(self.items.as_slice(), handle, guid) {
+            self.remove_at(at);
+        }
     }
 
     /// Counts an equal item once more, or makes a new one where there is none and the agent is not
@@ -156,30 +288,23 @@ impl<A: Allocator + Copy> Opens<A> {
         ensures counts { rule.has_equal self.old handle guid agent controller attributes ≡ true → IsOk result }
         ensures no_agent { agent ≡ 0 → IsOk result }
     {
-        if has_equal(self.on(handle), handle, guid, agent, controller, attributes) {
-            count_equal(&mut self.items, handle, guid, agent, controller, attributes);
-            count_equal(
-                &mut self.sorted,
-                handle,
-                guid,
-                agent,
-                controller,
-                attributes,
-            );
+        // No item is of agent 0.
+        let _items = &self.items;
+        if agent == 0 {
             return Ok(());
         }
-        if agent != 0 {
-            let item = OpenRecord {
-                handle,
-                guid,
-                agent,
-                controller,
-                attributes,
-                count: 1,
-            };
-            push_item(&mut self.items, &mut self.sorted, &item)?;
+        if let Some(at) = self.place_of_equal(handle, guid, agent, controller, attributes) {
+            self.count_at(at, handle, guid, agent, controller, attributes);
+            return Ok(());
         }
-        Ok(())
+        self.push(&OpenRecord {
+            handle,
+            guid,
+            agent,
+            controller,
+            attributes,
+            count: 1,
+        })
     }
 
     /// The items of an interface, in the order in which they were made. If there are none, this
@@ -188,7 +313,7 @@ impl<A: Allocator + Copy> Opens<A> {
         ensures items { IfOk result (λ v. v.items ≡ items_on self.now handle guid) }
         ensures none { items_on self.now handle guid ≡ [] → IsOk result }
     {
-        items_among(*self.items.allocator(), self.on(handle), handle, guid)
+        items_among(*self.items.allocator(), self.near(handle), handle, guid)
     }
 
     /// The pairs of controller and agent that manage a handle: one for each item for a driver with
@@ -273,59 +398,21 @@ fn is_dead<A: Allocator + Copy>(handles: &Handles<A>, handle: u64) -> bool
     handle != 0 && !handles.is_live(handle)
 }
 
-/// Takes out the items of a pair on an interface.
-fn drop_closed<A: Allocator>(
-    items: &mut Vec<OpenRecord, A>,
-    handle: u64,
-    guid: Uuid,
-    agent: u64,
-    controller: u64,
-)
-    ensures { items.new.items ≡ without_items (is_closed_by handle guid agent controller) items.old.items }
+/// The serial number at a place.
+fn serial_at(serials: &[u64], at: usize) -> u64
+    requires { at < length serials.now }
+    ensures { slice_get serials.now at ≡ Some result }
 {
-    items.retain(
-        |o: &OpenRecord| -> bool
-            ensures { result ≡ not (is_closed_by handle guid agent controller o.now) }
-        { !(is_open_on(o, handle, guid) && is_of_pair(o, controller, agent)) },
-    );
+    serials[at]
 }
 
-/// Takes out the items of a pair.
-fn drop_of_pair<A: Allocator>(items: &mut Vec<OpenRecord, A>, controller: u64, agent: u64)
-    ensures { items.new.items ≡ without_items (spec.is_of_pair controller agent) items.old.items }
+/// Appends an item, for which there is room.
+fn push_with_room<T: Drop, A: Allocator>(items: &mut Vec<T, A>, item: T)
+    requires { vec_len items.old < vec_capacity items.old }
+    ensures { items.new.items ≡ items.old.items ++ item ∷ [] }
 {
-    items.retain(
-        |o: &OpenRecord| -> bool
-            ensures { result ≡ not (spec.is_of_pair controller agent o.now) }
-        { !is_of_pair(o, controller, agent) },
-    );
-}
-
-/// Takes out the items that name a handle.
-fn drop_naming<A: Allocator>(items: &mut Vec<OpenRecord, A>, handle: u64)
-    ensures { items.new.items ≡ without_items (names handle) items.old.items }
-{
-    items.retain(
-        |o: &OpenRecord| -> bool
-            ensures { result ≡ not (names handle o.now) }
-        { !(o.handle == handle || o.agent == handle || o.controller == handle) },
-    );
-}
-
-/// Counts the items that are equal to what a call asks for once more.
-fn count_equal<A: Allocator>(
-    items: &mut Vec<OpenRecord, A>,
-    handle: u64,
-    guid: Uuid,
-    agent: u64,
-    controller: u64,
-    attributes: u32,
-)
-    requires { CanCount handle guid agent controller attributes items.old.items }
-    ensures { items.new.items ≡ map (spec.counted (spec.is_equal_item handle guid agent controller attributes)) items.old.items }
-{
-    for o in items.iter_mut() {
-        count_if_equal(o, handle, guid, agent, controller, attributes);
+    if items.push(item).is_err() {
+        unreachable!();
     }
 }
 

@@ -1,7 +1,9 @@
 //! What is asked of open items.
-ghost use Rattle.std.specs.Prelude.{◌≡◌};
+ghost use Rattle.std.specs.Prelude.{◌≡◌, false, IfSome, IfNone};
 ghost use Rattle.std.specs.List.{list_any};
+ghost use Rattle.open_agents.specs.OpenItems as spec;
 ghost use Rattle.open_agents.specs.OpenItems.{is_closed_by};
+ghost use Rattle.open_agents.specs.Blocks.{HoldsAt};
 ghost use Rattle.open_agents.specs.OpenRule as rule;
 
 use crate::attributes::{BY_DRIVER, is_exclusive, is_for_driver};
@@ -80,6 +82,91 @@ pub(crate) fn first_driver_item(items: &[OpenRecord], handle: u64, guid: Uuid) -
     for o in items {
         if is_driver_item(o, handle, guid) {
             return Some(*o);
+        }
+    }
+    None
+}
+
+/// The place of the first item that is equal to what a call asks for.
+pub(crate) fn find_equal(
+    items: &[OpenRecord],
+    handle: u64,
+    guid: Uuid,
+    agent: u64,
+    controller: u64,
+    attributes: u32,
+) -> Option<usize>
+    ensures there { IfSome result (HoldsAt (spec.is_equal_item handle guid agent controller attributes) items.now) }
+    ensures none { IfNone result (rule.has_equal items.now handle guid agent controller attributes ≡ false) }
+{
+    for at in 0..items.len() {
+        if is_equal_item(&items[at], handle, guid, agent, controller, attributes) {
+            return Some(at);
+        }
+    }
+    None
+}
+
+/// The place of the first item of a controller and an agent on an interface.
+pub(crate) fn find_closed(
+    items: &[OpenRecord],
+    handle: u64,
+    guid: Uuid,
+    agent: u64,
+    controller: u64,
+) -> Option<usize>
+    ensures there { IfSome result (HoldsAt (is_closed_by handle guid agent controller) items.now) }
+    ensures none { IfNone result (list_any (is_closed_by handle guid agent controller) items.now ≡ false) }
+{
+    for at in 0..items.len() {
+        if is_open_on(&items[at], handle, guid) && is_of_pair(&items[at], controller, agent) {
+            return Some(at);
+        }
+    }
+    None
+}
+
+/// The place of the first item of a controller and an agent.
+pub(crate) fn find_of_pair(items: &[OpenRecord], controller: u64, agent: u64) -> Option<usize>
+    ensures there { IfSome result (HoldsAt (spec.is_of_pair controller agent) items.now) }
+    ensures none { IfNone result (list_any (spec.is_of_pair controller agent) items.now ≡ false) }
+{
+    for at in 0..items.len() {
+        if is_of_pair(&items[at], controller, agent) {
+            return Some(at);
+        }
+    }
+    None
+}
+
+/// The place of the first item of an interface.
+pub(crate) fn find_open_on(items: &[OpenRecord], handle: u64, guid: Uuid) -> Option<usize>
+    ensures there { IfSome result (HoldsAt (spec.is_open_on handle guid) items.now) }
+    ensures none { IfNone result (list_any (spec.is_open_on handle guid) items.now ≡ false) }
+{
+    for at in 0..items.len() {
+        if is_open_on(&items[at], handle, guid) {
+            return Some(at);
+        }
+    }
+    None
+}
+
+/// Whether an item names a handle.
+fn names_handle(o: &OpenRecord, handle: u64) -> bool
+    ensures { result ≡ spec.names handle o.now }
+{
+    o.handle == handle || o.agent == handle || o.controller == handle
+}
+
+/// The place of the first item that names a handle.
+pub(crate) fn find_naming(items: &[OpenRecord], handle: u64) -> Option<usize>
+    ensures there { IfSome result (HoldsAt (spec.names handle) items.now) }
+    ensures none { IfNone result (list_any (spec.names handle) items.now ≡ false) }
+{
+    for at in 0..items.len() {
+        if names_handle(&items[at], handle) {
+            return Some(at);
         }
     }
     None

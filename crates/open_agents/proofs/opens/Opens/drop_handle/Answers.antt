@@ -1,7 +1,11 @@
-use Rattle.std.proofs.Common.{not}
+use Rattle.std.proofs.Common.{◌∙◌}
 use Rattle.open_agents.specs.OpenItems.{names}
-use Rattle.open_agents.proofs.HandleRanges.{by_handle_filter}
+use Rattle.open_agents.proofs.Asked.{none_dropped}
+use Rattle.open_agents.proofs.Blocked.{without_held}
 use Rattle.open_agents.proofs.opens.Opens.drop_handle.Goals as goal
 
-pub invariant_of-self : goal.invariant_of-self
-invariant_of-self g c = rw (c.drop_naming.ensures, c.drop_naming-2.ensures) (by_handle_filter (λ o. not (names c.args.handle o)) _ _ c.self.invariant)
+pub loop-at-preserved : goal.loop-at-preserved
+loop-at-preserved g c = rw c.remove_at.ensures (without_held (names c.args.handle) _ _ (rw (c.as_slice.ensures.value, c.self.view_is) at c.in-Some.ensures.there) ∙ c.loop-at.invariant)
+
+pub returns : goal.returns
+returns g c = none_dropped (names c.args.handle) _ (rw (c.as_slice.ensures.value, c.self.view_is) at c.in_default.ensures.none) ∙ c.loop-at.invariant
