@@ -8,4 +8,5 @@ pub mod StopSets
 pub mod Left
 pub mod Idle
 pub mod Makers
+pub mod Counts
 pub mod Samples

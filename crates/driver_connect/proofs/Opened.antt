@@ -34,7 +34,7 @@ not_equal n guid agent o h = elim (cases_Bool (is_open_on n guid o)) [
   | inr e ↦ rw e refl
 ]
 
-none_equal : (n : ℕ) (guid : List ℕ) (agent : ℕ) (opens : List OpenRecord) → has_holder opens n guid ≡ false → AllByRecursion (λ o. is_equal_item n guid agent n 0x10 o ≡ false) opens
+pub none_equal : (n : ℕ) (guid : List ℕ) (agent : ℕ) (opens : List OpenRecord) → has_holder opens n guid ≡ false → AllByRecursion (λ o. is_equal_item n guid agent n 0x10 o ≡ false) opens
 none_equal n guid agent opens h = all_map (λ o. is_holder n guid o ≡ false) (λ o. is_equal_item n guid agent n 0x10 o ≡ false) (not_equal n guid agent) opens (none_any (is_holder n guid) opens h)
 
 pub can_count : (n : ℕ) (guid : List ℕ) (agent : ℕ) (opens : List OpenRecord) → has_holder opens n guid ≡ false → CanCount n guid agent n 0x10 opens

@@ -2,3 +2,13 @@ pub mod Carried
 pub mod OpenCounts
 pub mod WrittenOver
 pub mod ListSizes
+pub mod Raised
+pub mod Freed
+pub mod NewInterfaces
+pub mod ProperTables
+pub mod ProperItems
+pub mod ProperStarts
+pub mod ProperRules
+pub mod ProperOpens
+pub mod ProperRemovals
+pub mod Unopened

@@ -1,5 +1,9 @@
 pub mod Lists
+pub mod ProperLists
 pub mod Installing
 pub mod Searches
+pub mod Stopping
 pub mod Opening
+pub mod Removing
+pub mod Driving
 pub mod ListBytes

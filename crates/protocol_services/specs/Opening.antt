@@ -1,5 +1,5 @@
 -- The rules of OpenProtocol, HandleProtocol and CloseProtocol.
-use Rattle.std.specs.Prelude.{◌≡◌, ◌≢◌, ℕ, ◌==◌, ◌&&◌, ◌||◌, not, Bool, true, false, cond, Option, Some, None, Result, Ok, Err, List, Vec, length, ◌<◌}
+use Rattle.std.specs.Prelude.{◌≡◌, ◌≢◌, ℕ, ◌==◌, ◌&&◌, ◌||◌, not, Bool, true, false, cond, Option, Some, None, Result, Ok, Err, List, [], ◌∷◌, Vec, length, ◌<◌}
 use Rattle.std.specs.List.{list_any}
 use Rattle.page_ranges.specs.declared.statuses.Status.{Status}
 use Rattle.page_ranges.specs.declared.statuses.Status.TheVariants.{InvalidParameter, NotFound, AccessDenied, OutOfResources}
@@ -10,7 +10,9 @@ use Rattle.open_agents.specs.declared.items.OpenItem.{OpenItem}
 use Rattle.open_agents.specs.declared.items.Decision.TheVariants.{Refuse, Count, Add, StopFirst}
 use Rattle.open_agents.specs.OpenItems.{is_closed_by, items_on, with_item, without_items}
 use Rattle.open_agents.specs.OpenRule.{open_rule}
+use Rattle.driver_connect.specs.Drivers.{Meaning}
 use Rattle.protocol_services.specs.Lists.{Lists}
+use Rattle.protocol_services.specs.Stopping.{can_stop, once_stopped}
 
 -- EFI_OPEN_PROTOCOL_BY_HANDLE_PROTOCOL
 abbrev pub by_handle_protocol : ℕ
@@ -28,26 +30,32 @@ opened_value l handle guid attributes = cond (attributes == test_protocol) None 
 abbrev pub once_opened : Lists → ℕ → List ℕ → ℕ → ℕ → ℕ → Lists
 once_opened l handle guid agent controller attributes = record l { opens = with_item handle guid agent controller attributes l.opens }
 
--- What OpenProtocol answers where so much was decided, and the lists after it. No driver can be stopped yet. Memory may run out
--- for a new item only, and agent 0 has none.
-abbrev pub OpensAs : Decision → Lists → ℕ → List ℕ → ℕ → ℕ → ℕ → Result (Option ℕ) Status → Lists → Type 0
-OpensAs (Refuse status) l handle guid agent controller attributes (Ok value) new = ⊥
-OpensAs (Refuse status) l handle guid agent controller attributes (Err e) new = (e ≡ status) × (new ≡ l)
-OpensAs (StopFirst pair) l handle guid agent controller attributes (Ok value) new = ⊥
-OpensAs (StopFirst pair) l handle guid agent controller attributes (Err e) new = (e ≡ AccessDenied) × (new ≡ l)
-OpensAs Count l handle guid agent controller attributes (Ok value) new = (value ≡ opened_value l handle guid attributes) × (new ≡ once_opened l handle guid agent controller attributes)
-OpensAs Count l handle guid agent controller attributes (Err e) new = ⊥
-OpensAs Add l handle guid agent controller attributes (Ok value) new = (value ≡ opened_value l handle guid attributes) × (new ≡ once_opened l handle guid agent controller attributes)
-OpensAs Add l handle guid agent controller attributes (Err e) new = (agent ≢ 0) × (e ≡ OutOfResources) × (new ≡ l)
+-- What OpenProtocol answers where so much was decided, and the lists after it. An exclusive open stops the driver that has the interface
+-- open, or is refused with ACCESS_DENIED. Memory may run out there, and for a new item; agent 0 has none.
+abbrev pub OpensAs : List Meaning → Decision → Lists → ℕ → List ℕ → ℕ → ℕ → ℕ → Result (Option ℕ) Status → Lists → Type 0
+OpensAs ds (Refuse status) l handle guid agent controller attributes (Ok value) new = ⊥
+OpensAs ds (Refuse status) l handle guid agent controller attributes (Err e) new = (e ≡ status) × (new ≡ l)
+OpensAs ds (StopFirst pair) l handle guid agent controller attributes (Ok value) new =
+    (can_stop ds l (pair ∷ []) handle (Some (agent, controller)) ≡ true)
+    × (value ≡ opened_value l handle guid attributes)
+    × (new ≡ once_opened (once_stopped (pair ∷ []) l) handle guid agent controller attributes)
+OpensAs ds (StopFirst pair) l handle guid agent controller attributes (Err AccessDenied) new = (can_stop ds l (pair ∷ []) handle (Some (agent, controller)) ≡ false) × (new ≡ l)
+OpensAs ds (StopFirst pair) l handle guid agent controller attributes (Err OutOfResources) new = new ≡ l
+OpensAs ds (StopFirst pair) l handle guid agent controller attributes (Err e) new = ⊥
+OpensAs ds Count l handle guid agent controller attributes (Ok value) new = (value ≡ opened_value l handle guid attributes) × (new ≡ once_opened l handle guid agent controller attributes)
+OpensAs ds Count l handle guid agent controller attributes (Err e) new = ⊥
+OpensAs ds Add l handle guid agent controller attributes (Ok value) new = (value ≡ opened_value l handle guid attributes) × (new ≡ once_opened l handle guid agent controller attributes)
+OpensAs ds Add l handle guid agent controller attributes (Err e) new = (agent ≢ 0) × (e ≡ OutOfResources) × (new ≡ l)
 
 -- what OpenProtocol answers, and the lists after it
-abbrev pub OpensProtocol : Lists → ℕ → List ℕ → ℕ → ℕ → ℕ → Result (Option ℕ) Status → Lists → Type 0
-OpensProtocol l handle guid agent controller attributes result new = OpensAs (open_rule l.handles l.opens handle guid agent controller attributes) l handle guid agent controller attributes result new
+abbrev pub OpensProtocol : List Meaning → Lists → ℕ → List ℕ → ℕ → ℕ → ℕ → Result (Option ℕ) Status → Lists → Type 0
+OpensProtocol ds l handle guid agent controller attributes result new = OpensAs ds (open_rule l.handles l.opens handle guid agent controller attributes) l handle guid agent controller attributes result new
 
--- what HandleProtocol answers, and the lists after it: those of OpenProtocol by no agent and no controller
+-- What HandleProtocol answers, and the lists after it: those of OpenProtocol by no agent and no controller. Such an open stops no driver,
+-- so none is asked.
 abbrev pub HandlesProtocol : Lists → ℕ → List ℕ → Result ℕ Status → Lists → Type 0
-HandlesProtocol l handle guid (Ok value) new = OpensProtocol l handle guid 0 0 by_handle_protocol (Ok (Some value)) new
-HandlesProtocol l handle guid (Err status) new = OpensProtocol l handle guid 0 0 by_handle_protocol (Err status) new
+HandlesProtocol l handle guid (Ok value) new = OpensProtocol [] l handle guid 0 0 by_handle_protocol (Ok (Some value)) new
+HandlesProtocol l handle guid (Err status) new = OpensProtocol [] l handle guid 0 0 by_handle_protocol (Err status) new
 
 -- A handle or an agent that is not live, or a controller that is neither 0 nor live.
 abbrev pub names_none : Lists → ℕ → ℕ → ℕ → Bool

@@ -1,9 +1,12 @@
 //! The protocol services on their lists: handles with their interfaces, open items, registrations.
 #![tactic(auto)]
 
+mod drafts;
+mod driving;
 mod list_bytes;
 mod opening;
 mod protocols;
+mod removing;
 mod replies;
 mod searches;
 

@@ -1,12 +1,16 @@
 //! Opening and closing interfaces.
-ghost use Rattle.std.specs.Prelude.{◌≡◌};
+ghost use Rattle.std.specs.Prelude.{◌≡◌, [], ◌∷◌, true, Some, IfOk, map};
 ghost use Rattle.protocol_services.specs.Lists.{HasRoom, IsRaised};
-ghost use Rattle.protocol_services.specs.Opening.{Closes, HandlesProtocol, OpensProtocol, TellsItems, names_none, opened_value};
+ghost use Rattle.open_agents.specs.OpenRule.{has_equal, open_rule};
+ghost use Rattle.protocol_services.specs.Opening.{Closes, HandlesProtocol, OpensAs, OpensProtocol, TellsItems, names_none, opened_value};
+ghost use Rattle.protocol_services.specs.Stopping.{can_stop, once_stopped};
 
+use crate::drafts::Draft;
 use crate::protocols::Protocols;
+use driver_connect::{Driver, stop};
 use open_agents::{Decision, OpenItem};
 use page_ranges::Status;
-use std::alloc::Allocator;
+use std::alloc::{AllocError, Allocator};
 use uuid::Uuid;
 
 /// EFI_OPEN_PROTOCOL_BY_HANDLE_PROTOCOL.
@@ -17,11 +21,54 @@ const TEST_PROTOCOL: u32 = 0x4;
 
 impl<A: Allocator + Copy> Protocols<A> {
     /// OpenProtocol: the value of the interface of a GUID on a handle, none for TEST_PROTOCOL; an agent
-    /// other than 0 gets an item, or its equal item is counted once more.
+    /// other than 0 gets an item, or its equal item is counted once more. An exclusive open stops the driver
+    /// that has the interface open.
     ///
-    /// Refused as the open table says; a driver that would have to stop first is not stopped yet, so
-    /// that is ACCESS_DENIED. OUT_OF_RESOURCES: memory ran out for a new item.
-    pub fn open(
+    /// Refused as the open table says, with ACCESS_DENIED where that driver can't be stopped.
+    /// OUT_OF_RESOURCES: memory ran out for the stop, or for a new item.
+    pub fn open<D: Driver>(
+        &mut self,
+        drivers: &[D],
+        handle: u64,
+        guid: Uuid,
+        agent: u64,
+        controller: u64,
+        attributes: u32,
+    ) -> Result<Option<u64>, Status>
+        requires { HasRoom self.old }
+        ensures opens { OpensProtocol (map D.meaning drivers.now) self.old handle guid agent controller attributes result self.new }
+        ensures raised { IsRaised self.old self.new }
+    {
+        match self.decide(handle, guid, agent, controller, attributes) {
+            Decision::Refuse(status) => Err(status),
+            Decision::StopFirst(pair) => {
+                let opener = (agent, controller);
+                self.open_after_stop(drivers, pair, handle, guid, opener, attributes)
+            }
+            Decision::Count | Decision::Add => {
+                self.add_open(handle, guid, agent, controller, attributes)
+            }
+        }
+    }
+
+    /// What is to be done about a call of OpenProtocol.
+    fn decide(
+        &self,
+        handle: u64,
+        guid: Uuid,
+        agent: u64,
+        controller: u64,
+        attributes: u32,
+    ) -> Decision
+        ensures { result ≡ open_rule self.now.handles self.now.opens handle guid agent controller attributes }
+    {
+        self.opens
+            .decide(&self.handles, handle, guid, agent, controller, attributes)
+    }
+
+    /// Opens an interface that no driver must give up first. OUT_OF_RESOURCES: memory ran out for a new
+    /// item.
+    fn add_open(
         &mut self,
         handle: u64,
         guid: Uuid,
@@ -30,19 +77,47 @@ impl<A: Allocator + Copy> Protocols<A> {
         attributes: u32,
     ) -> Result<Option<u64>, Status>
         requires { HasRoom self.old }
-        ensures opens { OpensProtocol self.old handle guid agent controller attributes result self.new }
+        ensures adds { OpensAs [] Decision.Add self.old handle guid agent controller attributes result self.new }
+        ensures counts { has_equal self.old.opens handle guid agent controller attributes ≡ true → OpensAs [] Decision.Count self.old handle guid agent controller attributes result self.new }
         ensures raised { IsRaised self.old self.new }
     {
-        let decision = self
-            .opens
-            .decide(&self.handles, handle, guid, agent, controller, attributes);
-        match decision {
-            Decision::Refuse(status) => return Err(status),
-            Decision::StopFirst(_) => return Err(Status::AccessDenied),
-            Decision::Count | Decision::Add => {}
-        }
         match self.opens.add(handle, guid, agent, controller, attributes) {
             Ok(()) => Ok(self.opened_value(handle, guid, attributes)),
+            Err(_) => Err(Status::OutOfResources),
+        }
+    }
+
+    /// Opens an interface for an opener, its agent and controller, after the driver of a pair is stopped.
+    ///
+    /// ACCESS_DENIED: it can't be stopped. OUT_OF_RESOURCES: memory ran out.
+    fn open_after_stop<D: Driver>(
+        &mut self,
+        drivers: &[D],
+        pair: (u64, u64),
+        handle: u64,
+        guid: Uuid,
+        opener: (u64, u64),
+        attributes: u32,
+    ) -> Result<Option<u64>, Status>
+        requires { HasRoom self.old }
+        ensures opens { OpensAs (map D.meaning drivers.now) (Decision.StopFirst pair) self.old handle guid opener.0 opener.1 attributes result self.new }
+        ensures raised { IsRaised self.old self.new }
+    {
+        let Ok(mut draft) = self.draft() else {
+            return Err(Status::OutOfResources);
+        };
+        match draft.stop(self.alloc, drivers, pair, handle, opener) {
+            Ok(true) => {}
+            Ok(false) => return Err(Status::AccessDenied),
+            Err(_) => return Err(Status::OutOfResources),
+        }
+        let value = self.opened_value(handle, guid, attributes);
+        let (agent, controller) = opener;
+        match draft.opens.add(handle, guid, agent, controller, attributes) {
+            Ok(()) => {
+                self.put(draft);
+                Ok(value)
+            }
             Err(_) => Err(Status::OutOfResources),
         }
     }
@@ -66,10 +141,13 @@ impl<A: Allocator + Copy> Protocols<A> {
         ensures opens { HandlesProtocol self.old handle guid result self.new }
         ensures raised { IsRaised self.old self.new }
     {
-        match self.open(handle, guid, 0, 0, BY_HANDLE_PROTOCOL) {
-            Ok(Some(value)) => Ok(value),
-            Ok(None) => unreachable!(),
-            Err(status) => Err(status),
+        match self.decide(handle, guid, 0, 0, BY_HANDLE_PROTOCOL) {
+            Decision::Refuse(status) => Err(status),
+            _ => match self.add_open(handle, guid, 0, 0, BY_HANDLE_PROTOCOL) {
+                Ok(Some(value)) => Ok(value),
+                Ok(None) => unreachable!(),
+                Err(status) => Err(status),
+            },
         }
     }
 
@@ -124,5 +202,31 @@ impl<A: Allocator + Copy> Protocols<A> {
             Ok(items) => Ok(items),
             Err(_) => Err(Status::OutOfResources),
         }
+    }
+}
+
+impl<A: Allocator + Copy> Draft<A> {
+    /// Stops the driver of a pair for an exclusive open by an opener, its agent and controller, and answers
+    /// whether it was stopped. If not, all is as it was.
+    fn stop<D: Driver>(
+        &mut self,
+        alloc: A,
+        drivers: &[D],
+        pair: (u64, u64),
+        handle: u64,
+        opener: (u64, u64),
+    ) -> Result<bool, AllocError>
+        ensures answer { IfOk result (λ can. can ≡ can_stop (map D.meaning drivers.now) self.old (pair ∷ []) handle (Some opener)) }
+        ensures stopped { IfOk result (λ can. can ≡ true → self.new ≡ once_stopped (pair ∷ []) self.old) }
+    {
+        stop(
+            alloc,
+            &mut self.handles,
+            &mut self.opens,
+            drivers,
+            &[pair],
+            handle,
+            Some(opener),
+        )
     }
 }

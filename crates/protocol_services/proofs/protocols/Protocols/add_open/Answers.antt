@@ -1,6 +1,6 @@
 use Rattle.std.proofs.Common.{arith}
 use Rattle.protocol_services.proofs.OpenCounts.{one_higher, opened_counts}
-use Rattle.protocol_services.proofs.protocols.Protocols.open.Goals as goal
+use Rattle.protocol_services.proofs.protocols.Protocols.add_open.Goals as goal
 
 pub returns-in-Ok-clause-raised : goal.returns-in-Ok-clause-raised
 returns-in-Ok-clause-raised g c = rw (← c.self.view_is) (rw c.in-Ok.ensures.ok record {

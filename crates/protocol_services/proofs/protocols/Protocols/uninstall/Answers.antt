@@ -1,0 +1,42 @@
+use Rattle.std.proofs.Common.{◌≡◌, [], map, None, refl, sym, ◌∙◌}
+use Rattle.open_agents.specs.OpenItems.{items_on}
+use Rattle.protocol_services.specs.Lists.{Lists}
+use Rattle.protocol_services.specs.Removing.{removal_refusal}
+use Rattle.protocol_services.proofs.Raised.{stays_raised}
+use Rattle.protocol_services.proofs.Unopened.{unopened_freed, uninstalled_by_draft, uninstalled_in_place}
+use Rattle.protocol_services.proofs.Freed.{draft_carries, none_left, not_refused, uninstalled_raised}
+use Rattle.protocol_services.proofs.protocols.Protocols.uninstall.Goals as goal
+
+pub uninstall-requires : goal.uninstall-requires
+uninstall-requires g c =
+    draft_carries (map g.D.Driver.meaning c.args.drivers.now) c.args.self.now c.in_ok-draft.draft c.args.handle c.args.guid c.args.value
+    (not_refused c.args.self.now _ c.args.handle c.args.guid c.args.value c.removal_refusal.result c.self.view_is c.removal_refusal.ensures c.in_default.not-Some) c.in_ok-draft.ensures.0 c.in_ok-draft.ensures.1
+
+pub returns-clause-raised : goal.returns-clause-raised
+returns-clause-raised g c = uninstalled_raised c.args.self.now c.in_ok-draft.draft c.uninstall.new.self c.put.new.self c.args.handle c.args.guid c.in_ok-draft.ensures.1 c.uninstall.ensures c.put.ensures
+
+pub returns-in_err-draft-clause-raised : goal.returns-in_err-draft-clause-raised
+returns-in_err-draft-clause-raised g c = stays_raised c.args.self.now
+
+pub returns-then-is_unopened-clause-uninstalls : goal.returns-then-is_unopened-clause-uninstalls
+returns-then-is_unopened-clause-uninstalls g c =
+    let l : Lists = record { handles = c.self.inside.handles; opens = c.self.inside.opens; registrations = c.self.inside.registrations } in
+    let left : Lists = record { handles = c.take_out.new.handles; opens = c.take_out.new.opens; registrations = [] } in
+    let none : removal_refusal l.handles c.args.handle c.args.guid c.args.value ≡ None = sym c.removal_refusal.ensures ∙ none_left c.removal_refusal.result c.in_default.not-Some in
+    rw (← c.self.view_is)
+    (uninstalled_in_place (map g.D.Driver.meaning c.args.drivers.now) l left (record left { registrations = l.registrations }) c.args.handle c.args.guid c.args.value none
+    (rw (← c.self.view_is) at (c.is_unopened.ensures c.if-is_unopened.true)) c.take_out.ensures refl)
+
+pub returns-then-is_unopened-clause-raised : goal.returns-then-is_unopened-clause-raised
+returns-then-is_unopened-clause-raised g c =
+    let l : Lists = record { handles = c.self.inside.handles; opens = c.self.inside.opens; registrations = c.self.inside.registrations } in
+    let start : Lists = record l { registrations = [] } in
+    let left : Lists = record { handles = c.take_out.new.handles; opens = c.take_out.new.opens; registrations = [] } in
+    let unopened : items_on l.opens c.args.handle c.args.guid ≡ [] = rw (← c.self.view_is) at (c.is_unopened.ensures c.if-is_unopened.true) in
+    rw (← c.self.view_is)
+    (uninstalled_raised l start left (record left { registrations = l.registrations }) c.args.handle c.args.guid (sym (unopened_freed start c.args.handle c.args.guid unopened)) c.take_out.ensures refl)
+
+pub returns-clause-uninstalls : goal.returns-clause-uninstalls
+returns-clause-uninstalls g c =
+    uninstalled_by_draft (map g.D.Driver.meaning c.args.drivers.now) c.args.self.now c.in_ok-draft.draft c.uninstall.new.self c.put.new.self c.args.handle c.args.guid c.args.value
+    (not_refused c.args.self.now _ c.args.handle c.args.guid c.args.value c.removal_refusal.result c.self.view_is c.removal_refusal.ensures c.in_default.not-Some) c.in_ok-draft.ensures.0 c.in_ok-draft.ensures.1 c.uninstall.ensures c.put.ensures
