@@ -26,6 +26,7 @@ use Rattle.open_agents.specs.declared.items.OpenItem.{OpenItem}
 use Rattle.open_agents.specs.OpenItems.{items_on}
 use Rattle.protocol_services.specs.ListBytes.{handle_bytes, item_bytes}
 use Rattle.protocol_services.proofs.ListSizes.{handle_bytes-length, item_bytes-length}
+use Rattle.driver_connect.specs.Drivers.{Meaning}
 use Rattle.boot_core.specs.declared.calls.PoolList.{PoolList}
 use Rattle.boot_core.specs.declared.calls.Call.{Call}
 use Rattle.boot_core.specs.declared.calls.Call.TheVariants as call
@@ -99,69 +100,69 @@ module _ (old : Parts) (proper : IsProperMemory old.book.memory) (typed : HasMac
   opens_result handle guid (Ok told) new h = items_result handle guid (items_on old.lists.opens handle guid) told new h.1 h.2
   opens_result handle guid (Err e) new h = tt
 
-module _ {A : Type 0} (old : Parts) (proper : IsProperMemory old.book.memory) (typed : HasMachineTypes old.book.memory) where
+module _ {A : Type 0} (ds : List Meaning) (old : Parts) (proper : IsProperMemory old.book.memory) (typed : HasMachineTypes old.book.memory) where
   accepted_result : (kind t pages memory : ℕ) (result : Result (Placed A) Status) (new : Parts) → AllocatesPages IsBestChoice old.book kind t pages memory result new.book → IfSome (certified (call.AllocatePages kind t pages memory) (reply.AllocatePages result)) (λ told. IsAccepted (memory_map old.book.memory) told.0 told.1)
   accepted_result kind t pages memory (Ok placed) new (valid, at, e) =
       accepted_placement old.book.memory proper typed (placement_request kind t pages memory) pages memory placed (proper_request kind t pages memory valid.1 valid.2) at
   accepted_result kind t pages memory (Err e) new h = uncertified (placement_request kind t pages memory) _
 
-  accepted_pages : (exited : Bool) (kind t pages memory : ℕ) (answer : Reply A) (new : Parts) → Answers best_starts exited old (call.AllocatePages kind t pages memory) answer new → IfSome (certified (call.AllocatePages kind t pages memory) answer) (λ told. IsAccepted (memory_map old.book.memory) told.0 told.1)
+  accepted_pages : (exited : Bool) (kind t pages memory : ℕ) (answer : Reply A) (new : Parts) → Answers (best_starts ds) exited old (call.AllocatePages kind t pages memory) answer new → IfSome (certified (call.AllocatePages kind t pages memory) answer) (λ told. IsAccepted (memory_map old.book.memory) told.0 told.1)
   accepted_pages true kind t pages memory answer new (result, e, h) =
       let refused : answer ≡ reply.AllocatePages (Err Unsupported) = e ∙ ap reply.AllocatePages h.0 in
       subst (λ (a : Reply A). IfSome (certified (call.AllocatePages kind t pages memory) a) (λ told. IsAccepted (memory_map old.book.memory) told.0 told.1)) (sym refused) (uncertified (placement_request kind t pages memory) _)
   accepted_pages false kind t pages memory answer new (result, e, h) =
       subst (λ (a : Reply A). IfSome (certified (call.AllocatePages kind t pages memory) a) (λ told. IsAccepted (memory_map old.book.memory) told.0 told.1)) (sym e) (accepted_result kind t pages memory result new h.0)
 
-  accepted_pool : (exited : Bool) (t size : ℕ) (answer : Reply A) (new : Parts) → Answers best_starts exited old (call.AllocatePool t size) answer new → IfSome (certified (call.AllocatePool t size) answer) (λ told. IsAccepted (memory_map old.book.memory) told.0 told.1)
+  accepted_pool : (exited : Bool) (t size : ℕ) (answer : Reply A) (new : Parts) → Answers (best_starts ds) exited old (call.AllocatePool t size) answer new → IfSome (certified (call.AllocatePool t size) answer) (λ told. IsAccepted (memory_map old.book.memory) told.0 told.1)
   accepted_pool true t size answer new (result, e, h) =
       let refused : answer ≡ reply.AllocatePool (Err Unsupported) = e ∙ ap reply.AllocatePool h.0 in
       subst (λ (a : Reply A). IfSome (certified (call.AllocatePool t size) a) (λ told. IsAccepted (memory_map old.book.memory) told.0 told.1)) (sym refused) (uncertified (extent_request t size) _)
   accepted_pool false t size answer new (result, e, h) =
       subst (λ (a : Reply A). IfSome (certified (call.AllocatePool t size) a) (λ told. IsAccepted (memory_map old.book.memory) told.0 told.1)) (sym e) (pool_result old proper typed A t size result new.book new.pools h.0)
 
-  accepted_buffer : (exited : Bool) (search : ℕ) (guid : List ℕ) (key : ℕ) (answer : Reply A) (new : Parts) → Answers best_starts exited old (call.LocateHandleBuffer search guid key) answer new → IfSome (certified (call.LocateHandleBuffer search guid key) answer) (λ told. IsAccepted (memory_map old.book.memory) told.0 told.1)
+  accepted_buffer : (exited : Bool) (search : ℕ) (guid : List ℕ) (key : ℕ) (answer : Reply A) (new : Parts) → Answers (best_starts ds) exited old (call.LocateHandleBuffer search guid key) answer new → IfSome (certified (call.LocateHandleBuffer search guid key) answer) (λ told. IsAccepted (memory_map old.book.memory) told.0 told.1)
   accepted_buffer true search guid key answer new (result, e, h) =
       let refused : answer ≡ reply.LocateHandleBuffer (Err Unsupported) = e ∙ ap reply.LocateHandleBuffer h.0 in
       subst (λ (a : Reply A). IfSome (certified (call.LocateHandleBuffer search guid key) a) (λ told. IsAccepted (memory_map old.book.memory) told.0 told.1)) (sym refused) tt
   accepted_buffer false search guid key answer new (result, e, h) =
       subst (λ (a : Reply A). IfSome (certified (call.LocateHandleBuffer search guid key) a) (λ told. IsAccepted (memory_map old.book.memory) told.0 told.1)) (sym e) (buffer_result old proper typed search guid key result new h)
 
-  accepted_opens : (exited : Bool) (handle : ℕ) (guid : List ℕ) (answer : Reply A) (new : Parts) → Answers best_starts exited old (call.OpenProtocolInformation handle guid) answer new → IfSome (certified (call.OpenProtocolInformation handle guid) answer) (λ told. IsAccepted (memory_map old.book.memory) told.0 told.1)
+  accepted_opens : (exited : Bool) (handle : ℕ) (guid : List ℕ) (answer : Reply A) (new : Parts) → Answers (best_starts ds) exited old (call.OpenProtocolInformation handle guid) answer new → IfSome (certified (call.OpenProtocolInformation handle guid) answer) (λ told. IsAccepted (memory_map old.book.memory) told.0 told.1)
   accepted_opens true handle guid answer new (result, e, h) =
       let refused : answer ≡ reply.OpenProtocolInformation (Err Unsupported) = e ∙ ap reply.OpenProtocolInformation h.0 in
       subst (λ (a : Reply A). IfSome (certified (call.OpenProtocolInformation handle guid) a) (λ told. IsAccepted (memory_map old.book.memory) told.0 told.1)) (sym refused) tt
   accepted_opens false handle guid answer new (result, e, h) =
       subst (λ (a : Reply A). IfSome (certified (call.OpenProtocolInformation handle guid) a) (λ told. IsAccepted (memory_map old.book.memory) told.0 told.1)) (sym e) (opens_result old proper typed handle guid result new h)
 
-  pub accepted_reply : (exited : Bool) (calls_left : ℕ) (c : Call A) (answer : Reply A) (new : Parts) → Answers best_starts exited old c answer new → IsAcceptedReply (record { parts = old; exited = exited; calls_left = calls_left }) c answer
+  pub accepted_reply : (exited : Bool) (calls_left : ℕ) (c : Call A) (answer : Reply A) (new : Parts) → Answers (best_starts ds) exited old c answer new → IsAcceptedReply (record { parts = old; exited = exited; calls_left = calls_left }) c answer
   accepted_reply exited n (call.AllocatePages kind t pages memory) answer new h = accepted_pages exited kind t pages memory answer new h
   accepted_reply exited n (call.AllocatePool t size) answer new h = accepted_pool exited t size answer new h
   accepted_reply exited n (call.LocateHandleBuffer search guid key) answer new h = accepted_buffer exited search guid key answer new h
   accepted_reply exited n (call.OpenProtocolInformation handle guid) answer new h = accepted_opens exited handle guid answer new h
   accepted_reply exited n c answer new h = tt
 
-all_accepted : {A : Type 0} (old : State) (calls : List (Call A)) (replies : List (Reply A)) (new : State) (run : CallRun old calls replies new) → AreSound old.parts → HasMachineTypes old.parts.book.memory → AllAccepted old calls replies new run
-all_accepted old (c ∷ calls) (r ∷ replies) new (next, step, run) sound typed =
-    let o = outcome best_starts best_is_permitted old.exited old.parts c r next.parts sound step.answers in
-    let still = stays_sound best_starts best_is_permitted old.exited old.parts c r next.parts sound step.answers in
-    (accepted_reply old.parts sound.proper typed old.exited old.calls_left c r next.parts step.answers, all_accepted next calls replies new run still (stays_typed (NamesTypes c) old.parts.book next.parts.book typed o))
-all_accepted old [] [] new run sound typed = tt
-all_accepted old [] (r ∷ replies) new run sound typed = tt
-all_accepted old (c ∷ calls) [] new run sound typed = tt
+all_accepted : {A : Type 0} (ds : List Meaning) (old : State) (calls : List (Call A)) (replies : List (Reply A)) (new : State) (run : CallRun ds old calls replies new) → AreSound old.parts → HasMachineTypes old.parts.book.memory → AllAccepted ds old calls replies new run
+all_accepted ds old (c ∷ calls) (r ∷ replies) new (next, step, run) sound typed =
+    let o = outcome (best_starts ds) best_is_permitted old.exited old.parts c r next.parts sound step.answers in
+    let still = stays_sound (best_starts ds) best_is_permitted old.exited old.parts c r next.parts sound step.answers in
+    (accepted_reply ds old.parts sound.proper typed old.exited old.calls_left c r next.parts step.answers, all_accepted ds next calls replies new run still (stays_typed (NamesTypes c) old.parts.book next.parts.book typed o))
+all_accepted ds old [] [] new run sound typed = tt
+all_accepted ds old [] (r ∷ replies) new run sound typed = tt
+all_accepted ds old (c ∷ calls) [] new run sound typed = tt
 
-pub accepted_run : {A : Type 0} (machine : List Run) (calls : List (Call A)) (replies : List (Reply A)) (new : State) (run : CallRun (first_state machine) calls replies new) → IsValidMachine machine → AllAccepted (first_state machine) calls replies new run
-accepted_run machine calls replies new run valid = all_accepted (first_state machine) calls replies new run (first_sound machine valid) (first_types machine valid.mtypes)
+pub accepted_run : {A : Type 0} (ds : List Meaning) (machine : List Run) (calls : List (Call A)) (replies : List (Reply A)) (new : State) (run : CallRun ds (first_state machine) calls replies new) → IsValidMachine machine → AllAccepted ds (first_state machine) calls replies new run
+accepted_run ds machine calls replies new run valid = all_accepted ds (first_state machine) calls replies new run (first_sound machine valid) (first_types machine valid.mtypes)
 
 -- ---- records
 
-entries_after : {A : Type 0} (old : State) (calls : List (Call A)) (replies : List (Reply A)) (new : State) → CallRun old calls replies new → AreSound old.parts → HaveFields old.parts.book.memory → AllByRecursion NamesTypes calls → AllByRecursion IsRecordEntry (memory_map new.parts.book.memory)
-entries_after old [] [] new run sound fields names = subst (λ (s : State). AllByRecursion IsRecordEntry (memory_map s.parts.book.memory)) (sym run) (record_entries old.parts.book.memory sound.proper fields)
-entries_after old (c ∷ calls) (r ∷ replies) new (next, step, run) sound fields names =
-    let o = outcome best_starts best_is_permitted old.exited old.parts c r next.parts sound step.answers in
-    let still = stays_sound best_starts best_is_permitted old.exited old.parts c r next.parts sound step.answers in
-    entries_after next calls replies new run still (stays_fitting (NamesTypes c) old.parts.book next.parts.book names.0 fields o) names.1
-entries_after old [] (r ∷ replies) new run sound fields names = absurd run
-entries_after old (c ∷ calls) [] new run sound fields names = absurd run
+entries_after : {A : Type 0} (ds : List Meaning) (old : State) (calls : List (Call A)) (replies : List (Reply A)) (new : State) → CallRun ds old calls replies new → AreSound old.parts → HaveFields old.parts.book.memory → AllByRecursion NamesTypes calls → AllByRecursion IsRecordEntry (memory_map new.parts.book.memory)
+entries_after ds old [] [] new run sound fields names = subst (λ (s : State). AllByRecursion IsRecordEntry (memory_map s.parts.book.memory)) (sym run) (record_entries old.parts.book.memory sound.proper fields)
+entries_after ds old (c ∷ calls) (r ∷ replies) new (next, step, run) sound fields names =
+    let o = outcome (best_starts ds) best_is_permitted old.exited old.parts c r next.parts sound step.answers in
+    let still = stays_sound (best_starts ds) best_is_permitted old.exited old.parts c r next.parts sound step.answers in
+    entries_after ds next calls replies new run still (stays_fitting (NamesTypes c) old.parts.book next.parts.book names.0 fields o) names.1
+entries_after ds old [] (r ∷ replies) new run sound fields names = absurd run
+entries_after ds old (c ∷ calls) [] new run sound fields names = absurd run
 
-pub entries_of_run : {A : Type 0} (machine : List Run) (calls : List (Call A)) (replies : List (Reply A)) (new : State) → IsValidMachine machine → AllByRecursion HasRecordNumbers machine → AllByRecursion NamesTypes calls → CallRun (first_state machine) calls replies new → AllByRecursion IsRecordEntry (memory_map new.parts.book.memory)
-entries_of_run machine calls replies new valid numbers names run = entries_after (first_state machine) calls replies new run (first_sound machine valid) (first_fields machine numbers) names
+pub entries_of_run : {A : Type 0} (ds : List Meaning) (machine : List Run) (calls : List (Call A)) (replies : List (Reply A)) (new : State) → IsValidMachine machine → AllByRecursion HasRecordNumbers machine → AllByRecursion NamesTypes calls → CallRun ds (first_state machine) calls replies new → AllByRecursion IsRecordEntry (memory_map new.parts.book.memory)
+entries_of_run ds machine calls replies new valid numbers names run = entries_after ds (first_state machine) calls replies new run (first_sound machine valid) (first_fields machine numbers) names

@@ -12,6 +12,7 @@ use Rattle.pool_services.specs.PoolRules.{Answer, AllocatesPool, FillsPool, IsPu
 use Rattle.open_agents.specs.declared.items.OpenItem.{OpenItem}
 use Rattle.open_agents.specs.OpenItems.{items_on}
 use Rattle.protocol_services.specs.ListBytes.{handle_bytes, item_bytes}
+use Rattle.driver_connect.specs.Drivers.{Meaning}
 use Rattle.boot_core.specs.declared.calls.Call.{Call}
 use Rattle.boot_core.specs.declared.calls.Call.TheVariants as call
 use Rattle.boot_core.specs.declared.calls.PoolList.{PoolList}
@@ -74,24 +75,24 @@ opens_any old handle guid (Err status.NotFound) new h = h
 opens_any old handle guid (Err status.OutOfResources) new h = h
 opens_any old handle guid (Err other) new h = absurd h
 
-answers_any : {A : Type 0} (exited : Bool) (old : Parts) (c : Call A) (answer : Reply A) (new : Parts) → Answers best_starts exited old c answer new → Answers any_starts exited old c answer new
-answers_any exited old (call.AllocatePages kind t pages memory) answer new h =
+answers_any : {A : Type 0} (ds : List Meaning) (exited : Bool) (old : Parts) (c : Call A) (answer : Reply A) (new : Parts) → Answers (best_starts ds) exited old c answer new → Answers (any_starts ds) exited old c answer new
+answers_any ds exited old (call.AllocatePages kind t pages memory) answer new h =
     served_as exited old new answer _ (λ result. OnBook (AllocatesPages IsBestChoice old.book kind t pages memory result) old new) (λ result. OnBook (AllocatesPages IsAnyStart old.book kind t pages memory result) old new)
     (λ result rule. (allocates_any old.book kind t pages memory result new.book rule.0, rule.1, rule.2)) h
-answers_any exited old (call.AllocatePool t size) answer new h =
+answers_any ds exited old (call.AllocatePool t size) answer new h =
     served_as exited old new answer _ (λ result. OnBookAndPools (AllocatesPool IsBestChoice old.book old.pools t size result) old new) (λ result. OnBookAndPools (AllocatesPool IsAnyStart old.book old.pools t size result) old new)
     (λ result rule. (pool_any old.book old.pools t size result new.book new.pools rule.0, rule.1)) h
-answers_any exited old (call.LocateHandleBuffer search guid key) answer new h =
+answers_any ds exited old (call.LocateHandleBuffer search guid key) answer new h =
     served_as exited old new answer _ (λ result. LocatesBuffer IsBestChoice old search guid key result new) (λ result. LocatesBuffer IsAnyStart old search guid key result new) (λ result. buffer_any old search guid key result new) h
-answers_any exited old (call.OpenProtocolInformation handle guid) answer new h =
+answers_any ds exited old (call.OpenProtocolInformation handle guid) answer new h =
     served_as exited old new answer _ (λ result. ListsOpens IsBestChoice old handle guid result new) (λ result. ListsOpens IsAnyStart old handle guid result new) (λ result. opens_any old handle guid result new) h
-answers_any exited old c answer new h = h
+answers_any ds exited old c answer new h = h
 
-pub step_any : {A : Type 0} (old : State) (c : Call A) (answer : Reply A) (new : State) → Step old c answer new → StepAny old c answer new
-step_any old c answer new s = record { answers = answers_any old.exited old.parts c answer new.parts s.answers; exited = s.exited; calls_left = s.calls_left }
+pub step_any : {A : Type 0} (ds : List Meaning) (old : State) (c : Call A) (answer : Reply A) (new : State) → Step ds old c answer new → StepAny ds old c answer new
+step_any ds old c answer new s = record { answers = answers_any ds old.exited old.parts c answer new.parts s.answers; exited = s.exited; calls_left = s.calls_left }
 
-pub run_any : {A : Type 0} (old : State) (calls : List (Call A)) (replies : List (Reply A)) (new : State) → CallRun old calls replies new → CallRunBy any_starts old calls replies new
-run_any old [] [] new r = r
-run_any old (c ∷ calls) (r ∷ replies) new run = (run.0, step_any old c r run.0 run.1, run_any run.0 calls replies new run.2)
-run_any old [] (r ∷ replies) new run = absurd run
-run_any old (c ∷ calls) [] new run = absurd run
+pub run_any : {A : Type 0} (ds : List Meaning) (old : State) (calls : List (Call A)) (replies : List (Reply A)) (new : State) → CallRun ds old calls replies new → CallRunBy (any_starts ds) old calls replies new
+run_any ds old [] [] new r = r
+run_any ds old (c ∷ calls) (r ∷ replies) new run = (run.0, step_any ds old c r run.0 run.1, run_any ds run.0 calls replies new run.2)
+run_any ds old [] (r ∷ replies) new run = absurd run
+run_any ds old (c ∷ calls) [] new run = absurd run

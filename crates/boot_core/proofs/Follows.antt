@@ -4,7 +4,9 @@ use Rattle.std.specs.List.{AllByRecursion}
 use Rattle.page_ranges.specs.declared.ranges.Run.{Run}
 use Rattle.open_agents.specs.declared.items.OpenRecord.{OpenRecord}
 use Rattle.protocol_services.specs.Lists.{Lists, HasRoom, IsRaised}
-use Rattle.boot_core.specs.Machines.{Parts, State, FollowsCalls, all_calls, first_state}
+use Rattle.protocol_services.specs.Driving.{HasRoomToConnect}
+use Rattle.protocol_services.specs.Removing.{HasRoomToReinstall}
+use Rattle.boot_core.specs.Machines.{Parts, CoreValue, FollowsCalls, all_calls, first_state}
 
 weaken : (P Q : OpenRecord → Type 0) → ((o : OpenRecord) → P o → Q o) → (opens : List OpenRecord) → AllByRecursion P opens → AllByRecursion Q opens
 weaken P Q f [] a = tt
@@ -20,8 +22,9 @@ not_raised old new e = subst (IsRaised old) (sym e) (record {
 })
 
 -- what begins a call says of the parts that a core has
-pub follows_now : (p : Parts) (exited : Bool) (n : ℕ) (s : State) → record { parts = p; exited = exited; calls_left = n } ≡ s → FollowsCalls s.parts (s.calls_left + 1) → FollowsCalls p (n + 1)
-follows_now p exited n s is follows = subst (λ (t : State). FollowsCalls t.parts (t.calls_left + 1)) (sym is) follows
+pub follows_now : {D : Type 0} (p : Parts) (exited : Bool) (n : ℕ) (ds : List D) (v : CoreValue D) → record { state = record { parts = p; exited = exited; calls_left = n }; drivers = ds } ≡ v
+    → FollowsCalls v.state.parts (v.state.calls_left + 1) → FollowsCalls p (n + 1)
+follows_now {D = D} p exited n ds v is follows = subst (λ (w : CoreValue D). FollowsCalls w.state.parts (w.state.calls_left + 1)) (sym is) follows
 
 pub follows_on : (old new : Parts) (n : ℕ) → FollowsCalls old (n + 1) → new.book.key ≤ old.book.key + 1 → IsRaised old.lists new.lists → FollowsCalls new n
 follows_on old new n follows key raised =
@@ -43,6 +46,12 @@ has_room p n follows = record {
   keys = omega (arith, follows.registrations);
   counts = weaken (λ o. o.count + (n + 1) ≤ all_calls) (λ o. o.count < 2 ^ 32 - 1) (λ o h. omega (arith, h)) p.lists.opens follows.counts;
 }
+
+pub has_room_to_connect : (p : Parts) (n : ℕ) → FollowsCalls p (n + 1) → HasRoomToConnect p.lists
+has_room_to_connect p n follows = record { numbers = omega (arith, follows.numbers); stamps = omega (arith, follows.stamps) }
+
+pub has_room_to_reinstall : (p : Parts) (n : ℕ) → FollowsCalls p (n + 1) → HasRoomToReinstall p.lists
+has_room_to_reinstall p n follows = record { numbers = omega (arith, follows.numbers); stamps = omega (arith, follows.stamps) }
 
 -- before any call
 pub first_follows : (machine : List Run) → FollowsCalls (first_state machine).parts all_calls

@@ -5,6 +5,7 @@ use Rattle.page_ranges.specs.declared.statuses.Status.TheVariants.{Success}
 use Rattle.page_services.proofs.Choices.{best_is_permitted}
 use Rattle.pool_services.specs.Laws.{byte_at, first_of, laid}
 use Rattle.pool_services.proofs.PoolBytes.{laid-in}
+use Rattle.driver_connect.specs.Drivers.{Meaning}
 use Rattle.boot_core.specs.declared.calls.Call.{Call}
 use Rattle.boot_core.specs.declared.calls.Call.TheVariants as call
 use Rattle.boot_core.specs.declared.calls.Reply.{Reply}
@@ -30,24 +31,24 @@ laid_at address bytes i old low =
     let place : address + i - address ≡ i = omega arith in
     laid-in address bytes (address + i) old (omega arith) (omega (arith, low)) ∙ ap (λ (n : ℕ). first_of (drop n bytes)) place
 
-lies : {A : Type 0} (first old : State) (c : Call A) (answer : Reply A) (address : ℕ) (bytes : List ℕ) → AreSound first.parts → Step first c answer old → lays first.parts c answer ≡ Some (address, bytes) → (i : ℕ) → i < length bytes → byte_at (address + i) old.parts.pools ≡ first_of (drop i bytes)
-lies first old c answer address bytes sound step laid_here i low =
+lies : {A : Type 0} (ds : List Meaning) (first old : State) (c : Call A) (answer : Reply A) (address : ℕ) (bytes : List ℕ) → AreSound first.parts → Step ds first c answer old → lays first.parts c answer ≡ Some (address, bytes) → (i : ℕ) → i < length bytes → byte_at (address + i) old.parts.pools ≡ first_of (drop i bytes)
+lies ds first old c answer address bytes sound step laid_here i low =
     let before = left_by (gives_back c answer) first.parts.pools (address + i) in
-    bytes_after first.exited first.parts c answer old.parts sound step.answers (address + i) ∙ ap (λ (o : Option (ℕ × List ℕ)). laid_over o (address + i) before) laid_here ∙ laid_at address bytes i before low
+    bytes_after ds first.exited first.parts c answer old.parts sound step.answers (address + i) ∙ ap (λ (o : Option (ℕ × List ℕ)). laid_over o (address + i) before) laid_here ∙ laid_at address bytes i before low
 
 -- a byte that no call of a run changes
-kept : {A : Type 0} (old : State) (calls : List (Call A)) (replies : List (Reply A)) (new : State) (run : CallRun old calls replies new) (k : ℕ) → AreSound old.parts → LeavesByte old calls replies new run k → byte_at k new.parts.pools ≡ byte_at k old.parts.pools
-kept old [] [] new run k sound leaves = ap (λ (s : State). byte_at k s.parts.pools) run
-kept old (c ∷ calls) (r ∷ replies) new (next, step, run) k sound leaves =
-    let still = stays_sound best_starts best_is_permitted old.exited old.parts c r next.parts sound step.answers in
-    kept next calls replies new run k still leaves.1 ∙ bytes_after old.exited old.parts c r next.parts sound step.answers k ∙ leaves.0
-kept old [] (r ∷ replies) new run k sound leaves = absurd run
-kept old (c ∷ calls) [] new run k sound leaves = absurd run
+kept : {A : Type 0} (ds : List Meaning) (old : State) (calls : List (Call A)) (replies : List (Reply A)) (new : State) (run : CallRun ds old calls replies new) (k : ℕ) → AreSound old.parts → LeavesByte ds old calls replies new run k → byte_at k new.parts.pools ≡ byte_at k old.parts.pools
+kept ds old [] [] new run k sound leaves = ap (λ (s : State). byte_at k s.parts.pools) run
+kept ds old (c ∷ calls) (r ∷ replies) new (next, step, run) k sound leaves =
+    let still = stays_sound (best_starts ds) best_is_permitted old.exited old.parts c r next.parts sound step.answers in
+    kept ds next calls replies new run k still leaves.1 ∙ bytes_after ds old.exited old.parts c r next.parts sound step.answers k ∙ leaves.0
+kept ds old [] (r ∷ replies) new run k sound leaves = absurd run
+kept ds old (c ∷ calls) [] new run k sound leaves = absurd run
 
-pub last_bytes : {A : Type 0} (first old : State) (c : Call A) (answer : Reply A) (address : ℕ) (bytes : List ℕ) (calls : List (Call A)) (replies : List (Reply A)) (new : State) (run : CallRun old calls replies new) (used : Vec ℕ A) (after : State) →
-    AreSound first.parts → Step first c answer old → lays first.parts c answer ≡ Some (address, bytes) → ((i : ℕ) → i < length bytes → LeavesByte old calls replies new run (address + i)) →
-    Step new (call.PoolRead address (length bytes)) (reply.PoolRead Success used) after → used.items ≡ bytes
-last_bytes first old c answer address bytes calls replies new run used after sound step lays_here leaves reads =
-    let still = stays_sound best_starts best_is_permitted first.exited first.parts c answer old.parts sound step.answers in
-    let (long, told) = read_bytes new.exited new.parts after.parts address (length bytes) used (run_sound best_starts best_is_permitted old calls replies new still run) reads.answers in
-    same_items used.items bytes long (λ i low. sym (told i low) ∙ kept old calls replies new run (address + i) still (leaves i low) ∙ lies first old c answer address bytes sound step lays_here i low)
+pub last_bytes : {A : Type 0} (ds : List Meaning) (first old : State) (c : Call A) (answer : Reply A) (address : ℕ) (bytes : List ℕ) (calls : List (Call A)) (replies : List (Reply A)) (new : State) (run : CallRun ds old calls replies new) (used : Vec ℕ A) (after : State) →
+    AreSound first.parts → Step ds first c answer old → lays first.parts c answer ≡ Some (address, bytes) → ((i : ℕ) → i < length bytes → LeavesByte ds old calls replies new run (address + i)) →
+    Step ds new (call.PoolRead address (length bytes)) (reply.PoolRead Success used) after → used.items ≡ bytes
+last_bytes ds first old c answer address bytes calls replies new run used after sound step lays_here leaves reads =
+    let still = stays_sound (best_starts ds) best_is_permitted first.exited first.parts c answer old.parts sound step.answers in
+    let (long, told) = read_bytes ds new.exited new.parts after.parts address (length bytes) used (run_sound (best_starts ds) best_is_permitted old calls replies new still run) reads.answers in
+    same_items used.items bytes long (λ i low. sym (told i low) ∙ kept ds old calls replies new run (address + i) still (leaves i low) ∙ lies ds first old c answer address bytes sound step lays_here i low)

@@ -9,6 +9,7 @@ use Rattle.map_keys.specs.declared.memory_maps.MapReply.{MapReply}
 use Rattle.map_keys.specs.MapReplies.{descriptor_version, map_size, map_reply, buffer_with_map}
 use Rattle.map_keys.specs.Records.{record_size, records}
 use Rattle.map_keys.proofs.RecordLists.{length_records}
+use Rattle.driver_connect.specs.Drivers.{Meaning}
 use Rattle.boot_core.specs.declared.calls.Call.TheVariants.{GetMemoryMap}
 use Rattle.boot_core.specs.declared.calls.Reply.TheVariants as reply
 use Rattle.boot_core.specs.Machines.{Parts, State}
@@ -110,5 +111,5 @@ map_open false old new buffer told after used h e =
     let bytes : used ≡ map_bytes old.book (length buffer) = e ∙ ap (take (used_size told.status told.size)) h.1 ∙ front_used old.book buffer told h.0 in
     ((inl (h.0, bytes), h.2), h.1 ∙ rest_kept old.book buffer ∙ sym (ap (λ (ys : List ℕ). ys ++ drop (length ys) buffer) bytes))
 
-pub map_step : {A : Type 0} (old : State) (buffer : List ℕ) (told : MapReply) (after : List ℕ) (new : State) (used : Vec ℕ A) → MapStep old buffer told after new → used.items ≡ take (used_size told.status told.size) after → Step old (GetMemoryMap (length buffer)) (reply.GetMemoryMap told used) new × (after ≡ used.items ++ drop (length used.items) buffer)
-map_step old buffer told after new used step bytes = (record { answers = (told, used, refl, (map_open old.exited old.parts new.parts buffer told after used.items step.answers bytes).0); exited = step.exited; calls_left = step.calls_left }, (map_open old.exited old.parts new.parts buffer told after used.items step.answers bytes).1)
+pub map_step : {A : Type 0} (ds : List Meaning) (old : State) (buffer : List ℕ) (told : MapReply) (after : List ℕ) (new : State) (used : Vec ℕ A) → MapStep old buffer told after new → used.items ≡ take (used_size told.status told.size) after → Step ds old (GetMemoryMap (length buffer)) (reply.GetMemoryMap told used) new × (after ≡ used.items ++ drop (length used.items) buffer)
+map_step ds old buffer told after new used step bytes = (record { answers = (told, used, refl, (map_open old.exited old.parts new.parts buffer told after used.items step.answers bytes).0); exited = step.exited; calls_left = step.calls_left }, (map_open old.exited old.parts new.parts buffer told after used.items step.answers bytes).1)

@@ -16,6 +16,7 @@ use Rattle.protocol_services.specs.Searches.{found_handles}
 use Rattle.pool_services.specs.Laws.{byte_at, first_of, is_among, laid}
 use Rattle.pool_services.proofs.BlockBytes.{took, freed}
 use Rattle.pool_services.proofs.PoolBytes.{laid-high, laid-low, read, wrote}
+use Rattle.driver_connect.specs.Drivers.{Meaning}
 use Rattle.boot_core.specs.declared.calls.Call.{Call}
 use Rattle.boot_core.specs.declared.calls.Call.TheVariants as call
 use Rattle.boot_core.specs.declared.calls.PoolList.{PoolList}
@@ -134,25 +135,25 @@ same_pools : (exited : Bool) (old new : Parts) (Rule Refusal : Type 0) → (Rule
 same_pools true old new Rule Refusal f h = ap (λ (p : Parts). p.pools) h.1
 same_pools false old new Rule Refusal f h = f h
 
-pub bytes_after : {A : Type 0} (exited : Bool) (old : Parts) (c : Call A) (answer : Reply A) (new : Parts) → AreSound old → Answers best_starts exited old c answer new → (k : ℕ) → byte_at k new.pools ≡ byte_after old c answer k
-bytes_after {A = A} exited old (call.AllocatePages kind t pages memory) answer new sound (result, e, h) k = ap (byte_at k) (same_pools exited old new _ _ (λ rule. rule.1) h)
-bytes_after {A = A} exited old (call.FreePages memory pages) answer new sound (result, e, h) k = ap (byte_at k) (same_pools exited old new _ _ (λ rule. rule.1) h)
-bytes_after {A = A} exited old (call.AllocatePool t size) answer new sound h k =
+pub bytes_after : {A : Type 0} (ds : List Meaning) (exited : Bool) (old : Parts) (c : Call A) (answer : Reply A) (new : Parts) → AreSound old → Answers (best_starts ds) exited old c answer new → (k : ℕ) → byte_at k new.pools ≡ byte_after old c answer k
+bytes_after {A = A} ds exited old (call.AllocatePages kind t pages memory) answer new sound (result, e, h) k = ap (byte_at k) (same_pools exited old new _ _ (λ rule. rule.1) h)
+bytes_after {A = A} ds exited old (call.FreePages memory pages) answer new sound (result, e, h) k = ap (byte_at k) (same_pools exited old new _ _ (λ rule. rule.1) h)
+bytes_after {A = A} ds exited old (call.AllocatePool t size) answer new sound h k =
     changed exited old new (call.AllocatePool t size) answer reply.AllocatePool (λ result. OnBookAndPools (AllocatesPool IsBestChoice old.book old.pools t size result) old new) k refl
     (λ result rule. laid_by old new _ _ k (told_pool A old t size result) (allocated old.book new.book old.pools new.pools t size result old.lists sound rule.0)) h
-bytes_after {A = A} exited old (call.FreePool address) answer new sound h k =
+bytes_after {A = A} ds exited old (call.FreePool address) answer new sound h k =
     changed exited old new (call.FreePool address) answer reply.FreePool (λ result. OnBookAndPools (FreesPool old.book old.pools address result) old new) k refl
     (λ result rule. given_back old.book new.book old.pools new.pools address result old.lists sound rule.0 k ∙ sym (ap (λ (o : Option ℕ). left_by o old.pools k) (told_free A address result))) h
-bytes_after {A = A} exited old (call.PoolWrite address bytes) answer new sound h k =
+bytes_after {A = A} ds exited old (call.PoolWrite address bytes) answer new sound h k =
     changed exited old new (call.PoolWrite address bytes) answer reply.PoolWrite (λ result. OnPools (WritesPool old.pools address bytes result) old new) k refl
     (λ result rule. laid_by old new _ _ k (told_write A old address bytes result) (written_bytes old.pools new.pools address bytes result old.book old.lists sound rule.0)) h
-bytes_after {A = A} exited old (call.LocateHandleBuffer search guid key) answer new sound h k =
+bytes_after {A = A} ds exited old (call.LocateHandleBuffer search guid key) answer new sound h k =
     changed exited old new (call.LocateHandleBuffer search guid key) answer reply.LocateHandleBuffer (λ result. LocatesBuffer IsBestChoice old search guid key result new) k refl
     (λ result rule. laid_by old new _ _ k (told_buffer old search guid key result) (buffer_bytes old new search guid key result sound rule)) h
-bytes_after {A = A} exited old (call.OpenProtocolInformation handle guid) answer new sound h k =
+bytes_after {A = A} ds exited old (call.OpenProtocolInformation handle guid) answer new sound h k =
     changed exited old new (call.OpenProtocolInformation handle guid) answer reply.OpenProtocolInformation (λ result. ListsOpens IsBestChoice old handle guid result new) k refl
     (λ result rule. laid_by old new _ _ k (told_list old handle guid result) (list_bytes old new handle guid result sound rule)) h
-bytes_after {A = A} exited old c answer new sound h k = ap (byte_at k) (quiet best_starts exited old c answer new tt h).1
+bytes_after {A = A} ds exited old c answer new sound h k = ap (byte_at k) (quiet (best_starts ds) exited old c answer new tt h).1
 
 -- ---- reads
 
@@ -161,10 +162,10 @@ read_rule es address size bytes b l sound (whole, here, room, is) =
     let long : length bytes ≡ size = ap (λ (ys : List ℕ). length ys) is ∙ length-take-le size whole room in
     (long, λ i low. read es address bytes bytes tt sound.extents (whole, here, omega (arith, long, room), is ∙ ap (λ (n : ℕ). take n whole) (sym long)) i (omega (arith, long, low)))
 
-pub read_bytes : {A : Type 0} (exited : Bool) (old new : Parts) (address size : ℕ) (bytes : Vec ℕ A) → AreSound old → Answers best_starts exited old (call.PoolRead address size) (reply.PoolRead status.Success bytes) new →
+pub read_bytes : {A : Type 0} (ds : List Meaning) (exited : Bool) (old new : Parts) (address size : ℕ) (bytes : Vec ℕ A) → AreSound old → Answers (best_starts ds) exited old (call.PoolRead address size) (reply.PoolRead status.Success bytes) new →
     (length bytes.items ≡ size) × ((i : ℕ) → i < size → byte_at (address + i) old.pools ≡ first_of (drop i bytes.items))
-read_bytes true old new address size bytes sound (told, used, e, h) = let refused = h.0.0 in absurd (cc)
-read_bytes {A = A} false old new address size bytes sound (told, used, e, h) =
+read_bytes ds true old new address size bytes sound (told, used, e, h) = let refused = h.0.0 in absurd (cc)
+read_bytes {A = A} ds false old new address size bytes sound (told, used, e, h) =
     let success : told ≡ status.Success = cc in
     let same : used ≡ bytes = cc in
     let is : AnswersRead old.pools address size told bytes.items = subst (λ (v : Vec ℕ A). AnswersRead old.pools address size told v.items) same h.0 in

@@ -44,6 +44,10 @@ quiet S exited old (call.InstallMultipleProtocolInterfaces handle pairs) answer 
 quiet S exited old (call.RegisterProtocolNotify guid event) answer new q h = served_quiet exited old new answer _ _ (λ result rule. (rule.1, rule.2)) h
 quiet S exited old (call.LocateProtocol guid key) answer new q h = served_quiet exited old new answer _ _ (λ result rule. (rule.1, rule.2)) h
 quiet S exited old (call.OpenProtocol handle guid agent controller attributes) answer new q h = served_quiet exited old new answer _ _ (λ result rule. (rule.1, rule.2)) h
+quiet S exited old (call.UninstallProtocolInterface handle guid value) answer new q h = served_quiet exited old new answer _ _ (λ result rule. (rule.1, rule.2)) h
+quiet S exited old (call.ReinstallProtocolInterface handle guid old_value new_value) answer new q h = served_quiet exited old new answer _ _ (λ result rule. (rule.1, rule.2)) h
+quiet S exited old (call.ConnectController handle named recursive) answer new q h = served_quiet exited old new answer _ _ (λ result rule. (rule.1, rule.2)) h
+quiet S exited old (call.DisconnectController handle driver) answer new q h = served_quiet exited old new answer _ _ (λ result rule. (rule.1, rule.2)) h
 quiet S exited old (call.CloseProtocol handle guid agent controller) answer new q h = served_quiet exited old new answer _ _ (λ result rule. (rule.1, rule.2)) h
 quiet S exited old (call.HandleProtocol handle guid) answer new q h = served_quiet exited old new answer _ _ (λ result rule. (rule.1, rule.2)) h
 quiet S exited old (call.AllocatePages kind t pages memory) answer new q h = absurd q

@@ -5,6 +5,7 @@ use Rattle.page_ranges.specs.declared.statuses.Status.{Status}
 use Rattle.page_ranges.specs.declared.statuses.Status.TheVariants.{Success, InvalidParameter, Unsupported}
 use Rattle.pool_services.specs.Extents.{Extent}
 use Rattle.pool_services.specs.PoolRules.{ReadsPool}
+use Rattle.driver_connect.specs.Drivers.{Meaning}
 use Rattle.boot_core.specs.declared.calls.Call.TheVariants.{PoolRead}
 use Rattle.boot_core.specs.declared.calls.Reply.TheVariants as reply
 use Rattle.boot_core.specs.Machines.{Parts, State}
@@ -48,8 +49,8 @@ read_open false old new address buffer after used status (result, told, reads, s
     let is = told_read old.pools address buffer after used result status told reads e in
     ((is.0, same), is.1)
 
-pub read_step : {A : Type 0} (old : State) (address : ℕ) (buffer : List ℕ) (status : Status) (after : List ℕ) (new : State) (used : Vec ℕ A) → ReadStep old address buffer status after new → used.items ≡ take (read_size status (length buffer)) after →
-    Step old (PoolRead address (length buffer)) (reply.PoolRead status used) new × (after ≡ used.items ++ drop (length used.items) buffer)
-read_step old address buffer status after new used step bytes =
+pub read_step : {A : Type 0} (ds : List Meaning) (old : State) (address : ℕ) (buffer : List ℕ) (status : Status) (after : List ℕ) (new : State) (used : Vec ℕ A) → ReadStep old address buffer status after new → used.items ≡ take (read_size status (length buffer)) after →
+    Step ds old (PoolRead address (length buffer)) (reply.PoolRead status used) new × (after ≡ used.items ++ drop (length used.items) buffer)
+read_step ds old address buffer status after new used step bytes =
     let is = read_open old.exited old.parts new.parts address buffer after used.items status step.answers bytes in
     (record { answers = (status, used, refl, is.0); exited = step.exited; calls_left = step.calls_left }, is.1)

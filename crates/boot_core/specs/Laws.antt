@@ -14,7 +14,9 @@ use Rattle.map_keys.specs.Records.{IsRecordEntry}
 use Rattle.pool_services.specs.Extents.{Extent, tail_at}
 use Rattle.pool_services.specs.Laws.{byte_at, first_of, is_among, laid}
 use Rattle.open_agents.specs.OpenItems.{items_on}
+use Rattle.driver_connect.specs.Drivers.{Meaning}
 use Rattle.protocol_services.specs.ListBytes.{handle_bytes, item_bytes}
+use Rattle.protocol_services.specs.ProperLists.{AreProperLists}
 use Rattle.protocol_services.specs.Searches.{found_handles}
 use Rattle.boot_core.specs.declared.calls.Call.{Call}
 use Rattle.boot_core.specs.declared.calls.Call.TheVariants as call
@@ -27,15 +29,19 @@ use Rattle.boot_core.specs.Steps.{Setting, any_starts, MapStep, ReadStep, Step, 
 
 -- A step with the best start is a step with any permitted start.
 abbrev pub AnyStepLaw : Type 0 → Type 0
-AnyStepLaw A = (old : State) (c : Call A) (answer : Reply A) (new : State) → Step old c answer new → StepAny old c answer new
+AnyStepLaw A = (ds : List Meaning) (old : State) (c : Call A) (answer : Reply A) (new : State) → Step ds old c answer new → StepAny ds old c answer new
 
 -- A run with the best starts is a run with any permitted starts.
 abbrev pub AnyRunLaw : Type 0 → Type 0
-AnyRunLaw A = (old : State) (calls : List (Call A)) (replies : List (Reply A)) (new : State) → CallRun old calls replies new → CallRunBy any_starts old calls replies new
+AnyRunLaw A = (ds : List Meaning) (old : State) (calls : List (Call A)) (replies : List (Reply A)) (new : State) → CallRun ds old calls replies new → CallRunBy (any_starts ds) old calls replies new
 
 -- The parts are sound after calls on a valid machine, however starts are chosen among the permitted ones.
 abbrev pub SoundLaw : Setting → Type 0 → Type 0
 SoundLaw S A = (machine : List Run) (calls : List (Call A)) (replies : List (Reply A)) (new : State) → IsValidMachine machine → CallRunBy S (first_state machine) calls replies new → AreSound new.parts
+
+-- The lists of the protocol services are proper after any calls, however starts are chosen and whatever the drivers answer.
+abbrev pub ProperListsLaw : Setting → Type 0 → Type 0
+ProperListsLaw S A = (machine : List Run) (calls : List (Call A)) (replies : List (Reply A)) (new : State) → CallRunBy S (first_state machine) calls replies new → AreProperLists new.parts.lists
 
 -- ---- keys
 
@@ -89,9 +95,9 @@ used_size status size = 0
 -- GetMemoryMap with a buffer of the caller's is a step of the machine, with the reply that a call tells and the front of the
 -- buffer; the rest of the buffer is as it was.
 abbrev pub MapStepLaw : Type 0 → Type 0
-MapStepLaw A = (old : State) (buffer : List ℕ) (told : MapReply) (after : List ℕ) (new : State) (used : Vec ℕ A) →
+MapStepLaw A = (ds : List Meaning) (old : State) (buffer : List ℕ) (told : MapReply) (after : List ℕ) (new : State) (used : Vec ℕ A) →
     MapStep old buffer told after new → used.items ≡ take (used_size told.status told.size) after →
-    Step old (call.GetMemoryMap (length buffer)) (reply.GetMemoryMap told used) new × (after ≡ used.items ++ drop (length used.items) buffer)
+    Step ds old (call.GetMemoryMap (length buffer)) (reply.GetMemoryMap told used) new × (after ≡ used.items ++ drop (length used.items) buffer)
 
 -- how many bytes of a buffer a status of a read says were used: all on success
 abbrev pub read_size : Status → ℕ → ℕ
@@ -101,9 +107,9 @@ read_size status size = 0
 -- A read into a buffer of the caller's is a step of the machine, with the status that a call tells and the whole buffer where it
 -- succeeds; else the buffer is as it was.
 abbrev pub ReadStepLaw : Type 0 → Type 0
-ReadStepLaw A = (old : State) (address : ℕ) (buffer : List ℕ) (status : Status) (after : List ℕ) (new : State) (used : Vec ℕ A) →
+ReadStepLaw A = (ds : List Meaning) (old : State) (address : ℕ) (buffer : List ℕ) (status : Status) (after : List ℕ) (new : State) (used : Vec ℕ A) →
     ReadStep old address buffer status after new → used.items ≡ take (read_size status (length buffer)) after →
-    Step old (call.PoolRead address (length buffer)) (reply.PoolRead status used) new × (after ≡ used.items ++ drop (length used.items) buffer)
+    Step ds old (call.PoolRead address (length buffer)) (reply.PoolRead status used) new × (after ≡ used.items ++ drop (length used.items) buffer)
 
 -- a call that names no type of more than 32 bits
 abbrev pub NamesTypes : {A : Type 0} → Call A → Type 0
@@ -113,8 +119,8 @@ NamesTypes c = Unit {0}
 
 -- After calls on a valid machine whose numbers fit their fields, each entry of the memory map is one that a record can spell.
 abbrev pub RecordEntriesLaw : Type 0 → Type 0
-RecordEntriesLaw A = (machine : List Run) (calls : List (Call A)) (replies : List (Reply A)) (new : State) → IsValidMachine machine → AllByRecursion HasRecordNumbers machine → AllByRecursion NamesTypes calls →
-    CallRun (first_state machine) calls replies new → AllByRecursion IsRecordEntry (memory_map new.parts.book.memory)
+RecordEntriesLaw A = (ds : List Meaning) (machine : List Run) (calls : List (Call A)) (replies : List (Reply A)) (new : State) → IsValidMachine machine → AllByRecursion HasRecordNumbers machine → AllByRecursion NamesTypes calls →
+    CallRun ds (first_state machine) calls replies new → AllByRecursion IsRecordEntry (memory_map new.parts.book.memory)
 
 -- After calls on a valid machine the memory map has an entry for each run of the machine and two for each call, or fewer.
 abbrev pub MapGrowthLaw : Setting → Type 0 → Type 0
@@ -175,23 +181,23 @@ byte_after p c answer k = laid_over (lays p c answer) k (left_by (gives_back c a
 
 -- So each call leaves the bytes of the pool.
 abbrev pub PoolBytesLaw : Type 0 → Type 0
-PoolBytesLaw A = (old : State) (c : Call A) (answer : Reply A) (new : State) → AreSound old.parts → Step old c answer new → (k : ℕ) → byte_at k new.parts.pools ≡ byte_after old.parts c answer k
+PoolBytesLaw A = (ds : List Meaning) (old : State) (c : Call A) (answer : Reply A) (new : State) → AreSound old.parts → Step ds old c answer new → (k : ℕ) → byte_at k new.parts.pools ≡ byte_after old.parts c answer k
 
 -- A read that succeeds gives the bytes that stand at its addresses.
 abbrev pub ReadBytesLaw : Type 0 → Type 0
-ReadBytesLaw A = (old : State) (address size : ℕ) (bytes : Vec ℕ A) (new : State) → AreSound old.parts → Step old (call.PoolRead address size) (reply.PoolRead Success bytes) new →
+ReadBytesLaw A = (ds : List Meaning) (old : State) (address size : ℕ) (bytes : Vec ℕ A) (new : State) → AreSound old.parts → Step ds old (call.PoolRead address size) (reply.PoolRead Success bytes) new →
     (length bytes.items ≡ size) × ((i : ℕ) → i < size → byte_at (address + i) old.parts.pools ≡ first_of (drop i bytes.items))
 
 -- no call of the run changes what stands at an address of the pool
-abbrev pub LeavesByte : {A : Type 0} (old : State) (calls : List (Call A)) (replies : List (Reply A)) (new : State) → CallRun old calls replies new → ℕ → Type 0
-LeavesByte old (c ∷ calls) (answer ∷ replies) new (next, step, run) k = (byte_after old.parts c answer k ≡ byte_at k old.parts.pools) × LeavesByte next calls replies new run k
-LeavesByte old calls replies new run k = Unit {0}
+abbrev pub LeavesByte : {A : Type 0} (ds : List Meaning) (old : State) (calls : List (Call A)) (replies : List (Reply A)) (new : State) → CallRun ds old calls replies new → ℕ → Type 0
+LeavesByte ds old (c ∷ calls) (answer ∷ replies) new (next, step, run) k = (byte_after old.parts c answer k ≡ byte_at k old.parts.pools) × LeavesByte ds next calls replies new run k
+LeavesByte ds old calls replies new run k = Unit {0}
 
 -- A read gives the bytes that were last laid at its addresses.
 abbrev pub LastBytesLaw : Type 0 → Type 0
-LastBytesLaw A = (first old : State) (c : Call A) (answer : Reply A) (address : ℕ) (bytes : List ℕ) (calls : List (Call A)) (replies : List (Reply A)) (new : State) (run : CallRun old calls replies new) (used : Vec ℕ A) (after : State) →
-    AreSound first.parts → Step first c answer old → lays first.parts c answer ≡ Some (address, bytes) → ((i : ℕ) → i < length bytes → LeavesByte old calls replies new run (address + i)) →
-    Step new (call.PoolRead address (length bytes)) (reply.PoolRead Success used) after → used.items ≡ bytes
+LastBytesLaw A = (ds : List Meaning) (first old : State) (c : Call A) (answer : Reply A) (address : ℕ) (bytes : List ℕ) (calls : List (Call A)) (replies : List (Reply A)) (new : State) (run : CallRun ds old calls replies new) (used : Vec ℕ A) (after : State) →
+    AreSound first.parts → Step ds first c answer old → lays first.parts c answer ≡ Some (address, bytes) → ((i : ℕ) → i < length bytes → LeavesByte ds old calls replies new run (address + i)) →
+    Step ds new (call.PoolRead address (length bytes)) (reply.PoolRead Success used) after → used.items ≡ bytes
 
 -- ---- certificates
 
@@ -200,10 +206,10 @@ abbrev pub IsAcceptedReply : {A : Type 0} → State → Call A → Reply A → T
 IsAcceptedReply old c answer = IfSome (certified c answer) (λ told. IsAccepted (memory_map old.parts.book.memory) told.0 told.1)
 
 -- so is the certificate of each reply of the run
-abbrev pub AllAccepted : {A : Type 0} (old : State) (calls : List (Call A)) (replies : List (Reply A)) (new : State) → CallRun old calls replies new → Type 0
-AllAccepted old (c ∷ calls) (answer ∷ replies) new (next, step, run) = IsAcceptedReply old c answer × AllAccepted next calls replies new run
-AllAccepted old calls replies new run = Unit {0}
+abbrev pub AllAccepted : {A : Type 0} (ds : List Meaning) (old : State) (calls : List (Call A)) (replies : List (Reply A)) (new : State) → CallRun ds old calls replies new → Type 0
+AllAccepted ds old (c ∷ calls) (answer ∷ replies) new (next, step, run) = IsAcceptedReply old c answer × AllAccepted ds next calls replies new run
+AllAccepted ds old calls replies new run = Unit {0}
 
 -- On a valid machine the checker accepts each certificate of a run.
 abbrev pub AcceptanceLaw : Type 0 → Type 0
-AcceptanceLaw A = (machine : List Run) (calls : List (Call A)) (replies : List (Reply A)) (new : State) (run : CallRun (first_state machine) calls replies new) → IsValidMachine machine → AllAccepted (first_state machine) calls replies new run
+AcceptanceLaw A = (ds : List Meaning) (machine : List Run) (calls : List (Call A)) (replies : List (Reply A)) (new : State) (run : CallRun ds (first_state machine) calls replies new) → IsValidMachine machine → AllAccepted ds (first_state machine) calls replies new run

@@ -43,3 +43,8 @@ pub record AreSound (p : Parts) : Type 0 where
   pub proper : IsProperMemory p.book.memory
   pub extents : AreExtents p.pools
   pub owned : OwnsExtents p.book.memory p.pools
+
+-- the state of the machine, and the drivers that were handed in, which stay
+pub record CoreValue (D : Type 0) : Type 0 where
+  pub state : State
+  pub drivers : List D

@@ -8,10 +8,13 @@ use Rattle.pool_services.specs.PoolRules.{AllocatesPool, FreesPool, ReadsPool, W
 use Rattle.device_path_locate.specs.Locating.{has_path_installed, located}
 use Rattle.guid_handles.specs.HandleChanges.{install_refusal}
 use Rattle.protocol_services.specs.declared.replies.LocateReply.{LocateReply}
+use Rattle.driver_connect.specs.Drivers.{Meaning}
 use Rattle.protocol_services.specs.Lists.{Lists}
 use Rattle.protocol_services.specs.Installing.{InstallsPairs, Registers, many_refusal}
 use Rattle.protocol_services.specs.Searches.{LocatesHandles, LocatesProtocol, TellsProtocols}
 use Rattle.protocol_services.specs.Opening.{Closes, HandlesProtocol, OpensProtocol}
+use Rattle.protocol_services.specs.Removing.{Reinstalls, Uninstalls}
+use Rattle.protocol_services.specs.Driving.{ConnectsController, DisconnectsController}
 use Rattle.map_keys.specs.declared.memory_maps.MapReply.{MapReply}
 use Rattle.map_keys.specs.MapReplies.{map_reply, buffer_with_map}
 use Rattle.boot_core.specs.declared.calls.Call.{Call}
@@ -25,17 +28,18 @@ use Rattle.boot_core.specs.PoolCalls.{AnswersRead, told_status}
 
 -- ---- what a step goes by beside the state
 
--- how starts are chosen
+-- how starts are chosen, and what the drivers answer
 pub record Setting : Type 1 where
   pub chosen : Choice
+  pub drivers : List Meaning
 
 -- each start is the best
-abbrev pub best_starts : Setting
-best_starts = record { chosen = IsBestChoice }
+abbrev pub best_starts : List Meaning → Setting
+best_starts ds = record { chosen = IsBestChoice; drivers = ds }
 
 -- each start is any permitted one
-abbrev pub any_starts : Setting
-any_starts = record { chosen = IsAnyStart }
+abbrev pub any_starts : List Meaning → Setting
+any_starts ds = record { chosen = IsAnyStart; drivers = ds }
 
 -- ---- which parts a rule is about
 
@@ -97,16 +101,23 @@ Answers S exited old (call.InstallProtocolInterface handle guid kind value) answ
     Serves exited old new answer reply.InstallProtocolInterface (λ result. OnLists (InstallsPairs old.lists handle ((guid, value) ∷ []) (install_refusal old.lists.handles handle guid kind) result) old new)
 Answers S exited old (call.InstallMultipleProtocolInterfaces handle pairs) answer new =
     Serves exited old new answer reply.InstallMultipleProtocolInterfaces (λ result. OnLists (InstallsPairs old.lists handle pairs (many_refusal old.lists handle pairs (has_path_installed old.lists.handles old.pools pairs)) result) old new)
+Answers S exited old (call.UninstallProtocolInterface handle guid value) answer new =
+    Serves exited old new answer reply.UninstallProtocolInterface (λ result. OnLists (Uninstalls S.drivers old.lists handle guid value result) old new)
+Answers S exited old (call.ReinstallProtocolInterface handle guid old_value new_value) answer new =
+    Serves exited old new answer reply.ReinstallProtocolInterface (λ result. OnLists (Reinstalls S.drivers old.lists handle guid old_value new_value result) old new)
 Answers S exited old (call.RegisterProtocolNotify guid event) answer new = Serves exited old new answer reply.RegisterProtocolNotify (λ result. OnLists (Registers old.lists guid event result) old new)
 Answers S exited old (call.LocateHandle search guid key size) answer new = ServesSearch exited old new answer (λ told. OnLists (LocatesHandles old.lists search guid key size told) old new)
 Answers S exited old (call.LocateHandleBuffer search guid key) answer new = Serves exited old new answer reply.LocateHandleBuffer (λ result. LocatesBuffer S.chosen old search guid key result new)
 Answers S exited old (call.LocateProtocol guid key) answer new = Serves exited old new answer reply.LocateProtocol (λ result. OnLists (LocatesProtocol old.lists guid key result) old new)
 Answers S exited old (call.ProtocolsPerHandle handle) answer new = Serves exited old new answer reply.ProtocolsPerHandle (λ result. TellsProtocols old.lists handle result × (new ≡ old))
 Answers S exited old (call.OpenProtocol handle guid agent controller attributes) answer new =
-    Serves exited old new answer reply.OpenProtocol (λ result. OnLists (OpensProtocol old.lists handle guid agent controller attributes result) old new)
+    Serves exited old new answer reply.OpenProtocol (λ result. OnLists (OpensProtocol S.drivers old.lists handle guid agent controller attributes result) old new)
 Answers S exited old (call.CloseProtocol handle guid agent controller) answer new = Serves exited old new answer reply.CloseProtocol (λ result. OnLists (Closes old.lists handle guid agent controller result) old new)
 Answers S exited old (call.OpenProtocolInformation handle guid) answer new = Serves exited old new answer reply.OpenProtocolInformation (λ result. ListsOpens S.chosen old handle guid result new)
 Answers S exited old (call.HandleProtocol handle guid) answer new = Serves exited old new answer reply.HandleProtocol (λ result. OnLists (HandlesProtocol old.lists handle guid result) old new)
+Answers S exited old (call.ConnectController handle named recursive) answer new =
+    Serves exited old new answer reply.ConnectController (λ result. OnLists (ConnectsController S.drivers old.lists handle named recursive result) old new)
+Answers S exited old (call.DisconnectController handle driver) answer new = Serves exited old new answer reply.DisconnectController (λ result. OnLists (DisconnectsController S.drivers old.lists handle driver result) old new)
 Answers S exited old (call.LocateDevicePath guid address) answer new = Serves exited old new answer reply.LocateDevicePath (λ result. (result ≡ located old.lists.handles old.pools guid address) × (new ≡ old))
 Answers S exited old (call.ExitBootServices key) answer new = Serves exited old new answer reply.ExitBootServices (λ result. Exits old.book.key key result × (new ≡ old))
 
@@ -127,13 +138,13 @@ pub record StepBy {A : Type 0} (S : Setting) (old : State) (c : Call A) (answer 
   pub exited : new.exited ≡ exited_after old.exited answer
   pub calls_left : IsCounted old new
 
--- a step in which each start is the best
-abbrev pub Step : {A : Type 0} → State → Call A → Reply A → State → Type 0
-Step old c answer new = StepBy best_starts old c answer new
+-- a step in which each start is the best, with drivers that answer so
+abbrev pub Step : {A : Type 0} → List Meaning → State → Call A → Reply A → State → Type 0
+Step ds old c answer new = StepBy (best_starts ds) old c answer new
 
 -- a step in which each start is any permitted one
-abbrev pub StepAny : {A : Type 0} → State → Call A → Reply A → State → Type 0
-StepAny old c answer new = StepBy any_starts old c answer new
+abbrev pub StepAny : {A : Type 0} → List Meaning → State → Call A → Reply A → State → Type 0
+StepAny ds old c answer new = StepBy (any_starts ds) old c answer new
 
 -- What GetMemoryMap does with a buffer of the caller's: its reply, the buffer after it, and the machine, which is as it was but
 -- for one call less.
@@ -156,5 +167,5 @@ CallRunBy S old (c ∷ calls) (answer ∷ replies) new = (next : State) × StepB
 CallRunBy S old calls replies new = ⊥
 
 -- a run of calls in which each start is the best
-abbrev pub CallRun : {A : Type 0} → State → List (Call A) → List (Reply A) → State → Type 0
-CallRun old calls replies new = CallRunBy best_starts old calls replies new
+abbrev pub CallRun : {A : Type 0} → List Meaning → State → List (Call A) → List (Reply A) → State → Type 0
+CallRun ds old calls replies new = CallRunBy (best_starts ds) old calls replies new

@@ -70,6 +70,36 @@ impl<A: Allocator> CallPairs<A> {
     }
 }
 
+/// Handles that a call carries.
+#[derive(Debug, Drop)]
+pub struct CallHandles<A: Allocator = Global> {
+    handles: Vec<u64, A>,
+}
+
+impl<A: Allocator> Model for CallHandles<A> {
+    ghost use Rattle.std.specs.Prelude.{ℕ, List};
+
+    ghost Value = { List ℕ };
+
+    ghost view = { λ c. c.handles.items };
+}
+
+impl<A: Allocator> CallHandles<A> {
+    /// The handles of a vector.
+    pub fn new(handles: Vec<u64, A>) -> CallHandles<A>
+        ensures { result ≡ handles.items }
+    {
+        CallHandles { handles }
+    }
+
+    /// The handles.
+    pub fn as_slice(&self) -> &[u64]
+        ensures { result.now ≡ self.now }
+    {
+        self.handles.as_slice()
+    }
+}
+
 /// A call of a boot service, its numbers as the caller gave them; for a buffer of the caller's, its
 /// size in bytes.
 #[derive(Debug, Drop)]
@@ -111,6 +141,17 @@ pub enum Call<A: Allocator = Global> {
     InstallMultipleProtocolInterfaces {
         handle: u64,
         pairs: CallPairs<A>,
+    },
+    UninstallProtocolInterface {
+        handle: u64,
+        guid: Uuid,
+        value: u64,
+    },
+    ReinstallProtocolInterface {
+        handle: u64,
+        guid: Uuid,
+        old_value: u64,
+        new_value: u64,
     },
     RegisterProtocolNotify {
         guid: Uuid,
@@ -155,6 +196,15 @@ pub enum Call<A: Allocator = Global> {
         handle: u64,
         guid: Uuid,
     },
+    ConnectController {
+        handle: u64,
+        drivers: CallHandles<A>,
+        recursive: bool,
+    },
+    DisconnectController {
+        handle: u64,
+        driver: u64,
+    },
     LocateDevicePath {
         guid: Uuid,
         address: u64,
@@ -188,6 +238,9 @@ pub enum Reply<A: Allocator = Global> {
     PoolWrite(Result<(), Status>),
     InstallProtocolInterface(Result<Installed<A>, Status>),
     InstallMultipleProtocolInterfaces(Result<Installed<A>, Status>),
+    UninstallProtocolInterface(Result<(), Status>),
+    /// The events that are signaled.
+    ReinstallProtocolInterface(Result<Vec<u64, A>, Status>),
     /// The key of the registration.
     RegisterProtocolNotify(Result<u64, Status>),
     LocateHandle(LocateReply<A>),
@@ -202,6 +255,9 @@ pub enum Reply<A: Allocator = Global> {
     OpenProtocolInformation(Result<PoolList<A>, Status>),
     /// The value of the interface.
     HandleProtocol(Result<u64, Status>),
+    /// The events that are signaled.
+    ConnectController(Result<Vec<u64, A>, Status>),
+    DisconnectController(Result<(), Status>),
     /// The handle, and the address behind the nodes that its path matched.
     LocateDevicePath(Result<(u64, u64), Status>),
     ExitBootServices(Result<(), Status>),

@@ -1,8 +1,10 @@
 //! The core: the state of the boot services.
-ghost use Rattle.std.specs.Prelude.{◌≡◌, ◌+◌, ◌<◌, ◌≤◌, length, IfOk, OnErr, slice_get, if◌then◌else◌};
+ghost use Rattle.std.specs.Prelude.{◌≡◌, ◌+◌, ◌<◌, ◌≤◌, length, map, IfOk, OnErr, slice_get, if◌then◌else◌};
 ghost use Rattle.page_ranges.specs.Memory.{IsProperMemory};
 ghost use Rattle.page_ranges.specs.MemoryMap.{memory_map};
+ghost use Rattle.protocol_services.specs.Driving.{HasRoomToConnect};
 ghost use Rattle.protocol_services.specs.Lists.{HasRoom};
+ghost use Rattle.protocol_services.specs.Removing.{HasRoomToReinstall};
 ghost use Rattle.boot_core.specs.Machines.{all_calls, first_state, FollowsCalls};
 ghost use Rattle.boot_core.specs.Steps.{IsCounted, MapStep, ReadStep, Step, CallRun};
 
@@ -13,6 +15,7 @@ use crate::pool_buffers::{read_bytes, told_status};
 use crate::pool_lists::{list_opens, locate_buffer};
 use descriptor_table::{MapEntries, RunTable};
 use device_path_locate::{has_path_installed, locate};
+use driver_connect::Driver;
 use map_keys::{MapReply, get_memory_map};
 use page_ranges::{Descriptor, Status};
 use page_services::PageBook;
@@ -25,36 +28,39 @@ use uuid::Uuid;
 /// How many calls a core serves.
 const CALLS: u64 = 0x8000_0000;
 
-/// The boot services of a machine.
+/// The boot services of a machine, with the drivers that were handed in.
 #[derive(Drop)]
-pub struct Core<A: Allocator = Global> {
+pub struct Core<D = Box<dyn Driver>, A: Allocator = Global> {
     book: PageBook<A>,
     pools: Pools<A>,
     protocols: Protocols<A>,
+    drivers: Vec<D, A>,
     exited: bool,
     calls_left: u64,
 }
 
-impl<A: Allocator> Model for Core<A> {
-    ghost use Rattle.boot_core.specs.Machines.{State, AreSound, FollowsCalls};
+impl<D, A: Allocator> Model for Core<D, A> {
+    ghost use Rattle.boot_core.specs.Machines.{CoreValue, AreSound, FollowsCalls};
 
-    ghost Value = { State };
+    ghost Value = { CoreValue D };
 
-    ghost view = { λ c. record { parts = record { book = c.book; pools = c.pools; lists = c.protocols }; exited = c.exited; calls_left = c.calls_left } };
+    ghost view = { λ c. record { state = record { parts = record { book = c.book; pools = c.pools; lists = c.protocols }; exited = c.exited; calls_left = c.calls_left }; drivers = c.drivers.items } };
 
     ghost invariant = { λ c. FollowsCalls (record { book = c.book; pools = c.pools; lists = c.protocols }) c.calls_left × AreSound (record { book = c.book; pools = c.pools; lists = c.protocols }) };
 }
 
-impl<A: Allocator + Copy> Core<A> {
-    /// The core of a machine, before any call.
-    pub fn new(alloc: A, machine: Machine<A>) -> Result<Core<A>, AllocError>
-        ensures { IfOk result (λ c. c ≡ first_state machine) }
+impl<D: Driver, A: Allocator + Copy> Core<D, A> {
+    /// The core of a machine, before any call. The value of a driver binding interface is the place of its
+    /// driver among the drivers.
+    pub fn new(alloc: A, machine: Machine<A>, drivers: Vec<D, A>) -> Result<Core<D, A>, AllocError>
+        ensures { IfOk result (λ c. c ≡ record { state = first_state machine; drivers = drivers.items }) }
     {
         let table = RunTable::from_runs(alloc, machine.runs())?;
         Ok(Core {
             book: PageBook::new(table),
             pools: Pools::new(alloc),
             protocols: Protocols::new(alloc),
+            drivers,
             exited: false,
             calls_left: CALLS,
         })
@@ -62,14 +68,17 @@ impl<A: Allocator + Copy> Core<A> {
 
     // Counts a call; an `Err` is the refusal of all services once the boot services have ended.
     fn begin(&mut self) -> Result<(), Status>
-        requires { 0 < self.old.calls_left }
-        ensures answer { result ≡ (if self.old.exited then Err Status.Unsupported else Ok tt) }
-        ensures parts { self.new.parts ≡ self.old.parts }
-        ensures exited { self.new.exited ≡ self.old.exited }
-        ensures counted { IsCounted self.old self.new }
-        ensures room { self.new.parts.book.key + self.new.calls_left ≤ all_calls }
-        ensures follows { FollowsCalls self.new.parts (self.new.calls_left + 1) }
-        ensures lists { HasRoom self.new.parts.lists }
+        requires { 0 < self.old.state.calls_left }
+        ensures answer { result ≡ (if self.old.state.exited then Err Status.Unsupported else Ok tt) }
+        ensures parts { self.new.state.parts ≡ self.old.state.parts }
+        ensures exited { self.new.state.exited ≡ self.old.state.exited }
+        ensures counted { IsCounted self.old.state self.new.state }
+        ensures room { self.new.state.parts.book.key + self.new.state.calls_left ≤ all_calls }
+        ensures follows { FollowsCalls self.new.state.parts (self.new.state.calls_left + 1) }
+        ensures lists { HasRoom self.new.state.parts.lists }
+        ensures connects { HasRoomToConnect self.new.state.parts.lists }
+        ensures reinstalls { HasRoomToReinstall self.new.state.parts.lists }
+        ensures drivers { self.new.drivers ≡ self.old.drivers }
     {
         self.calls_left -= 1;
         if self.exited {
@@ -81,8 +90,9 @@ impl<A: Allocator + Copy> Core<A> {
 
     /// AllocatePages.
     pub fn allocate_pages(&mut self, kind: u32, mtype: u32, pages: u64, memory: u64) -> Reply<A>
-        requires { 0 < self.old.calls_left }
-        ensures { Step self.old (Call.AllocatePages kind mtype pages memory) result self.new }
+        requires { 0 < self.old.state.calls_left }
+        ensures step { Step (map D.meaning self.old.drivers) self.old.state (Call.AllocatePages kind mtype pages memory) result self.new.state }
+        ensures drivers { self.new.drivers ≡ self.old.drivers }
     {
         Reply::AllocatePages(match self.begin() {
             Ok(()) => self.book.allocate(kind, mtype, pages, memory),
@@ -92,8 +102,9 @@ impl<A: Allocator + Copy> Core<A> {
 
     /// FreePages.
     pub fn free_pages(&mut self, memory: u64, pages: u64) -> Reply<A>
-        requires { 0 < self.old.calls_left }
-        ensures { Step self.old (Call.FreePages memory pages) result self.new }
+        requires { 0 < self.old.state.calls_left }
+        ensures step { Step (map D.meaning self.old.drivers) self.old.state (Call.FreePages memory pages) result self.new.state }
+        ensures drivers { self.new.drivers ≡ self.old.drivers }
     {
         Reply::FreePages(match self.begin() {
             Ok(()) => self.book.free(memory, pages),
@@ -105,8 +116,9 @@ impl<A: Allocator + Copy> Core<A> {
     ///
     /// BUFFER_TOO_SMALL: the buffer has fewer bytes than the map takes, which the reply tells.
     pub fn get_memory_map(&mut self, buffer: &mut [u8]) -> MapReply
-        requires { 0 < self.old.calls_left }
-        ensures { MapStep self.old buffer.old result buffer.new self.new }
+        requires { 0 < self.old.state.calls_left }
+        ensures step { MapStep self.old.state buffer.old result buffer.new self.new.state }
+        ensures drivers { self.new.drivers ≡ self.old.drivers }
     {
         match self.begin() {
             Ok(()) => get_memory_map(&self.book, buffer),
@@ -116,8 +128,9 @@ impl<A: Allocator + Copy> Core<A> {
 
     // GetMemoryMap with a buffer of its own in the place of one of so many bytes.
     fn get_map_bytes(&mut self, size: u64) -> Reply<A>
-        requires { 0 < self.old.calls_left }
-        ensures { Step self.old (Call.GetMemoryMap size) result self.new }
+        requires { 0 < self.old.state.calls_left }
+        ensures step { Step (map D.meaning self.old.drivers) self.old.state (Call.GetMemoryMap size) result self.new.state }
+        ensures drivers { self.new.drivers ≡ self.old.drivers }
     {
         match self.begin() {
             Ok(()) => {
@@ -133,8 +146,9 @@ impl<A: Allocator + Copy> Core<A> {
 
     /// AllocatePool: a block of so many bytes, all 0, of the type `mtype`.
     pub fn allocate_pool(&mut self, mtype: u32, size: u64) -> Reply<A>
-        requires { 0 < self.old.calls_left }
-        ensures { Step self.old (Call.AllocatePool mtype size) result self.new }
+        requires { 0 < self.old.state.calls_left }
+        ensures step { Step (map D.meaning self.old.drivers) self.old.state (Call.AllocatePool mtype size) result self.new.state }
+        ensures drivers { self.new.drivers ≡ self.old.drivers }
     {
         Reply::AllocatePool(match self.begin() {
             Ok(()) => self.pools.allocate(&mut self.book, mtype, size),
@@ -144,8 +158,9 @@ impl<A: Allocator + Copy> Core<A> {
 
     /// FreePool: gives the block at an address back.
     pub fn free_pool(&mut self, address: u64) -> Reply<A>
-        requires { 0 < self.old.calls_left }
-        ensures { Step self.old (Call.FreePool address) result self.new }
+        requires { 0 < self.old.state.calls_left }
+        ensures step { Step (map D.meaning self.old.drivers) self.old.state (Call.FreePool address) result self.new.state }
+        ensures drivers { self.new.drivers ≡ self.old.drivers }
     {
         Reply::FreePool(match self.begin() {
             Ok(()) => self.pools.free(&mut self.book, address),
@@ -157,8 +172,9 @@ impl<A: Allocator + Copy> Core<A> {
     ///
     /// INVALID_PARAMETER: they do not lie in one block. The buffer is then as it was.
     pub fn pool_read(&mut self, address: u64, buffer: &mut [u8]) -> Status
-        requires { 0 < self.old.calls_left }
-        ensures { ReadStep self.old address buffer.old result buffer.new self.new }
+        requires { 0 < self.old.state.calls_left }
+        ensures step { ReadStep self.old.state address buffer.old result buffer.new self.new.state }
+        ensures drivers { self.new.drivers ≡ self.old.drivers }
     {
         match self.begin() {
             Ok(()) => told_status(self.pools.read(address, buffer)),
@@ -168,8 +184,9 @@ impl<A: Allocator + Copy> Core<A> {
 
     // The same with a buffer of its own in the place of one of so many bytes.
     fn get_pool_bytes(&mut self, address: u64, size: u64) -> Reply<A>
-        requires { 0 < self.old.calls_left }
-        ensures { Step self.old (Call.PoolRead address size) result self.new }
+        requires { 0 < self.old.state.calls_left }
+        ensures step { Step (map D.meaning self.old.drivers) self.old.state (Call.PoolRead address size) result self.new.state }
+        ensures drivers { self.new.drivers ≡ self.old.drivers }
     {
         let alloc = self.book.table().allocator();
         match self.begin() {
@@ -188,8 +205,9 @@ impl<A: Allocator + Copy> Core<A> {
     ///
     /// INVALID_PARAMETER: they do not lie in one block.
     pub fn pool_write(&mut self, address: u64, bytes: &[u8]) -> Reply<A>
-        requires { 0 < self.old.calls_left }
-        ensures { Step self.old (Call.PoolWrite address bytes.now) result self.new }
+        requires { 0 < self.old.state.calls_left }
+        ensures step { Step (map D.meaning self.old.drivers) self.old.state (Call.PoolWrite address bytes.now) result self.new.state }
+        ensures drivers { self.new.drivers ≡ self.old.drivers }
     {
         Reply::PoolWrite(match self.begin() {
             Ok(()) => self.pools.write(address, bytes),
@@ -206,8 +224,9 @@ impl<A: Allocator + Copy> Core<A> {
         kind: u32,
         value: u64,
     ) -> Reply<A>
-        requires { 0 < self.old.calls_left }
-        ensures { Step self.old (Call.InstallProtocolInterface handle guid kind value) result self.new }
+        requires { 0 < self.old.state.calls_left }
+        ensures step { Step (map D.meaning self.old.drivers) self.old.state (Call.InstallProtocolInterface handle guid kind value) result self.new.state }
+        ensures drivers { self.new.drivers ≡ self.old.drivers }
     {
         Reply::InstallProtocolInterface(match self.begin() {
             Ok(()) => self.protocols.install(handle, guid, kind, value),
@@ -218,8 +237,9 @@ impl<A: Allocator + Copy> Core<A> {
     /// InstallMultipleProtocolInterfaces: all of some interfaces, pairs of GUID and value, or none.
     /// ALREADY_STARTED: one is a device path that a live handle has already.
     pub fn install_multiple(&mut self, handle: u64, pairs: &[(Uuid, u64)]) -> Reply<A>
-        requires { 0 < self.old.calls_left }
-        ensures { Step self.old (Call.InstallMultipleProtocolInterfaces handle pairs.now) result self.new }
+        requires { 0 < self.old.state.calls_left }
+        ensures step { Step (map D.meaning self.old.drivers) self.old.state (Call.InstallMultipleProtocolInterfaces handle pairs.now) result self.new.state }
+        ensures drivers { self.new.drivers ≡ self.old.drivers }
     {
         Reply::InstallMultipleProtocolInterfaces(match self.begin() {
             Ok(()) => {
@@ -230,11 +250,46 @@ impl<A: Allocator + Copy> Core<A> {
         })
     }
 
+    /// UninstallProtocolInterface: takes out the interface of a GUID with a value, and with the last one its
+    /// handle. The drivers that have it open are stopped first.
+    pub fn uninstall(&mut self, handle: u64, guid: Uuid, value: u64) -> Reply<A>
+        requires { 0 < self.old.state.calls_left }
+        ensures step { Step (map D.meaning self.old.drivers) self.old.state (Call.UninstallProtocolInterface handle guid value) result self.new.state }
+        ensures drivers { self.new.drivers ≡ self.old.drivers }
+    {
+        Reply::UninstallProtocolInterface(match self.begin() {
+            Ok(()) => self
+                .protocols
+                .uninstall(self.drivers.as_slice(), handle, guid, value),
+            Err(status) => Err(status),
+        })
+    }
+
+    /// ReinstallProtocolInterface: gives the interface of a GUID another value in its place, after the
+    /// drivers that have it open are stopped, and connects the handle. The reply tells the events.
+    pub fn reinstall(&mut self, handle: u64, guid: Uuid, old_value: u64, new_value: u64) -> Reply<A>
+        requires { 0 < self.old.state.calls_left }
+        ensures step { Step (map D.meaning self.old.drivers) self.old.state (Call.ReinstallProtocolInterface handle guid old_value new_value) result self.new.state }
+        ensures drivers { self.new.drivers ≡ self.old.drivers }
+    {
+        Reply::ReinstallProtocolInterface(match self.begin() {
+            Ok(()) => self.protocols.reinstall(
+                self.drivers.as_slice(),
+                handle,
+                guid,
+                old_value,
+                new_value,
+            ),
+            Err(status) => Err(status),
+        })
+    }
+
     /// RegisterProtocolNotify: an event for the interfaces of a GUID that are installed from now on. The
     /// reply tells the key of the registration.
     pub fn register_protocol_notify(&mut self, guid: Uuid, event: u64) -> Reply<A>
-        requires { 0 < self.old.calls_left }
-        ensures { Step self.old (Call.RegisterProtocolNotify guid event) result self.new }
+        requires { 0 < self.old.state.calls_left }
+        ensures step { Step (map D.meaning self.old.drivers) self.old.state (Call.RegisterProtocolNotify guid event) result self.new.state }
+        ensures drivers { self.new.drivers ≡ self.old.drivers }
     {
         Reply::RegisterProtocolNotify(match self.begin() {
             Ok(()) => self.protocols.register(guid, event),
@@ -246,8 +301,9 @@ impl<A: Allocator + Copy> Core<A> {
     /// taken (1), or those that carry a GUID (2), where a buffer of so many bytes has room for them, 8
     /// bytes each.
     pub fn locate_handle(&mut self, search: u32, guid: Uuid, key: u64, size: u64) -> Reply<A>
-        requires { 0 < self.old.calls_left }
-        ensures { Step self.old (Call.LocateHandle search guid key size) result self.new }
+        requires { 0 < self.old.state.calls_left }
+        ensures step { Step (map D.meaning self.old.drivers) self.old.state (Call.LocateHandle search guid key size) result self.new.state }
+        ensures drivers { self.new.drivers ≡ self.old.drivers }
     {
         Reply::LocateHandle(match self.begin() {
             Ok(()) => self.protocols.locate(search, guid, key, size),
@@ -261,8 +317,9 @@ impl<A: Allocator + Copy> Core<A> {
 
     /// LocateHandleBuffer: the handles of such a search in a pool block, which the caller frees.
     pub fn locate_handle_buffer(&mut self, search: u32, guid: Uuid, key: u64) -> Reply<A>
-        requires { 0 < self.old.calls_left }
-        ensures { Step self.old (Call.LocateHandleBuffer search guid key) result self.new }
+        requires { 0 < self.old.state.calls_left }
+        ensures step { Step (map D.meaning self.old.drivers) self.old.state (Call.LocateHandleBuffer search guid key) result self.new.state }
+        ensures drivers { self.new.drivers ≡ self.old.drivers }
     {
         Reply::LocateHandleBuffer(match self.begin() {
             Ok(()) => locate_buffer(
@@ -280,8 +337,9 @@ impl<A: Allocator + Copy> Core<A> {
     /// LocateProtocol: the value of the interface of a GUID, for key 0 on the lowest handle that carries
     /// it, else on the handle that is next for the key, which is taken.
     pub fn locate_protocol(&mut self, guid: Uuid, key: u64) -> Reply<A>
-        requires { 0 < self.old.calls_left }
-        ensures { Step self.old (Call.LocateProtocol guid key) result self.new }
+        requires { 0 < self.old.state.calls_left }
+        ensures step { Step (map D.meaning self.old.drivers) self.old.state (Call.LocateProtocol guid key) result self.new.state }
+        ensures drivers { self.new.drivers ≡ self.old.drivers }
     {
         Reply::LocateProtocol(match self.begin() {
             Ok(()) => self.protocols.locate_protocol(guid, key),
@@ -291,8 +349,9 @@ impl<A: Allocator + Copy> Core<A> {
 
     /// ProtocolsPerHandle: the GUIDs on a handle, in order of installation.
     pub fn protocols_per_handle(&mut self, handle: u64) -> Reply<A>
-        requires { 0 < self.old.calls_left }
-        ensures { Step self.old (Call.ProtocolsPerHandle handle) result self.new }
+        requires { 0 < self.old.state.calls_left }
+        ensures step { Step (map D.meaning self.old.drivers) self.old.state (Call.ProtocolsPerHandle handle) result self.new.state }
+        ensures drivers { self.new.drivers ≡ self.old.drivers }
     {
         Reply::ProtocolsPerHandle(match self.begin() {
             Ok(()) => self.protocols.protocols_of(handle),
@@ -309,13 +368,19 @@ impl<A: Allocator + Copy> Core<A> {
         controller: u64,
         attributes: u32,
     ) -> Reply<A>
-        requires { 0 < self.old.calls_left }
-        ensures { Step self.old (Call.OpenProtocol handle guid agent controller attributes) result self.new }
+        requires { 0 < self.old.state.calls_left }
+        ensures step { Step (map D.meaning self.old.drivers) self.old.state (Call.OpenProtocol handle guid agent controller attributes) result self.new.state }
+        ensures drivers { self.new.drivers ≡ self.old.drivers }
     {
         Reply::OpenProtocol(match self.begin() {
-            Ok(()) => self
-                .protocols
-                .open(handle, guid, agent, controller, attributes),
+            Ok(()) => self.protocols.open(
+                self.drivers.as_slice(),
+                handle,
+                guid,
+                agent,
+                controller,
+                attributes,
+            ),
             Err(status) => Err(status),
         })
     }
@@ -328,8 +393,9 @@ impl<A: Allocator + Copy> Core<A> {
         agent: u64,
         controller: u64,
     ) -> Reply<A>
-        requires { 0 < self.old.calls_left }
-        ensures { Step self.old (Call.CloseProtocol handle guid agent controller) result self.new }
+        requires { 0 < self.old.state.calls_left }
+        ensures step { Step (map D.meaning self.old.drivers) self.old.state (Call.CloseProtocol handle guid agent controller) result self.new.state }
+        ensures drivers { self.new.drivers ≡ self.old.drivers }
     {
         Reply::CloseProtocol(match self.begin() {
             Ok(()) => self.protocols.close(handle, guid, agent, controller),
@@ -339,8 +405,9 @@ impl<A: Allocator + Copy> Core<A> {
 
     /// OpenProtocolInformation: the open items of an interface in a pool block, which the caller frees.
     pub fn open_protocol_information(&mut self, handle: u64, guid: Uuid) -> Reply<A>
-        requires { 0 < self.old.calls_left }
-        ensures { Step self.old (Call.OpenProtocolInformation handle guid) result self.new }
+        requires { 0 < self.old.state.calls_left }
+        ensures step { Step (map D.meaning self.old.drivers) self.old.state (Call.OpenProtocolInformation handle guid) result self.new.state }
+        ensures drivers { self.new.drivers ≡ self.old.drivers }
     {
         Reply::OpenProtocolInformation(match self.begin() {
             Ok(()) => list_opens(
@@ -356,8 +423,9 @@ impl<A: Allocator + Copy> Core<A> {
 
     /// HandleProtocol: the value of the interface of a GUID on a handle.
     pub fn handle_protocol(&mut self, handle: u64, guid: Uuid) -> Reply<A>
-        requires { 0 < self.old.calls_left }
-        ensures { Step self.old (Call.HandleProtocol handle guid) result self.new }
+        requires { 0 < self.old.state.calls_left }
+        ensures step { Step (map D.meaning self.old.drivers) self.old.state (Call.HandleProtocol handle guid) result self.new.state }
+        ensures drivers { self.new.drivers ≡ self.old.drivers }
     {
         Reply::HandleProtocol(match self.begin() {
             Ok(()) => self.protocols.handle_protocol(handle, guid),
@@ -365,11 +433,41 @@ impl<A: Allocator + Copy> Core<A> {
         })
     }
 
+    /// ConnectController: starts drivers on a handle, those first that are named, and where `recursive` is
+    /// set on the handles that this makes. The reply tells the events.
+    pub fn connect_controller(&mut self, handle: u64, named: &[u64], recursive: bool) -> Reply<A>
+        requires { 0 < self.old.state.calls_left }
+        ensures step { Step (map D.meaning self.old.drivers) self.old.state (Call.ConnectController handle named.now recursive) result self.new.state }
+        ensures drivers { self.new.drivers ≡ self.old.drivers }
+    {
+        Reply::ConnectController(match self.begin() {
+            Ok(()) => self
+                .protocols
+                .connect(self.drivers.as_slice(), handle, named, recursive),
+            Err(status) => Err(status),
+        })
+    }
+
+    /// DisconnectController: stops the drivers that manage a handle, or one of them if `driver` is not 0.
+    pub fn disconnect_controller(&mut self, handle: u64, driver: u64) -> Reply<A>
+        requires { 0 < self.old.state.calls_left }
+        ensures step { Step (map D.meaning self.old.drivers) self.old.state (Call.DisconnectController handle driver) result self.new.state }
+        ensures drivers { self.new.drivers ≡ self.old.drivers }
+    {
+        Reply::DisconnectController(match self.begin() {
+            Ok(()) => self
+                .protocols
+                .disconnect(self.drivers.as_slice(), handle, driver),
+            Err(status) => Err(status),
+        })
+    }
+
     /// LocateDevicePath: of the handles that carry a GUID, the one whose device path is the longest front
     /// of the path at an address in the pool.
     pub fn locate_device_path(&mut self, guid: Uuid, address: u64) -> Reply<A>
-        requires { 0 < self.old.calls_left }
-        ensures { Step self.old (Call.LocateDevicePath guid address) result self.new }
+        requires { 0 < self.old.state.calls_left }
+        ensures step { Step (map D.meaning self.old.drivers) self.old.state (Call.LocateDevicePath guid address) result self.new.state }
+        ensures drivers { self.new.drivers ≡ self.old.drivers }
     {
         Reply::LocateDevicePath(match self.begin() {
             Ok(()) => locate(self.protocols.handles(), &self.pools, guid, address),
@@ -381,8 +479,9 @@ impl<A: Allocator + Copy> Core<A> {
     ///
     /// INVALID_PARAMETER: another key.
     pub fn exit_boot_services(&mut self, key: u64) -> Reply<A>
-        requires { 0 < self.old.calls_left }
-        ensures { Step self.old (Call.ExitBootServices key) result self.new }
+        requires { 0 < self.old.state.calls_left }
+        ensures step { Step (map D.meaning self.old.drivers) self.old.state (Call.ExitBootServices key) result self.new.state }
+        ensures drivers { self.new.drivers ≡ self.old.drivers }
     {
         Reply::ExitBootServices(match self.begin() {
             Ok(()) if key != self.book.key() => Err(Status::InvalidParameter),
@@ -396,8 +495,9 @@ impl<A: Allocator + Copy> Core<A> {
 
     /// The service that a call names.
     pub fn call(&mut self, call: &Call<A>) -> Reply<A>
-        requires { 0 < self.old.calls_left }
-        ensures { Step self.old call.now result self.new }
+        requires { 0 < self.old.state.calls_left }
+        ensures step { Step (map D.meaning self.old.drivers) self.old.state call.now result self.new.state }
+        ensures drivers { self.new.drivers ≡ self.old.drivers }
     {
         match call {
             Call::AllocatePages {
@@ -421,6 +521,17 @@ impl<A: Allocator + Copy> Core<A> {
             Call::InstallMultipleProtocolInterfaces { handle, pairs } => {
                 self.install_multiple(*handle, pairs.as_slice())
             }
+            Call::UninstallProtocolInterface {
+                handle,
+                guid,
+                value,
+            } => self.uninstall(*handle, *guid, *value),
+            Call::ReinstallProtocolInterface {
+                handle,
+                guid,
+                old_value,
+                new_value,
+            } => self.reinstall(*handle, *guid, *old_value, *new_value),
             Call::RegisterProtocolNotify { guid, event } => {
                 self.register_protocol_notify(*guid, *event)
             }
@@ -452,6 +563,14 @@ impl<A: Allocator + Copy> Core<A> {
                 self.open_protocol_information(*handle, *guid)
             }
             Call::HandleProtocol { handle, guid } => self.handle_protocol(*handle, *guid),
+            Call::ConnectController {
+                handle,
+                drivers,
+                recursive,
+            } => self.connect_controller(*handle, drivers.as_slice(), *recursive),
+            Call::DisconnectController { handle, driver } => {
+                self.disconnect_controller(*handle, *driver)
+            }
             Call::LocateDevicePath { guid, address } => self.locate_device_path(*guid, *address),
             Call::ExitBootServices { key } => self.exit_boot_services(*key),
         }
@@ -461,8 +580,9 @@ impl<A: Allocator + Copy> Core<A> {
     ///
     /// An `Err` means that there was no memory for the replies; then no call was made.
     pub fn run(&mut self, calls: &[Call<A>]) -> Result<Vec<Reply<A>, A>, AllocError>
-        requires { length calls.now ≤ self.old.calls_left }
-        ensures runs { IfOk result (λ replies. CallRun self.old calls.now replies.items self.new) }
+        requires { length calls.now ≤ self.old.state.calls_left }
+        ensures runs { IfOk result (λ replies. CallRun (map D.meaning self.old.drivers) self.old.state calls.now replies.items self.new.state) }
+        ensures drivers { self.new.drivers ≡ self.old.drivers }
         ensures refused { OnErr result (self.new ≡ self.old) }
     {
         let mut replies = Vec::with_capacity(self.book.table().allocator(), calls.len())?;
@@ -478,30 +598,30 @@ impl<A: Allocator + Copy> Core<A> {
 
     /// How many calls may still be made: 2^31 at first, one less after each.
     pub fn calls_left(&self) -> u64
-        ensures { result ≡ self.now.calls_left }
+        ensures { result ≡ self.now.state.calls_left }
     {
         self.calls_left
     }
 
     /// How many entries the memory map has.
     pub fn descriptors(&self) -> usize
-        ensures count { result ≡ length (memory_map self.now.parts.book.memory) }
-        ensures proper { IsProperMemory self.now.parts.book.memory }
+        ensures count { result ≡ length (memory_map self.now.state.parts.book.memory) }
+        ensures proper { IsProperMemory self.now.state.parts.book.memory }
     {
         self.book.table().descriptors()
     }
 
     /// The entry of the memory map at an index, by ascending page.
     pub fn descriptor(&self, index: usize) -> Option<Descriptor>
-        ensures { result ≡ slice_get (memory_map self.now.parts.book.memory) index }
+        ensures { result ≡ slice_get (memory_map self.now.state.parts.book.memory) index }
     {
         self.book.table().descriptor(index)
     }
 
     /// The entries of the memory map, by ascending page.
     pub fn map_entries(&self) -> MapEntries<'_>
-        ensures entries { result ≡ memory_map self.now.parts.book.memory }
-        ensures proper { IsProperMemory self.now.parts.book.memory }
+        ensures entries { result ≡ memory_map self.now.state.parts.book.memory }
+        ensures proper { IsProperMemory self.now.state.parts.book.memory }
     {
         // This contract says that the memory is proper.
         let _count = self.descriptors();

@@ -1,5 +1,7 @@
 //! The laws of the machine, each the contract of a function that does nothing.
-ghost use Rattle.boot_core.specs.Laws.{AcceptanceLaw, AnyRunLaw, AnyStepLaw, KeyCountLaw, KeyLaw, LastBytesLaw, MapGrowthLaw, MapStepLaw, PoolBytesLaw, ReadBytesLaw, ReadStepLaw, RecordEntriesLaw, SoundLaw};
+ghost use Rattle.std.specs.Prelude.{List};
+ghost use Rattle.driver_connect.specs.Drivers.{Meaning};
+ghost use Rattle.boot_core.specs.Laws.{AcceptanceLaw, AnyRunLaw, AnyStepLaw, KeyCountLaw, KeyLaw, LastBytesLaw, MapGrowthLaw, MapStepLaw, PoolBytesLaw, ProperListsLaw, ReadBytesLaw, ReadStepLaw, RecordEntriesLaw, SoundLaw};
 ghost use Rattle.boot_core.specs.Steps.{any_starts, best_starts};
 
 use std::alloc::Allocator;
@@ -29,8 +31,16 @@ pub fn read_step_law<A: Allocator>()
 /// After calls on a valid machine the memory is proper and the pages of the pool are those of its
 /// extents, however permitted starts are chosen.
 pub fn sound_law<A: Allocator>()
-    ensures best { SoundLaw best_starts A }
-    ensures any { SoundLaw any_starts A }
+    ensures best { (ds : List Meaning) → SoundLaw (best_starts ds) A }
+    ensures any { (ds : List Meaning) → SoundLaw (any_starts ds) A }
+{}
+
+/// After any calls each open item names live handles, each interface is held by one item at most, for
+/// a driver or exclusively, and no GUID stands twice on a handle, however starts are chosen and
+/// whatever the drivers answer.
+pub fn proper_lists_law<A: Allocator>()
+    ensures best { (ds : List Meaning) → ProperListsLaw (best_starts ds) A }
+    ensures any { (ds : List Meaning) → ProperListsLaw (any_starts ds) A }
 {}
 
 /// A new block's bytes are 0, a write lays its bytes, a block that is given back has no bytes, and no
@@ -54,14 +64,14 @@ pub fn last_bytes_law<A: Allocator>()
 /// accepted exactly while no call since has changed the type of a page, however permitted starts are
 /// chosen.
 pub fn key_law<A: Allocator>()
-    ensures best { KeyLaw best_starts A }
-    ensures any { KeyLaw any_starts A }
+    ensures best { (ds : List Meaning) → KeyLaw (best_starts ds) A }
+    ensures any { (ds : List Meaning) → KeyLaw (any_starts ds) A }
 {}
 
 /// The map key rises by one for each call that changes the type of a page, and for no other call.
 pub fn key_count_law<A: Allocator>()
-    ensures best { KeyCountLaw best_starts A }
-    ensures any { KeyCountLaw any_starts A }
+    ensures best { (ds : List Meaning) → KeyCountLaw (best_starts ds) A }
+    ensures any { (ds : List Meaning) → KeyCountLaw (any_starts ds) A }
 {}
 
 /// After calls on a valid machine each entry of the memory map fits a record, so what GetMemoryMap
@@ -73,8 +83,8 @@ pub fn record_entries_law<A: Allocator>()
 /// After calls on a valid machine the memory map has no more entries than the machine has runs, and
 /// two more for each call, however permitted starts are chosen.
 pub fn map_growth_law<A: Allocator>()
-    ensures best { MapGrowthLaw best_starts A }
-    ensures any { MapGrowthLaw any_starts A }
+    ensures best { (ds : List Meaning) → MapGrowthLaw (best_starts ds) A }
+    ensures any { (ds : List Meaning) → MapGrowthLaw (any_starts ds) A }
 {}
 
 /// On a valid machine the checker accepts the certificate of each placement of a run, with the

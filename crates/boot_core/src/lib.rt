@@ -10,7 +10,7 @@ mod map_buffers;
 mod pool_buffers;
 mod pool_lists;
 
-pub use calls::{Call, CallBytes, CallPairs, PoolList, Reply};
+pub use calls::{Call, CallBytes, CallHandles, CallPairs, PoolList, Reply};
 pub use certificates::{certified, may_be_certified};
 pub use core_state::Core;
 pub use laws::{

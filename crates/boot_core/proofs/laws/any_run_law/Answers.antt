@@ -2,4 +2,4 @@ use Rattle.boot_core.proofs.AnySteps.{run_any}
 use Rattle.boot_core.proofs.laws.any_run_law.Goals as goal
 
 pub returns : goal.returns
-returns g c = λ old calls replies new run. run_any old calls replies new run
+returns g c = λ ds old calls replies new run. run_any ds old calls replies new run

@@ -2,4 +2,4 @@ use Rattle.boot_core.proofs.LastBytes.{last_bytes}
 use Rattle.boot_core.proofs.laws.last_bytes_law.Goals as goal
 
 pub returns : goal.returns
-returns g c = λ first old call answer address bytes calls replies new run used after sound step lays leaves reads. last_bytes first old call answer address bytes calls replies new run used after sound step lays leaves reads
+returns g c = λ ds first old call answer address bytes calls replies new run used after sound step lays leaves reads. last_bytes ds first old call answer address bytes calls replies new run used after sound step lays leaves reads

@@ -1,19 +1,19 @@
 use Rattle.std.proofs.Common.{◌≡◌, ap, sym, subst, ◌∙◌, rules}
 use Rattle.page_services.specs.PageRules.{Book}
 use Rattle.boot_core.specs.declared.calls.Reply.{Reply}
-use Rattle.boot_core.specs.Machines.{Parts, State}
+use Rattle.boot_core.specs.Machines.{CoreValue, Parts}
 use Rattle.boot_core.specs.MapCalls.{AnswersMap, refused_map}
 use Rattle.boot_core.specs.Steps.{exited_after}
 use Rattle.boot_core.proofs.Serving.{open_rule, exited_refusal}
 use Rattle.boot_core.proofs.core_state.Core.get_map_bytes.Goals.{in-Ok, in-Err}
 use Rattle.boot_core.proofs.core_state.Core.get_map_bytes.Goals as goal
 
-pub returns : goal.returns
-returns g c =
-    let old = c.args.self.now in
-    let new = c.begin.new.self in
+pub returns-clause-step : goal.returns-clause-step
+returns-clause-step g c =
+    let old = c.args.self.now.state in
+    let new = c.begin.new.self.state in
     let begun = c.begin.ensures in
-    let book : c.self.inside.book ≡ old.parts.book = ap (λ (s : State). s.parts.book) c.self.view_is ∙ ap (λ (p : Parts). p.book) begun.parts in
+    let book : c.self.inside.book ≡ old.parts.book = ap (λ (v : CoreValue g.row.D.Denot). v.state.parts.book) c.self.view_is ∙ ap (λ (p : Parts). p.book) begun.parts in
     elim c.match-begin.branch [
       | in-Ok w ↦
           let answers = subst (λ (b : Book). AnswersMap b c.args.size w.map_in_buffer-bytes.result.0 w.map_in_buffer-bytes.result.1.items) book w.map_in_buffer-bytes.ensures in

@@ -1,19 +1,19 @@
 use Rattle.std.proofs.Common.{◌≡◌, List, ap, sym, subst, ◌∙◌, rules}
 use Rattle.pool_services.specs.Extents.{Extent}
 use Rattle.boot_core.specs.declared.calls.Reply.{Reply}
-use Rattle.boot_core.specs.Machines.{Parts, State}
+use Rattle.boot_core.specs.Machines.{CoreValue, Parts}
 use Rattle.boot_core.specs.PoolCalls.{AnswersRead}
 use Rattle.boot_core.specs.Steps.{exited_after}
 use Rattle.boot_core.proofs.Serving.{open_rule, exited_refusal}
 use Rattle.boot_core.proofs.core_state.Core.get_pool_bytes.Goals.{in-Ok, in-Err}
 use Rattle.boot_core.proofs.core_state.Core.get_pool_bytes.Goals as goal
 
-pub returns : goal.returns
-returns g c =
-    let old = c.args.self.now in
-    let new = c.begin.new.self in
+pub returns-clause-step : goal.returns-clause-step
+returns-clause-step g c =
+    let old = c.args.self.now.state in
+    let new = c.begin.new.self.state in
     let begun = c.begin.ensures in
-    let pools : c.self-2.inside.pools ≡ old.parts.pools = ap (λ (s : State). s.parts.pools) c.self-2.view_is ∙ ap (λ (p : Parts). p.pools) begun.parts in
+    let pools : c.self-2.inside.pools ≡ old.parts.pools = ap (λ (v : CoreValue g.row.D.Denot). v.state.parts.pools) c.self-2.view_is ∙ ap (λ (p : Parts). p.pools) begun.parts in
     elim c.match-begin.branch [
       | in-Ok w ↦
           let answers = subst (λ (es : List Extent). AnswersRead es c.args.address c.args.size w.read_bytes-status.result.0 w.read_bytes-status.result.1.items) pools w.read_bytes-status.ensures in

@@ -4,19 +4,19 @@ use Rattle.pool_services.specs.Extents.{Extent}
 use Rattle.protocol_services.specs.Lists.{Lists}
 use Rattle.protocol_services.specs.Searches.{LocatesHandles}
 use Rattle.boot_core.specs.declared.calls.Reply.{Reply}
-use Rattle.boot_core.specs.Machines.{Parts, State}
+use Rattle.boot_core.specs.Machines.{CoreValue, Parts, State}
 use Rattle.boot_core.specs.Steps.{exited_after}
 use Rattle.boot_core.proofs.Serving.{open_rule, exited_refusal}
 use Rattle.boot_core.proofs.core_state.Core.locate_handle.Goals.{in-Ok, in-Err}
 use Rattle.boot_core.proofs.core_state.Core.locate_handle.Goals as goal
 
-pub returns : goal.returns
-returns g c =
-    let old = c.args.self.now in
+pub returns-clause-step : goal.returns-clause-step
+returns-clause-step g c =
+    let old = c.args.self.now.state in
     let begun = c.begin.ensures in
-    let now : State = c.begin.new.self in
+    let now : State = c.begin.new.self.state in
     let parts : Parts = record { book = c.self.inside.book; pools = c.self.inside.pools; lists = c.self.inside.protocols } in
-    let same : parts ≡ old.parts = ap (λ (s : State). s.parts) c.self.view_is ∙ begun.parts in
+    let same : parts ≡ old.parts = ap (λ (v : CoreValue g.row.D.Denot). v.state.parts) c.self.view_is ∙ begun.parts in
     elim c.match-begin.branch [
       | in-Ok w ↦
           let locates = subst (λ (l : Lists). LocatesHandles l c.args.search c.args.guid c.args.key c.args.size w.locate.result w.locate.new.self) (ap (λ (p : Parts). p.lists) same) w.locate.ensures.locates in
@@ -24,8 +24,8 @@ returns g c =
           let pools = ap (λ (p : Parts). p.pools) same in
           rw (w.self-is, w.result-is) (record {
             answers = (w.locate.result, refl, open_rule old.exited old.parts (record { book = c.self.inside.book; pools = c.self.inside.pools; lists = w.locate.new.self }) _ _ c.begin.result w.in-Ok.field-0 begun.answer w.in-Ok.is (locates, book, pools));
-            exited = ap (λ (s : State). s.exited) c.self.view_is ∙ begun.exited;
-            calls_left = ap (λ (s : State). s.calls_left + 1) c.self.view_is ∙ begun.counted;
+            exited = ap (λ (v : CoreValue g.row.D.Denot). v.state.exited) c.self.view_is ∙ begun.exited;
+            calls_left = ap (λ (v : CoreValue g.row.D.Denot). v.state.calls_left + 1) c.self.view_is ∙ begun.counted;
           })
       | in-Err w ↦
           rw (w.self-is, w.result-is) (record {

@@ -1,0 +1,9 @@
+use Rattle.boot_core.specs.Steps.{any_starts, best_starts}
+use Rattle.boot_core.proofs.ProperRuns.{proper_after}
+use Rattle.boot_core.proofs.laws.proper_lists_law.Goals as goal
+
+pub returns-clause-best : goal.returns-clause-best
+returns-clause-best g c = λ ds machine calls replies new run. proper_after (best_starts ds) machine calls replies new run
+
+pub returns-clause-any : goal.returns-clause-any
+returns-clause-any g c = λ ds machine calls replies new run. proper_after (any_starts ds) machine calls replies new run
