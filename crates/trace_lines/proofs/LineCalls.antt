@@ -25,7 +25,7 @@ use Rattle.trace_lines.specs.declared.lines.TraceCall.{TraceCall}
 use Rattle.trace_lines.specs.declared.lines.TraceCall.TheVariants as trace_call
 use Rattle.uuid.specs.Text.{parsed}
 use Rattle.trace_lines.specs.Laws.{IsGuid, HasCallNumbers}
-use Rattle.trace_lines.specs.Parameters.{u64_of, u32_of, u64_up_to, or_hex, bytes_of, guid_of, pairs_of}
+use Rattle.trace_lines.specs.Parameters.{u64_of, u32_of, u64_up_to, flag_of, u64s_of, or_hex, bytes_of, guid_of, pairs_of}
 use Rattle.trace_lines.proofs.ParsedGuids.{parsed_guid}
 use Rattle.trace_lines.specs.TraceLine.{largest_buffer, longest_read, call_of, call_of_words, line_of}
 
@@ -97,6 +97,21 @@ pairs_fit (guid ∷ value ∷ words) pairs e =
     let (ps, pe, e3) = bind_ok (pairs_of words) _ _ e2 in
     same_pairs ((g, v) ∷ ps) pairs e3 ((guid_fits guid g ge, u64_below value v ve), pairs_fit words ps pe)
 
+-- ---- drivers
+
+abbrev FitAll : List ℕ → Type 0
+FitAll numbers = AllByRecursion (λ n. n < 2 ^ 64) numbers
+
+same_fit : (front numbers : List ℕ) → fine front ≡ Ok numbers → FitAll front → FitAll numbers
+same_fit front numbers e h = let same : front ≡ numbers = cc in subst FitAll same h
+
+numbers_fit : (words : List (List ℕ)) (numbers : List ℕ) → u64s_of words ≡ Ok numbers → FitAll numbers
+numbers_fit [] numbers e = same_fit [] numbers e tt
+numbers_fit (word ∷ words) numbers e =
+    let (n, ne, e1) = bind_ok (u64_of word) _ _ e in
+    let (ns, se, e2) = bind_ok (u64s_of words) _ _ e1 in
+    same_fit (n ∷ ns) numbers e2 (u64_below word n ne, numbers_fit words ns se)
+
 -- ---- calls
 
 abbrev Asked : Type 0 → Type 0
@@ -154,6 +169,17 @@ module _ {A : Type 0} where
       let (h, he, e2) = bind_ok (u64_of handle) _ _ e1 in
       let (ps, pe, e3) = bind_ok (pairs_of (guid ∷ value ∷ words)) _ _ e2 in
       same_numbers (call.InstallMultipleProtocolInterfaces h ps) c (cc) (u64_below handle h he, pairs_fit (guid ∷ value ∷ words) ps pe)
+  of_verb verb.Uninstall (handle ∷ guid ∷ value ∷ []) c e =
+      let (h, he, e1) = bind_ok (u64_of handle) _ _ e in
+      let (g, ge, e2) = bind_ok (guid_of guid) _ _ e1 in
+      let (v, ve, e3) = bind_ok (u64_of value) _ _ e2 in
+      same_numbers (call.UninstallProtocolInterface h g v) c (cc) (u64_below handle h he, guid_fits guid g ge, u64_below value v ve)
+  of_verb verb.Reinstall (handle ∷ guid ∷ old ∷ new ∷ []) c e =
+      let (h, he, e1) = bind_ok (u64_of handle) _ _ e in
+      let (g, ge, e2) = bind_ok (guid_of guid) _ _ e1 in
+      let (o, oe, e3) = bind_ok (u64_of old) _ _ e2 in
+      let (n, ne, e4) = bind_ok (u64_of new) _ _ e3 in
+      same_numbers (call.ReinstallProtocolInterface h g o n) c (cc) (u64_below handle h he, guid_fits guid g ge, u64_below old o oe, u64_below new n ne)
   of_verb verb.Open (handle ∷ guid ∷ agent ∷ controller ∷ attributes ∷ []) c e =
       let (h, he, e1) = bind_ok (u64_of handle) _ _ e in
       let (g, ge, e2) = bind_ok (guid_of guid) _ _ e1 in
@@ -197,6 +223,15 @@ module _ {A : Type 0} where
   of_verb verb.Protocols (handle ∷ []) c e =
       let (h, he, e1) = bind_ok (u64_of handle) _ _ e in
       same_numbers (call.ProtocolsPerHandle h) c (cc) (u64_below handle h he)
+  of_verb verb.Connect (handle ∷ recursive ∷ drivers) c e =
+      let (h, he, e1) = bind_ok (u64_of handle) _ _ e in
+      let (r, re, e2) = bind_ok (flag_of recursive) _ _ e1 in
+      let (ds, de, e3) = bind_ok (u64s_of drivers) _ _ e2 in
+      same_numbers (call.ConnectController h ds r) c (cc) (u64_below handle h he, numbers_fit drivers ds de)
+  of_verb verb.Disconnect (handle ∷ driver ∷ []) c e =
+      let (h, he, e1) = bind_ok (u64_of handle) _ _ e in
+      let (d, de, e2) = bind_ok (u64_of driver) _ _ e1 in
+      same_numbers (call.DisconnectController h d) c (cc) (u64_below handle h he, u64_below driver d de)
   of_verb verb.Path (guid ∷ address ∷ []) c e =
       let (g, ge, e1) = bind_ok (guid_of guid) _ _ e in
       let (a, ae, e2) = bind_ok (u64_of address) _ _ e1 in

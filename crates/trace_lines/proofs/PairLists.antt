@@ -1,5 +1,5 @@
 -- Words read as pairs, one pair after the other.
-use Rattle.std.proofs.Common.{◌≡◌, ℕ, ◌-◌, ◌%◌, ◌==◌, ◌<◌, ◌≤◌, false, List, [], ◌∷◌, ◌++◌, length, take, drop, map, Result, Ok, Err, refl, sym, ap, append_assoc, append-nil, arith, Bor}
+use Rattle.std.proofs.Common.{◌≡◌, ℕ, ◌-◌, ◌%◌, ◌==◌, ◌<◌, ◌≤◌, false, List, [], ◌∷◌, ◌++◌, length, take, drop, map, Result, Ok, refl, append-nil, arith, Bor}
 use Rattle.std.proofs.lemmas.List.{take_rest, length-map}
 use Rattle.text_lines.specs.FirstFault.{◌>>=◌}
 use Rattle.trace_lines.specs.declared.faults.TraceFault.{TraceFault}
@@ -10,19 +10,7 @@ use Rattle.trace_lines.specs.declared.lines.TraceCall.{TraceCall}
 use Rattle.trace_lines.specs.declared.lines.TraceCall.TheVariants as trace_call
 use Rattle.trace_lines.specs.TraceLine.{call_of}
 use Rattle.trace_lines.proofs.ParameterLists.{at}
-
--- the pairs so far, and then those that are read
-abbrev pub with_front : List (List ℕ × ℕ) → Result (List (List ℕ × ℕ)) TraceFault → Result (List (List ℕ × ℕ)) TraceFault
-with_front front (Ok pairs) = Ok (front ++ pairs)
-with_front front (Err e) = Err e
-
-pub with_front-none : (r : Result (List (List ℕ × ℕ)) TraceFault) → with_front [] r ≡ r
-with_front-none (Ok pairs) = refl
-with_front-none (Err e) = refl
-
-with_front-more : (front : List (List ℕ × ℕ)) (pair : List ℕ × ℕ) (r : Result (List (List ℕ × ℕ)) TraceFault) → with_front front (r >>= λ pairs. Ok (pair ∷ pairs)) ≡ with_front (front ++ pair ∷ []) r
-with_front-more front pair (Ok pairs) = ap Ok (sym (append_assoc front (pair ∷ []) pairs))
-with_front-more front pair (Err e) = refl
+use Rattle.trace_lines.proofs.Fronts.{with_front, with_front-more}
 
 -- what words ask for as pairs
 abbrev pub pairs_in : List (Bor (List ℕ)) → Result (List (List ℕ × ℕ)) TraceFault

@@ -9,6 +9,11 @@ none = record { ref_ptr = (0, 0); now = [] }
 abbrev pub at : List (Bor (List ℕ)) → ℕ → List ℕ
 at parameters i = (get_or parameters i none).now
 
+pub one : (parameters : List (Bor (List ℕ))) → 1 ≤ length parameters → length parameters < 2 → map (λ word. word.now) parameters ≡ at parameters 0 ∷ []
+one [] h l = absurd (omega arith)
+one (a ∷ []) h l = refl
+one (a ∷ b ∷ more) h l = absurd (omega arith)
+
 pub two : (parameters : List (Bor (List ℕ))) → 2 ≤ length parameters → length parameters < 3 → map (λ word. word.now) parameters ≡ at parameters 0 ∷ at parameters 1 ∷ []
 two [] h l = absurd (omega arith)
 two (a ∷ []) h l = absurd (omega arith)

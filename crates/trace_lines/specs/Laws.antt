@@ -26,6 +26,8 @@ HasCallNumbers (call.PoolRead address size) = (address < 2 ^ 64) × (size < 2 ^ 
 HasCallNumbers (call.PoolWrite address bytes) = (address < 2 ^ 64) × AllByRecursion (λ b. b < 256) bytes
 HasCallNumbers (call.InstallProtocolInterface handle guid kind value) = (handle < 2 ^ 64) × IsGuid guid × (kind < 2 ^ 32) × (value < 2 ^ 64)
 HasCallNumbers (call.InstallMultipleProtocolInterfaces handle pairs) = (handle < 2 ^ 64) × AllByRecursion (λ pair. IsGuid pair.0 × (pair.1 < 2 ^ 64)) pairs
+HasCallNumbers (call.UninstallProtocolInterface handle guid value) = (handle < 2 ^ 64) × IsGuid guid × (value < 2 ^ 64)
+HasCallNumbers (call.ReinstallProtocolInterface handle guid old new) = (handle < 2 ^ 64) × IsGuid guid × (old < 2 ^ 64) × (new < 2 ^ 64)
 HasCallNumbers (call.RegisterProtocolNotify guid event) = IsGuid guid × (event < 2 ^ 64)
 HasCallNumbers (call.LocateHandle search guid key size) = (search < 2 ^ 32) × IsGuid guid × (key < 2 ^ 64) × (size < 2 ^ 64)
 HasCallNumbers (call.LocateHandleBuffer search guid key) = (search < 2 ^ 32) × IsGuid guid × (key < 2 ^ 64)
@@ -35,6 +37,8 @@ HasCallNumbers (call.OpenProtocol handle guid agent controller attributes) = (ha
 HasCallNumbers (call.CloseProtocol handle guid agent controller) = (handle < 2 ^ 64) × IsGuid guid × (agent < 2 ^ 64) × (controller < 2 ^ 64)
 HasCallNumbers (call.OpenProtocolInformation handle guid) = (handle < 2 ^ 64) × IsGuid guid
 HasCallNumbers (call.HandleProtocol handle guid) = (handle < 2 ^ 64) × IsGuid guid
+HasCallNumbers (call.ConnectController handle drivers recursive) = (handle < 2 ^ 64) × AllByRecursion (λ driver. driver < 2 ^ 64) drivers
+HasCallNumbers (call.DisconnectController handle driver) = (handle < 2 ^ 64) × (driver < 2 ^ 64)
 HasCallNumbers (call.LocateDevicePath guid address) = IsGuid guid × (address < 2 ^ 64)
 HasCallNumbers (call.ExitBootServices key) = key < 2 ^ 64
 

@@ -1,5 +1,5 @@
 -- The parameters of a trace line.
-use Rattle.std.specs.Prelude.{ℕ, ◌^◌, nat_le, nat_lt, List, [], ◌∷◌, codes, Result, Ok, Err, if◌then◌else◌}
+use Rattle.std.specs.Prelude.{ℕ, ◌^◌, ◌==◌, nat_le, nat_lt, Bool, List, [], ◌∷◌, codes, Result, Ok, Err, if◌then◌else◌}
 use Rattle.std.specs.Str.{bytes_eq}
 use Rattle.hex.specs.Hex.{decode_of}
 use Rattle.hex.specs.declared.error.FromHexError.{FromHexError}
@@ -27,6 +27,20 @@ abbrev pub u64_up_to : ℕ → List ℕ → Result ℕ TraceFault
 u64_up_to most word = do
   n ← u64_of word
   if nat_le n most then Ok n else Err fault.Number
+
+-- a number that is 0 or 1: whether it is 1
+abbrev pub flag_of : List ℕ → Result Bool TraceFault
+flag_of word = do
+  n ← u64_up_to 1 word
+  Ok (n == 1)
+
+-- numbers below 2^64, from left to right
+abbrev pub u64s_of : List (List ℕ) → Result (List ℕ) TraceFault
+u64s_of [] = Ok []
+u64s_of (word ∷ words) = do
+  n ← u64_of word
+  numbers ← u64s_of words
+  Ok (n ∷ numbers)
 
 -- ---- bytes
 

@@ -2,12 +2,12 @@
 use Rattle.std.specs.Prelude.{ℕ, ◌%◌, ◌==◌, nat_lt, nat_eq, List, [], ◌∷◌, length, codes, Option, Some, None, Result, Ok, Err, if◌then◌else◌}
 use Rattle.std.specs.List.{starts_with}
 use Rattle.std.specs.Io.BufRead.{strip_last}
-use Rattle.boot_core.specs.declared.calls.Call.TheVariants.{AllocatePages, FreePages, GetMemoryMap, AllocatePool, FreePool, PoolRead, PoolWrite, InstallProtocolInterface, InstallMultipleProtocolInterfaces, OpenProtocol, CloseProtocol, OpenProtocolInformation, HandleProtocol, RegisterProtocolNotify, LocateHandle, LocateHandleBuffer, LocateProtocol, ProtocolsPerHandle, LocateDevicePath, ExitBootServices}
+use Rattle.boot_core.specs.declared.calls.Call.TheVariants.{AllocatePages, FreePages, GetMemoryMap, AllocatePool, FreePool, PoolRead, PoolWrite, InstallProtocolInterface, InstallMultipleProtocolInterfaces, UninstallProtocolInterface, ReinstallProtocolInterface, OpenProtocol, CloseProtocol, OpenProtocolInformation, HandleProtocol, RegisterProtocolNotify, LocateHandle, LocateHandleBuffer, LocateProtocol, ProtocolsPerHandle, ConnectController, DisconnectController, LocateDevicePath, ExitBootServices}
 use Rattle.trace_lines.specs.declared.lines.TraceCall.{TraceCall}
 use Rattle.trace_lines.specs.declared.lines.TraceCall.TheVariants as trace_call
 use Rattle.trace_lines.specs.declared.faults.TraceFault.{TraceFault}
 use Rattle.trace_lines.specs.declared.faults.TraceFault.TheVariants as fault
-use Rattle.trace_lines.specs.Parameters.{u64_of, u32_of, u64_up_to, bytes_of, guid_of, pairs_of}
+use Rattle.trace_lines.specs.Parameters.{u64_of, u32_of, u64_up_to, flag_of, u64s_of, bytes_of, guid_of, pairs_of}
 use Rattle.trace_verbs.specs.declared.verbs.Verb.{Verb}
 use Rattle.trace_verbs.specs.declared.verbs.Verb.TheVariants as verb
 use Rattle.text_lines.specs.FirstFault.{◌>>=◌, or_fault}
@@ -65,6 +65,17 @@ call_of verb.InstallMany (handle ∷ guid ∷ value ∷ words) = if length words
   h ← u64_of handle
   pairs ← pairs_of (guid ∷ value ∷ words)
   Ok (trace_call.Service (InstallMultipleProtocolInterfaces h pairs))) else Err fault.Words
+call_of verb.Uninstall (handle ∷ guid ∷ value ∷ []) = do
+  h ← u64_of handle
+  g ← guid_of guid
+  v ← u64_of value
+  Ok (trace_call.Service (UninstallProtocolInterface h g v))
+call_of verb.Reinstall (handle ∷ guid ∷ old ∷ new ∷ []) = do
+  h ← u64_of handle
+  g ← guid_of guid
+  o ← u64_of old
+  n ← u64_of new
+  Ok (trace_call.Service (ReinstallProtocolInterface h g o n))
 call_of verb.Open (handle ∷ guid ∷ agent ∷ controller ∷ attributes ∷ []) = do
   h ← u64_of handle
   g ← guid_of guid
@@ -108,6 +119,15 @@ call_of verb.LocateProtocol (guid ∷ key ∷ []) = do
 call_of verb.Protocols (handle ∷ []) = do
   h ← u64_of handle
   Ok (trace_call.Service (ProtocolsPerHandle h))
+call_of verb.Connect (handle ∷ recursive ∷ drivers) = do
+  h ← u64_of handle
+  r ← flag_of recursive
+  ds ← u64s_of drivers
+  Ok (trace_call.Service (ConnectController h ds r))
+call_of verb.Disconnect (handle ∷ driver ∷ []) = do
+  h ← u64_of handle
+  d ← u64_of driver
+  Ok (trace_call.Service (DisconnectController h d))
 call_of verb.Path (guid ∷ address ∷ []) = do
   g ← guid_of guid
   a ← u64_of address

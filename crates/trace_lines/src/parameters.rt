@@ -1,9 +1,9 @@
 //! The parameters of a trace line.
 ghost use Rattle.std.specs.Prelude.{◌≡◌, ◌⊎◌, Err, map};
-ghost use Rattle.trace_lines.specs.Parameters.{bytes_of, guid_of, pairs_of, u32_of, u64_of, u64_up_to};
+ghost use Rattle.trace_lines.specs.Parameters.{bytes_of, flag_of, guid_of, pairs_of, u32_of, u64_of, u64_up_to, u64s_of};
 
 use crate::faults::TraceFault;
-use boot_core::{CallBytes, CallPairs};
+use boot_core::{CallBytes, CallHandles, CallPairs};
 use std::alloc::Allocator;
 use text_lines::number_of;
 use uuid::Uuid;
@@ -33,6 +33,25 @@ pub fn read_u64_up_to(most: u64, word: &[u8]) -> Result<u64, TraceFault>
     } else {
         Err(TraceFault::Number)
     }
+}
+
+/// A number that is 0 or 1: whether it is 1.
+pub fn read_flag(word: &[u8]) -> Result<bool, TraceFault>
+    ensures { result ≡ flag_of word.now }
+{
+    let number = read_u64_up_to(1, word)?;
+    Ok(number == 1)
+}
+
+/// Handles, numbers of 64 bits from left to right.
+pub fn read_handles<A: Allocator>(alloc: A, words: &[&[u8]]) -> Result<CallHandles<A>, TraceFault>
+    ensures { (result ≡ Err TraceFault.OutOfMemory) ⊎ (result ≡ u64s_of (map (λ word. word.now) words.now)) }
+{
+    let mut handles = Vec::with_capacity(alloc, words.len())?;
+    for word in words {
+        handles.push(read_u64(word)?)?;
+    }
+    Ok(CallHandles::new(handles))
 }
 
 /// Bytes: two hexadecimal digits for each, or `-` for none.

@@ -4,7 +4,7 @@ ghost use Rattle.trace_lines.specs.TraceLine.{call_of};
 
 use crate::faults::TraceFault;
 use crate::lines::TraceCall;
-use crate::parameters::{read_guid, read_pairs, read_u32, read_u64};
+use crate::parameters::{read_flag, read_guid, read_handles, read_pairs, read_u32, read_u64};
 use boot_core::Call;
 use std::alloc::Allocator;
 use trace_verbs::Verb;
@@ -40,6 +40,35 @@ pub fn read_install_many<A: Allocator + Copy>(
     Ok(TraceCall::Service(Call::InstallMultipleProtocolInterfaces {
         handle: read_u64(handle)?,
         pairs: read_pairs(alloc, words)?,
+    }))
+}
+
+/// What `uninstall` asks for.
+pub fn read_uninstall<A: Allocator>(parameters: &[&[u8]]) -> Result<TraceCall<A>, TraceFault>
+    ensures { result ≡ call_of Verb.Uninstall (map (λ word. word.now) parameters.now) }
+{
+    let [handle, guid, value] = parameters else {
+        return Err(TraceFault::Words);
+    };
+    Ok(TraceCall::Service(Call::UninstallProtocolInterface {
+        handle: read_u64(handle)?,
+        guid: read_guid(guid)?,
+        value: read_u64(value)?,
+    }))
+}
+
+/// What `reinstall` asks for.
+pub fn read_reinstall<A: Allocator>(parameters: &[&[u8]]) -> Result<TraceCall<A>, TraceFault>
+    ensures { result ≡ call_of Verb.Reinstall (map (λ word. word.now) parameters.now) }
+{
+    let [handle, guid, old_value, new_value] = parameters else {
+        return Err(TraceFault::Words);
+    };
+    Ok(TraceCall::Service(Call::ReinstallProtocolInterface {
+        handle: read_u64(handle)?,
+        guid: read_guid(guid)?,
+        old_value: read_u64(old_value)?,
+        new_value: read_u64(new_value)?,
     }))
 }
 
@@ -164,6 +193,36 @@ pub fn read_protocols<A: Allocator>(parameters: &[&[u8]]) -> Result<TraceCall<A>
     };
     Ok(TraceCall::Service(Call::ProtocolsPerHandle {
         handle: read_u64(handle)?,
+    }))
+}
+
+/// What `connect` asks for: the drivers of the caller, any number of them, in their order.
+pub fn read_connect<A: Allocator + Copy>(
+    alloc: A,
+    parameters: &[&[u8]],
+) -> Result<TraceCall<A>, TraceFault>
+    ensures { (result ≡ Err TraceFault.OutOfMemory) ⊎ (result ≡ call_of Verb.Connect (map (λ word. word.now) parameters.now)) }
+{
+    let [handle, recursive, drivers @ ..] = parameters else {
+        return Err(TraceFault::Words);
+    };
+    Ok(TraceCall::Service(Call::ConnectController {
+        handle: read_u64(handle)?,
+        recursive: read_flag(recursive)?,
+        drivers: read_handles(alloc, drivers)?,
+    }))
+}
+
+/// What `disconnect` asks for.
+pub fn read_disconnect<A: Allocator>(parameters: &[&[u8]]) -> Result<TraceCall<A>, TraceFault>
+    ensures { result ≡ call_of Verb.Disconnect (map (λ word. word.now) parameters.now) }
+{
+    let [handle, driver] = parameters else {
+        return Err(TraceFault::Words);
+    };
+    Ok(TraceCall::Service(Call::DisconnectController {
+        handle: read_u64(handle)?,
+        driver: read_u64(driver)?,
     }))
 }
 

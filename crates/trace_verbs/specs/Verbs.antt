@@ -15,6 +15,8 @@ verb_name verb.Read = codes "read"
 verb_name verb.Write = codes "write"
 verb_name verb.Install = codes "install"
 verb_name verb.InstallMany = codes "install-many"
+verb_name verb.Uninstall = codes "uninstall"
+verb_name verb.Reinstall = codes "reinstall"
 verb_name verb.Open = codes "open"
 verb_name verb.Close = codes "close"
 verb_name verb.Information = codes "information"
@@ -24,6 +26,8 @@ verb_name verb.Locate = codes "locate"
 verb_name verb.LocateBuffer = codes "locate-buffer"
 verb_name verb.LocateProtocol = codes "locate-protocol"
 verb_name verb.Protocols = codes "protocols"
+verb_name verb.Connect = codes "connect"
+verb_name verb.Disconnect = codes "disconnect"
 verb_name verb.Path = codes "path"
 verb_name verb.Exit = codes "exit"
 verb_name verb.List = codes "list"
@@ -31,9 +35,10 @@ verb_name verb.List = codes "list"
 -- all verbs
 abbrev pub verbs : List Verb
 verbs = verb.Pages ∷ verb.FreePages ∷ verb.Map ∷ verb.Pool ∷ verb.FreePool ∷ verb.Read ∷ verb.Write
-    ∷ verb.Install ∷ verb.InstallMany ∷ verb.Open ∷ verb.Close ∷ verb.Information ∷ verb.HandleProtocol
-    ∷ verb.Notify ∷ verb.Locate ∷ verb.LocateBuffer ∷ verb.LocateProtocol ∷ verb.Protocols
-    ∷ verb.Path ∷ verb.Exit ∷ verb.List ∷ []
+    ∷ verb.Install ∷ verb.InstallMany ∷ verb.Uninstall ∷ verb.Reinstall ∷ verb.Open ∷ verb.Close
+    ∷ verb.Information ∷ verb.HandleProtocol ∷ verb.Notify ∷ verb.Locate ∷ verb.LocateBuffer
+    ∷ verb.LocateProtocol ∷ verb.Protocols ∷ verb.Connect ∷ verb.Disconnect ∷ verb.Path ∷ verb.Exit
+    ∷ verb.List ∷ []
 
 -- the verb that is written so
 abbrev pub verb_named : List ℕ → Option Verb

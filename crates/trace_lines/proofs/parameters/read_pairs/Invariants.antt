@@ -1,5 +1,6 @@
 use Rattle.std.proofs.Common.{◌≡◌, length}
-use Rattle.trace_lines.proofs.PairLists.{with_front, pairs_in}
+use Rattle.trace_lines.proofs.Fronts.{with_front}
+use Rattle.trace_lines.proofs.PairLists.{pairs_in}
 use Rattle.trace_lines.proofs.parameters.read_pairs.Given as goal
 
 abbrev pub invariant-loop-rest : goal.invariant-loop-rest

@@ -10,3 +10,9 @@ returns-in_err-read_guid g c = rw (four c.args.parameters.now c.in-len4.len_at_l
 
 pub returns-in_err-read_u32 : goal.returns-in_err-read_u32
 returns-in_err-read_u32 g c = rw (four c.args.parameters.now c.in-len4.len_at_least c.in-len4.len_below) (search rules)
+
+pub returns-in_err-read_u64-2 : goal.returns-in_err-read_u64-2
+returns-in_err-read_u64-2 g c = rw (four c.args.parameters.now c.in-len4.len_at_least c.in-len4.len_below) (search rules)
+
+pub returns : goal.returns
+returns g c = rw (four c.args.parameters.now c.in-len4.len_at_least c.in-len4.len_below) (search rules)

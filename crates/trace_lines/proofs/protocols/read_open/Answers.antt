@@ -13,3 +13,9 @@ returns-in_err-read_u64-2 g c = rw (five c.args.parameters.now c.in-len5.len_at_
 
 pub returns-in_err-read_u64-3 : goal.returns-in_err-read_u64-3
 returns-in_err-read_u64-3 g c = rw (five c.args.parameters.now c.in-len5.len_at_least c.in-len5.len_below) (search rules)
+
+pub returns-in_err-read_u32 : goal.returns-in_err-read_u32
+returns-in_err-read_u32 g c = rw (five c.args.parameters.now c.in-len5.len_at_least c.in-len5.len_below) (search rules)
+
+pub returns : goal.returns
+returns g c = rw (five c.args.parameters.now c.in-len5.len_at_least c.in-len5.len_below) (search rules)

@@ -29,6 +29,12 @@ returns-in-Install c = sym (ap verb_name c.in-Install.is)
 pub returns-in-InstallMany : goal.returns-in-InstallMany
 returns-in-InstallMany c = sym (ap verb_name c.in-InstallMany.is)
 
+pub returns-in-Uninstall : goal.returns-in-Uninstall
+returns-in-Uninstall c = sym (ap verb_name c.in-Uninstall.is)
+
+pub returns-in-Reinstall : goal.returns-in-Reinstall
+returns-in-Reinstall c = sym (ap verb_name c.in-Reinstall.is)
+
 pub returns-in-Open : goal.returns-in-Open
 returns-in-Open c = sym (ap verb_name c.in-Open.is)
 
@@ -55,6 +61,12 @@ returns-in-LocateProtocol c = sym (ap verb_name c.in-LocateProtocol.is)
 
 pub returns-in-Protocols : goal.returns-in-Protocols
 returns-in-Protocols c = sym (ap verb_name c.in-Protocols.is)
+
+pub returns-in-Connect : goal.returns-in-Connect
+returns-in-Connect c = sym (ap verb_name c.in-Connect.is)
+
+pub returns-in-Disconnect : goal.returns-in-Disconnect
+returns-in-Disconnect c = sym (ap verb_name c.in-Disconnect.is)
 
 pub returns-in-Path : goal.returns-in-Path
 returns-in-Path c = sym (ap verb_name c.in-Path.is)

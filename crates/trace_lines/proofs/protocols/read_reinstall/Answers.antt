@@ -1,0 +1,18 @@
+use Rattle.std.proofs.Common.{rules}
+use Rattle.trace_lines.proofs.ParameterLists.{four}
+use Rattle.trace_lines.proofs.protocols.read_reinstall.Goals as goal
+
+pub returns-in_err-read_u64 : goal.returns-in_err-read_u64
+returns-in_err-read_u64 g c = rw (four c.args.parameters.now c.in-len4.len_at_least c.in-len4.len_below) (search rules)
+
+pub returns-in_err-read_guid : goal.returns-in_err-read_guid
+returns-in_err-read_guid g c = rw (four c.args.parameters.now c.in-len4.len_at_least c.in-len4.len_below) (search rules)
+
+pub returns-in_err-read_u64-2 : goal.returns-in_err-read_u64-2
+returns-in_err-read_u64-2 g c = rw (four c.args.parameters.now c.in-len4.len_at_least c.in-len4.len_below) (search rules)
+
+pub returns-in_err-read_u64-3 : goal.returns-in_err-read_u64-3
+returns-in_err-read_u64-3 g c = rw (four c.args.parameters.now c.in-len4.len_at_least c.in-len4.len_below) (search rules)
+
+pub returns : goal.returns
+returns g c = rw (four c.args.parameters.now c.in-len4.len_at_least c.in-len4.len_below) (search rules)
