@@ -1,5 +1,5 @@
--- The runs that a machine file lists.
-use Rattle.std.proofs.Common.{◌≡◌, ℕ, zero, suc, ◌+◌, ◌<◌, ◌≤◌, ◌^◌, Bool, true, false, cond, ◌&&◌, ◌==◌, not, nat_lt, nat_le, List, [], ◌∷◌, length, drop, Option, Some, None, option_and_then, Result, Ok, Err, refl, sym, ap, subst, arith, leb-true, eq-eqb, codes}
+-- The runs that a memory list lists.
+use Rattle.std.proofs.Common.{◌≡◌, ℕ, zero, suc, ◌+◌, ◌<◌, ◌≤◌, ◌^◌, Bool, true, false, cond, ◌&&◌, ◌==◌, not, nat_lt, nat_le, List, [], ◌∷◌, length, drop, Option, Some, None, option_and_then, Result, Ok, Err, refl, ap, subst, arith, leb-true, eq-eqb, codes}
 use Rattle.std.specs.List.{AllByRecursion}
 use Rattle.std.proofs.lemmas.Bool.{ltb-true, ltb-false}
 use Rattle.serde_json.specs.Data.{Data, Items, no_items, item}
@@ -16,7 +16,9 @@ use Rattle.machine_files.specs.declared.faults.MachineFault.TheVariants as fault
 use Rattle.machine_files.specs.declared.faults.MemberField.{MemberField}
 use Rattle.machine_files.specs.declared.faults.MemberField.TheVariants as field
 use Rattle.machine_files.specs.FaultText.{field_name}
-use Rattle.machine_files.specs.MachineText.{if_passes, number_at, hexadecimal_at, member_type, first_page_of, page_count_of, attributes_of, member_run, or_descriptor, runs_from, root_runs, file_runs, json_of, most_descriptors, longest_file, item_count}
+use Rattle.machine_files.specs.Fields.{if_passes, number_at, hexadecimal_at, item_count}
+use Rattle.machine_files.proofs.EachMember.{count_read}
+use Rattle.machine_files.specs.MachineText.{member_type, first_page_of, page_count_of, attributes_of, member_run, or_descriptor, runs_from, root_runs, most_descriptors}
 
 -- ---- steps that went well
 
@@ -129,35 +131,21 @@ listed_runs (item d ds) n runs e =
     let same : run ∷ more ≡ runs = cc in
     subst (AllByRecursion IsListed) same (listed_run d run (of_member n (member_run d) run re), listed_runs ds (n + 1) more me)
 
-pub listed_in_file : (bytes : List ℕ) (runs : List Run) → file_runs bytes ≡ Ok runs → AllByRecursion IsListed runs
-unfolding file_runs
-listed_in_file bytes runs e =
-    let e1 = chosen_right (nat_lt longest_file (length bytes)) fault.TooLong (or_fault fault.NotJson (json_of bytes) >>= root_runs) runs e in
-    let (root, je, e2) = bind_ok (or_fault fault.NotJson (json_of bytes)) root_runs runs e1 in
-    let (list, le, e3) = bind_ok (or_fault fault.NoMemoryList (option_and_then as_array (get (codes "memory") root))) (λ list. cond (nat_lt most_descriptors (item_count list)) (Err fault.TooManyDescriptors) (runs_from 0 list)) runs e2 in
-    listed_runs list 0 runs (chosen_right (nat_lt most_descriptors (item_count list)) fault.TooManyDescriptors (runs_from 0 list) runs e3)
+pub listed_in_root : (root : Data) (runs : List Run) → root_runs root ≡ Ok runs → AllByRecursion IsListed runs
+listed_in_root root runs e =
+    let (list, le, e1) = bind_ok (or_fault fault.NoMemoryList (option_and_then as_array (get (codes "memory") root))) (λ list. cond (nat_lt most_descriptors (item_count list)) (Err fault.TooManyDescriptors) (runs_from 0 list)) runs e in
+    listed_runs list 0 runs (chosen_right (nat_lt most_descriptors (item_count list)) fault.TooManyDescriptors (runs_from 0 list) runs e1)
 
-pub file_runs_are_listed : (bytes : List ℕ) (runs : List Run) → file_runs bytes ≡ Ok runs → AllByRecursion IsMachineRun runs
-file_runs_are_listed bytes runs e = all_implied IsListed IsMachineRun (λ r h. h.0) runs (listed_in_file bytes runs e)
+pub root_runs_are_listed : (root : Data) (runs : List Run) → root_runs root ≡ Ok runs → AllByRecursion IsMachineRun runs
+root_runs_are_listed root runs e = all_implied IsListed IsMachineRun (λ r h. h.0) runs (listed_in_root root runs e)
 
--- ---- how many runs a file lists
-
-count_listed : (ds : Items) (n : ℕ) (runs : List Run) → runs_from n ds ≡ Ok runs → length runs ≡ item_count ds
-count_listed no_items n runs e = let same : [] ≡ runs = cc in ap length (sym same)
-count_listed (item d ds) n runs e =
-    let (run, re, e1) = bind_ok (or_descriptor n (member_run d)) (λ run. runs_from (n + 1) ds >>= λ more. Ok (run ∷ more)) runs e in
-    let (more, me, e2) = bind_ok (runs_from (n + 1) ds) (λ more. Ok (run ∷ more)) runs e1 in
-    let same : run ∷ more ≡ runs = cc in
-    omega (arith, ap length same, count_listed ds (n + 1) more me)
+-- ---- how many runs there are
 
 few_chosen : (b : Bool) (list : Items) (runs : List Run) → nat_lt most_descriptors (item_count list) ≡ b → cond b (Err fault.TooManyDescriptors) (runs_from 0 list) ≡ Ok runs → length runs ≤ most_descriptors
 few_chosen true list runs t e = absurd (cc)
-few_chosen false list runs t e = omega (arith, count_listed list 0 runs e, ltb-false most_descriptors (item_count list) t)
+few_chosen false list runs t e = omega (arith, count_read (λ n d. or_descriptor n (member_run d)) list 0 runs e, ltb-false most_descriptors (item_count list) t)
 
-pub few_in_file : (bytes : List ℕ) (runs : List Run) → file_runs bytes ≡ Ok runs → length runs ≤ most_descriptors
-unfolding file_runs
-few_in_file bytes runs e =
-    let e1 = chosen_right (nat_lt longest_file (length bytes)) fault.TooLong (or_fault fault.NotJson (json_of bytes) >>= root_runs) runs e in
-    let (root, je, e2) = bind_ok (or_fault fault.NotJson (json_of bytes)) root_runs runs e1 in
-    let (list, le, e3) = bind_ok (or_fault fault.NoMemoryList (option_and_then as_array (get (codes "memory") root))) (λ list. cond (nat_lt most_descriptors (item_count list)) (Err fault.TooManyDescriptors) (runs_from 0 list)) runs e2 in
-    few_chosen (nat_lt most_descriptors (item_count list)) list runs refl e3
+pub few_in_root : (root : Data) (runs : List Run) → root_runs root ≡ Ok runs → length runs ≤ most_descriptors
+few_in_root root runs e =
+    let (list, le, e1) = bind_ok (or_fault fault.NoMemoryList (option_and_then as_array (get (codes "memory") root))) (λ list. cond (nat_lt most_descriptors (item_count list)) (Err fault.TooManyDescriptors) (runs_from 0 list)) runs e in
+    few_chosen (nat_lt most_descriptors (item_count list)) list runs refl e1

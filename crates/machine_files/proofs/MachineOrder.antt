@@ -1,5 +1,6 @@
 -- The machine that runs in any order make.
-use Rattle.std.proofs.Common.{◌≡◌, ℕ, suc, ◌<◌, ◌≤◌, Bool, true, false, cond, List, [], ◌∷◌, length, get_or, Contains, Option, Some, None, Ok, Err, subst, IsSome, IfSome, ◌↔◌, refl, sym, ap, ◌∙◌, arith, IsPermutation}
+use Rattle.std.proofs.Common.{◌≡◌, ℕ, suc, ◌<◌, ◌≤◌, Bool, true, false, cond, List, [], ◌∷◌, length, get_or, Contains, Option, Some, None, Ok, Err, subst, IsSome, IfSome, ◌↔◌, refl, sym, ap, ◌∙◌, arith, nat_lt, codes, IsPermutation}
+use Rattle.std.proofs.lemmas.Bool.{ltb-false}
 use Rattle.std.specs.List.{AllByRecursion}
 use Rattle.std.specs.List.Sorted.{IsNonDecreasingBy}
 use Rattle.std.proofs.lemmas.List.Sorted.{IsPermutation-sym, Contains-permutation, length_permutation}
@@ -8,11 +9,17 @@ use Rattle.page_ranges.specs.Runs.{AreRuns, IsValidMachine}
 use Rattle.page_ranges.proofs.Members.{member_first, member_later, member_all, all_implied}
 use Rattle.boot_core.specs.MachineRuns.{HasRecordNumbers, IsMachineRun}
 use Rattle.boot_core.proofs.MachineRunLists.{valid_machine}
+use Rattle.serde_json.specs.Data.{Data, Items}
+use Rattle.serde_json.specs.Find.{get, as_array}
 use Rattle.machine_files.specs.declared.faults.MachineFault.{MachineFault}
-use Rattle.machine_files.specs.declared.faults.MachineFault.TheVariants.{Overlap}
+use Rattle.machine_files.specs.declared.faults.MachineFault.TheVariants.{NoDriverList, TooManyDrivers, Overlap}
+use Rattle.text_lines.specs.FirstFault.{◌>>=◌, or_fault}
 use Rattle.text_lines.proofs.FirstFaults.{bind_ok}
-use Rattle.machine_files.specs.MachineText.{overlap, in_order, file_runs, machine_of, most_descriptors}
-use Rattle.machine_files.proofs.FileRuns.{IsListed, listed_in_file, few_in_file}
+use Rattle.machine_files.specs.DriverText.{ListedDriver, most_drivers, or_driver, member_driver, drivers_from, drivers_if, root_drivers}
+use Rattle.machine_files.specs.MachineText.{ListedMachine, overlap, in_order, root_of, root_runs, machine_with, machine_of, most_descriptors}
+use Rattle.machine_files.specs.Fields.{item_count}
+use Rattle.machine_files.proofs.EachMember.{count_read}
+use Rattle.machine_files.proofs.FileRuns.{IsListed, listed_in_root, few_in_root}
 use Rattle.machine_files.proofs.InOrder.{AreRising, in_order-permutes, in_order-rising, one_order, overlap-permuted, overlap-in_order, apart_in_order}
 
 all_from_members : (P : Run → Type 0) (rs : List Run) → ((x : Run) → Contains rs x → P x) → AllByRecursion P rs
@@ -68,20 +75,37 @@ module _ (xs ys : List Run) (each : AllByRecursion IsMachineRun xs) (same : IsPe
 pub ordered_machine : (xs : List Run) → AllByRecursion IsMachineRun xs → overlap xs ≡ false → IsValidMachine (in_order xs)
 ordered_machine xs each apart = valid_apart xs (in_order xs) each (in_order-permutes xs) (in_order-rising xs) apart
 
-without_overlap : (b : Bool) (fault : MachineFault) (rs runs : List Run) → cond b (Err fault) (Ok rs) ≡ Ok runs → (b ≡ false) × (rs ≡ runs)
-without_overlap true fault rs runs e = absurd (cc)
-without_overlap false fault rs runs e = (refl, cc)
+without_overlap : (b : Bool) (fault : MachineFault) (m machine : ListedMachine) → cond b (Err fault) (Ok m) ≡ Ok machine → (b ≡ false) × (m ≡ machine)
+without_overlap true fault m machine e = absurd (cc)
+without_overlap false fault m machine e = (refl, cc)
 
-pub machine_in : (bytes : List ℕ) (runs : List Run) → machine_of bytes ≡ Ok runs → IsValidMachine runs × AllByRecursion HasRecordNumbers runs × (length runs ≤ most_descriptors)
-unfolding machine_of
-machine_in bytes runs e =
-    let (listed, le, e1) = bind_ok (file_runs bytes) (λ runs. cond (overlap runs) (Err Overlap) (Ok (in_order runs))) runs e in
-    let each = listed_in_file bytes listed le in
+few_if : (b : Bool) (list : Items) (drivers : List ListedDriver) → nat_lt most_drivers (item_count list) ≡ b → cond b (Err TooManyDrivers) (drivers_from 0 list) ≡ Ok drivers → length drivers ≤ most_drivers
+few_if true list drivers t e = absurd (cc)
+few_if false list drivers t e = omega (arith, count_read (λ n d. or_driver n (member_driver d)) list 0 drivers e, ltb-false most_drivers (item_count list) t)
+
+few_drivers : (o : Option Data) (drivers : List ListedDriver) → drivers_if o ≡ Ok drivers → length drivers ≤ most_drivers
+few_drivers None drivers e = let same : [] ≡ drivers = cc in omega (arith, ap length same)
+few_drivers (Some d) drivers e =
+    let (list, le, e1) = bind_ok (or_fault NoDriverList (as_array d)) (λ list. cond (nat_lt most_drivers (item_count list)) (Err TooManyDrivers) (drivers_from 0 list)) drivers e in
+    few_if (nat_lt most_drivers (item_count list)) list drivers refl e1
+
+-- runs that a root lists, in their order, and drivers
+abbrev IsOrdered : ListedMachine → Type 0
+IsOrdered machine = IsValidMachine machine.runs × AllByRecursion HasRecordNumbers machine.runs × (length machine.runs ≤ most_descriptors) × (length machine.drivers ≤ most_drivers)
+
+ordered_root : (root : Data) (listed : List Run) → root_runs root ≡ Ok listed → overlap listed ≡ false → (drivers : List ListedDriver) → length drivers ≤ most_drivers → IsOrdered (record { runs = in_order listed; drivers = drivers })
+ordered_root root listed e apart drivers few =
+    let each = listed_in_root root listed e in
     let machine_runs = all_implied IsListed IsMachineRun (λ r h. h.0) listed each in
     let numbers = all_implied IsListed HasRecordNumbers (λ r h. h.1) listed each in
-    let (apart, same) = without_overlap (overlap listed) Overlap (in_order listed) runs e1 in
-    let few : length (in_order listed) ≤ most_descriptors = omega (arith, few_in_file bytes listed le, length_permutation listed (in_order listed) (in_order-permutes listed)) in (
-      subst IsValidMachine same (ordered_machine listed machine_runs apart),
-      subst (AllByRecursion HasRecordNumbers) same (all_permuted HasRecordNumbers listed (in_order listed) (in_order-permutes listed) numbers),
-      subst (λ (rs : List Run). length rs ≤ most_descriptors) same few,
-    )
+    (ordered_machine listed machine_runs apart, all_permuted HasRecordNumbers listed (in_order listed) (in_order-permutes listed) numbers, omega (arith, few_in_root root listed e, length_permutation listed (in_order listed) (in_order-permutes listed)), few)
+
+pub machine_in : (bytes : List ℕ) (machine : ListedMachine) → machine_of bytes ≡ Ok machine → IsValidMachine machine.runs × AllByRecursion HasRecordNumbers machine.runs × (length machine.runs ≤ most_descriptors) × (length machine.drivers ≤ most_drivers)
+unfolding machine_of
+machine_in bytes machine e =
+    let (root, re, e1) = bind_ok (root_of bytes) (λ root. root_runs root >>= λ runs. root_drivers root >>= machine_with runs) machine e in
+    let (listed, le, e2) = bind_ok (root_runs root) (λ runs. root_drivers root >>= machine_with runs) machine e1 in
+    let (drivers, de, e3) = bind_ok (root_drivers root) (machine_with listed) machine e2 in
+    let m : ListedMachine = record { runs = in_order listed; drivers = drivers } in
+    let (apart, same) = without_overlap (overlap listed) Overlap m machine e3 in
+    subst IsOrdered {x = m} same (ordered_root root listed le apart drivers (few_drivers (get (codes "drivers") root) drivers de))

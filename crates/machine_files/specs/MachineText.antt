@@ -1,10 +1,10 @@
 -- What a machine file means.
-use Rattle.std.specs.Prelude.{◌≡◌, ◌⊎◌, MatchResult, ℕ, ◌+◌, ◌/◌, ◌%◌, ◌^◌, Bool, ◌&&◌, ◌==◌, not, nat_lt, nat_le, List, [], ◌∷◌, length, codes, Option, Some, None, option_and_then, Result, Ok, Err, if◌then◌else◌, count_by}
+use Rattle.std.specs.Prelude.{◌≡◌, ◌⊎◌, MatchResult, ℕ, ◌+◌, ◌/◌, ◌%◌, ◌^◌, Bool, ◌&&◌, ◌==◌, not, nat_lt, nat_le, List, [], ◌∷◌, length, map, codes, Option, Some, None, option_and_then, Result, Ok, Err, if◌then◌else◌, count_by}
 use Rattle.std.specs.List.{list_any}
 use Rattle.std.specs.Str.{is_utf8}
-use Rattle.serde_json.specs.Data.{Data, Items, no_items, item}
+use Rattle.serde_json.specs.Data.{Data, Items}
 use Rattle.serde_json.specs.Read.{read}
-use Rattle.serde_json.specs.Find.{get, as_array, as_number, as_str, as_u64}
+use Rattle.serde_json.specs.Find.{get, as_array}
 use Rattle.page_ranges.specs.declared.ranges.Owner.TheVariants.{Given}
 use Rattle.page_ranges.specs.declared.ranges.Run.{Run}
 use Rattle.page_ranges.specs.MemoryTypes.{page_size, page_count, conventional, has_runtime, is_machine_type}
@@ -12,23 +12,13 @@ use Rattle.machine_files.specs.declared.faults.MachineFault.{MachineFault}
 use Rattle.machine_files.specs.declared.faults.MachineFault.TheVariants as fault
 use Rattle.machine_files.specs.declared.faults.MemberField.{MemberField}
 use Rattle.machine_files.specs.declared.faults.MemberField.TheVariants as field
+use Rattle.machine_files.specs.declared.machine_file.MachineFile.{MachineFile}
 use Rattle.machine_files.specs.FaultText.{field_name}
+use Rattle.machine_files.specs.Fields.{if_passes, number_at, hexadecimal_at, item_count, each_from}
+use Rattle.machine_files.specs.DriverText.{ListedDriver, listed, root_drivers}
 use Rattle.text_lines.specs.FirstFault.{◌>>=◌, or_fault}
-use Rattle.text_lines.specs.Numbers.{hexadecimal_of}
-
--- the number, if the test passes
-abbrev pub if_passes : (ℕ → Bool) → ℕ → Option ℕ
-if_passes test n = if test n then Some n else None
 
 -- ---- a member of the memory list
-
--- the number at a key
-abbrev pub number_at : List ℕ → Data → Option ℕ
-number_at key d = option_and_then as_u64 (option_and_then as_number (get key d))
-
--- the number of `0x` and digits that is the text at a key
-abbrev pub hexadecimal_at : List ℕ → Data → Option ℕ
-hexadecimal_at key d = option_and_then hexadecimal_of (option_and_then as_str (get key d))
 
 -- a type that a machine may have
 abbrev pub member_type : Data → Option ℕ
@@ -65,19 +55,11 @@ or_descriptor n (Err f) = Err (fault.Descriptor n f)
 
 -- the runs of members, the first of which is the nth
 abbrev pub runs_from : ℕ → Items → Result (List Run) MachineFault
-runs_from n no_items = Ok []
-runs_from n (item d ds) = do
-  run ← or_descriptor n (member_run d)
-  runs ← runs_from (n + 1) ds
-  Ok (run ∷ runs)
+runs_from = each_from (λ n d. or_descriptor n (member_run d))
 
 -- what JSON the bytes are
 abbrev pub json_of : List ℕ → Option Data
 json_of bytes = if is_utf8 bytes then read bytes else None
-
-abbrev pub item_count : Items → ℕ
-item_count no_items = 0
-item_count (item d ds) = item_count ds + 1
 
 -- the most bytes of a machine file
 abbrev pub longest_file : ℕ
@@ -93,11 +75,9 @@ root_runs root = do
   list ← or_fault fault.NoMemoryList (option_and_then as_array (get (codes "memory") root))
   if nat_lt most_descriptors (item_count list) then Err fault.TooManyDescriptors else runs_from 0 list
 
--- the runs of a file, in its order
-unfoldable pub file_runs : List ℕ → Result (List Run) MachineFault
-file_runs bytes = if nat_lt longest_file (length bytes) then Err fault.TooLong else (do
-  root ← or_fault fault.NotJson (json_of bytes)
-  root_runs root)
+-- what JSON a file of at most so many bytes is
+unfoldable pub root_of : List ℕ → Result Data MachineFault
+root_of bytes = if nat_lt longest_file (length bytes) then Err fault.TooLong else or_fault fault.NotJson (json_of bytes)
 
 -- ---- the machine
 
@@ -119,11 +99,26 @@ abbrev pub in_order : List Run → List Run
 in_order [] = []
 in_order (r ∷ runs) = with_run r (in_order runs)
 
--- the machine that a file's descriptors make, whatever their order
-unfoldable pub machine_of : List ℕ → Result (List Run) MachineFault
+-- what a machine file lists: the runs by ascending page, and the drivers
+pub record ListedMachine : Type 0 where
+  pub runs : List Run
+  pub drivers : List ListedDriver
+
+-- the machine of these runs and drivers, unless runs have a page in common
+abbrev pub machine_with : List Run → List ListedDriver → Result ListedMachine MachineFault
+machine_with runs drivers = if overlap runs then Err fault.Overlap else Ok (record { runs = in_order runs; drivers = drivers })
+
+-- the machine that a file lists, with its descriptors in any order
+unfoldable pub machine_of : List ℕ → Result ListedMachine MachineFault
 machine_of bytes = do
-  runs ← file_runs bytes
-  if overlap runs then Err fault.Overlap else Ok (in_order runs)
+  root ← root_of bytes
+  runs ← root_runs root
+  drivers ← root_drivers root
+  machine_with runs drivers
+
+-- how a file lists what was read of it
+abbrev pub listed_machine : MachineFile → ListedMachine
+listed_machine file = record { runs = file.machine; drivers = map listed file.drivers.items }
 
 -- What a function returned, seen by view, is what the definition reads, unless memory ran out.
 abbrev pub Gives : {X Y : Type 0} → (X → Y) → Result X MachineFault → Result Y MachineFault → Type 0

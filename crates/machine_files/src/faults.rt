@@ -1,6 +1,6 @@
 //! What can be wrong with a machine file.
 ghost use Rattle.std.specs.Prelude.{Some};
-ghost use Rattle.machine_files.specs.FaultText.{field_name};
+ghost use Rattle.machine_files.specs.FaultText.{field_name, driver_field_name};
 
 use std::alloc::{AllocError, AllocFailed};
 use std::fmt;
@@ -28,6 +28,30 @@ impl fmt::Display for MemberField {
     }
 }
 
+/// A field of a member of a machine file's driver list.
+#[derive(Clone, Copy, Debug, PartialEq, Eq)]
+pub enum DriverField {
+    Version,
+    Needs,
+    Opens,
+    Children,
+    Stops,
+}
+
+impl fmt::Display for DriverField {
+    ghost output = { λ field. Some (driver_field_name field) };
+
+    fn fmt<W: fmt::Write>(&self, f: &mut fmt::Formatter<W>) -> fmt::Result {
+        f.write_str(match self {
+            DriverField::Version => "version",
+            DriverField::Needs => "needs",
+            DriverField::Opens => "opens",
+            DriverField::Children => "children",
+            DriverField::Stops => "stops",
+        })
+    }
+}
+
 /// Why a machine file is refused, the first cause in this order.
 #[derive(Clone, Copy, Debug, PartialEq, Eq, Error)]
 pub enum MachineFault {
@@ -39,10 +63,17 @@ pub enum MachineFault {
     NoMemoryList,
     #[error("machine: too many descriptors")]
     TooManyDescriptors,
-    /// The member at a place of the list, from 0 on, and its first field that is missing, of
+    /// The member at a place of the memory list, from 0 on, and its first field that is missing, of
     /// another kind or out of its range.
     #[error("machine: descriptor {number}: {field}")]
     Descriptor { number: usize, field: MemberField },
+    #[error("machine: no driver list")]
+    NoDriverList,
+    #[error("machine: too many drivers")]
+    TooManyDrivers,
+    /// The same of the driver list.
+    #[error("machine: driver {number}: {field}")]
+    Driver { number: usize, field: DriverField },
     #[error("machine: descriptors overlap")]
     Overlap,
     #[error("out of memory")]

@@ -1,8 +1,8 @@
 //! The laws of machine files, each the contract of a function that does nothing.
 ghost use Rattle.machine_files.specs.Laws.{MachineLaw};
 
-/// What a machine file says is a valid machine of at most 65,536 runs, whose numbers fit the records
-/// of a memory map.
+/// The runs that a machine file lists are a valid machine of at most 65,536, whose numbers fit the
+/// records of a memory map, and it lists at most 64 drivers.
 pub fn machine_law()
     ensures { MachineLaw }
 {}

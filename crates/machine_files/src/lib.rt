@@ -1,11 +1,12 @@
 //! Machine files.
 #![tactic(auto)]
 
+mod drivers;
 mod faults;
 mod laws;
 mod machine_file;
 mod members;
 
-pub use faults::{MachineFault, MemberField};
+pub use faults::{DriverField, MachineFault, MemberField};
 pub use laws::machine_law;
 pub use machine_file::{MachineFile, read_machine};

@@ -1,15 +1,18 @@
-//! A machine file and its memory list.
-ghost use Rattle.std.specs.Prelude.{◌≡◌, Some, None, if◌then◌else◌};
+//! A machine file and its lists.
+ghost use Rattle.std.specs.Prelude.{◌≡◌, map, Some, None, if◌then◌else◌};
 ghost use Rattle.std.specs.List.{AllByRecursion};
 ghost use Rattle.boot_core.specs.MachineRuns.{IsMachineRun};
 ghost use Rattle.serde_json.specs.Read.{read};
 ghost use Rattle.serde_json.specs.View.{view, items_view};
 ghost use Rattle.text_lines.specs.FirstFault.{or_fault};
-ghost use Rattle.machine_files.specs.MachineText.{Gives, json_of, runs_from, root_runs, file_runs, overlap, in_order, machine_of};
+ghost use Rattle.machine_files.specs.DriverText.{listed, drivers_from, drivers_of, root_drivers};
+ghost use Rattle.machine_files.specs.MachineText.{Gives, json_of, runs_from, root_runs, root_of, overlap, in_order, machine_of, listed_machine};
 
+use crate::drivers::member_driver;
 use crate::faults::MachineFault;
 use crate::members::member_run;
 use boot_core::Machine;
+use driver_connect::TableDriver;
 use page_ranges::Run;
 use serde_json::Value;
 use std::alloc::Global;
@@ -20,19 +23,26 @@ pub const LONGEST_FILE: usize = 67_108_864;
 /// The most members of a memory list.
 pub const MOST_DESCRIPTORS: usize = 65_536;
 
+/// The most members of a driver list.
+pub const MOST_DRIVERS: usize = 64;
+
 /// What a machine file says.
 #[derive(Drop)]
 pub struct MachineFile {
     pub machine: Machine,
+    pub drivers: Vec<TableDriver>,
 }
 
-/// The machine of a file's bytes, or the first fault.
+/// What a file's bytes say, or the first fault.
 #[tactic(auto, unfolding(crate::specs::MachineText::machine_of))]
 pub fn read_machine(alloc: Global, bytes: &[u8]) -> Result<MachineFile, MachineFault>
-    ensures { Gives (λ file. file.machine) result (machine_of bytes.now) }
+    ensures { Gives listed_machine result (machine_of bytes.now) }
 {
-    match machine_with(file_runs(alloc, bytes)?) {
-        Some(machine) => Ok(MachineFile { machine }),
+    let root = root_of(alloc, bytes)?;
+    let runs = root_runs(alloc, &root)?;
+    let drivers = root_drivers(alloc, &root)?;
+    match machine_with(runs) {
+        Some(machine) => Ok(MachineFile { machine, drivers }),
         None => Err(MachineFault::Overlap),
     }
 }
@@ -46,16 +56,15 @@ fn machine_with(mut runs: Vec<Run>) -> Option<Machine>
     Machine::new(runs)
 }
 
-/// The runs of a file, in its order.
-#[tactic(auto, unfolding(crate::specs::MachineText::file_runs))]
-fn file_runs(alloc: Global, bytes: &[u8]) -> Result<Vec<Run>, MachineFault>
-    ensures { Gives (λ runs. runs.items) result (file_runs bytes.now) }
+/// What JSON a file's bytes are.
+#[tactic(auto, unfolding(crate::specs::MachineText::root_of))]
+fn root_of(alloc: Global, bytes: &[u8]) -> Result<Value, MachineFault>
+    ensures { Gives view result (root_of bytes.now) }
 {
     if bytes.len() > LONGEST_FILE {
         return Err(MachineFault::TooLong);
     }
-    let root = json_of(alloc, bytes)?;
-    root_runs(alloc, &root)
+    json_of(alloc, bytes)
 }
 
 /// What JSON the bytes are.
@@ -80,7 +89,7 @@ fn value_of(alloc: Global, text: &str) -> Result<Value, MachineFault>
 }
 
 /// The runs of the root's memory list, in their order.
-#[tactic(auto, using(crate::proofs::MemberRuns::count_of_items))]
+#[tactic(auto, using(crate::proofs::EachMember::count_of_items))]
 fn root_runs(alloc: Global, root: &Value) -> Result<Vec<Run>, MachineFault>
     ensures { Gives (λ runs. runs.items) result (root_runs (view root.now)) }
 {
@@ -105,4 +114,42 @@ fn runs_of(alloc: Global, members: &[Value]) -> Result<Vec<Run>, MachineFault>
         }
     }
     Ok(runs)
+}
+
+/// The drivers of the root's driver list, in their order. Without a list there are none.
+fn root_drivers(alloc: Global, root: &Value) -> Result<Vec<TableDriver>, MachineFault>
+    ensures { Gives (λ drivers. map listed drivers.items) result (root_drivers (view root.now)) }
+{
+    match root.get("drivers") {
+        Some(list) => drivers_of(alloc, list),
+        None => Ok(Vec::new(alloc)),
+    }
+}
+
+/// The drivers of a driver list, in their order.
+#[tactic(auto, using(crate::proofs::EachMember::count_of_items))]
+fn drivers_of(alloc: Global, list: &Value) -> Result<Vec<TableDriver>, MachineFault>
+    ensures { Gives (λ drivers. map listed drivers.items) result (drivers_of (view list.now)) }
+{
+    let Some(members) = list.as_array() else {
+        return Err(MachineFault::NoDriverList);
+    };
+    if members.len() > MOST_DRIVERS {
+        return Err(MachineFault::TooManyDrivers);
+    }
+    drivers_in(alloc, members.as_slice())
+}
+
+/// The drivers of the members, in their order.
+fn drivers_in(alloc: Global, members: &[Value]) -> Result<Vec<TableDriver>, MachineFault>
+    ensures { Gives (λ drivers. map listed drivers.items) result (drivers_from 0 (items_view members.now)) }
+{
+    let mut drivers = Vec::new(alloc);
+    for (number, member) in members.iter().enumerate() {
+        match member_driver(member) {
+            Ok(driver) => drivers.push(driver)?,
+            Err(field) => return Err(MachineFault::Driver { number, field }),
+        }
+    }
+    Ok(drivers)
 }

@@ -1,7 +1,8 @@
 //! The members of a machine file's memory list.
 ghost use Rattle.std.specs.Prelude.{◌≡◌};
 ghost use Rattle.serde_json.specs.View.{view};
-ghost use Rattle.machine_files.specs.MachineText.{hexadecimal_at, member_type, first_page_of, page_count_of, attributes_of, member_run};
+ghost use Rattle.machine_files.specs.Fields.{hexadecimal_at};
+ghost use Rattle.machine_files.specs.MachineText.{member_type, first_page_of, page_count_of, attributes_of, member_run};
 
 use crate::faults::MemberField;
 use page_ranges::{MemoryType, Owner, PAGE_COUNT, PAGE_SIZE, PageRange, Run, has_runtime};

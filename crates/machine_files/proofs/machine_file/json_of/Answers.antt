@@ -1,5 +1,5 @@
 use Rattle.std.proofs.Common.{inr, refl}
-use Rattle.machine_files.proofs.MemberRuns.{no_text, text_read}
+use Rattle.machine_files.proofs.JsonTexts.{no_text, text_read}
 use Rattle.machine_files.proofs.machine_file.json_of.Goals as goal
 
 pub returns-in_default : goal.returns-in_default

@@ -1,5 +1,6 @@
-use Rattle.machine_files.proofs.FileRuns.{file_runs_are_listed}
+use Rattle.serde_json.specs.View.{view}
+use Rattle.machine_files.proofs.FileRuns.{root_runs_are_listed}
 use Rattle.machine_files.proofs.machine_file.read_machine.Goals as goal
 
 pub machine_with-requires : goal.machine_with-requires
-machine_with-requires c = file_runs_are_listed c.args.bytes.now c.in_ok-file_runs.field-0.items c.in_ok-file_runs.ensures
+machine_with-requires c = root_runs_are_listed (view c.in_ok-root.root) c.in_ok-runs.runs.items c.in_ok-runs.ensures

@@ -1,6 +1,6 @@
 -- One search and no second tactic after it: a body that is wrong is then refused sooner.
 use Rattle.std.proofs.Common.{rules, arith}
-use Rattle.machine_files.proofs.MemberRuns.{count_of_items}
+use Rattle.machine_files.proofs.EachMember.{count_of_items}
 use Rattle.machine_files.proofs.machine_file.root_runs.Goals as goal
 
 pub returns-in_default : goal.returns-in_default
