@@ -24,6 +24,7 @@ use Rattle.pool_services.specs.Extents.{max_size, pages_for}
 use Rattle.pool_services.specs.PoolRules.{extent_request}
 use Rattle.certificate_blocks.specs.BlockLaws.{HasEntryNumbers, HasRequestNumbers, IsAcceptedBlock}
 use Rattle.certificate_blocks.proofs.AcceptedBlocks.{accepted_block}
+use Rattle.driver_connect.specs.Drivers.{Meaning}
 use Rattle.boot_core.specs.declared.calls.Call.{Call}
 use Rattle.boot_core.specs.declared.calls.Call.TheVariants as call
 use Rattle.boot_core.specs.declared.calls.Reply.{Reply}
@@ -37,7 +38,7 @@ use Rattle.boot_core.proofs.Acceptances.{first_types, accepted_reply}
 use Rattle.boot_core.proofs.Outcomes.{outcome, stays_typed, stays_fitting, map_grows, request_has}
 use Rattle.boot_core.proofs.RecordPages.{HaveFields, first_fields, record_entries}
 use Rattle.boot_core.proofs.Soundness.{first_sound, stays_sound}
-use Rattle.machine_files.specs.MachineText.{most_descriptors, machine_of}
+use Rattle.machine_files.specs.MachineText.{ListedMachine, most_descriptors, machine_of}
 use Rattle.machine_files.proofs.MachineOrder.{machine_in}
 use Rattle.text_lines.specs.Lines.{lines_of}
 use Rattle.trace_lines.specs.declared.faults.TraceFault.{TraceFault}
@@ -61,19 +62,19 @@ record IsReached (lines : ℕ) (s : State) : Type 0 where
   fields : HaveFields s.parts.book.memory
   few : length (memory_map s.parts.book.memory) ≤ most_descriptors + 2 * lines
 
-first_reached : (file : List ℕ) (machine : List Run) → machine_of file ≡ Ok machine → IsReached 0 (first_state machine)
+first_reached : (file : List ℕ) (machine : ListedMachine) → machine_of file ≡ Ok machine → IsReached 0 (first_state machine.runs)
 first_reached file machine said =
-    let (valid, numbers, few) = machine_in file machine said in
-    record { sound = first_sound machine valid; typed = first_types machine valid.mtypes; fields = first_fields machine numbers; few = omega (arith, entries_at_most machine valid.runs) }
+    let (valid, numbers, few, drivers) = machine_in file machine said in
+    record { sound = first_sound machine.runs valid; typed = first_types machine.runs valid.mtypes; fields = first_fields machine.runs numbers; few = omega (arith, entries_at_most machine.runs valid.runs) }
 
 reached_later : (n : ℕ) (s : State) → IsReached n s → IsReached (n + 1) s
 reached_later n s is = record { sound = is.sound; typed = is.typed; fields = is.fields; few = omega (arith, is.few) }
 
-reached_by_step : {A : Type 0} (n : ℕ) (old : State) (c : Call A) (answer : Reply A) (new : State) → IsReached n old → NamesTypes c → Step old c answer new → IsReached (n + 1) new
-reached_by_step n old c answer new is names step =
-    let o = outcome best_starts best_is_permitted old.exited old.parts c answer new.parts is.sound step.answers in
+reached_by_step : {A : Type 0} (ds : List Meaning) (n : ℕ) (old : State) (c : Call A) (answer : Reply A) (new : State) → IsReached n old → NamesTypes c → Step ds old c answer new → IsReached (n + 1) new
+reached_by_step ds n old c answer new is names step =
+    let o = outcome (best_starts ds) best_is_permitted old.exited old.parts c answer new.parts is.sound step.answers in
     record {
-      sound = stays_sound best_starts best_is_permitted old.exited old.parts c answer new.parts is.sound step.answers;
+      sound = stays_sound (best_starts ds) best_is_permitted old.exited old.parts c answer new.parts is.sound step.answers;
       typed = stays_typed (NamesTypes c) old.parts.book new.parts.book is.typed o;
       fields = stays_fitting (NamesTypes c) old.parts.book new.parts.book names is.fields o;
       few = omega (arith, is.few, map_grows (NamesTypes c) old.parts.book new.parts.book o);
@@ -83,11 +84,11 @@ reached_by_step n old c answer new is names step =
 abbrev AsksForTypes : {A : Type 0} → Result (Option (TraceCall A)) TraceFault → Type 0
 AsksForTypes {A = A} asks = (c : Call A) → asks ≡ Ok (Some (trace_call.Service c)) → NamesTypes c
 
-reached_by_line : (A : Type 0) (certify : Bool) (n number : ℕ) (asks : Result (Option (TraceCall A)) TraceFault) (old : State) (text : List ℕ) (new : State) → IsReached n old → AsksForTypes asks → Prints A certify number asks old text new → IsReached (n + 1) new
-reached_by_line A certify n number (Ok None) old text new is names (none, e) = subst (IsReached (n + 1)) (sym e) (reached_later n old is)
-reached_by_line A certify n number (Ok (Some trace_call.List)) old text new is names (listed, e) = subst (IsReached (n + 1)) (sym e) (reached_later n old is)
-reached_by_line A certify n number (Ok (Some (trace_call.Service c))) old text new is names (answer, step, prints) = reached_by_step n old c answer new is (names c refl) step
-reached_by_line A certify n number (Err e) old text new is names prints = absurd prints
+reached_by_line : (A : Type 0) (ds : List Meaning) (certify : Bool) (n number : ℕ) (asks : Result (Option (TraceCall A)) TraceFault) (old : State) (text : List ℕ) (new : State) → IsReached n old → AsksForTypes asks → Prints A ds certify number asks old text new → IsReached (n + 1) new
+reached_by_line A ds certify n number (Ok None) old text new is names (none, e) = subst (IsReached (n + 1)) (sym e) (reached_later n old is)
+reached_by_line A ds certify n number (Ok (Some trace_call.List)) old text new is names (listed, e) = subst (IsReached (n + 1)) (sym e) (reached_later n old is)
+reached_by_line A ds certify n number (Ok (Some (trace_call.Service c))) old text new is names (answer, step, prints) = reached_by_step ds n old c answer new is (names c refl) step
+reached_by_line A ds certify n number (Err e) old text new is names prints = absurd prints
 
 -- ---- certificates
 
@@ -125,7 +126,7 @@ no_block : (certify : Bool) (text : List ℕ) → text ++ cond certify [] [] ≡
 no_block true text = append-nil text
 no_block false text = append-nil text
 
-module _ (n : ℕ) (old : State) (is : IsReached n old) (below : n < most_lines) where
+module _ (ds : List Meaning) (n : ℕ) (old : State) (is : IsReached n old) (below : n < most_lines) where
   abbrev map_before : List Descriptor
   map_before = memory_map old.parts.book.memory
 
@@ -138,11 +139,11 @@ module _ (n : ℕ) (old : State) (is : IsReached n old) (below : n < most_lines)
   with_block (Some r) None numbers accepted = tt
   with_block (Some r) (Some c) numbers accepted = accepted_block map_before r c accepted (all_implied IsRecordEntry HasEntryNumbers entry_numbers map_before entries_fit) numbers (omega (arith, is.few))
 
-  block_of_step : {A : Type 0} (c : Call A) (answer : Reply A) (new : State) → HasCallNumbers c → Step old c answer new → IfSome (certified c answer) (λ told. IsAcceptedBlock map_before told.0 told.1)
+  block_of_step : {A : Type 0} (c : Call A) (answer : Reply A) (new : State) → HasCallNumbers c → Step ds old c answer new → IfSome (certified c answer) (λ told. IsAcceptedBlock map_before told.0 told.1)
   block_of_step c answer new numbers step =
-      with_block (request_for c answer) (certificate_in answer) (request_numbers c answer numbers) (accepted_reply old.parts is.sound.proper is.typed old.exited old.calls_left c answer new.parts step.answers)
+      with_block (request_for c answer) (certificate_in answer) (request_numbers c answer numbers) (accepted_reply ds old.parts is.sound.proper is.typed old.exited old.calls_left c answer new.parts step.answers)
 
-  block_of_line : (A : Type 0) (number : ℕ) (asks : Result (Option (TraceCall A)) TraceFault) (text : List ℕ) (new : State) → ((c : Call A) → asks ≡ Ok (Some (trace_call.Service c)) → HasCallNumbers c) → Prints A true number asks old text new → PrintsAcceptedBlock A number asks old text new
+  block_of_line : (A : Type 0) (number : ℕ) (asks : Result (Option (TraceCall A)) TraceFault) (text : List ℕ) (new : State) → ((c : Call A) → asks ≡ Ok (Some (trace_call.Service c)) → HasCallNumbers c) → Prints A ds true number asks old text new → PrintsAcceptedBlock A ds number asks old text new
   block_of_line A number (Ok None) text new numbers prints = tt
   block_of_line A number (Ok (Some trace_call.List)) text new numbers prints = tt
   block_of_line A number (Ok (Some (trace_call.Service c))) text new numbers (answer, step, (entries, carries, e)) = (answer, entries, step, e, block_of_step c answer new (numbers c refl) step)
@@ -150,37 +151,37 @@ module _ (n : ℕ) (old : State) (is : IsReached n old) (below : n < most_lines)
 
   -- ---- memory maps
 
-  map_of_step : {A : Type 0} (certify : Bool) (number size : ℕ) (told : MapReply) (bytes : Vec ℕ A) (text : List ℕ) (new : State) → Step old (call.GetMemoryMap size) (reply.GetMemoryMap told bytes) new → PrintsCall certify number old.parts.book.memory (call.GetMemoryMap size) (reply.GetMemoryMap told bytes) text → told.status ≡ Success →
+  map_of_step : {A : Type 0} (certify : Bool) (number size : ℕ) (told : MapReply) (bytes : Vec ℕ A) (text : List ℕ) (new : State) → Step ds old (call.GetMemoryMap size) (reply.GetMemoryMap told bytes) new → PrintsCall certify number old.parts.book.memory (call.GetMemoryMap size) (reply.GetMemoryMap told bytes) text → told.status ≡ Success →
       ((found : Option (List Descriptor)) → ReadsRecords bytes.items found → found ≡ Some map_before) × (text ≡ reply_text number map_before (reply.GetMemoryMap told bytes))
   map_of_step certify number size told bytes text new step (entries, carries, e) success = (
-    λ found reads. read_back map_before found entries_fit (subst (λ (bs : List ℕ). ReadsRecords bs found) (told_bytes old size told bytes new step success) reads),
-    e ∙ no_block certify (reply_text number entries (reply.GetMemoryMap told bytes)) ∙ ap (λ (ds : List Descriptor). reply_text number ds (reply.GetMemoryMap told bytes)) (carried old size told bytes new entries entries_fit step success carries),
+    λ found reads. read_back map_before found entries_fit (subst (λ (bs : List ℕ). ReadsRecords bs found) (told_bytes ds old size told bytes new step success) reads),
+    e ∙ no_block certify (reply_text number entries (reply.GetMemoryMap told bytes)) ∙ ap (λ (entries : List Descriptor). reply_text number entries (reply.GetMemoryMap told bytes)) (carried ds old size told bytes new entries entries_fit step success carries),
   )
 
-  map_of_line : (A : Type 0) (certify : Bool) (number : ℕ) (asks : Result (Option (TraceCall A)) TraceFault) (text : List ℕ) (new : State) → Prints A certify number asks old text new → PrintsReadMap A number asks old text new
+  map_of_line : (A : Type 0) (certify : Bool) (number : ℕ) (asks : Result (Option (TraceCall A)) TraceFault) (text : List ℕ) (new : State) → Prints A ds certify number asks old text new → PrintsReadMap A ds number asks old text new
   map_of_line A certify number (Ok (Some (trace_call.Service (call.GetMemoryMap size)))) text new (answer, step, prints) =
       let (told, bytes, e, h) = step.answers in
-      let same : Step old (call.GetMemoryMap size) (reply.GetMemoryMap told bytes) new = subst (λ (a : Reply A). Step old (call.GetMemoryMap size) a new) e step in
+      let same : Step ds old (call.GetMemoryMap size) (reply.GetMemoryMap told bytes) new = subst (λ (a : Reply A). Step ds old (call.GetMemoryMap size) a new) e step in
       let printed : PrintsCall certify number old.parts.book.memory (call.GetMemoryMap size) (reply.GetMemoryMap told bytes) text = subst (λ (a : Reply A). PrintsCall certify number old.parts.book.memory (call.GetMemoryMap size) a text) e prints in
       (told, bytes, same, map_of_step certify number size told bytes text new same printed)
   map_of_line A certify number asks text new prints = tt
 
 -- ---- each line
 
-module _ (A : Type 0) (certify : Bool) (Is : OfLine A) (of_line : (n number : ℕ) (line : List ℕ) (old : State) (text : List ℕ) (new : State) → IsReached n old → n < most_lines → Prints A certify number (line_of line) old text new → Is number (line_of line) old text new) where
-  each_line : (n number : ℕ) (lines : List (List ℕ)) (old : State) (text : List ℕ) (new : State) → IsReached n old → n + length lines ≤ most_lines → (prints : PrintsAll A certify number lines old text new) → OfEachLine A certify Is number lines old text new prints
+module _ (A : Type 0) (ds : List Meaning) (certify : Bool) (Is : OfLine A) (of_line : (n number : ℕ) (line : List ℕ) (old : State) (text : List ℕ) (new : State) → IsReached n old → n < most_lines → Prints A ds certify number (line_of line) old text new → Is number (line_of line) old text new) where
+  each_line : (n number : ℕ) (lines : List (List ℕ)) (old : State) (text : List ℕ) (new : State) → IsReached n old → n + length lines ≤ most_lines → (prints : PrintsAll A ds certify number lines old text new) → OfEachLine A ds certify Is number lines old text new prints
   each_line n number [] old text new is few prints = tt
   each_line n number (line ∷ lines) old text new is few (mid, first, rest, prints, more, e) = (
     of_line n number line old first mid is (omega arith) prints,
-    each_line (n + 1) (number + 1) lines mid rest new (reached_by_line A certify n number (line_of line) old first mid is (named_types line) prints) (omega arith) more,
+    each_line (n + 1) (number + 1) lines mid rest new (reached_by_line A ds certify n number (line_of line) old first mid is (named_types line) prints) (omega arith) more,
   )
 
-  of_run : (file bytes : List ℕ) (machine : List Run) (count : ℕ) (new : State) (before after : Option (List ℕ)) (wrote : Wrote A certify bytes count (first_state machine) new before after) → machine_of file ≡ Ok machine → count ≤ most_lines → OfEachLine A certify Is 1 (take count (lines_of bytes)) (first_state machine) wrote.text new wrote.prints
+  of_run : (file bytes : List ℕ) (machine : ListedMachine) (count : ℕ) (new : State) (before after : Option (List ℕ)) (wrote : Wrote A ds certify bytes count (first_state machine.runs) new before after) → machine_of file ≡ Ok machine → count ≤ most_lines → OfEachLine A ds certify Is 1 (take count (lines_of bytes)) (first_state machine.runs) wrote.text new wrote.prints
   of_run file bytes machine count new before after wrote said few =
-      each_line 0 1 (take count (lines_of bytes)) (first_state machine) wrote.text new (first_reached file machine said) (omega (arith, length-take count (lines_of bytes))) wrote.prints
+      each_line 0 1 (take count (lines_of bytes)) (first_state machine.runs) wrote.text new (first_reached file machine said) (omega (arith, length-take count (lines_of bytes))) wrote.prints
 
-pub printed_blocks : {A : Type 0} (file bytes : List ℕ) (machine : List Run) (count : ℕ) (new : State) (before after : Option (List ℕ)) (wrote : Wrote A true bytes count (first_state machine) new before after) → machine_of file ≡ Ok machine → count ≤ most_lines → OfEachLine A true (PrintsAcceptedBlock A) 1 (take count (lines_of bytes)) (first_state machine) wrote.text new wrote.prints
-printed_blocks {A = A} = of_run A true (PrintsAcceptedBlock A) (λ n number line old text new is below prints. block_of_line n old is below A number (line_of line) text new (call_numbers line) prints)
+pub printed_blocks : {A : Type 0} (ds : List Meaning) (file bytes : List ℕ) (machine : ListedMachine) (count : ℕ) (new : State) (before after : Option (List ℕ)) (wrote : Wrote A ds true bytes count (first_state machine.runs) new before after) → machine_of file ≡ Ok machine → count ≤ most_lines → OfEachLine A ds true (PrintsAcceptedBlock A ds) 1 (take count (lines_of bytes)) (first_state machine.runs) wrote.text new wrote.prints
+printed_blocks {A = A} ds = of_run A ds true (PrintsAcceptedBlock A ds) (λ n number line old text new is below prints. block_of_line ds n old is below A number (line_of line) text new (call_numbers line) prints)
 
-pub printed_maps : {A : Type 0} (certify : Bool) (file bytes : List ℕ) (machine : List Run) (count : ℕ) (new : State) (before after : Option (List ℕ)) (wrote : Wrote A certify bytes count (first_state machine) new before after) → machine_of file ≡ Ok machine → count ≤ most_lines → OfEachLine A certify (PrintsReadMap A) 1 (take count (lines_of bytes)) (first_state machine) wrote.text new wrote.prints
-printed_maps {A = A} certify = of_run A certify (PrintsReadMap A) (λ n number line old text new is below prints. map_of_line n old is below A certify number (line_of line) text new prints)
+pub printed_maps : {A : Type 0} (ds : List Meaning) (certify : Bool) (file bytes : List ℕ) (machine : ListedMachine) (count : ℕ) (new : State) (before after : Option (List ℕ)) (wrote : Wrote A ds certify bytes count (first_state machine.runs) new before after) → machine_of file ≡ Ok machine → count ≤ most_lines → OfEachLine A ds certify (PrintsReadMap A ds) 1 (take count (lines_of bytes)) (first_state machine.runs) wrote.text new wrote.prints
+printed_maps {A = A} ds certify = of_run A ds certify (PrintsReadMap A ds) (λ n number line old text new is below prints. map_of_line ds n old is below A certify number (line_of line) text new prints)

@@ -1,19 +1,19 @@
 -- The laws of what a run prints. Each is the contract of a public function.
 use Rattle.std.specs.Prelude.{◌≡◌, ◌≤◌, ℕ, ◌+◌, Bool, true, List, [], ◌∷◌, ◌++◌, take, Option, Some, IfSome, Result, Ok, Vec}
 use Rattle.page_ranges.specs.declared.ranges.Descriptor.{Descriptor}
-use Rattle.page_ranges.specs.declared.ranges.Run.{Run}
 use Rattle.page_ranges.specs.declared.statuses.Status.TheVariants.{Success}
 use Rattle.page_ranges.specs.MemoryMap.{memory_map}
 use Rattle.certificate_blocks.specs.BlockLaws.{IsAcceptedBlock}
 use Rattle.map_keys.specs.declared.memory_maps.MapReply.{MapReply}
 use Rattle.map_keys.specs.Records.{ReadsRecords}
+use Rattle.driver_connect.specs.Drivers.{Meaning}
 use Rattle.boot_core.specs.declared.calls.Call.TheVariants as call
 use Rattle.boot_core.specs.declared.calls.Reply.{Reply}
 use Rattle.boot_core.specs.declared.calls.Reply.TheVariants as reply
 use Rattle.boot_core.specs.Certified.{certified}
 use Rattle.boot_core.specs.Machines.{State, first_state}
 use Rattle.boot_core.specs.Steps.{Step}
-use Rattle.machine_files.specs.MachineText.{machine_of}
+use Rattle.machine_files.specs.MachineText.{ListedMachine, machine_of}
 use Rattle.trace_lines.specs.declared.faults.TraceFault.{TraceFault}
 use Rattle.trace_lines.specs.declared.lines.TraceCall.{TraceCall}
 use Rattle.trace_lines.specs.declared.lines.TraceCall.TheVariants as trace_call
@@ -28,38 +28,38 @@ abbrev pub OfLine : Type 0 → Type 1
 OfLine A = ℕ → Result (Option (TraceCall A)) TraceFault → State → List ℕ → State → Type 0
 
 -- it holds of each of the lines that printed the text
-abbrev pub OfEachLine : (A : Type 0) (certify : Bool) (Is : OfLine A) (number : ℕ) (lines : List (List ℕ)) (old : State) (text : List ℕ) (new : State) → PrintsAll A certify number lines old text new → Type 0
-OfEachLine A certify Is number [] old text new done = Unit {0}
-OfEachLine A certify Is number (line ∷ lines) old text new (mid, first, rest, prints, more, whole) = Is number (line_of line) old first mid × OfEachLine A certify Is (number + 1) lines mid rest new more
+abbrev pub OfEachLine : (A : Type 0) (ds : List Meaning) (certify : Bool) (Is : OfLine A) (number : ℕ) (lines : List (List ℕ)) (old : State) (text : List ℕ) (new : State) → PrintsAll A ds certify number lines old text new → Type 0
+OfEachLine A ds certify Is number [] old text new done = Unit {0}
+OfEachLine A ds certify Is number (line ∷ lines) old text new (mid, first, rest, prints, more, whole) = Is number (line_of line) old first mid × OfEachLine A ds certify Is (number + 1) lines mid rest new more
 
 -- it holds of each line whose text a run on a machine file and a trace wrote
-abbrev pub OfRun : (A : Type 0) → Bool → OfLine A → Type 0
-OfRun A certify Is = (file bytes : List ℕ) (machine : List Run) (count : ℕ) (new : State) (before after : Option (List ℕ)) (wrote : Wrote A certify bytes count (first_state machine) new before after) →
-    machine_of file ≡ Ok machine → count ≤ most_lines → OfEachLine A certify Is 1 (take count (lines_of bytes)) (first_state machine) wrote.text new wrote.prints
+abbrev pub OfRun : (A : Type 0) → List Meaning → Bool → OfLine A → Type 0
+OfRun A ds certify Is = (file bytes : List ℕ) (machine : ListedMachine) (count : ℕ) (new : State) (before after : Option (List ℕ)) (wrote : Wrote A ds certify bytes count (first_state machine.runs) new before after) →
+    machine_of file ≡ Ok machine → count ≤ most_lines → OfEachLine A ds certify Is 1 (take count (lines_of bytes)) (first_state machine.runs) wrote.text new wrote.prints
 
 -- ---- certificates
 
 -- What a call prints is the lines of its reply and, where that carries a certificate, a block: of the memory map before the call,
 -- the call's request and the certificate. The block is read back as these, and its check answers that it is accepted.
-abbrev pub PrintsAcceptedBlock : (A : Type 0) → OfLine A
-PrintsAcceptedBlock A number (Ok (Some (trace_call.Service c))) old text new =
-    (answer : Reply A) × (entries : List Descriptor) × Step old c answer new × (text ≡ reply_text number entries answer ++ certificate_text (memory_map old.parts.book.memory) (certified c answer)) ×
+abbrev pub PrintsAcceptedBlock : (A : Type 0) → List Meaning → OfLine A
+PrintsAcceptedBlock A ds number (Ok (Some (trace_call.Service c))) old text new =
+    (answer : Reply A) × (entries : List Descriptor) × Step ds old c answer new × (text ≡ reply_text number entries answer ++ certificate_text (memory_map old.parts.book.memory) (certified c answer)) ×
     IfSome (certified c answer) (λ told. IsAcceptedBlock (memory_map old.parts.book.memory) told.0 told.1)
-PrintsAcceptedBlock A number asks old text new = Unit {0}
+PrintsAcceptedBlock A ds number asks old text new = Unit {0}
 
 -- So it is of each call of a run with certificates.
 abbrev pub PrintedBlocksLaw : Type 0 → Type 0
-PrintedBlocksLaw A = OfRun A true (PrintsAcceptedBlock A)
+PrintedBlocksLaw A = (ds : List Meaning) → OfRun A ds true (PrintsAcceptedBlock A ds)
 
 -- ---- memory maps
 
 -- The bytes that a GetMemoryMap wrote are read as the memory map, and the lines of its entries are printed.
-abbrev pub PrintsReadMap : (A : Type 0) → OfLine A
-PrintsReadMap A number (Ok (Some (trace_call.Service (call.GetMemoryMap size)))) old text new =
-    (told : MapReply) × (bytes : Vec ℕ A) × Step old (call.GetMemoryMap size) (reply.GetMemoryMap told bytes) new ×
+abbrev pub PrintsReadMap : (A : Type 0) → List Meaning → OfLine A
+PrintsReadMap A ds number (Ok (Some (trace_call.Service (call.GetMemoryMap size)))) old text new =
+    (told : MapReply) × (bytes : Vec ℕ A) × Step ds old (call.GetMemoryMap size) (reply.GetMemoryMap told bytes) new ×
     (told.status ≡ Success → ((found : Option (List Descriptor)) → ReadsRecords bytes.items found → found ≡ Some (memory_map old.parts.book.memory)) × (text ≡ reply_text number (memory_map old.parts.book.memory) (reply.GetMemoryMap told bytes)))
-PrintsReadMap A number asks old text new = Unit {0}
+PrintsReadMap A ds number asks old text new = Unit {0}
 
 -- So it is of each call of a run.
 abbrev pub PrintedMapsLaw : Type 0 → Type 0
-PrintedMapsLaw A = (certify : Bool) → OfRun A certify (PrintsReadMap A)
+PrintedMapsLaw A = (ds : List Meaning) (certify : Bool) → OfRun A ds certify (PrintsReadMap A ds)

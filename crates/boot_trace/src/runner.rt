@@ -1,10 +1,11 @@
 //! A trace, run.
-ghost use Rattle.std.specs.Prelude.{◌≡◌, [], Ok, Some, OnOk, IfErr, IfSome, string_bytes};
+ghost use Rattle.std.specs.Prelude.{◌≡◌, [], Ok, Some, OnOk, IfErr, IfSome, map, string_bytes};
 ghost use Rattle.trace_lines.specs.TraceLine.{line_of};
 ghost use Rattle.boot_trace.specs.TraceRuns.{Prints, StopsAt, Ends};
 
 use crate::faults::RunFault;
 use boot_core::{Call, Core};
+use driver_connect::Driver;
 use reply_texts::{map_before, print_call, print_list};
 use std::alloc::Allocator;
 use std::io::{BufReader, Read, Write};
@@ -16,14 +17,15 @@ pub const MOST_LINES: u64 = 1_000_000;
 
 /// Makes the calls of a trace, and writes the reply to each before the next line is read; with
 /// `certify`, the block of a reply's certificate after it.
-pub fn run<A: Allocator + Copy, R: Read + Drop, W: Write>(
+pub fn run<D: Driver, A: Allocator + Copy, R: Read + Drop, W: Write>(
     alloc: A,
-    core: &mut Core<A>,
+    core: &mut Core<D, A>,
     reader: R,
     writer: &mut W,
     certify: bool,
 ) -> Result<(), RunFault>
-    ensures { IfSome (R.remaining reader) (λ bytes. Ends A certify bytes core.old core.new (W.contents writer.old) (W.contents writer.new) result) }
+    ensures ends { IfSome (R.remaining reader) (λ bytes. Ends A (map D.meaning core.old.drivers) certify bytes core.old.state core.new.state (W.contents writer.old) (W.contents writer.new) result) }
+    ensures drivers { core.new.drivers ≡ core.old.drivers }
 {
     let Ok(mut reader) = BufReader::new(alloc, reader) else {
         return Err(RunFault::OutOfMemory);
@@ -55,17 +57,18 @@ pub fn run<A: Allocator + Copy, R: Read + Drop, W: Write>(
 }
 
 /// Makes the call of a line, and appends what is printed.
-fn run_line<A: Allocator + Copy>(
+fn run_line<D: Driver, A: Allocator + Copy>(
     alloc: A,
-    core: &mut Core<A>,
+    core: &mut Core<D, A>,
     number: u64,
     line: &[u8],
     certify: bool,
     text: &mut String<A>,
 ) -> Result<(), RunFault>
     requires { string_bytes text.old ≡ [] }
-    ensures ok { OnOk result (Prints A certify number (line_of line.now) core.old (string_bytes text.new) core.new) }
-    ensures err { IfErr result (λ fault. StopsAt A certify fault number (line_of line.now) core.old core.new) }
+    ensures ok { OnOk result (Prints A (map D.meaning core.old.drivers) certify number (line_of line.now) core.old.state (string_bytes text.new) core.new.state) }
+    ensures drivers { core.new.drivers ≡ core.old.drivers }
+    ensures err { IfErr result (λ fault. StopsAt A (map D.meaning core.old.drivers) certify fault number (line_of line.now) core.old.state core.new.state) }
 {
     match read_call(alloc, line) {
         Ok(None) => Ok(()),
@@ -80,17 +83,18 @@ fn run_line<A: Allocator + Copy>(
 }
 
 /// Makes a call, and appends what is printed of it.
-fn make_call<A: Allocator + Copy>(
+fn make_call<D: Driver, A: Allocator + Copy>(
     alloc: A,
-    core: &mut Core<A>,
+    core: &mut Core<D, A>,
     number: u64,
     call: &Call<A>,
     certify: bool,
     text: &mut String<A>,
 ) -> Result<(), RunFault>
     requires { string_bytes text.old ≡ [] }
-    ensures ok { OnOk result (Prints A certify number (Ok (Some (TraceCall.Service call.now))) core.old (string_bytes text.new) core.new) }
-    ensures err { IfErr result (λ fault. StopsAt A certify fault number (Ok (Some (TraceCall.Service call.now))) core.old core.new) }
+    ensures ok { OnOk result (Prints A (map D.meaning core.old.drivers) certify number (Ok (Some (TraceCall.Service call.now))) core.old.state (string_bytes text.new) core.new.state) }
+    ensures drivers { core.new.drivers ≡ core.old.drivers }
+    ensures err { IfErr result (λ fault. StopsAt A (map D.meaning core.old.drivers) certify fault number (Ok (Some (TraceCall.Service call.now))) core.old.state core.new.state) }
 {
     if core.calls_left() == 0 {
         return Err(RunFault::NoCallsLeft);

@@ -1,12 +1,12 @@
 -- What the program does on the bytes that it is given.
-use Rattle.std.specs.Prelude.{◌≡◌, ◌⊎◌, ℕ, ◌<◌, Bool, List, [], ◌++◌, length, take, Option, IfSome, Result, Ok, Err, true, false}
+use Rattle.std.specs.Prelude.{◌≡◌, ◌⊎◌, ℕ, ◌<◌, Bool, List, [], ◌++◌, length, map, take, Option, IfSome, Result, Ok, Err, true, false}
 use Rattle.std.specs.Io.KnownBytes.{Appends}
 use Rattle.std.specs.declared.alloc.Global.{Global}
-use Rattle.page_ranges.specs.declared.ranges.Run.{Run}
 use Rattle.boot_core.specs.Machines.{State, first_state}
 use Rattle.machine_files.specs.declared.faults.MachineFault.TheVariants as machine_fault
 use Rattle.boot_trace.specs.declared.faults.RunFault.{RunFault}
-use Rattle.machine_files.specs.MachineText.{longest_file, machine_of}
+use Rattle.machine_files.specs.DriverText.{listed_meaning}
+use Rattle.machine_files.specs.MachineText.{ListedMachine, longest_file, machine_of}
 use Rattle.boot_trace.specs.TraceRuns.{Ends}
 use Rattle.program_runs.specs.declared.serve.Fault.{Fault}
 use Rattle.program_runs.specs.declared.serve.Fault.TheVariants as fault
@@ -15,9 +15,10 @@ use Rattle.program_runs.specs.declared.serve.Fault.TheVariants as fault
 abbrev pub IsRead : List ℕ → List ℕ → Type 0
 IsRead file bytes = (rest : List ℕ) × (file ≡ bytes ++ rest) × ((rest ≡ []) ⊎ (longest_file < length bytes))
 
--- the file is a machine's, and the run of a trace of known bytes on that machine ends so
+-- the file is a machine's, and the run of a trace of known bytes on that machine, with its drivers, ends so
 abbrev pub RunsTrace : Bool → List ℕ → Option (List ℕ) → Option (List ℕ) → Option (List ℕ) → Result (Unit {0}) RunFault → Type 0
-RunsTrace certify file trace before after end = (runs : List Run) × (machine_of file ≡ Ok runs) × IfSome trace (λ bytes. (new : State) × Ends Global certify bytes (first_state runs) new before after end)
+RunsTrace certify file trace before after end =
+    (machine : ListedMachine) × (machine_of file ≡ Ok machine) × IfSome trace (λ bytes. (new : State) × Ends Global (map listed_meaning machine.drivers) certify bytes (first_state machine.runs) new before after end)
 
 -- How the program ends on a machine file and a trace, and what it wrote. It runs the trace on the machine; where there
 -- is a fault before that, nothing is written. No such run ends on a trace that was not opened, or on a block.

@@ -148,7 +148,7 @@ pub fn run_files<M: Read + Drop, T: Read + Drop, W: Write>(
         Ok(file) => file,
         Err(fault) => return Err(Fault::Machine(fault)),
     };
-    let Ok(mut core) = Core::new(alloc, file.machine) else {
+    let Ok(mut core) = Core::new(alloc, file.machine, file.drivers) else {
         return Err(Fault::OutOfMemory);
     };
     match boot_trace::run(alloc, &mut core, trace, out, certify) {

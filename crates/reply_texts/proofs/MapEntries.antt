@@ -8,6 +8,7 @@ use Rattle.map_keys.specs.declared.memory_maps.MapReply.{MapReply}
 use Rattle.map_keys.specs.MapReplies.{descriptor_version, map_size}
 use Rattle.map_keys.specs.Records.{IsRecordEntry, record_size, records}
 use Rattle.map_keys.proofs.RecordLists.{same_entries}
+use Rattle.driver_connect.specs.Drivers.{Meaning}
 use Rattle.boot_core.specs.declared.calls.Call.TheVariants as call
 use Rattle.boot_core.specs.declared.calls.Reply.TheVariants as reply
 use Rattle.boot_core.specs.Machines.{Parts, State}
@@ -30,12 +31,12 @@ whole_map false old new size told bytes (inl h, same) s = all_used (leb (map_siz
 whole_map false old new size told bytes (inr h, same) s = let refused = ap (λ (r : MapReply). r.status) h.2 in absurd (cc)
 
 -- the bytes that a successful GetMemoryMap tells are the records of the memory map
-pub told_bytes : {A : Type 0} (old : State) (size : ℕ) (told : MapReply) (bytes : Vec ℕ A) (new : State) → Step old (call.GetMemoryMap size) (reply.GetMemoryMap told bytes) new → told.status ≡ Success → bytes.items ≡ records (memory_map old.parts.book.memory)
-told_bytes {A = A} old size told bytes new step success =
+pub told_bytes : {A : Type 0} (drivers : List Meaning) (old : State) (size : ℕ) (told : MapReply) (bytes : Vec ℕ A) (new : State) → Step drivers old (call.GetMemoryMap size) (reply.GetMemoryMap told bytes) new → told.status ≡ Success → bytes.items ≡ records (memory_map old.parts.book.memory)
+told_bytes {A = A} drivers old size told bytes new step success =
     let (told', bytes', e, h) = step.answers in
     let same_told : told ≡ told' = cc in
     let same_bytes : bytes ≡ bytes' = cc in
     ap (λ (v : Vec ℕ A). v.items) same_bytes ∙ whole_map old.exited old.parts new.parts size told' bytes'.items h (ap (λ (r : MapReply). r.status) (sym same_told) ∙ success)
 
-pub carried : {A : Type 0} (old : State) (size : ℕ) (told : MapReply) (bytes : Vec ℕ A) (new : State) (entries : List Descriptor) → AllByRecursion IsRecordEntry (memory_map old.parts.book.memory) → Step old (call.GetMemoryMap size) (reply.GetMemoryMap told bytes) new → told.status ≡ Success → CarriesEntries (reply.GetMemoryMap told bytes) entries → entries ≡ memory_map old.parts.book.memory
-carried old size told bytes new entries fit step success holds = held bytes.items entries (memory_map old.parts.book.memory) fit (told_bytes old size told bytes new step success) holds
+pub carried : {A : Type 0} (drivers : List Meaning) (old : State) (size : ℕ) (told : MapReply) (bytes : Vec ℕ A) (new : State) (entries : List Descriptor) → AllByRecursion IsRecordEntry (memory_map old.parts.book.memory) → Step drivers old (call.GetMemoryMap size) (reply.GetMemoryMap told bytes) new → told.status ≡ Success → CarriesEntries (reply.GetMemoryMap told bytes) entries → entries ≡ memory_map old.parts.book.memory
+carried drivers old size told bytes new entries fit step success holds = held bytes.items entries (memory_map old.parts.book.memory) fit (told_bytes drivers old size told bytes new step success) holds

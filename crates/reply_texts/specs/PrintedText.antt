@@ -72,6 +72,10 @@ told_line fields number v (Err status) = status_line number v (status_of status)
 abbrev pub installed_fields : {A : Type 0} → Installed A → List ℕ
 installed_fields told = codes "handle=" ++ decimal told.handle ++ codes " events=" ++ events_text told.events.items
 
+-- the field of the events that are signaled
+abbrev pub events_field : {A : Type 0} → Vec ℕ A → List ℕ
+events_field events = codes "events=" ++ events_text events.items
+
 -- the fields of a list in a pool block
 abbrev pub pool_list_fields : {A : Type 0} → PoolList A → List ℕ
 pool_list_fields told = codes "count=" ++ decimal told.count ++ codes " address=" ++ hexadecimal told.address
@@ -112,6 +116,8 @@ located_line number told status = status_line number verb.Locate (status_of stat
 abbrev pub protocol_text : {A : Type 0} → ℕ → Reply A → List ℕ
 protocol_text number (reply.InstallProtocolInterface result) = told_line installed_fields number verb.Install result
 protocol_text number (reply.InstallMultipleProtocolInterfaces result) = told_line installed_fields number verb.InstallMany result
+protocol_text number (reply.UninstallProtocolInterface result) = result_line number verb.Uninstall result
+protocol_text number (reply.ReinstallProtocolInterface result) = told_line events_field number verb.Reinstall result
 protocol_text number (reply.RegisterProtocolNotify result) = told_line registration_field number verb.Notify result
 protocol_text number (reply.LocateHandle told) = located_line number told told.status
 protocol_text number (reply.LocateHandleBuffer result) = told_line pool_list_fields number verb.LocateBuffer result
@@ -121,6 +127,8 @@ protocol_text number (reply.OpenProtocol result) = opened_line number result
 protocol_text number (reply.CloseProtocol result) = result_line number verb.Close result
 protocol_text number (reply.OpenProtocolInformation result) = told_line pool_list_fields number verb.Information result
 protocol_text number (reply.HandleProtocol result) = told_line interface_field number verb.HandleProtocol result
+protocol_text number (reply.ConnectController result) = told_line events_field number verb.Connect result
+protocol_text number (reply.DisconnectController result) = result_line number verb.Disconnect result
 protocol_text number (reply.LocateDevicePath result) = told_line path_fields number verb.Path result
 protocol_text number answer = []
 

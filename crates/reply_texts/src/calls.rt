@@ -9,17 +9,18 @@ ghost use Rattle.reply_texts.specs.CallText.{CarriesEntries, block_after, map_be
 use crate::replies::{carried_entries, print_reply};
 use boot_core::{Call, Core, Reply, certified, may_be_certified};
 use certificate_blocks::print_block;
+use driver_connect::Driver;
 use page_ranges::Descriptor;
 use std::alloc::{AllocError, Allocator};
 
 /// The memory map before a call, where certificates are asked for and the call's reply may carry one.
-pub fn map_before<A: Allocator + Copy>(
+pub fn map_before<D: Driver, A: Allocator + Copy>(
     alloc: A,
-    core: &Core<A>,
+    core: &Core<D, A>,
     call: &Call<A>,
     certify: bool,
 ) -> Result<Option<Vec<Descriptor, A>>, AllocError>
-    ensures { IfOk result (λ kept. option_map (λ entries. entries.items) kept ≡ map_before certify (memory_map core.now.parts.book.memory) call.now) }
+    ensures { IfOk result (λ kept. option_map (λ entries. entries.items) kept ≡ map_before certify (memory_map core.now.state.parts.book.memory) call.now) }
 {
     if certify && may_be_certified(call) {
         Ok(Some(entries_of(alloc, core)?))
@@ -29,11 +30,11 @@ pub fn map_before<A: Allocator + Copy>(
 }
 
 /// The entries of the memory map.
-fn entries_of<A: Allocator + Copy>(
+fn entries_of<D: Driver, A: Allocator + Copy>(
     alloc: A,
-    core: &Core<A>,
+    core: &Core<D, A>,
 ) -> Result<Vec<Descriptor, A>, AllocError>
-    ensures { IfOk result (λ entries. entries.items ≡ memory_map core.now.parts.book.memory) }
+    ensures { IfOk result (λ entries. entries.items ≡ memory_map core.now.state.parts.book.memory) }
 {
     let mut entries = Vec::new(alloc);
     for entry in core.map_entries() {

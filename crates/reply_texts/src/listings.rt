@@ -5,16 +5,17 @@ ghost use Rattle.reply_texts.specs.PrintedText.{list_text, descriptor_line};
 
 use crate::replies::print_descriptor;
 use boot_core::Core;
+use driver_connect::Driver;
 use std::alloc::{AllocError, Allocator};
 use trace_verbs::Verb;
 
 /// Appends the lines of a listing: the memory map's length, and its entries.
-pub fn print_list<A: Allocator + Copy>(
+pub fn print_list<D: Driver, A: Allocator + Copy>(
     text: &mut String<A>,
     number: u64,
-    core: &Core<A>,
+    core: &Core<D, A>,
 ) -> Result<(), AllocError>
-    ensures { OnOk result (string_bytes text.new ≡ string_bytes text.old ++ list_text number (memory_map core.now.parts.book.memory)) }
+    ensures { OnOk result (string_bytes text.new ≡ string_bytes text.old ++ list_text number (memory_map core.now.state.parts.book.memory)) }
 {
     let verb = Verb::List.name();
     let descriptors = core.descriptors();
@@ -23,11 +24,11 @@ pub fn print_list<A: Allocator + Copy>(
 }
 
 /// Appends the lines of the memory map's entries.
-fn print_map_entries<A: Allocator + Copy>(
+fn print_map_entries<D: Driver, A: Allocator + Copy>(
     text: &mut String<A>,
-    core: &Core<A>,
+    core: &Core<D, A>,
 ) -> Result<(), AllocError>
-    ensures { OnOk result (string_bytes text.new ≡ string_bytes text.old ++ flat_map descriptor_line (memory_map core.now.parts.book.memory)) }
+    ensures { OnOk result (string_bytes text.new ≡ string_bytes text.old ++ flat_map descriptor_line (memory_map core.now.state.parts.book.memory)) }
 {
     for entry in core.map_entries() {
         print_descriptor(text, &entry)?;

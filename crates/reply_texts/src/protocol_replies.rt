@@ -1,6 +1,6 @@
 //! The lines of replies of the protocol services.
 ghost use Rattle.std.specs.Prelude.{◌≡◌, ◌++◌, Ok, OnOk, string_bytes};
-ghost use Rattle.reply_texts.specs.PrintedText.{guids_field, handles_fields, installed_fields, interface_field, located_line, opened_line, path_fields, pool_list_fields, protocol_text, registration_field, told_line};
+ghost use Rattle.reply_texts.specs.PrintedText.{events_field, guids_field, handles_fields, installed_fields, interface_field, located_line, opened_line, path_fields, pool_list_fields, protocol_text, registration_field, told_line};
 
 use crate::list_texts::{print_events, print_guids, print_numbers};
 use crate::replies::{print_result, print_size, print_status};
@@ -26,6 +26,12 @@ pub(crate) fn print_protocols<A: Allocator>(
         Reply::InstallMultipleProtocolInterfaces(result) => {
             print_installed(text, number, Verb::InstallMany, result)
         }
+        Reply::UninstallProtocolInterface(result) => {
+            print_result(text, number, Verb::Uninstall, *result)
+        }
+        Reply::ReinstallProtocolInterface(result) => {
+            print_signaled(text, number, Verb::Reinstall, result)
+        }
         Reply::RegisterProtocolNotify(result) => print_registration(text, number, *result),
         Reply::LocateHandle(told) => print_located(text, number, told),
         Reply::LocateHandleBuffer(result) => {
@@ -42,6 +48,10 @@ pub(crate) fn print_protocols<A: Allocator>(
         }
         Reply::HandleProtocol(result) => {
             print_interface(text, number, Verb::HandleProtocol, *result)
+        }
+        Reply::ConnectController(result) => { print_signaled(text, number, Verb::Connect, result) }
+        Reply::DisconnectController(result) => {
+            print_result(text, number, Verb::Disconnect, *result)
         }
         Reply::LocateDevicePath(result) => print_path(text, number, *result),
         _ => Ok(()),
@@ -63,6 +73,26 @@ fn print_installed<A: Allocator>(
             let handle = told.handle;
             write!(text, "{number} {verb} SUCCESS handle={handle} events=")?;
             print_events(text, told.events.as_slice())?;
+            writeln!(text)
+        }
+        Err(status) => print_status(text, number, verb, *status),
+    }
+}
+
+/// Appends the line of a call that tells the events that are signaled.
+fn print_signaled<A: Allocator>(
+    text: &mut String<A>,
+    number: u64,
+    verb: Verb,
+    done: &Result<Vec<u64, A>, Status>,
+) -> Result<(), AllocError>
+    ensures { OnOk result (string_bytes text.new ≡ string_bytes text.old ++ told_line events_field number verb done.now) }
+{
+    match done {
+        Ok(events) => {
+            let verb = verb.name();
+            write!(text, "{number} {verb} SUCCESS events=")?;
+            print_events(text, events.as_slice())?;
             writeln!(text)
         }
         Err(status) => print_status(text, number, verb, *status),

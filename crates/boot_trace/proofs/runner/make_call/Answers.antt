@@ -6,12 +6,12 @@ use Rattle.boot_trace.proofs.runner.make_call.Goals as goal
 pub returns-in-Ok-print_call-clause-ok : goal.returns-in-Ok-print_call-clause-ok
 returns-in-Ok-print_call-clause-ok g c = (
   c.call-reply.result,
-  c.call-reply.ensures,
-  prints_call c.args.certify c.args.number c.args.core.now.parts.book.memory c.args.call.now c.call-reply.result (string_bytes c.args.text.now) (string_bytes c.print_call.new.text) _ c.in-Ok-print_call.ensures.0 c.in-Ok-print_call.ensures.1 c.requires c.in-Ok.ensures c.in-Ok-print_call.ensures.2,
+  c.call-reply.ensures.step,
+  prints_call c.args.certify c.args.number c.args.core.now.state.parts.book.memory c.args.call.now c.call-reply.result (string_bytes c.args.text.now) (string_bytes c.print_call.new.text) _ c.in-Ok-print_call.ensures.0 c.in-Ok-print_call.ensures.1 c.requires c.in-Ok.ensures c.in-Ok-print_call.ensures.2,
 )
 
 pub returns-clause-err : goal.returns-clause-err
-returns-clause-err g c = inr (c.call-reply.result, c.call-reply.ensures)
+returns-clause-err g c = inr (c.call-reply.result, c.call-reply.ensures.step)
 
 pub returns-then-calls_left-eq0-clause-ok : goal.returns-then-calls_left-eq0-clause-ok
 returns-then-calls_left-eq0-clause-ok g c = search rules

@@ -1,6 +1,10 @@
+use Rattle.std.proofs.Common.{◌≡◌, map}
 use Rattle.std.specs.Io.Buffered.{reader_remaining}
 use Rattle.boot_trace.proofs.Traces.{AtLineIf}
 use Rattle.boot_trace.proofs.runner.run.Given as goal
 
 abbrev pub invariant-loop-done : goal.invariant-loop-done
-invariant-loop-done g l = AtLineIf g.row.A.Denot l.certify (g.R.Read.remaining l.fn.reader) l.initial.core (g.W.Write.contents l.initial.writer) l.done l.core (g.W.Write.contents l.writer) (reader_remaining g.R.Read.remaining l.reader)
+invariant-loop-done g l = record {
+  line : AtLineIf g.row.A.Denot (map g.D.Driver.meaning l.initial.core.drivers) l.certify (g.R.Read.remaining l.fn.reader) l.initial.core.state (g.W.Write.contents l.initial.writer) l.done l.core.state (g.W.Write.contents l.writer) (reader_remaining g.R.Read.remaining l.reader);
+  drivers : l.core.drivers ≡ l.initial.core.drivers;
+}

@@ -5,5 +5,5 @@ use Rattle.reply_texts.proofs.calls.entries_of.Given as goal
 abbrev pub invariant-loop-entry : goal.invariant-loop-entry
 invariant-loop-entry g l = record {
   copied : l.entries.items ≡ l.yielded;
-  left : l.yielded ++ l.entry-iterator ≡ memory_map l.core.parts.book.memory;
+  left : l.yielded ++ l.entry-iterator ≡ memory_map l.core.state.parts.book.memory;
 }
