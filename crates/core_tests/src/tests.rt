@@ -8,6 +8,7 @@ mod pool_loads;
 mod stretches;
 
 use boot_core::{Core, Machine};
+use driver_connect::TableDriver;
 use page_ranges::{MemoryType, Owner, PageRange, Run};
 use std::process::Abort;
 
@@ -34,7 +35,7 @@ pub fn run_of(given: &Given) -> Run {
 }
 
 /// A core of the machine that has these pages.
-pub fn core_of(rt: &(impl AllocGlobal + Abort), given: &[Given]) -> Core {
+pub fn core_of(rt: &(impl AllocGlobal + Abort), given: &[Given]) -> Core<TableDriver> {
     let mut runs = Vec::new(rt.alloc());
     for pages in given {
         runs.push(run_of(pages)).expect(rt, "memory");
@@ -43,7 +44,7 @@ pub fn core_of(rt: &(impl AllocGlobal + Abort), given: &[Given]) -> Core {
 }
 
 /// A core of the machine that has these runs.
-pub fn core_of_runs(rt: &(impl AllocGlobal + Abort), runs: Vec<Run>) -> Core {
+pub fn core_of_runs(rt: &(impl AllocGlobal + Abort), runs: Vec<Run>) -> Core<TableDriver> {
     let machine = Machine::new(runs).expect(rt, "a machine");
-    Core::new(rt.alloc(), machine).expect(rt, "memory")
+    Core::new(rt.alloc(), machine, Vec::new(rt.alloc())).expect(rt, "memory")
 }

@@ -1,6 +1,8 @@
 //! Runs of the program, as text in and text out.
 mod certificates;
 mod commands;
+mod driver_rows;
+mod driver_texts;
 mod fault_texts;
 mod line_texts;
 mod machine_texts;

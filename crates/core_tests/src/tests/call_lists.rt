@@ -1,6 +1,7 @@
 //! Lists of calls through `Core::run`.
 use super::{Given, core_of};
 use boot_core::{Call, Core, Reply};
+use driver_connect::TableDriver;
 use page_ranges::Status;
 use std::process::Abort;
 
@@ -33,13 +34,13 @@ const MACHINE: [Given; 4] = [
 ];
 
 /// The replies to calls, of which there are not too many.
-pub fn replies_of(rt: &impl Abort, core: &mut Core, calls: &[Call]) -> Vec<Reply> {
+pub fn replies_of(rt: &impl Abort, core: &mut Core<TableDriver>, calls: &[Call]) -> Vec<Reply> {
     assert!(rt; calls.len() as u64 <= core.calls_left());
     core.run(calls).expect(rt, "memory")
 }
 
 /// The reply to a call.
-pub fn reply_of(rt: &impl Abort, core: &mut Core, call: Call) -> Reply {
+pub fn reply_of(rt: &impl Abort, core: &mut Core<TableDriver>, call: Call) -> Reply {
     replies_of(rt, core, &[call]).pop().expect(rt, "a reply")
 }
 

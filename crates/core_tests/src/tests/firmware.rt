@@ -5,6 +5,7 @@ use super::firmware_maps::maps;
 use super::stretches::{Change, Stretch, are_all, changed, entry_of, joined, stretches_of};
 use super::{Given, core_of_runs, run_of};
 use boot_core::{Call, Core};
+use driver_connect::TableDriver;
 use page_ranges::{PAGE_COUNT, PAGE_SIZE, Status};
 use std::process::Abort;
 
@@ -23,7 +24,10 @@ struct Drawn {
 }
 
 /// A core of the machine that stretches describe.
-pub fn core_of_stretches(rt: &(impl AllocGlobal + Abort), stretches: &[Stretch]) -> Core {
+pub fn core_of_stretches(
+    rt: &(impl AllocGlobal + Abort),
+    stretches: &[Stretch],
+) -> Core<TableDriver> {
     let mut runs = Vec::new(rt.alloc());
     for stretch in stretches {
         let given = Given {
@@ -118,7 +122,12 @@ fn refusal_of(stretches: &[Stretch], drawn: &Drawn) -> Status {
 }
 
 /// Makes a request, and judges its reply.
-fn place(rt: &impl Abort, core: &mut Core, stretches: &[Stretch], drawn: &Drawn) -> Option<Change> {
+fn place(
+    rt: &impl Abort,
+    core: &mut Core<TableDriver>,
+    stretches: &[Stretch],
+    drawn: &Drawn,
+) -> Option<Change> {
     let allocate = Call::AllocatePages {
         kind: drawn.kind,
         mtype: drawn.mtype,
@@ -136,7 +145,7 @@ fn place(rt: &impl Abort, core: &mut Core, stretches: &[Stretch], drawn: &Drawn)
 }
 
 /// Frees pages, and answers the status.
-fn freed(rt: &impl Abort, core: &mut Core, first: u64, end: u64) -> Status {
+fn freed(rt: &impl Abort, core: &mut Core<TableDriver>, first: u64, end: u64) -> Status {
     let free = Call::FreePages {
         memory: first.saturating_mul(PAGE_SIZE),
         pages: end.saturating_sub(first),
@@ -147,7 +156,7 @@ fn freed(rt: &impl Abort, core: &mut Core, first: u64, end: u64) -> Status {
 /// Frees pages, and judges the reply.
 fn free(
     rt: &impl Abort,
-    core: &mut Core,
+    core: &mut Core<TableDriver>,
     stretches: &[Stretch],
     first: u64,
     end: u64,
@@ -170,7 +179,7 @@ fn free(
 /// Makes a call that was drawn; some frees are of one page more than was placed.
 fn make_call(
     rt: &impl Abort,
-    core: &mut Core,
+    core: &mut Core<TableDriver>,
     stretches: &[Stretch],
     placed: &mut Vec<(u64, u64)>,
     draw: u64,
@@ -186,7 +195,7 @@ fn make_call(
 }
 
 /// Asserts that the map of a core is that of the stretches.
-fn assert_map(rt: &(impl AllocGlobal + Abort), core: &Core, stretches: &[Stretch]) {
+fn assert_map(rt: &(impl AllocGlobal + Abort), core: &Core<TableDriver>, stretches: &[Stretch]) {
     let joined = joined(rt, stretches);
     let mut entries = core.map_entries();
     for stretch in &joined {

@@ -5,6 +5,7 @@ use super::firmware_maps::maps;
 use super::stretches::stretches_of;
 use boot_core::{Call, Core, Reply};
 use certificate_blocks::{check_block, print_block};
+use driver_connect::TableDriver;
 use page_ranges::{Descriptor, MemoryType, PAGE_COUNT, PAGE_SIZE};
 use placement_certificate::{Bound, Certificate, Request};
 use std::process::Abort;
@@ -30,7 +31,7 @@ fn is_accepted(
 }
 
 /// Places pages as it is requested, and answers the certificate of that.
-fn certificate_of(rt: &impl Abort, core: &mut Core, request: &Request) -> Certificate {
+fn certificate_of(rt: &impl Abort, core: &mut Core<TableDriver>, request: &Request) -> Certificate {
     let allocate = Call::AllocatePages {
         kind: u32::from(request.limit < PAGE_COUNT),
         mtype: request.mtype.number(),
@@ -99,7 +100,7 @@ fn assert_bound_counts(
 }
 
 /// Asserts that the block of the pages that are placed is accepted, and no more with another number.
-fn assert_exact(rt: &(impl AllocGlobal + Abort), core: &mut Core, request: &Request) {
+fn assert_exact(rt: &(impl AllocGlobal + Abort), core: &mut Core<TableDriver>, request: &Request) {
     let map: Vec<Descriptor> = core.map_entries().collect(rt.alloc()).expect(rt, "memory");
     let mut certificate = certificate_of(rt, core, request);
     for index in 0..certificate.bounds.len() {

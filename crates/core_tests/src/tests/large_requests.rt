@@ -3,6 +3,7 @@
 use super::call_lists::{address_told, replies_of, reply_of, status_told};
 use super::{Given, core_of, core_of_runs, run_of};
 use boot_core::{Call, Core, Reply};
+use driver_connect::TableDriver;
 use map_keys::read_descriptors;
 use page_ranges::{PAGE_COUNT, Status};
 use std::process::Abort;
@@ -32,7 +33,13 @@ const REQUESTS: [(u32, u32, u64, u64, u64); 12] = [
 ];
 
 /// Asserts that the request is placed at the address, and that the pages can be freed.
-fn assert_served(rt: &impl Abort, core: &mut Core, allocate: Call, pages: u64, address: u64) {
+fn assert_served(
+    rt: &impl Abort,
+    core: &mut Core<TableDriver>,
+    allocate: Call,
+    pages: u64,
+    address: u64,
+) {
     let placed = reply_of(rt, core, allocate);
     assert_eq!(rt; address_told(&placed), Some(address));
     let free = Call::FreePages {
@@ -61,7 +68,7 @@ fn many_pages(rt: HostRuntime) {
 const MOST_DESCRIPTORS: u64 = 65_536;
 
 /// A core whose map has the most descriptors that a machine file may have: each other page is free.
-fn core_of_most(rt: &(impl AllocGlobal + Abort)) -> Core {
+fn core_of_most(rt: &(impl AllocGlobal + Abort)) -> Core<TableDriver> {
     let mut runs = Vec::new(rt.alloc());
     for number in 0..MOST_DESCRIPTORS {
         let given = Given {
@@ -86,7 +93,7 @@ fn bytes_told(reply: &Reply) -> Option<&[u8]> {
 }
 
 /// Asserts that the bytes are the records of the core's map.
-fn assert_records(rt: &(impl AllocGlobal + Abort), core: &Core, bytes: &[u8]) {
+fn assert_records(rt: &(impl AllocGlobal + Abort), core: &Core<TableDriver>, bytes: &[u8]) {
     let read = read_descriptors(rt.alloc(), bytes).expect(rt, "memory");
     let entries = read.expect(rt, "records");
     let mut wanted = core.map_entries();

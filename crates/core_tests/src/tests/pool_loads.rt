@@ -3,6 +3,7 @@ use super::firmware::core_of_stretches;
 use super::firmware_maps::maps;
 use super::stretches::stretches_of;
 use boot_core::{Call, CallBytes, Core, Reply};
+use driver_connect::TableDriver;
 use page_ranges::{PAGE_SIZE, Status};
 use std::process::Abort;
 
@@ -85,7 +86,7 @@ fn forget_empty(extents: &mut Vec<Plain>) {
 }
 
 /// The reply to a call, if one may still be made.
-fn reply_to(rt: &impl Abort, core: &mut Core, call: &Call) -> Reply {
+fn reply_to(rt: &impl Abort, core: &mut Core<TableDriver>, call: &Call) -> Reply {
     if core.calls_left() == 0 {
         panic!(rt; "no calls left");
     }
@@ -97,7 +98,12 @@ fn bytes_of(rt: &(impl AllocGlobal + Abort), block: &Block, fill: u8) -> Vec<u8>
 }
 
 /// Asserts that each byte of a block is this one.
-fn assert_filled(rt: &(impl AllocGlobal + Abort), core: &mut Core, block: &Block, fill: u8) {
+fn assert_filled(
+    rt: &(impl AllocGlobal + Abort),
+    core: &mut Core<TableDriver>,
+    block: &Block,
+    fill: u8,
+) {
     let read = Call::PoolRead {
         address: block.address,
         size: block.size,
@@ -116,7 +122,7 @@ fn assert_filled(rt: &(impl AllocGlobal + Abort), core: &mut Core, block: &Block
 }
 
 /// Fills a block, and asserts that it is filled.
-fn fill(rt: &(impl AllocGlobal + Abort), core: &mut Core, block: &Block) {
+fn fill(rt: &(impl AllocGlobal + Abort), core: &mut Core<TableDriver>, block: &Block) {
     let write = Call::PoolWrite {
         address: block.address,
         bytes: CallBytes::new(bytes_of(rt, block, block.fill)),
@@ -155,7 +161,7 @@ fn new_extent(
 /// Asks for a block, and answers its address, which is where first fit puts it, or in a new extent.
 fn take(
     rt: &(impl AllocGlobal + Abort),
-    core: &mut Core,
+    core: &mut Core<TableDriver>,
     extents: &mut Vec<Plain>,
     mtype: u32,
     size: u64,
@@ -176,7 +182,7 @@ fn take(
 }
 
 /// Frees a block, which then is none any more.
-fn give(rt: &(impl AllocGlobal + Abort), core: &mut Core, block: &Block) {
+fn give(rt: &(impl AllocGlobal + Abort), core: &mut Core<TableDriver>, block: &Block) {
     assert_filled(rt, core, block, block.fill);
     let free = Call::FreePool {
         address: block.address,
@@ -195,7 +201,7 @@ const TYPES: [u32; 4] = [4, 4, 6, 2];
 /// Takes a block as it was drawn, or gives one back, and judges the replies.
 fn assert_drawn(
     rt: &(impl AllocGlobal + Abort),
-    core: &mut Core,
+    core: &mut Core<TableDriver>,
     extents: &mut Vec<Plain>,
     blocks: &mut Vec<Block>,
     draw: usize,

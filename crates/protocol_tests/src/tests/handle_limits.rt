@@ -1,11 +1,17 @@
 //! So many handles, and no more.
 use super::{guid, reply_to, small_core};
 use boot_core::{Call, Core, Reply};
+use driver_connect::TableDriver;
 use page_ranges::Status;
 use std::process::Abort;
 
 /// What an installation on a handle answers: the handle.
-fn installed(rt: &impl Abort, core: &mut Core, handle: u64, byte: u8) -> Result<u64, Status> {
+fn installed(
+    rt: &impl Abort,
+    core: &mut Core<TableDriver>,
+    handle: u64,
+    byte: u8,
+) -> Result<u64, Status> {
     let call = Call::InstallProtocolInterface {
         handle,
         guid: guid(byte),

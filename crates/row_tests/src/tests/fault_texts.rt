@@ -24,7 +24,7 @@ fn own_faults(rt: HostRuntime) {
 }
 
 /// Faults of a machine file.
-const MACHINE_FAULTS: [(MachineFault, &str); 7] = [
+const MACHINE_FAULTS: [(MachineFault, &str); 9] = [
     (MachineFault::TooLong, "bootcore: machine: too long\n"),
     (MachineFault::NotJson, "bootcore: machine: not JSON\n"),
     (
@@ -41,6 +41,14 @@ const MACHINE_FAULTS: [(MachineFault, &str); 7] = [
             field: MemberField::Attributes,
         },
         "bootcore: machine: descriptor 65535: attributes\n",
+    ),
+    (
+        MachineFault::NoDriverList,
+        "bootcore: machine: no driver list\n",
+    ),
+    (
+        MachineFault::TooManyDrivers,
+        "bootcore: machine: too many drivers\n",
     ),
     (
         MachineFault::Overlap,

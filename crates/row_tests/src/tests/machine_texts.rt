@@ -117,7 +117,7 @@ fn fronts(rt: HostRuntime) {
 /// Members in any order, with unknown keys, a doubled key and pages that touch.
 #[test]
 fn machine_as_if_sorted(rt: HostRuntime) {
-    let machine = b"{\"drivers\":3,\"memory\":[1],\"memory\":[
+    let machine = b"{\"name\":3,\"memory\":[1],\"memory\":[
 {\"pages\":1,\"attributes\":\"0x0\",\"type\":0,\"type\":15,\"start\":\"0xfffffffffffff000\"},
 {\"type\":4294967295,\"start\":\"0x3000\",\"pages\":2,\"attributes\":\"0xF\",\"x\":{}},
 {\"type\":4294967295,\"start\":\"0x1000\",\"pages\":2,\"attributes\":\"0xf\"}]}";

@@ -337,7 +337,10 @@ const FAULTS: [(&str, &str); 14] = [
         "number",
     ),
     ("path zz 0", "guid"),
-    ("uninstall 1 11111111-1111-1111-1111-111111111111 0", "verb"),
+    (
+        "uninstalls 1 11111111-1111-1111-1111-111111111111 0",
+        "verb",
+    ),
 ];
 
 #[test]

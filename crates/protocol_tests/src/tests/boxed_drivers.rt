@@ -1,0 +1,118 @@
+//! A core with drivers in boxes, which may be of several kinds.
+use super::{guid, reply_to, small_machine};
+use arrayvec::ArrayVec;
+use boot_core::{Call, CallHandles, Core, Reply};
+use driver_connect::{Driver, StartPlan, TableDriver, View, driver_binding};
+use std::process::Abort;
+use std::test::Fail;
+use uuid::Uuid;
+
+/// A driver that supports just the handle 1, makes no children, and is never stopped.
+#[derive(Drop)]
+struct FirstHandleDriver {
+    opens: Uuid,
+}
+
+impl Driver for FirstHandleDriver {
+    ghost use Rattle.std.specs.Prelude.{◌==◌, false, [], ◌∷◌};
+
+    ghost meaning = { λ d. record { version = 7; supports = λ s. s.controller == 1; plan = λ s. record { opens = d.opens ∷ []; children = [] }; may_stop = λ s. false } };
+
+    fn version(&self) -> u32 {
+        7
+    }
+
+    fn supported(&self, v: &View) -> bool {
+        v.controller == 1
+    }
+
+    fn plan(&self, _v: &View) -> StartPlan {
+        let mut opens = ArrayVec::new();
+        opens.push(self.opens);
+        StartPlan {
+            opens,
+            children: ArrayVec::new(),
+        }
+    }
+
+    fn may_stop(&self, _v: &View) -> bool {
+        false
+    }
+}
+
+/// A driver that supports all that carries a GUID, opens it, and may be stopped.
+fn table(needed: Uuid) -> TableDriver {
+    let mut needs = ArrayVec::new();
+    needs.push(needed);
+    let mut opens = ArrayVec::new();
+    opens.push(needed);
+    TableDriver {
+        version: 1,
+        needs,
+        plan: StartPlan {
+            opens,
+            children: ArrayVec::new(),
+        },
+        stops: true,
+    }
+}
+
+/// Installs an interface on a new handle.
+fn install<D: Driver>(rt: &impl Abort, core: &mut Core<D>, guid: Uuid, value: u64) {
+    let call = Call::InstallProtocolInterface {
+        handle: 0,
+        guid,
+        kind: 0,
+        value,
+    };
+    let reply = reply_to(rt, core, &call);
+    assert_eq!(rt; matches!(reply, Reply::InstallProtocolInterface(Ok(_))), true);
+}
+
+/// Whether a connect of a handle starts a driver.
+fn connects<D: Driver>(
+    rt: &(impl AllocGlobal + Abort),
+    core: &mut Core<D>,
+    handle: u64,
+) -> bool {
+    let call = Call::ConnectController {
+        handle,
+        drivers: CallHandles::new(Vec::new(rt.alloc())),
+        recursive: false,
+    };
+    matches!(reply_to(rt, core, &call), Reply::ConnectController(Ok(_)))
+}
+
+/// Whether the drivers of a handle are stopped.
+fn disconnects<D: Driver>(rt: &impl Abort, core: &mut Core<D>, handle: u64) -> bool {
+    let call = Call::DisconnectController { handle, driver: 0 };
+    matches!(reply_to(rt, core, &call), Reply::DisconnectController(Ok(_)))
+}
+
+/// Connects handles of a core with two drivers of different kinds, and stops one of them.
+fn assert_drives<D: Driver>(rt: &(impl AllocGlobal + Abort), core: &mut Core<D>, one: Uuid) {
+    let binding = driver_binding();
+    install(rt, core, one, 0);
+    install(rt, core, one, 0);
+    install(rt, core, binding, 0);
+    install(rt, core, binding, 1);
+    assert_eq!(rt; connects(rt, core, 1), true);
+    assert_eq!(rt; connects(rt, core, 2), true);
+    assert_eq!(rt; connects(rt, core, 2), false);
+    assert_eq!(rt; disconnects(rt, core, 1), false);
+    assert_eq!(rt; disconnects(rt, core, 2), true);
+    assert_eq!(rt; connects(rt, core, 2), true);
+}
+
+#[test]
+fn drivers_of_two_kinds(rt: HostRuntime) -> Result<(), Fail> {
+    let alloc = rt.alloc();
+    let one = guid(1);
+    let mut drivers: Vec<Box<dyn Driver>> = Vec::new(alloc);
+    drivers.push(Box::new(alloc, table(one))?)?;
+    drivers.push(Box::new(alloc, FirstHandleDriver { opens: one })?)?;
+    let machine = small_machine(&rt);
+    let mut core = Core::new(alloc, machine, drivers)?;
+    assert_drives(&rt, &mut core, one);
+    Ok(())
+}
