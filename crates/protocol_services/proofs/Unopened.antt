@@ -8,7 +8,7 @@ use Rattle.guid_handles.proofs.GuidOrder.{and_false}
 use Rattle.open_agents.specs.declared.items.OpenRecord.{OpenRecord}
 use Rattle.open_agents.specs.OpenItems.{is_for_driver, is_open_on, item_of, items_on, without_items}
 use Rattle.driver_connect.specs.Drivers.{Meaning}
-use Rattle.driver_connect.specs.Stopping.{is_maker, is_made_by, is_no_obstacle, is_unobstructed, made_by, managers_of_made, manages_made, rounds, stop_set, names_any, without_handles, without_opens, without_pairs}
+use Rattle.driver_connect.specs.Stopping.{is_maker, is_made_by, is_no_obstacle, made_by, managers_of_made, manages_made, rounds, stop_set}
 use Rattle.driver_connect.proofs.Filters.{handles_none, names_none, pairs_none}
 use Rattle.protocol_services.specs.Lists.{Lists}
 use Rattle.protocol_services.specs.Stopping.{can_stop, once_stopped}

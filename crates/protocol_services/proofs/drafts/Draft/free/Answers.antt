@@ -1,4 +1,4 @@
-use Rattle.std.proofs.Common.{◌≡◌, not, true, false, Bool, map, [], sym, ◌∙◌}
+use Rattle.std.proofs.Common.{map, [], ◌∙◌}
 use Rattle.protocol_services.proofs.Freed.{free_answer, free_leaves}
 use Rattle.protocol_services.proofs.drafts.Draft.free.Goals as goal
 

@@ -1,5 +1,4 @@
-use Rattle.std.proofs.Common.{◌≡◌, map, [], ◌∷◌, ◌∙◌}
-use Rattle.protocol_services.specs.Stopping.{once_stopped}
+use Rattle.std.proofs.Common.{map, [], ◌∷◌, ◌∙◌}
 use Rattle.protocol_services.proofs.Freed.{left_can_count, opened_stopped, opened_stopped_raised}
 use Rattle.protocol_services.proofs.Raised.{stays_raised}
 use Rattle.protocol_services.proofs.protocols.Protocols.open_after_stop.Goals as goal
