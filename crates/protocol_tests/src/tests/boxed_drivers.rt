@@ -66,15 +66,14 @@ fn install<D: Driver>(rt: &impl Abort, core: &mut Core<D>, guid: Uuid, value: u6
         value,
     };
     let reply = reply_to(rt, core, &call);
-    assert_eq!(rt; matches!(reply, Reply::InstallProtocolInterface(Ok(_))), true);
+    assert_eq!(rt;
+        matches!(reply, Reply::InstallProtocolInterface(Ok(_))),
+        true
+    );
 }
 
 /// Whether a connect of a handle starts a driver.
-fn connects<D: Driver>(
-    rt: &(impl AllocGlobal + Abort),
-    core: &mut Core<D>,
-    handle: u64,
-) -> bool {
+fn connects<D: Driver>(rt: &(impl AllocGlobal + Abort), core: &mut Core<D>, handle: u64) -> bool {
     let call = Call::ConnectController {
         handle,
         drivers: CallHandles::new(Vec::new(rt.alloc())),
@@ -86,7 +85,10 @@ fn connects<D: Driver>(
 /// Whether the drivers of a handle are stopped.
 fn disconnects<D: Driver>(rt: &impl Abort, core: &mut Core<D>, handle: u64) -> bool {
     let call = Call::DisconnectController { handle, driver: 0 };
-    matches!(reply_to(rt, core, &call), Reply::DisconnectController(Ok(_)))
+    matches!(
+        reply_to(rt, core, &call),
+        Reply::DisconnectController(Ok(_))
+    )
 }
 
 /// Connects handles of a core with two drivers of different kinds, and stops one of them.
