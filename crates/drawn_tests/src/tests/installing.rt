@@ -1,0 +1,125 @@
+//! Drawn installations and registrations.
+use super::draws::Draws;
+use super::plain_lists::{self, Lists};
+use super::{Told, assert_told, guid, reply_to, tell, tell_one};
+use boot_core::{Call, CallPairs, Core, Reply};
+use driver_connect::TableDriver;
+use page_ranges::Status;
+use std::process::Abort;
+use uuid::Uuid;
+
+/// So many handles are made at most.
+const MOST_HANDLES: u64 = 38;
+
+/// The handle to install on: often a new one.
+fn target(draws: &mut Draws, lists: &Lists) -> u64 {
+    let handle = if draws.one_of(4) {
+        0
+    } else {
+        draws.handle(lists.count())
+    };
+    if handle == 0 && lists.count() >= MOST_HANDLES {
+        1
+    } else {
+        handle
+    }
+}
+
+/// The handle and the events of an installation.
+fn told_installed(rt: &(impl AllocGlobal + Abort), handle: u64, events: &[u64]) -> Told {
+    let mut reply = tell(rt, Status::Success, &[handle]);
+    reply.numbers.extend_from_slice(events).expect(rt, "memory");
+    reply
+}
+
+/// Installs an interface.
+pub fn install(
+    rt: &(impl AllocGlobal + Abort),
+    core: &mut Core<TableDriver>,
+    lists: &mut Lists,
+    draws: &mut Draws,
+) -> Status {
+    let handle = target(draws, lists);
+    let byte = draws.guid();
+    let kind = u32::from(draws.one_of(8));
+    let value = draws.next();
+    let call = Call::InstallProtocolInterface {
+        handle,
+        guid: guid(byte),
+        kind,
+        value,
+    };
+    let reply = match reply_to(rt, core, &call) {
+        Reply::InstallProtocolInterface(Ok(done)) => {
+            told_installed(rt, done.handle, done.events.as_slice())
+        }
+        Reply::InstallProtocolInterface(Err(status)) => tell(rt, status, &[]),
+        _ => panic!(rt; "another reply"),
+    };
+    let plain = plain_lists::install(rt, lists, handle, kind, &[(byte, value)]);
+    assert_told(rt, &reply, &plain)
+}
+
+/// Up to three interfaces, in which a GUID may stand twice.
+fn drawn_pairs(rt: &(impl AllocGlobal + Abort), draws: &mut Draws) -> Vec<(u8, u64)> {
+    let mut pairs = Vec::new(rt.alloc());
+    for _ in 0..draws.below(4) {
+        pairs
+            .push((draws.guid(), draws.next()))
+            .expect(rt, "memory");
+    }
+    pairs
+}
+
+fn call_pairs(rt: &(impl AllocGlobal + Abort), pairs: &[(u8, u64)]) -> CallPairs {
+    let mut named: Vec<(Uuid, u64)> = Vec::new(rt.alloc());
+    for pair in pairs {
+        named.push((guid(pair.0), pair.1)).expect(rt, "memory");
+    }
+    CallPairs::new(named)
+}
+
+/// Installs several interfaces.
+pub fn install_many(
+    rt: &(impl AllocGlobal + Abort),
+    core: &mut Core<TableDriver>,
+    lists: &mut Lists,
+    draws: &mut Draws,
+) -> Status {
+    let handle = target(draws, lists);
+    let pairs = drawn_pairs(rt, draws);
+    let call = Call::InstallMultipleProtocolInterfaces {
+        handle,
+        pairs: call_pairs(rt, pairs.as_slice()),
+    };
+    let reply = match reply_to(rt, core, &call) {
+        Reply::InstallMultipleProtocolInterfaces(Ok(done)) => {
+            told_installed(rt, done.handle, done.events.as_slice())
+        }
+        Reply::InstallMultipleProtocolInterfaces(Err(status)) => tell(rt, status, &[]),
+        _ => panic!(rt; "another reply"),
+    };
+    let plain = plain_lists::install(rt, lists, handle, 0, pairs.as_slice());
+    assert_told(rt, &reply, &plain)
+}
+
+/// Registers an event.
+pub fn register(
+    rt: &(impl AllocGlobal + Abort),
+    core: &mut Core<TableDriver>,
+    lists: &mut Lists,
+    draws: &mut Draws,
+) -> Status {
+    let byte = draws.guid();
+    let event = draws.below(8);
+    let call = Call::RegisterProtocolNotify {
+        guid: guid(byte),
+        event,
+    };
+    let reply = match reply_to(rt, core, &call) {
+        Reply::RegisterProtocolNotify(key) => tell_one(rt, key),
+        _ => panic!(rt; "another reply"),
+    };
+    let plain = plain_lists::register(rt, lists, byte, event);
+    assert_told(rt, &reply, &plain)
+}

@@ -1,0 +1,293 @@
+//! Handles, interfaces and registrations in plain lists; each search walks along one.
+use super::{Told, tell, tell_one};
+use page_ranges::Status;
+use std::process::Abort;
+
+/// The value of a GUID on a handle, with the stamp of its installation.
+#[derive(Clone, Copy)]
+pub struct Interface {
+    pub handle: u64,
+    pub guid: u8,
+    pub value: u64,
+    pub stamp: u64,
+}
+
+/// An agent's and a controller's opens of a GUID on a handle.
+#[derive(Clone, Copy)]
+pub struct Item {
+    pub handle: u64,
+    pub guid: u8,
+    pub agent: u64,
+    pub controller: u64,
+    pub attributes: u32,
+    pub count: u32,
+}
+
+/// An event for a GUID, with the stamp of the last interface that was taken by the key.
+#[derive(Clone, Copy)]
+pub struct Registration {
+    pub key: u64,
+    pub guid: u8,
+    pub event: u64,
+    pub mark: u64,
+}
+
+/// All of it, each list in the order in which it grew.
+#[derive(Drop)]
+pub struct Lists {
+    pub handles: Vec<u64>,
+    pub interfaces: Vec<Interface>,
+    pub items: Vec<Item>,
+    pub registrations: Vec<Registration>,
+    pub last_stamp: u64,
+}
+
+pub fn empty_lists(rt: &impl AllocGlobal) -> Lists {
+    Lists {
+        handles: Vec::new(rt.alloc()),
+        interfaces: Vec::new(rt.alloc()),
+        items: Vec::new(rt.alloc()),
+        registrations: Vec::new(rt.alloc()),
+        last_stamp: 0,
+    }
+}
+
+impl Lists {
+    pub fn count(&self) -> u64 {
+        self.handles.len() as u64
+    }
+
+    pub fn is_live(&self, handle: u64) -> bool {
+        self.handles.iter().any(|live| *live == handle)
+    }
+
+    /// Whether a handle is given, and is not live.
+    pub fn is_dead(&self, handle: u64) -> bool {
+        handle != 0 && !self.is_live(handle)
+    }
+
+    /// The value of a GUID on a handle.
+    pub fn value(&self, handle: u64, guid: u8) -> Option<u64> {
+        self.interfaces
+            .iter()
+            .find(|i| i.handle == handle && i.guid == guid)
+            .map(|i| i.value)
+    }
+
+    /// Whether a GUID stands twice among some pairs, or is on the handle.
+    fn is_any_taken(&self, handle: u64, pairs: &[(u8, u64)]) -> bool {
+        pairs.iter().any(|pair| self.value(handle, pair.0).is_some() || times(pairs, pair.0) > 1)
+    }
+
+    /// Whether some pairs must not be installed.
+    fn is_bad(&self, handle: u64, pairs: &[(u8, u64)]) -> bool {
+        pairs.is_empty() || self.is_dead(handle) || self.is_any_taken(handle, pairs)
+    }
+
+    fn registration(&self, key: u64) -> Option<Registration> {
+        self.registrations.iter().find(|r| r.key == key).copied()
+    }
+
+    /// The interface of a registration's GUID with the least stamp above its mark.
+    fn next(&self, registration: &Registration) -> Option<Interface> {
+        let mut least: Option<Interface> = None;
+        for i in &self.interfaces {
+            let is_new = i.guid == registration.guid && registration.mark < i.stamp;
+            if is_new && least.is_none_or(|found| i.stamp < found.stamp) {
+                least = Some(*i);
+            }
+        }
+        least
+    }
+
+    /// Moves the mark of a key.
+    fn take(&mut self, key: u64, stamp: u64) {
+        for registration in self.registrations.iter_mut() {
+            if registration.key == key {
+                registration.mark = stamp;
+            }
+        }
+    }
+
+    /// Puts an interface at the end, with the next stamp.
+    fn push_interface(&mut self, rt: &impl Abort, handle: u64, guid: u8, value: u64) {
+        self.last_stamp = self.last_stamp.saturating_add(1);
+        let stamp = self.last_stamp;
+        self.interfaces
+            .push(Interface {
+                handle,
+                guid,
+                value,
+                stamp,
+            })
+            .expect(rt, "memory");
+    }
+
+    /// A handle, a new one for 0.
+    fn given_or_new(&mut self, rt: &impl Abort, handle: u64) -> u64 {
+        if handle != 0 {
+            return handle;
+        }
+        let number = self.count().saturating_add(1);
+        self.handles.push(number).expect(rt, "memory");
+        number
+    }
+
+    /// Puts the events for a GUID behind some numbers.
+    fn push_events(&self, rt: &impl Abort, guid: u8, numbers: &mut Vec<u64>) {
+        for registration in &self.registrations {
+            if registration.guid == guid {
+                numbers.push(registration.event).expect(rt, "memory");
+            }
+        }
+    }
+}
+
+/// How often a GUID stands among some pairs.
+fn times(pairs: &[(u8, u64)], guid: u8) -> usize {
+    pairs.iter().filter(|pair| pair.0 == guid).count()
+}
+
+/// Installs some pairs, and tells the handle and the events.
+pub fn install(
+    rt: &(impl AllocGlobal + Abort),
+    lists: &mut Lists,
+    handle: u64,
+    kind: u32,
+    pairs: &[(u8, u64)],
+) -> Told {
+    if kind != 0 || lists.is_bad(handle, pairs) {
+        return tell(rt, Status::InvalidParameter, &[]);
+    }
+    let handle = lists.given_or_new(rt, handle);
+    let mut reply = tell(rt, Status::Success, &[handle]);
+    for pair in pairs {
+        lists.push_interface(rt, handle, pair.0, pair.1);
+        lists.push_events(rt, pair.0, &mut reply.numbers);
+    }
+    reply
+}
+
+/// Registers an event, and tells the key.
+pub fn register(rt: &(impl AllocGlobal + Abort), lists: &mut Lists, guid: u8, event: u64) -> Told {
+    let key = (lists.registrations.len() as u64).saturating_add(1);
+    let mark = lists.last_stamp;
+    lists
+        .registrations
+        .push(Registration {
+            key,
+            guid,
+            event,
+            mark,
+        })
+        .expect(rt, "memory");
+    tell(rt, Status::Success, &[key])
+}
+
+/// The handles that carry a GUID.
+fn holders(rt: &(impl AllocGlobal + Abort), lists: &Lists, guid: u8) -> Vec<u64> {
+    let mut found = Vec::new(rt.alloc());
+    for handle in &lists.handles {
+        if lists.value(*handle, guid).is_some() {
+            found.push(*handle).expect(rt, "memory");
+        }
+    }
+    found
+}
+
+/// Some handles where they fit into so many bytes; else a refusal, with the size where they are too many.
+fn fitted(rt: &(impl AllocGlobal + Abort), handles: &[u64], room: u64) -> Told {
+    let size = (handles.len() as u64).saturating_mul(8);
+    if handles.is_empty() {
+        tell(rt, Status::NotFound, &[])
+    } else if room < size {
+        tell(rt, Status::BufferTooSmall, &[size])
+    } else {
+        tell(rt, Status::Success, handles)
+    }
+}
+
+/// The handle that a key meets next, which is taken if it fits.
+fn locate_next(rt: &(impl AllocGlobal + Abort), lists: &mut Lists, key: u64, room: u64) -> Told {
+    let Some(registration) = lists.registration(key) else {
+        return tell(rt, Status::InvalidParameter, &[]);
+    };
+    let Some(found) = lists.next(&registration) else {
+        return tell(rt, Status::NotFound, &[]);
+    };
+    let reply = fitted(rt, &[found.handle], room);
+    if reply.status == Status::Success {
+        lists.take(key, found.stamp);
+    }
+    reply
+}
+
+/// The handles that a search is for.
+pub fn locate(
+    rt: &(impl AllocGlobal + Abort),
+    lists: &mut Lists,
+    search: u32,
+    guid: u8,
+    key: u64,
+    room: u64,
+) -> Told {
+    match search {
+        0 => fitted(rt, lists.handles.as_slice(), room),
+        1 => locate_next(rt, lists, key, room),
+        2 => fitted(rt, holders(rt, lists, guid).as_slice(), room),
+        _ => tell(rt, Status::InvalidParameter, &[]),
+    }
+}
+
+/// The value of a GUID on the lowest handle that carries it.
+fn lowest_value(lists: &Lists, guid: u8) -> Result<u64, Status> {
+    for handle in &lists.handles {
+        if let Some(value) = lists.value(*handle, guid) {
+            return Ok(value);
+        }
+    }
+    Err(Status::NotFound)
+}
+
+/// The value of the interface that a key of a GUID meets next, which is taken.
+fn next_value(lists: &mut Lists, guid: u8, key: u64) -> Result<u64, Status> {
+    let Some(registration) = lists.registration(key) else {
+        return Err(Status::InvalidParameter);
+    };
+    if registration.guid != guid {
+        return Err(Status::InvalidParameter);
+    }
+    let Some(found) = lists.next(&registration) else {
+        return Err(Status::NotFound);
+    };
+    lists.take(key, found.stamp);
+    Ok(found.value)
+}
+
+/// The value of an interface of a GUID.
+pub fn locate_protocol(
+    rt: &(impl AllocGlobal + Abort),
+    lists: &mut Lists,
+    guid: u8,
+    key: u64,
+) -> Told {
+    if key == 0 {
+        tell_one(rt, lowest_value(lists, guid))
+    } else {
+        tell_one(rt, next_value(lists, guid, key))
+    }
+}
+
+/// The bytes of the GUIDs on a handle.
+pub fn protocols(rt: &(impl AllocGlobal + Abort), lists: &Lists, handle: u64) -> Told {
+    if !lists.is_live(handle) {
+        return tell(rt, Status::InvalidParameter, &[]);
+    }
+    let mut reply = tell(rt, Status::Success, &[]);
+    for i in &lists.interfaces {
+        if i.handle == handle {
+            reply.numbers.push(i.guid as u64).expect(rt, "memory");
+        }
+    }
+    reply
+}

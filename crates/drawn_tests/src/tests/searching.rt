@@ -1,0 +1,171 @@
+//! Drawn searches.
+use super::draws::Draws;
+use super::listing::{assert_list, place_of};
+use super::plain_lists::{self, Lists};
+use super::{Told, assert_told, guid, reply_to, tell, tell_one};
+use boot_core::{Call, Core, Reply};
+use driver_connect::TableDriver;
+use page_ranges::Status;
+use std::process::Abort;
+use uuid::Uuid;
+
+/// 0, a key that was given, or one of the two behind them.
+fn drawn_key(draws: &mut Draws, lists: &Lists) -> u64 {
+    let keys = lists.registrations.len() as u64;
+    draws.below(keys.saturating_add(3))
+}
+
+/// A size of a buffer: large, of so many handles, or a byte too small.
+fn drawn_room(draws: &mut Draws) -> u64 {
+    let room = draws.next() % 40 * 8;
+    match draws.next() % 6 {
+        0 => room,
+        1 => room + 7,
+        2 => 8,
+        3 => 7,
+        _ => 1000,
+    }
+}
+
+/// Which search is made: 3 is none.
+fn drawn_search(draws: &mut Draws) -> u32 {
+    match draws.next() % 16 {
+        0..=4 => 0,
+        5..=9 => 1,
+        10..=14 => 2,
+        _ => 3,
+    }
+}
+
+/// Locates handles.
+pub fn locate(
+    rt: &(impl AllocGlobal + Abort),
+    core: &mut Core<TableDriver>,
+    lists: &mut Lists,
+    draws: &mut Draws,
+    search: u32,
+) -> Status {
+    let byte = draws.guid();
+    let key = drawn_key(draws, lists);
+    let size = drawn_room(draws);
+    let call = Call::LocateHandle {
+        search,
+        guid: guid(byte),
+        key,
+        size,
+    };
+    let reply = match reply_to(rt, core, &call) {
+        Reply::LocateHandle(reply) => {
+            told_handles(rt, reply.status, reply.size, reply.handles.as_slice())
+        }
+        _ => panic!(rt; "another reply"),
+    };
+    let plain = plain_lists::locate(rt, lists, search, byte, key, size);
+    assert_told(rt, &reply, &plain)
+}
+
+/// What LocateHandle tells: the handles, or the size that they need.
+fn told_handles(
+    rt: &(impl AllocGlobal + Abort),
+    status: Status,
+    size: u64,
+    handles: &[u64],
+) -> Told {
+    let count = handles.len() as u64;
+    match status {
+        Status::Success => assert_eq!(rt; size, count.saturating_mul(8)),
+        Status::BufferTooSmall => return tell(rt, status, &[size]),
+        _ => assert_eq!(rt; size, 0),
+    }
+    tell(rt, status, handles)
+}
+
+/// The bytes of some handles.
+fn handle_bytes(rt: &(impl AllocGlobal + Abort), handles: &[u64]) -> Vec<u8> {
+    let mut bytes = Vec::new(rt.alloc());
+    for handle in handles {
+        bytes
+            .extend_from_slice(&handle.to_le_bytes())
+            .expect(rt, "memory");
+    }
+    bytes
+}
+
+/// Locates handles in a pool block, which is freed.
+pub fn locate_buffer(
+    rt: &(impl AllocGlobal + Abort),
+    core: &mut Core<TableDriver>,
+    lists: &mut Lists,
+    draws: &mut Draws,
+) -> Status {
+    let search = drawn_search(draws);
+    let byte = draws.guid();
+    let key = drawn_key(draws, lists);
+    let call = Call::LocateHandleBuffer {
+        search,
+        guid: guid(byte),
+        key,
+    };
+    let plain = plain_lists::locate(rt, lists, search, byte, key, u64::MAX);
+    let bytes = handle_bytes(rt, plain.numbers.as_slice());
+    let list = match reply_to(rt, core, &call) {
+        Reply::LocateHandleBuffer(list) => place_of(list),
+        _ => panic!(rt; "another reply"),
+    };
+    assert_list(rt, core, list, 8, plain.status, bytes.as_slice())
+}
+
+/// Locates an interface.
+pub fn locate_protocol(
+    rt: &(impl AllocGlobal + Abort),
+    core: &mut Core<TableDriver>,
+    lists: &mut Lists,
+    draws: &mut Draws,
+) -> Status {
+    let key = drawn_key(draws, lists);
+    let mut byte = draws.guid();
+    if draws.one_of(2) {
+        byte = lists
+            .registrations
+            .iter()
+            .find(|r| r.key == key)
+            .map_or(byte, |r| r.guid);
+    }
+    let call = Call::LocateProtocol {
+        guid: guid(byte),
+        key,
+    };
+    let reply = match reply_to(rt, core, &call) {
+        Reply::LocateProtocol(value) => tell_one(rt, value),
+        _ => panic!(rt; "another reply"),
+    };
+    let plain = plain_lists::locate_protocol(rt, lists, byte, key);
+    assert_told(rt, &reply, &plain)
+}
+
+/// The byte of each GUID, all of whose bytes are that one.
+fn told_guids(rt: &(impl AllocGlobal + Abort), guids: &[Uuid]) -> Told {
+    let mut reply = tell(rt, Status::Success, &[]);
+    for name in guids {
+        let byte = name.as_bytes()[0];
+        assert!(rt; *name == guid(byte));
+        reply.numbers.push(byte as u64).expect(rt, "memory");
+    }
+    reply
+}
+
+/// Lists the GUIDs on a handle.
+pub fn protocols(
+    rt: &(impl AllocGlobal + Abort),
+    core: &mut Core<TableDriver>,
+    lists: &mut Lists,
+    draws: &mut Draws,
+) -> Status {
+    let handle = draws.handle(lists.count());
+    let reply = match reply_to(rt, core, &Call::ProtocolsPerHandle { handle }) {
+        Reply::ProtocolsPerHandle(Ok(guids)) => told_guids(rt, guids.as_slice()),
+        Reply::ProtocolsPerHandle(Err(status)) => tell(rt, status, &[]),
+        _ => panic!(rt; "another reply"),
+    };
+    assert_told(rt, &reply, &plain_lists::protocols(rt, lists, handle))
+}
