@@ -4,3 +4,5 @@ pub mod Indexed
 pub mod Stored
 pub mod Found
 pub mod Grouped
+pub mod BlockLists
+pub mod Filed

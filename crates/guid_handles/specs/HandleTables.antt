@@ -54,6 +54,10 @@ carries t guid n = is_some (interface_at t n guid)
 abbrev pub holders_of : HandleTable → List ℕ → List ℕ
 holders_of t guid = filter (carries t guid) (numbers t)
 
+-- the interfaces on a handle, in order of installation
+abbrev pub interfaces_on : HandleTable → ℕ → List Interface
+interfaces_on t n = filter (is_on n) t.interfaces
+
 -- the GUIDs on a handle, in order of installation
 abbrev pub guids_on : HandleTable → ℕ → List (List ℕ)
 guids_on t n = map (λ i. i.guid) (filter (is_on n) t.interfaces)

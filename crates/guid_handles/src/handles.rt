@@ -1,7 +1,7 @@
 //! The handle table.
 ghost use Rattle.std.specs.Prelude.{◌≡◌, ◌+◌, ◌<◌, ◌≤◌, ◌^◌, ◌==◌, cond, not, is_some, IsSome, IfNone, OnOk, Bool, true, false, nat_lt, [], ◌∷◌, map, length, None, Some, MatchOption, IfOk, OnErr, IsTrue};
 ghost use Rattle.std.specs.List.{find, filter, list_any};
-ghost use Rattle.guid_handles.specs.HandleTables.{numbers, same_guid, has_number, is_live, is_on, is_at, maker_of, interface_at, value_at, carries, holders_of, guids_on, written_over, next_after};
+ghost use Rattle.guid_handles.specs.HandleTables.{numbers, same_guid, has_number, is_live, is_on, is_at, maker_of, interface_at, value_at, carries, holders_of, interfaces_on, guids_on, written_over, next_after};
 ghost use Rattle.guid_handles.specs.HandleChanges.{IsHandleTable, max_handles, max_installed, has_guid_twice, is_dead, is_taken, past_limit, refusal, with_interfaces, with_handle, install_refusal, install_many_refusal, Installs, without_handle, without_interface, with_value};
 ghost use Rattle.guid_handles.specs.Indexes.{AreAbsent};
 
@@ -39,7 +39,7 @@ impl<A: Allocator> Model for Handles<A> {
 
     ghost view = { λ h. record { handles = h.live.items; interfaces = h.interfaces.listed.items; last_number = h.last_number; last_stamp = h.last_stamp } };
 
-    ghost invariant = { λ h. IsStore (record { handles = h.live.items; interfaces = h.interfaces.listed.items; last_number = h.last_number; last_stamp = h.last_stamp }) h.numbers.items h.interfaces.groups };
+    ghost invariant = { λ h. IsStore (record { handles = h.live.items; interfaces = h.interfaces.listed.items; last_number = h.last_number; last_stamp = h.last_stamp }) h.numbers.items h.interfaces.groups h.interfaces.blocks };
 }
 
 impl<A: Allocator + Copy> Handles<A> {
@@ -125,6 +125,21 @@ impl<A: Allocator + Copy> Handles<A> {
         self.interfaces.groups.holders(guid)
     }
 
+    /// Interfaces on some handles that lie next to each other, and among them all on a handle, in
+    /// order of installation.
+    pub fn near(&self, handle: u64) -> &[Interface]
+        ensures { filter (is_on handle) result.now ≡ interfaces_on self.now handle }
+    {
+        self.interfaces.blocks.near(handle)
+    }
+
+    /// Whether a handle carries an interface.
+    fn has_any(&self, handle: u64) -> bool
+        ensures { result ≡ list_any (is_on handle) self.now.interfaces }
+    {
+        has_any_on(self.near(handle), handle)
+    }
+
     /// Writes the GUIDs on a live handle in order of installation, as many as fit, and answers how
     /// many there are.
     pub fn protocols_of(&self, handle: u64, guids: &mut [Uuid]) -> Option<usize>
@@ -133,7 +148,7 @@ impl<A: Allocator + Copy> Handles<A> {
         ensures none { IfNone result (guids.new ≡ guids.old) }
     {
         if self.is_live(handle) {
-            Some(write_guids(self.interfaces.listed.as_slice(), handle, guids))
+            Some(write_guids(self.near(handle), handle, guids))
         } else {
             None
         }
@@ -353,7 +368,7 @@ impl<A: Allocator + Copy> Handles<A> {
         ensures { self.new ≡ without_interface handle guid self.old }
     {
         self.take_out(handle, guid);
-        if !has_any_on(self.interfaces.listed.as_slice(), handle) {
+        if !self.has_any(handle) {
             self.remove_handle(handle);
         }
     }
