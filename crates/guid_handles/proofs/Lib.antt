@@ -6,3 +6,5 @@ pub mod Found
 pub mod Grouped
 pub mod BlockLists
 pub mod Filed
+pub mod Apart
+pub mod Following

@@ -5,13 +5,14 @@ use Rattle.std.proofs.lemmas.Bool.{cases_Bool, ne_eqb, eq-eqb}
 use Rattle.guid_handles.specs.declared.records.Interface.{Interface}
 use Rattle.guid_handles.specs.declared.records.LiveHandle.{LiveHandle}
 use Rattle.guid_handles.specs.HandleTables.{HandleTable, numbers, is_on, is_at, is_live, has_number, carries, holders_of}
-use Rattle.guid_handles.specs.HandleChanges.{IsHandleTable, max_handles, is_taken, stamped, restamped, with_interfaces, with_handle, with_value, without_handle}
+use Rattle.guid_handles.specs.HandleChanges.{IsHandleTable, max_handles, is_taken, has_guid_twice, stamped, restamped, with_interfaces, with_handle, with_value, without_handle}
 use Rattle.guid_handles.specs.Sorting.{Ascending}
 use Rattle.guid_handles.specs.Indexes.{Group, grouped_at, AreOn, AreAbsent}
 use Rattle.guid_handles.specs.Nearby.{Block, AreFiled}
-use Rattle.guid_handles.specs.Stores.{IsStore}
+use Rattle.guid_handles.specs.Stores.{AreApart, IsStore}
 use Rattle.guid_handles.proofs.SortedLists.{those_among, filter_same, all_of, all_map, all_mapped, all_push, all_append, all_filter, all_filtered, any_map, any_found, any_push, any_last, any_kept, any_member, filter_map_filter, filter_shorter, map_append, ascending_filter, ascending_push, find_none}
 use Rattle.guid_handles.proofs.Indexed.{restamped_handle}
+use Rattle.guid_handles.proofs.Apart.{apart_more, apart_restamped, below_more, below_restamped}
 use Rattle.guid_handles.proofs.Found.{among_own, carried_live, live_is}
 
 -- the handles of a GUID are those on which the groups have it
@@ -37,6 +38,8 @@ store_without_interface t ns groups gs blocks bs n guid s filed = record {
     on_live = all_filter (λ i. list_any (λ m. nat_eq m i.handle) (numbers t) ≡ true) (λ i. not (is_at n guid i)) t.interfaces s.table.on_live;
   };
   numbered = s.numbered;
+  apart = ascending_filter AreApart (λ i. not (is_at n guid i)) t.interfaces s.apart;
+  below = all_filter (λ i. i.stamp ≤ t.last_stamp) (λ i. not (is_at n guid i)) t.interfaces s.below;
   filed = filed;
 }
 
@@ -58,6 +61,8 @@ store_without_handle t ns groups gs blocks bs n s filed =
         on_live = rw e (left_on_live n (numbers t) t.interfaces s.table.on_live);
       };
       numbered = rw (e, s.numbered);
+      apart = ascending_filter AreApart (λ i. not (is_on n i)) t.interfaces s.apart;
+      below = all_filter (λ i. i.stamp ≤ t.last_stamp) (λ i. not (is_on n i)) t.interfaces s.below;
       filed = filed;
     }
 
@@ -79,6 +84,8 @@ store_with_value t ns groups gs blocks bs n guid value s filed = record {
     on_live = restamped_on_live n guid value (t.last_stamp + 1) (numbers t) t.interfaces s.table.on_live;
   };
   numbered = s.numbered;
+  apart = apart_restamped n guid value t.last_stamp t.interfaces s.below s.apart;
+  below = below_restamped n guid value t.last_stamp t.interfaces s.below;
   filed = filed;
 }
 
@@ -92,10 +99,10 @@ stamped_on P n stamp (p ∷ ps) h = (h, stamped_on P n (stamp + 1) ps h)
 pub live_number : (t : HandleTable) (n : ℕ) → is_live t n ≡ true → list_any (λ m. nat_eq m n) (numbers t) ≡ true
 live_number t n h = any_map (λ (l : LiveHandle). l.number) (λ m. nat_eq m n) t.handles ∙ sym (any_found (has_number n) t.handles) ∙ h
 
-pub store_with_interfaces : (t : HandleTable) (ns : List ℕ) (groups gs : List Group) (blocks bs : List Block) (n : ℕ) (pairs : List (List ℕ × ℕ)) → IsStore t ns groups blocks → is_live t n ≡ true
+pub store_with_interfaces : (t : HandleTable) (ns : List ℕ) (groups gs : List Group) (blocks bs : List Block) (n : ℕ) (pairs : List (List ℕ × ℕ)) → IsStore t ns groups blocks → is_live t n ≡ true → AreAbsent n pairs t.interfaces → has_guid_twice pairs ≡ false
     → AreFiled (t.interfaces ++ stamped n t.last_stamp pairs) gs bs
     → IsStore (with_interfaces n pairs t) ns gs bs
-store_with_interfaces t ns groups gs blocks bs n pairs s live filed = record {
+store_with_interfaces t ns groups gs blocks bs n pairs s live absent once filed = record {
   table = record {
     ascending = s.table.ascending;
     given = s.table.given;
@@ -104,6 +111,8 @@ store_with_interfaces t ns groups gs blocks bs n pairs s live filed = record {
         (stamped_on (λ h. list_any (λ m. nat_eq m h) (numbers t)) n t.last_stamp pairs (live_number t n live));
   };
   numbered = s.numbered;
+  apart = apart_more n t.last_stamp pairs t.interfaces absent once s.below s.apart;
+  below = below_more n t.last_stamp pairs t.interfaces s.below;
   filed = filed;
 }
 
@@ -126,6 +135,8 @@ store_with_handle t ns groups blocks maker s room =
         on_live = rw e (with_handle_on_live (t.last_number + 1) (numbers t) t.interfaces s.table.on_live);
       };
       numbered = rw (e, s.numbered);
+      apart = s.apart;
+      below = s.below;
       filed = s.filed;
     }
 
@@ -150,7 +161,7 @@ absent_on_new t h (p ∷ ps) = (find_none (is_at (t.last_number + 1) p.0) t.inte
 
 -- nothing comes
 pub store_same : (t : HandleTable) (ns : List ℕ) (groups gs : List Group) (blocks bs : List Block) → IsStore t ns groups blocks → AreFiled t.interfaces gs bs → IsStore t ns gs bs
-store_same t ns groups gs blocks bs s filed = record { table = s.table; numbered = s.numbered; filed = filed }
+store_same t ns groups gs blocks bs s filed = record { table = s.table; numbered = s.numbered; apart = s.apart; below = s.below; filed = filed }
 
 none_found : {X : Type 0} (o : Option X) → is_some o ≡ false → o ≡ None
 none_found None h = refl
@@ -164,8 +175,8 @@ absent_from t n (p ∷ ps) z h = elim (cases_Bool (is_taken t n p.0)) [
 ]
 
 -- a new handle comes, with interfaces on it
-pub store_with_new : (t : HandleTable) (ns : List ℕ) (groups gs : List Group) (blocks bs : List Block) (maker : Option (ℕ × ℕ)) (pairs : List (List ℕ × ℕ)) → IsStore t ns groups blocks → length t.handles < max_handles
+pub store_with_new : (t : HandleTable) (ns : List ℕ) (groups gs : List Group) (blocks bs : List Block) (maker : Option (ℕ × ℕ)) (pairs : List (List ℕ × ℕ)) → IsStore t ns groups blocks → length t.handles < max_handles → AreAbsent (t.last_number + 1) pairs t.interfaces → has_guid_twice pairs ≡ false
     → AreFiled (t.interfaces ++ stamped (t.last_number + 1) t.last_stamp pairs) gs bs
     → IsStore (with_interfaces (t.last_number + 1) pairs (with_handle maker t)) (ns ++ (t.last_number + 1) ∷ []) gs bs
-store_with_new t ns groups gs blocks bs maker pairs s room filed =
-    store_with_interfaces (with_handle maker t) (ns ++ (t.last_number + 1) ∷ []) groups gs blocks bs (t.last_number + 1) pairs (store_with_handle t ns groups blocks maker s room) (new_is_live t maker) filed
+store_with_new t ns groups gs blocks bs maker pairs s room absent once filed =
+    store_with_interfaces (with_handle maker t) (ns ++ (t.last_number + 1) ∷ []) groups gs blocks bs (t.last_number + 1) pairs (store_with_handle t ns groups blocks maker s room) (new_is_live t maker) absent once filed

@@ -79,6 +79,10 @@ abbrev pub earliest : List Interface → Option Interface
 earliest [] = None
 earliest (i ∷ is) = earlier_of i (earliest is)
 
+-- an interface is of a GUID and has a stamp above a mark
+abbrev pub is_after : List ℕ → ℕ → Interface → Bool
+is_after guid mark i = is_of guid i && nat_lt mark i.stamp
+
 -- the handle and the stamp of the interface of a GUID with the least stamp above a mark
 abbrev pub next_after : HandleTable → List ℕ → ℕ → Option (ℕ × ℕ)
-next_after t guid mark = option_map (λ i. (i.handle, i.stamp)) (earliest (filter (λ i. is_of guid i && nat_lt mark i.stamp) t.interfaces))
+next_after t guid mark = option_map (λ i. (i.handle, i.stamp)) (earliest (filter (is_after guid mark) t.interfaces))

@@ -10,4 +10,5 @@ pub invariant_of-self-2 : goal.invariant_of-self-2
 invariant_of-self-2 g c =
     rw c.in_ok-add_all.ensures.ok
     (store_with_interfaces _ _ _ _ _ _ c.args.handle c.args.pairs.now c.self.invariant (rw (← c.self.view_is) at c.requires.live)
+    (rw (← c.self.view_is) at c.requires.absent) c.requires.once
     (rw c.in_ok-add_all.ensures.ok at c.add_all.ensures.filed))
