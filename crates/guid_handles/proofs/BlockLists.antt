@@ -7,7 +7,7 @@ use Rattle.std.proofs.lemmas.Bool.{cases_Bool, eq-eqb, ne_eqb, ltb-true, le-ltb}
 use Rattle.std.proofs.lemmas.Option.{same_Some}
 use Rattle.guid_handles.specs.declared.records.Interface.{Interface}
 use Rattle.guid_handles.specs.Sorting.{Ascending, place, kept_if}
-use Rattle.guid_handles.proofs.SortedLists.{all_map, all_mapped, all_under, found_none, find_none, find_split, find_insert_other, find_insert_new, ascending_insert, map_insert, place_map, numbers_split}
+use Rattle.guid_handles.proofs.SortedLists.{all_map, all_mapped, all_under, found_none, find_none, find_split, find_insert_other, find_insert_new, ascending_insert, ascending_remove, map_remove, map_insert, place_map, numbers_split}
 use Rattle.guid_handles.proofs.Grouped.{find_set_new, find_set_other, insert_there, place_insert, kept_one, one_there, none_of, some_map, is_same, above}
 use Rattle.guid_handles.specs.Nearby.{Block, IsPlaceOf, AscendByNumber, ChangesBlock, changed_block, members_in, members_of, is_numbered}
 
@@ -167,24 +167,6 @@ members_remove blocks n at k a p e z m =
       | inl y ↦ rw (← is_same n m y) (ap members_of (find_remove_own blocks n at k a e same) ∙ sym z ∙ sym (members_there blocks n at k p e))
       | inr f ↦ ap members_of (find_remove_other (is_numbered m) blocks at k e (rw same f))
     ]
-
-pub all_remove : {X : Type 0} (P : X → Type 0) (xs : List X) (at : ℕ) → AllByRecursion P xs → AllByRecursion P (remove xs at)
-all_remove P [] zero h = tt
-all_remove P [] (suc at) h = tt
-all_remove P (x ∷ xs) zero h = h.1
-all_remove P (x ∷ xs) (suc at) h = (h.0, all_remove P xs at h.1)
-
-pub ascending_remove : {X : Type 0} (R : X → X → Type 0) (xs : List X) (at : ℕ) → Ascending R xs → Ascending R (remove xs at)
-ascending_remove R [] zero h = tt
-ascending_remove R [] (suc at) h = tt
-ascending_remove R (x ∷ xs) zero h = h.1
-ascending_remove R (x ∷ xs) (suc at) h = (all_remove (R x) xs at h.0, ascending_remove R xs at h.1)
-
-pub map_remove : {X Y : Type 0} (f : X → Y) (xs : List X) (at : ℕ) → map f (remove xs at) ≡ remove (map f xs) at
-map_remove f [] zero = refl
-map_remove f [] (suc at) = refl
-map_remove f (x ∷ xs) zero = refl
-map_remove f (x ∷ xs) (suc at) = ap (λ r. f x ∷ r) (map_remove f xs at)
 
 pub ascend_remove : (blocks : List Block) (at : ℕ) → AscendByNumber blocks → AscendByNumber (remove blocks at)
 ascend_remove blocks at a = rw (map_remove (λ k. k.number) blocks at) (ascending_remove (λ x y. x < y) (map (λ k. k.number) blocks) at a)

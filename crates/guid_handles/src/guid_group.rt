@@ -6,9 +6,9 @@ ghost use Rattle.guid_handles.specs.HandleChanges.{restamped};
 ghost use Rattle.guid_handles.specs.Sorting.{Ascending};
 ghost use Rattle.guid_handles.specs.Indexes.{IsNextOf, handles_of, with_member, without_member};
 
-use crate::interfaces::{drop_all_on, restamp};
+use crate::interfaces::restamp;
 use crate::records::Interface;
-use crate::room::{drop_number, insert_with_room};
+use crate::room::insert_with_room;
 use crate::searches::{count_less, find_after, member_if};
 use std::alloc::{AllocError, Allocator};
 use std::marker::Model;
@@ -106,8 +106,11 @@ impl<A: Allocator + Copy> GuidGroup<A> {
     pub(crate) fn remove(&mut self, handle: u64)
         ensures { self.new ≡ without_member handle self.old }
     {
-        drop_all_on(&mut self.members, handle);
-        drop_number(&mut self.holders, handle);
+        let at = count_less(self.holders.as_slice(), handle);
+        if member_if(self.members.as_slice(), at, handle).is_some() {
+            self.members.remove(at);
+            self.holders.remove(at);
+        }
     }
 
     /// Gives the interface on a handle a value and a stamp.
