@@ -28,7 +28,7 @@ pub(crate) fn protocols_on<A: Allocator + Copy>(
     ensures { IfOk result (λ v. v.items ≡ spec.protocols_on handles.now opens.now handle) }
 {
     let mut found = Vec::new(alloc);
-    let interfaces = handles.interfaces();
+    let interfaces = handles.near(handle);
     for i in interfaces {
         if i.handle == handle {
             found.push(protocol_view(i, opens))?;

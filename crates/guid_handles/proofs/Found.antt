@@ -109,7 +109,7 @@ first_holder_live t guid n ns e =
 pub interfaces_live : (t : HandleTable) → IsHandleTable t → AllByRecursion (λ i. is_live t i.handle ≡ true) t.interfaces
 interfaces_live t h = all_map (λ i. list_any (λ m. nat_eq m i.handle) (numbers t) ≡ true) (λ i. is_live t i.handle ≡ true) (λ i k. live_is t i.handle ∙ k) t.interfaces h.on_live
 
-found_one : (P : Interface → Type 0) (p : Interface → Bool) (is : List Interface) (i : Interface) → AllByRecursion P is → find p is ≡ Some i → (p i ≡ true) × P i
+pub found_one : (P : Interface → Type 0) (p : Interface → Bool) (is : List Interface) (i : Interface) → AllByRecursion P is → find p is ≡ Some i → (p i ≡ true) × P i
 found_one P p [] i a e = absurd cc
 found_one P p (x ∷ xs) i a e = elim (cases_Bool (p x)) [
   | inl k ↦ subst (λ (y : Interface). (p y ≡ true) × P y) (same_Some x i (rw k at e)) (k, a.0)

@@ -1,7 +1,7 @@
 -- What is found in a group, and what is found in groups once one of them has changed.
 use Rattle.std.proofs.Math.ListN.{set}
 use Rattle.std.proofs.Common.{get_or, take, ◌&&◌, ◌≡◌, ℕ, zero, suc, ◌<◌, ◌≤◌, ◌==◌, nat_lt, not, Bool, true, false, cond, List, [], ◌∷◌, map, length, Option, Some, None, is_some, inl, inr, refl, sym, ap, ◌∙◌, arith, subst}
-use Rattle.std.specs.List.{filter, find, list_any, AllByRecursion, slice_get, insert}
+use Rattle.std.specs.List.{filter, find, list_any, AllByRecursion, slice_get, insert, remove}
 use Rattle.std.specs.Option.{option_map, option_and_then}
 use Rattle.std.specs.declared.cmp.Ordering.TheVariants.{Less}
 use Rattle.std.specs.Ordering.{nat_cmp, is_lt, is_eq}
@@ -10,12 +10,13 @@ use Rattle.std.proofs.lemmas.Cmp.{nat_list_cmp_total}
 use Rattle.std.proofs.lemmas.Bool.{cases_Bool, ltb-true, ltb-false}
 use Rattle.std.proofs.lemmas.Bool.Decides.{eqb_tells}
 use Rattle.std.proofs.lemmas.Option.{same_Some}
+use Rattle.std.proofs.lemmas.List.{length-map}
 use Rattle.guid_handles.specs.declared.records.Interface.{Interface}
 use Rattle.guid_handles.specs.HandleTables.{same_guid, is_on}
 use Rattle.guid_handles.specs.HandleChanges.{restamped}
 use Rattle.guid_handles.specs.Sorting.{Ascending, place, kept_if}
 use Rattle.guid_handles.specs.Indexes.{Group, AreHolders, handles_of, is_group_of, is_before, AscendByGuid, IsPlaceOf, with_member, without_member, grouped_at}
-use Rattle.guid_handles.proofs.SortedLists.{all_mapped, found_none, find_split, find_map, find_filter, find_insert_other, find_insert_new, ascending_insert, ascending_filter, map_insert, map_same, place_map, numbers_split, filter_map_filter, any_found, any_map}
+use Rattle.guid_handles.proofs.SortedLists.{all_mapped, found_none, find_split, find_map, find_filter, find_insert_other, find_insert_new, ascending_insert, ascending_filter, map_insert, map_same, place_map, numbers_split, filter_map_filter, any_found, any_map, ascending_remove, map_remove, filter_at, filter_not_at}
 use Rattle.guid_handles.proofs.GuidOrder.{same_guid-true, same_guid-refl, guid_splits, is_less, less_from, greater_of, not_before_itself, and_false, and_true}
 use Rattle.guid_handles.proofs.Indexed.{restamped_handle, HasOneMore, taken, turned}
 
@@ -56,6 +57,25 @@ pub holders_without : (members : List Interface) (hs : List ℕ) (n : ℕ) → A
 holders_without members hs n a = record {
   ascending = ascending_filter (λ a b. a < b) (λ m. not (m == n)) hs a.ascending;
   holders = ap (filter (λ m. not (m == n))) a.holders ∙ sym (filter_map_filter (λ (i : Interface). i.handle) (λ m. not (m == n)) members);
+}
+
+-- the interface at a place goes
+pub removed_at : (members : List Interface) (hs : List ℕ) (n at : ℕ) → AreHolders members hs → at ≡ place (λ m. nat_lt m n) hs → is_some (kept_if (is_on n) (slice_get members at)) ≡ true
+    → filter (λ i. not (is_on n i)) members ≡ remove members at
+removed_at members hs n at a e s =
+    let p : at ≡ place (λ i. nat_lt i.handle n) members = place_members members hs n at a e in
+    rw p (filter_at (λ i. i.handle) n members (subst (Ascending (λ a b. a < b)) a.holders a.ascending) (rw p at s))
+
+pub removed_none : (members : List Interface) (hs : List ℕ) (n at : ℕ) → AreHolders members hs → at ≡ place (λ m. nat_lt m n) hs → is_some (kept_if (is_on n) (slice_get members at)) ≡ false
+    → filter (λ i. not (is_on n i)) members ≡ members
+removed_none members hs n at a e s =
+    let p : at ≡ place (λ i. nat_lt i.handle n) members = place_members members hs n at a e in
+    filter_not_at (λ i. i.handle) n members (subst (Ascending (λ a b. a < b)) a.holders a.ascending) (rw p at s)
+
+pub holders_removed : (members : List Interface) (hs : List ℕ) (at : ℕ) → AreHolders members hs → AreHolders (remove members at) (remove hs at)
+holders_removed members hs at a = record {
+  ascending = ascending_remove (λ a b. a < b) hs at a.ascending;
+  holders = ap (λ l. remove l at) a.holders ∙ sym (map_remove (λ i. i.handle) members at);
 }
 
 pub holders_restamped : (members : List Interface) (hs : List ℕ) (n : ℕ) (guid : List ℕ) (value stamp : ℕ) → AreHolders members hs → AreHolders (map (restamped n guid value stamp) members) hs

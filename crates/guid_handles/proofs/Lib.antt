@@ -4,3 +4,7 @@ pub mod Indexed
 pub mod Stored
 pub mod Found
 pub mod Grouped
+pub mod BlockLists
+pub mod Filed
+pub mod Apart
+pub mod Following

@@ -1,8 +1,8 @@
 -- Lists in order: where a test stops passing, what is found there, and what insertions, filters and changes keep.
 use Rattle.std.proofs.Math.Seq.{drop-cons}
 use Rattle.std.proofs.Math.ListN.{set}
-use Rattle.std.proofs.Common.{append_assoc, add-one, ◌≡◌, ◌⊎◌, ℕ, zero, suc, ◌+◌, ◌<◌, ◌≤◌, ◌==◌, ◌||◌, nat_lt, subst, Bool, true, false, cond, List, [], ◌∷◌, ◌++◌, map, length, take, drop, get_or, Some, None, is_some, inl, inr, refl, sym, ap, ◌∙◌, arith}
-use Rattle.std.specs.List.{filter, find, list_any, AllByRecursion, slice_get, insert}
+use Rattle.std.proofs.Common.{append_assoc, add-one, ◌≡◌, ◌⊎◌, ℕ, zero, suc, ◌+◌, ◌<◌, ◌≤◌, ◌==◌, ◌||◌, nat_lt, not, subst, Bool, true, false, cond, List, [], ◌∷◌, ◌++◌, map, length, take, drop, get_or, Option, Some, None, is_some, inl, inr, refl, sym, ap, ◌∙◌, arith}
+use Rattle.std.specs.List.{filter, find, list_any, AllByRecursion, slice_get, insert, remove}
 use Rattle.std.specs.List.Sorted.{IsPartitionedBy, IsPartitionPoint}
 use Rattle.std.specs.Option.{option_map}
 use Rattle.std.specs.declared.cmp.Ordering.{Ordering}
@@ -383,3 +383,55 @@ filter_next p xs k x l e = filter_more p xs k x l ∙ ap (λ y. filter p (take k
 
 pub one_written : {X : Type 0} (xs : List X) (y : X) (count : ℕ) (now out : List X) → count ≡ length xs → now ≡ written_over xs out → set now count y ≡ written_over (xs ++ y ∷ []) out
 one_written xs y count now out a b = rw a (rw b (sym (written_more xs y out)))
+
+-- ---- one of a number goes
+
+pub all_remove : {X : Type 0} (P : X → Type 0) (xs : List X) (at : ℕ) → AllByRecursion P xs → AllByRecursion P (remove xs at)
+all_remove P [] zero h = tt
+all_remove P [] (suc at) h = tt
+all_remove P (x ∷ xs) zero h = h.1
+all_remove P (x ∷ xs) (suc at) h = (h.0, all_remove P xs at h.1)
+
+pub ascending_remove : {X : Type 0} (R : X → X → Type 0) (xs : List X) (at : ℕ) → Ascending R xs → Ascending R (remove xs at)
+ascending_remove R [] zero h = tt
+ascending_remove R [] (suc at) h = tt
+ascending_remove R (x ∷ xs) zero h = h.1
+ascending_remove R (x ∷ xs) (suc at) h = (all_remove (R x) xs at h.0, ascending_remove R xs at h.1)
+
+pub map_remove : {X Y : Type 0} (f : X → Y) (xs : List X) (at : ℕ) → map f (remove xs at) ≡ remove (map f xs) at
+map_remove f [] zero = refl
+map_remove f [] (suc at) = refl
+map_remove f (x ∷ xs) zero = refl
+map_remove f (x ∷ xs) (suc at) = ap (λ r. f x ∷ r) (map_remove f xs at)
+
+filter_whole : {X : Type 0} (p : X → Bool) (xs : List X) → AllByRecursion (λ x. p x ≡ false) xs → filter (λ x. not (p x)) xs ≡ xs
+filter_whole p [] h = refl
+filter_whole p (x ∷ xs) h = rw h.0 (ap (λ r. x ∷ r) (filter_whole p xs h.1))
+
+pub filter_at : {X : Type 0} (number : X → ℕ) (n : ℕ) (xs : List X) → Ascending (λ a b. a < b) (map number xs) → is_some (kept_if (λ x. number x == n) (slice_get xs (place (λ x. nat_lt (number x) n) xs))) ≡ true
+    → filter (λ x. not (number x == n)) xs ≡ remove xs (place (λ x. nat_lt (number x) n) xs)
+filter_at number n [] a h = cc
+filter_at number n (x ∷ xs) a h = elim (cases_Bool (nat_lt (number x) n)) [
+  | inl e ↦
+      let f : (number x == n) ≡ false = ne_eqb (number x) n (λ w. omega (arith, ltb-true (number x) n e, w)) in
+      rw e (rw f (ap (λ r. x ∷ r) (filter_at number n xs a.1 (rw e at h))))
+  | inr e ↦ elim (eqb_tells (number x) n) [
+    | inl t ↦
+        rw e (rw t.0
+        (filter_whole (λ y. number y == n) xs
+        (all_numbered number (λ m. number x < m) (λ m. (m == n) ≡ false) (λ m l. ne_eqb m n (λ w. omega (arith, l, w, t.1))) xs a.0)))
+    | inr f ↦ let k = rw e at h in let w = rw f.0 at k in cc
+  ]
+]
+
+none_some : {X : Type 0} (o : Option X) → is_some o ≡ false → o ≡ None
+none_some None h = refl
+none_some (Some x) h = cc
+
+pub filter_not_at : {X : Type 0} (number : X → ℕ) (n : ℕ) (xs : List X) → Ascending (λ a b. a < b) (map number xs) → is_some (kept_if (λ x. number x == n) (slice_get xs (place (λ x. nat_lt (number x) n) xs))) ≡ false
+    → filter (λ x. not (number x == n)) xs ≡ xs
+filter_not_at number n xs a h =
+    filter_whole (λ x. number x == n) xs
+    (found_none (λ x. number x == n) xs
+    (find_split (λ x. nat_lt (number x) n) (λ x. number x == n) xs (numbers_split number n xs a)
+    ∙ none_some (kept_if (λ x. number x == n) (slice_get xs (place (λ x. nat_lt (number x) n) xs))) h))

@@ -5,19 +5,21 @@ use Rattle.std.proofs.lemmas.Bool.{cases_Bool, ne_eqb, eq-eqb}
 use Rattle.guid_handles.specs.declared.records.Interface.{Interface}
 use Rattle.guid_handles.specs.declared.records.LiveHandle.{LiveHandle}
 use Rattle.guid_handles.specs.HandleTables.{HandleTable, numbers, is_on, is_at, is_live, has_number, carries, holders_of}
-use Rattle.guid_handles.specs.HandleChanges.{IsHandleTable, max_handles, is_taken, stamped, restamped, with_interfaces, with_handle, with_value, without_handle}
+use Rattle.guid_handles.specs.HandleChanges.{IsHandleTable, max_handles, is_taken, has_guid_twice, stamped, restamped, with_interfaces, with_handle, with_value, without_handle}
 use Rattle.guid_handles.specs.Sorting.{Ascending}
-use Rattle.guid_handles.specs.Indexes.{Group, grouped_at, IsIndex, AreOn, AreAbsent}
-use Rattle.guid_handles.specs.Stores.{IsStore}
+use Rattle.guid_handles.specs.Indexes.{Group, grouped_at, AreOn, AreAbsent}
+use Rattle.guid_handles.specs.Nearby.{Block, AreFiled}
+use Rattle.guid_handles.specs.Stores.{AreApart, IsStore}
 use Rattle.guid_handles.proofs.SortedLists.{those_among, filter_same, all_of, all_map, all_mapped, all_push, all_append, all_filter, all_filtered, any_map, any_found, any_push, any_last, any_kept, any_member, filter_map_filter, filter_shorter, map_append, ascending_filter, ascending_push, find_none}
 use Rattle.guid_handles.proofs.Indexed.{restamped_handle}
+use Rattle.guid_handles.proofs.Apart.{apart_more, apart_restamped, below_more, below_restamped}
 use Rattle.guid_handles.proofs.Found.{among_own, carried_live, live_is}
 
 -- the handles of a GUID are those on which the groups have it
-pub by_guid : (t : HandleTable) (ns : List ℕ) (groups : List Group) → IsStore t ns groups → (guid hs : List ℕ) → Ascending (λ a b. a < b) hs
+pub by_guid : (t : HandleTable) (ns : List ℕ) (groups : List Group) (blocks : List Block) → IsStore t ns groups blocks → (guid hs : List ℕ) → Ascending (λ a b. a < b) hs
     → ((n : ℕ) → list_any (λ h. h == n) hs ≡ is_some (grouped_at groups guid n)) → hs ≡ holders_of t guid
-by_guid t ns groups s guid hs ascending those =
-    let told : (n : ℕ) → list_any (λ h. h == n) hs ≡ carries t guid n = λ n. those n ∙ ap is_some (s.index n guid) in
+by_guid t ns groups blocks s guid hs ascending those =
+    let told : (n : ℕ) → list_any (λ h. h == n) hs ≡ carries t guid n = λ n. those n ∙ ap is_some (s.filed.by_guid n guid) in
     sym (filter_same (carries t guid) (λ n. list_any (λ h. h == n) hs) (numbers t) (all_of (λ n. carries t guid n ≡ list_any (λ h. h == n) hs) (λ n. sym (told n)) (numbers t))
     ∙ those_among (numbers t) hs s.table.ascending ascending
     (all_map (λ h. list_any (λ k. nat_eq k h) hs ≡ true) (λ h. list_any (λ n. nat_eq n h) (numbers t) ≡ true)
@@ -25,10 +27,10 @@ by_guid t ns groups s guid hs ascending those =
 
 -- ---- fewer
 
-pub store_without_interface : (t : HandleTable) (ns : List ℕ) (groups new : List Group) (n : ℕ) (guid : List ℕ) → IsStore t ns groups
-    → IsIndex (filter (λ i. not (is_at n guid i)) t.interfaces) new
-    → IsStore (record t { interfaces = filter (λ i. not (is_at n guid i)) t.interfaces }) ns new
-store_without_interface t ns groups new n guid s index = record {
+pub store_without_interface : (t : HandleTable) (ns : List ℕ) (groups gs : List Group) (blocks bs : List Block) (n : ℕ) (guid : List ℕ) → IsStore t ns groups blocks
+    → AreFiled (filter (λ i. not (is_at n guid i)) t.interfaces) gs bs
+    → IsStore (record t { interfaces = filter (λ i. not (is_at n guid i)) t.interfaces }) ns gs bs
+store_without_interface t ns groups gs blocks bs n guid s filed = record {
   table = record {
     ascending = s.table.ascending;
     given = s.table.given;
@@ -36,7 +38,9 @@ store_without_interface t ns groups new n guid s index = record {
     on_live = all_filter (λ i. list_any (λ m. nat_eq m i.handle) (numbers t) ≡ true) (λ i. not (is_at n guid i)) t.interfaces s.table.on_live;
   };
   numbered = s.numbered;
-  index = index;
+  apart = ascending_filter AreApart (λ i. not (is_at n guid i)) t.interfaces s.apart;
+  below = all_filter (λ i. i.stamp ≤ t.last_stamp) (λ i. not (is_at n guid i)) t.interfaces s.below;
+  filed = filed;
 }
 
 left_on_live : (n : ℕ) (ns : List ℕ) (is : List Interface) → AreOn ns is → AreOn (filter (λ m. not (m == n)) ns) (filter (λ i. not (is_on n i)) is)
@@ -44,10 +48,10 @@ left_on_live n ns is a =
     all_filtered (λ i. list_any (λ m. nat_eq m i.handle) (filter (λ m. not (m == n)) ns) ≡ true) (λ i. list_any (λ m. nat_eq m i.handle) ns ≡ true) (λ i. not (is_on n i))
     (λ i k h. any_kept i.handle (λ m. not (m == n)) ns k h) is a
 
-pub store_without_handle : (t : HandleTable) (ns : List ℕ) (groups new : List Group) (n : ℕ) → IsStore t ns groups
-    → IsIndex (filter (λ i. not (is_on n i)) t.interfaces) new
-    → IsStore (without_handle n t) (filter (λ m. not (m == n)) ns) new
-store_without_handle t ns groups new n s index =
+pub store_without_handle : (t : HandleTable) (ns : List ℕ) (groups gs : List Group) (blocks bs : List Block) (n : ℕ) → IsStore t ns groups blocks
+    → AreFiled (filter (λ i. not (is_on n i)) t.interfaces) gs bs
+    → IsStore (without_handle n t) (filter (λ m. not (m == n)) ns) gs bs
+store_without_handle t ns groups gs blocks bs n s filed =
     let e : numbers (without_handle n t) ≡ filter (λ m. not (m == n)) (numbers t) = filter_map_filter (λ (h : LiveHandle). h.number) (λ m. not (m == n)) t.handles in
     record {
       table = record {
@@ -57,7 +61,9 @@ store_without_handle t ns groups new n s index =
         on_live = rw e (left_on_live n (numbers t) t.interfaces s.table.on_live);
       };
       numbered = rw (e, s.numbered);
-      index = index;
+      apart = ascending_filter AreApart (λ i. not (is_on n i)) t.interfaces s.apart;
+      below = all_filter (λ i. i.stamp ≤ t.last_stamp) (λ i. not (is_on n i)) t.interfaces s.below;
+      filed = filed;
     }
 
 -- ---- changed
@@ -67,10 +73,10 @@ restamped_on_live n guid value stamp ns is a =
     all_mapped (λ i. list_any (λ m. nat_eq m i.handle) ns ≡ true) (λ i. list_any (λ m. nat_eq m i.handle) ns ≡ true) (restamped n guid value stamp)
     (λ i h. rw (restamped_handle n guid value stamp i) h) is a
 
-pub store_with_value : (t : HandleTable) (ns : List ℕ) (groups new : List Group) (n : ℕ) (guid : List ℕ) (value : ℕ) → IsStore t ns groups
-    → IsIndex (map (restamped n guid value (t.last_stamp + 1)) t.interfaces) new
-    → IsStore (with_value n guid value t) ns new
-store_with_value t ns groups new n guid value s index = record {
+pub store_with_value : (t : HandleTable) (ns : List ℕ) (groups gs : List Group) (blocks bs : List Block) (n : ℕ) (guid : List ℕ) (value : ℕ) → IsStore t ns groups blocks
+    → AreFiled (map (restamped n guid value (t.last_stamp + 1)) t.interfaces) gs bs
+    → IsStore (with_value n guid value t) ns gs bs
+store_with_value t ns groups gs blocks bs n guid value s filed = record {
   table = record {
     ascending = s.table.ascending;
     given = s.table.given;
@@ -78,7 +84,9 @@ store_with_value t ns groups new n guid value s index = record {
     on_live = restamped_on_live n guid value (t.last_stamp + 1) (numbers t) t.interfaces s.table.on_live;
   };
   numbered = s.numbered;
-  index = index;
+  apart = apart_restamped n guid value t.last_stamp t.interfaces s.below s.apart;
+  below = below_restamped n guid value t.last_stamp t.interfaces s.below;
+  filed = filed;
 }
 
 -- ---- more
@@ -91,10 +99,10 @@ stamped_on P n stamp (p ∷ ps) h = (h, stamped_on P n (stamp + 1) ps h)
 pub live_number : (t : HandleTable) (n : ℕ) → is_live t n ≡ true → list_any (λ m. nat_eq m n) (numbers t) ≡ true
 live_number t n h = any_map (λ (l : LiveHandle). l.number) (λ m. nat_eq m n) t.handles ∙ sym (any_found (has_number n) t.handles) ∙ h
 
-pub store_with_interfaces : (t : HandleTable) (ns : List ℕ) (groups new : List Group) (n : ℕ) (pairs : List (List ℕ × ℕ)) → IsStore t ns groups → is_live t n ≡ true
-    → IsIndex (t.interfaces ++ stamped n t.last_stamp pairs) new
-    → IsStore (with_interfaces n pairs t) ns new
-store_with_interfaces t ns groups new n pairs s live index = record {
+pub store_with_interfaces : (t : HandleTable) (ns : List ℕ) (groups gs : List Group) (blocks bs : List Block) (n : ℕ) (pairs : List (List ℕ × ℕ)) → IsStore t ns groups blocks → is_live t n ≡ true → AreAbsent n pairs t.interfaces → has_guid_twice pairs ≡ false
+    → AreFiled (t.interfaces ++ stamped n t.last_stamp pairs) gs bs
+    → IsStore (with_interfaces n pairs t) ns gs bs
+store_with_interfaces t ns groups gs blocks bs n pairs s live absent once filed = record {
   table = record {
     ascending = s.table.ascending;
     given = s.table.given;
@@ -103,16 +111,18 @@ store_with_interfaces t ns groups new n pairs s live index = record {
         (stamped_on (λ h. list_any (λ m. nat_eq m h) (numbers t)) n t.last_stamp pairs (live_number t n live));
   };
   numbered = s.numbered;
-  index = index;
+  apart = apart_more n t.last_stamp pairs t.interfaces absent once s.below s.apart;
+  below = below_more n t.last_stamp pairs t.interfaces s.below;
+  filed = filed;
 }
 
 with_handle_on_live : (n : ℕ) (ns : List ℕ) (is : List Interface) → AreOn ns is → AreOn (ns ++ n ∷ []) is
 with_handle_on_live n ns is a =
     all_map (λ i. list_any (λ m. nat_eq m i.handle) ns ≡ true) (λ i. list_any (λ m. nat_eq m i.handle) (ns ++ n ∷ []) ≡ true) (λ i h. any_push (λ m. nat_eq m i.handle) ns n h) is a
 
-pub store_with_handle : (t : HandleTable) (ns : List ℕ) (groups : List Group) (maker : Option (ℕ × ℕ)) → IsStore t ns groups → length t.handles < max_handles
-    → IsStore (with_handle maker t) (ns ++ (t.last_number + 1) ∷ []) groups
-store_with_handle t ns groups maker s room =
+pub store_with_handle : (t : HandleTable) (ns : List ℕ) (groups : List Group) (blocks : List Block) (maker : Option (ℕ × ℕ)) → IsStore t ns groups blocks → length t.handles < max_handles
+    → IsStore (with_handle maker t) (ns ++ (t.last_number + 1) ∷ []) groups blocks
+store_with_handle t ns groups blocks maker s room =
     let e : numbers (with_handle maker t) ≡ numbers t ++ (t.last_number + 1) ∷ [] = map_append (λ (h : LiveHandle). h.number) t.handles (record { number = t.last_number + 1; maker = maker } ∷ []) in
     record {
       table = record {
@@ -125,7 +135,9 @@ store_with_handle t ns groups maker s room =
         on_live = rw e (with_handle_on_live (t.last_number + 1) (numbers t) t.interfaces s.table.on_live);
       };
       numbered = rw (e, s.numbered);
-      index = s.index;
+      apart = s.apart;
+      below = s.below;
+      filed = s.filed;
     }
 
 -- the new handle is live
@@ -148,8 +160,8 @@ absent_on_new t h [] = tt
 absent_on_new t h (p ∷ ps) = (find_none (is_at (t.last_number + 1) p.0) t.interfaces (none_on_new t h p.0 t.interfaces h.on_live), absent_on_new t h ps)
 
 -- nothing comes
-pub store_same : (t : HandleTable) (ns : List ℕ) (groups new : List Group) → IsStore t ns groups → IsIndex t.interfaces new → IsStore t ns new
-store_same t ns groups new s index = record { table = s.table; numbered = s.numbered; index = index }
+pub store_same : (t : HandleTable) (ns : List ℕ) (groups gs : List Group) (blocks bs : List Block) → IsStore t ns groups blocks → AreFiled t.interfaces gs bs → IsStore t ns gs bs
+store_same t ns groups gs blocks bs s filed = record { table = s.table; numbered = s.numbered; apart = s.apart; below = s.below; filed = filed }
 
 none_found : {X : Type 0} (o : Option X) → is_some o ≡ false → o ≡ None
 none_found None h = refl
@@ -163,8 +175,8 @@ absent_from t n (p ∷ ps) z h = elim (cases_Bool (is_taken t n p.0)) [
 ]
 
 -- a new handle comes, with interfaces on it
-pub store_with_new : (t : HandleTable) (ns : List ℕ) (groups new : List Group) (maker : Option (ℕ × ℕ)) (pairs : List (List ℕ × ℕ)) → IsStore t ns groups → length t.handles < max_handles
-    → IsIndex (t.interfaces ++ stamped (t.last_number + 1) t.last_stamp pairs) new
-    → IsStore (with_interfaces (t.last_number + 1) pairs (with_handle maker t)) (ns ++ (t.last_number + 1) ∷ []) new
-store_with_new t ns groups new maker pairs s room index =
-    store_with_interfaces (with_handle maker t) (ns ++ (t.last_number + 1) ∷ []) groups new (t.last_number + 1) pairs (store_with_handle t ns groups maker s room) (new_is_live t maker) index
+pub store_with_new : (t : HandleTable) (ns : List ℕ) (groups gs : List Group) (blocks bs : List Block) (maker : Option (ℕ × ℕ)) (pairs : List (List ℕ × ℕ)) → IsStore t ns groups blocks → length t.handles < max_handles → AreAbsent (t.last_number + 1) pairs t.interfaces → has_guid_twice pairs ≡ false
+    → AreFiled (t.interfaces ++ stamped (t.last_number + 1) t.last_stamp pairs) gs bs
+    → IsStore (with_interfaces (t.last_number + 1) pairs (with_handle maker t)) (ns ++ (t.last_number + 1) ∷ []) gs bs
+store_with_new t ns groups gs blocks bs maker pairs s room absent once filed =
+    store_with_interfaces (with_handle maker t) (ns ++ (t.last_number + 1) ∷ []) groups gs blocks bs (t.last_number + 1) pairs (store_with_handle t ns groups blocks maker s room) (new_is_live t maker) absent once filed

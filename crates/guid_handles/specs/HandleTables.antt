@@ -54,6 +54,10 @@ carries t guid n = is_some (interface_at t n guid)
 abbrev pub holders_of : HandleTable → List ℕ → List ℕ
 holders_of t guid = filter (carries t guid) (numbers t)
 
+-- the interfaces on a handle, in order of installation
+abbrev pub interfaces_on : HandleTable → ℕ → List Interface
+interfaces_on t n = filter (is_on n) t.interfaces
+
 -- the GUIDs on a handle, in order of installation
 abbrev pub guids_on : HandleTable → ℕ → List (List ℕ)
 guids_on t n = map (λ i. i.guid) (filter (is_on n) t.interfaces)
@@ -75,6 +79,10 @@ abbrev pub earliest : List Interface → Option Interface
 earliest [] = None
 earliest (i ∷ is) = earlier_of i (earliest is)
 
+-- an interface is of a GUID and has a stamp above a mark
+abbrev pub is_after : List ℕ → ℕ → Interface → Bool
+is_after guid mark i = is_of guid i && nat_lt mark i.stamp
+
 -- the handle and the stamp of the interface of a GUID with the least stamp above a mark
 abbrev pub next_after : HandleTable → List ℕ → ℕ → Option (ℕ × ℕ)
-next_after t guid mark = option_map (λ i. (i.handle, i.stamp)) (earliest (filter (λ i. is_of guid i && nat_lt mark i.stamp) t.interfaces))
+next_after t guid mark = option_map (λ i. (i.handle, i.stamp)) (earliest (filter (is_after guid mark) t.interfaces))

@@ -1,5 +1,5 @@
 -- The interfaces by GUID, in groups, and by handle in each group.
-use Rattle.std.specs.Prelude.{◌≡◌, ℕ, ◌<◌, nat_eq, nat_lt, Bool, true, not, List, map, length, Option, None}
+use Rattle.std.specs.Prelude.{◌≡◌, ℕ, ◌<◌, ◌≤◌, nat_eq, nat_lt, Bool, true, not, List, map, length, Option, None, Some}
 use Rattle.std.specs.List.{find, filter, list_any, AllByRecursion, insert, slice_get}
 use Rattle.std.specs.Option.{option_and_then}
 use Rattle.std.specs.declared.cmp.Ordering.TheVariants.{Less}
@@ -7,7 +7,7 @@ use Rattle.std.specs.Ordering.{nat_cmp, is_lt}
 use Rattle.std.specs.Cmp.Lexicographic.{slice_cmp}
 use Rattle.guid_handles.specs.declared.records.Interface.{Interface}
 use Rattle.guid_handles.specs.HandleTables.{same_guid, is_on, is_at}
-use Rattle.guid_handles.specs.Sorting.{Ascending, place}
+use Rattle.guid_handles.specs.Sorting.{Ascending, place, kept_if}
 
 -- a GUID and interfaces of it
 pub record Group : Type 0 where
@@ -54,6 +54,11 @@ grouped_at groups guid n = option_and_then (λ g. find (is_on n) g.members) (fin
 -- On each handle the groups have the same interface of each GUID as those listed.
 abbrev pub IsIndex : List Interface → List Group → Type 0
 IsIndex listed groups = (n : ℕ) (guid : List ℕ) → grouped_at groups guid n ≡ find (is_at n guid) listed
+
+-- Of the interfaces on handles, at most one on each, the one with the least stamp of those that pass a test; none if none passes.
+abbrev pub IsNextOf : (Interface → Bool) → (ℕ → Option Interface) → Option Interface → Type 0
+IsNextOf q there None = (n : ℕ) → kept_if q (there n) ≡ None
+IsNextOf q there (Some i) = (there i.handle ≡ Some i) × (q i ≡ true) × ((n : ℕ) (j : Interface) → there n ≡ Some j → q j ≡ true → i.stamp ≤ j.stamp)
 
 -- each interface is on a handle of these numbers
 abbrev pub AreOn : List ℕ → List Interface → Type 0

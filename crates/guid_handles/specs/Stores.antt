@@ -1,11 +1,21 @@
 -- How the handle table is kept.
-use Rattle.std.specs.Prelude.{◌≡◌, ℕ, List}
-use Rattle.guid_handles.specs.HandleTables.{HandleTable, numbers}
+use Rattle.std.specs.Prelude.{◌≡◌, ◌==◌, ◌≤◌, ℕ, Bool, false, List}
+use Rattle.std.specs.List.{AllByRecursion}
+use Rattle.guid_handles.specs.declared.records.Interface.{Interface}
+use Rattle.guid_handles.specs.HandleTables.{HandleTable, numbers, is_at}
 use Rattle.guid_handles.specs.HandleChanges.{IsHandleTable}
-use Rattle.guid_handles.specs.Indexes.{Group, IsIndex}
+use Rattle.guid_handles.specs.Sorting.{Ascending}
+use Rattle.guid_handles.specs.Indexes.{Group}
+use Rattle.guid_handles.specs.Nearby.{Block, AreFiled}
 
--- A table, the numbers of its handles, and its interfaces in groups by GUID.
-pub record IsStore (t : HandleTable) (ns : List ℕ) (groups : List Group) : Type 0 where
+-- two interfaces are not of one GUID on one handle, and have stamps of their own
+abbrev pub AreApart : Interface → Interface → Type 0
+AreApart i j = (is_at j.handle j.guid i ≡ false) × ((i.stamp == j.stamp) ≡ false)
+
+-- A table, the numbers of its handles, and its interfaces, each of which is one of its kind, in groups by GUID and in blocks by handle.
+pub record IsStore (t : HandleTable) (ns : List ℕ) (groups : List Group) (blocks : List Block) : Type 0 where
   pub table : IsHandleTable t
   pub numbered : ns ≡ numbers t
-  pub index : IsIndex t.interfaces groups
+  pub apart : Ascending AreApart t.interfaces
+  pub below : AllByRecursion (λ i. i.stamp ≤ t.last_stamp) t.interfaces
+  pub filed : AreFiled t.interfaces groups blocks

@@ -1,10 +1,10 @@
 //! The interfaces of all GUIDs, in groups.
 ghost use Rattle.std.specs.Prelude.{◌≡◌, ◌<◌, ◌≤◌, ◌==◌, ◌&&◌, ℕ, Bool, true, cond, List, [], None, Some, length, is_some, map, option_map, slice_get, IfOk, OnOk, OnErr, IfSome, IfNone};
 ghost use Rattle.std.specs.List.{find, list_any};
-ghost use Rattle.guid_handles.specs.HandleTables.{is_at, same_guid};
+ghost use Rattle.guid_handles.specs.HandleTables.{is_at, is_after, same_guid};
 ghost use Rattle.guid_handles.specs.HandleChanges.{restamped};
 ghost use Rattle.guid_handles.specs.Sorting.{Ascending, place, kept_if};
-ghost use Rattle.guid_handles.specs.Indexes.{AscendByGuid, IsPlaceOf, grouped_at, is_before, is_group_of, without_member};
+ghost use Rattle.guid_handles.specs.Indexes.{AscendByGuid, IsNextOf, IsPlaceOf, grouped_at, is_before, is_group_of, without_member};
 
 use crate::guid_group::GuidGroup;
 use crate::records::Interface;
@@ -125,6 +125,16 @@ impl<A: Allocator + Copy> Groups<A> {
         match group_of(self.groups.as_slice(), guid) {
             Some(group) => group.holders(),
             None => &[],
+        }
+    }
+
+    /// The interface of a GUID with the least stamp above a mark.
+    pub(crate) fn after(&self, guid: Uuid, mark: u64) -> Option<Interface>
+        ensures { IsNextOf (is_after guid mark) (grouped_at self.now guid) result }
+    {
+        match group_of(self.groups.as_slice(), guid) {
+            Some(group) => group.after(guid, mark),
+            None => None,
         }
     }
 

@@ -1,15 +1,15 @@
 //! The interfaces of one GUID.
 ghost use Rattle.std.specs.Prelude.{◌≡◌, ◌<◌, [], None, map, IfOk, OnOk, OnErr};
 ghost use Rattle.std.specs.List.{find};
-ghost use Rattle.guid_handles.specs.HandleTables.{is_on};
+ghost use Rattle.guid_handles.specs.HandleTables.{is_on, is_after};
 ghost use Rattle.guid_handles.specs.HandleChanges.{restamped};
 ghost use Rattle.guid_handles.specs.Sorting.{Ascending};
-ghost use Rattle.guid_handles.specs.Indexes.{handles_of, with_member, without_member};
+ghost use Rattle.guid_handles.specs.Indexes.{IsNextOf, handles_of, with_member, without_member};
 
-use crate::interfaces::{drop_all_on, restamp};
+use crate::interfaces::restamp;
 use crate::records::Interface;
-use crate::room::{drop_number, insert_with_room};
-use crate::searches::{count_less, member_if};
+use crate::room::insert_with_room;
+use crate::searches::{count_less, find_after, member_if};
 use std::alloc::{AllocError, Allocator};
 use std::marker::Model;
 use uuid::Uuid;
@@ -81,6 +81,13 @@ impl<A: Allocator + Copy> GuidGroup<A> {
         member_if(self.members.as_slice(), at, handle)
     }
 
+    /// The interface of a GUID with the least stamp above a mark.
+    pub(crate) fn after(&self, guid: Uuid, mark: u64) -> Option<Interface>
+        ensures { IsNextOf (is_after guid mark) (λ n. find (is_on n) self.now.members) result }
+    {
+        find_after(self.members.as_slice(), guid, mark)
+    }
+
     /// Adds an interface on a handle that has none here. On an `Err` the group is as it was.
     pub(crate) fn add(&mut self, interface: &Interface) -> Result<(), AllocError>
         requires { find (is_on interface.now.handle) self.old.members ≡ None }
@@ -99,8 +106,11 @@ impl<A: Allocator + Copy> GuidGroup<A> {
     pub(crate) fn remove(&mut self, handle: u64)
         ensures { self.new ≡ without_member handle self.old }
     {
-        drop_all_on(&mut self.members, handle);
-        drop_number(&mut self.holders, handle);
+        let at = count_less(self.holders.as_slice(), handle);
+        if member_if(self.members.as_slice(), at, handle).is_some() {
+            self.members.remove(at);
+            self.holders.remove(at);
+        }
     }
 
     /// Gives the interface on a handle a value and a stamp.

@@ -1,14 +1,14 @@
 //! The handle table.
 ghost use Rattle.std.specs.Prelude.{◌≡◌, ◌+◌, ◌<◌, ◌≤◌, ◌^◌, ◌==◌, cond, not, is_some, IsSome, IfNone, OnOk, Bool, true, false, nat_lt, [], ◌∷◌, map, length, None, Some, MatchOption, IfOk, OnErr, IsTrue};
 ghost use Rattle.std.specs.List.{find, filter, list_any};
-ghost use Rattle.guid_handles.specs.HandleTables.{numbers, same_guid, has_number, is_live, is_on, is_at, maker_of, interface_at, value_at, carries, holders_of, guids_on, written_over, next_after};
+ghost use Rattle.guid_handles.specs.HandleTables.{numbers, same_guid, has_number, is_live, is_on, is_at, maker_of, interface_at, value_at, carries, holders_of, interfaces_on, guids_on, written_over, earliest, is_after, next_after};
 ghost use Rattle.guid_handles.specs.HandleChanges.{IsHandleTable, max_handles, max_installed, has_guid_twice, is_dead, is_taken, past_limit, refusal, with_interfaces, with_handle, install_refusal, install_many_refusal, Installs, without_handle, without_interface, with_value};
 ghost use Rattle.guid_handles.specs.Indexes.{AreAbsent};
 
 use crate::interfaces::Interfaces;
 use crate::records::{Interface, LiveHandle};
 use crate::room::{drop_number, push_with_room};
-use crate::searches::{find_after, find_handle, has_any_on, write_guids};
+use crate::searches::{find_handle, has_any_on, write_guids};
 use page_ranges::Status;
 use std::alloc::{AllocError, Allocator, Global};
 use std::marker::Model;
@@ -39,7 +39,7 @@ impl<A: Allocator> Model for Handles<A> {
 
     ghost view = { λ h. record { handles = h.live.items; interfaces = h.interfaces.listed.items; last_number = h.last_number; last_stamp = h.last_stamp } };
 
-    ghost invariant = { λ h. IsStore (record { handles = h.live.items; interfaces = h.interfaces.listed.items; last_number = h.last_number; last_stamp = h.last_stamp }) h.numbers.items h.interfaces.groups };
+    ghost invariant = { λ h. IsStore (record { handles = h.live.items; interfaces = h.interfaces.listed.items; last_number = h.last_number; last_stamp = h.last_stamp }) h.numbers.items h.interfaces.groups h.interfaces.blocks };
 }
 
 impl<A: Allocator + Copy> Handles<A> {
@@ -125,6 +125,21 @@ impl<A: Allocator + Copy> Handles<A> {
         self.interfaces.groups.holders(guid)
     }
 
+    /// Interfaces on some handles that lie next to each other, and among them all on a handle, in
+    /// order of installation.
+    pub fn near(&self, handle: u64) -> &[Interface]
+        ensures { filter (is_on handle) result.now ≡ interfaces_on self.now handle }
+    {
+        self.interfaces.blocks.near(handle)
+    }
+
+    /// Whether a handle carries an interface.
+    fn has_any(&self, handle: u64) -> bool
+        ensures { result ≡ list_any (is_on handle) self.now.interfaces }
+    {
+        has_any_on(self.near(handle), handle)
+    }
+
     /// Writes the GUIDs on a live handle in order of installation, as many as fit, and answers how
     /// many there are.
     pub fn protocols_of(&self, handle: u64, guids: &mut [Uuid]) -> Option<usize>
@@ -133,7 +148,7 @@ impl<A: Allocator + Copy> Handles<A> {
         ensures none { IfNone result (guids.new ≡ guids.old) }
     {
         if self.is_live(handle) {
-            Some(write_guids(self.interfaces.listed.as_slice(), handle, guids))
+            Some(write_guids(self.near(handle), handle, guids))
         } else {
             None
         }
@@ -153,11 +168,18 @@ impl<A: Allocator + Copy> Handles<A> {
         self.last_stamp
     }
 
+    /// The interface of a GUID with the least stamp above a mark.
+    fn next(&self, guid: Uuid, mark: u64) -> Option<Interface>
+        ensures { result ≡ earliest (filter (is_after guid mark) self.now.interfaces) }
+    {
+        self.interfaces.groups.after(guid, mark)
+    }
+
     /// The handle and the stamp of the interface of a GUID with the least stamp above a mark.
     pub fn after_stamp(&self, guid: Uuid, mark: u64) -> Option<(u64, u64)>
         ensures { result ≡ next_after self.now guid mark }
     {
-        find_after(self.interfaces.listed.as_slice(), guid, mark).map(|i| (i.handle, i.stamp))
+        self.next(guid, mark).map(|i| (i.handle, i.stamp))
     }
 
     /// Whether a handle is neither 0 nor live.
@@ -353,7 +375,7 @@ impl<A: Allocator + Copy> Handles<A> {
         ensures { self.new ≡ without_interface handle guid self.old }
     {
         self.take_out(handle, guid);
-        if !has_any_on(self.interfaces.listed.as_slice(), handle) {
+        if !self.has_any(handle) {
             self.remove_handle(handle);
         }
     }

@@ -1,8 +1,10 @@
 //! The handle table: handles, the protocol interfaces on them, and how they are found.
 #![tactic(auto)]
 
+mod blocks;
 mod groups;
 mod guid_group;
+mod handle_block;
 mod handles;
 mod interfaces;
 mod records;

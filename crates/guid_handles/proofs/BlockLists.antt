@@ -1,0 +1,172 @@
+-- Blocks by number: which one is found, and what is found once one has changed.
+use Rattle.std.proofs.Math.ListN.{set}
+use Rattle.std.proofs.Common.{◌≡◌, ℕ, zero, suc, ◌<◌, ◌≤◌, ◌==◌, nat_lt, Bool, true, false, cond, List, [], ◌∷◌, map, length, take, Option, Some, None, is_some, inl, inr, refl, sym, ap, ◌∙◌, arith, subst}
+use Rattle.std.specs.List.{find, slice_get, insert, remove, AllByRecursion}
+use Rattle.std.specs.Option.{option_map}
+use Rattle.std.proofs.lemmas.Bool.{cases_Bool, eq-eqb, ne_eqb, ltb-true, le-ltb}
+use Rattle.std.proofs.lemmas.Option.{same_Some}
+use Rattle.guid_handles.specs.declared.records.Interface.{Interface}
+use Rattle.guid_handles.specs.Sorting.{Ascending, place, kept_if}
+use Rattle.guid_handles.proofs.SortedLists.{all_map, all_mapped, all_under, found_none, find_none, find_split, find_insert_other, find_insert_new, ascending_insert, ascending_remove, map_remove, map_insert, place_map, numbers_split}
+use Rattle.guid_handles.proofs.Grouped.{find_set_new, find_set_other, insert_there, place_insert, kept_one, one_there, none_of, some_map, is_same, above}
+use Rattle.guid_handles.specs.Nearby.{Block, IsPlaceOf, AscendByNumber, ChangesBlock, changed_block, members_in, members_of, is_numbered}
+
+-- ---- places in lists
+
+pub got_all : {X : Type 0} (P : X → Type 0) (xs : List X) (at : ℕ) (x : X) → AllByRecursion P xs → slice_get xs at ≡ Some x → P x
+got_all P [] zero x h e = absurd cc
+got_all P [] (suc at) x h e = absurd cc
+got_all P (y ∷ ys) zero x h e = subst P (same_Some y x e) h.0
+got_all P (y ∷ ys) (suc at) x h e = got_all P ys at x h.1 e
+
+set_long : {X : Type 0} (xs : List X) (at : ℕ) (y : X) → at < length xs → at < length (set xs at y)
+set_long [] at y l = absurd (omega arith)
+set_long (x ∷ xs) zero y l = omega arith
+set_long (x ∷ xs) (suc at) y l = omega (arith, set_long xs at y (omega arith))
+
+set_there : {X : Type 0} (xs : List X) (at : ℕ) (y : X) → at < length xs → slice_get (set xs at y) at ≡ Some y
+set_there [] at y l = absurd (omega arith)
+set_there (x ∷ xs) zero y l = refl
+set_there (x ∷ xs) (suc at) y l = set_there xs at y (omega arith)
+
+place_set : (blocks : List Block) (at : ℕ) (k new : Block) (n : ℕ) → slice_get blocks at ≡ Some k → new.number ≡ k.number → place (λ h. nat_lt h.number n) (set blocks at new) ≡ place (λ h. nat_lt h.number n) blocks
+place_set [] zero k new n e s = refl
+place_set [] (suc at) k new n e s = refl
+place_set (h ∷ hs) zero k new n e s = let r : new.number ≡ h.number = s ∙ ap (λ x. x.number) (sym (same_Some h k e)) in rw r refl
+place_set (h ∷ hs) (suc at) k new n e s = ap (λ r. cond (nat_lt h.number n) (suc r) 0) (place_set hs at k new n e s)
+
+-- ---- finding
+
+pub found_block : (blocks : List Block) (n at : ℕ) → AscendByNumber blocks → at ≡ place (λ k. nat_lt k.number n) blocks → kept_if (is_numbered n) (slice_get blocks at) ≡ find (is_numbered n) blocks
+found_block blocks n at a e =
+    ap (λ k. kept_if (is_numbered n) (slice_get blocks k)) e ∙ sym (find_split (λ k. nat_lt k.number n) (is_numbered n) blocks (numbers_split (λ k. k.number) n blocks a))
+
+pub place_told : {G : Type 0} (now : G → Block) (blocks : List Block) (n at : ℕ) (o : Option G) → AscendByNumber blocks → at ≡ place (λ k. nat_lt k.number n) blocks
+    → option_map now o ≡ kept_if (is_numbered n) (slice_get blocks at) → is_some o ≡ true → IsPlaceOf n blocks at
+place_told now blocks n at o a e k s =
+    let kept : is_some (kept_if (is_numbered n) (slice_get blocks at)) ≡ true = ap is_some (sym k) ∙ some_map now o ∙ s in
+    let there : kept_if (is_numbered n) (slice_get blocks at) ≡ slice_get blocks at = kept_one (is_numbered n) (slice_get blocks at) kept in
+    (one_there blocks at (ap is_some (sym there) ∙ kept), sym (found_block blocks n at a e) ∙ there, e)
+
+pub none_told : {G : Type 0} (now : G → Block) (blocks : List Block) (n at : ℕ) (o : Option G) → AscendByNumber blocks → at ≡ place (λ k. nat_lt k.number n) blocks
+    → option_map now o ≡ kept_if (is_numbered n) (slice_get blocks at) → is_some o ≡ false → find (is_numbered n) blocks ≡ None
+none_told now blocks n at o a e k s = sym (found_block blocks n at a e) ∙ none_of (kept_if (is_numbered n) (slice_get blocks at)) (ap is_some (sym k) ∙ some_map now o ∙ s)
+
+pub members_there : (blocks : List Block) (n at : ℕ) (k : Block) → IsPlaceOf n blocks at → slice_get blocks at ≡ Some k → members_in blocks n ≡ k.members
+members_there blocks n at k p e = ap members_of (p.1 ∙ e)
+
+found_number : (blocks : List Block) (n : ℕ) (k : Block) → find (is_numbered n) blocks ≡ Some k → k.number ≡ n
+found_number [] n k e = absurd cc
+found_number (h ∷ hs) n k e = elim (cases_Bool (is_numbered n h)) [
+  | inl t ↦ subst (λ (x : Block). x.number ≡ n) (same_Some h k (rw t at e)) (is_same h.number n t)
+  | inr f ↦ found_number hs n k (rw f at e)
+]
+
+pub number_there : (blocks : List Block) (n at : ℕ) (k : Block) → IsPlaceOf n blocks at → slice_get blocks at ≡ Some k → k.number ≡ n
+number_there blocks n at k p e = found_number blocks n k (p.1 ∙ e)
+
+-- ---- one block changes
+
+lower_other : (n : ℕ) (k : Block) → nat_lt k.number n ≡ true → is_numbered n k ≡ false
+lower_other n k l = ne_eqb k.number n (λ e. omega (arith, ltb-true k.number n l, e))
+
+pub changes_block : (blocks : List Block) (n at : ℕ) (k : Block) (f : List Interface → List Interface) → IsPlaceOf n blocks at → slice_get blocks at ≡ Some k → ChangesBlock n f blocks (set blocks at (changed_block f k))
+changes_block blocks n at k f p e m =
+    let same : k.number ≡ n = number_there blocks n at k p e in
+    elim (cases_Bool (n == m)) [
+      | inl y ↦
+          let there : find (is_numbered n) (set blocks at (changed_block f k)) ≡ Some (changed_block f k) =
+          rw p.2 (find_set_new (is_numbered n) (λ h. nat_lt h.number n) (lower_other n) blocks (changed_block f k) (subst (λ i. i < length blocks) p.2 p.0) (eq-eqb k.number n same)) in
+          rw y (rw (← is_same n m y) (ap members_of there ∙ ap f (sym (members_there blocks n at k p e))))
+      | inr d ↦
+          rw d (ap members_of (find_set_other (is_numbered m) blocks at k (changed_block f k) e (rw same d) (rw same d)))
+    ]
+
+pub take_none : {X : Type 0} (k : ℕ) → take {A = X} k [] ≡ []
+take_none zero = refl
+take_none (suc k) = refl
+
+-- no block, no interfaces
+pub changes_none : (blocks : List Block) (n : ℕ) (f : List Interface → List Interface) → f [] ≡ [] → find (is_numbered n) blocks ≡ None → ChangesBlock n f blocks blocks
+changes_none blocks n f z none m = elim (cases_Bool (n == m)) [
+  | inl y ↦
+      let e : members_in blocks m ≡ [] = rw (← is_same n m y) (ap members_of none) in
+      rw y (rw e (sym z))
+  | inr d ↦ rw d refl
+]
+
+numbers_set : (blocks : List Block) (at : ℕ) (k new : Block) → slice_get blocks at ≡ Some k → new.number ≡ k.number → map (λ h. h.number) (set blocks at new) ≡ map (λ h. h.number) blocks
+numbers_set [] zero k new e s = refl
+numbers_set [] (suc at) k new e s = refl
+numbers_set (h ∷ hs) zero k new e s = let n : new.number ≡ h.number = s ∙ ap (λ x. x.number) (sym (same_Some h k e)) in ap (λ x. x ∷ map (λ h. h.number) hs) n
+numbers_set (h ∷ hs) (suc at) k new e s = ap (λ r. h.number ∷ r) (numbers_set hs at k new e s)
+
+pub ascend_set : (blocks : List Block) (at : ℕ) (k new : Block) → AscendByNumber blocks → slice_get blocks at ≡ Some k → new.number ≡ k.number → AscendByNumber (set blocks at new)
+ascend_set blocks at k new a e s = subst (Ascending (λ x y. x < y)) (sym (numbers_set blocks at k new e s)) a
+
+-- the place of a block stays
+pub placed_set : (blocks : List Block) (n at : ℕ) (k new : Block) → IsPlaceOf n blocks at → slice_get blocks at ≡ Some k → new.number ≡ k.number → IsPlaceOf n (set blocks at new) at
+placed_set blocks n at k new p e s =
+    let same : k.number ≡ n = number_there blocks n at k p e in
+    let there : find (is_numbered n) (set blocks at new) ≡ Some new =
+    rw p.2 (find_set_new (is_numbered n) (λ h. nat_lt h.number n) (lower_other n) blocks new (subst (λ i. i < length blocks) p.2 p.0) (eq-eqb new.number n (s ∙ same))) in
+    (set_long blocks at new p.0, there ∙ sym (set_there blocks at new p.0), p.2 ∙ sym (place_set blocks at k new n e s))
+
+-- ---- a block comes or goes
+
+pub ascend_insert : (blocks : List Block) (new : Block) (at : ℕ) → AscendByNumber blocks → find (is_numbered new.number) blocks ≡ None → at ≡ place (λ k. nat_lt k.number new.number) blocks → AscendByNumber (insert blocks at new)
+ascend_insert blocks new at a none e =
+    let numbers : at ≡ place (λ x. nat_lt x new.number) (map (λ k. k.number) blocks) = e ∙ sym (place_map (λ k. k.number) (λ x. nat_lt x new.number) blocks) in
+    rw (map_insert (λ k. k.number) blocks at new, numbers)
+    (ascending_insert (λ x y. x < y) (λ x y z l m. omega (arith, l, m)) (λ x. nat_lt x new.number) (map (λ k. k.number) blocks) new.number
+    (all_mapped (λ x. (nat_lt x new.number ≡ true → x < new.number) × (nat_lt x new.number ≡ false → new.number < x))
+    (λ k. is_numbered new.number k ≡ false) (λ k. k.number) (λ k f. (λ t. ltb-true k.number new.number t, λ l. above k.number new.number f l)) blocks (found_none (is_numbered new.number) blocks none))
+    a)
+
+pub placed_new : (blocks : List Block) (new : Block) (at : ℕ) → at ≤ length blocks → find (is_numbered new.number) blocks ≡ None → at ≡ place (λ k. nat_lt k.number new.number) blocks → IsPlaceOf new.number (insert blocks at new) at
+placed_new blocks new at l none e =
+    let there : (at < length (insert blocks at new)) × (slice_get (insert blocks at new) at ≡ Some new) = insert_there blocks at new l in
+    let below : nat_lt new.number new.number ≡ false = le-ltb new.number new.number (omega arith) in (
+      there.0,
+      find_insert_new (is_numbered new.number) blocks at new (eq-eqb new.number new.number refl) none ∙ sym there.1,
+      e ∙ sym (place_insert (λ k. nat_lt k.number new.number) blocks new below) ∙ ap (λ i. place (λ k. nat_lt k.number new.number) (insert blocks i new)) (sym e),
+    )
+
+-- an empty block that comes changes nothing
+pub members_insert : (blocks : List Block) (n at : ℕ) → find (is_numbered n) blocks ≡ None → (m : ℕ) → members_in (insert blocks at (record { number = n; members = [] })) m ≡ members_in blocks m
+members_insert blocks n at none m = elim (cases_Bool (n == m)) [
+  | inl y ↦
+      let e : find (is_numbered m) blocks ≡ None = rw (← is_same n m y) none in
+      ap members_of (find_insert_new (is_numbered m) blocks at (record { number = n; members = [] }) y e) ∙ sym (ap members_of e)
+  | inr f ↦ ap members_of (find_insert_other (is_numbered m) blocks at (record { number = n; members = [] }) f)
+]
+
+find_remove_other : {X : Type 0} (q : X → Bool) (xs : List X) (at : ℕ) (x : X) → slice_get xs at ≡ Some x → q x ≡ false → find q (remove xs at) ≡ find q xs
+find_remove_other q [] zero x e f = refl
+find_remove_other q [] (suc at) x e f = refl
+find_remove_other q (z ∷ zs) zero x e f = let n : q z ≡ false = rw (same_Some z x e) f in rw n refl
+find_remove_other q (z ∷ zs) (suc at) x e f = ap (λ r. cond (q z) (Some z) r) (find_remove_other q zs at x e f)
+
+find_remove_own : (blocks : List Block) (n at : ℕ) (k : Block) → AscendByNumber blocks → slice_get blocks at ≡ Some k → k.number ≡ n → find (is_numbered n) (remove blocks at) ≡ None
+find_remove_own [] n zero k a e s = refl
+find_remove_own [] n (suc at) k a e s = refl
+find_remove_own (h ∷ hs) n zero k a e s =
+    find_none (is_numbered n) hs
+    (all_map (λ x. h.number < x.number) (λ x. is_numbered n x ≡ false) (λ x l. ne_eqb x.number n (λ w. let r : h.number ≡ k.number = ap (λ y. y.number) (same_Some h k e) in omega (arith, l, w, r, s))) hs
+    (all_under (λ x. x.number) (λ y. h.number < y) hs a.0))
+find_remove_own (h ∷ hs) n (suc at) k a e s =
+    let l : h.number < k.number = got_all (λ x. h.number < x.number) hs at k (all_under (λ x. x.number) (λ y. h.number < y) hs a.0) e in
+    let f : is_numbered n h ≡ false = ne_eqb h.number n (λ w. omega (arith, l, w, s)) in
+    rw f (find_remove_own hs n at k a.1 e s)
+
+-- an empty block that goes changes nothing
+pub members_remove : (blocks : List Block) (n at : ℕ) (k : Block) → AscendByNumber blocks → IsPlaceOf n blocks at → slice_get blocks at ≡ Some k → k.members ≡ [] → (m : ℕ) → members_in (remove blocks at) m ≡ members_in blocks m
+members_remove blocks n at k a p e z m =
+    let same : k.number ≡ n = number_there blocks n at k p e in
+    elim (cases_Bool (n == m)) [
+      | inl y ↦ rw (← is_same n m y) (ap members_of (find_remove_own blocks n at k a e same) ∙ sym z ∙ sym (members_there blocks n at k p e))
+      | inr f ↦ ap members_of (find_remove_other (is_numbered m) blocks at k e (rw same f))
+    ]
+
+pub ascend_remove : (blocks : List Block) (at : ℕ) → AscendByNumber blocks → AscendByNumber (remove blocks at)
+ascend_remove blocks at a = rw (map_remove (λ k. k.number) blocks at) (ascending_remove (λ x y. x < y) (map (λ k. k.number) blocks) at a)
