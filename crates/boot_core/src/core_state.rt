@@ -619,7 +619,7 @@ impl<D: Driver, A: Allocator + Copy> Core<D, A> {
     }
 
     /// The entries of the memory map, by ascending page.
-    pub fn map_entries(&self) -> MapEntries<'_>
+    pub fn map_entries(&self) -> MapEntries<'_, A>
         ensures entries { result ≡ memory_map self.now.state.parts.book.memory }
         ensures proper { IsProperMemory self.now.state.parts.book.memory }
     {

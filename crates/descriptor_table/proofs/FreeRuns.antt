@@ -28,7 +28,7 @@ is_free e = eqb e.mtype conventional
 abbrev pub free_from : List Run → ℕ → List Descriptor
 free_from rs i = filter is_free (memory_map (pages_of (drop i rs)))
 
-maximal_drop : (rs : List Run) (i : ℕ) → AreMaximalRuns rs → AreMaximalRuns (drop i rs)
+pub maximal_drop : (rs : List Run) (i : ℕ) → AreMaximalRuns rs → AreMaximalRuns (drop i rs)
 maximal_drop rs zero a = a
 maximal_drop [] (suc i) a = tt
 maximal_drop (r ∷ rs) (suc i) a = maximal_drop rs i a.3

@@ -10,3 +10,6 @@ pub mod Splices
 pub mod Replaced
 pub mod EntryRuns
 pub mod FreeRuns
+pub mod LeafLists
+pub mod Places
+pub mod LeafSplices

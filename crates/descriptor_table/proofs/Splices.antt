@@ -1,4 +1,5 @@
 -- A window of a table's runs whose runs are replaced by the same pages, retyped.
+use Rattle.std.specs.List.{AllByRecursion}
 use Rattle.std.proofs.Common.{◌≡◌, ℕ, ◌+◌, ◌-◌, ◌<◌, ◌≤◌, List, [], ◌∷◌, ◌++◌, take, drop, Option, Some, None, inl, inr, refl, sym, ap, ap₂, subst, ◌∙◌, arith}
 use Rattle.std.proofs.lemmas.Bool.{cases_lt}
 use Rattle.std.proofs.lemmas.List.{take-append-drop, drop-drop}
@@ -14,7 +15,7 @@ use Rattle.page_ranges.proofs.Members.{all_implied, all_append_left, all_append_
 use Rattle.page_ranges.proofs.Retyped.{changed, changed_below, changed_above, retyped-append, retyped-proper}
 use Rattle.page_ranges.proofs.RunLists.{pages_of-append, page_at-below_runs, retyped-all_above, retyped-all_below}
 use Rattle.page_ranges.proofs.MaximalRuns.{maximal_are_runs}
-use Rattle.descriptor_table.specs.Tables.{EndBy, IsTable, IsWindow}
+use Rattle.descriptor_table.specs.Tables.{EndBy, IsTable}
 use Rattle.descriptor_table.proofs.Meetings.{maximal-left, maximal-right, entry_count}
 use Rattle.descriptor_table.proofs.Ends.{page_at-past_all}
 use Rattle.descriptor_table.proofs.Replaced.{IsReplacement, replaced}
@@ -53,24 +54,19 @@ module _ (rs : List Run) (low high : ℕ) where
 
 -- ---- what follows for a table
 
-module _ (rs : List Run) (n : ℕ) (range : PageRange) (t : ℕ) (o : Owner) (table : IsTable rs n) (low high : ℕ) (w : IsWindow rs range low high) where
-  abbrev before_runs : List Run
-  before_runs = before rs low high
+-- The runs of a table in three parts. What stands before the middle ends below a range, and what stands behind it begins above
+-- the range.
+pub record AreCut (rs : List Run) (range : PageRange) (before_runs old behind_runs : List Run) : Type 0 where
+  pub parts : rs ≡ before_runs ++ (old ++ behind_runs)
+  pub below : AllByRecursion (λ r. r.range.first + r.range.pages < range.first) before_runs
+  pub above : AllByRecursion (λ r. range.first + range.pages < r.range.first) behind_runs
 
-  abbrev old : List Run
-  old = window rs low high
-
-  abbrev behind_runs : List Run
-  behind_runs = behind rs low high
-
-  parts_are : rs ≡ before_runs ++ (old ++ behind_runs)
-  parts_are = three_parts rs low high w.order
-
+module _ (rs : List Run) (n : ℕ) (range : PageRange) (t : ℕ) (o : Owner) (table : IsTable rs n) (before_runs old behind_runs : List Run) (w : AreCut rs range before_runs old behind_runs) where
   maximal_parts : AreMaximalRuns (before_runs ++ (old ++ behind_runs))
-  maximal_parts = subst AreMaximalRuns parts_are table.maximal
+  maximal_parts = subst AreMaximalRuns w.parts table.maximal
 
   ends_parts : EndBy page_count (before_runs ++ (old ++ behind_runs))
-  ends_parts = subst (EndBy page_count) parts_are (proper_ends rs (table_runs rs n table) table.proper)
+  ends_parts = subst (EndBy page_count) w.parts (proper_ends rs (table_runs rs n table) table.proper)
 
   pub old_runs : AreRuns old
   old_runs = maximal_are_runs old (maximal-left old behind_runs (maximal-right before_runs (old ++ behind_runs) maximal_parts))
@@ -79,7 +75,7 @@ module _ (rs : List Run) (n : ℕ) (range : PageRange) (t : ℕ) (o : Owner) (ta
   old_ends = all_append_left (λ r. r.range.first + r.range.pages ≤ page_count) old behind_runs (all_append_right (λ r. r.range.first + r.range.pages ≤ page_count) before_runs (old ++ behind_runs) ends_parts)
 
   old_pages : pages_of rs ≡ pages_of before_runs ++ (pages_of old ++ pages_of behind_runs)
-  old_pages = ap pages_of parts_are ∙ pages_of-append before_runs (old ++ behind_runs) ∙ ap (λ m. pages_of before_runs ++ m) (pages_of-append old behind_runs)
+  old_pages = ap pages_of w.parts ∙ pages_of-append before_runs (old ++ behind_runs) ∙ ap (λ m. pages_of before_runs ++ m) (pages_of-append old behind_runs)
 
   retyped_before : retyped range t o (pages_of before_runs) ≡ pages_of before_runs
   retyped_before = retyped-all_below range t o before_runs (all_implied (λ r. r.range.first + r.range.pages < range.first) (λ r. r.range.first + r.range.pages ≤ range.first) (λ r h. omega arith) before_runs w.below)
@@ -116,7 +112,7 @@ module _ (rs : List Run) (n : ℕ) (range : PageRange) (t : ℕ) (o : Owner) (ta
     replacement = replaced range t o before_runs behind_runs w.below w.above old parts some_old maximal_parts maximal pages
 
     pub new_count : entry_count new + entry_count old ≡ n + entry_count parts
-    new_count = omega (arith, replacement.count, table.entries, ap entry_count parts_are)
+    new_count = omega (arith, replacement.count, table.entries, ap entry_count w.parts)
 
     pub new_table : (t ≡ conventional → o ≡ Given) → (k : ℕ) → k ≡ n + entry_count parts - entry_count old → IsTable new k
     new_table own k e = record {

@@ -49,6 +49,10 @@ begin_from_zero : (rs : List Run) → AllByRecursion (λ s. 0 ≤ s.range.first)
 begin_from_zero [] = tt
 begin_from_zero (r ∷ rs) = (omega arith, begin_from_zero rs)
 
+-- there are no more runs than pages
+pub few_runs : (rs : List Run) → AreRuns rs → EndBy page_count rs → length rs ≤ page_count
+few_runs rs runs ends = omega (arith, run_count rs 0 page_count runs (begin_from_zero rs) ends (omega arith))
+
 -- a map has no more entries than there are pages
 pub few_entries : (rs : List Run) → AreRuns rs → EndBy page_count rs → length (memory_map (pages_of rs)) ≤ page_count
 few_entries rs runs ends = omega (arith, entries_at_most rs runs, run_count rs 0 page_count runs (begin_from_zero rs) ends (omega arith))

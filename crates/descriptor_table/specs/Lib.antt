@@ -1,3 +1,4 @@
 pub mod Tables
 pub mod PageTests
 pub mod FreeLists
+pub mod Leaves

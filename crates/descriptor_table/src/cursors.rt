@@ -7,13 +7,20 @@ ghost use Rattle.page_ranges.specs.MemoryTypes.{page_count};
 ghost use Rattle.page_ranges.specs.Memory.{page_at, IsProperMemory};
 ghost use Rattle.page_ranges.specs.Cursors.{IsBlockAt};
 ghost use Rattle.page_ranges.specs.Runs.{page_in, pages_of, runs_of, AreRuns, AreMaximalRuns, IsInRun};
+ghost use Rattle.descriptor_table.specs.Leaves.{first_page, runs_in, AreLeaves};
 ghost use Rattle.descriptor_table.specs.Tables.{entry_of, EndBy, HoldsPage};
 
+use crate::leaf_searches::count_leaves_by;
+use crate::leaves::Leaf;
 use page_ranges::{Descriptor, PageCursor, Run};
+use std::alloc::{Allocator, Global};
 use std::marker::Model;
 
 /// So many runs are looked at one after the other before the rest is searched by halving.
 const STEPS: usize = 64;
+
+/// So many leaves are looked at one after the other before the rest is searched by halving.
+const LEAF_STEPS: usize = 8;
 
 /// How many runs end at a page or below it; they come first.
 #[inline(never)]
@@ -88,33 +95,60 @@ fn run_from(runs: &[Run], page: u64, index: usize) -> Option<Run>
     }
 }
 
+/// How many leaves begin at a page or below it, found by steps from a leaf on where that is not far
+/// below.
+#[inline(always)]
+fn count_leaves_by_from<A: Allocator + Copy>(leaves: &[Leaf<A>], page: u64, start: usize) -> usize
+    requires leaves { AreLeaves leaves.now }
+    requires runs { AreRuns (runs_in leaves.now) }
+    ensures bound { result ≤ length leaves.now }
+    ensures by { AllWithin (λ l. first_page l ≤ page) leaves.now 0 result }
+    ensures above { AllWithin (λ l. page < first_page l) leaves.now result (length leaves.now) }
+{
+    if start < leaves.len() && leaves[start].first() <= page {
+        for index in start + 1..start + LEAF_STEPS.min(leaves.len() - start) {
+            if page < leaves[index].first() {
+                return index;
+            }
+        }
+    }
+    count_leaves_by(leaves, page)
+}
+
 /// Finds runs by the pages that they hold, soonest where each page is at the last one or a little above.
 #[derive(Drop)]
-pub struct RunCursor<'a> {
-    runs: &'a [Run],
-    // The run that is looked at first.
+pub struct RunCursor<'a, A: Allocator = Global> {
+    leaves: &'a [Leaf<A>],
+    // The leaf that is looked at first, and the run that is looked at first there.
+    leaf: usize,
     index: usize,
 }
 
-impl<'a> Model for RunCursor<'a> {
-    ghost use Rattle.std.specs.Prelude.{◌≤◌, List, length};
+impl<'a, A: Allocator> Model for RunCursor<'a, A> {
+    ghost use Rattle.std.specs.Prelude.{List};
     ghost use Rattle.page_ranges.specs.Memory.{Page, IsProperMemory};
     ghost use Rattle.page_ranges.specs.Runs.{pages_of, AreMaximalRuns};
+    ghost use Rattle.descriptor_table.specs.Leaves.{runs_in, AreLeaves};
 
     ghost Value = { List Page };
 
-    ghost view = { λ c. pages_of c.runs.now };
+    ghost view = { λ c. pages_of (runs_in c.leaves.now) };
 
-    ghost invariant = { λ c. AreMaximalRuns c.runs.now × IsProperMemory (pages_of c.runs.now) × (c.index ≤ length c.runs.now) };
+    ghost invariant = { λ c. AreLeaves c.leaves.now × AreMaximalRuns (runs_in c.leaves.now) × IsProperMemory (pages_of (runs_in c.leaves.now)) };
 }
 
-impl<'a> RunCursor<'a> {
-    pub(crate) fn new(runs: &'a [Run]) -> RunCursor<'a>
-        requires maximal { AreMaximalRuns runs.now }
-        requires proper { IsProperMemory (pages_of runs.now) }
-        ensures { result ≡ pages_of runs.now }
+impl<'a, A: Allocator + Copy> RunCursor<'a, A> {
+    pub(crate) fn new(leaves: &'a [Leaf<A>]) -> RunCursor<'a, A>
+        requires leaves { AreLeaves leaves.now }
+        requires maximal { AreMaximalRuns (runs_in leaves.now) }
+        requires proper { IsProperMemory (pages_of (runs_in leaves.now)) }
+        ensures { result ≡ pages_of (runs_in leaves.now) }
     {
-        RunCursor { runs, index: 0 }
+        RunCursor {
+            leaves,
+            leaf: 0,
+            index: 0,
+        }
     }
 
     /// The run that holds a page.
@@ -124,14 +158,20 @@ impl<'a> RunCursor<'a> {
         ensures page { page_at self.old page ≡ option_map (page_in page) result }
         ensures maximal { HoldsPage self.old page result }
     {
-        let runs = self.runs;
-        let index = count_ending_by_from(runs, page, self.index);
+        let leaves = self.leaves;
+        let count = count_leaves_by_from(leaves, page, self.leaf);
+        if count == 0 {
+            return None;
+        }
+        let runs = leaves[count - 1].runs();
+        let index = count_ending_by_from(runs, page, self.index.min(runs.len()));
+        self.leaf = count - 1;
         self.index = index;
         run_from(runs, page, index)
     }
 }
 
-impl<'a> PageCursor for RunCursor<'a> {
+impl<'a, A: Allocator + Copy> PageCursor for RunCursor<'a, A> {
     ghost memory = { λ c. c };
 
     #[inline(always)]
@@ -140,7 +180,7 @@ impl<'a> PageCursor for RunCursor<'a> {
         ensures block { IsBlockAt self.old page result }
         ensures run { IfSome result (λ b. (r : Run) × Contains (runs_of self.old) r × (b ≡ entry_of r)) }
     {
-        let _ = &self.runs;
+        let _ = &self.leaves;
         let run = self.run_at(page)?;
         Some(Descriptor {
             mtype: run.mtype,

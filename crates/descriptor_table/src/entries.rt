@@ -1,13 +1,16 @@
 //! The memory map of runs: owners do not split its entries.
-ghost use Rattle.std.specs.Prelude.{◌≡◌, ◌+◌, ◌-◌, ◌<◌, ◌≤◌, ◌^◌, ◌∷◌, length, drop, slice_get, Some};
+ghost use Rattle.std.specs.Prelude.{◌≡◌, ◌+◌, ◌-◌, ◌<◌, ◌≤◌, ◌^◌, ◌∷◌, length};
 ghost use Rattle.std.specs.Iterator.{YieldsFirst, item_count};
-ghost use Rattle.page_ranges.specs.declared.ranges.Run.{Run};
 ghost use Rattle.page_ranges.specs.MemoryTypes.{page_count};
 ghost use Rattle.page_ranges.specs.MemoryMap.{memory_map, should_be_one};
 ghost use Rattle.page_ranges.specs.Runs.{pages_of, AreRuns};
+ghost use Rattle.descriptor_table.specs.Leaves.{runs_in, AreLeaves};
 ghost use Rattle.descriptor_table.specs.Tables.{entry_of, EndBy};
 
+use crate::leaves::Leaf;
+use crate::walks::Walk;
 use page_ranges::{Descriptor, Run};
+use std::alloc::{Allocator, Global};
 use std::marker::Model;
 
 /// The second run goes on in the first one's entry of the map.
@@ -38,11 +41,11 @@ pub(crate) fn count_entries(runs: &[Run]) -> usize
 
 /// The entries of a memory map, by ascending page.
 #[derive(Drop)]
-pub struct MapEntries<'a> {
-    runs: &'a [Run],
+pub struct MapEntries<'a, A: Allocator = Global> {
+    walk: Walk<'a, A>,
 }
 
-impl<'a> Model for MapEntries<'a> {
+impl<'a, A: Allocator> Model for MapEntries<'a, A> {
     ghost use Rattle.std.specs.Prelude.{List};
     ghost use Rattle.page_ranges.specs.declared.ranges.Descriptor.{Descriptor};
     ghost use Rattle.page_ranges.specs.MemoryTypes.{page_count};
@@ -52,41 +55,47 @@ impl<'a> Model for MapEntries<'a> {
 
     ghost Value = { List Descriptor };
 
-    ghost view = { λ e. memory_map (pages_of e.runs.now) };
+    ghost view = { λ e. memory_map (pages_of e.walk.rest) };
 
-    ghost invariant = { λ e. AreRuns e.runs.now × EndBy page_count e.runs.now };
+    ghost invariant = { λ e. AreRuns e.walk.rest × EndBy page_count e.walk.rest };
 }
 
-impl<'a> MapEntries<'a> {
-    pub(crate) fn new(runs: &'a [Run]) -> MapEntries<'a>
-        requires runs { AreRuns runs.now }
-        requires ends { EndBy page_count runs.now }
-        ensures { result ≡ memory_map (pages_of runs.now) }
+impl<'a, A: Allocator + Copy> MapEntries<'a, A> {
+    pub(crate) fn new(leaves: &'a [Leaf<A>]) -> MapEntries<'a, A>
+        requires leaves { AreLeaves leaves.now }
+        requires runs { AreRuns (runs_in leaves.now) }
+        requires ends { EndBy page_count (runs_in leaves.now) }
+        ensures { result ≡ memory_map (pages_of (runs_in leaves.now)) }
     {
-        MapEntries { runs }
+        MapEntries {
+            walk: Walk::new(leaves),
+        }
     }
 }
 
-/// How many runs make the first entry; at least one.
-fn count_in_entry(runs: &[Run]) -> usize
-    requires runs { AreRuns runs.now }
-    requires ends { EndBy page_count runs.now }
-    requires some { 0 < length runs.now }
-    ensures some { 0 < result }
-    ensures within { result ≤ length runs.now }
-    ensures entry { (r s : Run) → slice_get runs.now 0 ≡ Some r → slice_get runs.now (result - 1) ≡ Some s
-        → memory_map (pages_of runs.now)
-        ≡ record { mtype = r.mtype; first = r.range.first; pages = s.range.first + s.range.pages - r.range.first; attributes = r.attributes }
-        ∷ memory_map (pages_of (drop result runs.now)) }
+/// Takes the runs that go on in a run's entry, and answers the page behind the entry.
+fn end_of_entry<A: Allocator + Copy>(first: &Run, walk: &mut Walk<'_, A>) -> u64
+    requires runs { AreRuns (first.now ∷ walk.old.rest) }
+    requires ends { EndBy page_count (first.now ∷ walk.old.rest) }
+    ensures low { first.now.range.first ≤ result }
+    ensures runs { AreRuns walk.new.rest }
+    ensures ends { EndBy page_count walk.new.rest }
+    ensures entry { memory_map (pages_of (first.now ∷ walk.old.rest))
+        ≡ record { mtype = first.now.mtype; first = first.now.range.first; pages = result - first.now.range.first; attributes = first.now.attributes }
+        ∷ memory_map (pages_of walk.new.rest) }
 {
-    let mut count = 1;
-    while count < runs.len() && goes_on(&runs[count - 1], &runs[count]) {
-        count += 1;
+    let mut last = *first;
+    while let Some(run) = walk.peek() {
+        if !goes_on(&last, run) {
+            return last.range.first + last.range.pages;
+        }
+        last = *run;
+        let _ = walk.next();
     }
-    count
+    last.range.first + last.range.pages
 }
 
-impl<'a> Iterator for MapEntries<'a> {
+impl<'a, A: Allocator + Copy> Iterator for MapEntries<'a, A> {
     type Item = Descriptor;
 
     ghost next_gives = { YieldsFirst (λ e. e) };
@@ -94,16 +103,13 @@ impl<'a> Iterator for MapEntries<'a> {
     ghost remaining = { item_count (λ e. e) };
 
     fn next(&mut self) -> Option<Descriptor> {
-        let first = self.runs.first()?;
-        let count = count_in_entry(self.runs);
-        let last = &self.runs[count - 1];
-        let entry = Descriptor {
+        let first = self.walk.next()?;
+        let end = end_of_entry(first, &mut self.walk);
+        Some(Descriptor {
             mtype: first.mtype,
             first: first.range.first,
-            pages: last.range.first + last.range.pages - first.range.first,
+            pages: end - first.range.first,
             attributes: first.attributes,
-        };
-        self.runs = &self.runs[count..];
-        Some(entry)
+        })
     }
 }

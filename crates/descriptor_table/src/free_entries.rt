@@ -1,14 +1,18 @@
 //! The conventional entries of a memory map, with what lies beside each.
-ghost use Rattle.std.specs.Prelude.{◌≡◌, ◌+◌, ◌-◌, ◌<◌, ◌≤◌, ◌==◌, length, drop, filter, None, Some, slice_get};
+ghost use Rattle.std.specs.Prelude.{◌≡◌, ◌+◌, ◌≤◌, ◌==◌, ◌∷◌, List, Option, filter, IfSome, Some, slice_get, option_map};
 ghost use Rattle.page_ranges.specs.declared.ranges.Run.{Run};
-ghost use Rattle.page_ranges.specs.MemoryTypes.{conventional};
+ghost use Rattle.page_ranges.specs.MemoryTypes.{conventional, page_count};
 ghost use Rattle.page_ranges.specs.Memory.{IsProperMemory};
 ghost use Rattle.page_ranges.specs.MemoryMap.{memory_map};
 ghost use Rattle.page_ranges.specs.Cursors.{IsBlockAt};
 ghost use Rattle.page_ranges.specs.Runs.{pages_of, AreMaximalRuns};
+ghost use Rattle.descriptor_table.specs.Leaves.{runs_in, AreLeaves, IsPlace};
 ghost use Rattle.descriptor_table.specs.Tables.{entry_of, IsBlockBelow};
 
+use crate::leaves::Leaf;
+use crate::walks::Walk;
 use page_ranges::{Descriptor, MemoryType, Run};
+use std::alloc::{Allocator, Global};
 use std::marker::Model;
 
 /// A conventional entry of the memory map. The blocks beside it may be parts of their entries.
@@ -34,58 +38,33 @@ fn block_of(run: &Run) -> Descriptor
     }
 }
 
-// The first conventional run from an index on; the number of runs where there is none.
+// A block with the page just below a run, by the run that lies below.
 #[inline(always)]
-fn first_free(runs: &[Run], start: usize) -> usize
-    requires maximal { AreMaximalRuns runs.now }
-    requires proper { IsProperMemory (pages_of runs.now) }
-    requires start { start ≤ length runs.now }
-    ensures low { start ≤ result }
-    ensures bound { result ≤ length runs.now }
-    ensures free { (r : Run) → slice_get runs.now result ≡ Some r → r.mtype ≡ conventional }
-    ensures passed { filter (λ e. e.mtype == conventional) (memory_map (pages_of (drop start runs.now)))
-        ≡ filter (λ e. e.mtype == conventional) (memory_map (pages_of (drop result runs.now))) }
+fn block_below(below: Option<&Run>, run: &Run) -> Option<Descriptor>
+    requires { IfSome (option_map (λ r. r.now) below) (λ r. r.range.first + r.range.pages ≤ page_count) }
+    ensures { (rs ss : List Run) → AreMaximalRuns rs → IsProperMemory (pages_of rs) → IsPlace rs (record { before = option_map (λ r. r.now) below.entry; rest = run.now ∷ ss })
+        → IsBlockBelow (pages_of rs) run.now.range.first result }
 {
-    for index in start..runs.len() {
-        if runs[index].mtype == MemoryType::conventional() {
-            return index;
-        }
-    }
-    runs.len()
-}
-
-// A block with the page just below the run at an index.
-#[inline(always)]
-fn block_below(runs: &[Run], index: usize) -> Option<Descriptor>
-    requires maximal { AreMaximalRuns runs.now }
-    requires proper { IsProperMemory (pages_of runs.now) }
-    requires within { index < length runs.now }
-    ensures { (r : Run) → slice_get runs.now index ≡ Some r → IsBlockBelow (pages_of runs.now) r.range.first result }
-{
-    if index == 0 {
+    let Some(below) = below else {
         return None;
-    }
-    let below = &runs[index - 1];
-    if below.range.first + below.range.pages == runs[index].range.first {
+    };
+    if below.range.first + below.range.pages == run.range.first {
         Some(block_of(below))
     } else {
         None
     }
 }
 
-// A block with the page just behind the run at an index.
+// A block with the page just behind a run, by the run that lies above.
 #[inline(always)]
-fn block_above(runs: &[Run], index: usize) -> Option<Descriptor>
-    requires maximal { AreMaximalRuns runs.now }
-    requires proper { IsProperMemory (pages_of runs.now) }
-    requires within { index < length runs.now }
-    ensures { (r : Run) → slice_get runs.now index ≡ Some r → IsBlockAt (pages_of runs.now) (r.range.first + r.range.pages) result }
+fn block_above(run: &Run, above: Option<&Run>) -> Option<Descriptor>
+    requires { run.now.range.first + run.now.range.pages ≤ page_count }
+    ensures { (rs ss : List Run) (o : Option Run) → AreMaximalRuns rs → IsProperMemory (pages_of rs) → IsPlace rs (record { before = o; rest = run.now ∷ ss }) → option_map (λ r. r.now) above.entry ≡ slice_get ss 0
+        → IsBlockAt (pages_of rs) (run.now.range.first + run.now.range.pages) result }
 {
-    if index + 1 == runs.len() {
+    let Some(above) = above else {
         return None;
-    }
-    let run = &runs[index];
-    let above = &runs[index + 1];
+    };
     if run.range.first + run.range.pages == above.range.first {
         Some(block_of(above))
     } else {
@@ -93,39 +72,60 @@ fn block_above(runs: &[Run], index: usize) -> Option<Descriptor>
     }
 }
 
-/// The conventional entries of a memory map, by ascending page.
-#[derive(Drop)]
-pub struct FreeEntries<'a> {
-    runs: &'a [Run],
-    // The runs before this one are passed.
-    index: usize,
+// Passes runs up to the first conventional one.
+#[inline(always)]
+fn pass_to_free<A: Allocator + Copy>(walk: &mut Walk<'_, A>)
+    requires { AreMaximalRuns walk.old.rest }
+    ensures place { (rs : List Run) → IsPlace rs walk.old → IsPlace rs walk.new }
+    ensures free { (r : Run) → slice_get walk.new.rest 0 ≡ Some r → r.mtype ≡ conventional }
+    ensures passed { filter (λ e. e.mtype == conventional) (memory_map (pages_of walk.old.rest))
+        ≡ filter (λ e. e.mtype == conventional) (memory_map (pages_of walk.new.rest)) }
+{
+    while let Some(run) = walk.peek() {
+        if run.mtype == MemoryType::conventional() {
+            return;
+        }
+        let _ = walk.next();
+    }
 }
 
-impl<'a> Model for FreeEntries<'a> {
-    ghost use Rattle.std.specs.Prelude.{◌≤◌, ◌==◌, length, drop, filter};
+/// The conventional entries of a memory map, by ascending page.
+#[derive(Drop)]
+pub struct FreeEntries<'a, A: Allocator = Global> {
+    leaves: &'a [Leaf<A>],
+    walk: Walk<'a, A>,
+}
+
+impl<'a, A: Allocator> Model for FreeEntries<'a, A> {
+    ghost use Rattle.std.specs.Prelude.{◌==◌, filter};
     ghost use Rattle.page_ranges.specs.MemoryTypes.{conventional};
     ghost use Rattle.page_ranges.specs.Memory.{IsProperMemory};
     ghost use Rattle.page_ranges.specs.MemoryMap.{memory_map};
     ghost use Rattle.page_ranges.specs.Runs.{pages_of, AreMaximalRuns};
     ghost use Rattle.descriptor_table.specs.FreeLists.{FreeList};
+    ghost use Rattle.descriptor_table.specs.Leaves.{runs_in, IsPlace};
 
     ghost Value = { FreeList };
 
-    ghost view = { λ e. record { memory = pages_of e.runs.now; entries = filter (λ d. d.mtype == conventional) (memory_map (pages_of (drop e.index e.runs.now))) } };
+    ghost view = { λ e. record { memory = pages_of (runs_in e.leaves.now); entries = filter (λ d. d.mtype == conventional) (memory_map (pages_of e.walk.rest)) } };
 
-    ghost invariant = { λ e. AreMaximalRuns e.runs.now × IsProperMemory (pages_of e.runs.now) × (e.index ≤ length e.runs.now) };
+    ghost invariant = { λ e. AreMaximalRuns (runs_in e.leaves.now) × IsProperMemory (pages_of (runs_in e.leaves.now)) × IsPlace (runs_in e.leaves.now) e.walk };
 }
 
-impl<'a> FreeEntries<'a> {
+impl<'a, A: Allocator + Copy> FreeEntries<'a, A> {
     ghost use Rattle.descriptor_table.specs.FreeLists.{YieldsFree};
 
-    pub(crate) fn new(runs: &'a [Run]) -> FreeEntries<'a>
-        requires maximal { AreMaximalRuns runs.now }
-        requires proper { IsProperMemory (pages_of runs.now) }
-        ensures memory { result.memory ≡ pages_of runs.now }
-        ensures entries { result.entries ≡ filter (λ e. e.mtype == conventional) (memory_map (pages_of runs.now)) }
+    pub(crate) fn new(leaves: &'a [Leaf<A>]) -> FreeEntries<'a, A>
+        requires leaves { AreLeaves leaves.now }
+        requires maximal { AreMaximalRuns (runs_in leaves.now) }
+        requires proper { IsProperMemory (pages_of (runs_in leaves.now)) }
+        ensures memory { result.memory ≡ pages_of (runs_in leaves.now) }
+        ensures entries { result.entries ≡ filter (λ e. e.mtype == conventional) (memory_map (pages_of (runs_in leaves.now))) }
     {
-        FreeEntries { runs, index: 0 }
+        FreeEntries {
+            leaves,
+            walk: Walk::new(leaves),
+        }
     }
 
     /// The next entry; `None` after the last one.
@@ -134,18 +134,14 @@ impl<'a> FreeEntries<'a> {
         ensures stays { self.new.memory ≡ self.old.memory }
         ensures next { YieldsFree self.old result self.new }
     {
-        let runs = self.runs;
-        let index = first_free(runs, self.index);
-        if index == runs.len() {
-            self.index = index;
-            return None;
-        }
-        let entry = FreeEntry {
-            entry: block_of(&runs[index]),
-            below: block_below(runs, index),
-            above: block_above(runs, index),
-        };
-        self.index = index + 1;
-        Some(entry)
+        pass_to_free(&mut self.walk);
+        let below = self.walk.before();
+        let run = self.walk.next()?;
+        let above = self.walk.peek();
+        Some(FreeEntry {
+            entry: block_of(run),
+            below: block_below(below, run),
+            above: block_above(run, above),
+        })
     }
 }

@@ -5,9 +5,12 @@ mod cursors;
 mod cuts;
 mod entries;
 mod free_entries;
+mod leaf_searches;
+mod leaves;
 mod retyping;
 mod searches;
 mod table;
+mod walks;
 
 pub use cursors::RunCursor;
 pub use entries::MapEntries;

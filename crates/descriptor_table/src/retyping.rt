@@ -1,13 +1,16 @@
-//! A range of a table of runs that gets a type and an owner.
+//! A range of a table that gets a type and an owner.
 ghost use Rattle.std.specs.Prelude.{◌≡◌, ◌+◌, ◌<◌, ◌≤◌, IfOk, OnErr};
 ghost use Rattle.page_ranges.specs.declared.ranges.Owner.TheVariants.{Given};
 ghost use Rattle.page_ranges.specs.MemoryTypes.{conventional, page_count};
 ghost use Rattle.page_ranges.specs.Memory.{IsPresent, AllInRange, retyped};
 ghost use Rattle.page_ranges.specs.Runs.{pages_of, AreRuns};
-ghost use Rattle.descriptor_table.specs.Tables.{IsTable, IsWindow};
+ghost use Rattle.descriptor_table.specs.Leaves.{runs_in, AreLeaves, AreLeavesNear, IsLeafTable};
+ghost use Rattle.descriptor_table.specs.Tables.{IsWindow};
 
 use crate::cuts::retyped_runs;
 use crate::entries::count_entries;
+use crate::leaf_searches::{count_leaves_below, count_leaves_by};
+use crate::leaves::{Leaf, leaves_of, runs_of_leaves};
 use crate::searches::{count_beginning_by, count_ending_below};
 use page_ranges::{MemoryType, Owner, PageRange, Run};
 use std::alloc::{AllocError, Allocator};
@@ -23,28 +26,45 @@ fn window_of(runs: &[Run], range: PageRange) -> (usize, usize)
     (low, high)
 }
 
+/// The indices between which leaves have all runs that share a page with a range or touch it.
+fn leaves_near<A: Allocator + Copy>(leaves: &[Leaf<A>], range: PageRange) -> (usize, usize)
+    requires leaves { AreLeaves leaves.now }
+    requires runs { AreRuns (runs_in leaves.now) }
+    requires within { range.first + range.pages ≤ page_count }
+    ensures { AreLeavesNear leaves.now range result.0 result.1 }
+{
+    let below = count_leaves_below(leaves, range.first);
+    let high = count_leaves_by(leaves, range.first + range.pages);
+    (below.saturating_sub(1), high)
+}
+
 /// Gives the pages of a range a type and an owner, and answers how many entries the map then has.
-/// All room is taken before the runs change.
+/// All room is taken before the leaves change.
 pub(crate) fn retype_runs<A: Allocator + Copy>(
-    runs: &mut Vec<Run, A>,
+    leaves: &mut Vec<Leaf<A>, A>,
     entries: usize,
     range: PageRange,
     mtype: MemoryType,
     owner: Owner,
 ) -> Result<usize, AllocError>
-    requires table { IsTable runs.old.items entries }
+    requires table { IsLeafTable leaves.old.items entries }
     requires some { 0 < range.pages }
-    requires present { AllInRange (pages_of runs.old.items) range IsPresent }
+    requires present { AllInRange (pages_of (runs_in leaves.old.items)) range IsPresent }
     requires owner { mtype ≡ conventional → owner ≡ Given }
-    ensures table { IfOk result (λ n. IsTable runs.new.items n) }
-    ensures pages { IfOk result (λ n. pages_of runs.new.items ≡ retyped range mtype owner (pages_of runs.old.items)) }
-    ensures err { OnErr result (runs.new.items ≡ runs.old.items) }
+    ensures table { IfOk result (λ n. IsLeafTable leaves.new.items n) }
+    ensures pages { IfOk result (λ n. pages_of (runs_in leaves.new.items) ≡ retyped range mtype owner (pages_of (runs_in leaves.old.items))) }
+    ensures err { OnErr result (leaves.new.items ≡ leaves.old.items) }
 {
+    let alloc = *leaves.allocator();
+    let (from, to) = leaves_near(leaves.as_slice(), range);
+    let mut runs = runs_of_leaves(alloc, &leaves[from..to])?;
     let (low, high) = window_of(runs.as_slice(), range);
     let old = &runs[low..high];
     let old_entries = count_entries(old);
-    let parts = retyped_runs(*runs.allocator(), old, range, mtype, owner)?;
+    let parts = retyped_runs(alloc, old, range, mtype, owner)?;
     let new_entries = count_entries(parts.as_slice());
     let _replaced = runs.splice(low..high, parts)?;
+    let new_leaves = leaves_of(alloc, runs.as_slice())?;
+    let _given_up = leaves.splice(from..to, new_leaves)?;
     Ok(entries + new_entries - old_entries)
 }

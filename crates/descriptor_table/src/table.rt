@@ -12,16 +12,19 @@ use crate::cursors::RunCursor;
 use crate::cuts::push_joined;
 use crate::entries::{MapEntries, count_entries};
 use crate::free_entries::FreeEntries;
+use crate::leaf_searches::{all_in_range, count_runs, run_at_index, run_in_leaves};
+use crate::leaves::{Leaf, leaves_of};
 use crate::retyping::retype_runs;
-use crate::searches::{PageTest, all_in_range, run_at_index, run_holding};
+use crate::searches::PageTest;
 use page_ranges::{Descriptor, MemoryType, Owner, PageRange, Run};
 use std::alloc::{AllocError, Allocator, Global};
 use std::marker::Model;
 
-/// The memory of a machine: its maximal runs of equal type, attributes and owner, by ascending page.
+/// The memory of a machine: its maximal runs of equal type, attributes and owner, by ascending page, in
+/// leaves.
 #[derive(Drop)]
 pub struct RunTable<A: Allocator = Global> {
-    runs: Vec<Run, A>,
+    leaves: Vec<Leaf<A>, A>,
     // How many entries the memory map has.
     entries: usize,
 }
@@ -30,13 +33,13 @@ impl<A: Allocator> Model for RunTable<A> {
     ghost use Rattle.std.specs.Prelude.{List};
     ghost use Rattle.page_ranges.specs.Memory.{Page};
     ghost use Rattle.page_ranges.specs.Runs.{pages_of};
-    ghost use Rattle.descriptor_table.specs.Tables.{IsTable};
+    ghost use Rattle.descriptor_table.specs.Leaves.{runs_in, IsLeafTable};
 
     ghost Value = { List Page };
 
-    ghost view = { λ t. pages_of t.runs.items };
+    ghost view = { λ t. pages_of (runs_in t.leaves.items) };
 
-    ghost invariant = { λ t. IsTable t.runs.items t.entries };
+    ghost invariant = { λ t. IsLeafTable t.leaves.items t.entries };
 }
 
 impl<A: Allocator + Copy> RunTable<A> {
@@ -51,15 +54,13 @@ impl<A: Allocator + Copy> RunTable<A> {
             push_joined(&mut joined, *run)?;
         }
         let entries = count_entries(joined.as_slice());
-        Ok(RunTable {
-            runs: joined,
-            entries,
-        })
+        let leaves = leaves_of(alloc, joined.as_slice())?;
+        Ok(RunTable { leaves, entries })
     }
 
     /// The allocator that the table takes its memory from.
     pub fn allocator(&self) -> A {
-        *self.runs.allocator()
+        *self.leaves.allocator()
     }
 
     /// Gives the pages of a range a type and an owner, and the attributes that go with the type.
@@ -76,7 +77,7 @@ impl<A: Allocator + Copy> RunTable<A> {
         ensures err { OnErr result (self.new ≡ self.old) }
     {
         if range.pages > 0 {
-            self.entries = retype_runs(&mut self.runs, self.entries, range, mtype, owner)?;
+            self.entries = retype_runs(&mut self.leaves, self.entries, range, mtype, owner)?;
         }
         Ok(())
     }
@@ -86,21 +87,21 @@ impl<A: Allocator + Copy> RunTable<A> {
         ensures len { result ≡ length (runs_of self.now) }
         ensures proper { IsProperMemory self.now }
     {
-        self.runs.len()
+        count_runs(self.leaves.as_slice())
     }
 
     /// Whether no page is present.
     pub fn is_empty(&self) -> bool
         ensures { IsTrue result ↔ (self.now ≡ []) }
     {
-        self.runs.is_empty()
+        self.leaves.is_empty()
     }
 
     /// The run at an index, by ascending page.
     pub fn run(&self, index: usize) -> Option<Run>
         ensures { result ≡ slice_get (runs_of self.now) index }
     {
-        run_at_index(self.runs.as_slice(), index)
+        run_at_index(self.leaves.as_slice(), index)
     }
 
     /// The run that holds a page.
@@ -108,7 +109,7 @@ impl<A: Allocator + Copy> RunTable<A> {
         ensures page { page_at self.now page ≡ option_map (page_in page) result }
         ensures maximal { HoldsPage self.now page result }
     {
-        run_holding(self.runs.as_slice(), page)
+        run_in_leaves(self.leaves.as_slice(), page)
     }
 
     /// The runs that hold the page below a page number and the page itself.
@@ -127,24 +128,24 @@ impl<A: Allocator + Copy> RunTable<A> {
     }
 
     /// A cursor over the pages, for looking up many of them in ascending order.
-    pub fn cursor(&self) -> RunCursor<'_>
+    pub fn cursor(&self) -> RunCursor<'_, A>
         ensures { result ≡ self.now }
     {
-        RunCursor::new(self.runs.as_slice())
+        RunCursor::new(self.leaves.as_slice())
     }
 
     /// Whether all pages of a range are conventional.
     pub fn all_conventional(&self, range: PageRange) -> bool
         ensures { IsTrue result ↔ AllInRange self.now range IsConventional }
     {
-        all_in_range(self.runs.as_slice(), range, PageTest::Conventional)
+        all_in_range(self.leaves.as_slice(), range, PageTest::Conventional)
     }
 
     /// Whether all pages of a range have an owner.
     pub fn all_owned(&self, range: PageRange, owner: Owner) -> bool
         ensures { IsTrue result ↔ AllInRange self.now range (IsOwnedBy owner) }
     {
-        all_in_range(self.runs.as_slice(), range, PageTest::OwnedBy(owner))
+        all_in_range(self.leaves.as_slice(), range, PageTest::OwnedBy(owner))
     }
 
     /// How many entries the memory map has.
@@ -163,17 +164,17 @@ impl<A: Allocator + Copy> RunTable<A> {
     }
 
     /// The entries of the memory map.
-    pub fn map_entries(&self) -> MapEntries<'_>
+    pub fn map_entries(&self) -> MapEntries<'_, A>
         ensures { result ≡ memory_map self.now }
     {
-        MapEntries::new(self.runs.as_slice())
+        MapEntries::new(self.leaves.as_slice())
     }
 
     /// The conventional entries of the memory map, with what lies beside each.
-    pub fn free_entries(&self) -> FreeEntries<'_>
+    pub fn free_entries(&self) -> FreeEntries<'_, A>
         ensures memory { result.memory ≡ self.now }
         ensures entries { result.entries ≡ filter (λ e. e.mtype == conventional) (memory_map self.now) }
     {
-        FreeEntries::new(self.runs.as_slice())
+        FreeEntries::new(self.leaves.as_slice())
     }
 }

@@ -1,17 +1,12 @@
-use Rattle.std.proofs.Common.{arith}
-use Rattle.page_ranges.proofs.MaximalRuns.{maximal_are_runs}
-use Rattle.descriptor_table.proofs.FreeRuns.{above_last, above_touching, above_gap}
-use Rattle.descriptor_table.proofs.TableFacts.{proper_end_at}
+use Rattle.std.proofs.Common.{sym, arith}
+use Rattle.descriptor_table.proofs.Places.{above_touches, above_is_gap, above_is_none}
 use Rattle.descriptor_table.proofs.free_entries.block_above.Goals as goal
 
-pub returns-then-index-runs : goal.returns-then-index-runs
-returns-then-index-runs c = λ x e. above_last c.args.runs.now c.requires.maximal c.requires.proper c.args.index x (omega arith) e
-
-pub overflow_add-run : goal.overflow_add-run
-overflow_add-run c = omega (arith, proper_end_at c.args.runs.now c.args.index c.index-runs-index.result (maximal_are_runs c.args.runs.now c.requires.maximal) c.requires.proper (omega arith) c.index-runs-index.is)
+pub returns-in_default : goal.returns-in_default
+returns-in_default c = λ rs ss o m p w e. above_is_none rs ss c.args.run.now o m p w (sym (rw c.in_default.is at e))
 
 pub returns-then-run-above : goal.returns-then-run-above
-returns-then-run-above c = λ x e. rw c.block_of.ensures (above_touching c.args.runs.now c.requires.maximal c.requires.proper c.args.index c.index-runs-index.result c.index-runs-index-2.result (omega arith) c.index-runs-index.is c.index-runs-index-2.is x e (omega arith))
+returns-then-run-above c = λ rs ss o m p w e. rw c.block_of.ensures (above_touches rs ss c.args.run.now o m p w c.in-Some.above.now (sym (rw c.in-Some.is at e)) (omega arith))
 
 pub returns-else-run-above : goal.returns-else-run-above
-returns-else-run-above c = λ x e. above_gap c.args.runs.now c.requires.maximal c.requires.proper c.args.index c.index-runs-index.result c.index-runs-index-2.result (omega arith) c.index-runs-index.is c.index-runs-index-2.is x e (omega arith)
+returns-else-run-above c = λ rs ss o m p w e. above_is_gap rs ss c.args.run.now o m p w c.in-Some.above.now (sym (rw c.in-Some.is at e)) (omega arith)

@@ -32,11 +32,20 @@ pub count_entries-entries-requires-clause-ends : goal.count_entries-entries-requ
 count_entries-entries-requires-clause-ends g c = rw c.as_slice.ensures.value (proper_ends c.loop-run.joined.items (maximal_are_runs c.loop-run.joined.items c.loop-run.invariant.order) (let all = take_all c.loop-run.run-index c.args.runs.now (omega arith) in subst IsProperMemory (sym (c.loop-run.invariant.pages ∙ ap pages_of all)) c.requires.proper))
 
 pub invariant_of-result : goal.invariant_of-result
-invariant_of-result g c = record {
-  maximal = c.loop-run.invariant.order;
-  proper = let all = take_all c.loop-run.run-index c.args.runs.now (omega arith) in subst IsProperMemory (sym (c.loop-run.invariant.pages ∙ ap pages_of all)) c.requires.proper;
-  entries = rw c.as_slice.ensures.value at c.count_entries-entries.ensures.count;
-}
+invariant_of-result g c =
+    let same = rw c.as_slice-2.ensures.value at c.in_ok-leaves.ensures.runs in
+    let all = take_all c.loop-run.run-index c.args.runs.now (omega arith) in
+    let count = rw c.as_slice.ensures.value at c.count_entries-entries.ensures.count in
+    record {
+      table = rw same (record {
+        maximal = c.loop-run.invariant.order;
+        proper = subst IsProperMemory (sym (c.loop-run.invariant.pages ∙ ap pages_of all)) c.requires.proper;
+        entries = count;
+      });
+      leaves = c.in_ok-leaves.ensures.leaves;
+    }
 
 pub returns : goal.returns
-returns g c = c.loop-run.invariant.pages ∙ ap pages_of (take_all c.loop-run.run-index c.args.runs.now (omega arith))
+returns g c =
+    let same = rw c.as_slice-2.ensures.value at c.in_ok-leaves.ensures.runs in
+    ap pages_of same ∙ c.loop-run.invariant.pages ∙ ap pages_of (take_all c.loop-run.run-index c.args.runs.now (omega arith))

@@ -1,11 +1,13 @@
 use Rattle.std.proofs.Common.{rules, sym, ◌∙◌, eqb-true, eq-eqb}
+use Rattle.descriptor_table.specs.Leaves.{runs_in}
+use Rattle.descriptor_table.proofs.LeafLists.{no_leaves, no_runs_in}
 use Rattle.descriptor_table.proofs.TableFacts.{no_pages, no_runs}
 use Rattle.descriptor_table.proofs.table.RunTable.is_empty.Goals as goal
 
 pub returns : goal.returns
 returns g c =
-    let rs = c.self.inside.runs.items in
+    let ls = c.self.inside.leaves.items in
     let len = c.is_empty.ensures in (
-      λ t. let none = eqb-true _ _ (sym len ∙ t) in sym c.self.view_is ∙ no_runs rs (search (rules, none)),
-      λ e. let none = no_pages rs c.self.inside.entries c.self.invariant (c.self.view_is ∙ e) in len ∙ eq-eqb _ _ (search (rules, none)),
+      λ t. let none = eqb-true _ _ (sym len ∙ t) in sym c.self.view_is ∙ no_runs (runs_in ls) (no_leaves ls (search (rules, none))),
+      λ e. let none = no_runs_in ls c.self.invariant.leaves (no_pages (runs_in ls) c.self.inside.entries c.self.invariant.table (c.self.view_is ∙ e)) in len ∙ eq-eqb _ _ (search (rules, none)),
     )

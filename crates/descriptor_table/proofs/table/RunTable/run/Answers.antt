@@ -1,8 +1,9 @@
+use Rattle.descriptor_table.specs.Leaves.{runs_in}
 use Rattle.descriptor_table.proofs.TableFacts.{table_runs_of}
 use Rattle.descriptor_table.proofs.table.RunTable.run.Goals as goal
 
 pub returns : goal.returns
 returns g c =
-    let e = table_runs_of c.self.inside.runs.items c.self.inside.entries c.self.invariant in
+    let e = table_runs_of (runs_in c.self.inside.leaves.items) c.self.inside.entries c.self.invariant.table in
     let r = rw c.as_slice.ensures.value at c.run_at_index.ensures in
     rw (← c.self.view_is, e) r

@@ -1,0 +1,167 @@
+-- A walk along runs, and places among them.
+use Rattle.std.proofs.Common.{◌≡◌, ◌≢◌, ℕ, zero, suc, true, false, ◌+◌, ◌<◌, ◌≤◌, List, [], ◌∷◌, length, length-drop, get_or, drop, Contains, Option, Some, None, refl, sym, subst, ap, ◌∙◌, arith, IfSome}
+use Rattle.std.specs.Prelude.{slice_get}
+use Rattle.std.proofs.lemmas.Option.{get_or_from_slice_get, slice_get_within, slice_get-get_or}
+use Rattle.page_ranges.specs.declared.ranges.Run.{Run}
+use Rattle.page_ranges.specs.MemoryTypes.{conventional}
+use Rattle.page_ranges.specs.Memory.{page_at, IsProperMemory}
+use Rattle.page_ranges.specs.Cursors.{IsBlockAt}
+use Rattle.page_ranges.specs.MemoryMap.{memory_map, should_be_one}
+use Rattle.page_ranges.specs.Runs.{pages_of, AreRuns, AreMaximalRuns}
+use Rattle.descriptor_table.specs.Tables.{entry_of, EndBy, IsBlockBelow}
+use Rattle.descriptor_table.specs.Leaves.{RunPlace, PassesRun, IsPlace, run_before}
+use Rattle.descriptor_table.proofs.FreeRuns.{free_from, free_here, free_member, above_touching, above_gap, above_last, below_touching, below_gap, below_first}
+use Rattle.descriptor_table.proofs.EntryRuns.{stretched, entry_to, goes_on_in, ends_before_next, ends_at_last}
+
+-- the run that comes next is the one that is passed
+pub passes : (old new : RunPlace) (o : Option Run) (r : Run) → PassesRun old o new → slice_get old.rest 0 ≡ Some r → (old.rest ≡ r ∷ new.rest) × (new.before ≡ Some r)
+passes old new None r p e = absurd (let none = rw p.0 at e in cc)
+passes old new (Some q) r p e =
+    let first = rw p.0 at e in
+    let same : q ≡ r = cc in
+    (p.0 ∙ ap (λ x. x ∷ new.rest) same, p.1 ∙ ap (λ (x : Run). Some x) same)
+
+pub none_next : (rs : List Run) → slice_get rs 0 ≡ None → rs ≡ []
+none_next [] e = refl
+none_next (r ∷ rs) e = absurd cc
+
+pub some_next : (rs : List Run) (r : Run) → slice_get rs 0 ≡ Some r → (ss : List Run) × (rs ≡ r ∷ ss)
+some_next [] r e = absurd cc
+some_next (q ∷ rs) r e = let same : q ≡ r = cc in (rs, ap (λ x. x ∷ rs) same)
+
+-- ---- the runs of an entry
+
+module _ (q last run : Run) (old new : List Run) (next : old ≡ run ∷ new) (runs : AreRuns (last ∷ old)) where
+  both : AreRuns (last ∷ run ∷ new)
+  both = subst (λ ss. AreRuns (last ∷ ss)) next runs
+
+  pub next_runs : AreRuns (run ∷ new)
+  next_runs = both.2
+
+  pub next_from : last.range.first ≤ run.range.first
+  next_from = omega (arith, both.1.0)
+
+  pub next_goes_on : should_be_one (entry_of last) (entry_of run) ≡ true → stretched q (memory_map (pages_of (last ∷ old))) ≡ stretched q (memory_map (pages_of (run ∷ new)))
+  next_goes_on t = ap (λ ss. stretched q (memory_map (pages_of (last ∷ ss)))) next ∙ goes_on_in q last run new both t
+
+  pub entry_is_done : should_be_one (entry_of last) (entry_of run) ≡ false → stretched q (memory_map (pages_of (last ∷ old))) ≡ entry_to q last ∷ memory_map (pages_of old)
+  entry_is_done f =
+      ap (λ ss. stretched q (memory_map (pages_of (last ∷ ss)))) next ∙ ends_before_next q last run new both f ∙ ap (λ ss. entry_to q last ∷ memory_map (pages_of ss)) (sym next)
+
+pub last_entry_done : (q last : Run) (old : List Run) → old ≡ [] → AreRuns (last ∷ old) → stretched q (memory_map (pages_of (last ∷ old))) ≡ entry_to q last ∷ memory_map (pages_of old)
+last_entry_done q last old e a =
+    ap (λ ss. stretched q (memory_map (pages_of (last ∷ ss)))) e ∙ ends_at_last q last a.0 ∙ ap (λ ss. entry_to q last ∷ memory_map (pages_of ss)) (sym e)
+
+-- ---- places by index
+
+pub at_place : (rs : List Run) (i : ℕ) (r : Run) (ss : List Run) → r ∷ ss ≡ drop i rs → (i < length rs) × (slice_get rs i ≡ Some r) × (ss ≡ drop (suc i) rs)
+at_place [] zero r ss e = absurd cc
+at_place [] (suc i) r ss e = absurd cc
+at_place (q ∷ rs) zero r ss e = (omega arith, let same : q ≡ r = cc in ap (λ (x : Run). Some x) same, cc)
+at_place (q ∷ rs) (suc i) r ss e = let h = at_place rs i r ss e in (omega (arith, h.0), h.1, h.2)
+
+pub place_passed : (rs : List Run) (old new : RunPlace) (r : Run) → old.rest ≡ r ∷ new.rest → new.before ≡ Some r → IsPlace rs old → IsPlace rs new
+place_passed rs old new r e b p =
+    let h = at_place rs p.index r new.rest (sym e ∙ p.to_come) in
+    record { index = suc p.index; bound = omega (arith, h.0); to_come = h.2; passed = b ∙ sym h.1 }
+
+pub place_first : (rs : List Run) (p : RunPlace) → p.before ≡ None → p.rest ≡ rs → IsPlace rs p
+place_first rs p b e = record { index = 0; bound = omega arith; to_come = e; passed = b }
+
+get_ends : (n : ℕ) (rs : List Run) (i : ℕ) → EndBy n rs → i < length rs → IfSome (slice_get rs i) (λ r. r.range.first + r.range.pages ≤ n)
+get_ends n [] i a h = absurd (omega arith)
+get_ends n (r ∷ rs) zero a h = a.0
+get_ends n (r ∷ rs) (suc i) a h = get_ends n rs i a.1 (omega arith)
+
+before_ends : (n : ℕ) (rs : List Run) (i : ℕ) → EndBy n rs → i ≤ length rs → IfSome (run_before rs i) (λ r. r.range.first + r.range.pages ≤ n)
+before_ends n rs zero a h = tt
+before_ends n rs (suc i) a h = get_ends n rs i a (omega arith)
+
+-- the run that was passed last ends by the end of all
+pub passed_ends : (n : ℕ) (rs : List Run) (p : RunPlace) → EndBy n rs → IsPlace rs p → IfSome p.before (λ r. r.range.first + r.range.pages ≤ n)
+passed_ends n rs p a h = subst (λ o. IfSome o (λ r. r.range.first + r.range.pages ≤ n)) (sym h.passed) (before_ends n rs h.index a h.bound)
+
+-- ---- what lies beside a run at a place
+
+module _ (rs ss : List Run) (r : Run) (o : Option Run) (maximal : AreMaximalRuns rs) (proper : IsProperMemory (pages_of rs)) where
+  abbrev place : Type 0
+  place = IsPlace rs (record { before = o; rest = r ∷ ss })
+
+  here : (p : place) → (p.index < length rs) × (slice_get rs p.index ≡ Some r) × (ss ≡ drop (suc p.index) rs)
+  here p = at_place rs p.index r ss p.to_come
+
+  get_next : (xs : List Run) (i : ℕ) → slice_get (drop i xs) 0 ≡ slice_get xs i
+  get_next [] zero = refl
+  get_next [] (suc i) = refl
+  get_next (x ∷ xs) zero = refl
+  get_next (x ∷ xs) (suc i) = get_next xs i
+
+  read_run : (i : ℕ) (x : Run) → slice_get rs i ≡ Some x → x ≡ get_or rs i x
+  read_run i x e = sym (get_or_from_slice_get rs i x x e)
+
+  pub is_free_here : (p : place) → r.mtype ≡ conventional → (free_from (r ∷ ss) 0 ≡ entry_of r ∷ free_from ss 0) × Contains (memory_map (pages_of rs)) (entry_of r)
+  is_free_here p free =
+      let h = here p in
+      let at = read_run p.index r h.1 in
+      let k : p.index + 1 ≡ suc p.index = omega arith in
+      let all = free_here rs maximal proper p.index r h.0 at free in
+      (ap (λ xs. free_from xs 0) p.to_come ∙ all ∙ ap (λ xs. entry_of r ∷ free_from xs 0) (ap (λ i. drop i rs) k ∙ sym h.2), free_member rs maximal proper p.index r h.0 at free)
+
+  -- the run above
+  pub above_touches : place → (s : Run) → slice_get ss 0 ≡ Some s → r.range.first + r.range.pages ≡ s.range.first → IsBlockAt (pages_of rs) (r.range.first + r.range.pages) (Some (entry_of s))
+  above_touches p s e touch =
+      let h = here p in
+      let k : p.index + 1 ≡ suc p.index = omega arith in
+      let next : slice_get rs (p.index + 1) ≡ Some s = ap (slice_get rs) k ∙ sym (get_next rs (suc p.index)) ∙ ap (λ xs. slice_get xs 0) (sym h.2) ∙ e in
+      above_touching rs maximal proper p.index r s (slice_get_within rs (p.index + 1) s next) (read_run p.index r h.1) (read_run (p.index + 1) s next) r h.1 touch
+
+  pub above_is_gap : place → (s : Run) → slice_get ss 0 ≡ Some s → r.range.first + r.range.pages ≢ s.range.first → page_at (pages_of rs) (r.range.first + r.range.pages) ≡ None
+  above_is_gap p s e gap =
+      let h = here p in
+      let k : p.index + 1 ≡ suc p.index = omega arith in
+      let next : slice_get rs (p.index + 1) ≡ Some s = ap (slice_get rs) k ∙ sym (get_next rs (suc p.index)) ∙ ap (λ xs. slice_get xs 0) (sym h.2) ∙ e in
+      above_gap rs maximal proper p.index r s (slice_get_within rs (p.index + 1) s next) (read_run p.index r h.1) (read_run (p.index + 1) s next) r h.1 gap
+
+  pub above_is_none : place → slice_get ss 0 ≡ None → page_at (pages_of rs) (r.range.first + r.range.pages) ≡ None
+  above_is_none p e =
+      let h = here p in
+      let none = ap length (sym h.2 ∙ none_next ss e) in
+      above_last rs maximal proper p.index r (omega (arith, h.0, none, length-drop (suc p.index) rs)) h.1
+
+-- the run below
+module _ (rs ss : List Run) (r : Run) (maximal : AreMaximalRuns rs) (proper : IsProperMemory (pages_of rs)) where
+  below_at : (i : ℕ) (q : Run) → run_before rs i ≡ Some q → i < length rs → slice_get rs i ≡ Some r → (j : ℕ) × (j + 1 ≡ i) × (slice_get rs j ≡ Some q)
+  below_at zero q e h f = absurd cc
+  below_at (suc j) q e h f = (j, omega arith, e)
+
+  pub below_touches : (q : Run) → IsPlace rs (record { before = Some q; rest = r ∷ ss }) → q.range.first + q.range.pages ≡ r.range.first → IsBlockBelow (pages_of rs) r.range.first (Some (entry_of q))
+  below_touches q p touch =
+      let h = at_place rs p.index r ss p.to_come in
+      let b = below_at p.index q (sym p.passed) h.0 h.1 in
+      let here' : slice_get rs (b.0 + 1) ≡ Some r = ap (slice_get rs) b.1 ∙ h.1 in
+      below_touching rs maximal proper b.0 q r (omega (arith, b.1, h.0)) (sym (get_or_from_slice_get rs b.0 q q b.2)) (sym (get_or_from_slice_get rs (b.0 + 1) r r here')) r here' touch
+
+  pub below_is_gap : (q : Run) → IsPlace rs (record { before = Some q; rest = r ∷ ss }) → q.range.first + q.range.pages ≢ r.range.first → IsBlockBelow (pages_of rs) r.range.first None
+  below_is_gap q p gap =
+      let h = at_place rs p.index r ss p.to_come in
+      let b = below_at p.index q (sym p.passed) h.0 h.1 in
+      let here' : slice_get rs (b.0 + 1) ≡ Some r = ap (slice_get rs) b.1 ∙ h.1 in
+      below_gap rs maximal proper b.0 q r (omega (arith, b.1, h.0)) (sym (get_or_from_slice_get rs b.0 q q b.2)) (sym (get_or_from_slice_get rs (b.0 + 1) r r here')) r here' gap
+
+  first_place : (i : ℕ) → None ≡ run_before rs i → i < length rs → i ≡ 0
+  first_place zero e h = refl
+  first_place (suc i) e h = absurd (let some = slice_get-get_or rs i r (omega arith) in let both = e ∙ some in cc)
+
+  pub below_is_none : IsPlace rs (record { before = None; rest = r ∷ ss }) → IsBlockBelow (pages_of rs) r.range.first None
+  below_is_none p =
+      let h = at_place rs p.index r ss p.to_come in
+      below_first rs maximal proper p.index r (first_place p.index p.passed h.0) h.1
+
+-- a run that comes next ends by the end of all
+pub next_ends : (n : ℕ) (rs ss : List Run) (r : Run) (o : Option Run) → EndBy n rs → IsPlace rs (record { before = o; rest = r ∷ ss }) → r.range.first + r.range.pages ≤ n
+next_ends n rs ss r o a p =
+    let h = at_place rs p.index r ss p.to_come in
+    subst (λ x. IfSome x (λ r. r.range.first + r.range.pages ≤ n)) h.1 (get_ends n rs p.index a h.0)
+
+pub same_place : (rs ss : List Run) (p : RunPlace) (o : Option Run) → p.before ≡ o → p.rest ≡ ss → IsPlace rs p → IsPlace rs (record { before = o; rest = ss })
+same_place rs ss p o e f h = record { index = h.index; bound = h.bound; to_come = sym f ∙ h.to_come; passed = sym e ∙ h.passed }

@@ -1,0 +1,35 @@
+use Rattle.std.proofs.Common.{◌≡◌, ℕ, ◌+◌, ◌<◌, ◌≤◌, [], List, take, length, inl, inr, subst, arith}
+use Rattle.std.proofs.lemmas.Bool.{cases_lt}
+use Rattle.std.specs.List.{AllByRecursion, AllWithin}
+use Rattle.page_ranges.specs.declared.ranges.Run.{Run}
+use Rattle.page_ranges.specs.Runs.{AreRuns}
+use Rattle.descriptor_table.specs.Leaves.{first_page, runs_in, AreLeaves}
+use Rattle.descriptor_table.proofs.LeafLists.{leaves_end_below, leaves_begin_above}
+use Rattle.descriptor_table.proofs.retyping.leaves_near.Goals as goal
+
+-- the runs of all leaves but the last of those that begin below a page end below it
+but_last : (ls : List (List Run)) (n k page : ℕ) → AreLeaves ls → AreRuns (runs_in ls) → n ≤ length ls → AllWithin (λ l. first_page l < page) ls 0 n → (n ≡ 0 → k ≡ 0) → (0 < n → k + 1 ≡ n)
+    → AllByRecursion (λ r. r.range.first + r.range.pages < page) (runs_in (take k ls))
+but_last ls n k page a b h below none some = elim (cases_lt 0 n) [
+  | inl l ↦ leaves_end_below ls k page a b (omega (arith, some l)) (below k [] (omega arith) (omega (arith, some l)))
+  | inr m ↦ let e : 0 ≡ k = omega (arith, none (omega arith)) in subst (λ j. AllByRecursion (λ r. r.range.first + r.range.pages < page) (runs_in (take j ls))) e tt
+]
+
+-- where all leaves that begin by a page begin below another, there are no more of those
+in_order : (ls : List (List Run)) (low high first end : ℕ) → low ≤ length ls → first ≤ end → AllWithin (λ l. first_page l < first) ls 0 low → AllWithin (λ l. end < first_page l) ls high (length ls) → low ≤ high
+in_order ls low high first end h up below above = elim (cases_lt high low) [
+  | inl l ↦ absurd (omega (arith, below high [] (omega arith) l, above high [] (omega arith) (omega arith)))
+  | inr m ↦ m
+]
+
+pub returns : goal.returns
+returns g c =
+    let low = c.count_leaves_below-below in
+    let high = c.count_leaves_by-high in
+    let order = in_order c.args.leaves.now low.result high.result c.args.range.first (c.args.range.first + c.args.range.pages) low.ensures.bound (omega arith) low.ensures.below high.ensures.above in
+    record {
+      order = omega arith;
+      bound = omega arith;
+      below = but_last c.args.leaves.now low.result c.saturating_sub.result c.args.range.first c.requires.leaves c.requires.runs (omega arith) low.ensures.below (λ e. omega arith) (λ l. omega arith);
+      above = leaves_begin_above c.args.leaves.now high.result (c.args.range.first + c.args.range.pages) c.requires.runs (λ k d m u. high.ensures.above k d m u);
+    }

@@ -1,0 +1,118 @@
+//! Finding a leaf by a page.
+ghost use Rattle.std.specs.Prelude.{◌≡◌, ◌↔◌, ◌+◌, ◌<◌, ◌≤◌, length, nat_lt, nat_le, Contains, IfSome, IsTrue, slice_get};
+ghost use Rattle.std.specs.List.{AllWithin};
+ghost use Rattle.std.specs.Option.{option_map};
+ghost use Rattle.page_ranges.specs.MemoryTypes.{page_count};
+ghost use Rattle.page_ranges.specs.Memory.{page_at, AllInRange};
+ghost use Rattle.page_ranges.specs.Runs.{page_in, pages_of, AreRuns, IsInRun};
+ghost use Rattle.descriptor_table.specs.Leaves.{first_page, runs_in, AreLeaves};
+ghost use Rattle.descriptor_table.specs.PageTests.{Passes};
+ghost use Rattle.descriptor_table.specs.Tables.{EndBy};
+
+use crate::leaves::Leaf;
+use crate::searches::{PageTest, run_holding};
+use page_ranges::{PageRange, Run};
+use std::alloc::Allocator;
+
+/// How many leaves begin below a page; they come first.
+pub(crate) fn count_leaves_below<A: Allocator + Copy>(leaves: &[Leaf<A>], page: u64) -> usize
+    requires leaves { AreLeaves leaves.now }
+    requires runs { AreRuns (runs_in leaves.now) }
+    ensures bound { result ≤ length leaves.now }
+    ensures below { AllWithin (λ l. first_page l < page) leaves.now 0 result }
+    ensures above { AllWithin (λ l. page ≤ first_page l) leaves.now result (length leaves.now) }
+{
+    leaves.partition_point(
+        |leaf: &Leaf<A>| -> bool
+            ensures { result ≡ nat_lt (first_page leaf.now) page }
+        { leaf.first() < page },
+    )
+}
+
+/// How many leaves begin at a page or below it; they come first.
+#[inline(never)]
+pub(crate) fn count_leaves_by<A: Allocator + Copy>(leaves: &[Leaf<A>], page: u64) -> usize
+    requires leaves { AreLeaves leaves.now }
+    requires runs { AreRuns (runs_in leaves.now) }
+    ensures bound { result ≤ length leaves.now }
+    ensures by { AllWithin (λ l. first_page l ≤ page) leaves.now 0 result }
+    ensures above { AllWithin (λ l. page < first_page l) leaves.now result (length leaves.now) }
+{
+    leaves.partition_point(
+        |leaf: &Leaf<A>| -> bool
+            ensures { result ≡ nat_le (first_page leaf.now) page }
+        { leaf.first() <= page },
+    )
+}
+
+/// The run that holds a page.
+pub(crate) fn run_in_leaves<A: Allocator + Copy>(leaves: &[Leaf<A>], page: u64) -> Option<Run>
+    requires leaves { AreLeaves leaves.now }
+    requires runs { AreRuns (runs_in leaves.now) }
+    ensures page { page_at (pages_of (runs_in leaves.now)) page ≡ option_map (page_in page) result }
+    ensures member { IfSome result (λ r. Contains (runs_in leaves.now) r × IsInRun r page) }
+{
+    let count = count_leaves_by(leaves, page);
+    if count == 0 {
+        return None;
+    }
+    run_holding(leaves[count - 1].runs(), page)
+}
+
+/// Whether each page of a range is present and passes a test.
+pub(crate) fn all_in_range<A: Allocator + Copy>(
+    leaves: &[Leaf<A>],
+    range: PageRange,
+    test: PageTest,
+) -> bool
+    requires leaves { AreLeaves leaves.now }
+    requires runs { AreRuns (runs_in leaves.now) }
+    requires ends { EndBy page_count (runs_in leaves.now) }
+    ensures { IsTrue result ↔ AllInRange (pages_of (runs_in leaves.now)) range (Passes test) }
+{
+    if range.pages == 0 {
+        return true;
+    }
+    // All pages of the range below this one pass.
+    let mut next = range.first;
+    loop {
+        let Some(run) = run_in_leaves(leaves, next) else {
+            return false;
+        };
+        if !test.passes(&run) {
+            return false;
+        }
+        next = run.range.first + run.range.pages;
+        if next - range.first >= range.pages {
+            return true;
+        }
+    }
+}
+
+/// How many runs there are.
+pub(crate) fn count_runs<A: Allocator + Copy>(leaves: &[Leaf<A>]) -> usize
+    requires runs { AreRuns (runs_in leaves.now) }
+    requires ends { EndBy page_count (runs_in leaves.now) }
+    ensures { result ≡ length (runs_in leaves.now) }
+{
+    let mut count = 0;
+    for leaf in leaves {
+        count += leaf.runs().len();
+    }
+    count
+}
+
+/// The run at an index.
+pub(crate) fn run_at_index<A: Allocator + Copy>(leaves: &[Leaf<A>], index: usize) -> Option<Run>
+    ensures { result ≡ slice_get (runs_in leaves.now) index }
+{
+    let mut left = index;
+    for leaf in leaves {
+        let runs = leaf.runs();
+        if left < runs.len() {
+            return Some(runs[left]);
+        }
+        left -= runs.len();
+    }
+    None
+}

@@ -1,0 +1,105 @@
+//! Runs in leaves.
+ghost use Rattle.std.specs.Prelude.{◌≡◌, ◌<◌, ◌≤◌, length, IfOk};
+ghost use Rattle.descriptor_table.specs.Leaves.{first_page, runs_in, AreLeaves};
+
+use page_ranges::Run;
+use std::alloc::{AllocError, Allocator, Global};
+use std::marker::Model;
+
+/// So many runs a leaf has at most.
+const LEAF_SIZE: usize = 32;
+
+/// Some runs that lie next to each other in a table, and the first page of the first of them.
+#[derive(Drop)]
+pub(crate) struct Leaf<A: Allocator = Global> {
+    first: u64,
+    runs: Vec<Run, A>,
+}
+
+impl<A: Allocator> Model for Leaf<A> {
+    ghost use Rattle.std.specs.Prelude.{◌≡◌, List};
+    ghost use Rattle.page_ranges.specs.declared.ranges.Run.{Run};
+    ghost use Rattle.descriptor_table.specs.Leaves.{first_page};
+
+    ghost Value = { List Run };
+
+    ghost view = { λ l. l.runs.items };
+
+    ghost invariant = { λ l. l.first ≡ first_page l.runs.items };
+}
+
+impl<A: Allocator + Copy> Leaf<A> {
+    /// A leaf of some runs.
+    fn from_slice(alloc: A, runs: &[Run]) -> Result<Leaf<A>, AllocError>
+        requires { 0 < length runs.now }
+        ensures { IfOk result (λ leaf. leaf ≡ runs.now) }
+    {
+        let first = runs[0].range.first;
+        let runs = Vec::from_slice(alloc, runs)?;
+        Ok(Leaf { first, runs })
+    }
+
+    /// The first page of the first run.
+    #[inline(always)]
+    pub(crate) fn first(&self) -> u64
+        ensures { result ≡ first_page self.now }
+    {
+        self.first
+    }
+
+    /// The runs.
+    #[inline(always)]
+    pub(crate) fn runs(&self) -> &[Run]
+        ensures { result.now ≡ self.now }
+    {
+        self.runs.as_slice()
+    }
+}
+
+/// How many of some runs the first leaf of them takes. Two leaves share what one can't hold.
+fn first_share(count: usize) -> usize
+    requires { 0 < count }
+    ensures some { 0 < result }
+    ensures bound { result ≤ count }
+    ensures fits { result ≤ 32 }
+{
+    if count <= LEAF_SIZE {
+        return count;
+    }
+    if count < 2 * LEAF_SIZE {
+        return count - count / 2;
+    }
+    LEAF_SIZE
+}
+
+/// Some runs in leaves.
+pub(crate) fn leaves_of<A: Allocator + Copy>(
+    alloc: A,
+    runs: &[Run],
+) -> Result<Vec<Leaf<A>, A>, AllocError>
+    ensures runs { IfOk result (λ v. runs_in v.items ≡ runs.now) }
+    ensures leaves { IfOk result (λ v. AreLeaves v.items) }
+{
+    let mut leaves = Vec::new(alloc);
+    let mut rest = runs;
+    while !rest.is_empty() {
+        let count = first_share(rest.len());
+        leaves.push(Leaf::from_slice(alloc, &rest[..count])?)?;
+        rest = &rest[count..];
+    }
+    Ok(leaves)
+}
+
+/// The runs of leaves, one leaf after the other.
+pub(crate) fn runs_of_leaves<A: Allocator + Copy>(
+    alloc: A,
+    leaves: &[Leaf<A>],
+) -> Result<Vec<Run, A>, AllocError>
+    ensures { IfOk result (λ v. v.items ≡ runs_in leaves.now) }
+{
+    let mut runs = Vec::new(alloc);
+    for leaf in leaves {
+        runs.extend_from_slice(leaf.runs())?;
+    }
+    Ok(runs)
+}

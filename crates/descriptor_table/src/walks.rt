@@ -1,0 +1,80 @@
+//! A walk along the runs of leaves.
+ghost use Rattle.std.specs.Prelude.{◌≡◌, None, slice_get, option_map};
+ghost use Rattle.descriptor_table.specs.Leaves.{runs_in, AreLeaves, PassesRun};
+
+use crate::leaves::Leaf;
+use page_ranges::Run;
+use std::alloc::{Allocator, Global};
+use std::marker::Model;
+
+/// The run that was passed last, and those that are still to come: the others of its leaf, and then
+/// those of other leaves.
+#[derive(Drop)]
+pub(crate) struct Walk<'a, A: Allocator = Global> {
+    before: Option<&'a Run>,
+    runs: &'a [Run],
+    leaves: &'a [Leaf<A>],
+}
+
+impl<'a, A: Allocator> Model for Walk<'a, A> {
+    ghost use Rattle.std.specs.Prelude.{◌++◌, option_map};
+    ghost use Rattle.descriptor_table.specs.Leaves.{RunPlace, runs_in, AreLeaves};
+
+    ghost Value = { RunPlace };
+
+    ghost view = { λ w. record { before = option_map (λ r. r.now) w.before; rest = w.runs.now ++ runs_in w.leaves.now } };
+
+    ghost invariant = { λ w. AreLeaves w.leaves.now };
+}
+
+impl<'a, A: Allocator + Copy> Walk<'a, A> {
+    /// A walk along all runs of some leaves.
+    pub(crate) fn new(leaves: &'a [Leaf<A>]) -> Walk<'a, A>
+        requires { AreLeaves leaves.now }
+        ensures before { result.before ≡ None }
+        ensures rest { result.rest ≡ runs_in leaves.now }
+    {
+        Walk {
+            before: None,
+            runs: &[],
+            leaves,
+        }
+    }
+
+    /// The run that was passed last.
+    #[inline(always)]
+    pub(crate) fn before(&self) -> Option<&'a Run>
+        ensures { option_map (λ r. r.now) result ≡ self.now.before }
+    {
+        self.before
+    }
+
+    /// The next run, which stays the next one.
+    #[inline(always)]
+    pub(crate) fn peek(&self) -> Option<&'a Run>
+        ensures { option_map (λ r. r.now) result ≡ slice_get self.now.rest 0 }
+    {
+        match self.runs.first() {
+            Some(run) => Some(run),
+            None => self.leaves.first()?.runs().first(),
+        }
+    }
+
+    /// Passes the next run.
+    #[inline(always)]
+    pub(crate) fn next(&mut self) -> Option<&'a Run>
+        ensures { PassesRun self.old (option_map (λ r. r.now) result) self.new }
+    {
+        if let Some((run, others)) = self.runs.split_first() {
+            self.before = Some(run);
+            self.runs = others;
+            return Some(run);
+        }
+        let (leaf, behind) = self.leaves.split_first()?;
+        let (run, others) = leaf.runs().split_first()?;
+        self.before = Some(run);
+        self.runs = others;
+        self.leaves = behind;
+        Some(run)
+    }
+}
