@@ -3,6 +3,7 @@ mod crowds;
 mod probes;
 mod steps;
 mod tables;
+mod views;
 
 use arrayvec::ArrayVec;
 use driver_connect::{StartPlan, TableDriver, driver_binding};
