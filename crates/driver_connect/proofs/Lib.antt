@@ -7,6 +7,7 @@ pub mod Levels
 pub mod StopSets
 pub mod Left
 pub mod Idle
+pub mod Ready
 pub mod Makers
 pub mod Counts
 pub mod Samples
