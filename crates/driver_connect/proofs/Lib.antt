@@ -4,6 +4,7 @@ pub mod VersionOrder
 pub mod Opened
 pub mod Passes
 pub mod Levels
+pub mod Whole
 pub mod StopSets
 pub mod Left
 pub mod Idle
