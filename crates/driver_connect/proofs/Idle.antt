@@ -33,7 +33,7 @@ idle_turn c p a h = elim (cases_Bool (is_supported c p a)) [
   | inr e ↦ rw e refl
 ]
 
-idle_pass : (c : Site) (agents : List Agent) (p : Progress) → is_any_carried_out (pass c agents p).starts ≡ false → (pass c agents p).progress ≡ p
+pub idle_pass : (c : Site) (agents : List Agent) (p : Progress) → is_any_carried_out (pass c agents p).starts ≡ false → (pass c agents p).progress ≡ p
 idle_pass c [] p h = refl
 idle_pass c (a ∷ agents) p h =
     let e = idle_turn c p a (none_first (starts_of a (turn c p a)) (pass c agents (after_turn c p a)).starts h) in

@@ -4,9 +4,11 @@ pub mod VersionOrder
 pub mod Opened
 pub mod Passes
 pub mod Levels
+pub mod Whole
 pub mod StopSets
 pub mod Left
 pub mod Idle
+pub mod Ready
 pub mod Makers
 pub mod Counts
 pub mod Samples

@@ -10,6 +10,7 @@ use Rattle.open_agents.specs.OpenItems.{is_of_pair, names}
 use Rattle.driver_connect.specs.declared.agents.Agent.{Agent}
 use Rattle.driver_connect.specs.Stopping.{has_pair, managers_of_made, rounds, stop_set, is_one_of, without_handles, without_opens}
 use Rattle.driver_connect.specs.Starting.{IsNotLower, by_version, Site, Progress, starts_on, is_any_carried_out}
+use Rattle.driver_connect.specs.Readiness.{is_any_ready}
 use Rattle.driver_connect.specs.Connecting.{connected}
 
 -- ---- the stop set
@@ -55,6 +56,10 @@ VersionsLaw =
     (agents : List Agent) →
     Ascending IsNotLower (by_version [] agents)
     × ((v : ℕ) → filter (λ a. a.version == v) (by_version [] agents) ≡ filter (λ a. a.version == v) agents)
+
+-- A start on the handle is carried out exactly where, before all of them, one of the drivers is ready.
+abbrev pub ReadyLaw : Type 0
+ReadyLaw = (c : Site) (named : List ℕ) (p : Progress) → is_any_carried_out (starts_on c named p).starts ≡ is_any_ready c.drivers p.handles p.opens c.controller named
 
 -- Where no start on the handle is carried out, all stays as it was, however deep the connect goes.
 abbrev pub NothingCarriedOutLaw : Type 0

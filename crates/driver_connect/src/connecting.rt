@@ -1,11 +1,12 @@
 //! Connecting a handle, and the handles that are made.
-ghost use Rattle.std.specs.Prelude.{◌≡◌, ◌+◌, ◌<◌, ◌≤◌, ◌^◌, [], map, IfOk, OnOk};
+ghost use Rattle.std.specs.Prelude.{◌≡◌, ◌+◌, ◌<◌, ◌≤◌, ◌^◌, false, [], map, IfOk, OnOk};
 ghost use Rattle.std.specs.Result.{result_map_both};
 ghost use Rattle.driver_connect.specs.Connecting as spec;
 ghost use Rattle.driver_connect.specs.Room.{HasRoom, Grows};
 ghost use Rattle.driver_connect.specs.Starting.{site, starts_on, is_any_carried_out as is_any};
 
 use crate::driver::Driver;
+use crate::readiness::is_any_ready;
 use crate::starting::{Connecting, is_any_carried_out, run_passes};
 use guid_handles::Handles;
 use open_agents::Opens;
@@ -97,6 +98,44 @@ fn is_refused<A: Allocator + Copy>(handles: &Handles<A>, handle: u64, named: &[u
     !handles.is_live(handle) || named.len() > MAX_NAMED
 }
 
+/// Connects a handle on copies of the lists, so many levels of handles below it too, and puts them in
+/// place if a start on the handle was carried out.
+fn connect_copies<D: Driver, A: Allocator + Copy>(
+    alloc: A,
+    handles: &mut Handles<A>,
+    opens: &mut Opens<A>,
+    notify: &Notify<A>,
+    drivers: &[D],
+    handle: u64,
+    named: &[u64],
+    recursive: bool,
+) -> Result<Vec<u64, A>, Status>
+    requires valid { spec.connect_refused handles.old handle named.now ≡ false }
+    requires numbers { handles.old.last_number < 2 ^ 61 }
+    requires stamps { handles.old.last_stamp < 2 ^ 61 }
+    ensures connects { spec.Connects (site (map D.meaning drivers.now) notify.now handle) named.now recursive handles.old opens.old (result_map_both (λ v. v.items) (λ e. e) result) handles.new opens.new }
+    ensures numbers { handles.new.last_number ≤ handles.old.last_number + 4096 }
+    ensures stamps { handles.new.last_stamp ≤ handles.old.last_stamp + 16384 }
+{
+    let Ok(mut connecting) = Connecting::begin(alloc, handles, opens) else {
+        return Err(Status::OutOfResources);
+    };
+    let levels = if recursive { LEVELS_BELOW } else { 0 };
+    match connect_levels(
+        alloc,
+        &mut connecting,
+        drivers,
+        notify,
+        handle,
+        named,
+        levels,
+    ) {
+        Ok(true) => Ok(connecting.put_in_place(handles, opens)),
+        Ok(false) => Err(Status::NotFound),
+        Err(_) => Err(Status::OutOfResources),
+    }
+}
+
 /// Starts drivers on a handle, those first that are named, and where `recursive` is set on the
 /// handles that this makes, eight levels deep. It answers the events that are signaled. On an `Err`
 /// nothing changes.
@@ -119,20 +158,10 @@ pub fn connect<D: Driver, A: Allocator + Copy>(
     if is_refused(handles, handle, named) {
         return Err(Status::InvalidParameter);
     }
-    let Ok(mut connecting) = Connecting::begin(alloc, handles, opens) else {
-        return Err(Status::OutOfResources);
-    };
-    let levels = if recursive { LEVELS_BELOW } else { 0 };
-    match connect_levels(
-        alloc,
-        &mut connecting,
-        drivers,
-        notify,
-        handle,
-        named,
-        levels,
-    ) {
-        Ok(true) => Ok(connecting.put_in_place(handles, opens)),
+    match is_any_ready(alloc, handles, opens, drivers, handle, named) {
+        Ok(true) => connect_copies(
+            alloc, handles, opens, notify, drivers, handle, named, recursive,
+        ),
         Ok(false) => Err(Status::NotFound),
         Err(_) => Err(Status::OutOfResources),
     }

@@ -1,5 +1,5 @@
 //! The laws of stopping and connecting, each the contract of a function that does nothing.
-ghost use Rattle.driver_connect.specs.Laws.{GoneLaw, MakersItemLaw, NothingCarriedOutLaw, RoundsLaw, StaysLaw, StopSetLaw, VersionsLaw};
+ghost use Rattle.driver_connect.specs.Laws.{GoneLaw, MakersItemLaw, NothingCarriedOutLaw, ReadyLaw, RoundsLaw, StaysLaw, StopSetLaw, VersionsLaw};
 
 /// The stop set of some pairs holds them and the managers of all handles that its pairs made, and it
 /// is the least set that does.
@@ -25,6 +25,12 @@ pub fn stays_law()
 /// Drivers are tried by version downwards, and those of one version keep their order.
 pub fn versions_law()
     ensures { VersionsLaw }
+{}
+
+/// A connect carries out a start on its handle exactly where one of the drivers is supported there as
+/// the lists are, with a plan that can be carried out.
+pub fn ready_law()
+    ensures { ReadyLaw }
 {}
 
 /// A connect that carries out no start on its handle changes nothing.

@@ -1,10 +1,9 @@
 //! Many children, and many drivers.
-use super::{guid, opening, table};
+use super::steps::{Step, assert_steps};
+use super::{BINDING, guid, opening, table};
 use arrayvec::ArrayVec;
-use driver_connect::{Driver, StartPlan, connect, disconnect, driver_binding};
-use guid_handles::Handles;
-use open_agents::Opens;
-use protocol_notify::Notify;
+use driver_connect::{Driver, StartPlan};
+use page_ranges::Status;
 use std::test::Fail;
 use uuid::Uuid;
 
@@ -19,11 +18,11 @@ fn child(first: Uuid, second: Uuid) -> ArrayVec<(Uuid, u64), 4> {
 }
 
 /// A plan that opens a GUID and makes eight children with it and another.
-fn wide(open: Uuid, other: Uuid) -> StartPlan {
+fn wide(open: u8, other: u8) -> StartPlan {
     let mut plan = opening(open);
     for _ in 0..8 {
         if !plan.children.is_full() {
-            plan.children.push(child(other, open));
+            plan.children.push(child(guid(other), guid(open)));
         }
     }
     plan
@@ -31,85 +30,43 @@ fn wide(open: Uuid, other: Uuid) -> StartPlan {
 
 #[test]
 fn eight_children_with_four_interfaces(rt: HostRuntime) {
-    let alloc = rt.alloc();
-    let one = guid(1);
-    let mut handles = Handles::new(alloc);
-    let mut opens = Opens::new(alloc);
-    let mut notify = Notify::new(alloc);
-    assert_eq!(rt; notify.register(&handles, guid(13), 6), Ok(1));
-    assert_eq!(rt; handles.install(0, one, 0, 0), Ok(1));
-    assert_eq!(rt; handles.install(0, driver_binding(), 0, 0), Ok(2));
-    let drivers = [table(1, one, wide(one, guid(11)))];
-    match connect(
-        alloc,
-        &mut handles,
-        &mut opens,
-        &notify,
-        &drivers,
-        1,
-        &[],
-        false,
-    ) {
-        Ok(events) => assert_eq!(rt; events.as_slice(), [6, 6, 6, 6, 6, 6, 6, 6].as_slice()),
-        Err(_) => panic!(rt; "nothing was started"),
-    }
-    assert_eq!(rt; handles.all().len(), 10);
-    assert_eq!(rt; handles.interface(10, guid(13)), Some(3));
-    assert_eq!(rt; handles.last_stamp(), 34);
+    assert_steps(&rt, &[table(1, 1, wide(1, 11))], EIGHT_CHILDREN);
 }
+
+const EIGHT_CHILDREN: &[Step] = &[
+    Step::Register(13, 6),
+    Step::Install(0, &[(1, 0)], 1),
+    Step::Install(0, &[(BINDING, 0)], 2),
+    Step::Connect(1, &[], false, Status::Success, &[6, 6, 6, 6, 6, 6, 6, 6]),
+    Step::Counts(10, 34),
+    Step::Interface(10, 13, Some(3)),
+];
 
 #[test]
 fn all_handles_are_drivers(rt: HostRuntime) {
-    let alloc = rt.alloc();
-    let one = guid(1);
-    let mut handles = Handles::new(alloc);
-    let mut opens = Opens::new(alloc);
-    let notify = Notify::new(alloc);
-    let pairs = [(one, 0), (driver_binding(), 0)];
-    assert_eq!(rt; handles.install_many(0, &pairs), Ok(1));
-    let drivers = [table(1, one, wide(one, driver_binding()))];
-    let events = connect(
-        alloc,
-        &mut handles,
-        &mut opens,
-        &notify,
-        &drivers,
-        1,
-        &[],
-        true,
-    );
-    assert_eq!(rt; events.is_ok(), true);
-    assert_eq!(rt; handles.all().len(), 4089);
+    assert_steps(&rt, &[table(1, 1, wide(1, BINDING))], DRIVERS);
 }
+
+const DRIVERS: &[Step] = &[
+    Step::Install(0, &[(1, 0), (BINDING, 0)], 1),
+    Step::Connect(1, &[], true, Status::Success, &[]),
+    Step::Counts(4089, 16_354),
+];
 
 #[test]
 fn boxed_drivers(rt: HostRuntime) -> Result<(), Fail> {
     let alloc = rt.alloc();
-    let one = guid(1);
-    let mut handles = Handles::new(alloc);
-    let mut opens = Opens::new(alloc);
-    let notify = Notify::new(alloc);
-    assert_eq!(rt; handles.install(0, one, 0, 0), Ok(1));
-    assert_eq!(rt; handles.install(0, driver_binding(), 0, 0), Ok(2));
     let mut drivers: Vec<Box<dyn Driver>> = Vec::new(alloc);
-    drivers.push(Box::new(alloc, table(1, one, opening(one)))?)?;
-    let boxes = drivers.as_slice();
-    let events = connect(
-        alloc,
-        &mut handles,
-        &mut opens,
-        &notify,
-        boxes,
-        1,
-        &[2],
-        true,
-    );
-    assert_eq!(rt; events.is_ok(), true);
-    assert_eq!(rt; opens.managers(1)?.as_slice(), [(1, 2)].as_slice());
-    assert_eq!(rt;
-        disconnect(alloc, &mut handles, &mut opens, boxes, 1, 0),
-        Ok(())
-    );
-    assert_eq!(rt; opens.managers(1)?.len(), 0);
+    drivers.push(Box::new(alloc, table(1, 1, opening(1)))?)?;
+    assert_steps(&rt, drivers.as_slice(), BOXED);
     Ok(())
 }
+
+const BOXED: &[Step] = &[
+    Step::Install(0, &[(1, 0)], 1),
+    Step::Install(0, &[(BINDING, 0)], 2),
+    Step::Connect(1, &[2], true, Status::Success, &[]),
+    Step::Managers(1, &[(1, 2)]),
+    Step::Disconnect(1, 0, Status::Success),
+    Step::Managers(1, &[]),
+];

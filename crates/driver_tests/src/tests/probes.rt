@@ -2,13 +2,10 @@
 ghost use Rattle.std.specs.Prelude.{◌≡◌};
 ghost use Rattle.driver_tests.specs.Probes as spec;
 
-use super::{guid, opening};
-use driver_connect::{Driver, ProtocolView, StartPlan, View, connect, disconnect, driver_binding};
-use guid_handles::Handles;
-use open_agents::Opens;
+use super::steps::{Step, assert_steps};
+use super::{BINDING, guid, opening};
+use driver_connect::{Driver, ProtocolView, StartPlan, View};
 use page_ranges::Status;
-use protocol_notify::Notify;
-use std::test::Fail;
 use uuid::Uuid;
 
 /// A driver that is supported where a GUID is held, or where it is not, and that may be stopped on
@@ -56,10 +53,10 @@ impl Driver for Probe {
 }
 
 /// A driver that asks for a GUID, held or not, and opens another.
-fn asking(version: u32, asks: Uuid, held: bool, opens: Uuid) -> Probe {
+fn asking(version: u32, asks: u8, held: bool, opens: u8) -> Probe {
     Probe {
         version,
-        asks,
+        asks: guid(asks),
         held,
         plan: opening(opens),
         stays_on: 0,
@@ -67,112 +64,53 @@ fn asking(version: u32, asks: Uuid, held: bool, opens: Uuid) -> Probe {
     }
 }
 
+/// The first is asked first, and is supported once the second has opened its GUID.
 #[test]
-fn second_pass(rt: HostRuntime) -> Result<(), Fail> {
-    let alloc = rt.alloc();
-    let (one, two) = (guid(1), guid(2));
-    let mut handles = Handles::new(alloc);
-    let mut opens = Opens::new(alloc);
-    let notify = Notify::new(alloc);
-    assert_eq!(rt; handles.install_many(0, &[(one, 1), (two, 2)]), Ok(1));
-    assert_eq!(rt; handles.install(0, driver_binding(), 0, 0), Ok(2));
-    assert_eq!(rt; handles.install(0, driver_binding(), 0, 1), Ok(3));
-    // The first is asked first, and is supported once the second has opened its GUID.
-    let drivers = [asking(2, two, true, one), asking(1, two, false, two)];
-    let events = connect(
-        alloc,
-        &mut handles,
-        &mut opens,
-        &notify,
-        &drivers,
-        1,
-        &[],
-        false,
-    );
-    assert_eq!(rt; events.is_ok(), true);
-    assert_eq!(rt; opens.managers(1)?.as_slice(), [(1, 3), (1, 2)].as_slice());
-    Ok(())
+fn second_pass(rt: HostRuntime) {
+    let drivers = [asking(2, 2, true, 1), asking(1, 2, false, 2)];
+    assert_steps(&rt, &drivers, SECOND_PASS);
 }
 
+const SECOND_PASS: &[Step] = &[
+    Step::Install(0, &[(1, 1), (2, 2)], 1),
+    Step::Install(0, &[(BINDING, 0)], 2),
+    Step::Install(0, &[(BINDING, 1)], 3),
+    Step::Connect(1, &[], false, Status::Success, &[]),
+    Step::Managers(1, &[(1, 3), (1, 2)]),
+];
+
+/// The plan opens a GUID that is not there.
 #[test]
-fn starts_that_are_not_carried_out(rt: HostRuntime) -> Result<(), Fail> {
-    let alloc = rt.alloc();
-    let (one, two) = (guid(1), guid(2));
-    let mut handles = Handles::new(alloc);
-    let mut opens = Opens::new(alloc);
-    let notify = Notify::new(alloc);
-    assert_eq!(rt; handles.install(0, one, 0, 1), Ok(1));
-    assert_eq!(rt; handles.install(0, driver_binding(), 0, 0), Ok(2));
-    let drivers = [asking(1, one, false, two)];
-    let events = connect(
-        alloc,
-        &mut handles,
-        &mut opens,
-        &notify,
-        &drivers,
-        1,
-        &[],
-        true,
-    );
-    assert_eq!(rt; events.err(), Some(Status::NotFound));
-    assert_eq!(rt; opens.managers(1)?.len(), 0);
-    Ok(())
+fn starts_that_are_not_carried_out(rt: HostRuntime) {
+    assert_steps(&rt, &[asking(1, 1, false, 2)], NOT_CARRIED_OUT);
 }
 
+const NOT_CARRIED_OUT: &[Step] = &[
+    Step::Install(0, &[(1, 1)], 1),
+    Step::Install(0, &[(BINDING, 0)], 2),
+    Step::Connect(1, &[], true, Status::NotFound, &[]),
+    Step::Managers(1, &[]),
+];
+
+/// The first stays on handle 4, and on others while the second has its GUID open.
 #[test]
-fn drivers_that_stay(rt: HostRuntime) -> Result<(), Fail> {
-    let alloc = rt.alloc();
-    let (one, two) = (guid(1), guid(2));
-    let mut handles = Handles::new(alloc);
-    let mut opens = Opens::new(alloc);
-    let notify = Notify::new(alloc);
-    assert_eq!(rt; handles.install_many(0, &[(one, 1), (two, 2)]), Ok(1));
-    assert_eq!(rt; handles.install(0, driver_binding(), 0, 0), Ok(2));
-    assert_eq!(rt; handles.install(0, driver_binding(), 0, 1), Ok(3));
-    assert_eq!(rt; handles.install(0, one, 0, 1), Ok(4));
-    let mut stays = asking(2, one, false, one);
-    stays.stays_while_held = two;
+fn drivers_that_stay(rt: HostRuntime) {
+    let mut stays = asking(2, 1, false, 1);
+    stays.stays_while_held = guid(2);
     stays.stays_on = 4;
-    let drivers = [stays, asking(1, two, false, two)];
-    let first = connect(
-        alloc,
-        &mut handles,
-        &mut opens,
-        &notify,
-        &drivers,
-        1,
-        &[],
-        false,
-    );
-    assert_eq!(rt; first.is_ok(), true);
-    let other = connect(
-        alloc,
-        &mut handles,
-        &mut opens,
-        &notify,
-        &drivers,
-        4,
-        &[],
-        false,
-    );
-    assert_eq!(rt; other.is_ok(), true);
-    // The other driver holds the second GUID.
-    assert_eq!(rt;
-        disconnect(alloc, &mut handles, &mut opens, &drivers, 1, 2),
-        Err(Status::DeviceError)
-    );
-    assert_eq!(rt;
-        disconnect(alloc, &mut handles, &mut opens, &drivers, 4, 2),
-        Err(Status::DeviceError)
-    );
-    assert_eq!(rt;
-        disconnect(alloc, &mut handles, &mut opens, &drivers, 1, 3),
-        Ok(())
-    );
-    assert_eq!(rt;
-        disconnect(alloc, &mut handles, &mut opens, &drivers, 1, 2),
-        Ok(())
-    );
-    assert_eq!(rt; opens.managers(4)?.as_slice(), [(4, 2)].as_slice());
-    Ok(())
+    assert_steps(&rt, &[stays, asking(1, 2, false, 2)], STAYS);
 }
+
+const STAYS: &[Step] = &[
+    Step::Install(0, &[(1, 1), (2, 2)], 1),
+    Step::Install(0, &[(BINDING, 0)], 2),
+    Step::Install(0, &[(BINDING, 1)], 3),
+    Step::Install(0, &[(1, 1)], 4),
+    Step::Connect(1, &[], false, Status::Success, &[]),
+    Step::Connect(4, &[], false, Status::Success, &[]),
+    Step::Disconnect(1, 2, Status::DeviceError),
+    Step::Disconnect(4, 2, Status::DeviceError),
+    Step::Disconnect(1, 3, Status::Success),
+    Step::Disconnect(1, 2, Status::Success),
+    Step::Managers(4, &[(4, 2)]),
+];

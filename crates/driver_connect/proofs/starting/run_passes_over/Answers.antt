@@ -1,6 +1,7 @@
-use Rattle.std.proofs.Common.{◌≡◌, ◌<◌, ◌==◌, ◌++◌, true, false, map, length, sym, ◌∙◌, rules, arith, vec_len}
+use Rattle.std.proofs.Common.{◌≡◌, ◌<◌, ◌≤◌, ◌==◌, ◌++◌, true, false, map, length, sym, ◌∙◌, rules, arith, vec_len}
 use Rattle.driver_connect.specs.Starting.{site}
 use Rattle.driver_connect.proofs.Passes.{passes_end, passes_more, grows_further, room_stays}
+use Rattle.driver_connect.proofs.Whole.{passes_done}
 use Rattle.driver_connect.proofs.starting.run_passes_over.Goals as goal
 
 pub returns-then-is_empty-clause-starts : goal.returns-then-is_empty-clause-starts
@@ -39,3 +40,13 @@ loop-k-preserved g c =
       grows = grows_further _ _ _ c.loop-k.invariant.grows c.in_ok-pass.ensures.grows;
       room = room_stays _ _ c.loop-k.invariant.room c.in_ok-pass.ensures.grows;
     }
+
+pub returns-clause-starts : goal.returns-clause-starts
+returns-clause-starts g c =
+    let l : length c.args.agents.items ≤ c.loop-k.k = omega (arith, c.loop-k.invariant.count) in
+    (passes_done (site (map g.D.Driver.meaning c.args.drivers.now) c.args.notify.now c.args.controller) c.loop-k.starts.items c.loop-k.left.items (length c.args.agents.items) c.loop-k.k c.loop-k.connecting _ l c.loop-k.invariant.whole).0
+
+pub returns-clause-progress : goal.returns-clause-progress
+returns-clause-progress g c =
+    let l : length c.args.agents.items ≤ c.loop-k.k = omega (arith, c.loop-k.invariant.count) in
+    (passes_done (site (map g.D.Driver.meaning c.args.drivers.now) c.args.notify.now c.args.controller) c.loop-k.starts.items c.loop-k.left.items (length c.args.agents.items) c.loop-k.k c.loop-k.connecting _ l c.loop-k.invariant.whole).1

@@ -1,6 +1,18 @@
+use Rattle.std.proofs.Common.{map, ap}
+use Rattle.std.proofs.lemmas.Result.{on_ok_weaker}
 use Rattle.driver_connect.proofs.Passes.{planned_unheld}
+use Rattle.driver_connect.proofs.Whole.{carried_whole}
 use Rattle.driver_connect.proofs.starting.Connecting.carry_out.Goals as goal
 
 pub open_for_driver-requires-clause-free : goal.open_for_driver-requires-clause-free
 open_for_driver-requires-clause-free g c =
     rw c.as_slice.ensures.value (rw (← c.self.view_is, ← c.plan.view_is) at (planned_unheld c.args.self.now c.args.controller c.args.plan.now c.requires.can))
+
+pub returns-clause-progress : goal.returns-clause-progress
+returns-clause-progress g c =
+    rw (← c.self.view_is, ← c.plan.view_is)
+    (on_ok_weaker c.signal_children.result
+    (λ e. carried_whole c.args.notify.now c.args.controller c.args.agent _ _ _ c.as_slice.result.now (map (λ c. c.items) c.as_slice-2.result.now) (map (λ c. c.items) c.as_slice-3.result.now)
+    c.as_slice.ensures.value (ap (map (λ c. c.items)) c.as_slice-2.ensures.value) (ap (map (λ c. c.items)) c.as_slice-3.ensures.value)
+    c.in_ok-open_for_driver.ensures c.in_ok-make_children.ensures.handles e)
+    c.signal_children.ensures)

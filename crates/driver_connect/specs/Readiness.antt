@@ -1,0 +1,19 @@
+-- Drivers that would be started on a handle, and their starts carried out, on the lists as they are.
+use Rattle.std.specs.Prelude.{ℕ, ◌&&◌, Bool, List}
+use Rattle.std.specs.List.{list_any}
+use Rattle.guid_handles.specs.HandleTables.{HandleTable}
+use Rattle.open_agents.specs.declared.items.OpenRecord.{OpenRecord}
+use Rattle.driver_connect.specs.declared.agents.Agent.{Agent}
+use Rattle.driver_connect.specs.declared.view.ProtocolView.{ProtocolView}
+use Rattle.driver_connect.specs.Drivers.{Meaning, protocols_on, supports_at, plan_at}
+use Rattle.driver_connect.specs.Starting.{can_start, agents_for}
+
+-- a driver is supported on a handle with some protocols, and its plan can be carried out there
+abbrev pub is_ready : List Meaning → HandleTable → List ProtocolView → ℕ → Agent → Bool
+is_ready ds t protocols n a =
+    supports_at ds a.driver (record { agent = a.handle; controller = n; protocols = protocols })
+    && can_start t protocols (plan_at ds a.driver (record { agent = a.handle; controller = n; protocols = protocols }))
+
+-- one of the drivers to be tried on a handle is ready
+abbrev pub is_any_ready : List Meaning → HandleTable → List OpenRecord → ℕ → List ℕ → Bool
+is_any_ready ds t opens n named = list_any (is_ready ds t (protocols_on t opens n) n) (agents_for ds t named)

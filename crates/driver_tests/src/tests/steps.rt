@@ -1,0 +1,301 @@
+//! Calls on lists, and what is asserted of them, as tables.
+use super::guid;
+use driver_connect::{Driver, connect, disconnect, stop};
+use guid_handles::Handles;
+use open_agents::{OpenItem, Opens};
+use page_ranges::Status;
+use protocol_notify::Notify;
+use std::alloc::Allocator;
+use std::process::Abort;
+
+/// A call, or a look at the lists. GUIDs stand as bytes.
+pub enum Step {
+    /// A handle or 0, interfaces as pairs of GUID and value, and the handle that carries them then.
+    Install(u64, &'static [(u8, u64)], u64),
+    /// A GUID, and the event that is registered for it, alone.
+    Register(u8, u64),
+    /// A handle, a GUID, an agent, a controller and attributes: the first open item.
+    Open(u64, u8, u64, u64, u32),
+    /// A handle, a GUID, an agent and a controller.
+    Close(u64, u8, u64, u64),
+    /// A handle, the drivers named, and whether the handles that are made are connected too; the
+    /// status, and the events signaled.
+    Connect(u64, &'static [u64], bool, Status, &'static [u64]),
+    /// A handle, a driver or 0, and the status.
+    Disconnect(u64, u64, Status),
+    /// Pairs and the handle of the call, and whether they are stopped.
+    Stop(&'static [(u64, u64)], u64, bool),
+    /// All handles.
+    Handles(&'static [u64]),
+    /// How many handles there are, and the last stamp.
+    Counts(usize, u64),
+    /// A handle, a GUID, and the value of the interface.
+    Interface(u64, u8, Option<u64>),
+    /// A handle and what made it.
+    Maker(u64, Option<(u64, u64)>),
+    /// A handle, and the pairs that manage it.
+    Managers(u64, &'static [(u64, u64)]),
+    /// A handle, a GUID, and the items open there.
+    Items(u64, u8, &'static [OpenItem]),
+}
+
+/// The lists that drivers are tried on.
+#[derive(Drop)]
+struct Lists<A: Allocator> {
+    handles: Handles<A>,
+    opens: Opens<A>,
+    notify: Notify<A>,
+}
+
+/// Empty lists.
+fn no_lists<A: Allocator + Copy>(alloc: A) -> Lists<A> {
+    Lists {
+        handles: Handles::new(alloc),
+        opens: Opens::new(alloc),
+        notify: Notify::new(alloc),
+    }
+}
+
+/// Installs interfaces on a handle, and answers it.
+fn install<A: Allocator + Copy>(
+    rt: &impl Abort,
+    handles: &mut Handles<A>,
+    handle: u64,
+    pairs: &[(u8, u64)],
+) -> u64 {
+    let mut number = handle;
+    for (byte, value) in pairs {
+        number = install_one(rt, handles, number, *byte, *value);
+    }
+    number
+}
+
+fn install_one<A: Allocator + Copy>(
+    rt: &impl Abort,
+    handles: &mut Handles<A>,
+    handle: u64,
+    byte: u8,
+    value: u64,
+) -> u64 {
+    if handles.last_number() >= 5000 || handles.last_stamp() >= 50_000 {
+        panic!(rt; "more handles than the tests have");
+    }
+    match handles.install(handle, guid(byte), 0, value) {
+        Ok(number) => number,
+        Err(_) => panic!(rt; "an interface is refused"),
+    }
+}
+
+/// The registration of an event for a GUID, and no other.
+fn registered<A: Allocator + Copy>(
+    rt: &impl Abort,
+    alloc: A,
+    handles: &Handles<A>,
+    byte: u8,
+    event: u64,
+) -> Notify<A> {
+    let mut notify = Notify::new(alloc);
+    assert!(rt; notify.register(handles, guid(byte), event).is_ok());
+    notify
+}
+
+/// An open item, and no other.
+fn opened<A: Allocator + Copy>(
+    rt: &impl Abort,
+    alloc: A,
+    (handle, byte): (u64, u8),
+    (agent, controller): (u64, u64),
+    attributes: u32,
+) -> Opens<A> {
+    let mut opens = Opens::new(alloc);
+    assert!(rt;
+        opens
+            .add(handle, guid(byte), agent, controller, attributes)
+            .is_ok()
+    );
+    opens
+}
+
+/// Connects a handle, and answers the events.
+fn connect_one<D: Driver, A: Allocator + Copy>(
+    rt: &impl Abort,
+    alloc: A,
+    lists: &mut Lists<A>,
+    drivers: &[D],
+    handle: u64,
+    named: &[u64],
+    recursive: bool,
+) -> Result<Vec<u64, A>, Status> {
+    if lists.handles.last_number() >= 5000 || lists.handles.last_stamp() >= 50_000 {
+        panic!(rt; "more handles than the tests have");
+    }
+    connect(
+        alloc,
+        &mut lists.handles,
+        &mut lists.opens,
+        &lists.notify,
+        drivers,
+        handle,
+        named,
+        recursive,
+    )
+}
+
+fn assert_events<A: Allocator + Copy>(
+    rt: &impl Abort,
+    told: &Result<Vec<u64, A>, Status>,
+    status: Status,
+    events: &[u64],
+) {
+    match told {
+        Ok(signaled) => {
+            assert_eq!(rt; Status::Success, status);
+            assert_eq!(rt; signaled.as_slice(), events);
+        }
+        Err(refusal) => assert_eq!(rt; *refusal, status),
+    }
+}
+
+fn assert_disconnect<D: Driver, A: Allocator + Copy>(
+    rt: &impl Abort,
+    alloc: A,
+    lists: &mut Lists<A>,
+    drivers: &[D],
+    handle: u64,
+    driver: u64,
+    status: Status,
+) {
+    let told = disconnect(
+        alloc,
+        &mut lists.handles,
+        &mut lists.opens,
+        drivers,
+        handle,
+        driver,
+    );
+    assert_eq!(rt;
+        told.err().unwrap_or(Status::Success),
+        status,
+        "{handle} {driver}"
+    );
+}
+
+fn assert_stop<D: Driver, A: Allocator + Copy>(
+    rt: &impl Abort,
+    alloc: A,
+    lists: &mut Lists<A>,
+    drivers: &[D],
+    pairs: &[(u64, u64)],
+    handle: u64,
+    stopped: bool,
+) {
+    let told = stop(
+        alloc,
+        &mut lists.handles,
+        &mut lists.opens,
+        drivers,
+        pairs,
+        handle,
+        None,
+    );
+    assert_eq!(rt; told.ok(), Some(stopped));
+}
+
+fn assert_managers<A: Allocator + Copy>(
+    rt: &impl Abort,
+    opens: &Opens<A>,
+    handle: u64,
+    pairs: &[(u64, u64)],
+) {
+    match opens.managers(handle) {
+        Ok(managers) => assert_eq!(rt; managers.as_slice(), pairs, "{handle}"),
+        Err(_) => panic!(rt; "out of memory"),
+    }
+}
+
+fn assert_items<A: Allocator + Copy>(
+    rt: &impl Abort,
+    opens: &Opens<A>,
+    handle: u64,
+    byte: u8,
+    wanted: &[OpenItem],
+) {
+    match opens.items(handle, guid(byte)) {
+        Ok(items) => assert_eq!(rt; items.as_slice(), wanted, "{handle}"),
+        Err(_) => panic!(rt; "out of memory"),
+    }
+}
+
+/// Changes the lists by a step other than a call on drivers.
+fn prepare<A: Allocator + Copy>(rt: &impl Abort, alloc: A, lists: &mut Lists<A>, step: &Step) {
+    match step {
+        Step::Install(handle, pairs, number) => {
+            assert_eq!(rt; install(rt, &mut lists.handles, *handle, pairs), *number);
+        }
+        Step::Register(byte, event) => {
+            lists.notify = registered(rt, alloc, &lists.handles, *byte, *event);
+        }
+        Step::Open(handle, byte, agent, controller, attributes) => {
+            lists.opens = opened(
+                rt,
+                alloc,
+                (*handle, *byte),
+                (*agent, *controller),
+                *attributes,
+            );
+        }
+        Step::Close(handle, byte, agent, controller) => {
+            assert!(rt; lists.opens.close(*handle, guid(*byte), *agent, *controller));
+        }
+        _ => assert_lists(rt, lists, step),
+    }
+}
+
+/// Asserts what a step says of the lists.
+fn assert_lists<A: Allocator + Copy>(rt: &impl Abort, lists: &Lists<A>, step: &Step) {
+    match step {
+        Step::Handles(numbers) => assert_eq!(rt; lists.handles.all(), *numbers),
+        Step::Counts(count, stamp) => {
+            assert_eq!(rt; lists.handles.all().len(), *count);
+            assert_eq!(rt; lists.handles.last_stamp(), *stamp);
+        }
+        Step::Interface(handle, byte, value) => {
+            assert_eq!(rt; lists.handles.interface(*handle, guid(*byte)), *value);
+        }
+        Step::Maker(handle, maker) => assert_eq!(rt; lists.handles.maker(*handle), *maker),
+        Step::Managers(handle, pairs) => assert_managers(rt, &lists.opens, *handle, pairs),
+        Step::Items(handle, byte, items) => assert_items(rt, &lists.opens, *handle, *byte, items),
+        _ => panic!(rt; "no look at the lists"),
+    }
+}
+
+/// Makes a call and asserts what it answers, or looks at the lists.
+fn assert_step<D: Driver, A: Allocator + Copy>(
+    rt: &impl Abort,
+    alloc: A,
+    lists: &mut Lists<A>,
+    drivers: &[D],
+    step: &Step,
+) {
+    match step {
+        Step::Connect(handle, named, recursive, status, events) => {
+            let told = connect_one(rt, alloc, lists, drivers, *handle, named, *recursive);
+            assert_events(rt, &told, *status, events);
+        }
+        Step::Disconnect(handle, driver, status) => {
+            assert_disconnect(rt, alloc, lists, drivers, *handle, *driver, *status);
+        }
+        Step::Stop(pairs, handle, stopped) => {
+            assert_stop(rt, alloc, lists, drivers, pairs, *handle, *stopped);
+        }
+        _ => prepare(rt, alloc, lists, step),
+    }
+}
+
+/// Makes calls on lists that are empty at first.
+pub fn assert_steps<D: Driver>(rt: &(impl AllocGlobal + Abort), drivers: &[D], steps: &[Step]) {
+    let mut lists = no_lists(rt.alloc());
+    for step in steps {
+        assert_step(rt, rt.alloc(), &mut lists, drivers, step);
+    }
+}
