@@ -1,13 +1,15 @@
 -- What is asked of an interface's items is asked of those in the block of its handle alone.
-use Rattle.std.proofs.Common.{◌≡◌, ℕ, ◌==◌, ◌&&◌, ◌||◌, not, Bool, true, false, List, [], ◌∷◌, map, is_some, inl, inr, refl, sym, ap, ◌∙◌, ◌/◌}
-use Rattle.std.specs.List.{filter, list_any}
+use Rattle.std.proofs.Common.{◌≡◌, ℕ, ◌==◌, ◌&&◌, ◌||◌, not, Bool, true, false, List, [], ◌∷◌, map, is_some, inl, inr, refl, sym, ap, ◌∙◌, ◌/◌, Option, Some, None}
+use Rattle.std.specs.List.{filter, list_any, AllByRecursion}
 use Rattle.std.proofs.lemmas.Bool.{cases_Bool, eq-eqb}
-use Rattle.guid_handles.specs.HandleTables.{HandleTable, same_guid}
+use Rattle.guid_handles.specs.HandleTables.{HandleTable, is_live, same_guid}
 use Rattle.guid_handles.proofs.SortedLists.{any_found, find_filter}
 use Rattle.guid_handles.proofs.Grouped.{is_same}
 use Rattle.open_agents.specs.declared.items.OpenRecord.{OpenRecord}
 use Rattle.open_agents.specs.OpenItems.{is_for_driver, is_exclusive, is_open_on, is_of_pair, is_closed_by, item_of, items_on}
-use Rattle.open_agents.specs.OpenRule.{has_equal, has_of_agent, has_holder, has_exclusive, is_driver_item, driver_item, open_rule}
+use Rattle.open_agents.specs.declared.items.Decision.TheVariants.{Add}
+use Rattle.open_agents.specs.OpenRule.{add_or_stop, has_equal, has_of_agent, has_holder, has_exclusive, is_driver_item, driver_item, names_badly, needs_agent, open_rule}
+use Rattle.open_agents.proofs.Blocked.{none_of_agent_0}
 use Rattle.open_agents.specs.Blocks.{block_size, is_near}
 
 first_part : (a b : Bool) → (a && b) ≡ true → a ≡ true
@@ -71,4 +73,44 @@ none_dropped p [] h = refl
 none_dropped p (x ∷ xs) h = elim (cases_Bool (p x)) [
   | inl e ↦ let n = rw e at h in cc
   | inr e ↦ rw e (ap (λ r. x ∷ r) (none_dropped p xs (rw e at h)))
+]
+
+-- a test of an interface's items as they are listed
+pub any_listed : (q : ℕ → Bool) (n : ℕ) (guid : List ℕ) (opens : List OpenRecord) → list_any (λ o. is_open_on n guid o && q o.attributes) opens ≡ list_any (λ i. q i.attributes) (items_on opens n guid)
+any_listed q n guid [] = refl
+any_listed q n guid (o ∷ os) = elim (cases_Bool (is_open_on n guid o)) [
+  | inl e ↦ rw e (ap (λ r. q o.attributes || r) (any_listed q n guid os))
+  | inr e ↦ rw e (any_listed q n guid os)
+]
+
+pub listed_near : (q : ℕ → Bool) (n : ℕ) (guid : List ℕ) (opens : List OpenRecord) → list_any (λ o. is_open_on n guid o && q o.attributes) (filter (is_near n) opens) ≡ list_any (λ i. q i.attributes) (items_on opens n guid)
+listed_near q n guid opens = any_near n guid (λ o. q o.attributes) opens ∙ any_listed q n guid opens
+
+-- ---- agent 0
+
+added : (o : Option OpenRecord) → add_or_stop false o ≡ Add
+added None = refl
+added (Some o) = refl
+
+none_needed : (a b c d : Bool) → (a || (b || (c || d))) ≡ false → (a ≡ false) × (c ≡ false) × (d ≡ false)
+none_needed false false false false h = (refl, refl, refl)
+none_needed false false false true h = cc
+none_needed false false true d h = cc
+none_needed false true c d h = cc
+none_needed true b c d h = cc
+
+lacks_agent : (t : HandleTable) (n controller a : ℕ) → needs_agent a ≡ true → names_badly t n 0 controller a ≡ true
+lacks_agent t n controller a e = elim (cases_Bool (is_live t n)) [
+  | inl l ↦ rw (l, e) refl
+  | inr l ↦ rw l refl
+]
+
+-- an open by agent 0 is decided without items
+pub rule_agent_0 : (t : HandleTable) (opens : List OpenRecord) (n : ℕ) (guid : List ℕ) (controller a : ℕ) → AllByRecursion (λ o. (o.agent == 0) ≡ false) opens
+    → open_rule t [] n guid 0 controller a ≡ open_rule t opens n guid 0 controller a
+rule_agent_0 t opens n guid controller a h = elim (cases_Bool (needs_agent a)) [
+  | inl e ↦ rw (lacks_agent t n controller a e) refl
+  | inr e ↦
+      let k = none_needed (a == 0x20) (a == 0x8) (a == 0x10) (a == 0x30) e in
+      rw (none_of_agent_0 n guid controller a opens h) (rw (k.0, k.1, k.2) (rw (added (driver_item opens n guid)) refl))
 ]

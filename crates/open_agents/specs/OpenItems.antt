@@ -44,6 +44,17 @@ item_of o = record { agent = o.agent; controller = o.controller; attributes = o.
 abbrev pub items_on : List OpenRecord → ℕ → List ℕ → List OpenItem
 items_on opens n guid = map item_of (filter (is_open_on n guid) opens)
 
+-- a driver has an interface open
+abbrev pub is_driven : List OpenRecord → ℕ → List ℕ → Bool
+is_driven opens n guid = list_any (λ i. is_for_driver i.attributes) (items_on opens n guid)
+
+-- an open for a child, or an exclusive one of no driver, keeps its interface
+abbrev pub keeps : ℕ → Bool
+keeps a = (a == 0x8) || (a == 0x20)
+
+abbrev pub is_kept : List OpenRecord → ℕ → List ℕ → Bool
+is_kept opens n guid = list_any (λ i. keeps i.attributes) (items_on opens n guid)
+
 -- the controller and the agent of each item that makes them manage a handle
 abbrev pub managers_of : List OpenRecord → ℕ → List (ℕ × ℕ)
 managers_of opens n = map (λ o. (o.controller, o.agent)) (filter (manages n) opens)

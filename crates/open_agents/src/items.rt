@@ -63,7 +63,7 @@ pub(crate) fn is_equal_item(
 ) -> bool
     ensures { result ≡ spec.is_equal_item handle guid agent controller attributes o.now }
 {
-    is_open_on(o, handle, guid) && is_of_pair(o, controller, agent) && o.attributes == attributes
+    is_of_pair(o, controller, agent) && o.attributes == attributes && is_open_on(o, handle, guid)
 }
 
 /// An item as OpenProtocolInformation lists it.

@@ -1,6 +1,7 @@
 //! The open items of all interfaces.
 ghost use Rattle.std.specs.Prelude.{◌≡◌, ◌<◌, ◌==◌, true, false, [], ◌∷◌, ◌++◌, length, map, slice_get, Some, vec_len, vec_capacity, IfOk, IsOk, IfSome, IfNone, OnOk, OnErr};
 ghost use Rattle.std.specs.List.{filter, list_any, remove};
+ghost use Rattle.guid_handles.specs.HandleTables.{carries, is_live};
 ghost use Rattle.guid_handles.specs.HandleChanges.{is_dead as dead};
 ghost use Rattle.open_agents.specs.OpenItems as spec;
 ghost use Rattle.open_agents.specs.OpenItems.{is_closed_by, names, items_on, managers_of, with_item, CanCount, without_items};
@@ -15,7 +16,7 @@ use crate::blocks::{Blocks, block_of, count_less};
 use crate::items::{Decision, OpenItem, OpenRecord, is_open_on, item_of};
 use crate::questions::{
     find_closed, find_equal, find_naming, find_of_pair, find_open_on, first_driver_item,
-    has_closed, has_equal, has_exclusive, has_of_agent, is_held,
+    has_closed, has_equal, has_exclusive, has_of_agent, is_any_driving, is_any_keeping, is_held,
 };
 use guid_handles::Handles;
 use page_ranges::Status;
@@ -200,6 +201,20 @@ impl<A: Allocator + Copy> Opens<A> {
         is_held(self.near(handle), handle, guid)
     }
 
+    /// Whether a driver has an interface open.
+    pub fn is_driven(&self, handle: u64, guid: Uuid) -> bool
+        ensures { result ≡ spec.is_driven self.now handle guid }
+    {
+        is_any_driving(self.near(handle), handle, guid)
+    }
+
+    /// Whether an item keeps an interface: it is for a child, or exclusive and of no driver.
+    pub fn is_kept(&self, handle: u64, guid: Uuid) -> bool
+        ensures { result ≡ spec.is_kept self.now handle guid }
+    {
+        is_any_keeping(self.near(handle), handle, guid)
+    }
+
     /// What is to be done about a call of OpenProtocol. This takes no memory.
     pub fn decide(
         &self,
@@ -212,8 +227,43 @@ impl<A: Allocator + Copy> Opens<A> {
     ) -> Decision
         ensures { result ≡ rule.open_rule handles.now self.now handle guid agent controller attributes }
     {
+        let carried = handles.interface(handle, guid).is_some();
+        self.decide_carried(
+            handles, carried, handle, guid, agent, controller, attributes,
+        )
+    }
+
+    /// What `decide` tells, where it is known whether the handle carries the GUID.
+    pub fn decide_carried(
+        &self,
+        handles: &Handles<A>,
+        carried: bool,
+        handle: u64,
+        guid: Uuid,
+        agent: u64,
+        controller: u64,
+        attributes: u32,
+    ) -> Decision
+        requires { carried ≡ carries handles.now guid handle }
+        ensures { result ≡ rule.open_rule handles.now self.now handle guid agent controller attributes }
+    {
+        // No item is of agent 0.
+        let _items = &self.items;
+        if agent == 0 {
+            return decide_among(
+                handles,
+                carried,
+                &[],
+                handle,
+                guid,
+                agent,
+                controller,
+                attributes,
+            );
+        }
         decide_among(
             handles,
+            carried,
             self.near(handle),
             handle,
             guid,
@@ -297,6 +347,27 @@ impl<A: Allocator + Copy> Opens<A> {
             self.count_at(at, handle, guid, agent, controller, attributes);
             return Ok(());
         }
+        self.add_new(handle, guid, agent, controller, attributes)
+    }
+
+    /// Makes a new item where there is no equal one, if the agent is not 0. On an `Err` the items are as
+    /// they were.
+    pub fn add_new(
+        &mut self,
+        handle: u64,
+        guid: Uuid,
+        agent: u64,
+        controller: u64,
+        attributes: u32,
+    ) -> Result<(), AllocError>
+        requires { rule.has_equal self.old handle guid agent controller attributes ≡ false }
+        ensures ok { OnOk result (self.new ≡ with_item handle guid agent controller attributes self.old) }
+        ensures err { OnErr result (self.new ≡ self.old) }
+        ensures no_agent { agent ≡ 0 → IsOk result }
+    {
+        if agent == 0 {
+            return Ok(());
+        }
         self.push(&OpenRecord {
             handle,
             guid,
@@ -330,6 +401,7 @@ impl<A: Allocator + Copy> Opens<A> {
 /// What is to be done about a call of OpenProtocol, by the items on its handle.
 fn decide_among<A: Allocator + Copy>(
     handles: &Handles<A>,
+    carried: bool,
     on: &[OpenRecord],
     handle: u64,
     guid: Uuid,
@@ -337,12 +409,16 @@ fn decide_among<A: Allocator + Copy>(
     controller: u64,
     attributes: u32,
 ) -> Decision
+    requires { carried ≡ carries handles.now guid handle }
     ensures { result ≡ rule.open_rule handles.now on.now handle guid agent controller attributes }
 {
-    if !is_known(attributes) || names_badly(handles, handle, agent, controller, attributes) {
+    if !is_known(attributes)
+        || !is_live_if(handles, carried, handle, guid)
+        || names_badly(handles, handle, agent, controller, attributes)
+    {
         return Decision::Refuse(Status::InvalidParameter);
     }
-    if handles.interface(handle, guid).is_none() {
+    if !carried {
         return Decision::Refuse(Status::Unsupported);
     }
     if has_equal(on, handle, guid, agent, controller, attributes) {
@@ -372,7 +448,22 @@ fn decide_among<A: Allocator + Copy>(
     }
 }
 
-/// Whether a call names a dead handle, or lacks an agent or a controller, or names the handle
+/// Whether a handle is live, which is not looked up where it carries a GUID.
+fn is_live_if<A: Allocator + Copy>(
+    handles: &Handles<A>,
+    carried: bool,
+    handle: u64,
+    guid: Uuid,
+) -> bool
+    requires { carried ≡ carries handles.now guid handle }
+    ensures { result ≡ is_live handles.now handle }
+{
+    // The contract of this look-up says that interfaces are on live handles.
+    let _numbers = handles.all();
+    carried || handles.is_live(handle)
+}
+
+/// Whether a call of a live handle lacks an agent or a controller, or names a dead one, or the handle
 /// itself as the controller of a child.
 fn names_badly<A: Allocator + Copy>(
     handles: &Handles<A>,
@@ -381,13 +472,13 @@ fn names_badly<A: Allocator + Copy>(
     controller: u64,
     attributes: u32,
 ) -> bool
+    requires { is_live handles.now handle ≡ true }
     ensures { result ≡ rule.names_badly handles.now handle agent controller attributes }
 {
-    !handles.is_live(handle)
-        || (agent == 0 && needs_agent(attributes))
+    (agent == 0 && needs_agent(attributes))
         || (controller == 0 && needs_controller(attributes))
         || is_dead(handles, agent)
-        || is_dead(handles, controller)
+        || (controller != handle && is_dead(handles, controller))
         || (attributes == BY_CHILD_CONTROLLER && controller == handle)
 }
 

@@ -1,12 +1,12 @@
 //! What is asked of open items.
-ghost use Rattle.std.specs.Prelude.{◌≡◌, false, IfSome, IfNone};
+ghost use Rattle.std.specs.Prelude.{◌≡◌, ◌==◌, ◌&&◌, ◌||◌, false, IfSome, IfNone};
 ghost use Rattle.std.specs.List.{list_any};
 ghost use Rattle.open_agents.specs.OpenItems as spec;
 ghost use Rattle.open_agents.specs.OpenItems.{is_closed_by};
 ghost use Rattle.open_agents.specs.Blocks.{HoldsAt};
 ghost use Rattle.open_agents.specs.OpenRule as rule;
 
-use crate::attributes::{BY_DRIVER, is_exclusive, is_for_driver};
+use crate::attributes::{BY_CHILD_CONTROLLER, BY_DRIVER, EXCLUSIVE, is_exclusive, is_for_driver};
 use crate::items::{OpenRecord, is_equal_item, is_of_pair, is_open_on};
 use uuid::Uuid;
 
@@ -34,25 +34,73 @@ pub(crate) fn has_of_agent(
 ) -> bool
     ensures { result ≡ rule.has_of_agent items.now handle guid agent attributes }
 {
-    items.iter().any(|o| is_open_on(o, handle, guid)
-        && o.agent == agent
-        && o.attributes == attributes)
+    items
+        .iter()
+        .any(|o| is_of_agent(o, handle, guid, agent, attributes))
+}
+
+/// Whether an item is of an agent, with some attributes, on an interface.
+fn is_of_agent(o: &OpenRecord, handle: u64, guid: Uuid, agent: u64, attributes: u32) -> bool
+    ensures { result ≡ (spec.is_open_on handle guid o.now && ((o.now.agent == agent) && (o.now.attributes == attributes))) }
+{
+    o.agent == agent && o.attributes == attributes && is_open_on(o, handle, guid)
 }
 
 /// Whether an interface is open for a driver or exclusively.
 pub(crate) fn is_held(items: &[OpenRecord], handle: u64, guid: Uuid) -> bool
     ensures { result ≡ rule.has_holder items.now handle guid }
 {
-    items.iter().any(|o| {
-        is_open_on(o, handle, guid) && (is_for_driver(o.attributes) || is_exclusive(o.attributes))
-    })
+    items.iter().any(|o| holds(o, handle, guid))
+}
+
+/// Whether an item is for a driver or exclusive, on an interface.
+fn holds(o: &OpenRecord, handle: u64, guid: Uuid) -> bool
+    ensures { result ≡ (spec.is_open_on handle guid o.now && (spec.is_for_driver o.now.attributes || spec.is_exclusive o.now.attributes)) }
+{
+    (is_for_driver(o.attributes) || is_exclusive(o.attributes)) && is_open_on(o, handle, guid)
 }
 
 /// Whether an interface is open exclusively.
 pub(crate) fn has_exclusive(items: &[OpenRecord], handle: u64, guid: Uuid) -> bool
     ensures { result ≡ rule.has_exclusive items.now handle guid }
 {
-    items.iter().any(|o| is_open_on(o, handle, guid) && is_exclusive(o.attributes))
+    items.iter().any(|o| excludes(o, handle, guid))
+}
+
+/// Whether an item is exclusive, on an interface.
+fn excludes(o: &OpenRecord, handle: u64, guid: Uuid) -> bool
+    ensures { result ≡ (spec.is_open_on handle guid o.now && spec.is_exclusive o.now.attributes) }
+{
+    is_exclusive(o.attributes) && is_open_on(o, handle, guid)
+}
+
+/// Whether an item is for a driver, on an interface.
+fn is_driving(o: &OpenRecord, handle: u64, guid: Uuid) -> bool
+    ensures { result ≡ (spec.is_open_on handle guid o.now && spec.is_for_driver o.now.attributes) }
+{
+    is_for_driver(o.attributes) && is_open_on(o, handle, guid)
+}
+
+/// Whether a driver has an interface open.
+pub(crate) fn is_any_driving(items: &[OpenRecord], handle: u64, guid: Uuid) -> bool
+    ensures { result ≡ list_any (λ o. spec.is_open_on handle guid o && spec.is_for_driver o.attributes) items.now }
+{
+    items.iter().any(|o| is_driving(o, handle, guid))
+}
+
+/// Whether an item is for a child, or exclusive and of no driver, on an interface.
+fn keeps(o: &OpenRecord, handle: u64, guid: Uuid) -> bool
+    ensures { result ≡ (spec.is_open_on handle guid o.now && spec.keeps o.now.attributes) }
+{
+    (o.attributes == BY_CHILD_CONTROLLER || o.attributes == EXCLUSIVE)
+        && is_open_on(o, handle, guid)
+}
+
+/// Whether an item keeps an interface.
+pub(crate) fn is_any_keeping(items: &[OpenRecord], handle: u64, guid: Uuid) -> bool
+    ensures { result ≡ list_any (λ o. spec.is_open_on handle guid o && spec.keeps o.attributes) items.now }
+{
+    items.iter().any(|o| keeps(o, handle, guid))
 }
 
 /// Whether an agent and a controller have an interface open.
@@ -65,14 +113,23 @@ pub(crate) fn has_closed(
 ) -> bool
     ensures { result ≡ list_any (is_closed_by handle guid agent controller) items.now }
 {
-    items.iter().any(|o| is_open_on(o, handle, guid) && is_of_pair(o, controller, agent))
+    items
+        .iter()
+        .any(|o| is_closed(o, handle, guid, agent, controller))
+}
+
+/// Whether an item is of an agent and a controller, on an interface.
+fn is_closed(o: &OpenRecord, handle: u64, guid: Uuid, agent: u64, controller: u64) -> bool
+    ensures { result ≡ is_closed_by handle guid agent controller o.now }
+{
+    is_of_pair(o, controller, agent) && is_open_on(o, handle, guid)
 }
 
 /// Whether an item is for a driver and not exclusive, on the interface of a GUID on a handle.
 fn is_driver_item(o: &OpenRecord, handle: u64, guid: Uuid) -> bool
     ensures { result ≡ rule.is_driver_item handle guid o.now }
 {
-    is_open_on(o, handle, guid) && o.attributes == BY_DRIVER
+    o.attributes == BY_DRIVER && is_open_on(o, handle, guid)
 }
 
 /// The first item for a driver on an interface that is not exclusive, among some items.
@@ -119,7 +176,7 @@ pub(crate) fn find_closed(
     ensures none { IfNone result (list_any (is_closed_by handle guid agent controller) items.now ≡ false) }
 {
     for at in 0..items.len() {
-        if is_open_on(&items[at], handle, guid) && is_of_pair(&items[at], controller, agent) {
+        if is_closed(&items[at], handle, guid, agent, controller) {
             return Some(at);
         }
     }

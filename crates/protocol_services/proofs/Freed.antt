@@ -13,7 +13,7 @@ use Rattle.guid_handles.proofs.SortedLists.{all_filter, find_filter}
 use Rattle.guid_handles.proofs.Indexed.{at_handle}
 use Rattle.open_agents.specs.declared.items.Decision.TheVariants.{StopFirst}
 use Rattle.open_agents.specs.declared.items.OpenRecord.{OpenRecord}
-use Rattle.open_agents.specs.OpenItems.{is_open_on, names, with_item, without_items, CanCount}
+use Rattle.open_agents.specs.OpenItems.{is_kept, is_open_on, names, with_item, without_items, CanCount}
 use Rattle.protocol_notify.specs.declared.notify.Registration.{Registration}
 use Rattle.protocol_notify.specs.Registrations.{events_for}
 use Rattle.driver_connect.specs.Drivers.{Meaning}
@@ -25,7 +25,7 @@ use Rattle.driver_connect.proofs.Idle.{idle_connect}
 use Rattle.protocol_services.specs.Lists.{Lists, IsRaised}
 use Rattle.protocol_services.specs.Opening.{OpensAs, opened_value}
 use Rattle.protocol_services.specs.Stopping.{can_stop, once_stopped}
-use Rattle.protocol_services.specs.Removing.{Reinstalls, can_be_freed, drivers_on, freed, is_kept, is_value, once_freed, reconnected, removal_refusal, replaced, uninstalled, with_progress, without_dead}
+use Rattle.protocol_services.specs.Removing.{Reinstalls, can_be_freed, drivers_on, freed, is_value, once_freed, reconnected, removal_refusal, replaced, uninstalled, with_progress, without_dead}
 use Rattle.protocol_services.proofs.OpenCounts.{CountUpTo, can_count, one_higher, opened_counts}
 use Rattle.protocol_services.proofs.Raised.{all_left}
 

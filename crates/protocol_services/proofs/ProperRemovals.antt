@@ -7,14 +7,14 @@ use Rattle.page_ranges.specs.declared.statuses.Status.TheVariants as status
 use Rattle.guid_handles.specs.HandleTables.{HandleTable, is_live}
 use Rattle.guid_handles.specs.HandleChanges.{with_value, without_interface}
 use Rattle.open_agents.specs.declared.items.OpenRecord.{OpenRecord}
-use Rattle.open_agents.specs.OpenItems.{is_open_on, names}
+use Rattle.open_agents.specs.OpenItems.{is_kept, is_open_on, names}
 use Rattle.driver_connect.specs.Drivers.{Meaning}
 use Rattle.driver_connect.specs.Starting.{Progress, site}
 use Rattle.driver_connect.specs.Stopping.{Disconnects, managers_meant, stop_set}
 use Rattle.driver_connect.specs.Connecting.{Connects, connect_refused, first_progress, levels_below, max_named}
 use Rattle.protocol_services.specs.Lists.{Lists}
 use Rattle.protocol_services.specs.Stopping.{can_stop, once_stopped}
-use Rattle.protocol_services.specs.Removing.{Frees, Reinstalls, Replaces, Uninstalls, can_be_freed, drivers_on, freed, is_kept, once_freed, reconnected, removal_refusal, replaced, uninstalled, with_progress}
+use Rattle.protocol_services.specs.Removing.{Frees, Reinstalls, Replaces, Uninstalls, can_be_freed, drivers_on, freed, once_freed, reconnected, removal_refusal, replaced, uninstalled, with_progress}
 use Rattle.protocol_services.specs.Driving.{ConnectsController, DisconnectsController}
 use Rattle.protocol_services.specs.ProperLists.{AreProperLists}
 use Rattle.protocol_services.proofs.ProperTables.{with_value_proper, without_interface_proper}

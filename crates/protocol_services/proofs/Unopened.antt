@@ -1,18 +1,19 @@
--- An interface that nobody has open is free as it is.
-use Rattle.std.proofs.Common.{◌≡◌, ℕ, zero, suc, ◌+◌, ◌&&◌, ◌||◌, not, Bool, true, false, List, [], ◌∷◌, map, length, Option, Some, None, Ok, inl, inr, refl, sym, ap, ◌∙◌}
+-- An interface that no driver has open is freed without a stop.
+use Rattle.std.proofs.Common.{◌≡◌, ℕ, zero, suc, ◌+◌, ◌&&◌, ◌||◌, not, Bool, true, false, List, [], ◌∷◌, map, length, Option, Some, None, Ok, Err, inl, inr, refl, sym, ap, ◌∙◌}
 use Rattle.std.specs.List.{filter, list_any, list_all}
 use Rattle.std.proofs.lemmas.Bool.{cases_Bool}
+use Rattle.page_ranges.specs.declared.statuses.Status.TheVariants.{AccessDenied}
 use Rattle.guid_handles.specs.HandleTables.{HandleTable, is_live, maker_of, numbers}
 use Rattle.guid_handles.specs.HandleChanges.{without_interface}
 use Rattle.guid_handles.proofs.GuidOrder.{and_false}
 use Rattle.open_agents.specs.declared.items.OpenRecord.{OpenRecord}
-use Rattle.open_agents.specs.OpenItems.{is_for_driver, is_open_on, item_of, items_on, without_items}
+use Rattle.open_agents.specs.OpenItems.{is_driven, is_for_driver, is_kept, items_on}
 use Rattle.driver_connect.specs.Drivers.{Meaning}
 use Rattle.driver_connect.specs.Stopping.{is_maker, is_made_by, is_no_obstacle, made_by, managers_of_made, manages_made, rounds, stop_set}
 use Rattle.driver_connect.proofs.Filters.{handles_none, names_none, pairs_none}
 use Rattle.protocol_services.specs.Lists.{Lists}
 use Rattle.protocol_services.specs.Stopping.{can_stop, once_stopped}
-use Rattle.protocol_services.specs.Removing.{can_be_freed, drivers_on, is_kept, keeps_interface, freed, once_freed, removal_refusal, uninstalled, Uninstalls}
+use Rattle.protocol_services.specs.Removing.{can_be_freed, drivers_on, freed, once_freed, removal_refusal, uninstalled, without_opens_on, Uninstalls}
 
 -- no pair made a handle
 none_made : (t : HandleTable) (n : ℕ) → is_made_by t [] n ≡ false
@@ -54,32 +55,30 @@ idle_stopped l =
     rw (empty_set l.handles l.opens)
     (rw (none_made_by l.handles) (rw (← handles_none l.handles) (rw (← names_none l.opens) (rw (← pairs_none l.opens) refl))))
 
-no_items : (p : OpenRecord → Bool) (opens : List OpenRecord) → map item_of (filter p opens) ≡ [] → without_items p opens ≡ opens
-no_items p [] e = refl
-no_items p (o ∷ os) e = elim (cases_Bool (p o)) [
+none_passed : {X : Type 0} (p : X → Bool) (xs : List X) → list_any p xs ≡ false → filter p xs ≡ []
+none_passed p [] e = refl
+none_passed p (x ∷ xs) e = elim (cases_Bool (p x)) [
   | inl k ↦ let f = rw k at e in absurd (cc)
-  | inr k ↦ rw k (ap (λ r. o ∷ r) (no_items p os (rw k at e)))
+  | inr k ↦ rw k (none_passed p xs (rw k at e))
 ]
 
-no_drivers : (l : Lists) (handle : ℕ) (guid : List ℕ) → items_on l.opens handle guid ≡ [] → drivers_on l.opens handle guid ≡ []
-no_drivers l handle guid e = rw e refl
+no_drivers : (l : Lists) (handle : ℕ) (guid : List ℕ) → is_driven l.opens handle guid ≡ false → drivers_on l.opens handle guid ≡ []
+no_drivers l handle guid e = rw (none_passed (λ i. is_for_driver i.attributes) (items_on l.opens handle guid) e) refl
 
-once_freed_same : (l : Lists) (handle : ℕ) (guid : List ℕ) → items_on l.opens handle guid ≡ [] → once_freed handle guid l ≡ l
+once_freed_same : (l : Lists) (handle : ℕ) (guid : List ℕ) → is_driven l.opens handle guid ≡ false → once_freed handle guid l ≡ l
 once_freed_same l handle guid e = ap (λ pairs. once_stopped pairs l) (no_drivers l handle guid e) ∙ idle_stopped l
 
-both : (can kept : Bool) → can ≡ true → kept ≡ false → (can && not kept) ≡ true
-both can kept c k = rw (c, k) refl
+both : (can kept : Bool) → can ≡ true → (can && not kept) ≡ not kept
+both can kept c = rw c refl
 
-pub unopened_free : (ds : List Meaning) (l : Lists) (handle : ℕ) (guid : List ℕ) → items_on l.opens handle guid ≡ [] → can_be_freed ds l handle guid ≡ true
-unopened_free ds l handle guid e =
+idle_free : (ds : List Meaning) (l : Lists) (handle : ℕ) (guid : List ℕ) → is_driven l.opens handle guid ≡ false → can_be_freed ds l handle guid ≡ not (is_kept l.opens handle guid)
+idle_free ds l handle guid e =
     both (can_stop ds l (drivers_on l.opens handle guid) handle None) (is_kept (once_freed handle guid l).opens handle guid)
     (ap (λ (pairs : List (ℕ × ℕ)). can_stop ds l pairs handle None) (no_drivers l handle guid e) ∙ idle_stop ds l handle)
-    (ap (λ (m : Lists). is_kept m.opens handle guid) (once_freed_same l handle guid e) ∙ ap (list_any keeps_interface) e)
+    ∙ ap (λ (m : Lists). not (is_kept m.opens handle guid)) (once_freed_same l handle guid e)
 
-pub unopened_freed : (l : Lists) (handle : ℕ) (guid : List ℕ) → items_on l.opens handle guid ≡ [] → freed handle guid l ≡ l
-unopened_freed l handle guid e =
-    ap (λ (m : Lists). record m { opens = without_items (is_open_on handle guid) m.opens }) (once_freed_same l handle guid e)
-    ∙ ap (λ (opens : List OpenRecord). record l { opens = opens }) (no_items (is_open_on handle guid) l.opens e)
+pub idle_freed : (l : Lists) (handle : ℕ) (guid : List ℕ) → is_driven l.opens handle guid ≡ false → freed handle guid l ≡ without_opens_on handle guid l
+idle_freed l handle guid e = ap (without_opens_on handle guid) (once_freed_same l handle guid e)
 
 with_registrations : (l : Lists) (handle : ℕ) (guid : List ℕ) → record (uninstalled handle guid (record l { registrations = [] })) { registrations = l.registrations } ≡ uninstalled handle guid l
 with_registrations l handle guid = elim (cases_Bool (is_live (without_interface handle guid l.handles) handle)) [
@@ -88,13 +87,19 @@ with_registrations l handle guid = elim (cases_Bool (is_live (without_interface 
 ]
 
 -- What is taken out in place is what UninstallProtocolInterface leaves.
-pub uninstalled_in_place : (ds : List Meaning) (l left new : Lists) (handle : ℕ) (guid : List ℕ) (value : ℕ) → removal_refusal l.handles handle guid value ≡ None → items_on l.opens handle guid ≡ []
-    → left ≡ uninstalled handle guid (record l { registrations = [] }) → new ≡ record left { registrations = l.registrations } → Uninstalls ds l handle guid value (Ok tt) new
-uninstalled_in_place ds l left new handle guid value none unopened e f =
+pub uninstalled_in_place : (ds : List Meaning) (l left new : Lists) (handle : ℕ) (guid : List ℕ) (value : ℕ) → removal_refusal l.handles handle guid value ≡ None → is_driven l.opens handle guid ≡ false
+    → is_kept l.opens handle guid ≡ false → left ≡ uninstalled handle guid (without_opens_on handle guid (record l { registrations = [] })) → new ≡ record left { registrations = l.registrations }
+    → Uninstalls ds l handle guid value (Ok tt) new
+uninstalled_in_place ds l left new handle guid value none idle free e f =
     rw none (
-      unopened_free ds l handle guid unopened,
-      f ∙ ap (λ (m : Lists). record m { registrations = l.registrations }) e ∙ with_registrations l handle guid ∙ ap (uninstalled handle guid) (sym (unopened_freed l handle guid unopened)),
+      idle_free ds l handle guid idle ∙ ap not free,
+      f ∙ ap (λ (m : Lists). record m { registrations = l.registrations }) e ∙ with_registrations (without_opens_on handle guid l) handle guid ∙ ap (uninstalled handle guid) (sym (idle_freed l handle guid idle)),
     )
+
+-- What is kept stays.
+pub kept_in_place : (ds : List Meaning) (l : Lists) (handle : ℕ) (guid : List ℕ) (value : ℕ) → removal_refusal l.handles handle guid value ≡ None → is_driven l.opens handle guid ≡ false
+    → is_kept l.opens handle guid ≡ true → Uninstalls ds l handle guid value (Err AccessDenied) l
+kept_in_place ds l handle guid value none idle kept = rw none (idle_free ds l handle guid idle ∙ ap not kept, refl)
 
 -- So is what is taken out of a draft in which the interface was freed, once the draft is put in place.
 pub uninstalled_by_draft : (ds : List Meaning) (l draft left new : Lists) (handle : ℕ) (guid : List ℕ) (value : ℕ) → removal_refusal l.handles handle guid value ≡ None → can_be_freed ds l handle guid ≡ true

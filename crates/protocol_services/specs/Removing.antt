@@ -1,13 +1,12 @@
 -- The rules of UninstallProtocolInterface and ReinstallProtocolInterface.
-use Rattle.std.specs.Prelude.{◌≡◌, ℕ, ◌+◌, ◌<◌, ◌^◌, ◌==◌, ◌&&◌, ◌||◌, not, Bool, true, false, cond, List, [], ◌++◌, map, Option, Some, None, Result, Ok, Err, Vec}
-use Rattle.std.specs.List.{filter, list_any}
+use Rattle.std.specs.Prelude.{◌≡◌, ℕ, ◌+◌, ◌<◌, ◌^◌, ◌==◌, ◌&&◌, not, Bool, true, false, cond, List, [], ◌++◌, map, Option, Some, None, Result, Ok, Err, Vec}
+use Rattle.std.specs.List.{filter}
 use Rattle.page_ranges.specs.declared.statuses.Status.{Status}
 use Rattle.page_ranges.specs.declared.statuses.Status.TheVariants.{InvalidParameter, NotFound, AccessDenied, OutOfResources}
 use Rattle.guid_handles.specs.HandleTables.{HandleTable, is_live, value_at}
 use Rattle.guid_handles.specs.HandleChanges.{with_value, without_interface}
-use Rattle.open_agents.specs.declared.items.OpenItem.{OpenItem}
 use Rattle.open_agents.specs.declared.items.OpenRecord.{OpenRecord}
-use Rattle.open_agents.specs.OpenItems.{is_for_driver, is_open_on, items_on, names, without_items}
+use Rattle.open_agents.specs.OpenItems.{is_for_driver, is_kept, is_open_on, items_on, names, without_items}
 use Rattle.protocol_notify.specs.Registrations.{events_for}
 use Rattle.driver_connect.specs.Drivers.{Meaning}
 use Rattle.driver_connect.specs.Starting.{Progress, site}
@@ -34,13 +33,6 @@ drivers_on opens handle guid = map (λ i. (i.controller, i.agent)) (filter (λ i
 -- the lists once these are stopped
 abbrev pub once_freed : ℕ → List ℕ → Lists → Lists
 once_freed handle guid l = once_stopped (drivers_on l.opens handle guid) l
-
--- an open for a child, or an exclusive one of no driver, keeps its interface
-abbrev pub keeps_interface : OpenItem → Bool
-keeps_interface i = (i.attributes == 0x8) || (i.attributes == 0x20)
-
-abbrev pub is_kept : List OpenRecord → ℕ → List ℕ → Bool
-is_kept opens handle guid = list_any keeps_interface (items_on opens handle guid)
 
 -- An interface can be freed: the drivers that have it open can be stopped, and once they are, no item keeps it.
 abbrev pub can_be_freed : List Meaning → Lists → ℕ → List ℕ → Bool

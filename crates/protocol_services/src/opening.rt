@@ -1,8 +1,9 @@
 //! Opening and closing interfaces.
-ghost use Rattle.std.specs.Prelude.{◌≡◌, [], ◌∷◌, true, Some, IfOk, map};
+ghost use Rattle.std.specs.Prelude.{◌≡◌, ◌==◌, [], ◌∷◌, true, false, cond, is_some, None, Some, IfOk, map};
+ghost use Rattle.guid_handles.specs.HandleTables.{carries, value_at};
 ghost use Rattle.protocol_services.specs.Lists.{HasRoom, IsRaised};
 ghost use Rattle.open_agents.specs.OpenRule.{has_equal, open_rule};
-ghost use Rattle.protocol_services.specs.Opening.{Closes, HandlesProtocol, OpensAs, OpensProtocol, TellsItems, names_none, opened_value};
+ghost use Rattle.protocol_services.specs.Opening.{Closes, HandlesProtocol, OpensAs, OpensProtocol, TellsItems, names_none, test_protocol};
 ghost use Rattle.protocol_services.specs.Stopping.{can_stop, once_stopped};
 
 use crate::drafts::Draft;
@@ -39,50 +40,85 @@ impl<A: Allocator + Copy> Protocols<A> {
         ensures opens { OpensProtocol (map D.meaning drivers.now) self.old handle guid agent controller attributes result self.new }
         ensures raised { IsRaised self.old self.new }
     {
-        match self.decide(handle, guid, agent, controller, attributes) {
+        let value = self.handles.interface(handle, guid);
+        match self.decide(value, handle, guid, agent, controller, attributes) {
             Decision::Refuse(status) => Err(status),
             Decision::StopFirst(pair) => {
                 let opener = (agent, controller);
                 self.open_after_stop(drivers, pair, handle, guid, opener, attributes)
             }
-            Decision::Count | Decision::Add => {
-                self.add_open(handle, guid, agent, controller, attributes)
-            }
+            Decision::Count => self.count_open(value, handle, guid, agent, controller, attributes),
+            Decision::Add => self.add_open(value, handle, guid, agent, controller, attributes),
         }
     }
 
-    /// What is to be done about a call of OpenProtocol.
+    /// What is to be done about a call of OpenProtocol, by the value of the interface.
     fn decide(
         &self,
+        value: Option<u64>,
         handle: u64,
         guid: Uuid,
         agent: u64,
         controller: u64,
         attributes: u32,
     ) -> Decision
+        requires { is_some value ≡ carries self.now.handles guid handle }
         ensures { result ≡ open_rule self.now.handles self.now.opens handle guid agent controller attributes }
     {
-        self.opens
-            .decide(&self.handles, handle, guid, agent, controller, attributes)
+        self.opens.decide_carried(
+            &self.handles,
+            value.is_some(),
+            handle,
+            guid,
+            agent,
+            controller,
+            attributes,
+        )
     }
 
-    /// Opens an interface that no driver must give up first. OUT_OF_RESOURCES: memory ran out for a new
-    /// item.
-    fn add_open(
+    /// Opens an interface for which there is an equal item, or for agent 0.
+    fn count_open(
         &mut self,
+        value: Option<u64>,
         handle: u64,
         guid: Uuid,
         agent: u64,
         controller: u64,
         attributes: u32,
     ) -> Result<Option<u64>, Status>
-        requires { HasRoom self.old }
+        requires room { HasRoom self.old }
+        requires value { value ≡ value_at self.old.handles handle guid }
         ensures adds { OpensAs [] Decision.Add self.old handle guid agent controller attributes result self.new }
         ensures counts { has_equal self.old.opens handle guid agent controller attributes ≡ true → OpensAs [] Decision.Count self.old handle guid agent controller attributes result self.new }
         ensures raised { IsRaised self.old self.new }
     {
         match self.opens.add(handle, guid, agent, controller, attributes) {
-            Ok(()) => Ok(self.opened_value(handle, guid, attributes)),
+            Ok(()) => Ok(told_value(value, attributes)),
+            Err(_) => Err(Status::OutOfResources),
+        }
+    }
+
+    /// Opens an interface that no driver must give up first, where there is no equal item. OUT_OF_RESOURCES:
+    /// memory ran out for a new item.
+    fn add_open(
+        &mut self,
+        value: Option<u64>,
+        handle: u64,
+        guid: Uuid,
+        agent: u64,
+        controller: u64,
+        attributes: u32,
+    ) -> Result<Option<u64>, Status>
+        requires value { value ≡ value_at self.old.handles handle guid }
+        requires new { has_equal self.old.opens handle guid agent controller attributes ≡ false }
+        ensures adds { OpensAs [] Decision.Add self.old handle guid agent controller attributes result self.new }
+        ensures raised { IsRaised self.old self.new }
+    {
+        match self
+            .opens
+            .add_new(handle, guid, agent, controller, attributes)
+        {
+            Ok(()) => Ok(told_value(value, attributes)),
             Err(_) => Err(Status::OutOfResources),
         }
     }
@@ -111,7 +147,7 @@ impl<A: Allocator + Copy> Protocols<A> {
             Ok(false) => return Err(Status::AccessDenied),
             Err(_) => return Err(Status::OutOfResources),
         }
-        let value = self.opened_value(handle, guid, attributes);
+        let value = told_value(self.handles.interface(handle, guid), attributes);
         let (agent, controller) = opener;
         match draft.opens.add(handle, guid, agent, controller, attributes) {
             Ok(()) => {
@@ -119,17 +155,6 @@ impl<A: Allocator + Copy> Protocols<A> {
                 Ok(value)
             }
             Err(_) => Err(Status::OutOfResources),
-        }
-    }
-
-    /// The value that OpenProtocol tells.
-    fn opened_value(&self, handle: u64, guid: Uuid, attributes: u32) -> Option<u64>
-        ensures { result ≡ opened_value self.now handle guid attributes }
-    {
-        if attributes == TEST_PROTOCOL {
-            None
-        } else {
-            self.handles.interface(handle, guid)
         }
     }
 
@@ -141,9 +166,10 @@ impl<A: Allocator + Copy> Protocols<A> {
         ensures opens { HandlesProtocol self.old handle guid result self.new }
         ensures raised { IsRaised self.old self.new }
     {
-        match self.decide(handle, guid, 0, 0, BY_HANDLE_PROTOCOL) {
+        let value = self.handles.interface(handle, guid);
+        match self.decide(value, handle, guid, 0, 0, BY_HANDLE_PROTOCOL) {
             Decision::Refuse(status) => Err(status),
-            _ => match self.add_open(handle, guid, 0, 0, BY_HANDLE_PROTOCOL) {
+            _ => match self.count_open(value, handle, guid, 0, 0, BY_HANDLE_PROTOCOL) {
                 Ok(Some(value)) => Ok(value),
                 Ok(None) => unreachable!(),
                 Err(status) => Err(status),
@@ -202,6 +228,17 @@ impl<A: Allocator + Copy> Protocols<A> {
             Ok(items) => Ok(items),
             Err(_) => Err(Status::OutOfResources),
         }
+    }
+}
+
+/// What OpenProtocol tells of the value of an interface.
+fn told_value(value: Option<u64>, attributes: u32) -> Option<u64>
+    ensures { result ≡ cond (attributes == test_protocol) None value }
+{
+    if attributes == TEST_PROTOCOL {
+        None
+    } else {
+        value
     }
 }
 

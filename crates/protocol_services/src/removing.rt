@@ -1,8 +1,8 @@
 //! Taking interfaces out and putting others in their places.
-ghost use Rattle.std.specs.Prelude.{◌≡◌, IsTrue, ◌+◌, ◌<◌, ◌≤◌, ◌^◌, ◌++◌, true, map, [], None, IfOk};
-ghost use Rattle.std.specs.List.{filter, list_any};
+ghost use Rattle.std.specs.Prelude.{◌≡◌, ◌+◌, ◌<◌, ◌≤◌, ◌^◌, ◌++◌, true, map, [], None, IfOk};
+ghost use Rattle.std.specs.List.{filter};
 ghost use Rattle.guid_handles.specs.HandleTables.{carries};
-ghost use Rattle.open_agents.specs.OpenItems.{is_for_driver, items_on};
+ghost use Rattle.open_agents.specs.OpenItems.{is_for_driver};
 ghost use Rattle.protocol_notify.specs.Registrations.{events_for};
 ghost use Rattle.protocol_services.specs.Driving.{HasRoomToConnect};
 ghost use Rattle.protocol_services.specs.Lists.{IsRaised};
@@ -12,7 +12,7 @@ use crate::drafts::Draft;
 use crate::protocols::Protocols;
 use driver_connect::{Driver, connect, stop};
 use guid_handles::Handles;
-use open_agents::{BY_CHILD_CONTROLLER, EXCLUSIVE, OpenItem, Opens, is_for_driver};
+use open_agents::{OpenItem, Opens, is_for_driver};
 use page_ranges::Status;
 use protocol_notify::Notify;
 use std::alloc::{AllocError, Allocator};
@@ -52,13 +52,6 @@ fn drivers_among<A: Allocator>(
     Ok(pairs)
 }
 
-/// Whether one of some items keeps its interface: it is for a child, or exclusive and of no driver.
-fn is_any_keeping(items: &[OpenItem]) -> bool
-    ensures { result ≡ list_any spec.keeps_interface items.now }
-{
-    items.iter().any(|i| i.attributes == BY_CHILD_CONTROLLER || i.attributes == EXCLUSIVE)
-}
-
 /// The pairs of controller and agent that have an interface open for a driver.
 fn drivers_on<A: Allocator + Copy>(
     alloc: A,
@@ -70,18 +63,6 @@ fn drivers_on<A: Allocator + Copy>(
 {
     let items = opens.items(handle, guid)?;
     drivers_among(alloc, items.as_slice())
-}
-
-/// Whether an item keeps an interface.
-fn is_kept<A: Allocator + Copy>(
-    opens: &Opens<A>,
-    handle: u64,
-    guid: Uuid,
-) -> Result<bool, AllocError>
-    ensures { IfOk result (λ kept. kept ≡ spec.is_kept opens.now handle guid) }
-{
-    let items = opens.items(handle, guid)?;
-    Ok(is_any_keeping(items.as_slice()))
 }
 
 /// Takes an interface out, and with the last one its handle, with the items that name it.
@@ -125,7 +106,7 @@ impl<A: Allocator + Copy> Draft<A> {
         )? {
             return Ok(false);
         }
-        if is_kept(&self.opens, handle, guid)? {
+        if self.opens.is_kept(handle, guid) {
             return Ok(false);
         }
         self.opens.drop_interface(handle, guid);
@@ -222,16 +203,6 @@ impl<A: Allocator + Copy> Protocols<A> {
         }
     }
 
-    /// Whether nobody has an interface open, as far as that is known without memory.
-    fn is_unopened(&self, handle: u64, guid: Uuid) -> bool
-        ensures { IsTrue result → items_on self.now.opens handle guid ≡ [] }
-    {
-        match self.opens.items(handle, guid) {
-            Ok(items) => items.is_empty(),
-            Err(_) => false,
-        }
-    }
-
     /// UninstallProtocolInterface: takes out the interface of a GUID with a value, and with the last one
     /// its handle. The drivers that have it open are stopped, the other items on it go.
     ///
@@ -251,13 +222,17 @@ impl<A: Allocator + Copy> Protocols<A> {
         if let Some(status) = removal_refusal(&self.handles, handle, guid, value) {
             return Err(status);
         }
-        if self.is_unopened(handle, guid) {
-            take_out(&mut self.handles, &mut self.opens, handle, guid);
+        if self.opens.is_driven(handle, guid) {
+            let mut draft = self.freed(drivers, handle, guid)?;
+            draft.uninstall(handle, guid);
+            self.put(draft);
             return Ok(());
         }
-        let mut draft = self.freed(drivers, handle, guid)?;
-        draft.uninstall(handle, guid);
-        self.put(draft);
+        if self.opens.is_kept(handle, guid) {
+            return Err(Status::AccessDenied);
+        }
+        self.opens.drop_interface(handle, guid);
+        take_out(&mut self.handles, &mut self.opens, handle, guid);
         Ok(())
     }
 

@@ -10,8 +10,8 @@ add-requires g c =
 
 pub returns-in-Ok-add-clause-opens : goal.returns-in-Ok-add-clause-opens
 returns-in-Ok-add-clause-opens g c =
-    opened_stopped (map g.D.Driver.meaning c.args.drivers.now) c.args.self.now c.in-Ok.draft _ c.put.new.self c.args.pair c.args.handle c.args.guid c.args.opener c.args.attributes c.in-Ok-true.field-0 c.opened_value-value.result
-    c.add.new.self c.in-Ok.ensures c.in-Ok-true.ensures.answer c.in-Ok-true.field-0-test (c.draft-2.view_is ∙ c.in-Ok-true.ensures.stopped c.in-Ok-true.field-0-test) c.in-Ok-add.ensures.ok c.put.ensures c.opened_value-value.ensures
+    opened_stopped (map g.D.Driver.meaning c.args.drivers.now) c.args.self.now c.in-Ok.draft _ c.put.new.self c.args.pair c.args.handle c.args.guid c.args.opener c.args.attributes c.in-Ok-true.field-0 c.told_value-value.result
+    c.add.new.self c.in-Ok.ensures c.in-Ok-true.ensures.answer c.in-Ok-true.field-0-test (c.draft-2.view_is ∙ c.in-Ok-true.ensures.stopped c.in-Ok-true.field-0-test) c.in-Ok-add.ensures.ok c.put.ensures (rw (← c.self.view_is) (rw c.interface.ensures.value at c.told_value-value.ensures))
 
 pub returns-in-Ok-add-clause-raised : goal.returns-in-Ok-add-clause-raised
 returns-in-Ok-add-clause-raised g c =

@@ -1,9 +1,8 @@
 use Rattle.std.proofs.Common.{◌≡◌, [], map, None, refl, sym, ◌∙◌}
-use Rattle.open_agents.specs.OpenItems.{items_on}
 use Rattle.protocol_services.specs.Lists.{Lists}
-use Rattle.protocol_services.specs.Removing.{removal_refusal}
+use Rattle.protocol_services.specs.Removing.{removal_refusal, without_opens_on}
 use Rattle.protocol_services.proofs.Raised.{stays_raised}
-use Rattle.protocol_services.proofs.Unopened.{unopened_freed, uninstalled_by_draft, uninstalled_in_place}
+use Rattle.protocol_services.proofs.Unopened.{idle_freed, kept_in_place, uninstalled_by_draft, uninstalled_in_place}
 use Rattle.protocol_services.proofs.Freed.{draft_carries, none_left, not_refused, uninstalled_raised}
 use Rattle.protocol_services.proofs.protocols.Protocols.uninstall.Goals as goal
 
@@ -12,31 +11,42 @@ uninstall-requires g c =
     draft_carries (map g.D.Driver.meaning c.args.drivers.now) c.args.self.now c.in_ok-draft.draft c.args.handle c.args.guid c.args.value
     (not_refused c.args.self.now _ c.args.handle c.args.guid c.args.value c.removal_refusal.result c.self.view_is c.removal_refusal.ensures c.in_default.not-Some) c.in_ok-draft.ensures.0 c.in_ok-draft.ensures.1
 
-pub returns-clause-raised : goal.returns-clause-raised
-returns-clause-raised g c = uninstalled_raised c.args.self.now c.in_ok-draft.draft c.uninstall.new.self c.put.new.self c.args.handle c.args.guid c.in_ok-draft.ensures.1 c.uninstall.ensures c.put.ensures
+pub returns-then-is_driven-clause-uninstalls : goal.returns-then-is_driven-clause-uninstalls
+returns-then-is_driven-clause-uninstalls g c =
+    uninstalled_by_draft (map g.D.Driver.meaning c.args.drivers.now) c.args.self.now c.in_ok-draft.draft c.uninstall.new.self c.put.new.self c.args.handle c.args.guid c.args.value
+    (not_refused c.args.self.now _ c.args.handle c.args.guid c.args.value c.removal_refusal.result c.self.view_is c.removal_refusal.ensures c.in_default.not-Some) c.in_ok-draft.ensures.0 c.in_ok-draft.ensures.1 c.uninstall.ensures c.put.ensures
+
+pub returns-then-is_driven-clause-raised : goal.returns-then-is_driven-clause-raised
+returns-then-is_driven-clause-raised g c =
+    uninstalled_raised c.args.self.now c.in_ok-draft.draft c.uninstall.new.self c.put.new.self c.args.handle c.args.guid c.in_ok-draft.ensures.1 c.uninstall.ensures c.put.ensures
 
 pub returns-in_err-draft-clause-raised : goal.returns-in_err-draft-clause-raised
 returns-in_err-draft-clause-raised g c = stays_raised c.args.self.now
 
-pub returns-then-is_unopened-clause-uninstalls : goal.returns-then-is_unopened-clause-uninstalls
-returns-then-is_unopened-clause-uninstalls g c =
+pub returns-then-is_kept-clause-uninstalls : goal.returns-then-is_kept-clause-uninstalls
+returns-then-is_kept-clause-uninstalls g c =
+    let l : Lists = record { handles = c.self.inside.handles; opens = c.self.inside.opens; registrations = c.self.inside.registrations } in
+    let none : removal_refusal l.handles c.args.handle c.args.guid c.args.value ≡ None = sym c.removal_refusal.ensures ∙ none_left c.removal_refusal.result c.in_default.not-Some in
+    rw (← c.self.view_is)
+    (kept_in_place (map g.D.Driver.meaning c.args.drivers.now) l c.args.handle c.args.guid c.args.value none (sym c.is_driven.ensures ∙ c.if-is_driven.false) (sym c.is_kept.ensures ∙ c.if-is_kept.true))
+
+pub returns-then-is_kept-clause-raised : goal.returns-then-is_kept-clause-raised
+returns-then-is_kept-clause-raised g c = stays_raised c.args.self.now
+
+pub returns-clause-uninstalls : goal.returns-clause-uninstalls
+returns-clause-uninstalls g c =
     let l : Lists = record { handles = c.self.inside.handles; opens = c.self.inside.opens; registrations = c.self.inside.registrations } in
     let left : Lists = record { handles = c.take_out.new.handles; opens = c.take_out.new.opens; registrations = [] } in
     let none : removal_refusal l.handles c.args.handle c.args.guid c.args.value ≡ None = sym c.removal_refusal.ensures ∙ none_left c.removal_refusal.result c.in_default.not-Some in
     rw (← c.self.view_is)
-    (uninstalled_in_place (map g.D.Driver.meaning c.args.drivers.now) l left (record left { registrations = l.registrations }) c.args.handle c.args.guid c.args.value none
-    (rw (← c.self.view_is) at (c.is_unopened.ensures c.if-is_unopened.true)) c.take_out.ensures refl)
+    (uninstalled_in_place (map g.D.Driver.meaning c.args.drivers.now) l left (record left { registrations = l.registrations }) c.args.handle c.args.guid c.args.value none (sym c.is_driven.ensures ∙ c.if-is_driven.false)
+    (sym c.is_kept.ensures ∙ c.if-is_kept.false) (rw c.drop_interface.ensures at c.take_out.ensures) refl)
 
-pub returns-then-is_unopened-clause-raised : goal.returns-then-is_unopened-clause-raised
-returns-then-is_unopened-clause-raised g c =
+pub returns-clause-raised : goal.returns-clause-raised
+returns-clause-raised g c =
     let l : Lists = record { handles = c.self.inside.handles; opens = c.self.inside.opens; registrations = c.self.inside.registrations } in
     let start : Lists = record l { registrations = [] } in
     let left : Lists = record { handles = c.take_out.new.handles; opens = c.take_out.new.opens; registrations = [] } in
-    let unopened : items_on l.opens c.args.handle c.args.guid ≡ [] = rw (← c.self.view_is) at (c.is_unopened.ensures c.if-is_unopened.true) in
     rw (← c.self.view_is)
-    (uninstalled_raised l start left (record left { registrations = l.registrations }) c.args.handle c.args.guid (sym (unopened_freed start c.args.handle c.args.guid unopened)) c.take_out.ensures refl)
-
-pub returns-clause-uninstalls : goal.returns-clause-uninstalls
-returns-clause-uninstalls g c =
-    uninstalled_by_draft (map g.D.Driver.meaning c.args.drivers.now) c.args.self.now c.in_ok-draft.draft c.uninstall.new.self c.put.new.self c.args.handle c.args.guid c.args.value
-    (not_refused c.args.self.now _ c.args.handle c.args.guid c.args.value c.removal_refusal.result c.self.view_is c.removal_refusal.ensures c.in_default.not-Some) c.in_ok-draft.ensures.0 c.in_ok-draft.ensures.1 c.uninstall.ensures c.put.ensures
+    (uninstalled_raised l (without_opens_on c.args.handle c.args.guid start) left (record left { registrations = l.registrations }) c.args.handle c.args.guid
+    (sym (idle_freed start c.args.handle c.args.guid (sym c.is_driven.ensures ∙ c.if-is_driven.false))) (rw c.drop_interface.ensures at c.take_out.ensures) refl)
