@@ -32,6 +32,14 @@ runtime = 2 ^ 63
 abbrev pub has_runtime : ℕ → Bool
 has_runtime attributes = not (bit_and attributes runtime == 0)
 
+-- the attribute bit EFI_MEMORY_SP
+abbrev pub specific_purpose : ℕ
+specific_purpose = 2 ^ 18
+
+-- memory of specific purpose, which a firmware leaves to the operating system
+abbrev pub is_specific_purpose : ℕ → Bool
+is_specific_purpose attributes = not (bit_and attributes specific_purpose == 0)
+
 -- a page's attributes once it has a type: RUNTIME is on for code and data of runtime services, and off for other types
 abbrev pub attributes_as : ℕ → ℕ → ℕ
 attributes_as t attributes = if (t == 5) || (t == 6) then bit_or attributes runtime else attributes - bit_and attributes runtime

@@ -16,4 +16,4 @@ pub use laws::{
 };
 pub use ranges::{Descriptor, Owner, PageRange, Run};
 pub use statuses::Status;
-pub use types::{MemoryType, has_runtime, type_for_alloc};
+pub use types::{MemoryType, has_runtime, is_specific_purpose, type_for_alloc};

@@ -1,12 +1,15 @@
 //! Memory types, and the attributes that go with them.
 ghost use Rattle.std.specs.Prelude.{◌≡◌, Ok, Err, if◌then◌else◌};
-ghost use Rattle.page_ranges.specs.MemoryTypes.{attributes_as, conventional, has_runtime, is_bad_type, is_machine_type};
+ghost use Rattle.page_ranges.specs.MemoryTypes.{attributes_as, conventional, has_runtime, is_specific_purpose, is_bad_type, is_machine_type};
 
 use crate::statuses::Status;
 use std::marker::Model;
 
 /// The attribute bit EFI_MEMORY_RUNTIME.
 const RUNTIME: u64 = 0x8000_0000_0000_0000;
+
+/// The attribute bit EFI_MEMORY_SP.
+const SPECIFIC_PURPOSE: u64 = 0x4_0000;
 
 /// A memory type (EFI_MEMORY_TYPE), any 32-bit number.
 #[derive(Clone, Copy, Debug, PartialEq, Eq)]
@@ -72,6 +75,14 @@ pub fn has_runtime(attributes: u64) -> bool
     ensures { result ≡ has_runtime attributes }
 {
     attributes & RUNTIME != 0
+}
+
+/// Whether attributes have EFI_MEMORY_SP set: the memory is of specific purpose, and a firmware
+/// leaves it to the operating system and its drivers.
+pub fn is_specific_purpose(attributes: u64) -> bool
+    ensures { result ≡ is_specific_purpose attributes }
+{
+    attributes & SPECIFIC_PURPOSE != 0
 }
 
 /// The type of a request for pages: INVALID_PARAMETER for a type that no request may name.

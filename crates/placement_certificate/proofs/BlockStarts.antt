@@ -4,7 +4,7 @@ use Rattle.std.specs.List.{AllByRecursion}
 use Rattle.std.proofs.lemmas.Bool.{cases_lt, cases_eq}
 use Rattle.page_ranges.specs.declared.ranges.Descriptor.{Descriptor}
 use Rattle.page_ranges.specs.declared.ranges.Owner.TheVariants.{Pages}
-use Rattle.page_ranges.specs.MemoryTypes.{page_count, conventional}
+use Rattle.page_ranges.specs.MemoryTypes.{page_count}
 use Rattle.page_ranges.specs.Memory.{Page, page_at, page_below, IsProperMemory, IsProperPage, IsConventional}
 use Rattle.page_ranges.specs.MemoryMap.{memory_map, IsLike, IsIn, IsMaximalBlock, AreInOrder}
 use Rattle.page_ranges.specs.Cursors.{IsBlock, IsBlockAt}
@@ -13,11 +13,11 @@ use Rattle.page_ranges.proofs.Blocks.{map_blocks, entry_is_block, like_present, 
 use Rattle.page_ranges.proofs.Lookups.{page_below-page_at, page_at-number, page_at-all}
 use Rattle.placement_certificate.specs.declared.certificates.Request.{Request}
 use Rattle.placement_certificate.specs.declared.starts.EntryStarts.{EntryStarts}
-use Rattle.placement_certificate.specs.Placement.{IsProperRequest, IsPermittedStart, price}
+use Rattle.placement_certificate.specs.Placement.{IsProperRequest, IsPermittedStart, IsAvailable, price}
 use Rattle.placement_certificate.specs.Certificates.{IsTrueLeast}
 use Rattle.placement_certificate.specs.Laws.{EndsEntry, adds, saves}
-use Rattle.placement_certificate.specs.Search.{IsFound, IsTried, IsOnPage, PermitsUpTo, AreStartsIn}
-use Rattle.placement_certificate.proofs.Edges.{below_is_like, like_conventional}
+use Rattle.placement_certificate.specs.Search.{IsFound, IsTried, IsOnPage, PermitsUpTo, AreStartsIn, IsAvailableBlock}
+use Rattle.placement_certificate.proofs.Edges.{below_is_like, like_available}
 use Rattle.placement_certificate.proofs.FoundStarts.{tried_outside, tried_unless, least_found}
 use Rattle.placement_certificate.proofs.Places.{first_permitted, permitted_end}
 use Rattle.placement_certificate.proofs.Prices.{price_is}
@@ -38,11 +38,11 @@ block_end m b k proper is i =
     let x = like_present b (page_at m last) (is last (record { low = omega (arith, i.low, i.high); high = omega (arith, i.low, i.high) })) in
     omega (arith, page_at-number m last x.0 x.1, (page_at-all IsProperPage m last x.0 proper.each x.1).number, i.low, i.high)
 
--- the pages of a conventional block go on with those below it
-pub free_in_block : (m : List Page) (first next : ℕ) (b : Descriptor) → IsBlock m b → IsIn b next → b.mtype ≡ conventional → ((k : ℕ) → first ≤ k → k < next → IsConventional (page_at m k)) → (k : ℕ) → first ≤ k → k < b.first + b.pages → IsConventional (page_at m k)
+-- the pages of an available block go on with those below it
+pub free_in_block : (m : List Page) (first next : ℕ) (b : Descriptor) → IsBlock m b → IsIn b next → IsAvailableBlock b → ((k : ℕ) → first ≤ k → k < next → IsAvailable (page_at m k)) → (k : ℕ) → first ≤ k → k < b.first + b.pages → IsAvailable (page_at m k)
 free_in_block m first next b is i free below k low high = elim (cases_lt k next) [
   | inl l ↦ below k low l
-  | inr g ↦ like_conventional b (page_at m k) (is k (record { low = omega (arith, i.low); high = high })) free
+  | inr g ↦ like_available b (page_at m k) (is k (record { low = omega (arith, i.low); high = high })) free
 ]
 
 -- there are no more entries than page numbers

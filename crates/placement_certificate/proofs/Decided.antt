@@ -1,14 +1,14 @@
 -- The true certificate of a request, computed from the pages: each start of each conventional entry is tried.
-use Rattle.std.proofs.Common.{◌≡◌, ℕ, zero, suc, ◌+◌, ◌<◌, ◌≤◌, Bool, true, false, cond, ◌&&◌, eqb, leb, List, [], ◌∷◌, ◌++◌, map, Option, Some, None, inl, inr, true≢false, refl, sym, subst, ◌∙◌, append_assoc, arith}
+use Rattle.std.proofs.Common.{◌≡◌, ℕ, zero, suc, ◌+◌, ◌<◌, ◌≤◌, Bool, true, false, not, cond, ◌&&◌, eqb, leb, List, [], ◌∷◌, ◌++◌, map, Option, Some, None, inl, inr, true≢false, refl, sym, ap, subst, ◌∙◌, append_assoc, arith}
 use Rattle.std.specs.List.{AllZip}
-use Rattle.std.proofs.lemmas.Bool.{cases_eq, cases_Bool, eqb-true, eq-eqb, leb-true, le-leb, and_parts, and_from}
+use Rattle.std.proofs.lemmas.Bool.{cases_eq, cases_Bool, eqb-true, eq-eqb, leb-true, le-leb, and_parts, and_from, not-true}
 use Rattle.std.proofs.lemmas.List.{append-nil}
 use Rattle.page_ranges.specs.declared.ranges.Descriptor.{Descriptor}
-use Rattle.page_ranges.specs.MemoryTypes.{conventional}
-use Rattle.page_ranges.specs.Memory.{Page, page_at, IsProperMemory, IsConventional}
+use Rattle.page_ranges.specs.MemoryTypes.{conventional, is_specific_purpose}
+use Rattle.page_ranges.specs.Memory.{Page, page_at, IsProperMemory}
 use Rattle.placement_certificate.specs.declared.certificates.Request.{Request}
 use Rattle.placement_certificate.specs.declared.certificates.Bound.{Bound}
-use Rattle.placement_certificate.specs.Placement.{IsProperRequest, IsPermittedStart, price, IsBestStart}
+use Rattle.placement_certificate.specs.Placement.{IsProperRequest, IsPermittedStart, IsAvailable, price, IsBestStart}
 use Rattle.placement_certificate.specs.Certificates.{CertificateValue, IsTrueLeast, IsTrueBound, conventional_entries, IsTrueCertificate}
 use Rattle.placement_certificate.specs.Search.{better, IsBestOf}
 use Rattle.placement_certificate.proofs.BestBounds.{best_bound, no_bound}
@@ -18,31 +18,33 @@ use Rattle.placement_certificate.proofs.Tries.{first_pages, none_tried, start_pa
 
 abbrev pub is_free : Option Page → Bool
 is_free None = false
-is_free (Some x) = eqb x.mtype conventional
+is_free (Some x) = eqb x.mtype conventional && not (is_specific_purpose x.attributes)
 
-pub free_from : (o : Option Page) → is_free o ≡ true → IsConventional o
+pub free_from : (o : Option Page) → is_free o ≡ true → IsAvailable o
 free_from None h = absurd (true≢false (sym h))
-free_from (Some x) h = eqb-true x.mtype conventional h
+free_from (Some x) h =
+    let t = and_parts (eqb x.mtype conventional) (not (is_specific_purpose x.attributes)) h in
+    (eqb-true x.mtype conventional t.0, not-true _ t.1)
 
-pub free_is : (o : Option Page) → IsConventional o → is_free o ≡ true
-free_is None c = absurd c
-free_is (Some x) c = eq-eqb x.mtype conventional c
+pub free_is : (o : Option Page) → IsAvailable o → is_free o ≡ true
+free_is None c = absurd c.0
+free_is (Some x) c = and_from _ _ (eq-eqb x.mtype conventional c.0) (ap (λ b. not b) c.1)
 
 -- so many pages from a number on
 abbrev are_free : List Page → ℕ → ℕ → Bool
 are_free m p zero = true
 are_free m p (suc n) = is_free (page_at m p) && are_free m (p + 1) n
 
-are_free_from : (m : List Page) (p n : ℕ) → are_free m p n ≡ true → (k : ℕ) → p ≤ k → k < p + n → IsConventional (page_at m k)
+are_free_from : (m : List Page) (p n : ℕ) → are_free m p n ≡ true → (k : ℕ) → p ≤ k → k < p + n → IsAvailable (page_at m k)
 are_free_from m p zero h k l u = absurd (omega arith)
 are_free_from m p (suc n) h k l u =
     let t = and_parts (is_free (page_at m p)) (are_free m (p + 1) n) h in
     elim (cases_eq p k) [
-      | inl e ↦ subst (λ j. IsConventional (page_at m j)) e (free_from (page_at m p) t.0)
+      | inl e ↦ subst (λ j. IsAvailable (page_at m j)) e (free_from (page_at m p) t.0)
       | inr d ↦ are_free_from m (p + 1) n t.1 k (omega arith) (omega arith)
     ]
 
-are_free_is : (m : List Page) (p n : ℕ) → ((k : ℕ) → p ≤ k → k < p + n → IsConventional (page_at m k)) → are_free m p n ≡ true
+are_free_is : (m : List Page) (p n : ℕ) → ((k : ℕ) → p ≤ k → k < p + n → IsAvailable (page_at m k)) → are_free m p n ≡ true
 are_free_is m p zero c = refl
 are_free_is m p (suc n) c = and_from _ _ (free_is (page_at m p) (c p (omega arith) (omega arith))) (are_free_is m (p + 1) n (λ k l u. c k (omega arith) (omega arith)))
 
@@ -52,10 +54,11 @@ is_permitted m r p = leb (p + r.pages) r.limit && are_free m p r.pages
 permitted_from : (m : List Page) (r : Request) (p : ℕ) → is_permitted m r p ≡ true → IsPermittedStart m r p
 permitted_from m r p h =
     let t = and_parts (leb (p + r.pages) r.limit) (are_free m p r.pages) h in
-    record { within = leb-true (p + r.pages) r.limit t.0; conventional = are_free_from m p r.pages t.1 }
+    let free = are_free_from m p r.pages t.1 in
+    record { within = leb-true (p + r.pages) r.limit t.0; conventional = λ k l u. (free k l u).0; ordinary = λ k l u. (free k l u).1 }
 
 not_permitted : (m : List Page) (r : Request) (p : ℕ) → is_permitted m r p ≡ false → ¬ IsPermittedStart m r p
-not_permitted m r p f h = true≢false (sym (and_from _ _ (le-leb (p + r.pages) r.limit h.within) (are_free_is m p r.pages h.conventional)) ∙ f)
+not_permitted m r p f h = true≢false (sym (and_from _ _ (le-leb (p + r.pages) r.limit h.within) (are_free_is m p r.pages (λ k l u. (h.conventional k l u, h.ordinary k l u)))) ∙ f)
 
 -- ---- the bound of an entry
 

@@ -2,12 +2,14 @@
 use Rattle.std.proofs.Common.{◌≡◌, ◌≢◌, ◌↔◌, ◌||◌, ℕ, ◌+◌, ◌-◌, ◌<◌, ◌≤◌, true, false, cond, eqb, List, Contains, Option, Some, None, inl, inr, true≢false, refl, sym, ap, subst, ◌∙◌, arith}
 use Rattle.std.proofs.lemmas.Bool.{ne_eqb, eq-eqb, eqb-true, cases_lt, cases_Bool, and_parts, and_from, and_left, or_parts}
 use Rattle.page_ranges.specs.declared.ranges.Descriptor.{Descriptor}
-use Rattle.page_ranges.specs.MemoryTypes.{is_bad_type, conventional, attributes_as}
+use Rattle.page_ranges.specs.MemoryTypes.{is_bad_type, conventional, attributes_as, is_specific_purpose}
 use Rattle.page_ranges.specs.Memory.{Page, page_at, page_below, IsAscending, IsConventional}
 use Rattle.page_ranges.specs.MemoryMap.{memory_map, IsLike, IsMaximalBlock}
 use Rattle.page_ranges.proofs.Lookups.{page_below-page_at}
 use Rattle.page_ranges.proofs.Blocks.{entry_is_block, entry_of_page}
+use Rattle.placement_certificate.specs.Placement.{IsOrdinary, IsAvailable}
 use Rattle.placement_certificate.specs.Laws.{are_alike, adds, saves}
+use Rattle.placement_certificate.specs.Search.{IsAvailableBlock}
 
 alike_parts : (x y : Page) → are_alike (Some x) (Some y) ≡ true → (x.mtype ≡ y.mtype) × (x.attributes ≡ y.attributes)
 alike_parts x y t =
@@ -70,6 +72,18 @@ block_conventional b (Some x) l c = sym l.0 ∙ c
 pub like_conventional : (b : Descriptor) (o : Option Page) → IsLike b o → b.mtype ≡ conventional → IsConventional o
 like_conventional b None l e = absurd l
 like_conventional b (Some x) l e = l.0 ∙ e
+
+-- so with a page of no specific purpose
+pub block_ordinary : (b : Descriptor) (o : Option Page) → IsLike b o → IsOrdinary o → is_specific_purpose b.attributes ≡ false
+block_ordinary b None l c = absurd l
+block_ordinary b (Some x) l c = ap is_specific_purpose (sym l.1) ∙ c
+
+pub like_ordinary : (b : Descriptor) (o : Option Page) → IsLike b o → is_specific_purpose b.attributes ≡ false → IsOrdinary o
+like_ordinary b None l e = absurd l
+like_ordinary b (Some x) l e = ap is_specific_purpose l.1 ∙ e
+
+pub like_available : (b : Descriptor) (o : Option Page) → IsLike b o → IsAvailableBlock b → IsAvailable o
+like_available b o l a = (like_conventional b o l a.0, like_ordinary b o l a.1)
 
 -- the page below a number that is inside a block
 pub below_is_like : (m : List Page) (b : Descriptor) (k : ℕ) → IsMaximalBlock m b → b.first < k → k ≤ b.first + b.pages → IsLike b (page_below m k)

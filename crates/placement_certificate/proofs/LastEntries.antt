@@ -1,17 +1,17 @@
--- The best start in an entry behind which no conventional page lies.
+-- The best start in an available entry behind which no available page lies.
 use Rattle.std.proofs.Common.{◌≡◌, ◌≢◌, ℕ, ◌+◌, ◌-◌, ◌<◌, ◌≤◌, min, List, length, Contains, Option, Some, None, inl, inr, refl, sym, subst, arith}
 use Rattle.std.proofs.lemmas.Bool.{cases_lt}
 use Rattle.page_ranges.specs.declared.ranges.Descriptor.{Descriptor}
 use Rattle.page_ranges.specs.declared.ranges.Owner.TheVariants.{Pages}
 use Rattle.page_ranges.specs.MemoryTypes.{page_count, conventional}
-use Rattle.page_ranges.specs.Memory.{Page, page_at, page_below, IsProperMemory, IsConventional}
+use Rattle.page_ranges.specs.Memory.{Page, page_at, page_below, IsProperMemory}
 use Rattle.page_ranges.specs.MemoryMap.{memory_map, IsIn, IsMaximalBlock}
 use Rattle.page_ranges.proofs.Blocks.{entry_is_block}
 use Rattle.placement_certificate.specs.declared.certificates.Request.{Request}
-use Rattle.placement_certificate.specs.Placement.{IsProperRequest, IsPermittedStart, price}
+use Rattle.placement_certificate.specs.Placement.{IsProperRequest, IsPermittedStart, IsAvailable, price}
 use Rattle.placement_certificate.specs.Certificates.{IsTrueLeast}
 use Rattle.placement_certificate.specs.Laws.{EndsEntry, adds, saves}
-use Rattle.placement_certificate.specs.Search.{better, IsTried, IsOnPage, PermitsUpTo}
+use Rattle.placement_certificate.specs.Search.{better, IsTried, IsOnPage, PermitsUpTo, IsAvailableBlock}
 use Rattle.placement_certificate.proofs.BlockStarts.{few_in_map, inside_block, none_fits}
 use Rattle.placement_certificate.proofs.Edges.{adds-none, adds-none_above, adds-one, saves-none, good_not_conventional, below_is_like, like_conventional}
 use Rattle.placement_certificate.proofs.FoundStarts.{least_found}
@@ -24,7 +24,7 @@ tried_if : (m : List Page) (r : Request) (e : Descriptor) (l : Option (ℕ × �
 tried_if m r e None q t = λ i h. t i h i h
 tried_if m r e (Some (count, top)) q t = λ i h. t i h i h
 
-module _ (m : List Page) (r : Request) (e : Descriptor) (n : ℕ) (proper : IsProperMemory m) (good : IsProperRequest r) (entries : n ≡ length (memory_map m)) (entry : Contains (memory_map m) e) (free : e.mtype ≡ conventional) (behind : ¬ IsConventional (page_at m (e.first + e.pages))) where
+module _ (m : List Page) (r : Request) (e : Descriptor) (n : ℕ) (proper : IsProperMemory m) (good : IsProperRequest r) (entries : n ≡ length (memory_map m)) (entry : Contains (memory_map m) e) (free : IsAvailableBlock e) (behind : ¬ IsAvailable (page_at m (e.first + e.pages))) where
   abbrev end : ℕ
   end = e.first + e.pages
 
@@ -75,8 +75,8 @@ module _ (m : List Page) (r : Request) (e : Descriptor) (n : ℕ) (proper : IsPr
 
   inner_saves : (k : ℕ) → e.first < k → k < end → (saves r.mtype (page_below m k) (page_at m k) ≡ 0) × (saves r.mtype (page_at m k) (page_below m k) ≡ 0)
   inner_saves k l h = (
-    saves-none r.mtype (page_below m k) (page_at m k) (like_conventional e _ (below_is_like m e k block l (omega arith)) free) other,
-    saves-none r.mtype (page_at m k) (page_below m k) (like_conventional e _ (block.all k (record { low = omega arith; high = h })) free) other,
+    saves-none r.mtype (page_below m k) (page_at m k) (like_conventional e _ (below_is_like m e k block l (omega arith)) free.0) other,
+    saves-none r.mtype (page_at m k) (page_below m k) (like_conventional e _ (block.all k (record { low = omega arith; high = h })) free.0) other,
   )
 
   -- the price of the whole entry

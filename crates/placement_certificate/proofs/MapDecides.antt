@@ -3,13 +3,13 @@ use Rattle.std.proofs.Common.{◌≡◌, ℕ, zero, suc, ◌+◌, List, [], ◌�
 use Rattle.std.specs.List.{AllZip}
 use Rattle.page_ranges.specs.declared.ranges.Descriptor.{Descriptor}
 use Rattle.page_ranges.specs.declared.ranges.Owner.TheVariants.{Pages}
-use Rattle.page_ranges.specs.MemoryTypes.{conventional}
+use Rattle.page_ranges.specs.MemoryTypes.{conventional, is_specific_purpose}
 use Rattle.page_ranges.specs.Memory.{Page, page_at, page_below, IsAscending, IsProperMemory, IsConventional}
 use Rattle.page_ranges.specs.MemoryMap.{memory_map, IsLike}
 use Rattle.page_ranges.proofs.Blocks.{entry_is_block, entry_of_page}
 use Rattle.placement_certificate.specs.declared.certificates.Request.{Request}
 use Rattle.placement_certificate.specs.declared.certificates.Bound.{Bound}
-use Rattle.placement_certificate.specs.Placement.{IsProperRequest, IsPermittedStart, price, IsBestStart, IsBestIn}
+use Rattle.placement_certificate.specs.Placement.{IsProperRequest, IsPermittedStart, IsOrdinary, price, IsBestStart, IsBestIn}
 use Rattle.placement_certificate.specs.Certificates.{CertificateValue, IsTrueLeast, IsTrueBound, conventional_entries, IsTrueCertificate}
 use Rattle.placement_certificate.specs.Laws.{adds, saves}
 use Rattle.placement_certificate.proofs.Prices.{price_is}
@@ -73,10 +73,16 @@ conventional_look None y l c = absurd c
 conventional_look (Some x) None l c = absurd l
 conventional_look (Some x) (Some y) l c = sym l.0 ∙ c
 
+ordinary_look : (x y : Option Page) → LookAlike x y → IsOrdinary x → IsOrdinary y
+ordinary_look None y l c = absurd c
+ordinary_look (Some x) None l c = absurd l
+ordinary_look (Some x) (Some y) l c = ap is_specific_purpose (sym l.1) ∙ c
+
 pub permitted_too : (m n : List Page) → IsAscending m → IsAscending n → memory_map m ≡ memory_map n → (r : Request) (p : ℕ) → IsPermittedStart m r p → IsPermittedStart n r p
 permitted_too m n a c e r p h = record {
   within = h.within;
   conventional = λ k l u. conventional_look (page_at m k) (page_at n k) (look_alike m n a c e k) (h.conventional k l u);
+  ordinary = λ k l u. ordinary_look (page_at m k) (page_at n k) (look_alike m n a c e k) (h.ordinary k l u);
 }
 
 module _ (m n : List Page) (r : Request) (proper : IsProperMemory m) (proper_too : IsProperMemory n) (good : IsProperRequest r) (same : memory_map m ≡ memory_map n) where

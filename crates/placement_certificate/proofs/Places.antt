@@ -1,26 +1,31 @@
 -- Where the best start stands in its entry.
-use Rattle.std.proofs.Common.{◌≡◌, ◌⊎◌, ◌↔◌, ℕ, zero, suc, ◌+◌, ◌-◌, ◌<◌, ◌≤◌, List, length, Contains, Option, Some, None, inl, inr, refl, arith}
+use Rattle.std.proofs.Common.{◌≡◌, ◌⊎◌, ◌↔◌, ℕ, zero, suc, ◌+◌, ◌-◌, ◌<◌, ◌≤◌, true, false, List, length, Contains, Option, Some, None, inl, inr, true≢false, refl, sym, ◌∙◌, arith}
 use Rattle.std.proofs.lemmas.Bool.{cases_lt}
 use Rattle.page_ranges.specs.declared.ranges.Descriptor.{Descriptor}
 use Rattle.page_ranges.specs.declared.ranges.Owner.TheVariants.{Pages}
-use Rattle.page_ranges.specs.MemoryTypes.{page_count, conventional}
+use Rattle.page_ranges.specs.MemoryTypes.{page_count, conventional, is_specific_purpose}
 use Rattle.page_ranges.specs.Memory.{Page, page_at, page_below, IsProperMemory, IsConventional}
 use Rattle.page_ranges.specs.MemoryMap.{memory_map, IsLike, IsIn, IsMaximalBlock}
 use Rattle.page_ranges.proofs.Blocks.{entry_is_block, entry_of_page, entry_end}
 use Rattle.placement_certificate.specs.declared.certificates.Request.{Request}
 use Rattle.placement_certificate.specs.Placement.{IsProperRequest, IsPermittedStart, price, IsBestIn}
+use Rattle.placement_certificate.specs.Certificates.{IsTrueLeast}
 use Rattle.placement_certificate.specs.Laws.{IsStretch, EndsEntry, IsHighestIn, IsPlace}
-use Rattle.placement_certificate.proofs.Edges.{adds-one, adds-none, adds-most, saves-none, good_not_conventional, block_conventional, like_conventional, below_is_like}
+use Rattle.placement_certificate.proofs.Edges.{adds-one, adds-none, adds-most, saves-none, good_not_conventional, block_conventional, like_conventional, block_ordinary, like_ordinary, below_is_like}
 use Rattle.placement_certificate.proofs.Prices.{price_is}
 
 -- ---- stretches
 
 permitted_in_stretch : (m : List Page) (r : Request) (first stop p : ℕ) → IsStretch m first stop → first ≤ p → p < stop → IsPermittedStart m r p → (p + r.pages ≤ r.limit) × (p + r.pages ≤ stop)
 permitted_in_stretch m r first stop p is low high h =
-    (h.within, elim (cases_lt stop (p + r.pages)) [ inl l ↦ absurd (is.stops (h.conventional stop (omega arith) l)) | inr g ↦ g ])
+    (h.within, elim (cases_lt stop (p + r.pages)) [ inl l ↦ absurd (is.stops (h.conventional stop (omega arith) l, h.ordinary stop (omega arith) l)) | inr g ↦ g ])
 
 stretch_permits : (m : List Page) (r : Request) (first stop p : ℕ) → IsStretch m first stop → first ≤ p → (p + r.pages ≤ r.limit) × (p + r.pages ≤ stop) → IsPermittedStart m r p
-stretch_permits m r first stop p is low h = record { within = h.0; conventional = λ k l u. is.all k (omega arith) (omega (arith, h.1)) }
+stretch_permits m r first stop p is low h = record {
+  within = h.0;
+  conventional = λ k l u. (is.all k (omega arith) (omega (arith, h.1))).0;
+  ordinary = λ k l u. (is.all k (omega arith) (omega (arith, h.1))).1;
+}
 
 pub stretch : (m : List Page) (r : Request) (first stop p : ℕ) → IsStretch m first stop → first ≤ p → p < stop → IsPermittedStart m r p ↔ ((p + r.pages ≤ r.limit) × (p + r.pages ≤ stop))
 stretch m r first stop p is low high = (permitted_in_stretch m r first stop p is low high, stretch_permits m r first stop p is low)
@@ -51,6 +56,13 @@ start_entry m r p proper good permitted =
     let c = entry_in_range m r p p permitted (omega arith) (omega arith) in
     (c.0, c.1, c.2, entry_conventional m r p p c.0 (entry_is_block m proper.ascending c.0 c.1) c.2 permitted (omega arith) (omega arith))
 
+-- no start in an entry of specific purpose is permitted
+pub none_permitted : (m : List Page) (r : Request) (e : Descriptor) → IsProperMemory m → IsProperRequest r → Contains (memory_map m) e → is_specific_purpose e.attributes ≡ true → IsTrueLeast m r e None
+none_permitted m r e proper good entry special p i permitted =
+    let some = good.some in
+    let off = block_ordinary e (page_at m p) ((entry_is_block m proper.ascending e entry).all p i) (permitted.ordinary p (omega arith) (omega arith)) in
+    true≢false (sym special ∙ off)
+
 -- ---- an entry with a permitted start
 
 module _ (m : List Page) (r : Request) (e : Descriptor) (p : ℕ) (proper : IsProperMemory m) (good : IsProperRequest r) (entry : Contains (memory_map m) e) (in_entry : IsIn e p) (permitted : IsPermittedStart m r p) where
@@ -60,12 +72,19 @@ module _ (m : List Page) (r : Request) (e : Descriptor) (p : ℕ) (proper : IsPr
   free_entry : e.mtype ≡ conventional
   free_entry = let some = good.some in entry_conventional m r p p e is_block in_entry permitted (omega arith) (omega arith)
 
+  ordinary_entry : is_specific_purpose e.attributes ≡ false
+  ordinary_entry = let some = good.some in block_ordinary e (page_at m p) (is_block.all p in_entry) (permitted.ordinary p (omega arith) (omega arith))
+
   pub first_permitted : IsPermittedStart m r e.first
   first_permitted = record {
     within = omega (arith, permitted.within, in_entry.low);
     conventional = λ k l h. elim (cases_lt k p) [
       | inl b ↦ like_conventional e (page_at m k) (is_block.all k (record { low = l; high = omega (arith, in_entry.high) })) free_entry
       | inr a ↦ permitted.conventional k a (omega (arith, in_entry.low))
+    ];
+    ordinary = λ k l h. elim (cases_lt k p) [
+      | inl b ↦ like_ordinary e (page_at m k) (is_block.all k (record { low = l; high = omega (arith, in_entry.high) })) ordinary_entry
+      | inr a ↦ permitted.ordinary k a (omega (arith, in_entry.low))
     ];
   }
 

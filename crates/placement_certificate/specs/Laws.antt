@@ -3,11 +3,11 @@ use Rattle.std.specs.Prelude.{◌≡◌, ◌⊎◌, ◌↔◌, ℕ, ◌+◌, ◌
 use Rattle.std.specs.List.{AllZip, AllByRecursion}
 use Rattle.page_ranges.specs.declared.ranges.Descriptor.{Descriptor}
 use Rattle.page_ranges.specs.MemoryTypes.{attributes_as}
-use Rattle.page_ranges.specs.Memory.{Page, page_at, page_below, IsAscending, IsProperMemory, IsConventional}
+use Rattle.page_ranges.specs.Memory.{Page, page_at, page_below, IsAscending, IsProperMemory}
 use Rattle.page_ranges.specs.MemoryMap.{memory_map, IsIn}
 use Rattle.placement_certificate.specs.declared.certificates.Request.{Request}
 use Rattle.placement_certificate.specs.declared.certificates.Bound.{Bound}
-use Rattle.placement_certificate.specs.Placement.{IsProperRequest, IsPermittedStart, price, IsBestStart, IsBestIn}
+use Rattle.placement_certificate.specs.Placement.{IsProperRequest, IsPermittedStart, IsAvailable, price, IsBestStart, IsBestIn}
 use Rattle.placement_certificate.specs.Certificates.{CertificateValue, IsTrueBound, conventional_entries, IsTrueCertificate}
 
 -- both pages are present, with equal type and attributes
@@ -48,10 +48,10 @@ abbrev pub FirstPageLaw : Type 0
 FirstPageLaw = (m : List Page) (r : Request) (e : Descriptor) (p : ℕ) → IsProperMemory m → IsProperRequest r → Contains (memory_map m) e → IsIn e p → IsPermittedStart m r p →
     IsPermittedStart m r e.first × (price m r e.first ≤ length (memory_map m) + 1)
 
--- The pages from first on are conventional up to stop, and the page at stop is not.
+-- The pages from first on are available up to stop, and the page at stop is not.
 pub record IsStretch (m : List Page) (first stop : ℕ) : Type 0 where
-  pub all : (k : ℕ) → first ≤ k → k < stop → IsConventional (page_at m k)
-  pub stops : ¬ IsConventional (page_at m stop)
+  pub all : (k : ℕ) → first ≤ k → k < stop → IsAvailable (page_at m k)
+  pub stops : ¬ IsAvailable (page_at m stop)
 
 -- In a stretch a start is permitted just where its pages end by the stretch's end and by the limit.
 abbrev pub StretchLaw : Type 0

@@ -1,10 +1,10 @@
 -- Where a request may stand, what the memory is then, and which start is best.
-use Rattle.std.specs.Prelude.{◌≡◌, ℕ, ◌+◌, ◌<◌, ◌≤◌, false, List, length}
+use Rattle.std.specs.Prelude.{◌≡◌, ℕ, ◌+◌, ◌<◌, ◌≤◌, false, List, length, Option, Some, None}
 use Rattle.page_ranges.specs.declared.ranges.Descriptor.{Descriptor}
 use Rattle.page_ranges.specs.declared.ranges.Owner.{Owner}
 use Rattle.page_ranges.specs.declared.ranges.Owner.TheVariants.{Pages}
 use Rattle.page_ranges.specs.declared.ranges.PageRange.{PageRange}
-use Rattle.page_ranges.specs.MemoryTypes.{is_bad_type}
+use Rattle.page_ranges.specs.MemoryTypes.{is_bad_type, is_specific_purpose}
 use Rattle.page_ranges.specs.Memory.{Page, IsConventional, AllInRange, retyped}
 use Rattle.page_ranges.specs.MemoryMap.{memory_map, IsIn}
 use Rattle.placement_certificate.specs.declared.certificates.Request.{Request}
@@ -18,11 +18,21 @@ pub record IsProperRequest (r : Request) : Type 0 where
 abbrev pub range_at : Request → ℕ → PageRange
 range_at r p = record { first = p; pages = r.pages }
 
--- A permitted start: the pages from there on end by the limit, and all of them are conventional. All that is said of
--- permission is said here.
+-- the page is not of specific purpose: its bit EFI_MEMORY_SP is off
+abbrev pub IsOrdinary : Option Page → Type 0
+IsOrdinary None = ⊥
+IsOrdinary (Some x) = is_specific_purpose x.attributes ≡ false
+
+-- A permitted start: the pages from there on end by the limit, and all of them are conventional and of no specific
+-- purpose. All that is said of permission is said here.
 pub record IsPermittedStart (m : List Page) (r : Request) (p : ℕ) : Type 0 where
   pub within : p + r.pages ≤ r.limit
   pub conventional : AllInRange m (range_at r p) IsConventional
+  pub ordinary : AllInRange m (range_at r p) IsOrdinary
+
+-- a page that may be in such a range
+abbrev pub IsAvailable : Option Page → Type 0
+IsAvailable o = IsConventional o × IsOrdinary o
 
 -- the memory after a placement: those pages have the request's type and their new owner
 abbrev pub after_placement : List Page → Request → Owner → ℕ → List Page

@@ -1,7 +1,8 @@
 -- Words for the contracts of searches.
-use Rattle.std.specs.Prelude.{◌≡◌, ◌↔◌, ℕ, ◌+◌, ◌<◌, ◌≤◌, false, ◌&&◌, ◌||◌, ◌==◌, nat_lt, List, Option, Some, None, if◌then◌else◌, slice_get, length, Contains}
+use Rattle.std.specs.Prelude.{◌≡◌, ◌↔◌, ℕ, ◌+◌, ◌≤◌, false, ◌&&◌, ◌||◌, ◌==◌, nat_lt, List, Option, Some, None, if◌then◌else◌, length, Contains}
 use Rattle.std.specs.List.{AllByRecursion}
 use Rattle.page_ranges.specs.declared.ranges.Descriptor.{Descriptor}
+use Rattle.page_ranges.specs.MemoryTypes.{conventional, is_specific_purpose}
 use Rattle.page_ranges.specs.Memory.{Page, page_below, IsProperMemory}
 use Rattle.page_ranges.specs.MemoryMap.{memory_map, IsLike, IsIn, should_be_one}
 use Rattle.page_ranges.specs.Cursors.{IsBlockAt}
@@ -34,7 +35,11 @@ abbrev pub IsTried : List Page → Request → Descriptor → Option (ℕ × ℕ
 IsTried m r e None q = IsIn e q → ¬ IsPermittedStart m r q
 IsTried m r e (Some (count, top)) q = IsIn e q → IsPermittedStart m r q → (count ≤ price m r q) × (price m r q ≡ count → q ≤ top)
 
--- the stretch of conventional pages that an entry lies in ends at a page number
+-- a block of available pages
+abbrev pub IsAvailableBlock : Descriptor → Type 0
+IsAvailableBlock b = (b.mtype ≡ conventional) × (is_specific_purpose b.attributes ≡ false)
+
+-- the stretch of available pages that an entry lies in ends at a page number
 pub record IsStop (m : List Page) (e : Descriptor) (stop : ℕ) : Type 0 where
   pub within : e.first + e.pages ≤ stop
   pub stretch : IsStretch m e.first stop

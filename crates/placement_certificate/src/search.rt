@@ -1,32 +1,40 @@
 //! The search for the best start in one entry of a map after the other.
 ghost use Rattle.std.specs.Prelude.{◌≡◌, ◌↔◌, ◌+◌, ◌≤◌, Option, length, Contains, IsTrue};
-ghost use Rattle.page_ranges.specs.MemoryTypes.{conventional};
-ghost use Rattle.page_ranges.specs.Memory.{Page, page_at, page_below, IsConventional, IsProperMemory};
+ghost use Rattle.page_ranges.specs.MemoryTypes.{conventional, is_specific_purpose};
+ghost use Rattle.page_ranges.specs.Memory.{Page, page_at, page_below, IsProperMemory};
 ghost use Rattle.page_ranges.specs.MemoryMap.{memory_map};
 ghost use Rattle.page_ranges.specs.Cursors.{IsBlockAt};
-ghost use Rattle.placement_certificate.specs.Placement.{IsProperRequest};
+ghost use Rattle.placement_certificate.specs.Placement.{IsProperRequest, IsAvailable};
 ghost use Rattle.placement_certificate.specs.Certificates.{IsTrueLeast};
-ghost use Rattle.placement_certificate.specs.Search.{IsStop, IsOnPage};
+ghost use Rattle.placement_certificate.specs.Search.{IsStop, IsOnPage, IsAvailableBlock};
 
 use crate::better::{PricedStart, better_of};
 use crate::certificates::Request;
 use crate::starts::{EntryStarts, edge_saves};
-use page_ranges::{Descriptor, MemoryType, PageCursor};
+use page_ranges::{Descriptor, MemoryType, PageCursor, is_specific_purpose};
 use std::marker::Model;
 
-// Where the stretch of conventional pages that an entry lies in ends, and a block with the page there.
+// Whether a request may be given a block's pages without naming them.
+#[inline(always)]
+fn is_available(block: &Descriptor) -> bool
+    ensures { IsTrue result ↔ IsAvailableBlock block.now }
+{
+    block.mtype == MemoryType::conventional() && !is_specific_purpose(block.attributes)
+}
+
+// Where the stretch of available pages that an entry lies in ends, and a block with the page there.
 #[inline(always)]
 fn stretch_end<C: PageCursor>(cursor: &mut C, entry: &Descriptor) -> (u64, Option<Descriptor>)
     requires proper { IsProperMemory (C.memory cursor.old) }
     requires entry { Contains (memory_map (C.memory cursor.old)) entry.now }
-    requires free { entry.now.mtype ≡ conventional }
+    requires available { IsAvailableBlock entry.now }
     ensures stays { C.memory cursor.new ≡ C.memory cursor.old }
     ensures stop { IsStop (C.memory cursor.old) entry.now result.0 }
     ensures behind { IsBlockAt (C.memory cursor.old) result.0 result.1 }
 {
     let mut end = entry.first + entry.pages;
     while let Some(block) = cursor.block_at(end) {
-        if block.mtype != MemoryType::conventional() {
+        if !is_available(&block) {
             return (end, Some(block));
         }
         end = block.first + block.pages;
@@ -54,13 +62,13 @@ fn first_fits(request: &Request, entry: &Descriptor, end_by: u64) -> bool
     entry.first <= end_by && request.pages <= end_by - entry.first
 }
 
-// Whether the page that a block holds is conventional.
+// Whether the page that a block holds is available.
 #[inline(always)]
-fn is_free(block: &Option<Descriptor>) -> bool
-    ensures { (x : Option Page) → IsOnPage block.now x → IsTrue result ↔ IsConventional x }
+fn is_available_at(block: &Option<Descriptor>) -> bool
+    ensures { (x : Option Page) → IsOnPage block.now x → IsTrue result ↔ IsAvailable x }
 {
     match block {
-        Some(held) => held.mtype == MemoryType::conventional(),
+        Some(held) => is_available(held),
         None => false,
     }
 }
@@ -69,7 +77,7 @@ fn is_free(block: &Option<Descriptor>) -> bool
 /// of its own: when the entries are taken by ascending page, each cursor goes upward.
 #[derive(Drop)]
 pub struct EntrySearch<C: PageCursor + Drop> {
-    // At the pages just below entries, and where stretches of conventional pages end.
+    // At the pages just below entries, and where stretches of available pages end.
     sides: C,
     // At the last pages of starts and at the pages above those.
     ends: C,
@@ -106,13 +114,13 @@ impl<C: PageCursor + Drop> EntrySearch<C> {
         }
     }
 
-    // Where the stretch of a conventional entry ends, which is known if the last stretch that was met holds the entry;
+    // Where the stretch of an available entry ends, which is known if the last stretch that was met holds the entry;
     // and a page that was looked at on the way, with a block that holds it.
     #[inline(always)]
     fn stop_of(&mut self, entry: &Descriptor) -> (u64, u64, Option<Descriptor>)
         requires proper { IsProperMemory self.old }
         requires entry { Contains (memory_map self.old) entry.now }
-        requires free { entry.now.mtype ≡ conventional }
+        requires available { IsAvailableBlock entry.now }
         ensures stays { self.new ≡ self.old }
         ensures stop { IsStop self.old entry.now result.0 }
         ensures known { IsBlockAt self.old result.1 result.2 }
@@ -126,7 +134,7 @@ impl<C: PageCursor + Drop> EntrySearch<C> {
         (stop, stop, behind)
     }
 
-    // The best start in a conventional entry, whatever lies behind it.
+    // The best start in an available entry, whatever lies behind it.
     #[inline(never)]
     fn least_in_stretch(
         &mut self,
@@ -139,7 +147,7 @@ impl<C: PageCursor + Drop> EntrySearch<C> {
         requires good { IsProperRequest request.now }
         requires entries { entries ≡ length (memory_map self.old) }
         requires entry { Contains (memory_map self.old) entry.now }
-        requires free { entry.now.mtype ≡ conventional }
+        requires available { IsAvailableBlock entry.now }
         requires below { IsOnPage below (page_below self.old entry.now.first) }
         ensures stays { self.new ≡ self.old }
         ensures least { IsTrueLeast self.old request.now entry.now result }
@@ -163,7 +171,8 @@ impl<C: PageCursor + Drop> EntrySearch<C> {
 
     /// The best start of a request in a conventional entry, with its price, given how many entries the
     /// map has, and blocks with the page just below the entry and the page just behind it.
-    /// Where the latter is not free, nothing is looked up. Entries may be asked for in any order.
+    /// Where the latter is not free, nothing is looked up. In an entry of specific purpose there is no
+    /// start. Entries may be asked for in any order.
     #[inline(always)]
     pub fn least_beside(
         &mut self,
@@ -183,7 +192,10 @@ impl<C: PageCursor + Drop> EntrySearch<C> {
         ensures stays { self.new ≡ self.old }
         ensures least { IsTrueLeast self.old request.now entry.now result }
     {
-        if is_free(&above) {
+        if is_specific_purpose(entry.attributes) {
+            return None;
+        }
+        if is_available_at(&above) {
             return self.least_in_stretch(request, entries, entry, below);
         }
         let end = entry.first + entry.pages;

@@ -1,12 +1,12 @@
 -- The search over the starts of each entry.
-use Rattle.std.proofs.Common.{◌≡◌, ◌↔◌, ℕ, ◌+◌, ◌<◌, ◌≤◌, Bool, true, false, IsTrue, eqb, List, [], ◌∷◌, ◌++◌, length, get_or, take, drop, filter, Contains, Option, Some, inl, inr, refl, sym, ap, subst, ◌∙◌}
+use Rattle.std.proofs.Common.{◌≡◌, ◌↔◌, ℕ, ◌+◌, ◌<◌, ◌≤◌, Bool, true, false, eqb, List, [], ◌∷◌, ◌++◌, length, get_or, take, drop, filter, Contains, Option, Some, inl, inr, refl, sym, ap, subst, ◌∙◌}
 use Rattle.std.specs.List.{AllZip}
-use Rattle.std.proofs.lemmas.Bool.{cases_Bool, eqb-true, eq-eqb}
+use Rattle.std.proofs.lemmas.Bool.{cases_Bool}
 use Rattle.std.proofs.lemmas.List.{at_drop_more, take_all, take_more, append-nil}
 use Rattle.page_ranges.specs.declared.ranges.Descriptor.{Descriptor}
 use Rattle.page_ranges.specs.declared.ranges.Run.{Run}
-use Rattle.page_ranges.specs.MemoryTypes.{page_count, conventional}
-use Rattle.page_ranges.specs.Memory.{Page, page_at, IsProperMemory, IsConventional}
+use Rattle.page_ranges.specs.MemoryTypes.{page_count, conventional, is_specific_purpose}
+use Rattle.page_ranges.specs.Memory.{Page, page_at, IsProperMemory}
 use Rattle.page_ranges.specs.MemoryMap.{memory_map}
 use Rattle.page_ranges.specs.Runs.{page_in, pages_of, AreRuns}
 use Rattle.page_ranges.proofs.Blocks.{entry_end}
@@ -14,6 +14,7 @@ use Rattle.page_ranges.proofs.Members.{all_implied}
 use Rattle.page_ranges.proofs.RunLists.{page_at-held, page_at-not_held, IsProperRun, proper_runs}
 use Rattle.placement_certificate.specs.declared.certificates.Request.{Request}
 use Rattle.placement_certificate.specs.declared.certificates.Bound.{Bound}
+use Rattle.placement_certificate.specs.Placement.{IsAvailable}
 use Rattle.placement_certificate.specs.Certificates.{IsTrueLeast, conventional_entries}
 use Rattle.plain_search.specs.RunsBy.{AreRunsBy}
 use Rattle.placement_certificate.proofs.Tries.{first_pages}
@@ -28,11 +29,9 @@ pub in_run : (rs : List Run) (i k : ℕ) (r : Run) → i < length rs → r ≡ g
 in_run rs i k r h is low high =
     at_drop_more (λ ss. page_at (pages_of ss) k) rs i r h ∙ ap (λ s. page_at (pages_of (s ∷ drop (i + 1) rs)) k) (sym is) ∙ page_at-held r (drop (i + 1) rs) k (record { low = low; high = high })
 
-pub free_by_type : (m : List Page) (k t : ℕ) (r : Run) → t ≡ r.mtype → page_at m k ≡ Some (page_in k r) → IsTrue (eqb t conventional) ↔ IsConventional (page_at m k)
-free_by_type m k t r e found = (
-  λ h. subst IsConventional (sym found) (sym e ∙ eqb-true t conventional h),
-  λ h. eq-eqb t conventional (e ∙ subst IsConventional found h),
-)
+-- a page of a run is available just where the run is conventional and of no specific purpose
+pub available_in_run : (m : List Page) (k : ℕ) (r : Run) → page_at m k ≡ Some (page_in k r) → ((r.mtype ≡ conventional) × (is_specific_purpose r.attributes ≡ false)) ↔ IsAvailable (page_at m k)
+available_in_run m k r found = (λ h. subst IsAvailable (sym found) h, λ h. subst IsAvailable found h)
 
 -- ---- runs of a proper memory
 

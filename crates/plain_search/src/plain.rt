@@ -1,16 +1,16 @@
 //! A plain search for the best start, which tries every start and builds the changed memory for
 //! each: slow, and meant for tests of faster ones.
-ghost use Rattle.std.specs.Prelude.{◌≡◌, ℕ, ◌+◌, ◌-◌, ◌≤◌, ◌++◌, ◌↔◌, None, IsTrue, IfSome, IfOk, OnOk};
+ghost use Rattle.std.specs.Prelude.{◌≡◌, ℕ, ◌+◌, ◌-◌, ◌≤◌, ◌++◌, ◌↔◌, false, None, IsTrue, IfSome, IfOk, OnOk};
 ghost use Rattle.page_ranges.specs.declared.ranges.Owner.TheVariants.{Pages};
-ghost use Rattle.page_ranges.specs.MemoryTypes.{page_count};
-ghost use Rattle.page_ranges.specs.Memory.{row, page_at, retyped, IsConventional, IsProperMemory};
+ghost use Rattle.page_ranges.specs.MemoryTypes.{page_count, conventional, is_specific_purpose};
+ghost use Rattle.page_ranges.specs.Memory.{row, page_at, retyped, IsProperMemory};
 ghost use Rattle.page_ranges.specs.MemoryMap.{memory_map, should_be_one};
 ghost use Rattle.page_ranges.specs.Runs.{page_in, pages_of, AreRuns};
-ghost use Rattle.placement_certificate.specs.Placement.{IsProperRequest, IsPermittedStart, price};
+ghost use Rattle.placement_certificate.specs.Placement.{IsProperRequest, IsPermittedStart, IsAvailable, price};
 ghost use Rattle.placement_certificate.specs.Certificates.{IsTrueLeast, IsTrueCertificate};
 ghost use Rattle.plain_search.specs.RunsBy.{AreRunsBy};
 
-use page_ranges::{Descriptor, MemoryType, Owner, PageRange, Run};
+use page_ranges::{Descriptor, MemoryType, Owner, PageRange, Run, is_specific_purpose};
 use placement_certificate::{Bound, Certificate, Request, better_of};
 use std::alloc::{AllocError, Allocator};
 
@@ -191,20 +191,27 @@ fn is_permitted(runs: &[Run], request: &Request, start: u64) -> bool
         return false;
     }
     for page in start..start + request.pages {
-        if !is_free(runs, page) {
+        if !is_available(runs, page) {
             return false;
         }
     }
     true
 }
 
-fn is_free(runs: &[Run], page: u64) -> bool
-    ensures { IsTrue result ↔ IsConventional (page_at (pages_of runs.now) page) }
+// Whether a request may be given a page without naming it.
+fn is_available(runs: &[Run], page: u64) -> bool
+    ensures { IsTrue result ↔ IsAvailable (page_at (pages_of runs.now) page) }
 {
     for run in runs {
         if run.range.first <= page && page - run.range.first < run.range.pages {
-            return run.mtype.number() == 7;
+            return is_available_run(run);
         }
     }
     false
+}
+
+fn is_available_run(run: &Run) -> bool
+    ensures { IsTrue result ↔ ((run.now.mtype ≡ conventional) × (is_specific_purpose run.now.attributes ≡ false)) }
+{
+    run.mtype.number() == 7 && !is_specific_purpose(run.attributes)
 }

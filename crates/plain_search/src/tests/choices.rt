@@ -39,6 +39,17 @@ const MACHINE_A_PLACED: [Row; 5] = [
 // Free memory with two sets of attributes.
 const MACHINE_B: [Row; 2] = [(0, 8, 7, 0xf), (8, 8, 7, 0x7)];
 
+// Ordinary free memory, and free memory of specific purpose above it.
+const SPECIFIC_PURPOSE: [Row; 2] = [(0, 8, 7, 0xf), (8, 8, 7, 0x4_000f)];
+
+// The same with ordinary memory above that, and with data placed on memory of specific purpose.
+const BETWEEN_ORDINARY: [Row; 4] = [
+    (0, 8, 7, 0xf),
+    (8, 8, 7, 0x4_000f),
+    (16, 8, 7, 0x7),
+    (24, 2, 4, 0x4_000f),
+];
+
 // The last eight pages of all.
 const LAST_PAGES: [Row; 1] = [(PAGE_COUNT - 8, 8, 7, 0xf)];
 
@@ -209,6 +220,20 @@ fn limit_is_the_last_byte(rt: HostRuntime) -> Result<(), AllocError> {
 }
 
 #[test]
+fn specific_purpose_is_left_alone(rt: HostRuntime) -> Result<(), AllocError> {
+    let bounds = [bound(0, 8, 2, 0), no_start(8, 8)];
+    let whole = request(4, 8, PAGE_COUNT);
+    assert_certified(&rt, &SPECIFIC_PURPOSE, &whole, &bounds, 0)?;
+    let bounds = [bound(0, 8, 5, 6), no_start(8, 8), bound(16, 8, 5, 22)];
+    let two = request(4, 2, PAGE_COUNT);
+    assert_certified(&rt, &BETWEEN_ORDINARY, &two, &bounds, 22)?;
+    let runs = machine_of(rt.alloc(), &BETWEEN_ORDINARY)?;
+    let found = chosen(rt.alloc(), runs.as_slice(), &request(4, 9, PAGE_COUNT))?;
+    assert!(rt; found.is_none(), "across memory of specific purpose");
+    Ok(())
+}
+
+#[test]
 fn no_start_is_permitted(rt: HostRuntime) -> Result<(), AllocError> {
     let runs = machine_of(rt.alloc(), &LAST_PAGES)?;
     for (pages, limit) in [
@@ -230,10 +255,11 @@ fn no_start_is_permitted(rt: HostRuntime) -> Result<(), AllocError> {
 fn drawn_kind(draw: u64) -> (u32, u64)
     ensures { result.0 ≡ conventional → has_runtime result.1 ≡ false }
 {
-    match draw % 5 {
+    match draw % 6 {
         0 => (6, 0x8000_0000_0000_000f),
         1 => (5, 0x8000_0000_0000_0007),
         2 => (7, 0x7),
+        3 => (7, 0x4_000f),
         _ => (7, 0xf),
     }
 }

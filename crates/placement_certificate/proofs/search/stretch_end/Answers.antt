@@ -8,7 +8,7 @@ pub overflow_add-end : goal.overflow_add-end
 overflow_add-end g c = omega (arith, entry_end (g.C.PageCursor.memory c.args.cursor.now) c.requires.proper c.args.entry.now c.requires.entry)
 
 pub loop-block-init : goal.loop-block-init
-loop-block-init g c = record { stays = refl; within = omega arith; free = entry_free (g.C.PageCursor.memory c.args.cursor.now) c.args.entry.now c.requires.proper c.requires.entry c.requires.free }
+loop-block-init g c = record { stays = refl; within = omega arith; free = entry_free (g.C.PageCursor.memory c.args.cursor.now) c.args.entry.now c.requires.proper c.requires.entry c.requires.available }
 
 pub overflow_add-end-in-Some : goal.overflow_add-end-in-Some
 overflow_add-end-in-Some g c =

@@ -6,7 +6,7 @@ use Rattle.placement_certificate.proofs.search.EntrySearch.stop_of.Goals as goal
 pub returns-then-entry-self-clause-stop : goal.returns-then-entry-self-clause-stop
 returns-then-entry-self-clause-stop g c =
     let is = rw c.self.view_is at c.self.invariant.1 (omega arith) in
-    known_stop c.args.self.now c.args.entry.now c.self.inside.first c.self.inside.stop c.requires.proper c.requires.entry c.requires.free (omega arith) (omega arith) is
+    known_stop c.args.self.now c.args.entry.now c.self.inside.first c.self.inside.stop c.requires.proper c.requires.entry c.requires.available (omega arith) (omega arith) is
 
 pub returns-then-entry-self-clause-known : goal.returns-then-entry-self-clause-known
 returns-then-entry-self-clause-known g c =

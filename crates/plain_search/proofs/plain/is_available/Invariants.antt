@@ -1,7 +1,7 @@
 use Rattle.std.proofs.Common.{◌≡◌, drop}
 use Rattle.page_ranges.specs.Memory.{page_at}
 use Rattle.page_ranges.specs.Runs.{pages_of}
-use Rattle.plain_search.proofs.plain.is_free.Given as goal
+use Rattle.plain_search.proofs.plain.is_available.Given as goal
 
 -- the page is not in the runs so far
 abbrev pub invariant-loop-run : goal.invariant-loop-run

@@ -1,14 +1,15 @@
 use Rattle.std.proofs.Common.{◌∙◌, sym, arith}
 use Rattle.page_ranges.specs.Runs.{pages_of}
-use Rattle.plain_search.proofs.PlainSearch.{not_in_run, in_run, free_by_type}
-use Rattle.plain_search.proofs.plain.is_free.Goals as goal
-use Rattle.plain_search.proofs.plain.is_free.Goals.{else-run-page-via-then-run-page+else-page-run, else-run-page-via-else-run-page}
+use Rattle.plain_search.proofs.PlainSearch.{not_in_run, in_run, available_in_run}
+use Rattle.plain_search.proofs.plain.is_available.Goals as goal
+use Rattle.plain_search.proofs.plain.is_available.Goals.{else-run-page-via-then-run-page+else-page-run, else-run-page-via-else-run-page}
 
 pub returns-then-page-run : goal.returns-then-page-run
 returns-then-page-run c =
     let r = c.run-item.result in
     let found = in_run c.args.runs.now c.loop-run.run-index c.args.page r (omega arith) c.run-item.is (omega arith) (omega arith) in
-    free_by_type (pages_of c.args.runs.now) c.args.page c.number.result r c.number.ensures (sym c.loop-run.invariant ∙ found)
+    let available = available_in_run (pages_of c.args.runs.now) c.args.page r (sym c.loop-run.invariant ∙ found) in
+    (λ h. available.0 (c.is_available_run.ensures.0 h), λ h. c.is_available_run.ensures.1 (available.1 h))
 
 pub loop-run-preserved : goal.loop-run-preserved
 loop-run-preserved c = elim c.else-run-page.branch [
