@@ -5,9 +5,52 @@ mod opens;
 mod orders;
 mod registrations;
 
+use guid_handles::Handles;
+use open_agents::Opens;
+use page_ranges::Status;
+use std::process::Abort;
 use uuid::Uuid;
 
 /// A GUID whose bytes are all this one.
 pub fn guid(byte: u8) -> Uuid {
     Uuid::from_bytes([byte; 16])
+}
+
+/// An installation: the handle, the byte of the GUID, the kind and the value, and what is answered.
+pub type Installation = (u64, u8, u32, u64, Result<u64, Status>);
+
+/// Installs an interface, of not too many.
+fn install(
+    rt: &impl Abort,
+    handles: &mut Handles,
+    handle: u64,
+    byte: u8,
+    kind: u32,
+    value: u64,
+) -> Result<u64, Status> {
+    if handles.last_number() >= 100 || handles.last_stamp() >= 100 {
+        panic!(rt; "many interfaces");
+    }
+    handles.install(handle, guid(byte), kind, value)
+}
+
+/// Asserts what installations answer.
+pub fn assert_installs(rt: &impl Abort, handles: &mut Handles, rows: &[Installation]) {
+    for (handle, byte, kind, value, answer) in rows {
+        let told = install(rt, handles, *handle, *byte, *kind, *value);
+        assert_eq!(rt; told, *answer);
+    }
+}
+
+/// The item of an agent's open of the first interface, for a controller.
+pub fn opened(
+    rt: &(impl AllocGlobal + Abort),
+    agent: u64,
+    controller: u64,
+    attributes: u32,
+) -> Opens {
+    let mut opens = Opens::new(rt.alloc());
+    let made = opens.add(1, guid(1), agent, controller, attributes);
+    assert!(rt; made.is_ok());
+    opens
 }

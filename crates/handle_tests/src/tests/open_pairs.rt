@@ -1,5 +1,5 @@
 //! What an open item means for the next call, by a table written by hand.
-use super::guid;
+use super::{guid, install, opened};
 use guid_handles::Handles;
 use open_agents::{Decision, Opens};
 use page_ranges::Status;
@@ -64,10 +64,7 @@ fn decision_of(rt: &impl Abort, letter: u8) -> Decision {
 fn five_handles(rt: &(impl AllocGlobal + Abort)) -> Handles {
     let mut handles = Handles::new(rt.alloc());
     for number in 1..6 {
-        if handles.last_number() >= 8 || handles.last_stamp() >= 8 {
-            panic!(rt; "more than five handles");
-        }
-        assert_eq!(rt; handles.install(0, guid(1), 0, 0), Ok(number));
+        assert_eq!(rt; install(rt, &mut handles, 0, 1, 0, 0), Ok(number));
     }
     handles
 }
@@ -90,15 +87,15 @@ fn assert_letters(
 
 /// The item of a first call, but none for attributes that are none.
 fn first_open(rt: &(impl AllocGlobal + Abort), handles: &Handles, attributes: u32) -> Opens {
-    let mut opens = Opens::new(rt.alloc());
-    let decision = opens.decide(handles, 1, guid(1), 2, 4, attributes);
+    let none = Opens::new(rt.alloc());
+    let decision = none.decide(handles, 1, guid(1), 2, 4, attributes);
     if attributes == 3 {
         assert_eq!(rt; decision, Decision::Refuse(Status::InvalidParameter));
+        none
     } else {
         assert_eq!(rt; decision, Decision::Add);
-        assert!(rt; opens.add(1, guid(1), 2, 4, attributes).is_ok());
+        opened(rt, 2, 4, attributes)
     }
-    opens
 }
 
 fn assert_pairs(

@@ -1,67 +1,92 @@
 //! The open rule and the open items, by values worked out by hand.
-use super::guid;
+use super::{Installation, assert_installs, guid, opened};
 use guid_handles::Handles;
 use open_agents::{BY_CHILD_CONTROLLER, BY_DRIVER, Decision, EXCLUSIVE, OpenItem, Opens};
 use page_ranges::Status;
+use std::process::Abort;
+
+const INSTALLED: [Installation; 3] = [
+    (0, 1, 0, 0x10, Ok(1)),
+    (0, 2, 0, 0, Ok(2)),
+    (0, 2, 0, 0, Ok(3)),
+];
+
+const DENIED: Decision = Decision::Refuse(Status::AccessDenied);
+
+const INVALID: Decision = Decision::Refuse(Status::InvalidParameter);
+
+/// An agent, a controller and attributes, and what is decided.
+type Row = (u64, u64, u32, Decision);
+
+/// What is decided where nothing is open.
+const OF_NONE: [Row; 1] = [(2, 0, EXCLUSIVE, Decision::Add)];
+
+/// What is decided once the second handle has the interface open exclusively.
+const OF_EXCLUSIVE: [Row; 7] = [
+    (2, 0, EXCLUSIVE, DENIED),
+    (3, 0, EXCLUSIVE, DENIED),
+    (3, 1, 0x30, DENIED),
+    (2, 1, BY_DRIVER, DENIED),
+    (2, 1, BY_CHILD_CONTROLLER, INVALID),
+    (2, 3, BY_CHILD_CONTROLLER, Decision::Add),
+    (2, 1, 3, INVALID),
+];
+
+/// Asserts what is decided about opens of the first interface.
+fn assert_decides(rt: &impl Abort, handles: &Handles, opens: &Opens, rows: &[Row]) {
+    for (agent, controller, attributes, decision) in rows {
+        let told = opens.decide(handles, 1, guid(1), *agent, *controller, *attributes);
+        assert_eq!(rt; told, *decision);
+    }
+}
+
+/// Asserts whether an agent's open of the first interface is closed.
+fn assert_closes(rt: &impl Abort, opens: &mut Opens, agent: u64, controller: u64, is_closed: bool) {
+    assert_eq!(rt; opens.close(1, guid(1), agent, controller), is_closed);
+}
 
 #[test]
 fn open_table(rt: HostRuntime) {
     let mut handles = Handles::new(rt.alloc());
-    assert_eq!(rt; handles.install(0, guid(1), 0, 0x10), Ok(1));
-    assert_eq!(rt; handles.install(0, guid(2), 0, 0), Ok(2));
-    assert_eq!(rt; handles.install(0, guid(2), 0, 0), Ok(3));
-    let mut opens = Opens::new(rt.alloc());
-    let denied = Decision::Refuse(Status::AccessDenied);
-    let invalid = Decision::Refuse(Status::InvalidParameter);
-    assert_eq!(rt;
-        opens.decide(&handles, 1, guid(1), 2, 0, EXCLUSIVE),
-        Decision::Add
-    );
-    assert_eq!(rt; opens.add(1, guid(1), 2, 0, EXCLUSIVE).is_ok(), true);
-    assert_eq!(rt; opens.decide(&handles, 1, guid(1), 2, 0, EXCLUSIVE), denied);
-    assert_eq!(rt; opens.decide(&handles, 1, guid(1), 3, 0, EXCLUSIVE), denied);
-    assert_eq!(rt; opens.decide(&handles, 1, guid(1), 3, 1, 0x30), denied);
-    assert_eq!(rt; opens.decide(&handles, 1, guid(1), 2, 1, BY_DRIVER), denied);
-    assert_eq!(rt;
-        opens.decide(&handles, 1, guid(1), 2, 1, BY_CHILD_CONTROLLER),
-        invalid
-    );
-    assert_eq!(rt;
-        opens.decide(&handles, 1, guid(1), 2, 3, BY_CHILD_CONTROLLER),
-        Decision::Add
-    );
-    assert_eq!(rt; opens.decide(&handles, 1, guid(1), 2, 1, 3), invalid);
-    assert!(rt; opens.close(1, guid(1), 2, 0));
-    assert!(rt; !opens.close(1, guid(1), 2, 0));
+    assert_installs(&rt, &mut handles, &INSTALLED);
+    let none = Opens::new(rt.alloc());
+    assert_decides(&rt, &handles, &none, &OF_NONE);
+    let mut opens = opened(&rt, 2, 0, EXCLUSIVE);
+    assert_decides(&rt, &handles, &opens, &OF_EXCLUSIVE);
+    assert_closes(&rt, &mut opens, 2, 0, true);
+    assert_closes(&rt, &mut opens, 2, 0, false);
+}
+
+/// Asserts that the interface has just an item of the driver, which manages the first handle.
+fn assert_item(rt: &impl Abort, opens: &Opens) {
+    let items = opens.items(1, guid(1)).expect(rt, "memory");
+    let item = OpenItem {
+        agent: 3,
+        controller: 1,
+        attributes: BY_DRIVER,
+        count: 1,
+    };
+    assert_eq!(rt; items.as_slice(), [item].as_slice());
+}
+
+fn assert_managers(rt: &impl Abort, opens: &Opens) {
+    let pairs = opens.managers(1).expect(rt, "memory");
+    assert_eq!(rt; pairs.as_slice(), [(1, 3)].as_slice());
+}
+
+/// Takes the item from a copy.
+fn drop_from_a_copy(rt: &impl Abort, opens: &Opens) {
+    let mut copy = opens.try_copy().expect(rt, "memory");
+    copy.drop_pair(1, 3);
+    assert_closes(rt, &mut copy, 3, 1, false);
 }
 
 #[test]
 fn items_of_an_interface(rt: HostRuntime) {
-    let mut opens = Opens::new(rt.alloc());
-    assert_eq!(rt; opens.add(1, guid(1), 3, 1, BY_DRIVER).is_ok(), true);
-    match opens.items(1, guid(1)) {
-        Ok(items) => {
-            let item = OpenItem {
-                agent: 3,
-                controller: 1,
-                attributes: BY_DRIVER,
-                count: 1,
-            };
-            assert_eq!(rt; items.as_slice(), [item].as_slice());
-        }
-        Err(_) => panic!(rt; "out of memory"),
-    }
-    match opens.managers(1) {
-        Ok(pairs) => assert_eq!(rt; pairs.as_slice(), [(1, 3)].as_slice()),
-        Err(_) => panic!(rt; "out of memory"),
-    }
-    match opens.try_copy() {
-        Ok(mut copy) => {
-            copy.drop_pair(1, 3);
-            assert!(rt; !copy.close(1, guid(1), 3, 1));
-        }
-        Err(_) => panic!(rt; "out of memory"),
-    }
+    let mut opens = opened(&rt, 3, 1, BY_DRIVER);
+    assert_item(&rt, &opens);
+    assert_managers(&rt, &opens);
+    drop_from_a_copy(&rt, &opens);
     opens.drop_handle(3);
-    assert!(rt; !opens.close(1, guid(1), 3, 1));
+    assert_closes(&rt, &mut opens, 3, 1, false);
 }

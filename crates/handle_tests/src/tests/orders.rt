@@ -1,5 +1,6 @@
 //! Which handles carry a GUID, and which interface is next, after each change; worked out by hand.
-use super::guid;
+use super::handles::{assert_carriers, assert_next, remove, replace};
+use super::install;
 use guid_handles::Handles;
 use std::process::Abort;
 
@@ -98,47 +99,21 @@ const ROWS: [Row; 12] = [
     },
 ];
 
-/// Installs an interface, which gets the next stamp.
-fn install(rt: &impl Abort, handles: &mut Handles, handle: u64, byte: u8) {
-    if handles.last_number() >= 100 || handles.last_stamp() >= 100 {
-        panic!(rt; "many changes");
-    }
-    assert!(rt; handles.install(handle, guid(byte), 0, 0).is_ok());
-}
-
-fn remove(rt: &impl Abort, handles: &mut Handles, handle: u64) {
-    let one = guid(1);
-    if handles.interface(handle, one).is_none() {
-        panic!(rt; "no interface");
-    }
-    handles.remove(handle, one);
-}
-
-fn replace(rt: &impl Abort, handles: &mut Handles, handle: u64) {
-    let one = guid(1);
-    if handles.interface(handle, one).is_none() || handles.last_stamp() >= 100 {
-        panic!(rt; "no interface");
-    }
-    handles.replace(handle, one, 7);
-    assert_eq!(rt; handles.interface(handle, one), Some(7));
-}
-
-/// Asserts which handles carry a GUID.
-fn assert_carriers(rt: &impl Abort, handles: &Handles, byte: u8, carriers: &[u64]) {
-    let found = handles.by_protocol(guid(byte));
-    let is_same = found.len() == carriers.len() && found.iter().zip(carriers).all(|(a, b)| a == b);
-    assert!(rt; is_same, "carriers of {byte}");
+/// Installs an interface.
+fn install_one(rt: &impl Abort, handles: &mut Handles, handle: u64, byte: u8) {
+    let told = install(rt, handles, handle, byte, 0, 0);
+    assert!(rt; told.is_ok());
 }
 
 fn assert_row(rt: &impl Abort, handles: &mut Handles, row: &Row) {
     match row.change {
-        Change::Install(handle) => install(rt, handles, handle, 1),
+        Change::Install(handle) => install_one(rt, handles, handle, 1),
         Change::Remove(handle) => remove(rt, handles, handle),
-        Change::Replace(handle) => replace(rt, handles, handle),
+        Change::Replace(handle) => replace(rt, handles, handle, 7),
     }
     assert_carriers(rt, handles, 1, row.carriers);
     for (mark, next) in row.next {
-        assert_eq!(rt; handles.after_stamp(guid(1), *mark), *next, "{mark}");
+        assert_next(rt, handles, *mark, *next);
     }
     assert_carriers(rt, handles, 2, &[1, 2]);
 }
@@ -146,8 +121,8 @@ fn assert_row(rt: &impl Abort, handles: &mut Handles, row: &Row) {
 #[test]
 fn orders(rt: HostRuntime) {
     let mut handles = Handles::new(rt.alloc());
-    install(&rt, &mut handles, 0, 2);
-    install(&rt, &mut handles, 0, 2);
+    install_one(&rt, &mut handles, 0, 2);
+    install_one(&rt, &mut handles, 0, 2);
     for row in &ROWS {
         assert_row(&rt, &mut handles, row);
     }
