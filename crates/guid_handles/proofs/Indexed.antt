@@ -7,8 +7,8 @@ use Rattle.std.proofs.lemmas.Bool.Decides.{eqb_tells}
 use Rattle.guid_handles.specs.declared.records.Interface.{Interface}
 use Rattle.guid_handles.specs.HandleTables.{same_guid, is_on, is_at}
 use Rattle.guid_handles.specs.HandleChanges.{restamped, stamped, has_guid_twice}
-use Rattle.guid_handles.specs.Indexes.{Group, grouped_at, IsIndex, AreAbsent}
-use Rattle.guid_handles.proofs.SortedLists.{all_map, find_push_other, find_push_new, find_filter, find_map}
+use Rattle.guid_handles.specs.Indexes.{Group, grouped_at, IsIndex}
+use Rattle.guid_handles.proofs.SortedLists.{find_push_other, find_push_new, find_filter, find_map}
 use Rattle.guid_handles.proofs.GuidOrder.{and_false, same_guid-true}
 
 -- ---- keys

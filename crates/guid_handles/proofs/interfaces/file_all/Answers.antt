@@ -1,4 +1,4 @@
-use Rattle.guid_handles.proofs.Filed.{filed_more, filed_same, filed_back}
+use Rattle.guid_handles.proofs.Filed.{filed_more}
 use Rattle.guid_handles.proofs.interfaces.file_all.Goals as goal
 
 pub returns-clause-ok : goal.returns-clause-ok
