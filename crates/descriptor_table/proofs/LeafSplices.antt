@@ -1,10 +1,11 @@
 -- Some leaves of a table whose runs are replaced by the same pages, retyped.
-use Rattle.std.proofs.Common.{◌≡◌, ℕ, ◌+◌, ◌-◌, ◌<◌, ◌≤◌, List, ◌++◌, length, take, drop, sym, ap, subst, ◌∙◌, append_assoc, arith}
+use Rattle.std.proofs.Common.{◌≡◌, ℕ, zero, suc, [], ◌∷◌, ◌+◌, ◌-◌, ◌<◌, ◌≤◌, List, ◌++◌, length, take, drop, sym, ap, subst, ◌∙◌, append_assoc, arith}
+use Rattle.std.specs.List.{AllByRecursion}
 use Rattle.std.proofs.lemmas.List.{take-append-drop, drop-drop}
 use Rattle.page_ranges.specs.declared.ranges.PageRange.{PageRange}
 use Rattle.page_ranges.specs.declared.ranges.Run.{Run}
 use Rattle.page_ranges.specs.Runs.{AreRuns}
-use Rattle.page_ranges.proofs.Members.{all_append}
+use Rattle.page_ranges.proofs.Members.{all_append, all_append_left, all_append_right}
 use Rattle.page_ranges.proofs.RunLists.{runs-left, runs-right}
 use Rattle.descriptor_table.specs.Tables.{IsWindow}
 use Rattle.descriptor_table.specs.Leaves.{runs_in, AreLeaves, AreLeavesNear}
@@ -54,3 +55,37 @@ pub leaves_put : (ls fresh new : List (List Run)) (from to : ℕ) → new ≡ ta
 leaves_put ls fresh new from to e a b =
     subst AreLeaves (sym e)
     (all_append (λ l. (0 < length l) × (length l ≤ 32)) (take from ls) (fresh ++ drop to ls) (leaves_taken ls from a) (all_append (λ l. (0 < length l) × (length l ≤ 32)) fresh (drop to ls) b (leaves_dropped ls to a)))
+
+-- ---- one leaf more
+
+dropped_less : (P : Run → Type 0) (ls : List (List Run)) (n : ℕ) → AllByRecursion P (runs_in (drop n ls)) → AllByRecursion P (runs_in (drop (suc n) ls))
+dropped_less P [] zero a = tt
+dropped_less P [] (suc n) a = tt
+dropped_less P (l ∷ ls) zero a = all_append_right P l (runs_in ls) a
+dropped_less P (l ∷ ls) (suc n) a = dropped_less P ls n a
+
+taken_less : (P : Run → Type 0) (ls : List (List Run)) (n : ℕ) → AllByRecursion P (runs_in (take (suc n) ls)) → AllByRecursion P (runs_in (take n ls))
+taken_less P [] zero a = tt
+taken_less P [] (suc n) a = tt
+taken_less P (l ∷ ls) zero a = tt
+taken_less P (l ∷ ls) (suc n) a = all_append P l (runs_in (take n ls)) (all_append_left P l (runs_in (take (suc n) ls)) a) (taken_less P ls n (all_append_right P l (runs_in (take (suc n) ls)) a))
+
+pub near_next : (ls : List (List Run)) (range : PageRange) (low high : ℕ) → AreLeavesNear ls range low high → high < length ls → AreLeavesNear ls range low (high + 1)
+near_next ls range low high near h =
+    let k : suc high ≡ high + 1 = omega arith in
+    record {
+      order = omega (arith, near.order);
+      bound = omega arith;
+      below = near.below;
+      above = subst (λ i. AllByRecursion (λ r. range.first + range.pages < r.range.first) (runs_in (drop i ls))) k (dropped_less (λ r. range.first + range.pages < r.range.first) ls high near.above);
+    }
+
+pub near_before : (ls : List (List Run)) (range : PageRange) (low high : ℕ) → AreLeavesNear ls range low high → 0 < low → AreLeavesNear ls range (low - 1) high
+near_before ls range low high near h =
+    let k : low ≡ suc (low - 1) = omega arith in
+    record {
+      order = omega (arith, near.order);
+      bound = near.bound;
+      below = taken_less (λ r. r.range.first + r.range.pages < range.first) ls (low - 1) (subst (λ i. AllByRecursion (λ r. r.range.first + r.range.pages < range.first) (runs_in (take i ls))) k near.below);
+      above = near.above;
+    }

@@ -15,6 +15,9 @@ use crate::searches::{count_beginning_by, count_ending_below};
 use page_ranges::{MemoryType, Owner, PageRange, Run};
 use std::alloc::{AllocError, Allocator};
 
+/// Neighbours with so many runs between them, or fewer, are joined when one of them changes.
+const JOINED_SIZE: usize = 24;
+
 /// The indices between which runs share a page with a range or touch it.
 fn window_of(runs: &[Run], range: PageRange) -> (usize, usize)
     requires runs { AreRuns runs.now }
@@ -23,6 +26,29 @@ fn window_of(runs: &[Run], range: PageRange) -> (usize, usize)
 {
     let low = count_ending_below(runs, range.first);
     let high = count_beginning_by(runs, range.first + range.pages);
+    (low, high)
+}
+
+/// Takes a leaf beside another with it, where the two have few runs: they are joined then.
+fn with_neighbour<A: Allocator + Copy>(
+    leaves: &[Leaf<A>],
+    range: PageRange,
+    low: usize,
+    high: usize,
+) -> (usize, usize)
+    requires { AreLeavesNear leaves.now range low high }
+    ensures { AreLeavesNear leaves.now range result.0 result.1 }
+{
+    if high - low != 1 {
+        return (low, high);
+    }
+    let count = leaves[low].runs().len();
+    if high < leaves.len() && count + leaves[high].runs().len() <= JOINED_SIZE {
+        return (low, high + 1);
+    }
+    if low > 0 && count + leaves[low - 1].runs().len() <= JOINED_SIZE {
+        return (low - 1, high);
+    }
     (low, high)
 }
 
@@ -35,7 +61,7 @@ fn leaves_near<A: Allocator + Copy>(leaves: &[Leaf<A>], range: PageRange) -> (us
 {
     let below = count_leaves_below(leaves, range.first);
     let high = count_leaves_by(leaves, range.first + range.pages);
-    (below.saturating_sub(1), high)
+    with_neighbour(leaves, range, below.saturating_sub(1), high)
 }
 
 /// Gives the pages of a range a type and an owner, and answers how many entries the map then has.

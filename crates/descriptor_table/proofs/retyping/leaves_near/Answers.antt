@@ -22,8 +22,8 @@ in_order ls low high first end h up below above = elim (cases_lt high low) [
   | inr m ↦ m
 ]
 
-pub returns : goal.returns
-returns g c =
+pub with_neighbour-requires : goal.with_neighbour-requires
+with_neighbour-requires g c =
     let low = c.count_leaves_below-below in
     let high = c.count_leaves_by-high in
     let order = in_order c.args.leaves.now low.result high.result c.args.range.first (c.args.range.first + c.args.range.pages) low.ensures.bound (omega arith) low.ensures.below high.ensures.above in
