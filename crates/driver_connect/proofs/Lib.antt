@@ -4,6 +4,8 @@ pub mod VersionOrder
 pub mod Opened
 pub mod Passes
 pub mod Levels
+pub mod InTurn
+pub mod TriedOnce
 pub mod Whole
 pub mod StopSets
 pub mod Left

@@ -5,3 +5,4 @@ pub mod Starting
 pub mod Readiness
 pub mod Connecting
 pub mod Laws
+pub mod Turns

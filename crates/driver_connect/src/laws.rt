@@ -1,5 +1,6 @@
 //! The laws of stopping and connecting, each the contract of a function that does nothing.
 ghost use Rattle.driver_connect.specs.Laws.{GoneLaw, MakersItemLaw, NothingCarriedOutLaw, ReadyLaw, RoundsLaw, StaysLaw, StopSetLaw, VersionsLaw};
+ghost use Rattle.driver_connect.specs.Turns.{StartsLaw, TriedOnceLaw};
 
 /// The stop set of some pairs holds them and the managers of all handles that its pairs made, and it
 /// is the least set that does.
@@ -25,6 +26,17 @@ pub fn stays_law()
 /// Drivers are tried by version downwards, and those of one version keep their order.
 pub fn versions_law()
     ensures { VersionsLaw }
+{}
+
+/// No driver handle is tried twice on a handle.
+pub fn tried_once_law()
+    ensures { TriedOnceLaw }
+{}
+
+/// On a handle, drivers are started one after the other, each supported when its turn came, and none
+/// that is left is supported at the end.
+pub fn starts_law()
+    ensures { StartsLaw }
 {}
 
 /// A connect carries out a start on its handle exactly where one of the drivers is supported there as
