@@ -32,6 +32,10 @@ any_near n guid q opens =
     ∙ ap is_some (find_filter p (is_near n) true (λ o h. open_near n guid o (first_part (is_open_on n guid o) (q o) h)) opens)
     ∙ any_found p opens
 
+pub open_on_near : (n : ℕ) (guid : List ℕ) (opens : List OpenRecord) → list_any (is_open_on n guid) (filter (is_near n) opens) ≡ list_any (is_open_on n guid) opens
+open_on_near n guid opens =
+    sym (any_found (is_open_on n guid) (filter (is_near n) opens)) ∙ ap is_some (find_filter (is_open_on n guid) (is_near n) true (open_near n guid) opens) ∙ any_found (is_open_on n guid) opens
+
 pub equal_near : (opens : List OpenRecord) (n : ℕ) (guid : List ℕ) (agent controller a : ℕ) → has_equal (filter (is_near n) opens) n guid agent controller a ≡ has_equal opens n guid agent controller a
 equal_near opens n guid agent controller a = any_near n guid (λ o. is_of_pair controller agent o && (o.attributes == a)) opens
 

@@ -133,6 +133,15 @@ impl<A: Allocator + Copy> Opens<A> {
         Some(self.place_among_all(handle, place))
     }
 
+    /// The place of the last item of an interface.
+    fn place_of_last_on(&self, handle: u64, guid: Uuid) -> Option<usize>
+        ensures there { IfSome result (HoldsAt (spec.is_open_on handle guid) self.now) }
+        ensures none { IfNone result (list_any (spec.is_open_on handle guid) self.now ≡ false) }
+    {
+        let place = find_open_on(self.near(handle), handle, guid)?;
+        Some(self.place_among_all(handle, place))
+    }
+
     /// The place in its block of the item at a place.
     fn place_in_block(&self, at: usize) -> usize
         requires { at < length self.now }
@@ -249,11 +258,11 @@ impl<A: Allocator + Copy> Opens<A> {
     {
         // No item is of agent 0.
         let _items = &self.items;
-        if agent == 0 {
+        if agent != 0 {
             return decide_among(
                 handles,
                 carried,
-                &[],
+                self.near(handle),
                 handle,
                 guid,
                 agent,
@@ -264,7 +273,7 @@ impl<A: Allocator + Copy> Opens<A> {
         decide_among(
             handles,
             carried,
-            self.near(handle),
+            &[],
             handle,
             guid,
             agent,
@@ -317,7 +326,7 @@ impl<A: Allocator + Copy> Opens<A> {
     pub fn drop_interface(&mut self, handle: u64, guid: Uuid)
         ensures { self.new ≡ without_items (spec.is_open_on handle guid) self.old }
     {
-        while let Some(at) = find_open_on(self.items.as_slice(), handle, guid) {
+        while let Some(at) = self.place_of_last_on(handle, guid) {
             self.remove_at(at);
         }
     }
@@ -365,17 +374,17 @@ impl<A: Allocator + Copy> Opens<A> {
         ensures err { OnErr result (self.new ≡ self.old) }
         ensures no_agent { agent ≡ 0 → IsOk result }
     {
-        if agent == 0 {
-            return Ok(());
+        if agent != 0 {
+            return self.push(&OpenRecord {
+                handle,
+                guid,
+                agent,
+                controller,
+                attributes,
+                count: 1,
+            });
         }
-        self.push(&OpenRecord {
-            handle,
-            guid,
-            agent,
-            controller,
-            attributes,
-            count: 1,
-        })
+        Ok(())
     }
 
     /// The items of an interface, in the order in which they were made. If there are none, this

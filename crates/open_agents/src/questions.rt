@@ -183,12 +183,12 @@ pub(crate) fn find_closed(
     None
 }
 
-/// The place of the first item of a controller and an agent.
+/// The place of the last item of a controller and an agent.
 pub(crate) fn find_of_pair(items: &[OpenRecord], controller: u64, agent: u64) -> Option<usize>
     ensures there { IfSome result (HoldsAt (spec.is_of_pair controller agent) items.now) }
     ensures none { IfNone result (list_any (spec.is_of_pair controller agent) items.now ≡ false) }
 {
-    for at in 0..items.len() {
+    for at in (0..items.len()).rev() {
         if is_of_pair(&items[at], controller, agent) {
             return Some(at);
         }
@@ -196,12 +196,12 @@ pub(crate) fn find_of_pair(items: &[OpenRecord], controller: u64, agent: u64) ->
     None
 }
 
-/// The place of the first item of an interface.
+/// The place of the last item of an interface.
 pub(crate) fn find_open_on(items: &[OpenRecord], handle: u64, guid: Uuid) -> Option<usize>
     ensures there { IfSome result (HoldsAt (spec.is_open_on handle guid) items.now) }
     ensures none { IfNone result (list_any (spec.is_open_on handle guid) items.now ≡ false) }
 {
-    for at in 0..items.len() {
+    for at in (0..items.len()).rev() {
         if is_open_on(&items[at], handle, guid) {
             return Some(at);
         }
@@ -216,12 +216,12 @@ fn names_handle(o: &OpenRecord, handle: u64) -> bool
     o.handle == handle || o.agent == handle || o.controller == handle
 }
 
-/// The place of the first item that names a handle.
+/// The place of the last item that names a handle.
 pub(crate) fn find_naming(items: &[OpenRecord], handle: u64) -> Option<usize>
     ensures there { IfSome result (HoldsAt (spec.names handle) items.now) }
     ensures none { IfNone result (list_any (spec.names handle) items.now ≡ false) }
 {
-    for at in 0..items.len() {
+    for at in (0..items.len()).rev() {
         if names_handle(&items[at], handle) {
             return Some(at);
         }

@@ -2,13 +2,13 @@ use Rattle.std.proofs.Common.{◌∙◌}
 use Rattle.open_agents.proofs.Asked.{rule_agent_0, rule_near}
 use Rattle.open_agents.proofs.opens.Opens.decide_carried.Goals as goal
 
-pub returns-then-agent-eq0 : goal.returns-then-agent-eq0
-returns-then-agent-eq0 g c =
-    rw (c.if-agent-eq0.true, ← c.self.view_is)
-    ((rw c.if-agent-eq0.true at c.decide_among.ensures)
-    ∙ rule_agent_0 c.args.handles.now _ c.args.handle c.args.guid c.args.controller c.args.attributes c.self.invariant.agents)
+pub returns-then-agent-ne0 : goal.returns-then-agent-ne0
+returns-then-agent-ne0 g c =
+    (rw c.near.ensures at c.decide_among.ensures)
+    ∙ rule_near c.args.handles.now c.args.self.now c.args.handle c.args.guid c.args.agent c.args.controller c.args.attributes
 
 pub returns : goal.returns
 returns g c =
-    (rw c.near.ensures at c.decide_among-2.ensures)
-    ∙ rule_near c.args.handles.now c.args.self.now c.args.handle c.args.guid c.args.agent c.args.controller c.args.attributes
+    rw (c.if-agent-ne0.false, ← c.self.view_is)
+    ((rw c.if-agent-ne0.false at c.decide_among-2.ensures)
+    ∙ rule_agent_0 c.args.handles.now _ c.args.handle c.args.guid c.args.controller c.args.attributes c.self.invariant.agents)
