@@ -4,9 +4,10 @@
 use std::alloc::{AllocError, Allocator};
 use std::cell::Cell;
 
-/// Hands on each request to another allocator, but for one, which it refuses.
+/// Hands on each request to another allocator, but for those that it refuses: one, or all from one on.
 pub struct Refusing<B: Allocator> {
     inner: B,
+    // Twice the number of allocations up to the one that is refused, and 1 more where all after it are too.
     left: Cell<u64>,
 }
 
@@ -19,14 +20,19 @@ impl<B: Allocator> Refusing<B> {
         }
     }
 
-    /// From now on the allocation of this number is refused, the first being 1; for 0 none is.
+    /// Refuses the allocation of this number from now, the first being 1; none for 0.
     pub fn refuse(&self, number: u64) {
-        self.left.set(number);
+        self.left.set(number.saturating_mul(2));
+    }
+
+    /// Refuses the allocation of this number from now, and all after it.
+    pub fn refuse_from(&self, number: u64) {
+        self.left.set(number.saturating_mul(2) | 1);
     }
 
     /// Whether that allocation has come; true also where none is to be refused.
     pub fn has_refused(&self) -> bool {
-        self.left.get() == 0
+        self.left.get() < 2
     }
 }
 
@@ -36,11 +42,11 @@ impl<B: Allocator> Drop for Refusing<B> {
     }
 }
 
-// Counts an allocation, and answers whether it is the one.
+// Counts an allocation, and answers whether it is refused.
 fn is_time(left: &Cell<u64>) -> bool {
     let before = left.get();
-    left.set(before.saturating_sub(1));
-    before == 1
+    left.set(before.checked_sub(2).unwrap_or(before));
+    (1..=3).contains(&before)
 }
 
 unsafe impl<B: Allocator> Allocator for Refusing<B> {
