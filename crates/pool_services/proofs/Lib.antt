@@ -2,6 +2,7 @@ pub mod CellBlocks
 pub mod ExtentLists
 pub mod PoolPages
 pub mod ExtentChanges
+pub mod Reached
 pub mod RoomLists
 pub mod NewExtents
 pub mod PoolBytes

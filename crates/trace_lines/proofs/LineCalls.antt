@@ -1,5 +1,5 @@
 -- The calls that lines ask for.
-use Rattle.std.proofs.Common.{◌≡◌, ℕ, suc, ◌<◌, ◌^◌, ◌%◌, ◌==◌, Bool, true, false, cond, nat_lt, nat_le, nat_eq, List, [], ◌∷◌, length, codes, Option, Some, None, Result, Ok, Err, refl, subst}
+use Rattle.std.proofs.Common.{◌≡◌, ℕ, suc, ◌<◌, ◌^◌, ◌%◌, ◌==◌, Bool, true, false, cond, nat_lt, nat_le, nat_eq, List, [], ◌∷◌, length, codes, Option, Some, None, Result, Ok, Err, refl, ap, ◌∙◌, subst}
 use Rattle.std.proofs.lemmas.Bool.{ltb-true}
 use Rattle.std.specs.Io.BufRead.{strip_last}
 use Rattle.std.specs.List.{starts_with, AllByRecursion}
@@ -117,132 +117,76 @@ numbers_fit (word ∷ words) numbers e =
 abbrev Asked : Type 0 → Type 0
 Asked A = Result (TraceCall A) TraceFault
 
-abbrev asks : {A : Type 0} → Call A → Asked A
-asks c = Ok (trace_call.Service c)
+module _ {A : Type 0} where
+  -- that a call which is asked for has its numbers
+  abbrev Numbered : Asked A → Type 0
+  Numbered (Ok (trace_call.Service c)) = HasCallNumbers c
+  Numbered (Ok asked) = Unit {0}
+  Numbered (Err f) = Unit {0}
+
+  after : {B : Type 0} (r : Result B TraceFault) (f : B → Asked A) → ((x : B) → r ≡ Ok x → Numbered (f x)) → Numbered (r >>= f)
+  after (Ok x) f h = h x refl
+  after (Err e) f h = tt
+
+  if_even : (b : Bool) (r : Asked A) (f : TraceFault) → Numbered r → Numbered (cond b r (Err f))
+  if_even true r f h = h
+  if_even false r f h = tt
+
+-- the numbers of the call that a verb asks for with its words
+of_verb : (A : Type 0) (v : Verb) (words : List (List ℕ)) → Numbered {A = A} (call_of v words)
+of_verb A verb.Pages (kind ∷ mtype ∷ pages ∷ memory ∷ []) =
+    after (u32_of kind) _ (λ k ke. after (u32_of mtype) _ (λ t te. after (u64_of pages) _ (λ p pe. after (u64_of memory) _ (λ m me. (u32_below kind k ke, u32_below mtype t te, u64_below pages p pe, u64_below memory m me)))))
+of_verb A verb.FreePages (memory ∷ pages ∷ []) =
+    after (u64_of memory) _ (λ m me. after (u64_of pages) _ (λ p pe. (u64_below memory m me, u64_below pages p pe)))
+of_verb A verb.Map (size ∷ []) =
+    after (u64_up_to largest_buffer size) _ (λ n ne. (u64_up_to-below largest_buffer size n ne))
+of_verb A verb.Pool (mtype ∷ size ∷ []) =
+    after (u32_of mtype) _ (λ t te. after (u64_of size) _ (λ n ne. (u32_below mtype t te, u64_below size n ne)))
+of_verb A verb.FreePool (address ∷ []) =
+    after (u64_of address) _ (λ a ae. (u64_below address a ae))
+of_verb A verb.Read (address ∷ count ∷ []) =
+    after (u64_of address) _ (λ a ae. after (u64_up_to longest_read count) _ (λ n ne. (u64_below address a ae, u64_up_to-below longest_read count n ne)))
+of_verb A verb.Write (address ∷ bytes ∷ []) =
+    after (u64_of address) _ (λ a ae. after (bytes_of bytes) _ (λ b be. (u64_below address a ae, bytes_below bytes b be)))
+of_verb A verb.Install (handle ∷ guid ∷ kind ∷ value ∷ []) =
+    after (u64_of handle) _ (λ h he. after (guid_of guid) _ (λ g ge. after (u32_of kind) _ (λ k ke. after (u64_of value) _ (λ v ve. (u64_below handle h he, guid_fits guid g ge, u32_below kind k ke, u64_below value v ve)))))
+of_verb A verb.InstallMany (handle ∷ guid ∷ value ∷ words) =
+    if_even (length words % 2 == 0) _ fault.Words (after (u64_of handle) _ (λ h he. after (pairs_of (guid ∷ value ∷ words)) _ (λ ps pe. (u64_below handle h he, pairs_fit (guid ∷ value ∷ words) ps pe))))
+of_verb A verb.Uninstall (handle ∷ guid ∷ value ∷ []) =
+    after (u64_of handle) _ (λ h he. after (guid_of guid) _ (λ g ge. after (u64_of value) _ (λ v ve. (u64_below handle h he, guid_fits guid g ge, u64_below value v ve))))
+of_verb A verb.Reinstall (handle ∷ guid ∷ old ∷ new ∷ []) =
+    after (u64_of handle) _ (λ h he. after (guid_of guid) _ (λ g ge. after (u64_of old) _ (λ o oe. after (u64_of new) _ (λ n ne. (u64_below handle h he, guid_fits guid g ge, u64_below old o oe, u64_below new n ne)))))
+of_verb A verb.Open (handle ∷ guid ∷ agent ∷ controller ∷ attributes ∷ []) =
+    after (u64_of handle) _ (λ h he. after (guid_of guid) _ (λ g ge. after (u64_of agent) _ (λ a ae. after (u64_of controller) _ (λ k ke. after (u32_of attributes) _ (λ t te. (u64_below handle h he, guid_fits guid g ge, u64_below agent a ae, u64_below controller k ke, u32_below attributes t te))))))
+of_verb A verb.Close (handle ∷ guid ∷ agent ∷ controller ∷ []) =
+    after (u64_of handle) _ (λ h he. after (guid_of guid) _ (λ g ge. after (u64_of agent) _ (λ a ae. after (u64_of controller) _ (λ k ke. (u64_below handle h he, guid_fits guid g ge, u64_below agent a ae, u64_below controller k ke)))))
+of_verb A verb.Information (handle ∷ guid ∷ []) =
+    after (u64_of handle) _ (λ h he. after (guid_of guid) _ (λ g ge. (u64_below handle h he, guid_fits guid g ge)))
+of_verb A verb.HandleProtocol (handle ∷ guid ∷ []) =
+    after (u64_of handle) _ (λ h he. after (guid_of guid) _ (λ g ge. (u64_below handle h he, guid_fits guid g ge)))
+of_verb A verb.Notify (guid ∷ event ∷ []) =
+    after (guid_of guid) _ (λ g ge. after (u64_of event) _ (λ v ve. (guid_fits guid g ge, u64_below event v ve)))
+of_verb A verb.Locate (kind ∷ guid ∷ key ∷ size ∷ []) =
+    after (u32_of kind) _ (λ s se. after (guid_of guid) _ (λ g ge. after (u64_of key) _ (λ k ke. after (u64_of size) _ (λ n ne. (u32_below kind s se, guid_fits guid g ge, u64_below key k ke, u64_below size n ne)))))
+of_verb A verb.LocateBuffer (kind ∷ guid ∷ key ∷ []) =
+    after (u32_of kind) _ (λ s se. after (guid_of guid) _ (λ g ge. after (u64_of key) _ (λ k ke. (u32_below kind s se, guid_fits guid g ge, u64_below key k ke))))
+of_verb A verb.LocateProtocol (guid ∷ key ∷ []) =
+    after (guid_of guid) _ (λ g ge. after (u64_of key) _ (λ k ke. (guid_fits guid g ge, u64_below key k ke)))
+of_verb A verb.Protocols (handle ∷ []) =
+    after (u64_of handle) _ (λ h he. (u64_below handle h he))
+of_verb A verb.Connect (handle ∷ recursive ∷ drivers) =
+    after (u64_of handle) _ (λ h he. after (flag_of recursive) _ (λ r re. after (u64s_of drivers) _ (λ ds de. (u64_below handle h he, numbers_fit drivers ds de))))
+of_verb A verb.Disconnect (handle ∷ driver ∷ []) =
+    after (u64_of handle) _ (λ h he. after (u64_of driver) _ (λ d de. (u64_below handle h he, u64_below driver d de)))
+of_verb A verb.Path (guid ∷ address ∷ []) =
+    after (guid_of guid) _ (λ g ge. after (u64_of address) _ (λ a ae. (guid_fits guid g ge, u64_below address a ae)))
+of_verb A verb.Exit (key ∷ []) =
+    after (u64_of key) _ (λ k ke. (u64_below key k ke))
+of_verb A verb.List [] = tt
+of_verb A verb.List (word ∷ words) = tt
+of_verb A v words = tt
 
 module _ {A : Type 0} where
-  chosen_left : (b : Bool) (r : Asked A) (f : TraceFault) (asked : TraceCall A) → cond b r (Err f) ≡ Ok asked → r ≡ Ok asked
-  chosen_left true r f asked e = e
-  chosen_left false r f asked e = absurd (cc)
-
-  same_numbers : (b c : Call A) → b ≡ c → HasCallNumbers b → HasCallNumbers c
-  same_numbers b c e h = subst HasCallNumbers e h
-
-  -- the numbers of the call that a verb asks for with its words
-  of_verb : (v : Verb) (words : List (List ℕ)) (c : Call A) → call_of v words ≡ asks c → HasCallNumbers c
-  of_verb verb.Pages (kind ∷ mtype ∷ pages ∷ memory ∷ []) c e =
-      let (k, ke, e1) = bind_ok (u32_of kind) _ _ e in
-      let (t, te, e2) = bind_ok (u32_of mtype) _ _ e1 in
-      let (p, pe, e3) = bind_ok (u64_of pages) _ _ e2 in
-      let (m, me, e4) = bind_ok (u64_of memory) _ _ e3 in
-      same_numbers (call.AllocatePages k t p m) c (cc) (u32_below kind k ke, u32_below mtype t te, u64_below pages p pe, u64_below memory m me)
-  of_verb verb.FreePages (memory ∷ pages ∷ []) c e =
-      let (m, me, e1) = bind_ok (u64_of memory) _ _ e in
-      let (p, pe, e2) = bind_ok (u64_of pages) _ _ e1 in
-      same_numbers (call.FreePages m p) c (cc) (u64_below memory m me, u64_below pages p pe)
-  of_verb verb.Map (size ∷ []) c e =
-      let (n, ne, e1) = bind_ok (u64_up_to largest_buffer size) _ _ e in
-      same_numbers (call.GetMemoryMap n) c (cc) (u64_up_to-below largest_buffer size n ne)
-  of_verb verb.Pool (mtype ∷ size ∷ []) c e =
-      let (t, te, e1) = bind_ok (u32_of mtype) _ _ e in
-      let (n, ne, e2) = bind_ok (u64_of size) _ _ e1 in
-      same_numbers (call.AllocatePool t n) c (cc) (u32_below mtype t te, u64_below size n ne)
-  of_verb verb.FreePool (address ∷ []) c e =
-      let (a, ae, e1) = bind_ok (u64_of address) _ _ e in
-      same_numbers (call.FreePool a) c (cc) (u64_below address a ae)
-  of_verb verb.Read (address ∷ count ∷ []) c e =
-      let (a, ae, e1) = bind_ok (u64_of address) _ _ e in
-      let (n, ne, e2) = bind_ok (u64_up_to longest_read count) _ _ e1 in
-      same_numbers (call.PoolRead a n) c (cc) (u64_below address a ae, u64_up_to-below longest_read count n ne)
-  of_verb verb.Write (address ∷ bytes ∷ []) c e =
-      let (a, ae, e1) = bind_ok (u64_of address) _ _ e in
-      let (b, be, e2) = bind_ok (bytes_of bytes) _ _ e1 in
-      same_numbers (call.PoolWrite a b) c (cc) (u64_below address a ae, bytes_below bytes b be)
-  of_verb verb.Install (handle ∷ guid ∷ kind ∷ value ∷ []) c e =
-      let (h, he, e1) = bind_ok (u64_of handle) _ _ e in
-      let (g, ge, e2) = bind_ok (guid_of guid) _ _ e1 in
-      let (k, ke, e3) = bind_ok (u32_of kind) _ _ e2 in
-      let (v, ve, e4) = bind_ok (u64_of value) _ _ e3 in
-      same_numbers (call.InstallProtocolInterface h g k v) c (cc) (u64_below handle h he, guid_fits guid g ge, u32_below kind k ke, u64_below value v ve)
-  of_verb verb.InstallMany (handle ∷ guid ∷ value ∷ words) c e =
-      let e1 = chosen_left (length words % 2 == 0) (u64_of handle >>= λ h. pairs_of (guid ∷ value ∷ words) >>= λ ps. asks (call.InstallMultipleProtocolInterfaces h ps)) fault.Words _ e in
-      let (h, he, e2) = bind_ok (u64_of handle) _ _ e1 in
-      let (ps, pe, e3) = bind_ok (pairs_of (guid ∷ value ∷ words)) _ _ e2 in
-      same_numbers (call.InstallMultipleProtocolInterfaces h ps) c (cc) (u64_below handle h he, pairs_fit (guid ∷ value ∷ words) ps pe)
-  of_verb verb.Uninstall (handle ∷ guid ∷ value ∷ []) c e =
-      let (h, he, e1) = bind_ok (u64_of handle) _ _ e in
-      let (g, ge, e2) = bind_ok (guid_of guid) _ _ e1 in
-      let (v, ve, e3) = bind_ok (u64_of value) _ _ e2 in
-      same_numbers (call.UninstallProtocolInterface h g v) c (cc) (u64_below handle h he, guid_fits guid g ge, u64_below value v ve)
-  of_verb verb.Reinstall (handle ∷ guid ∷ old ∷ new ∷ []) c e =
-      let (h, he, e1) = bind_ok (u64_of handle) _ _ e in
-      let (g, ge, e2) = bind_ok (guid_of guid) _ _ e1 in
-      let (o, oe, e3) = bind_ok (u64_of old) _ _ e2 in
-      let (n, ne, e4) = bind_ok (u64_of new) _ _ e3 in
-      same_numbers (call.ReinstallProtocolInterface h g o n) c (cc) (u64_below handle h he, guid_fits guid g ge, u64_below old o oe, u64_below new n ne)
-  of_verb verb.Open (handle ∷ guid ∷ agent ∷ controller ∷ attributes ∷ []) c e =
-      let (h, he, e1) = bind_ok (u64_of handle) _ _ e in
-      let (g, ge, e2) = bind_ok (guid_of guid) _ _ e1 in
-      let (a, ae, e3) = bind_ok (u64_of agent) _ _ e2 in
-      let (k, ke, e4) = bind_ok (u64_of controller) _ _ e3 in
-      let (t, te, e5) = bind_ok (u32_of attributes) _ _ e4 in
-      same_numbers (call.OpenProtocol h g a k t) c (cc) (u64_below handle h he, guid_fits guid g ge, u64_below agent a ae, u64_below controller k ke, u32_below attributes t te)
-  of_verb verb.Close (handle ∷ guid ∷ agent ∷ controller ∷ []) c e =
-      let (h, he, e1) = bind_ok (u64_of handle) _ _ e in
-      let (g, ge, e2) = bind_ok (guid_of guid) _ _ e1 in
-      let (a, ae, e3) = bind_ok (u64_of agent) _ _ e2 in
-      let (k, ke, e4) = bind_ok (u64_of controller) _ _ e3 in
-      same_numbers (call.CloseProtocol h g a k) c (cc) (u64_below handle h he, guid_fits guid g ge, u64_below agent a ae, u64_below controller k ke)
-  of_verb verb.Information (handle ∷ guid ∷ []) c e =
-      let (h, he, e1) = bind_ok (u64_of handle) _ _ e in
-      let (g, ge, e2) = bind_ok (guid_of guid) _ _ e1 in
-      same_numbers (call.OpenProtocolInformation h g) c (cc) (u64_below handle h he, guid_fits guid g ge)
-  of_verb verb.HandleProtocol (handle ∷ guid ∷ []) c e =
-      let (h, he, e1) = bind_ok (u64_of handle) _ _ e in
-      let (g, ge, e2) = bind_ok (guid_of guid) _ _ e1 in
-      same_numbers (call.HandleProtocol h g) c (cc) (u64_below handle h he, guid_fits guid g ge)
-  of_verb verb.Notify (guid ∷ event ∷ []) c e =
-      let (g, ge, e1) = bind_ok (guid_of guid) _ _ e in
-      let (v, ve, e2) = bind_ok (u64_of event) _ _ e1 in
-      same_numbers (call.RegisterProtocolNotify g v) c (cc) (guid_fits guid g ge, u64_below event v ve)
-  of_verb verb.Locate (search ∷ guid ∷ key ∷ size ∷ []) c e =
-      let (s, se, e1) = bind_ok (u32_of search) _ _ e in
-      let (g, ge, e2) = bind_ok (guid_of guid) _ _ e1 in
-      let (k, ke, e3) = bind_ok (u64_of key) _ _ e2 in
-      let (n, ne, e4) = bind_ok (u64_of size) _ _ e3 in
-      same_numbers (call.LocateHandle s g k n) c (cc) (u32_below search s se, guid_fits guid g ge, u64_below key k ke, u64_below size n ne)
-  of_verb verb.LocateBuffer (search ∷ guid ∷ key ∷ []) c e =
-      let (s, se, e1) = bind_ok (u32_of search) _ _ e in
-      let (g, ge, e2) = bind_ok (guid_of guid) _ _ e1 in
-      let (k, ke, e3) = bind_ok (u64_of key) _ _ e2 in
-      same_numbers (call.LocateHandleBuffer s g k) c (cc) (u32_below search s se, guid_fits guid g ge, u64_below key k ke)
-  of_verb verb.LocateProtocol (guid ∷ key ∷ []) c e =
-      let (g, ge, e1) = bind_ok (guid_of guid) _ _ e in
-      let (k, ke, e2) = bind_ok (u64_of key) _ _ e1 in
-      same_numbers (call.LocateProtocol g k) c (cc) (guid_fits guid g ge, u64_below key k ke)
-  of_verb verb.Protocols (handle ∷ []) c e =
-      let (h, he, e1) = bind_ok (u64_of handle) _ _ e in
-      same_numbers (call.ProtocolsPerHandle h) c (cc) (u64_below handle h he)
-  of_verb verb.Connect (handle ∷ recursive ∷ drivers) c e =
-      let (h, he, e1) = bind_ok (u64_of handle) _ _ e in
-      let (r, re, e2) = bind_ok (flag_of recursive) _ _ e1 in
-      let (ds, de, e3) = bind_ok (u64s_of drivers) _ _ e2 in
-      same_numbers (call.ConnectController h ds r) c (cc) (u64_below handle h he, numbers_fit drivers ds de)
-  of_verb verb.Disconnect (handle ∷ driver ∷ []) c e =
-      let (h, he, e1) = bind_ok (u64_of handle) _ _ e in
-      let (d, de, e2) = bind_ok (u64_of driver) _ _ e1 in
-      same_numbers (call.DisconnectController h d) c (cc) (u64_below handle h he, u64_below driver d de)
-  of_verb verb.Path (guid ∷ address ∷ []) c e =
-      let (g, ge, e1) = bind_ok (guid_of guid) _ _ e in
-      let (a, ae, e2) = bind_ok (u64_of address) _ _ e1 in
-      same_numbers (call.LocateDevicePath g a) c (cc) (guid_fits guid g ge, u64_below address a ae)
-  of_verb verb.Exit (key ∷ []) c e =
-      let (k, ke, e1) = bind_ok (u64_of key) _ _ e in
-      same_numbers (call.ExitBootServices k) c (cc) (u64_below key k ke)
-  of_verb verb.List [] c e = absurd (cc)
-  of_verb verb.List (word ∷ words) c e = absurd (cc)
-  of_verb v words c e = absurd (cc)
-
   some_call : (asked : TraceCall A) (c : Call A) → fine (Some asked) ≡ Ok (Some (trace_call.Service c)) → asked ≡ trace_call.Service c
   some_call asked c e = cc
 
@@ -256,7 +200,7 @@ module _ {A : Type 0} where
       let e1 = not_skipped (starts_with nat_eq name (codes "#")) (or_fault fault.Verb (verb_named name) >>= λ v. call_of v parameters >>= λ asked. Ok (Some asked)) (trace_call.Service c) e in
       let (v, ve, e2) = bind_ok (or_fault fault.Verb (verb_named name)) (λ v. call_of v parameters >>= λ asked. Ok (Some asked)) _ e1 in
       let (asked, ae, e3) = bind_ok (call_of v parameters) (λ asked. Ok (Some asked)) _ e2 in
-      of_verb v parameters c (subst (λ (a : TraceCall A). call_of v parameters ≡ Ok a) (some_call asked c e3) ae)
+      subst Numbered (ae ∙ ap (λ (a : TraceCall A). fine a) (some_call asked c e3)) (of_verb A v parameters)
 
   not_long : (b : Bool) (r : Result (Option (TraceCall A)) TraceFault) (t : TraceCall A) → cond b (Err fault.Long) r ≡ Ok (Some t) → r ≡ Ok (Some t)
   not_long true r t e = absurd (cc)

@@ -1,6 +1,7 @@
 use Rattle.std.proofs.Common.{◌≡◌, suc, ◌-◌, ◌/◌, refl, sym, ◌∙◌, arith}
 use Rattle.pool_services.specs.Searches.{IsAt}
 use Rattle.pool_services.proofs.ExtentLists.{first-above, behind-none, last-up-to, holds, is-extent}
+use Rattle.pool_services.proofs.Reached.{none-low}
 use Rattle.pool_services.proofs.RoomLists.{rooms-within}
 use Rattle.pool_services.proofs.searches.holder.Goals as goal
 
@@ -35,3 +36,15 @@ returns-else-page-range g c =
     let n : c.count_up_to-count.result ≡ suc (c.count_up_to-count.result - 1) = omega (arith, c.if-count-eq0.false) in
     behind-none ((c.args.address - 8) / 4096) c.args.address c.args.extents.now (c.count_up_to-count.result - 1) c.index-extents-count.result c.requires.order c.if-address-lt-HEADER_SIZE.false refl
     (sym (c.count_up_to-count.ensures.place c.args.extents.now c.requires.order e) ∙ n) t (omega (arith, c.if-page-range.false, c.range-range.ensures))
+
+pub returns-then-address-lt-HEADER_SIZE : goal.returns-then-address-lt-HEADER_SIZE
+returns-then-address-lt-HEADER_SIZE g c = none-low c.args.address c.args.extents.now c.if-address-lt-HEADER_SIZE.true
+
+pub overflow_sub-count : goal.overflow_sub-count
+overflow_sub-count g c = omega (arith, c.if-count-eq0.false)
+
+pub offset_bounds-extents-count : goal.offset_bounds-extents-count
+offset_bounds-extents-count g c = omega (arith, rooms-within c.as_slice.result.now c.args.extents.now c.count_up_to-count.result (c.as_slice.ensures.value ∙ c.requires.rooms) c.count_up_to-count.ensures.bound)
+
+pub overflow_sub-result : goal.overflow_sub-result
+overflow_sub-result g c = omega (arith, c.if-count-eq0.false)

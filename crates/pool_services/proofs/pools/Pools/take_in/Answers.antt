@@ -5,6 +5,7 @@ use Rattle.pool_services.proofs.CellBlocks.{fit-within}
 use Rattle.pool_services.proofs.ExtentLists.{is-extent}
 use Rattle.pool_services.proofs.ExtentChanges.{is-taken, taken-none, taken-some, are-taken}
 use Rattle.pool_services.proofs.RoomLists.{rooms-set}
+use Rattle.pool_services.proofs.Reached.{rooms-reach, same-rooms}
 use Rattle.pool_services.proofs.pools.Pools.take_in.Goals as goal
 
 pub take-requires : goal.take-requires
@@ -41,3 +42,13 @@ invariant_of-self-2 g c = (
 pub returns : goal.returns
 returns g c =
     rw (c.address_of-address.ensures, ← c.self.view_is) (taken-some c.self.inside.extents.items c.args.at c.args.size c.in_ok-cell.cell c.index_mut-extent.result.now c.take.new.self c.self.invariant.0 (rw (← c.self.view_is) at c.requires.index, c.index_mut-extent.ensures.value) (c.in_ok-cell.ensures.extent) (c.in_ok-cell.ensures.cell))
+
+pub index_mut-extent-requires : goal.index_mut-extent-requires
+index_mut-extent-requires g c = omega (arith, rw (← c.self.view_is) at c.requires.index)
+
+pub set-requires : goal.set-requires
+set-requires g c = rooms-reach c.self.inside.rooms.rooms.items c.self.inside.extents.items c.args.at c.self.invariant.1 (rw (← c.self.view_is) at c.requires.index)
+
+pub invariant_of-self : goal.invariant_of-self
+invariant_of-self g c =
+    same-rooms c.self.inside.rooms.rooms.items c.self.inside.extents.items c.args.at c.index_mut-extent.result.now c.take.new.self c.self.invariant.0 c.self.invariant.1 (rw (← c.self.view_is) at c.requires.index, c.index_mut-extent.ensures.value) c.in_err-cell.ensures.extent

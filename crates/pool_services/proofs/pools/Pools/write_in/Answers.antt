@@ -1,3 +1,4 @@
+use Rattle.std.proofs.Common.{arith}
 use Rattle.pool_services.proofs.ExtentLists.{is-extent}
 use Rattle.pool_services.proofs.ExtentChanges.{held-at, written-told, are-told}
 use Rattle.pool_services.proofs.RoomLists.{rooms-written}
@@ -21,3 +22,8 @@ invariant_of-self g c = (
 
 pub returns : goal.returns
 returns g c = rw (← c.self.view_is) (written-told c.args.address c.args.bytes.now c.self.inside.extents.items c.args.at c.index_mut.result.now c.write.new.self c.write.result c.self.invariant.0 (rw (← c.self.view_is) at c.requires) c.index_mut.ensures.value c.write.ensures.written c.write.ensures.extent)
+
+pub index_mut-requires : goal.index_mut-requires
+index_mut-requires g c =
+    let (e, h, q) = rw (← c.self.view_is) at c.requires in
+    omega (arith, h.0)

@@ -1,0 +1,25 @@
+-- Small facts of the extents and their rooms that calls ask for.
+use Rattle.std.proofs.Common.{◌≡◌, ℕ, zero, suc, ◌<◌, List, [], ◌∷◌, length, map, set, refl, sym, ap, ◌∙◌, arith, subst}
+use Rattle.std.specs.List.{AllByRecursion}
+use Rattle.std.proofs.lemmas.List.{length-map}
+use Rattle.pool_services.specs.declared.rooms.Room.{Room}
+use Rattle.pool_services.specs.Extents.{Extent, AreExtents}
+use Rattle.pool_services.specs.Searches.{HoldsAddress, IsAt}
+use Rattle.pool_services.specs.Rooms.{room_of}
+
+pub rooms-reach : (rs : List Room) (es : List Extent) (i : ℕ) → rs ≡ map room_of es → i < length es → i < length rs
+rooms-reach rs es i e l = omega (arith, l, ap (λ (zs : List Room). length zs) e ∙ length-map es room_of)
+
+same-extents : (es : List Extent) (i : ℕ) (x y : Extent) → IsAt es i x → y ≡ x → set es i y ≡ es
+same-extents [] i x y h q = refl
+same-extents (e ∷ es) zero x y h q = ap (λ (z : Extent). z ∷ es) (q ∙ h.1)
+same-extents (e ∷ es) (suc i) x y h q = ap (λ (zs : List Extent). e ∷ zs) (same-extents es i x y (omega (arith, h.0), h.1) q)
+
+pub same-rooms : (rs : List Room) (es : List Extent) (i : ℕ) (x y : Extent) → AreExtents es → rs ≡ map room_of es → IsAt es i x → y ≡ x → AreExtents (set es i y) × (rs ≡ map room_of (set es i y))
+same-rooms rs es i x y a e h q =
+    let s = same-extents es i x y h q in
+    (subst AreExtents (sym s) a, e ∙ sym (ap (λ (zs : List Extent). map room_of zs) s))
+
+pub none-low : (address : ℕ) (es : List Extent) → address < 8 → AllByRecursion (λ e. ¬ HoldsAddress e address) es
+none-low address [] l = tt
+none-low address (e ∷ es) l = ((λ h. omega (arith, l, h.0)), none-low address es l)
