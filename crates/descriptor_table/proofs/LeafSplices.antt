@@ -1,5 +1,7 @@
 -- Some leaves of a table whose runs are replaced by the same pages, retyped.
-use Rattle.std.proofs.Common.{◌≡◌, ℕ, zero, suc, [], ◌∷◌, ◌+◌, ◌-◌, ◌<◌, ◌≤◌, List, ◌++◌, length, take, drop, sym, ap, subst, ◌∙◌, append_assoc, arith}
+use Rattle.std.proofs.Math.ListN.{set}
+use Rattle.std.proofs.lemmas.List.{length-take-le, map-id}
+use Rattle.std.proofs.Common.{◌≡◌, ℕ, zero, suc, refl, [], ◌∷◌, get_or, append-nil, length-append, length-drop, map, ◌+◌, ◌-◌, ◌<◌, ◌≤◌, List, ◌++◌, length, take, drop, sym, ap, subst, ◌∙◌, append_assoc, arith}
 use Rattle.std.specs.List.{AllByRecursion}
 use Rattle.std.proofs.lemmas.List.{take-append-drop, drop-drop}
 use Rattle.page_ranges.specs.declared.ranges.PageRange.{PageRange}
@@ -8,7 +10,7 @@ use Rattle.page_ranges.specs.Runs.{AreRuns}
 use Rattle.page_ranges.proofs.Members.{all_append, all_append_left, all_append_right}
 use Rattle.page_ranges.proofs.RunLists.{runs-left, runs-right}
 use Rattle.descriptor_table.specs.Tables.{IsWindow}
-use Rattle.descriptor_table.specs.Leaves.{runs_in, AreLeaves, AreLeavesNear}
+use Rattle.descriptor_table.specs.Leaves.{first_page, runs_in, IsLeaf, AreLeaves, AreLeavesNear}
 use Rattle.descriptor_table.proofs.LeafLists.{runs_in-append, leaves_taken, leaves_dropped}
 use Rattle.descriptor_table.proofs.Splices.{AreCut, three_parts}
 
@@ -45,11 +47,9 @@ module _ (ls : List (List Run)) (from to : ℕ) where
       above = all_append (λ r. range.first + range.pages < r.range.first) (drop high rs) (runs_in (drop to ls)) w.above near.above;
     }
 
-    -- other leaves in their place
-    pub put_leaves : (low high : ℕ) (parts : List Run) (fresh new : List (List Run)) → new ≡ take from ls ++ (fresh ++ drop to ls) → runs_in fresh ≡ take low rs ++ (parts ++ drop high rs) → runs_in new ≡ all_before low ++ (parts ++ all_behind high)
-    put_leaves low high parts fresh new e f =
-        ap runs_in e ∙ runs_in-append (take from ls) (fresh ++ drop to ls) ∙ ap (λ m. runs_in (take from ls) ++ m) (runs_in-append fresh (drop to ls) ∙ ap (λ m. m ++ runs_in (drop to ls)) f)
-        ∙ regroup (runs_in (take from ls)) (take low rs) parts (drop high rs) (runs_in (drop to ls))
+    -- parts in the place of a window of them
+    pub put_regroup : (low high : ℕ) (parts : List Run) (new : List (List Run)) → runs_in new ≡ runs_in (take from ls) ++ ((take low rs ++ (parts ++ drop high rs)) ++ runs_in (drop to ls)) → runs_in new ≡ all_before low ++ (parts ++ all_behind high)
+    put_regroup low high parts new e = e ∙ regroup (runs_in (take from ls)) (take low rs) parts (drop high rs) (runs_in (drop to ls))
 
 pub leaves_put : (ls fresh new : List (List Run)) (from to : ℕ) → new ≡ take from ls ++ (fresh ++ drop to ls) → AreLeaves ls → AreLeaves fresh → AreLeaves new
 leaves_put ls fresh new from to e a b =
@@ -89,3 +89,36 @@ near_before ls range low high near h =
       below = taken_less (λ r. r.range.first + r.range.pages < range.first) ls (low - 1) (subst (λ i. AllByRecursion (λ r. r.range.first + r.range.pages < range.first) (runs_in (take i ls))) k near.below);
       above = near.above;
     }
+
+-- ---- one leaf that changes
+
+pub set_runs : (ls : List (List Run)) (i : ℕ) (x : List Run) → i < length ls → runs_in (set ls i x) ≡ runs_in (take i ls) ++ (x ++ runs_in (drop (suc i) ls))
+set_runs [] i x h = absurd (omega arith)
+set_runs (l ∷ ls) zero x h = refl
+set_runs (l ∷ ls) (suc i) x h = ap (λ rs. l ++ rs) (set_runs ls i x (omega arith)) ∙ sym (append_assoc l (runs_in (take i ls)) (x ++ runs_in (drop (suc i) ls)))
+
+pub set_leaves : (ls : List (List Run)) (i : ℕ) (x : List Run) → AreLeaves ls → IsLeaf x → AreLeaves (set ls i x)
+set_leaves [] i x a b = tt
+set_leaves (l ∷ ls) zero x a b = (b, a.1)
+set_leaves (l ∷ ls) (suc i) x a b = (a.0, set_leaves ls i x a.1 b)
+
+pub set_same : (ls : List (List Run)) (i : ℕ) (d : List Run) → set ls i (get_or ls i d) ≡ ls
+set_same [] i d = refl
+set_same (l ∷ ls) zero d = refl
+set_same (l ∷ ls) (suc i) d = ap (λ ms. l ∷ ms) (set_same ls i d)
+
+pub one_leaf : (ls : List (List Run)) (i n : ℕ) (d : List Run) → i < length ls → n ≡ 1 → runs_in (take n (drop i ls)) ≡ get_or ls i d
+one_leaf [] i n d h e = absurd (omega arith)
+one_leaf (l ∷ ls) zero n d h e = ap (λ k. runs_in (take k (l ∷ ls))) e ∙ append-nil l
+one_leaf (l ∷ ls) (suc i) n d h e = one_leaf ls i n d (omega arith) e
+
+pub replaced_length : (rs parts : List Run) (low high : ℕ) → low ≤ high → high ≤ length rs → length (take low rs ++ (parts ++ drop high rs)) + (high - low) ≡ length rs + length parts
+replaced_length rs parts low high a b = omega (arith, length-append (take low rs) (parts ++ drop high rs), length-append parts (drop high rs), length-take-le low rs (omega arith), length-drop high rs)
+
+pub first_is : (rs : List Run) (r : Run) → r ≡ get_or rs 0 r → 0 < length rs → r.range.first ≡ first_page rs
+first_is [] r e h = absurd (omega arith)
+first_is (q ∷ rs) r e h = ap (λ (x : Run). x.range.first) e
+
+-- what a splice put in is the parts
+pub put_in : {X : Type 0} (ss low high xs ys : List X) → ss ≡ low ++ (xs ++ high) → map (λ y. y) xs ≡ ys → ss ≡ low ++ (ys ++ high)
+put_in ss low high xs ys e f = e ∙ ap (λ zs. low ++ (zs ++ high)) (sym (map-id xs) ∙ f)

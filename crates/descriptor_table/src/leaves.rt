@@ -1,5 +1,5 @@
 //! Runs in leaves.
-ghost use Rattle.std.specs.Prelude.{◌≡◌, ◌<◌, ◌≤◌, length, IfOk};
+ghost use Rattle.std.specs.Prelude.{◌≡◌, ◌<◌, ◌≤◌, ◌++◌, length, take, drop, IfOk, OnOk, OnErr};
 ghost use Rattle.descriptor_table.specs.Leaves.{first_page, runs_in, AreLeaves};
 
 use page_ranges::Run;
@@ -7,7 +7,7 @@ use std::alloc::{AllocError, Allocator, Global};
 use std::marker::Model;
 
 /// So many runs a leaf has at most.
-const LEAF_SIZE: usize = 32;
+pub(crate) const LEAF_SIZE: usize = 32;
 
 /// Some runs that lie next to each other in a table, and the first page of the first of them.
 #[derive(Drop)]
@@ -53,6 +53,24 @@ impl<A: Allocator + Copy> Leaf<A> {
         ensures { result.now ≡ self.now }
     {
         self.runs.as_slice()
+    }
+
+    /// Puts runs in the place of some of the leaf's. On an `Err` the leaf is as it was.
+    pub(crate) fn replace(
+        &mut self,
+        low: usize,
+        high: usize,
+        parts: Vec<Run, A>,
+    ) -> Result<(), AllocError>
+        requires order { low ≤ high }
+        requires bound { high ≤ length self.old }
+        requires some { 0 < length parts.items }
+        ensures ok { OnOk result (self.new ≡ take low self.old ++ (parts.items ++ drop high self.old)) }
+        ensures err { OnErr result (self.new ≡ self.old) }
+    {
+        let _replaced = self.runs.splice(low..high, parts)?;
+        self.first = self.runs[0].range.first;
+        Ok(())
     }
 }
 

@@ -1,5 +1,5 @@
 //! A range of a table that gets a type and an owner.
-ghost use Rattle.std.specs.Prelude.{◌≡◌, ◌+◌, ◌<◌, ◌≤◌, IfOk, OnErr};
+ghost use Rattle.std.specs.Prelude.{◌≡◌, ◌+◌, ◌-◌, ◌<◌, ◌≤◌, ◌++◌, length, take, drop, IfOk, OnErr};
 ghost use Rattle.page_ranges.specs.declared.ranges.Owner.TheVariants.{Given};
 ghost use Rattle.page_ranges.specs.MemoryTypes.{conventional, page_count};
 ghost use Rattle.page_ranges.specs.Memory.{IsPresent, AllInRange, retyped};
@@ -10,7 +10,7 @@ ghost use Rattle.descriptor_table.specs.Tables.{IsWindow};
 use crate::cuts::retyped_runs;
 use crate::entries::count_entries;
 use crate::leaf_searches::{count_leaves_below, count_leaves_by};
-use crate::leaves::{Leaf, leaves_of, runs_of_leaves};
+use crate::leaves::{LEAF_SIZE, Leaf, leaves_of, runs_of_leaves};
 use crate::searches::{count_beginning_by, count_ending_below};
 use page_ranges::{MemoryType, Owner, PageRange, Run};
 use std::alloc::{AllocError, Allocator};
@@ -64,6 +64,38 @@ fn leaves_near<A: Allocator + Copy>(leaves: &[Leaf<A>], range: PageRange) -> (us
     with_neighbour(leaves, range, below.saturating_sub(1), high)
 }
 
+/// Puts runs in the place of some of those in leaves next to each other, which are `runs`: in the leaf
+/// itself where there is one and they fit it, and else in new leaves. On an `Err` the leaves are as
+/// they were.
+fn put_parts<A: Allocator + Copy>(
+    leaves: &mut Vec<Leaf<A>, A>,
+    from: usize,
+    to: usize,
+    mut runs: Vec<Run, A>,
+    low: usize,
+    high: usize,
+    parts: Vec<Run, A>,
+) -> Result<(), AllocError>
+    requires leaves { AreLeaves leaves.old.items }
+    requires some { (from ≤ to) × (to ≤ length leaves.old.items) }
+    requires runs { runs.items ≡ runs_in (take (to - from) (drop from leaves.old.items)) }
+    requires window { (low ≤ high) × (high ≤ length runs.items) }
+    ensures leaves { IfOk result (λ _. AreLeaves leaves.new.items) }
+    ensures runs { IfOk result (λ _. runs_in leaves.new.items ≡ runs_in (take from leaves.old.items) ++ ((take low runs.items ++ (parts.items ++ drop high runs.items)) ++ runs_in (drop to leaves.old.items))) }
+    ensures err { OnErr result (leaves.new.items ≡ leaves.old.items) }
+{
+    let count = runs.len() - (high - low) + parts.len();
+    if to - from == 1 && !parts.is_empty() && count <= LEAF_SIZE {
+        leaves[from].replace(low, high, parts)?;
+        return Ok(());
+    }
+    let alloc = *leaves.allocator();
+    let _replaced = runs.splice(low..high, parts)?;
+    let new_leaves = leaves_of(alloc, runs.as_slice())?;
+    let _given_up = leaves.splice(from..to, new_leaves)?;
+    Ok(())
+}
+
 /// Gives the pages of a range a type and an owner, and answers how many entries the map then has.
 /// All room is taken before the leaves change.
 pub(crate) fn retype_runs<A: Allocator + Copy>(
@@ -83,14 +115,12 @@ pub(crate) fn retype_runs<A: Allocator + Copy>(
 {
     let alloc = *leaves.allocator();
     let (from, to) = leaves_near(leaves.as_slice(), range);
-    let mut runs = runs_of_leaves(alloc, &leaves[from..to])?;
+    let runs = runs_of_leaves(alloc, &leaves[from..to])?;
     let (low, high) = window_of(runs.as_slice(), range);
     let old = &runs[low..high];
     let old_entries = count_entries(old);
     let parts = retyped_runs(alloc, old, range, mtype, owner)?;
     let new_entries = count_entries(parts.as_slice());
-    let _replaced = runs.splice(low..high, parts)?;
-    let new_leaves = leaves_of(alloc, runs.as_slice())?;
-    let _given_up = leaves.splice(from..to, new_leaves)?;
+    put_parts(leaves, from, to, runs, low, high, parts)?;
     Ok(entries + new_entries - old_entries)
 }

@@ -1,12 +1,9 @@
-use Rattle.std.proofs.Common.{◌≡◌, ◌+◌, ◌-◌, List, ◌++◌, take, drop, map, ap, sym, ◌∙◌, arith}
-use Rattle.std.proofs.lemmas.List.{map-id}
+use Rattle.std.proofs.Common.{◌+◌, ◌-◌, take, drop, arith}
 use Rattle.descriptor_table.specs.Leaves.{runs_in}
-use Rattle.descriptor_table.proofs.LeafSplices.{middle_runs, all_before, all_behind, cut_in_leaves, put_leaves, leaves_put}
+use Rattle.descriptor_table.proofs.LeafSplices.{middle_runs, all_before, all_behind, cut_in_leaves, put_regroup}
 use Rattle.descriptor_table.proofs.Splices.{new_pages, new_count, new_table, old_runs, old_ends, parts_ends, present_within}
 use Rattle.descriptor_table.proofs.TableFacts.{table_runs, table_ends, few_entries}
 use Rattle.page_ranges.proofs.MaximalRuns.{maximal_are_runs}
-use Rattle.std.proofs.lemmas.Iterator.{items_from_drains}
-use Rattle.std.proofs.lemmas.Iterator.Adapters.{YieldsList-from_vec}
 use Rattle.descriptor_table.proofs.retyping.retype_runs.Goals as goal
 
 pub leaves_near-from-requires-clause-leaves : goal.leaves_near-from-requires-clause-leaves
@@ -205,10 +202,6 @@ overflow_add-result g c =
     let few_parts = few_entries parts (maximal_are_runs parts order) (parts_ends (runs_in ls) n range t o table before old behind cut c.requires.some c.requires.present parts order pages c.requires.owner) in
     omega (arith, table.entries, parts_count, few, few_parts)
 
--- what the splice put in is the parts
-put_in : {X : Type 0} (ss low high xs ys : List X) → ss ≡ low ++ (xs ++ high) → map (λ y. y) xs ≡ ys → ss ≡ low ++ (ys ++ high)
-put_in ss low high xs ys e f = e ∙ ap (λ zs. low ++ (zs ++ high)) (sym (map-id xs) ∙ f)
-
 pub returns-clause-table : goal.returns-clause-table
 returns-clause-table g c =
     let ls = c.args.leaves.now.items in
@@ -234,18 +227,10 @@ returns-clause-table g c =
     let pages = rw c.deref-2.ensures.value at c.in_ok-parts.ensures.pages in
     let old_count = rw c.deref-2.ensures.value at c.count_entries-old_entries.ensures.count in
     let parts_count = rw c.as_slice-3.ensures.value at c.count_entries-new_entries.ensures.count in
-    let done = c.in_ok-_replaced.ensures.items in
-    let drained = items_from_drains done.1 (done.3.1.0, done.3.1.1, λ _. (done.3.0, done.3.1.2)) (YieldsList-from_vec parts done.2.0 (done.2.1 ∙ c.in_ok-parts.parts.ok.0)) in
-    let middle = put_in c.splice.new.self.items (take low rs) (drop high rs) done.1 parts done.4 drained in
-    let fresh = c.in_ok-new_leaves.new_leaves.items in
-    let fresh_runs = rw c.as_slice-4.ensures.value at c.in_ok-new_leaves.ensures.runs in
-    let done' = c.in_ok-_given_up.ensures.items in
-    let drained' = items_from_drains done'.1 (done'.3.1.0, done'.3.1.1, λ _. (done'.3.0, done'.3.1.2)) (YieldsList-from_vec fresh done'.2.0 (done'.2.1 ∙ c.in_ok-new_leaves.new_leaves.ok.0)) in
-    let put = put_in c.splice-2.new.self.items (take from ls) (drop to ls) done'.1 fresh done'.4 drained' in
-    let all = put_leaves ls from to range near rs same low high parts fresh c.splice-2.new.self.items put (fresh_runs ∙ middle) in
+    let all = put_regroup ls from to range near rs same low high parts c.put_parts.new.leaves.items c.in_ok-put_parts.ensures.runs in
     record {
       table = rw all (new_table (runs_in ls) n range t o table before old behind cut c.requires.some c.requires.present parts order pages c.requires.owner (n + c.count_entries-new_entries.result - c.count_entries-old_entries.result) (omega (arith, old_count, parts_count)));
-      leaves = leaves_put ls fresh c.splice-2.new.self.items from to put c.requires.table.leaves c.in_ok-new_leaves.ensures.leaves;
+      leaves = c.in_ok-put_parts.ensures.leaves;
     }
 
 pub returns-clause-pages : goal.returns-clause-pages
@@ -273,13 +258,8 @@ returns-clause-pages g c =
     let pages = rw c.deref-2.ensures.value at c.in_ok-parts.ensures.pages in
     let old_count = rw c.deref-2.ensures.value at c.count_entries-old_entries.ensures.count in
     let parts_count = rw c.as_slice-3.ensures.value at c.count_entries-new_entries.ensures.count in
-    let done = c.in_ok-_replaced.ensures.items in
-    let drained = items_from_drains done.1 (done.3.1.0, done.3.1.1, λ _. (done.3.0, done.3.1.2)) (YieldsList-from_vec parts done.2.0 (done.2.1 ∙ c.in_ok-parts.parts.ok.0)) in
-    let middle = put_in c.splice.new.self.items (take low rs) (drop high rs) done.1 parts done.4 drained in
-    let fresh = c.in_ok-new_leaves.new_leaves.items in
-    let fresh_runs = rw c.as_slice-4.ensures.value at c.in_ok-new_leaves.ensures.runs in
-    let done' = c.in_ok-_given_up.ensures.items in
-    let drained' = items_from_drains done'.1 (done'.3.1.0, done'.3.1.1, λ _. (done'.3.0, done'.3.1.2)) (YieldsList-from_vec fresh done'.2.0 (done'.2.1 ∙ c.in_ok-new_leaves.new_leaves.ok.0)) in
-    let put = put_in c.splice-2.new.self.items (take from ls) (drop to ls) done'.1 fresh done'.4 drained' in
-    let all = put_leaves ls from to range near rs same low high parts fresh c.splice-2.new.self.items put (fresh_runs ∙ middle) in
+    let all = put_regroup ls from to range near rs same low high parts c.put_parts.new.leaves.items c.in_ok-put_parts.ensures.runs in
     rw all (new_pages (runs_in ls) n range t o table before old behind cut c.requires.some c.requires.present parts order pages)
+
+pub put_parts-requires-clause-runs : goal.put_parts-requires-clause-runs
+put_parts-requires-clause-runs g c = rw c.deref.ensures.value at c.in_ok-runs.ensures
