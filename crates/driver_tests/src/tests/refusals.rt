@@ -1,0 +1,124 @@
+//! Calls for which memory runs out, sooner and later.
+use super::steps::{Lists, Step, assert_step, no_lists, status_of};
+use super::{BINDING, add_children, opening, table};
+use driver_connect::TableDriver;
+use linked_list_allocator::LocalHeap;
+use page_ranges::Status;
+use std::process::Abort;
+
+/// A controller, and two drivers that open a GUID of it each and make children.
+fn two_drivers() -> [TableDriver; 2] {
+    let mut first = opening(1);
+    add_children(&mut first, 3, &[7, 8]);
+    let mut second = opening(2);
+    add_children(&mut second, 1, &[9]);
+    [table(2, 1, first), table(1, 2, second)]
+}
+
+/// A controller that no driver manages, and events for children.
+const FREE: &[Step] = &[
+    Step::Install(0, &[(1, 5), (2, 6)], 1),
+    Step::Install(0, &[(BINDING, 0)], 2),
+    Step::Install(0, &[(BINDING, 1)], 3),
+    Step::Register(3, 4),
+    Step::Handles(&[1, 2, 3]),
+    Step::Managers(1, &[]),
+];
+
+const CONNECT: &[Step] = &[Step::Connect(1, &[3], true, Status::Success, &[4, 4, 4, 4])];
+
+const CONNECTED: &[Step] = &[
+    Step::Handles(&[1, 2, 3, 4, 5, 6, 7, 8]),
+    Step::Managers(1, &[(1, 3), (1, 2)]),
+    Step::Managers(4, &[(4, 2)]),
+];
+
+/// Memory that is taken so that of the largest free part so many bytes are left.
+fn ballast<'a>(rt: &impl Abort, heap: &'a LocalHeap, left: usize) -> Vec<u8, &'a LocalHeap> {
+    let mut size = heap.free();
+    for _ in 0..HEAP {
+        if Vec::<u8, &'a LocalHeap>::with_capacity(heap, size).is_ok() {
+            break;
+        }
+        size = size.saturating_sub(16);
+    }
+    Vec::with_capacity(heap, size.saturating_sub(left)).expect(rt, "memory")
+}
+
+fn assert_each<'a>(
+    rt: &impl Abort,
+    heap: &'a LocalHeap,
+    lists: &mut Lists<&'a LocalHeap>,
+    drivers: &[TableDriver],
+    steps: &[Step],
+) {
+    for step in steps {
+        assert_step(rt, heap, lists, drivers, step);
+    }
+}
+
+/// The status of a call while so many bytes are left.
+fn status_with<'a>(
+    rt: &impl Abort,
+    heap: &'a LocalHeap,
+    lists: &mut Lists<&'a LocalHeap>,
+    drivers: &[TableDriver],
+    call: &[Step],
+    left: usize,
+) -> Status {
+    let _taken = ballast(rt, heap, left);
+    match call {
+        [step] => status_of(rt, heap, lists, drivers, step),
+        _ => panic!(rt; "one call"),
+    }
+}
+
+/// Makes a call while so many bytes are left, and again with enough memory if it is refused. Answers
+/// whether it was refused.
+fn is_refused(
+    rt: &(impl AllocGlobal + Abort),
+    drivers: &[TableDriver],
+    before: &[Step],
+    call: &[Step],
+    after: &[Step],
+    left: usize,
+) -> bool {
+    let heap = LocalHeap::new(rt.alloc(), HEAP).expect(rt, "memory");
+    let mut lists = no_lists(&heap);
+    assert_each(rt, &heap, &mut lists, drivers, before);
+    let used = heap.used();
+    let status = status_with(rt, &heap, &mut lists, drivers, call, left);
+    let is_refused = status == Status::OutOfResources;
+    if is_refused {
+        assert_eq!(rt; heap.used(), used, "{left} bytes left");
+        assert_each(rt, &heap, &mut lists, drivers, call);
+    }
+    assert_each(rt, &heap, &mut lists, drivers, after);
+    is_refused
+}
+
+/// The bytes of the heap that the calls are tried on.
+const HEAP: usize = 1 << 15;
+
+/// Tries a call with 16 bytes more each time, until it is not refused.
+fn assert_refusals(
+    rt: &(impl AllocGlobal + Abort),
+    before: &[Step],
+    call: &[Step],
+    after: &[Step],
+) {
+    let drivers = two_drivers();
+    let mut refusals = 0;
+    for rows in 0..HEAP / 16 {
+        if !is_refused(rt, &drivers, before, call, after, 16 * rows) {
+            break;
+        }
+        refusals = rows + 1;
+    }
+    assert!(rt; refusals > 0 && refusals < HEAP / 32, "{refusals}");
+}
+
+#[test]
+fn refused_connects(rt: HostRuntime) {
+    assert_refusals(&rt, FREE, CONNECT, CONNECTED);
+}
