@@ -33,8 +33,29 @@ const CONNECTED: &[Step] = &[
     Step::Managers(4, &[(4, 2)]),
 ];
 
-/// Memory that is taken so that of the largest free part so many bytes are left.
-fn ballast<'a>(rt: &impl Abort, heap: &'a LocalHeap, left: usize) -> Vec<u8, &'a LocalHeap> {
+/// A controller that both drivers manage, with their children.
+const MANAGED: &[Step] = &[
+    Step::Install(0, &[(1, 5), (2, 6)], 1),
+    Step::Install(0, &[(BINDING, 0)], 2),
+    Step::Install(0, &[(BINDING, 1)], 3),
+    Step::Connect(1, &[], true, Status::Success, &[]),
+    Step::Handles(&[1, 2, 3, 4, 5, 6, 7, 8]),
+    Step::Managers(1, &[(1, 2), (1, 3)]),
+];
+
+const DISCONNECT: &[Step] = &[Step::Disconnect(1, 0, Status::Success)];
+
+const DISCONNECTED: &[Step] = &[Step::Handles(&[1, 2, 3]), Step::Managers(1, &[])];
+
+const STOP: &[Step] = &[Step::Stop(&[(1, 3)], 1, true)];
+
+const STOPPED: &[Step] = &[
+    Step::Handles(&[1, 2, 3, 4, 5]),
+    Step::Managers(1, &[(1, 2)]),
+];
+
+/// The largest free part of the heap, taken.
+fn largest<'a>(rt: &impl Abort, heap: &'a LocalHeap) -> Vec<u8, &'a LocalHeap> {
     let mut size = heap.free();
     for _ in 0..HEAP {
         if Vec::<u8, &'a LocalHeap>::with_capacity(heap, size).is_ok() {
@@ -42,7 +63,28 @@ fn ballast<'a>(rt: &impl Abort, heap: &'a LocalHeap, left: usize) -> Vec<u8, &'a
         }
         size = size.saturating_sub(16);
     }
-    Vec::with_capacity(heap, size.saturating_sub(left)).expect(rt, "memory")
+    Vec::with_capacity(heap, size).expect(rt, "memory")
+}
+
+/// All free parts of the heap but the largest, taken.
+fn smaller_parts<'a>(
+    rt: &(impl AllocGlobal + Abort),
+    heap: &'a LocalHeap,
+) -> Vec<Vec<u8, &'a LocalHeap>> {
+    let _largest = largest(rt, heap);
+    let mut parts = Vec::new(rt.alloc());
+    for _ in 0..HEAP {
+        if heap.free() == 0 {
+            break;
+        }
+        parts.push(largest(rt, heap)).expect(rt, "memory");
+    }
+    parts
+}
+
+/// All of the one free part of the heap but so many bytes, taken.
+fn all_but<'a>(rt: &impl Abort, heap: &'a LocalHeap, left: usize) -> Vec<u8, &'a LocalHeap> {
+    Vec::with_capacity(heap, heap.free().saturating_sub(left)).expect(rt, "memory")
 }
 
 fn assert_each<'a>(
@@ -59,14 +101,15 @@ fn assert_each<'a>(
 
 /// The status of a call while so many bytes are left.
 fn status_with<'a>(
-    rt: &impl Abort,
+    rt: &(impl AllocGlobal + Abort),
     heap: &'a LocalHeap,
     lists: &mut Lists<&'a LocalHeap>,
     drivers: &[TableDriver],
     call: &[Step],
     left: usize,
 ) -> Status {
-    let _taken = ballast(rt, heap, left);
+    let _parts = smaller_parts(rt, heap);
+    let _rest = all_but(rt, heap, left);
     match call {
         [step] => status_of(rt, heap, lists, drivers, step),
         _ => panic!(rt; "one call"),
@@ -121,4 +164,14 @@ fn assert_refusals(
 #[test]
 fn refused_connects(rt: HostRuntime) {
     assert_refusals(&rt, FREE, CONNECT, CONNECTED);
+}
+
+#[test]
+fn refused_disconnects(rt: HostRuntime) {
+    assert_refusals(&rt, MANAGED, DISCONNECT, DISCONNECTED);
+}
+
+#[test]
+fn refused_stops(rt: HostRuntime) {
+    assert_refusals(&rt, MANAGED, STOP, STOPPED);
 }
