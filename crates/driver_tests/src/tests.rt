@@ -1,6 +1,7 @@
 //! Drivers on handles, by values worked out by hand.
 mod crowds;
 mod probes;
+mod refusals;
 mod steps;
 mod tables;
 mod views;

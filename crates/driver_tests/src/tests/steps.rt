@@ -5,7 +5,7 @@ use guid_handles::Handles;
 use open_agents::{OpenItem, Opens};
 use page_ranges::Status;
 use protocol_notify::Notify;
-use std::alloc::Allocator;
+use std::alloc::{AllocError, Allocator};
 use std::process::Abort;
 
 /// A call, or a look at the lists. GUIDs stand as bytes.
@@ -41,14 +41,14 @@ pub enum Step {
 
 /// The lists that drivers are tried on.
 #[derive(Drop)]
-struct Lists<A: Allocator> {
+pub struct Lists<A: Allocator> {
     handles: Handles<A>,
     opens: Opens<A>,
     notify: Notify<A>,
 }
 
 /// Empty lists.
-fn no_lists<A: Allocator + Copy>(alloc: A) -> Lists<A> {
+pub fn no_lists<A: Allocator + Copy>(alloc: A) -> Lists<A> {
     Lists {
         handles: Handles::new(alloc),
         opens: Opens::new(alloc),
@@ -156,40 +156,31 @@ fn assert_events<A: Allocator + Copy>(
     }
 }
 
-fn assert_disconnect<D: Driver, A: Allocator + Copy>(
-    rt: &impl Abort,
+fn disconnect_one<D: Driver, A: Allocator + Copy>(
     alloc: A,
     lists: &mut Lists<A>,
     drivers: &[D],
     handle: u64,
     driver: u64,
-    status: Status,
-) {
-    let told = disconnect(
+) -> Result<(), Status> {
+    disconnect(
         alloc,
         &mut lists.handles,
         &mut lists.opens,
         drivers,
         handle,
         driver,
-    );
-    assert_eq!(rt;
-        told.err().unwrap_or(Status::Success),
-        status,
-        "{handle} {driver}"
-    );
+    )
 }
 
-fn assert_stop<D: Driver, A: Allocator + Copy>(
-    rt: &impl Abort,
+fn stop_pairs<D: Driver, A: Allocator + Copy>(
     alloc: A,
     lists: &mut Lists<A>,
     drivers: &[D],
     pairs: &[(u64, u64)],
     handle: u64,
-    stopped: bool,
-) {
-    let told = stop(
+) -> Result<bool, AllocError> {
+    stop(
         alloc,
         &mut lists.handles,
         &mut lists.opens,
@@ -197,8 +188,39 @@ fn assert_stop<D: Driver, A: Allocator + Copy>(
         pairs,
         handle,
         None,
-    );
-    assert_eq!(rt; told.ok(), Some(stopped));
+    )
+}
+
+/// Makes a call on drivers, and answers its status alone.
+pub fn status_of<D: Driver, A: Allocator + Copy>(
+    rt: &impl Abort,
+    alloc: A,
+    lists: &mut Lists<A>,
+    drivers: &[D],
+    step: &Step,
+) -> Status {
+    match step {
+        Step::Connect(handle, named, recursive, _, _) => {
+            status_told(connect_one(rt, alloc, lists, drivers, *handle, named, *recursive))
+        }
+        Step::Disconnect(handle, driver, _) => {
+            status_told(disconnect_one(alloc, lists, drivers, *handle, *driver))
+        }
+        Step::Stop(pairs, handle, _) => {
+            match stop_pairs(alloc, lists, drivers, pairs, *handle) {
+                Ok(_) => Status::Success,
+                Err(_) => Status::OutOfResources,
+            }
+        }
+        _ => panic!(rt; "no call on drivers"),
+    }
+}
+
+fn status_told<T: Drop>(told: Result<T, Status>) -> Status {
+    match told {
+        Ok(_) => Status::Success,
+        Err(status) => status,
+    }
 }
 
 fn assert_managers<A: Allocator + Copy>(
@@ -270,7 +292,7 @@ fn assert_lists<A: Allocator + Copy>(rt: &impl Abort, lists: &Lists<A>, step: &S
 }
 
 /// Makes a call and asserts what it answers, or looks at the lists.
-fn assert_step<D: Driver, A: Allocator + Copy>(
+pub fn assert_step<D: Driver, A: Allocator + Copy>(
     rt: &impl Abort,
     alloc: A,
     lists: &mut Lists<A>,
@@ -283,10 +305,12 @@ fn assert_step<D: Driver, A: Allocator + Copy>(
             assert_events(rt, &told, *status, events);
         }
         Step::Disconnect(handle, driver, status) => {
-            assert_disconnect(rt, alloc, lists, drivers, *handle, *driver, *status);
+            let told = disconnect_one(alloc, lists, drivers, *handle, *driver);
+            assert_eq!(rt; status_told(told), *status, "{handle} {driver}");
         }
         Step::Stop(pairs, handle, stopped) => {
-            assert_stop(rt, alloc, lists, drivers, pairs, *handle, *stopped);
+            let told = stop_pairs(alloc, lists, drivers, pairs, *handle);
+            assert_eq!(rt; told.ok(), Some(*stopped));
         }
         _ => prepare(rt, alloc, lists, step),
     }
