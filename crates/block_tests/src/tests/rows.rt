@@ -4,7 +4,7 @@ use certificate_blocks::{BlockFault, check_block};
 use std::process::Abort;
 
 /// Each a name, the first line that differs and how many lines stand no more, what stands there, and the verdict.
-const ROWS: [(&str, usize, usize, &str, Verdict); 55] = [
+const ROWS: [(&str, usize, usize, &str, Verdict); 57] = [
     ("accepted", 14, 0, "", Ok(true)),
     (
         "words in other places",
@@ -59,6 +59,20 @@ const ROWS: [(&str, usize, usize, &str, Verdict); 55] = [
         2,
         11,
         "map 0\nrequest 4 1 4503599627370496\nbounds 0\nanswer 0\n",
+        Ok(false),
+    ),
+    (
+        "no start in memory of specific purpose",
+        2,
+        11,
+        "map 2\n7 0 8 0xf\n7 8 8 0x4000f\nrequest 4 8 4503599627370496\nbounds 2\n0 8 2 0\n8 8 none\nanswer 0\n",
+        Ok(true),
+    ),
+    (
+        "a start in memory of specific purpose",
+        2,
+        11,
+        "map 2\n7 0 8 0xf\n7 8 8 0x4000f\nrequest 4 8 4503599627370496\nbounds 2\n0 8 2 0\n8 8 2 8\nanswer 8\n",
         Ok(false),
     ),
     (

@@ -2,7 +2,10 @@
 //! stretches.
 use super::call_lists::{address_told, reply_of, status_told};
 use super::firmware_maps::maps;
-use super::stretches::{Change, Stretch, are_all, changed, entry_of, joined, stretches_of};
+use super::stretches::{
+    Change, Stretch, Wanted, are_all, changed, entry_of, joined, stretches_of,
+    with_specific_purpose,
+};
 use super::{Given, core_of_runs, run_of};
 use boot_core::{Call, Core};
 use driver_connect::TableDriver;
@@ -84,17 +87,29 @@ fn has_place(stretches: &[Stretch], drawn: &Drawn) -> bool {
     let mut has_place = false;
     for stretch in stretches {
         let end = stretch.first.saturating_add(drawn.pages);
-        let is_free = are_all(stretches, stretch.first, end, false);
+        let is_free = are_all(stretches, stretch.first, end, Wanted::Available);
         has_place = has_place || end <= limit_of(drawn) && is_free;
     }
     has_place
+}
+
+/// What is asked of the pages of a request.
+fn wanted_of(drawn: &Drawn) -> Wanted {
+    if drawn.kind == 2 {
+        Wanted::Free
+    } else {
+        Wanted::Available
+    }
 }
 
 /// Judges that pages were placed at an address, and answers the change.
 fn placed_change(rt: &impl Abort, stretches: &[Stretch], drawn: &Drawn, address: u64) -> Change {
     let first = address / PAGE_SIZE;
     let end = first.saturating_add(drawn.pages);
-    assert!(rt; are_all(stretches, first, end, false), "not free: {first}");
+    assert!(rt;
+        are_all(stretches, first, end, wanted_of(drawn)),
+        "not free: {first}"
+    );
     assert!(rt; end <= limit_of(drawn), "above the limit: {first}");
     assert!(rt;
         drawn.kind < 2 || address == drawn.memory,
@@ -112,7 +127,7 @@ fn placed_change(rt: &impl Abort, stretches: &[Stretch], drawn: &Drawn, address:
 fn refusal_of(stretches: &[Stretch], drawn: &Drawn) -> Status {
     let wanted = drawn.memory / PAGE_SIZE;
     let wanted_end = wanted.saturating_add(drawn.pages);
-    if drawn.kind == 2 && !are_all(stretches, wanted, wanted_end, false) {
+    if drawn.kind == 2 && !are_all(stretches, wanted, wanted_end, Wanted::Free) {
         Status::NotFound
     } else if drawn.kind == 1 && !has_place(stretches, drawn) {
         Status::OutOfResources
@@ -161,7 +176,7 @@ fn free(
     first: u64,
     end: u64,
 ) -> Option<Change> {
-    let are_placed = are_all(stretches, first, end, true);
+    let are_placed = are_all(stretches, first, end, Wanted::Placed);
     let wanted = if are_placed {
         Status::Success
     } else {
@@ -206,8 +221,8 @@ fn assert_map(rt: &(impl AllocGlobal + Abort), core: &Core<TableDriver>, stretch
 }
 
 /// Makes calls on a map, and answers how many of them changed it.
-fn changes_on(rt: &(impl AllocGlobal + Abort), text: &str) -> u32 {
-    let mut stretches = stretches_of(rt, text);
+fn changes_on(rt: &(impl AllocGlobal + Abort), map: Vec<Stretch>) -> u32 {
+    let mut stretches = map;
     let mut core = core_of_stretches(rt, stretches.as_slice());
     assert_map(rt, &core, stretches.as_slice());
     let mut placed = Vec::new(rt.alloc());
@@ -228,7 +243,16 @@ fn changes_on(rt: &(impl AllocGlobal + Abort), text: &str) -> u32 {
 #[test]
 fn placements_on_real_maps(rt: HostRuntime) {
     for (name, text) in maps() {
-        let changes = changes_on(&rt, text);
+        let changes = changes_on(&rt, stretches_of(&rt, text));
+        assert!(rt; changes >= CHANGES, "{changes} on {name}");
+    }
+}
+
+#[test]
+fn placements_beside_specific_purpose(rt: HostRuntime) {
+    for (name, text) in maps() {
+        let stretches = stretches_of(&rt, text);
+        let changes = changes_on(&rt, with_specific_purpose(&rt, stretches.as_slice()));
         assert!(rt; changes >= CHANGES, "{changes} on {name}");
     }
 }

@@ -4,6 +4,8 @@ use std::process::Abort;
 
 const RUNTIME: u64 = 0x8000_0000_0000_0000;
 
+const SPECIFIC_PURPOSE: u64 = 0x4_0000;
+
 /// Pages of one kind, from one number up to another.
 #[derive(Clone, Copy)]
 pub struct Stretch {
@@ -21,6 +23,17 @@ pub struct Change {
     pub end: u64,
     pub mtype: u32,
     pub is_placed: bool,
+}
+
+/// What is asked of pages.
+#[derive(Clone, Copy)]
+pub enum Wanted {
+    /// Placed by AllocatePages.
+    Placed,
+    /// Free, for a request that names them.
+    Free,
+    /// Free and not of specific purpose, for any other request.
+    Available,
 }
 
 /// The stretches of a map's words.
@@ -115,20 +128,49 @@ fn push_pages(rt: &impl Abort, stretches: &mut Vec<Stretch>, part: Stretch) {
     }
 }
 
-/// Whether all pages from one number up to another are free, or else all are placed.
-pub fn are_all(stretches: &[Stretch], first: u64, end: u64, is_placed: bool) -> bool {
+/// Whether the pages of a stretch are as it is asked.
+fn is_such(stretch: &Stretch, wanted: Wanted) -> bool {
+    match wanted {
+        Wanted::Placed => stretch.is_placed,
+        Wanted::Free => stretch.mtype == 7,
+        Wanted::Available => stretch.mtype == 7 && stretch.attributes & SPECIFIC_PURPOSE == 0,
+    }
+}
+
+/// Whether all pages from one number up to another are as it is asked.
+pub fn are_all(stretches: &[Stretch], first: u64, end: u64, wanted: Wanted) -> bool {
     let mut next = first;
     for stretch in stretches {
-        let is_such = if is_placed {
-            stretch.is_placed
-        } else {
-            stretch.mtype == 7
-        };
-        if is_such && stretch.first <= next && next < stretch.end {
+        if is_such(stretch, wanted) && stretch.first <= next && next < stretch.end {
             next = stretch.end;
         }
     }
     first < end && next >= end
+}
+
+/// The stretches, with the middle third of each free one of specific purpose.
+pub fn with_specific_purpose(
+    rt: &(impl AllocGlobal + Abort),
+    stretches: &[Stretch],
+) -> Vec<Stretch> {
+    let mut after = Vec::new(rt.alloc());
+    for stretch in stretches {
+        let third = if stretch.mtype == 7 {
+            stretch.end.saturating_sub(stretch.first) / 3
+        } else {
+            0
+        };
+        let low = stretch.first.saturating_add(third);
+        let high = low.saturating_add(third);
+        let middle = Stretch {
+            attributes: stretch.attributes | SPECIFIC_PURPOSE,
+            ..part_of(stretch, low, high)
+        };
+        push_pages(rt, &mut after, part_of(stretch, 0, low));
+        push_pages(rt, &mut after, middle);
+        push_pages(rt, &mut after, part_of(stretch, high, u64::MAX));
+    }
+    after
 }
 
 /// The stretches, with those joined that touch and are alike.
