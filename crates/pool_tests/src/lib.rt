@@ -1,4 +1,4 @@
-//! Tests of raw pool memory, and of the pool.
+//! Tests of raw pool memory, of the pool, and of device paths: how they are read, and the handles that they lead to.
 #![tactic(auto)]
 
 #[cfg(test)]

@@ -1,4 +1,7 @@
-//! Regions of raw memory, and the pool over them.
+//! Regions of raw memory, the pool over them, and device paths in its blocks.
+mod drawn_paths;
+mod located;
+mod path_rows;
 mod pool_pages;
 mod pools;
 mod regions;

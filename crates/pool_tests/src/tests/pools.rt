@@ -53,26 +53,56 @@ fn assert_step(rt: &impl Abort, book: &mut PageBook, pools: &mut Pools, step: &S
     requires { OwnsExtents book.old.memory pools.old }
     ensures { OwnsExtents book.new.memory pools.new }
 {
-    if book.key() >= 1 << 62 {
-        panic!(rt; "the key is too large");
-    }
     match step {
         Step::Pool(mtype, size, answer) => {
-            let told = match pools.allocate(book, *mtype, *size) {
-                Ok((address, certificate)) => Ok((address, certificate.is_some())),
-                Err(status) => Err(status),
-            };
+            let told = allocate(rt, book, pools, *mtype, *size);
             assert_eq!(rt; told, *answer, "{size} bytes");
         }
         Step::Free(address, answer) => {
-            assert_eq!(rt; pools.free(book, *address), *answer, "{address:#x}");
+            let told = free(rt, book, pools, *address);
+            assert_eq!(rt; told, *answer, "{address:#x}");
         }
         Step::Write(address, bytes, fits) => {
-            assert_eq!(rt; write(book, pools, *address, bytes), *fits, "{address:#x}");
+            let told = write(book, pools, *address, bytes);
+            assert_eq!(rt; told, *fits, "{address:#x}");
         }
         Step::Read(address, bytes, fits) => assert_read(rt, pools, *address, bytes, *fits),
-        Step::Map(entries) => assert_eq!(rt; book.table().descriptors(), *entries),
+        Step::Map(entries) => assert_map(rt, book, *entries),
     }
+}
+
+// The address of a block that is asked for, and whether it stands in a new extent.
+fn allocate(
+    rt: &impl Abort,
+    book: &mut PageBook,
+    pools: &mut Pools,
+    mtype: u32,
+    size: u64,
+) -> Result<(u64, bool), Status>
+    requires { OwnsExtents book.old.memory pools.old }
+    ensures { OwnsExtents book.new.memory pools.new }
+{
+    if book.key() >= 1 << 62 {
+        panic!(rt; "the key is too large");
+    }
+    match pools.allocate(book, mtype, size) {
+        Ok((address, certificate)) => Ok((address, certificate.is_some())),
+        Err(status) => Err(status),
+    }
+}
+
+fn free(rt: &impl Abort, book: &mut PageBook, pools: &mut Pools, address: u64) -> Result<(), Status>
+    requires { OwnsExtents book.old.memory pools.old }
+    ensures { OwnsExtents book.new.memory pools.new }
+{
+    if book.key() >= 1 << 62 {
+        panic!(rt; "the key is too large");
+    }
+    pools.free(book, address)
+}
+
+fn assert_map(rt: &impl Abort, book: &PageBook, entries: usize) {
+    assert_eq!(rt; book.table().descriptors(), entries);
 }
 
 fn write(book: &PageBook, pools: &mut Pools, address: u64, bytes: &[u8]) -> bool

@@ -1,8 +1,6 @@
 //! Blocks that were worked out by hand, and generated calls against a plain list.
 use raw_pool::RawPool;
-use std::alloc::Allocator;
 use std::process::Abort;
-use std::test::Fail;
 
 /// A page holds 128 blocks of one cell, of 24 bytes at most.
 const PAGE_BLOCKS: usize = 128;
@@ -25,39 +23,82 @@ enum Step {
     Empty(bool),
 }
 
-fn make<A: Allocator + Copy>(rt: &impl Abort, pool: &mut RawPool<A>, step: &Step) {
+fn assert_takes(rt: &impl Abort, pool: &mut RawPool, size: usize, cell: Option<usize>) {
+    assert_eq!(rt; pool.take(size), cell, "{size} bytes");
+}
+
+fn assert_gives(rt: &impl Abort, pool: &mut RawPool, cell: usize, is_given: bool) {
+    assert_eq!(rt; pool.give(cell), is_given, "cell {cell}");
+}
+
+fn assert_writes(
+    rt: &impl Abort,
+    pool: &mut RawPool,
+    cell: usize,
+    at: usize,
+    bytes: &[u8],
+    fits: bool,
+) {
+    assert_eq!(rt; pool.write(cell, at, bytes), fits, "cell {cell} at {at}");
+}
+
+fn assert_holds(
+    rt: &impl Abort,
+    pool: &RawPool,
+    cell: usize,
+    size: usize,
+    front: &[u8],
+    back: &[u8],
+) {
+    assert_eq!(rt; pool.size_of(cell), Some(size), "cell {cell}");
+    let bytes = pool.bytes(cell).expect(rt, "a block");
+    assert_eq!(rt; bytes.len(), size);
+    assert!(rt;
+        bytes.starts_with(front) && bytes.ends_with(back),
+        "cell {cell}"
+    );
+}
+
+fn assert_refuses(rt: &impl Abort, pool: &mut RawPool, cell: usize) {
+    assert_gives(rt, pool, cell, false);
+    assert_eq!(rt; pool.size_of(cell), None, "cell {cell}");
+    assert!(rt; pool.bytes(cell).is_none(), "cell {cell}");
+    assert_writes(rt, pool, cell, 0, b"", false);
+}
+
+fn assert_longest(rt: &impl Abort, pool: &RawPool, cells: usize) {
+    assert_eq!(rt; pool.longest_free(), cells);
+}
+
+fn assert_empty(rt: &impl Abort, pool: &RawPool, is_empty: bool) {
+    assert_eq!(rt; pool.is_empty(), is_empty);
+}
+
+fn make(rt: &impl Abort, pool: &mut RawPool, step: &Step) {
     match step {
-        Step::Take(size, cell) => assert_eq!(rt; pool.take(*size), *cell, "{size} bytes"),
-        Step::Give(cell, given) => assert_eq!(rt; pool.give(*cell), *given, "cell {cell}"),
-        Step::Write(cell, at, bytes, fits) => {
-            assert_eq!(rt; pool.write(*cell, *at, bytes), *fits, "cell {cell} at {at}");
-        }
+        Step::Take(size, cell) => assert_takes(rt, pool, *size, *cell),
+        Step::Give(cell, is_given) => assert_gives(rt, pool, *cell, *is_given),
+        Step::Write(cell, at, bytes, fits) => assert_writes(rt, pool, *cell, *at, bytes, *fits),
         Step::Holds(cell, size, front, back) => {
-            assert_eq!(rt; pool.size_of(*cell), Some(*size), "cell {cell}");
-            let bytes = pool.bytes(*cell).expect(rt, "a block");
-            assert_eq!(rt; bytes.len(), *size);
-            assert!(rt; bytes.starts_with(front), "cell {cell}");
-            assert!(rt; bytes.ends_with(back), "cell {cell}");
+            assert_holds(rt, pool, *cell, *size, front, back);
         }
-        Step::Refuses(cell) => refuses(rt, pool, *cell),
-        Step::Longest(cells) => assert_eq!(rt; pool.longest_free(), *cells),
-        Step::Empty(empty) => assert_eq!(rt; pool.is_empty(), *empty),
+        Step::Refuses(cell) => assert_refuses(rt, pool, *cell),
+        Step::Longest(cells) => assert_longest(rt, pool, *cells),
+        Step::Empty(is_empty) => assert_empty(rt, pool, *is_empty),
     }
 }
 
-fn refuses<A: Allocator + Copy>(rt: &impl Abort, pool: &mut RawPool<A>, cell: usize) {
-    assert_eq!(rt; pool.give(cell), false, "cell {cell}");
-    assert_eq!(rt; pool.size_of(cell), None, "cell {cell}");
-    assert_eq!(rt; pool.bytes(cell), None, "cell {cell}");
-    assert_eq!(rt; pool.write(cell, 0, b""), false, "cell {cell}");
+/// A new region of so many pages.
+fn region_of(rt: &(impl AllocGlobal + Abort), pages: usize) -> RawPool {
+    if pages == 0 || pages > 4 {
+        panic!(rt; "{pages} pages");
+    }
+    RawPool::new(rt.alloc(), pages).expect(rt, "memory")
 }
 
 /// Makes the calls on a new region of so many pages.
 fn make_all(rt: &(impl AllocGlobal + Abort), pages: usize, steps: &[Step]) {
-    if pages == 0 || pages > 4 {
-        panic!(rt; "{pages} pages");
-    }
-    let mut pool = RawPool::new(rt.alloc(), pages).expect(rt, "memory");
+    let mut pool = region_of(rt, pages);
     for step in steps {
         make(rt, &mut pool, step);
     }
@@ -143,13 +184,12 @@ const LARGEST_BLOCK: &[Step] = &[
 ];
 
 #[test]
-fn sizes_at_the_edges(rt: HostRuntime) -> Result<(), Fail> {
+fn sizes_at_the_edges(rt: HostRuntime) {
     for (size, cell, next) in SIZES {
-        let mut pool = RawPool::new(rt.alloc(), 1)?;
-        assert_eq!(rt; pool.take(*size), *cell, "{size} bytes");
-        assert_eq!(rt; pool.take(0), *next, "behind {size} bytes");
+        let mut pool = region_of(&rt, 1);
+        assert_takes(&rt, &mut pool, *size, *cell);
+        assert_takes(&rt, &mut pool, 0, *next);
     }
-    Ok(())
 }
 
 /// A size, the cell of its block in an empty page, and that of the next block.
@@ -165,28 +205,30 @@ const SIZES: &[(usize, Option<usize>, Option<usize>)] = &[
     (usize::MAX, None, Some(0)),
 ];
 
+/// Gives back every second block of a page from one on.
+fn give_half(rt: &impl Abort, pool: &mut RawPool, first: usize) {
+    for half in 0..PAGE_BLOCKS / 2 {
+        assert_gives(rt, pool, first.saturating_add(2 * half), true);
+    }
+}
+
 /// A page full of blocks of one cell, of which every second is given back, then all.
 #[test]
-fn full_page(rt: HostRuntime) -> Result<(), Fail> {
-    let mut pool = RawPool::new(rt.alloc(), 1)?;
+fn full_page(rt: HostRuntime) {
+    let mut pool = region_of(&rt, 1);
     for cell in 0..PAGE_BLOCKS {
-        assert_eq!(rt; pool.take(24), Some(cell));
+        assert_takes(&rt, &mut pool, 24, Some(cell));
     }
-    assert_eq!(rt; pool.take(0), None);
-    for half in 0..PAGE_BLOCKS / 2 {
-        assert_eq!(rt; pool.give(2 * half), true);
-    }
-    assert_eq!(rt; pool.longest_free(), 1);
-    for half in 0..PAGE_BLOCKS / 2 {
-        assert_eq!(rt; pool.give(2 * half + 1), true);
-    }
-    assert_eq!(rt; pool.longest_free(), PAGE_BLOCKS);
-    assert_eq!(rt; pool.take(4088), Some(0));
-    Ok(())
+    assert_takes(&rt, &mut pool, 0, None);
+    give_half(&rt, &mut pool, 0);
+    assert_longest(&rt, &pool, 1);
+    give_half(&rt, &mut pool, 1);
+    assert_longest(&rt, &pool, PAGE_BLOCKS);
+    assert_takes(&rt, &mut pool, 4088, Some(0));
 }
 
 /// A block that was taken, and the byte that it was filled with.
-#[derive(Drop)]
+#[derive(Clone, Copy)]
 struct Known {
     cell: usize,
     size: usize,
@@ -208,47 +250,53 @@ fn cells_of(size: usize) -> usize {
     size.saturating_add(39) / 32
 }
 
-fn take_filled<A: Allocator + Copy>(
+/// Fills a block byte by byte.
+fn fill_cell(rt: &impl Abort, pool: &mut RawPool, cell: usize, size: usize, fill: u8) {
+    for at in 0..size {
+        assert_writes(rt, pool, cell, at, &[fill], true);
+    }
+}
+
+fn take_filled(
     rt: &impl Abort,
-    pool: &mut RawPool<A>,
+    pool: &mut RawPool,
     blocks: &mut Vec<Known>,
     size: usize,
     fill: u8,
-) -> Result<(), Fail> {
-    let place = lowest(blocks.as_slice(), size);
-    assert_eq!(rt; pool.take(size), place, "{size} bytes");
-    if let Some(cell) = place {
-        for at in 0..size {
-            assert_eq!(rt; pool.write(cell, at, &[fill]), true);
-        }
-        blocks.push(Known { cell, size, fill })?;
-    }
-    Ok(())
-}
-
-fn give_one<A: Allocator + Copy>(
-    rt: &impl Abort,
-    pool: &mut RawPool<A>,
-    blocks: &mut Vec<Known>,
-    index: usize,
 ) {
-    if index < blocks.len() {
-        let cell = blocks.swap_remove(index).cell;
-        assert_eq!(rt; pool.give(cell), true, "cell {cell}");
+    let place = lowest(blocks.as_slice(), size);
+    assert_takes(rt, pool, size, place);
+    if let Some(cell) = place {
+        fill_cell(rt, pool, cell, size, fill);
+        blocks.push(Known { cell, size, fill }).expect(rt, "memory");
     }
 }
 
-fn compare<A: Allocator + Copy>(rt: &impl Abort, pool: &RawPool<A>, blocks: &[Known]) {
-    for block in blocks {
-        let bytes = pool.bytes(block.cell).expect(rt, "a block");
-        assert_eq!(rt; bytes.len(), block.size);
-        assert!(rt; bytes.iter().all(|byte| *byte == block.fill));
+fn give_one(rt: &impl Abort, pool: &mut RawPool, blocks: &mut Vec<Known>, index: usize) {
+    if index < blocks.len() {
+        let block = blocks.swap_remove(index);
+        assert_gives(rt, pool, block.cell, true);
+    }
+}
+
+fn compare(rt: &impl Abort, pool: &RawPool, block: &Known) {
+    let bytes = pool.bytes(block.cell).expect(rt, "a block");
+    assert_eq!(rt; bytes.len(), block.size);
+    assert!(rt; bytes.iter().all(|byte| *byte == block.fill));
+}
+
+/// Makes a call as it was drawn: gives back a block, or takes one and fills it.
+fn make_drawn(rt: &impl Abort, pool: &mut RawPool, blocks: &mut Vec<Known>, draw: usize, fill: u8) {
+    if draw % 3 == 0 {
+        give_one(rt, pool, blocks, draw / 3 % 64);
+    } else {
+        take_filled(rt, pool, blocks, draw / 3 % 300, fill);
     }
 }
 
 #[test]
-fn generated_calls(rt: HostRuntime) -> Result<(), Fail> {
-    let mut pool = RawPool::new(rt.alloc(), 4)?;
+fn generated_calls(rt: HostRuntime) {
+    let mut pool = region_of(&rt, 4);
     let mut blocks = Vec::new(rt.alloc());
     let mut seed: u64 = 2026;
     for call in 0..1000u64 {
@@ -256,18 +304,9 @@ fn generated_calls(rt: HostRuntime) -> Result<(), Fail> {
             .wrapping_mul(6364136223846793005)
             .wrapping_add(1442695040888963407);
         let draw = (seed >> 33) as usize;
-        if draw % 3 == 0 {
-            give_one(&rt, &mut pool, &mut blocks, draw / 3 % 64);
-        } else {
-            take_filled(
-                &rt,
-                &mut pool,
-                &mut blocks,
-                draw / 3 % 300,
-                (call % 255) as u8,
-            )?;
+        make_drawn(&rt, &mut pool, &mut blocks, draw, (call % 255) as u8);
+        for block in &blocks {
+            compare(&rt, &pool, block);
         }
-        compare(&rt, &pool, blocks.as_slice());
     }
-    Ok(())
 }

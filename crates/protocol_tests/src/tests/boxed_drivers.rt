@@ -4,7 +4,6 @@ use arrayvec::ArrayVec;
 use boot_core::{Call, CallHandles, Core, Reply};
 use driver_connect::{Driver, StartPlan, TableDriver, View, driver_binding};
 use std::process::Abort;
-use std::test::Fail;
 use uuid::Uuid;
 
 /// A driver that supports just the handle 1, makes no children, and is never stopped.
@@ -66,29 +65,30 @@ fn install<D: Driver>(rt: &impl Abort, core: &mut Core<D>, guid: Uuid, value: u6
         value,
     };
     let reply = reply_to(rt, core, &call);
-    assert_eq!(rt;
-        matches!(reply, Reply::InstallProtocolInterface(Ok(_))),
-        true
-    );
+    assert!(rt; matches!(&reply, Reply::InstallProtocolInterface(Ok(_))));
 }
 
-/// Whether a connect of a handle starts a driver.
-fn connects<D: Driver>(rt: &(impl AllocGlobal + Abort), core: &mut Core<D>, handle: u64) -> bool {
+/// Asserts whether a connect of a handle starts a driver.
+fn assert_connects<D: Driver>(
+    rt: &(impl AllocGlobal + Abort),
+    core: &mut Core<D>,
+    handle: u64,
+    starts: bool,
+) {
     let call = Call::ConnectController {
         handle,
         drivers: CallHandles::new(Vec::new(rt.alloc())),
         recursive: false,
     };
-    matches!(reply_to(rt, core, &call), Reply::ConnectController(Ok(_)))
+    let reply = reply_to(rt, core, &call);
+    assert!(rt; matches!(&reply, Reply::ConnectController(Ok(_))) == starts);
 }
 
-/// Whether the drivers of a handle are stopped.
-fn disconnects<D: Driver>(rt: &impl Abort, core: &mut Core<D>, handle: u64) -> bool {
+/// Asserts whether the drivers of a handle are stopped.
+fn assert_disconnects<D: Driver>(rt: &impl Abort, core: &mut Core<D>, handle: u64, stops: bool) {
     let call = Call::DisconnectController { handle, driver: 0 };
-    matches!(
-        reply_to(rt, core, &call),
-        Reply::DisconnectController(Ok(_))
-    )
+    let reply = reply_to(rt, core, &call);
+    assert!(rt; matches!(&reply, Reply::DisconnectController(Ok(_))) == stops);
 }
 
 /// Connects handles of a core with two drivers of different kinds, and stops one of them.
@@ -98,23 +98,24 @@ fn assert_drives<D: Driver>(rt: &(impl AllocGlobal + Abort), core: &mut Core<D>,
     install(rt, core, one, 0);
     install(rt, core, binding, 0);
     install(rt, core, binding, 1);
-    assert_eq!(rt; connects(rt, core, 1), true);
-    assert_eq!(rt; connects(rt, core, 2), true);
-    assert_eq!(rt; connects(rt, core, 2), false);
-    assert_eq!(rt; disconnects(rt, core, 1), false);
-    assert_eq!(rt; disconnects(rt, core, 2), true);
-    assert_eq!(rt; connects(rt, core, 2), true);
+    assert_connects(rt, core, 1, true);
+    assert_connects(rt, core, 2, true);
+    assert_connects(rt, core, 2, false);
+    assert_disconnects(rt, core, 1, false);
+    assert_disconnects(rt, core, 2, true);
+    assert_connects(rt, core, 2, true);
 }
 
 #[test]
-fn drivers_of_two_kinds(rt: HostRuntime) -> Result<(), Fail> {
+fn drivers_of_two_kinds(rt: HostRuntime) {
     let alloc = rt.alloc();
     let one = guid(1);
     let mut drivers: Vec<Box<dyn Driver>> = Vec::new(alloc);
-    drivers.push(Box::new(alloc, table(one))?)?;
-    drivers.push(Box::new(alloc, FirstHandleDriver { opens: one })?)?;
+    let first = Box::new(alloc, table(one)).expect(&rt, "memory");
+    drivers.push(first).expect(&rt, "memory");
+    let second = Box::new(alloc, FirstHandleDriver { opens: one }).expect(&rt, "memory");
+    drivers.push(second).expect(&rt, "memory");
     let machine = small_machine(&rt);
-    let mut core = Core::new(alloc, machine, drivers)?;
+    let mut core = Core::new(alloc, machine, drivers).expect(&rt, "memory");
     assert_drives(&rt, &mut core, one);
-    Ok(())
 }

@@ -5,11 +5,18 @@ use driver_connect::TableDriver;
 use page_ranges::Status;
 use std::process::Abort;
 
-/// The count and the address of a list.
-pub fn place_of(list: Result<PoolList, Status>) -> Result<(u64, u64), Status> {
+/// The count and the address of a list that a reply tells.
+pub fn place_told(rt: &impl Abort, reply: &Reply) -> Result<(u64, u64), Status> {
+    match reply {
+        Reply::LocateHandleBuffer(list) | Reply::OpenProtocolInformation(list) => place_of(list),
+        _ => panic!(rt; "another reply"),
+    }
+}
+
+fn place_of(list: &Result<PoolList, Status>) -> Result<(u64, u64), Status> {
     match list {
         Ok(list) => Ok((list.count, list.address)),
-        Err(status) => Err(status),
+        Err(status) => Err(*status),
     }
 }
 
@@ -46,21 +53,22 @@ fn assert_block(rt: &impl Abort, core: &mut Core<TableDriver>, address: u64, byt
 
 fn assert_held(rt: &impl Abort, core: &mut Core<TableDriver>, address: u64, bytes: &[u8]) {
     let size = bytes.len() as u64;
-    match reply_to(rt, core, &Call::PoolRead { address, size }) {
+    let reply = reply_to(rt, core, &Call::PoolRead { address, size });
+    assert!(rt; has_read(&reply, bytes), "bytes at {address:#x}");
+}
+
+/// Whether a reply tells that some bytes were read.
+fn has_read(reply: &Reply, bytes: &[u8]) -> bool {
+    match reply {
         Reply::PoolRead {
-            status,
+            status: Status::Success,
             bytes: held,
-        } => {
-            assert_eq!(rt; status, Status::Success);
-            assert_eq!(rt; held.as_slice(), bytes);
-        }
-        _ => panic!(rt; "another reply"),
+        } => held.as_slice() == bytes,
+        _ => false,
     }
 }
 
 fn free(rt: &impl Abort, core: &mut Core<TableDriver>, address: u64) {
-    match reply_to(rt, core, &Call::FreePool { address }) {
-        Reply::FreePool(answer) => assert_eq!(rt; answer, Ok(())),
-        _ => panic!(rt; "another reply"),
-    }
+    let reply = reply_to(rt, core, &Call::FreePool { address });
+    assert!(rt; matches!(&reply, Reply::FreePool(Ok(()))));
 }

@@ -1,8 +1,8 @@
 //! Drawn opens and what goes with them.
 use super::draws::Draws;
-use super::listing::{assert_list, place_of};
+use super::listing::{assert_list, place_told};
 use super::plain_lists::{Item, Lists};
-use super::{assert_told, guid, plain_opens, reply_to, tell, tell_one};
+use super::{Told, assert_told, guid, plain_opens, reply_to, tell};
 use boot_core::{Call, Core, Reply};
 use driver_connect::TableDriver;
 use page_ranges::Status;
@@ -53,6 +53,22 @@ fn like_open(draws: &mut Draws, lists: &Lists) -> Item {
     open
 }
 
+/// What an open, a close or a look at a value tells.
+fn told_of(rt: &(impl AllocGlobal + Abort), reply: &Reply) -> Told {
+    match reply {
+        Reply::OpenProtocol(Ok(Some(value))) | Reply::HandleProtocol(Ok(value)) => {
+            tell(rt, Status::Success, &[*value])
+        }
+        Reply::OpenProtocol(Ok(None)) | Reply::CloseProtocol(Ok(())) => {
+            tell(rt, Status::Success, &[])
+        }
+        Reply::OpenProtocol(Err(status))
+        | Reply::CloseProtocol(Err(status))
+        | Reply::HandleProtocol(Err(status)) => tell(rt, *status, &[]),
+        _ => panic!(rt; "another reply"),
+    }
+}
+
 /// Opens an interface.
 pub fn open(
     rt: &(impl AllocGlobal + Abort),
@@ -68,12 +84,7 @@ pub fn open(
         controller: open.controller,
         attributes: open.attributes,
     };
-    let reply = match reply_to(rt, core, &call) {
-        Reply::OpenProtocol(Ok(Some(value))) => tell(rt, Status::Success, &[value]),
-        Reply::OpenProtocol(Ok(None)) => tell(rt, Status::Success, &[]),
-        Reply::OpenProtocol(Err(status)) => tell(rt, status, &[]),
-        _ => panic!(rt; "another reply"),
-    };
+    let reply = told_of(rt, &reply_to(rt, core, &call));
     assert_told(rt, &reply, &plain_opens::open(rt, lists, &open))
 }
 
@@ -91,11 +102,7 @@ pub fn close(
         agent: closed.agent,
         controller: closed.controller,
     };
-    let reply = match reply_to(rt, core, &call) {
-        Reply::CloseProtocol(Ok(())) => tell(rt, Status::Success, &[]),
-        Reply::CloseProtocol(Err(status)) => tell(rt, status, &[]),
-        _ => panic!(rt; "another reply"),
-    };
+    let reply = told_of(rt, &reply_to(rt, core, &call));
     assert_told(rt, &reply, &plain_opens::close(rt, lists, &closed))
 }
 
@@ -112,10 +119,7 @@ pub fn handle_protocol(
         handle,
         guid: guid(byte),
     };
-    let reply = match reply_to(rt, core, &call) {
-        Reply::HandleProtocol(value) => tell_one(rt, value),
-        _ => panic!(rt; "another reply"),
-    };
+    let reply = told_of(rt, &reply_to(rt, core, &call));
     let plain = plain_opens::handle_protocol(rt, lists, handle, byte);
     assert_told(rt, &reply, &plain)
 }
@@ -137,9 +141,6 @@ pub fn information(
         None => Status::NotFound,
     };
     let bytes = plain_opens::items_told(rt, lists, open.handle, open.guid);
-    let list = match reply_to(rt, core, &call) {
-        Reply::OpenProtocolInformation(list) => place_of(list),
-        _ => panic!(rt; "another reply"),
-    };
+    let list = place_told(rt, &reply_to(rt, core, &call));
     assert_list(rt, core, list, 24, status, bytes.as_slice())
 }

@@ -1,5 +1,5 @@
 use Rattle.pool_services.specs.PoolRules.{OwnsExtents}
-use Rattle.path_tests.proofs.tests.located.blocks_of.Given as goal
+use Rattle.pool_tests.proofs.tests.located.blocks_of.Given as goal
 
 -- the pages of the pool are those of its extents
 abbrev pub invariant-loop-bytes : goal.invariant-loop-bytes

@@ -32,6 +32,20 @@ fn told_installed(rt: &(impl AllocGlobal + Abort), handle: u64, events: &[u64]) 
     reply
 }
 
+/// What an installation or a registration tells.
+fn told_of(rt: &(impl AllocGlobal + Abort), reply: &Reply) -> Told {
+    match reply {
+        Reply::InstallProtocolInterface(Ok(done))
+        | Reply::InstallMultipleProtocolInterfaces(Ok(done)) => {
+            told_installed(rt, done.handle, done.events.as_slice())
+        }
+        Reply::InstallProtocolInterface(Err(status))
+        | Reply::InstallMultipleProtocolInterfaces(Err(status)) => tell(rt, *status, &[]),
+        Reply::RegisterProtocolNotify(key) => tell_one(rt, *key),
+        _ => panic!(rt; "another reply"),
+    }
+}
+
 /// Installs an interface.
 pub fn install(
     rt: &(impl AllocGlobal + Abort),
@@ -49,13 +63,7 @@ pub fn install(
         kind,
         value,
     };
-    let reply = match reply_to(rt, core, &call) {
-        Reply::InstallProtocolInterface(Ok(done)) => {
-            told_installed(rt, done.handle, done.events.as_slice())
-        }
-        Reply::InstallProtocolInterface(Err(status)) => tell(rt, status, &[]),
-        _ => panic!(rt; "another reply"),
-    };
+    let reply = told_of(rt, &reply_to(rt, core, &call));
     let plain = plain_lists::install(rt, lists, handle, kind, &[(byte, value)]);
     assert_told(rt, &reply, &plain)
 }
@@ -92,13 +100,7 @@ pub fn install_many(
         handle,
         pairs: call_pairs(rt, pairs.as_slice()),
     };
-    let reply = match reply_to(rt, core, &call) {
-        Reply::InstallMultipleProtocolInterfaces(Ok(done)) => {
-            told_installed(rt, done.handle, done.events.as_slice())
-        }
-        Reply::InstallMultipleProtocolInterfaces(Err(status)) => tell(rt, status, &[]),
-        _ => panic!(rt; "another reply"),
-    };
+    let reply = told_of(rt, &reply_to(rt, core, &call));
     let plain = plain_lists::install(rt, lists, handle, 0, pairs.as_slice());
     assert_told(rt, &reply, &plain)
 }
@@ -116,10 +118,7 @@ pub fn register(
         guid: guid(byte),
         event,
     };
-    let reply = match reply_to(rt, core, &call) {
-        Reply::RegisterProtocolNotify(key) => tell_one(rt, key),
-        _ => panic!(rt; "another reply"),
-    };
+    let reply = told_of(rt, &reply_to(rt, core, &call));
     let plain = plain_lists::register(rt, lists, byte, event);
     assert_told(rt, &reply, &plain)
 }

@@ -1,7 +1,8 @@
 //! Drawn searches.
 use super::draws::Draws;
-use super::listing::{assert_list, place_of};
+use super::listing::{assert_list, place_told};
 use super::plain_lists::{self, Lists};
+use super::plain_opens::push_bytes;
 use super::{Told, assert_told, guid, reply_to, tell, tell_one};
 use boot_core::{Call, Core, Reply};
 use driver_connect::TableDriver;
@@ -37,6 +38,19 @@ fn drawn_search(draws: &mut Draws) -> u32 {
     }
 }
 
+/// What a search tells.
+fn told_of(rt: &(impl AllocGlobal + Abort), reply: &Reply) -> Told {
+    match reply {
+        Reply::LocateHandle(found) => {
+            told_handles(rt, found.status, found.size, found.handles.as_slice())
+        }
+        Reply::LocateProtocol(value) => tell_one(rt, *value),
+        Reply::ProtocolsPerHandle(Ok(guids)) => told_guids(rt, guids.as_slice()),
+        Reply::ProtocolsPerHandle(Err(status)) => tell(rt, *status, &[]),
+        _ => panic!(rt; "another reply"),
+    }
+}
+
 /// Locates handles.
 pub fn locate(
     rt: &(impl AllocGlobal + Abort),
@@ -54,12 +68,7 @@ pub fn locate(
         key,
         size,
     };
-    let reply = match reply_to(rt, core, &call) {
-        Reply::LocateHandle(reply) => {
-            told_handles(rt, reply.status, reply.size, reply.handles.as_slice())
-        }
-        _ => panic!(rt; "another reply"),
-    };
+    let reply = told_of(rt, &reply_to(rt, core, &call));
     let plain = plain_lists::locate(rt, lists, search, byte, key, size);
     assert_told(rt, &reply, &plain)
 }
@@ -84,9 +93,7 @@ fn told_handles(
 fn handle_bytes(rt: &(impl AllocGlobal + Abort), handles: &[u64]) -> Vec<u8> {
     let mut bytes = Vec::new(rt.alloc());
     for handle in handles {
-        bytes
-            .extend_from_slice(&handle.to_le_bytes())
-            .expect(rt, "memory");
+        push_bytes(rt, &mut bytes, &handle.to_le_bytes());
     }
     bytes
 }
@@ -108,10 +115,7 @@ pub fn locate_buffer(
     };
     let plain = plain_lists::locate(rt, lists, search, byte, key, u64::MAX);
     let bytes = handle_bytes(rt, plain.numbers.as_slice());
-    let list = match reply_to(rt, core, &call) {
-        Reply::LocateHandleBuffer(list) => place_of(list),
-        _ => panic!(rt; "another reply"),
-    };
+    let list = place_told(rt, &reply_to(rt, core, &call));
     assert_list(rt, core, list, 8, plain.status, bytes.as_slice())
 }
 
@@ -135,10 +139,7 @@ pub fn locate_protocol(
         guid: guid(byte),
         key,
     };
-    let reply = match reply_to(rt, core, &call) {
-        Reply::LocateProtocol(value) => tell_one(rt, value),
-        _ => panic!(rt; "another reply"),
-    };
+    let reply = told_of(rt, &reply_to(rt, core, &call));
     let plain = plain_lists::locate_protocol(rt, lists, byte, key);
     assert_told(rt, &reply, &plain)
 }
@@ -162,10 +163,9 @@ pub fn protocols(
     draws: &mut Draws,
 ) -> Status {
     let handle = draws.handle(lists.count());
-    let reply = match reply_to(rt, core, &Call::ProtocolsPerHandle { handle }) {
-        Reply::ProtocolsPerHandle(Ok(guids)) => told_guids(rt, guids.as_slice()),
-        Reply::ProtocolsPerHandle(Err(status)) => tell(rt, status, &[]),
-        _ => panic!(rt; "another reply"),
-    };
+    let reply = told_of(
+        rt,
+        &reply_to(rt, core, &Call::ProtocolsPerHandle { handle }),
+    );
     assert_told(rt, &reply, &plain_lists::protocols(rt, lists, handle))
 }

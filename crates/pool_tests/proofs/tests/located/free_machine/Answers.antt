@@ -4,7 +4,7 @@ use Rattle.page_ranges.specs.Memory.{IsProperMemory}
 use Rattle.page_ranges.specs.Runs.{pages_of, IsValidMachine}
 use Rattle.page_ranges.proofs.RunLists.{proper_pages}
 use Rattle.placement_certificate.proofs.Machines.{run}
-use Rattle.path_tests.proofs.tests.located.free_machine.Goals as goal
+use Rattle.pool_tests.proofs.tests.located.free_machine.Goals as goal
 
 abbrev pub runs : List Run
 runs = run 16 512 7 0xf ∷ []

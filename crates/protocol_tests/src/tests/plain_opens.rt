@@ -171,16 +171,15 @@ pub fn items_told(
 
 /// Puts an item's bytes behind others: agent, controller, attributes and count.
 fn push_item(rt: &impl Abort, bytes: &mut Vec<u8>, item: &Item) {
-    bytes
-        .extend_from_slice(&item.agent.to_le_bytes())
-        .expect(rt, "memory");
-    bytes
-        .extend_from_slice(&item.controller.to_le_bytes())
-        .expect(rt, "memory");
-    bytes
-        .extend_from_slice(&item.attributes.to_le_bytes())
-        .expect(rt, "memory");
-    bytes
-        .extend_from_slice(&item.count.to_le_bytes())
-        .expect(rt, "memory");
+    for number in [item.agent, item.controller] {
+        push_bytes(rt, bytes, &number.to_le_bytes());
+    }
+    for number in [item.attributes, item.count] {
+        push_bytes(rt, bytes, &number.to_le_bytes());
+    }
+}
+
+/// Puts bytes behind others.
+pub fn push_bytes(rt: &impl Abort, bytes: &mut Vec<u8>, more: &[u8]) {
+    bytes.extend_from_slice(more).expect(rt, "memory");
 }

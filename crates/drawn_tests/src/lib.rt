@@ -1,5 +1,0 @@
-//! Drawn calls of the services on handles, judged by plain lists.
-#![tactic(auto)]
-
-#[cfg(test)]
-mod tests;

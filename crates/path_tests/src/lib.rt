@@ -1,5 +1,0 @@
-//! Tests of device paths: how they are read, and the handles that they lead to.
-#![tactic(auto)]
-
-#[cfg(test)]
-mod tests;
