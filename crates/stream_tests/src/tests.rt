@@ -2,7 +2,6 @@
 mod openings;
 mod reads;
 mod sizes;
-mod states;
 mod statuses;
 mod writes;
 
@@ -55,12 +54,11 @@ impl Read for Source<'_> {
     }
 }
 
-/// A writer that takes so many bytes at a time. After so many writes one fails, or takes none, and after so many
+/// A writer that takes a few bytes at a time. After so many writes one fails, or takes none, and after so many
 /// flushes one fails; those after it go on.
 #[derive(Drop)]
 pub struct Sink {
     pub taken: Vec<u8>,
-    pub at_once: usize,
     pub writes: u64,
     pub flushes: u64,
     pub takes_none: bool,
@@ -75,7 +73,7 @@ impl Write for Sink {
                 Err(Error::from(ErrorKind::Interrupted))
             };
         }
-        let taken = buf.len().min(self.at_once);
+        let taken = buf.len().min(5);
         self.taken.extend_from_slice(&buf[..taken])?;
         Ok(taken)
     }
@@ -96,17 +94,10 @@ fn is_time(left: &mut u64) -> bool {
     is_time
 }
 
-/// A writer that takes so many bytes at a time, and fails after so many writes or flushes.
-pub fn sink_of(
-    rt: &impl AllocGlobal,
-    at_once: usize,
-    writes: u64,
-    flushes: u64,
-    takes_none: bool,
-) -> Sink {
+/// A writer that fails after so many writes or flushes.
+pub fn sink_of(rt: &impl AllocGlobal, writes: u64, flushes: u64, takes_none: bool) -> Sink {
     Sink {
         taken: Vec::new(rt.alloc()),
-        at_once,
         writes,
         flushes,
         takes_none,

@@ -33,7 +33,7 @@ fn assert_stops_at_writes(
 ) {
     let mut taken = 0;
     for writes in 0..NEVER.saturating_sub(whole.writes) {
-        let mut sink = sink_of(rt, whole.at_once, writes, NEVER, takes_none);
+        let mut sink = sink_of(rt, writes, NEVER, takes_none);
         assert!(rt; !ends_well(rt, work, &mut sink), "after {writes} writes");
         assert!(rt; whole.taken.starts_with(sink.taken.as_slice()));
         assert!(rt; sink.taken.len() > taken || writes == 0);
@@ -46,7 +46,7 @@ fn assert_stops_at_writes(
 fn assert_stops_at_flushes(rt: &(impl AllocGlobal + Abort), work: Work, whole: &Sink, count: u64) {
     assert_eq!(rt; NEVER.saturating_sub(whole.flushes), count);
     for flushes in 0..count {
-        let mut sink = sink_of(rt, whole.at_once, NEVER, flushes, false);
+        let mut sink = sink_of(rt, NEVER, flushes, false);
         assert!(rt; !ends_well(rt, work, &mut sink), "after {flushes} flushes");
         assert!(rt; whole.taken.starts_with(sink.taken.as_slice()));
         assert!(rt;
@@ -57,14 +57,8 @@ fn assert_stops_at_flushes(rt: &(impl AllocGlobal + Abort), work: Work, whole: &
 }
 
 /// Asserts that the work ends well over a sink that takes little, and stops at each write and each flush.
-fn assert_stops(
-    rt: &(impl AllocGlobal + Abort),
-    work: Work,
-    at_once: usize,
-    out: &[u8],
-    flushes: u64,
-) {
-    let mut whole = sink_of(rt, at_once, NEVER, NEVER, false);
+fn assert_stops(rt: &(impl AllocGlobal + Abort), work: Work, out: &[u8], flushes: u64) {
+    let mut whole = sink_of(rt, NEVER, NEVER, false);
     assert!(rt; ends_well(rt, work, &mut whole));
     assert!(rt; whole.taken.as_slice() == out);
     assert_stops_at_writes(rt, work, &whole, false);
@@ -77,14 +71,10 @@ fn assert_stops(
 fn run_write_fails(rt: HostRuntime) {
     let whole = run_of(&rt, MACHINE, TRACE);
     assert!(rt; whole.out.len() > 300);
-    for at_once in [1, 5] {
-        assert_stops(&rt, Work::Run, at_once, whole.out.as_slice(), 4);
-    }
+    assert_stops(&rt, Work::Run, whole.out.as_slice(), 4);
 }
 
 #[test]
 fn check_write_fails(rt: HostRuntime) {
-    for at_once in [1, 5] {
-        assert_stops(&rt, Work::Check, at_once, b"accepted\n", 1);
-    }
+    assert_stops(&rt, Work::Check, b"accepted\n", 1);
 }
