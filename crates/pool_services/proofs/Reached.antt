@@ -23,3 +23,6 @@ same-rooms rs es i x y a e h q =
 pub none-low : (address : ℕ) (es : List Extent) → address < 8 → AllByRecursion (λ e. ¬ HoldsAddress e address) es
 none-low address [] l = tt
 none-low address (e ∷ es) l = ((λ h. omega (arith, l, h.0)), none-low address es l)
+
+pub moved : (new old es : List Extent) → new ≡ old → old ≡ es → new ≡ es
+moved new old es e v = e ∙ v

@@ -1,5 +1,5 @@
 -- Words read as pairs, one pair after the other.
-use Rattle.std.proofs.Common.{◌≡◌, ℕ, ◌-◌, ◌%◌, ◌==◌, ◌<◌, ◌≤◌, false, List, [], ◌∷◌, ◌++◌, length, take, drop, map, Result, Ok, refl, append-nil, arith, Bor}
+use Rattle.std.proofs.Common.{◌≡◌, ℕ, ◌-◌, ◌%◌, ◌==◌, ◌<◌, ◌≤◌, false, List, [], ◌∷◌, ◌++◌, length, take, drop, map, Result, Ok, Err, refl, append-nil, arith, Bor}
 use Rattle.std.proofs.lemmas.List.{take_rest, length-map}
 use Rattle.text_lines.specs.FirstFault.{◌>>=◌}
 use Rattle.trace_lines.specs.declared.faults.TraceFault.{TraceFault}
@@ -26,6 +26,15 @@ opened (guid ∷ value ∷ words) h = refl
 pub pair_read : (words : List (Bor (List ℕ))) → 2 ≤ length words → (front : List (List ℕ × ℕ)) (g : List ℕ) (v : ℕ) → guid_of (at words 0) ≡ Ok g → u64_of (at words 1) ≡ Ok v →
     (more : List (List ℕ × ℕ)) → more ≡ front ++ (g, v) ∷ [] → with_front front (pairs_in words) ≡ with_front more (pairs_in (take (length words - 2) (drop 2 words)))
 pair_read words two front g v ge ve more m = rw (m, take_rest words 2, opened words two, ge, ve) (with_front-more front (g, v) (pairs_in (drop 2 words)))
+
+-- the first word is no GUID
+pub guid_refused : (words : List (Bor (List ℕ))) → 2 ≤ length words → (front : List (List ℕ × ℕ)) (fault : TraceFault) → guid_of (at words 0) ≡ Err fault → with_front front (pairs_in words) ≡ Err fault
+guid_refused words two front fault e = rw (opened words two, e) refl
+
+-- the second word is no number
+pub value_refused : (words : List (Bor (List ℕ))) → 2 ≤ length words → (front : List (List ℕ × ℕ)) (g : List ℕ) (fault : TraceFault) → guid_of (at words 0) ≡ Ok g → u64_of (at words 1) ≡ Err fault →
+    with_front front (pairs_in words) ≡ Err fault
+value_refused words two front g fault ge e = rw (opened words two, ge, e) refl
 
 -- no pair is left
 pub all_read : (words : List (Bor (List ℕ))) (front : List (List ℕ × ℕ)) → length words < 2 → with_front front (pairs_in words) ≡ Ok front

@@ -1,4 +1,4 @@
-use Rattle.std.proofs.Common.{◌≡◌, ◌++◌, List, ℕ, take, get_or, ap, sym, ◌∙◌, append_assoc, string_bytes}
+use Rattle.std.proofs.Common.{◌++◌, List, ℕ, take, get_or, ap, sym, ◌∙◌, append_assoc, string_bytes}
 use Rattle.std.specs.Fmt.{decimal}
 use Rattle.reply_texts.specs.ListTexts.{numbers_text, separator_at}
 use Rattle.reply_texts.proofs.JoinedTexts.{one_more}
