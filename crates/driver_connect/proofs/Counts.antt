@@ -1,6 +1,6 @@
 -- The counts of the open items along a connect: a start's items are new ones, so none is counted once more.
-use Rattle.std.proofs.Common.{◌≡◌, ℕ, zero, suc, ◌<◌, ◌≤◌, ◌==◌, true, false, Bool, List, [], ◌∷◌, length, inl, inr}
-use Rattle.std.specs.List.{list_any, list_all, AllByRecursion}
+use Rattle.std.proofs.Common.{◌≡◌, ℕ, zero, suc, ◌<◌, ◌≤◌, ◌==◌, true, false, List, [], ◌∷◌, length, inl, inr}
+use Rattle.std.specs.List.{list_any, AllByRecursion}
 use Rattle.std.proofs.lemmas.Bool.{cases_Bool}
 use Rattle.guid_handles.specs.HandleTables.{HandleTable}
 use Rattle.guid_handles.proofs.SortedLists.{all_push, any_none}
@@ -10,7 +10,7 @@ use Rattle.open_agents.specs.OpenRule.{has_holder}
 use Rattle.protocol_notify.specs.declared.notify.Registration.{Registration}
 use Rattle.driver_connect.specs.declared.agents.Agent.{Agent}
 use Rattle.driver_connect.specs.declared.view.ProtocolView.{ProtocolView}
-use Rattle.driver_connect.specs.Drivers.{Plan, protocols_on, is_free}
+use Rattle.driver_connect.specs.Drivers.{Plan, protocols_on}
 use Rattle.driver_connect.specs.Starting.{Site, Progress, site, has_twice, can_start, with_driver_items, carried_out, plan_for, is_supported, is_carried_out, after_turn, pass, passes, agents_for, starts_on}
 use Rattle.driver_connect.specs.Connecting.{made_after, for_each, connected}
 use Rattle.driver_connect.proofs.Opened.{AreToOpen, none_equal, next_opened}

@@ -1,11 +1,11 @@
 -- Passes start drivers one after the other, each when it is supported.
-use Rattle.std.proofs.Common.{◌≡◌, ℕ, zero, suc, ◌+◌, ◌<◌, ◌≤◌, ◌==◌, true, false, List, [], ◌∷◌, ◌++◌, length, inl, inr, refl, sym, ap, ◌∙◌, arith, length-append}
-use Rattle.std.specs.List.{filter, AllByRecursion}
+use Rattle.std.proofs.Common.{◌≡◌, ℕ, zero, suc, ◌+◌, ◌<◌, ◌≤◌, ◌==◌, true, false, List, [], ◌∷◌, ◌++◌, length, inl, inr, refl, sym, ap, ◌∙◌, arith}
+use Rattle.std.specs.List.{AllByRecursion}
 use Rattle.std.proofs.lemmas.Bool.{cases_Bool}
 use Rattle.std.proofs.lemmas.Bool.Decides.{eqb_tells}
 use Rattle.driver_connect.specs.declared.agents.Agent.{Agent}
 use Rattle.driver_connect.specs.declared.starting.Start.{Start}
-use Rattle.driver_connect.specs.Starting.{Site, Progress, Passed, is_supported, is_carried_out, started, after_turn, turn, starts_of, left_of, pass, passes, agents_for, starts_on}
+use Rattle.driver_connect.specs.Starting.{Site, Progress, Passed, is_supported, is_carried_out, started, pass, passes, agents_for, starts_on}
 use Rattle.driver_connect.specs.Turns.{after_starts, starts_in_turn, AreSupported, times, StartsInTurn}
 
 -- ---- starts, and more behind them
@@ -91,10 +91,6 @@ fewer c (a ∷ agents) p = elim (cases_Bool (is_supported c p a)) [
 ]
 
 -- ---- passes
-
-none_at_all : (agents : List Agent) → length agents ≤ 0 → agents ≡ []
-none_at_all [] l = refl
-none_at_all (a ∷ agents) l = absurd (omega arith)
 
 no_agents : (c : Site) (agents : List Agent) (p : Progress) → length agents ≤ 0 → AllByRecursion (λ a. is_supported c p a ≡ false) agents
 no_agents c [] p l = tt

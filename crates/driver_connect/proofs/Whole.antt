@@ -1,5 +1,5 @@
 -- What a start, the passes and a stop leave, from what their parts leave.
-use Rattle.std.proofs.Common.{◌≡◌, ℕ, ◌-◌, ◌≤◌, Bool, true, List, [], ◌++◌, map, length, Option, refl, sym, ap, ◌∙◌, append-nil, arith}
+use Rattle.std.proofs.Common.{◌≡◌, ℕ, ◌-◌, ◌≤◌, Bool, true, List, [], ◌++◌, Option, refl, sym, ap, ◌∙◌, append-nil, arith}
 use Rattle.guid_handles.specs.HandleTables.{HandleTable}
 use Rattle.open_agents.specs.declared.items.OpenRecord.{OpenRecord}
 use Rattle.open_agents.specs.OpenItems.{without_items}
