@@ -143,7 +143,7 @@ fn is_present(table: &RunTable, page: u64) -> bool
 fn are_present(table: &RunTable, range: PageRange) -> bool
     ensures { IsTrue result → AllInRange table.now range IsPresent }
 {
-    if range.first > 100 || range.pages > 100 {
+    if range.first > 10_000 || range.pages > 1_000 {
         return false;
     }
     for page in range.first..range.first + range.pages {
@@ -283,5 +283,87 @@ fn changes_are_those_of_the_pages(rt: HostRuntime) -> Result<(), AllocError> {
             assert_same(&rt, &table, list.as_slice())?;
         }
     }
+    Ok(())
+}
+
+fn large_machine() -> [Run; 1]
+    ensures runs { AreRuns result }
+    ensures proper { IsProperMemory (pages_of result) }
+{
+    [run(0, 4_096, 7, 0xf)]
+}
+
+// A drawn range, mostly of few pages.
+fn drawn_range(draw: u64) -> PageRange {
+    PageRange {
+        first: draw >> 30 & 4_095,
+        pages: match draw >> 44 & 1_023 {
+            0 => 300,
+            pages => pages % 4,
+        },
+    }
+}
+
+// Asserts what is answered of a page and of the page below it.
+fn assert_page(rt: &impl Abort, table: &RunTable, runs: &[Run], page: u64) {
+    let below = if page == 0 {
+        None
+    } else {
+        holding(runs, page - 1)
+    };
+    let found = holding(runs, page);
+    assert_eq!(rt; table.edge(page), (below, found), "at {page}");
+    let mut cursor = table.cursor();
+    assert_eq!(rt; cursor.run_at(page / 2), holding(runs, page / 2));
+    assert_eq!(rt; cursor.run_at(page), found);
+}
+
+// Asserts what is answered at the ends of a range, and now and then the whole lists.
+fn assert_changed(
+    rt: &(impl AllocGlobal + Abort),
+    table: &RunTable,
+    list: &[Run],
+    range: PageRange,
+) -> Result<(), AllocError> {
+    let runs = joined(rt.alloc(), list, true)?;
+    let entries = joined(rt.alloc(), list, false)?;
+    assert_eq!(rt; table.len(), runs.len());
+    assert_eq!(rt; table.descriptors(), entries.len());
+    let end = range.first.saturating_add(range.pages);
+    assert_page(rt, table, runs.as_slice(), range.first);
+    assert_page(rt, table, runs.as_slice(), end);
+    if range.first & 127 == 0 {
+        assert_lists(rt, table, runs.as_slice(), entries.as_slice());
+    }
+    Ok(())
+}
+
+// Changes a drawn range of the table and of the list, if all its pages are present.
+fn change_drawn(
+    rt: &(impl AllocGlobal + Abort),
+    table: &mut RunTable,
+    list: &mut [Run],
+    draw: u64,
+) -> Result<(), AllocError> {
+    let range = drawn_range(draw);
+    let (number, owner) = drawn_kind(draw >> 50);
+    if are_present(table, range) {
+        table.retype(range, MemoryType::new(number), owner)?;
+        change_list(list, range, number, owner);
+        assert_changed(rt, table, list, range)?;
+    }
+    Ok(())
+}
+
+#[test]
+fn changes_of_many_runs_are_those_of_the_pages(rt: HostRuntime) -> Result<(), AllocError> {
+    let mut draw = 2;
+    let mut table = RunTable::from_runs(rt.alloc(), &large_machine())?;
+    let mut list = listed(rt.alloc(), &large_machine())?;
+    for _change in 0..20_000 {
+        draw = next_draw(draw);
+        change_drawn(&rt, &mut table, list.as_mut_slice(), draw)?;
+    }
+    assert!(rt; table.len() > 500);
     Ok(())
 }
