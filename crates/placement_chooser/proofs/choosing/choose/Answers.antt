@@ -1,12 +1,14 @@
-use Rattle.std.proofs.Common.{◌≡◌, ◌∷◌, [], ◌++◌, length, Contains, refl, sym, ap, subst, ◌∙◌, append_assoc, rules, arith}
+use Rattle.std.proofs.Common.{◌≡◌, ◌∷◌, ◌+◌, [], ◌++◌, length, Contains, refl, sym, ap, subst, ◌∙◌, append_assoc, rules, arith}
+use Rattle.page_ranges.specs.Memory.{page_at, page_below}
 use Rattle.page_ranges.specs.MemoryMap.{memory_map}
 use Rattle.placement_certificate.specs.declared.certificates.Bound.{Bound}
 use Rattle.placement_certificate.specs.Certificates.{IsTrueBound, conventional_entries}
-use Rattle.placement_certificate.specs.Search.{IsBestOf}
+use Rattle.placement_certificate.specs.Search.{IsBestOf, IsOnPage}
 use Rattle.placement_certificate.proofs.BestBounds.{no_bound}
+use Rattle.placement_certificate.proofs.BlockStarts.{on_page}
 use Rattle.placement_certificate.proofs.Decided.{best_is}
 use Rattle.placement_certificate.proofs.Tries.{bound_more}
-use Rattle.placement_chooser.proofs.Entries.{zip_more, all_bounded, few_conventional}
+use Rattle.placement_chooser.proofs.Entries.{below_page, zip_more, all_bounded, few_conventional}
 use Rattle.placement_chooser.proofs.choosing.choose.Goals as goal
 
 pub loop-free-init : goal.loop-free-init
@@ -17,6 +19,16 @@ loop-free-init g c = record {
   stays = search rules;
   room = omega (arith, ap length c.free_entries-left.ensures.entries, few_conventional c.args.table.now, c.descriptors-entries.ensures.count, c.in_ok-bounds.ensures.len, c.in_ok-bounds.ensures.capacity);
 }
+
+pub least_beside-least-requires-clause-below : goal.least_beside-least-requires-clause-below
+least_beside-least-requires-clause-below g c =
+    let free = c.in-Some.free in
+    subst (λ m. IsOnPage free.below (page_below m free.entry.first)) (c.loop-free.invariant.memory ∙ sym c.loop-free.invariant.stays) (below_page c.loop-free.left.memory free.entry.first free.below c.in-Some.ensures.next.1.below)
+
+pub least_beside-least-requires-clause-above : goal.least_beside-least-requires-clause-above
+least_beside-least-requires-clause-above g c =
+    let free = c.in-Some.free in
+    subst (λ m. IsOnPage free.above (page_at m (free.entry.first + free.entry.pages))) (c.loop-free.invariant.memory ∙ sym c.loop-free.invariant.stays) (on_page c.loop-free.left.memory (free.entry.first + free.entry.pages) free.above c.in-Some.ensures.next.1.above)
 
 pub loop-free-preserved : goal.loop-free-preserved
 loop-free-preserved g c =
