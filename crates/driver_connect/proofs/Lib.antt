@@ -8,6 +8,7 @@ pub mod InTurn
 pub mod TriedOnce
 pub mod Whole
 pub mod StopSets
+pub mod NewPairs
 pub mod Left
 pub mod Idle
 pub mod Ready

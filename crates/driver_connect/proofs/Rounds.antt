@@ -11,7 +11,7 @@ with_pair-longer pairs p = elim (cases_Bool (has_pair pairs p)) [
   | inr e ↦ rw e (omega (arith, length-append pairs (p ∷ [])))
 ]
 
-with_pairs-longer : (pairs ps : List (ℕ × ℕ)) → length pairs ≤ length (with_pairs pairs ps)
+pub with_pairs-longer : (pairs ps : List (ℕ × ℕ)) → length pairs ≤ length (with_pairs pairs ps)
 with_pairs-longer pairs [] = omega arith
 with_pairs-longer pairs (p ∷ ps) = omega (arith, with_pair-longer pairs p, with_pairs-longer (with_pair pairs p) ps)
 

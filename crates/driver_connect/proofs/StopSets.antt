@@ -28,7 +28,7 @@ same_pair-true p q h = elim (eqb_tells p.0 q.0) [
   | inr a ↦ let k = rw a.0 at h in cc
 ]
 
-same_pair-refl : (p : ℕ × ℕ) → same_pair p p ≡ true
+pub same_pair-refl : (p : ℕ × ℕ) → same_pair p p ≡ true
 same_pair-refl p = elim (eqb_tells p.0 p.0) [
   | inl a ↦ elim (eqb_tells p.1 p.1) [
     | inl b ↦ rw a.0 (rw b.0 refl)

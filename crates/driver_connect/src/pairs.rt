@@ -1,5 +1,5 @@
 //! Pairs of a controller and the agent of a driver, and the stop set of some.
-ghost use Rattle.std.specs.Prelude.{◌≡◌, ◌+◌, ◌≤◌, IfOk, OnOk, length};
+ghost use Rattle.std.specs.Prelude.{◌≡◌, ◌+◌, ◌≤◌, IfOk, OnOk, length, drop, vec_len};
 ghost use Rattle.driver_connect.specs.Stopping as spec;
 
 use guid_handles::Handles;
@@ -101,20 +101,23 @@ fn managers_of_made<A: Allocator + Copy>(
     Ok(found)
 }
 
-/// Adds the managers of the handles that the pairs of a set made.
-fn add_round<A: Allocator + Copy>(
+/// Adds the managers of the handles that the pairs of a set from a place on made.
+fn add_managers<A: Allocator + Copy>(
     alloc: A,
     set: &mut Vec<(u64, u64), A>,
     handles: &Handles<A>,
     opens: &Opens<A>,
+    from: usize,
 ) -> Result<(), AllocError>
-    ensures { OnOk result (set.new.items ≡ spec.round handles.now opens.now set.old.items) }
+    requires { from ≤ vec_len set.old }
+    ensures { OnOk result (set.new.items ≡ spec.with_pairs set.old.items (spec.managers_of_made handles.now opens.now (drop from set.old.items))) }
 {
-    let managers = managers_of_made(alloc, handles, opens, set.as_slice())?;
+    let managers = managers_of_made(alloc, handles, opens, &set.as_slice()[from..])?;
     add_pairs(set, managers.as_slice())
 }
 
-/// Makes so many rounds, or as many as add something.
+/// Makes so many rounds, or as many as add something. Each asks only the pairs that the one before
+/// it added: the managers of what older pairs made are there.
 fn add_rounds<A: Allocator + Copy>(
     alloc: A,
     set: &mut Vec<(u64, u64), A>,
@@ -124,12 +127,14 @@ fn add_rounds<A: Allocator + Copy>(
 ) -> Result<(), AllocError>
     ensures { OnOk result (set.new.items ≡ spec.rounds count handles.now opens.now set.old.items) }
 {
+    let mut asked = 0;
     for k in 0..count {
         let before = set.len();
-        add_round(alloc, set, handles, opens)?;
+        add_managers(alloc, set, handles, opens, asked)?;
         if set.len() == before {
             return Ok(());
         }
+        asked = before;
     }
     Ok(())
 }

@@ -1,6 +1,10 @@
 use Rattle.std.proofs.Common.{◌≡◌, ◌-◌}
 use Rattle.driver_connect.specs.Stopping.{rounds}
+use Rattle.driver_connect.proofs.NewPairs.{AreAsked}
 use Rattle.driver_connect.proofs.pairs.add_rounds.Given as goal
 
 abbrev pub invariant-loop-k : goal.invariant-loop-k
-invariant-loop-k g l = rounds (l.count - l.k) l.handles l.opens l.set.items ≡ rounds l.count l.handles l.opens l.fn.set.items
+invariant-loop-k g l = record {
+  so_far : rounds (l.count - l.k) l.handles l.opens l.set.items ≡ rounds l.count l.handles l.opens l.fn.set.items;
+  older : AreAsked l.handles l.opens l.set.items l.asked;
+}
