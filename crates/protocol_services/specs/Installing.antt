@@ -34,7 +34,7 @@ unless_path true refusal = Some AlreadyStarted
 abbrev pub many_refusal : Lists → ℕ → List (List ℕ × ℕ) → Bool → Option Status
 many_refusal l handle pairs has_path = unless_path has_path (install_many_refusal l.handles handle pairs)
 
--- What RegisterProtocolNotify answers, and the lists after it: a key, or OUT_OF_RESOURCES for want of memory.
+-- What RegisterProtocolNotify answers, and the lists after it: a key, or OUT_OF_RESOURCES where memory runs out.
 abbrev pub Registers : Lists → List ℕ → ℕ → Result ℕ Status → Lists → Type 0
 Registers l guid event (Ok key) new = (key ≡ length l.registrations + 1) × (new ≡ record l { registrations = with_registration l.handles guid event l.registrations })
 Registers l guid event (Err OutOfResources) new = new ≡ l
