@@ -10,12 +10,23 @@ use Rattle.page_ranges.specs.Runs.{AreRuns}
 use Rattle.page_ranges.proofs.Members.{all_append, all_append_left, all_append_right}
 use Rattle.page_ranges.proofs.RunLists.{runs-left, runs-right}
 use Rattle.descriptor_table.specs.Tables.{IsWindow}
-use Rattle.descriptor_table.specs.Leaves.{first_page, runs_in, IsLeaf, AreLeaves, AreLeavesNear}
+use Rattle.descriptor_table.specs.Leaves.{first_page, runs_in, entry_count, IsLeaf, AreLeaves, AreLeavesNear, GrowsBy}
 use Rattle.descriptor_table.proofs.LeafLists.{runs_in-append, leaves_taken, leaves_dropped}
 use Rattle.descriptor_table.proofs.Splices.{AreCut, three_parts}
 
 regroup : (p a b c s : List Run) → p ++ ((a ++ (b ++ c)) ++ s) ≡ (p ++ a) ++ (b ++ (c ++ s))
 regroup p a b c s = simp append_assoc
+
+regroup_more : (p a b c s : List Run) → (p ++ (a ++ (b ++ c))) ++ s ≡ (p ++ a) ++ (b ++ (c ++ s))
+regroup_more p a b c s = simp append_assoc
+
+taken_to : (ls : List (List Run)) (from to n : ℕ) → from + n ≡ to → take to ls ≡ take from ls ++ take n (drop from ls)
+taken_to ls zero to n e = let k : to ≡ n = omega arith in ap (λ j. take j ls) k
+taken_to [] (suc from) zero n e = absurd (omega arith)
+taken_to [] (suc from) (suc to) zero e = refl
+taken_to [] (suc from) (suc to) (suc n) e = refl
+taken_to (l ∷ ls) (suc from) zero n e = absurd (omega arith)
+taken_to (l ∷ ls) (suc from) (suc to) n e = ap (λ ms. l ∷ ms) (taken_to ls from to n (omega arith))
 
 module _ (ls : List (List Run)) (from to : ℕ) where
   abbrev pub some_leaves : List (List Run)
@@ -48,6 +59,20 @@ module _ (ls : List (List Run)) (from to : ℕ) where
     }
 
     -- parts in the place of a window of them
+    pub put_is : (low high : ℕ) (parts : List Run) → runs_in (take from ls) ++ ((take low rs ++ (parts ++ drop high rs)) ++ runs_in (drop to ls)) ≡ all_before low ++ (parts ++ all_behind high)
+    put_is low high parts = regroup (runs_in (take from ls)) (take low rs) parts (drop high rs) (runs_in (drop to ls))
+
+    -- the map up to any run behind the leaves grows as it does with the window
+    pub put_grows : (low high : ℕ) (parts : List Run) (less more : ℕ) → low ≤ high
+        → ((m k : List Run) → all_behind high ≡ m ++ k → entry_count (all_before low ++ (parts ++ m)) + less ≡ entry_count (all_before low ++ (take (high - low) (drop low rs) ++ m)) + more)
+        → GrowsBy (runs_in (take to ls)) (runs_in (take from ls) ++ (take low rs ++ (parts ++ drop high rs))) (runs_in (drop to ls)) less more
+    put_grows low high parts less more h g m n e =
+        let here : runs_in (take to ls) ≡ runs_in (take from ls) ++ (take low rs ++ (take (high - low) (drop low rs) ++ drop high rs)) =
+        ap runs_in (taken_to ls from to (to - from) (omega (arith, near.order))) ∙ runs_in-append (take from ls) some_leaves ∙ ap (λ xs. runs_in (take from ls) ++ xs) (sym same ∙ three_parts rs low high h) in
+        ap (λ xs. entry_count xs + less) (regroup_more (runs_in (take from ls)) (take low rs) parts (drop high rs) m)
+        ∙ g (drop high rs ++ m) n (ap (λ xs. drop high rs ++ xs) e ∙ sym (append_assoc (drop high rs) m n))
+        ∙ ap (λ xs. entry_count xs + more) (sym (ap (λ xs. xs ++ m) here ∙ regroup_more (runs_in (take from ls)) (take low rs) (take (high - low) (drop low rs)) (drop high rs) m))
+
     pub put_regroup : (low high : ℕ) (parts : List Run) (new : List (List Run)) → runs_in new ≡ runs_in (take from ls) ++ ((take low rs ++ (parts ++ drop high rs)) ++ runs_in (drop to ls)) → runs_in new ≡ all_before low ++ (parts ++ all_behind high)
     put_regroup low high parts new e = e ∙ regroup (runs_in (take from ls)) (take low rs) parts (drop high rs) (runs_in (drop to ls))
 

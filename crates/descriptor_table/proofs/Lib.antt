@@ -13,3 +13,6 @@ pub mod FreeRuns
 pub mod LeafLists
 pub mod Places
 pub mod LeafSplices
+pub mod Tallied
+pub mod Begun
+pub mod LaterEntries

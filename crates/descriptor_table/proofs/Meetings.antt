@@ -1,12 +1,12 @@
 -- Two lists of runs one behind the other: whether the last run of the first goes on in the first run of the second.
-use Rattle.std.proofs.Common.{◌≡◌, ℕ, ◌+◌, ◌≤◌, Bool, true, false, cond, List, [], ◌∷◌, ◌++◌, length, refl, sym, ap, ◌∙◌, arith}
+use Rattle.std.proofs.Common.{◌≡◌, ℕ, ◌+◌, ◌≤◌, Bool, true, false, cond, List, [], ◌∷◌, ◌++◌, refl, sym, ap, ◌∙◌, arith}
 use Rattle.std.specs.List.{AllByRecursion}
 use Rattle.page_ranges.specs.declared.ranges.Run.{Run}
-use Rattle.page_ranges.specs.MemoryMap.{memory_map}
-use Rattle.page_ranges.specs.Runs.{pages_of, should_be_one_run, IsApartRun, AreRuns, AreMaximalRuns}
+use Rattle.page_ranges.specs.Runs.{should_be_one_run, IsApartRun, AreRuns, AreMaximalRuns}
 use Rattle.page_ranges.proofs.Members.{all_implied, all_append, all_append_left}
 use Rattle.page_ranges.proofs.RunMaps.{runs_join, length_of_last, length_of_runs}
 use Rattle.descriptor_table.specs.Tables.{EndBy}
+use Rattle.descriptor_table.specs.Leaves.{entry_count}
 
 -- the last of a run and the runs behind it
 abbrev pub last_run : Run → List Run → Run
@@ -19,7 +19,7 @@ meet test [] ys = false
 meet test (x ∷ xs) [] = false
 meet test (x ∷ xs) (y ∷ ys) = test (last_run x xs) y
 
-meet-rest : (test : Run → Run → Bool) (x y : Run) (xs zs : List Run) → meet test (x ∷ y ∷ xs) zs ≡ meet test (y ∷ xs) zs
+pub meet-rest : (test : Run → Run → Bool) (x y : Run) (xs zs : List Run) → meet test (x ∷ y ∷ xs) zs ≡ meet test (y ∷ xs) zs
 meet-rest test x y xs [] = refl
 meet-rest test x y xs (z ∷ zs) = refl
 
@@ -60,9 +60,6 @@ maximal-append n (x ∷ y ∷ xs) ys a e b f m =
     (a.0, all_append (λ s. x.range.first + x.range.pages ≤ s.range.first) (y ∷ xs) ys a.1 (all_implied (λ s. n ≤ s.range.first) (λ s. x.range.first + x.range.pages ≤ s.range.first) (λ s h. omega (arith, e.0)) ys f), a.2, maximal-append n (y ∷ xs) ys a.3 e.1 b f (sym (meet-rest should_be_one_run x y xs ys) ∙ m))
 
 -- ---- entries of the map
-
-abbrev pub entry_count : List Run → ℕ
-entry_count rs = length (memory_map (pages_of rs))
 
 abbrev pub one_if : Bool → ℕ
 one_if joins = cond joins 1 0

@@ -14,7 +14,8 @@ use Rattle.page_ranges.proofs.Rows.{length-row}
 use Rattle.page_ranges.proofs.RunMaps.{runs_join}
 use Rattle.page_ranges.proofs.MaximalRuns.{maximal_are_runs}
 use Rattle.descriptor_table.specs.Tables.{EndBy}
-use Rattle.descriptor_table.proofs.Meetings.{meet, meet-append, maximal-left, maximal-right, maximal-meet, maximal-append, one_if, entry_count, count-append, last_run}
+use Rattle.descriptor_table.specs.Leaves.{entry_count}
+use Rattle.descriptor_table.proofs.Meetings.{meet, meet-append, maximal-left, maximal-right, maximal-meet, maximal-append, one_if, count-append, last_run}
 use Rattle.descriptor_table.proofs.Ends.{last_end, same_first, same_last, joins_first, one_with_first, last_joins, last_one_with}
 
 last_below : (n : ℕ) (x : Run) (xs : List Run) → AllByRecursion (λ r. r.range.first + r.range.pages < n) (x ∷ xs) → (last_run x xs).range.first + (last_run x xs).range.pages < n

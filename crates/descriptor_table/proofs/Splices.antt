@@ -1,6 +1,6 @@
 -- A window of a table's runs whose runs are replaced by the same pages, retyped.
 use Rattle.std.specs.List.{AllByRecursion}
-use Rattle.std.proofs.Common.{◌≡◌, ℕ, ◌+◌, ◌-◌, ◌<◌, ◌≤◌, List, [], ◌∷◌, ◌++◌, take, drop, Option, Some, None, inl, inr, refl, sym, ap, ap₂, subst, ◌∙◌, arith}
+use Rattle.std.proofs.Common.{◌≡◌, ℕ, ◌+◌, ◌-◌, ◌<◌, ◌≤◌, List, [], ◌∷◌, ◌++◌, take, drop, Option, Some, None, inl, inr, refl, sym, ap, ap₂, subst, ◌∙◌, append_assoc, arith}
 use Rattle.std.proofs.lemmas.Bool.{cases_lt}
 use Rattle.std.proofs.lemmas.List.{take-append-drop, drop-drop}
 use Rattle.page_ranges.specs.declared.ranges.Owner.{Owner}
@@ -16,7 +16,8 @@ use Rattle.page_ranges.proofs.Retyped.{changed, changed_below, changed_above, re
 use Rattle.page_ranges.proofs.RunLists.{pages_of-append, page_at-below_runs, retyped-all_above, retyped-all_below}
 use Rattle.page_ranges.proofs.MaximalRuns.{maximal_are_runs}
 use Rattle.descriptor_table.specs.Tables.{EndBy, IsTable}
-use Rattle.descriptor_table.proofs.Meetings.{maximal-left, maximal-right, entry_count}
+use Rattle.descriptor_table.specs.Leaves.{entry_count}
+use Rattle.descriptor_table.proofs.Meetings.{maximal-left, maximal-right}
 use Rattle.descriptor_table.proofs.Ends.{page_at-past_all}
 use Rattle.descriptor_table.proofs.Replaced.{IsReplacement, replaced}
 use Rattle.descriptor_table.proofs.TableFacts.{proper_ends, table_runs}
@@ -114,6 +115,20 @@ module _ (rs : List Run) (n : ℕ) (range : PageRange) (t : ℕ) (o : Owner) (ta
     pub new_count : entry_count new + entry_count old ≡ n + entry_count parts
     new_count = omega (arith, replacement.count, table.entries, ap entry_count w.parts)
 
+    pub new_runs : AreRuns new
+    new_runs = maximal_are_runs new replacement.maximal
+
+    pub new_ends : (t ≡ conventional → o ≡ Given) → EndBy page_count new
+    new_ends own = proper_ends new new_runs (subst IsProperMemory (sym new_pages) (retyped-proper range t o own (pages_of rs) table.proper))
+
+    -- the map of all up to any run behind the window has as many entries more as that of the window
+    pub window_grows : (m k : List Run) → behind_runs ≡ m ++ k → entry_count (before_runs ++ (parts ++ m)) + entry_count old ≡ entry_count (before_runs ++ (old ++ m)) + entry_count parts
+    window_grows m k e =
+        let cut : before_runs ++ (old ++ (m ++ k)) ≡ (before_runs ++ (old ++ m)) ++ k = simp append_assoc in
+        let all = subst AreMaximalRuns (ap (λ xs. before_runs ++ (old ++ xs)) e ∙ cut) maximal_parts in
+        let above = all_append_left (λ r. range.first + range.pages < r.range.first) m k (subst (AllByRecursion (λ r. range.first + range.pages < r.range.first)) e w.above) in
+        (replaced range t o before_runs m w.below above old parts some_old (maximal-left (before_runs ++ (old ++ m)) k all) maximal pages).count
+
     pub new_table : (t ≡ conventional → o ≡ Given) → (k : ℕ) → k ≡ n + entry_count parts - entry_count old → IsTable new k
     new_table own k e = record {
       maximal = replacement.maximal;
@@ -125,10 +140,7 @@ module _ (rs : List Run) (n : ℕ) (range : PageRange) (t : ℕ) (o : Owner) (ta
     parts_runs = maximal_are_runs parts maximal
 
     pub parts_ends : (t ≡ conventional → o ≡ Given) → EndBy page_count parts
-    parts_ends own =
-        let proper = subst IsProperMemory (sym new_pages) (retyped-proper range t o own (pages_of rs) table.proper) in
-        let ends = proper_ends new (maximal_are_runs new replacement.maximal) proper in
-        all_append_left (λ r. r.range.first + r.range.pages ≤ page_count) parts behind_runs (all_append_right (λ r. r.range.first + r.range.pages ≤ page_count) before_runs (parts ++ behind_runs) ends)
+    parts_ends own = all_append_left (λ r. r.range.first + r.range.pages ≤ page_count) parts behind_runs (all_append_right (λ r. r.range.first + r.range.pages ≤ page_count) before_runs (parts ++ behind_runs) (new_ends own))
 
 -- ---- an empty range
 

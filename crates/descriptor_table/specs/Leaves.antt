@@ -1,8 +1,10 @@
 -- Runs in leaves.
-use Rattle.std.specs.Prelude.{◌≡◌, ℕ, ◌+◌, ◌<◌, ◌≤◌, zero, suc, List, [], ◌∷◌, Option, Some, None, length, take, drop, slice_get, flat_map}
+use Rattle.std.specs.Prelude.{◌≡◌, ℕ, ◌+◌, ◌<◌, ◌≤◌, zero, suc, List, [], ◌∷◌, ◌++◌, Option, Some, None, length, take, drop, slice_get, flat_map}
 use Rattle.std.specs.List.{AllByRecursion}
 use Rattle.page_ranges.specs.declared.ranges.PageRange.{PageRange}
 use Rattle.page_ranges.specs.declared.ranges.Run.{Run}
+use Rattle.page_ranges.specs.MemoryMap.{memory_map}
+use Rattle.page_ranges.specs.Runs.{pages_of}
 use Rattle.descriptor_table.specs.Tables.{IsTable}
 
 -- the first page of the first run
@@ -21,10 +23,32 @@ IsLeaf l = (0 < length l) × (length l ≤ 32)
 abbrev pub AreLeaves : List (List Run) → Type 0
 AreLeaves ls = AllByRecursion IsLeaf ls
 
--- A table in leaves, and the number of entries of its map.
-pub record IsLeafTable (ls : List (List Run)) (count : ℕ) : Type 0 where
+-- how many entries the map of runs has
+abbrev pub entry_count : List Run → ℕ
+entry_count rs = length (memory_map (pages_of rs))
+
+-- So many entries begin in each of some leaves that come behind runs: by so many the map grows with the leaf.
+abbrev pub BeginIn : List Run → List (List Run) → List ℕ → Type 0
+BeginIn rs [] [] = Unit {0}
+BeginIn rs [] (n ∷ ns) = ⊥
+BeginIn rs (l ∷ ls) [] = ⊥
+BeginIn rs (l ∷ ls) (n ∷ ns) = (entry_count (rs ++ l) ≡ entry_count rs + n) × BeginIn (rs ++ l) ls ns
+
+-- Runs give way to others: the map of the others, and of any runs that come behind, has so many entries less and so many more.
+abbrev pub GrowsBy : List Run → List Run → List Run → ℕ → ℕ → Type 0
+GrowsBy old new behind less more = (m n : List Run) → behind ≡ m ++ n → entry_count (new ++ m) + less ≡ entry_count (old ++ m) + more
+
+-- A table in leaves, the number of entries of its map, and how many of them begin in each leaf.
+pub record IsLeafTable (ls : List (List Run)) (count : ℕ) (ns : List ℕ) : Type 0 where
   pub table : IsTable (runs_in ls) count
   pub leaves : AreLeaves ls
+  pub begun : BeginIn [] ls ns
+
+-- The last of some runs. They are none only where there are no runs at all.
+pub record AreLast (rs last : List Run) : Type 0 where
+  pub others : List Run
+  pub parts : rs ≡ others ++ last
+  pub some : length last ≡ 0 → others ≡ []
 
 -- Between two indices are all leaves with a run that shares a page with a range or touches it.
 pub record AreLeavesNear (ls : List (List Run)) (range : PageRange) (low high : ℕ) : Type 0 where

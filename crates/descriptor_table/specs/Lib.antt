@@ -2,3 +2,4 @@ pub mod Tables
 pub mod PageTests
 pub mod FreeLists
 pub mod Leaves
+pub mod Tallies

@@ -1,12 +1,13 @@
 //! The memory map of runs: owners do not split its entries.
-ghost use Rattle.std.specs.Prelude.{◌≡◌, ◌+◌, ◌-◌, ◌<◌, ◌≤◌, ◌^◌, ◌∷◌, length};
+ghost use Rattle.std.specs.Prelude.{◌≡◌, ◌+◌, ◌-◌, ◌<◌, ◌≤◌, ◌^◌, ◌∷◌, length, take, drop};
 ghost use Rattle.std.specs.Iterator.{YieldsFirst, item_count};
 ghost use Rattle.page_ranges.specs.MemoryTypes.{page_count};
 ghost use Rattle.page_ranges.specs.MemoryMap.{memory_map, should_be_one};
 ghost use Rattle.page_ranges.specs.Runs.{pages_of, AreRuns};
-ghost use Rattle.descriptor_table.specs.Leaves.{runs_in, AreLeaves};
+ghost use Rattle.descriptor_table.specs.Leaves.{runs_in, entry_count, AreLeaves};
 ghost use Rattle.descriptor_table.specs.Tables.{entry_of, EndBy};
 
+use crate::beginnings::runs_before;
 use crate::leaves::Leaf;
 use crate::walks::Walk;
 use page_ranges::{Descriptor, Run};
@@ -14,7 +15,7 @@ use std::alloc::{Allocator, Global};
 use std::marker::Model;
 
 /// The second run goes on in the first one's entry of the map.
-fn goes_on(run: &Run, next: &Run) -> bool
+pub(crate) fn goes_on(run: &Run, next: &Run) -> bool
     requires { run.now.range.first + run.now.range.pages < 2 ^ 64 }
     ensures { result ≡ should_be_one (entry_of run.now) (entry_of next.now) }
 {
@@ -70,6 +71,22 @@ impl<'a, A: Allocator + Copy> MapEntries<'a, A> {
         MapEntries {
             walk: Walk::new(leaves),
         }
+    }
+
+    /// The entries that begin in the leaves from an index on.
+    pub(crate) fn from_leaf(leaves: &'a [Leaf<A>], index: usize) -> MapEntries<'a, A>
+        requires leaves { AreLeaves leaves.now }
+        requires runs { AreRuns (runs_in leaves.now) }
+        requires ends { EndBy page_count (runs_in leaves.now) }
+        requires bound { index ≤ length leaves.now }
+        ensures { result ≡ drop (entry_count (runs_in (take index leaves.now))) (memory_map (pages_of (runs_in leaves.now))) }
+    {
+        let mut walk = Walk::new(&leaves[index..]);
+        let Some(last) = runs_before(leaves, index).last() else {
+            return MapEntries { walk };
+        };
+        let _ = end_of_entry(last, &mut walk);
+        MapEntries { walk }
     }
 }
 

@@ -1,6 +1,7 @@
 //! The memory of a machine as a sorted table of runs.
 #![tactic(auto)]
 
+mod beginnings;
 mod cursors;
 mod cuts;
 mod entries;
@@ -10,6 +11,7 @@ mod leaves;
 mod retyping;
 mod searches;
 mod table;
+mod tallies;
 mod walks;
 
 pub use cursors::RunCursor;

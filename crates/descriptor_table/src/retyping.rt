@@ -1,17 +1,19 @@
 //! A range of a table that gets a type and an owner.
-ghost use Rattle.std.specs.Prelude.{◌≡◌, ◌+◌, ◌-◌, ◌<◌, ◌≤◌, ◌++◌, length, take, drop, IfOk, OnErr};
+ghost use Rattle.std.specs.Prelude.{◌≡◌, ◌+◌, ◌-◌, ◌<◌, ◌≤◌, ◌^◌, ◌++◌, [], length, take, drop, IfOk, OnErr};
 ghost use Rattle.page_ranges.specs.declared.ranges.Owner.TheVariants.{Given};
 ghost use Rattle.page_ranges.specs.MemoryTypes.{conventional, page_count};
 ghost use Rattle.page_ranges.specs.Memory.{IsPresent, AllInRange, retyped};
 ghost use Rattle.page_ranges.specs.Runs.{pages_of, AreRuns};
-ghost use Rattle.descriptor_table.specs.Leaves.{runs_in, AreLeaves, AreLeavesNear, IsLeafTable};
-ghost use Rattle.descriptor_table.specs.Tables.{IsWindow};
+ghost use Rattle.descriptor_table.specs.Leaves.{runs_in, AreLeaves, AreLeavesNear, BeginIn, GrowsBy, IsLeafTable};
+ghost use Rattle.descriptor_table.specs.Tables.{EndBy, IsWindow};
 
+use crate::beginnings::{begun_in, runs_before};
 use crate::cuts::retyped_runs;
 use crate::entries::count_entries;
 use crate::leaf_searches::{count_leaves_below, count_leaves_by};
 use crate::leaves::{LEAF_SIZE, Leaf, leaves_of, runs_of_leaves};
 use crate::searches::{count_beginning_by, count_ending_below};
+use crate::tallies::Tally;
 use page_ranges::{MemoryType, Owner, PageRange, Run};
 use std::alloc::{AllocError, Allocator};
 
@@ -65,34 +67,50 @@ fn leaves_near<A: Allocator + Copy>(leaves: &[Leaf<A>], range: PageRange) -> (us
 }
 
 /// Puts runs in the place of some of those in leaves next to each other, which are `runs`: in the leaf
-/// itself where there is one and they fit it, and else in new leaves. On an `Err` the leaves are as
-/// they were.
+/// itself where there is one and they fit it, and else in new leaves. The map of the runs that go has
+/// so many entries, and that of those that come. On an `Err` the leaves are as they were.
 fn put_parts<A: Allocator + Copy>(
     leaves: &mut Vec<Leaf<A>, A>,
-    from: usize,
-    to: usize,
+    begun: &mut Tally<A>,
+    near: (usize, usize),
     mut runs: Vec<Run, A>,
-    low: usize,
-    high: usize,
+    window: (usize, usize),
     parts: Vec<Run, A>,
+    entries: (usize, usize),
 ) -> Result<(), AllocError>
     requires leaves { AreLeaves leaves.old.items }
-    requires some { (from ≤ to) × (to ≤ length leaves.old.items) }
-    requires runs { runs.items ≡ runs_in (take (to - from) (drop from leaves.old.items)) }
-    requires window { (low ≤ high) × (high ≤ length runs.items) }
+    requires some { (near.0 ≤ near.1) × (near.1 ≤ length leaves.old.items) }
+    requires runs { runs.items ≡ runs_in (take (near.1 - near.0) (drop near.0 leaves.old.items)) }
+    requires window { (window.0 ≤ window.1) × (window.1 ≤ length runs.items) }
+    requires begun { BeginIn [] leaves.old.items begun.old }
+    requires grows { GrowsBy (runs_in (take near.1 leaves.old.items)) (runs_in (take near.0 leaves.old.items) ++ (take window.0 runs.items ++ (parts.items ++ drop window.1 runs.items))) (runs_in (drop near.1 leaves.old.items)) entries.0 entries.1 }
+    requires few { entries.1 < 2 ^ 63 }
+    requires order { AreRuns (runs_in (take near.0 leaves.old.items) ++ ((take window.0 runs.items ++ (parts.items ++ drop window.1 runs.items)) ++ runs_in (drop near.1 leaves.old.items))) }
+    requires ends { EndBy page_count (runs_in (take near.0 leaves.old.items) ++ ((take window.0 runs.items ++ (parts.items ++ drop window.1 runs.items)) ++ runs_in (drop near.1 leaves.old.items))) }
     ensures leaves { IfOk result (λ _. AreLeaves leaves.new.items) }
-    ensures runs { IfOk result (λ _. runs_in leaves.new.items ≡ runs_in (take from leaves.old.items) ++ ((take low runs.items ++ (parts.items ++ drop high runs.items)) ++ runs_in (drop to leaves.old.items))) }
-    ensures err { OnErr result (leaves.new.items ≡ leaves.old.items) }
+    ensures runs { IfOk result (λ _. runs_in leaves.new.items ≡ runs_in (take near.0 leaves.old.items) ++ ((take window.0 runs.items ++ (parts.items ++ drop window.1 runs.items)) ++ runs_in (drop near.1 leaves.old.items))) }
+    ensures begun { IfOk result (λ _. BeginIn [] leaves.new.items begun.new) }
+    ensures err { OnErr result ((leaves.new.items ≡ leaves.old.items) × (begun.new ≡ begun.old)) }
 {
+    let (from, to) = near;
+    let (low, high) = window;
     let count = runs.len() - (high - low) + parts.len();
     if to - from == 1 && !parts.is_empty() && count <= LEAF_SIZE {
         leaves[from].replace(low, high, parts)?;
+        begun.change(from, entries.0, entries.1);
         return Ok(());
     }
     let alloc = *leaves.allocator();
     let _replaced = runs.splice(low..high, parts)?;
     let new_leaves = leaves_of(alloc, runs.as_slice())?;
+    let part = begun_in(
+        alloc,
+        runs_before(leaves.as_slice(), from),
+        new_leaves.as_slice(),
+    )?;
+    let new_begun = begun.with_part(alloc, from, to, part.as_slice())?;
     let _given_up = leaves.splice(from..to, new_leaves)?;
+    *begun = new_begun;
     Ok(())
 }
 
@@ -100,27 +118,36 @@ fn put_parts<A: Allocator + Copy>(
 /// All room is taken before the leaves change.
 pub(crate) fn retype_runs<A: Allocator + Copy>(
     leaves: &mut Vec<Leaf<A>, A>,
+    begun: &mut Tally<A>,
     entries: usize,
     range: PageRange,
     mtype: MemoryType,
     owner: Owner,
 ) -> Result<usize, AllocError>
-    requires table { IsLeafTable leaves.old.items entries }
+    requires table { IsLeafTable leaves.old.items entries begun.old }
     requires some { 0 < range.pages }
     requires present { AllInRange (pages_of (runs_in leaves.old.items)) range IsPresent }
     requires owner { mtype ≡ conventional → owner ≡ Given }
-    ensures table { IfOk result (λ n. IsLeafTable leaves.new.items n) }
+    ensures table { IfOk result (λ n. IsLeafTable leaves.new.items n begun.new) }
     ensures pages { IfOk result (λ n. pages_of (runs_in leaves.new.items) ≡ retyped range mtype owner (pages_of (runs_in leaves.old.items))) }
-    ensures err { OnErr result (leaves.new.items ≡ leaves.old.items) }
+    ensures err { OnErr result ((leaves.new.items ≡ leaves.old.items) × (begun.new ≡ begun.old)) }
 {
     let alloc = *leaves.allocator();
-    let (from, to) = leaves_near(leaves.as_slice(), range);
-    let runs = runs_of_leaves(alloc, &leaves[from..to])?;
-    let (low, high) = window_of(runs.as_slice(), range);
-    let old = &runs[low..high];
+    let near = leaves_near(leaves.as_slice(), range);
+    let runs = runs_of_leaves(alloc, &leaves[near.0..near.1])?;
+    let window = window_of(runs.as_slice(), range);
+    let old = &runs[window.0..window.1];
     let old_entries = count_entries(old);
     let parts = retyped_runs(alloc, old, range, mtype, owner)?;
     let new_entries = count_entries(parts.as_slice());
-    put_parts(leaves, from, to, runs, low, high, parts)?;
+    put_parts(
+        leaves,
+        begun,
+        near,
+        runs,
+        window,
+        parts,
+        (old_entries, new_entries),
+    )?;
     Ok(entries + new_entries - old_entries)
 }

@@ -8,6 +8,7 @@ ghost use Rattle.page_ranges.specs.MemoryMap.{memory_map};
 ghost use Rattle.page_ranges.specs.Runs.{page_in, pages_of, runs_of, AreRuns};
 ghost use Rattle.descriptor_table.specs.Tables.{HoldsPage};
 
+use crate::beginnings::begun_in;
 use crate::cursors::RunCursor;
 use crate::cuts::push_joined;
 use crate::entries::{MapEntries, count_entries};
@@ -16,6 +17,7 @@ use crate::leaf_searches::{all_in_range, count_runs, run_at_index, run_in_leaves
 use crate::leaves::{Leaf, leaves_of};
 use crate::retyping::retype_runs;
 use crate::searches::PageTest;
+use crate::tallies::Tally;
 use page_ranges::{Descriptor, MemoryType, Owner, PageRange, Run};
 use std::alloc::{AllocError, Allocator, Global};
 use std::marker::Model;
@@ -25,7 +27,8 @@ use std::marker::Model;
 #[derive(Drop)]
 pub struct RunTable<A: Allocator = Global> {
     leaves: Vec<Leaf<A>, A>,
-    // How many entries the memory map has.
+    // How many entries of the memory map begin in each leaf, and how many it has.
+    begun: Tally<A>,
     entries: usize,
 }
 
@@ -39,7 +42,7 @@ impl<A: Allocator> Model for RunTable<A> {
 
     ghost view = { λ t. pages_of (runs_in t.leaves.items) };
 
-    ghost invariant = { λ t. IsLeafTable t.leaves.items t.entries };
+    ghost invariant = { λ t. IsLeafTable t.leaves.items t.entries t.begun };
 }
 
 impl<A: Allocator + Copy> RunTable<A> {
@@ -55,7 +58,12 @@ impl<A: Allocator + Copy> RunTable<A> {
         }
         let entries = count_entries(joined.as_slice());
         let leaves = leaves_of(alloc, joined.as_slice())?;
-        Ok(RunTable { leaves, entries })
+        let begun = Tally::new(alloc, begun_in(alloc, &[], leaves.as_slice())?)?;
+        Ok(RunTable {
+            leaves,
+            begun,
+            entries,
+        })
     }
 
     /// The allocator that the table takes its memory from.
@@ -77,7 +85,14 @@ impl<A: Allocator + Copy> RunTable<A> {
         ensures err { OnErr result (self.new ≡ self.old) }
     {
         if range.pages > 0 {
-            self.entries = retype_runs(&mut self.leaves, self.entries, range, mtype, owner)?;
+            self.entries = retype_runs(
+                &mut self.leaves,
+                &mut self.begun,
+                self.entries,
+                range,
+                mtype,
+                owner,
+            )?;
         }
         Ok(())
     }
@@ -160,7 +175,8 @@ impl<A: Allocator + Copy> RunTable<A> {
     pub fn descriptor(&self, index: usize) -> Option<Descriptor>
         ensures { result ≡ slice_get (memory_map self.now) index }
     {
-        self.map_entries().nth(index)
+        let (count, left) = self.begun.find(index);
+        MapEntries::from_leaf(self.leaves.as_slice(), count).nth(left)
     }
 
     /// The entries of the memory map.

@@ -1,32 +1,35 @@
-use Rattle.std.proofs.Common.{◌+◌, ◌-◌, take, drop, arith}
+use Rattle.std.proofs.Common.{◌+◌, ◌-◌, take, drop, sym, subst, arith}
+use Rattle.page_ranges.specs.MemoryTypes.{page_count}
+use Rattle.page_ranges.specs.Runs.{AreRuns}
+use Rattle.descriptor_table.specs.Tables.{EndBy}
 use Rattle.descriptor_table.specs.Leaves.{runs_in}
-use Rattle.descriptor_table.proofs.LeafSplices.{middle_runs, all_before, all_behind, cut_in_leaves, put_regroup}
-use Rattle.descriptor_table.proofs.Splices.{new_pages, new_count, new_table, old_runs, old_ends, parts_ends, present_within}
+use Rattle.descriptor_table.proofs.LeafSplices.{middle_runs, all_before, all_behind, cut_in_leaves, put_regroup, put_is, put_grows}
+use Rattle.descriptor_table.proofs.Splices.{new_pages, new_count, new_table, new_runs, new_ends, window_grows, old_runs, old_ends, parts_ends, present_within}
 use Rattle.descriptor_table.proofs.TableFacts.{table_runs, table_ends, few_entries}
 use Rattle.page_ranges.proofs.MaximalRuns.{maximal_are_runs}
 use Rattle.descriptor_table.proofs.retyping.retype_runs.Goals as goal
 
-pub leaves_near-from-requires-clause-leaves : goal.leaves_near-from-requires-clause-leaves
-leaves_near-from-requires-clause-leaves g c = rw c.as_slice.ensures.value c.requires.table.leaves
+pub leaves_near-near-requires-clause-leaves : goal.leaves_near-near-requires-clause-leaves
+leaves_near-near-requires-clause-leaves g c = rw c.as_slice.ensures.value c.requires.table.leaves
 
-pub leaves_near-from-requires-clause-runs : goal.leaves_near-from-requires-clause-runs
-leaves_near-from-requires-clause-runs g c = rw c.as_slice.ensures.value (table_runs (runs_in c.args.leaves.now.items) c.args.entries c.requires.table.table)
+pub leaves_near-near-requires-clause-runs : goal.leaves_near-near-requires-clause-runs
+leaves_near-near-requires-clause-runs g c = rw c.as_slice.ensures.value (table_runs (runs_in c.args.leaves.now.items) c.args.entries c.requires.table.table)
 
-pub leaves_near-from-requires-clause-within : goal.leaves_near-from-requires-clause-within
-leaves_near-from-requires-clause-within g c = present_within _ c.args.range c.requires.table.table.proper c.requires.some c.requires.present
+pub leaves_near-near-requires-clause-within : goal.leaves_near-near-requires-clause-within
+leaves_near-near-requires-clause-within g c = present_within _ c.args.range c.requires.table.table.proper c.requires.some c.requires.present
 
-pub window_of-low-requires-clause-within : goal.window_of-low-requires-clause-within
-window_of-low-requires-clause-within g c = present_within _ c.args.range c.requires.table.table.proper c.requires.some c.requires.present
+pub window_of-window-requires-clause-within : goal.window_of-window-requires-clause-within
+window_of-window-requires-clause-within g c = present_within _ c.args.range c.requires.table.table.proper c.requires.some c.requires.present
 
 pub retyped_runs-requires-clause-within : goal.retyped_runs-requires-clause-within
 retyped_runs-requires-clause-within g c = present_within _ c.args.range c.requires.table.table.proper c.requires.some c.requires.present
 
-pub window_of-low-requires-clause-runs : goal.window_of-low-requires-clause-runs
-window_of-low-requires-clause-runs g c =
+pub window_of-window-requires-clause-runs : goal.window_of-window-requires-clause-runs
+window_of-window-requires-clause-runs g c =
     let ls = c.args.leaves.now.items in
-    let near = rw c.as_slice.ensures.value at c.leaves_near-from.ensures in
+    let near = rw c.as_slice.ensures.value at c.leaves_near-near.ensures in
     let same = rw c.deref.ensures.value at c.in_ok-runs.ensures in
-    rw c.as_slice-2.ensures.value (middle_runs ls c.leaves_near-from.result.0 c.leaves_near-from.result.1 c.args.range near c.in_ok-runs.runs.items same (table_runs (runs_in ls) c.args.entries c.requires.table.table))
+    rw c.as_slice-2.ensures.value (middle_runs ls c.leaves_near-near.result.0 c.leaves_near-near.result.1 c.args.range near c.in_ok-runs.runs.items same (table_runs (runs_in ls) c.args.entries c.requires.table.table))
 
 pub count_entries-old_entries-requires-clause-runs : goal.count_entries-old_entries-requires-clause-runs
 count_entries-old_entries-requires-clause-runs g c =
@@ -36,14 +39,14 @@ count_entries-old_entries-requires-clause-runs g c =
     let t = c.args.mtype in
     let o = c.args.owner in
     let table = c.requires.table.table in
-    let near = rw c.as_slice.ensures.value at c.leaves_near-from.ensures in
-    let from = c.leaves_near-from.result.0 in
-    let to = c.leaves_near-from.result.1 in
+    let near = rw c.as_slice.ensures.value at c.leaves_near-near.ensures in
+    let from = c.leaves_near-near.result.0 in
+    let to = c.leaves_near-near.result.1 in
     let rs = c.in_ok-runs.runs.items in
     let same = rw c.deref.ensures.value at c.in_ok-runs.ensures in
-    let w = rw c.as_slice-2.ensures.value at c.window_of-low.ensures in
-    let low = c.window_of-low.result.0 in
-    let high = c.window_of-low.result.1 in
+    let w = rw c.as_slice-2.ensures.value at c.window_of-window.ensures in
+    let low = c.window_of-window.result.0 in
+    let high = c.window_of-window.result.1 in
     let before = all_before ls from to range near rs same low in
     let old = take (high - low) (drop low rs) in
     let behind = all_behind ls from to range near rs same high in
@@ -58,14 +61,14 @@ count_entries-old_entries-requires-clause-ends g c =
     let t = c.args.mtype in
     let o = c.args.owner in
     let table = c.requires.table.table in
-    let near = rw c.as_slice.ensures.value at c.leaves_near-from.ensures in
-    let from = c.leaves_near-from.result.0 in
-    let to = c.leaves_near-from.result.1 in
+    let near = rw c.as_slice.ensures.value at c.leaves_near-near.ensures in
+    let from = c.leaves_near-near.result.0 in
+    let to = c.leaves_near-near.result.1 in
     let rs = c.in_ok-runs.runs.items in
     let same = rw c.deref.ensures.value at c.in_ok-runs.ensures in
-    let w = rw c.as_slice-2.ensures.value at c.window_of-low.ensures in
-    let low = c.window_of-low.result.0 in
-    let high = c.window_of-low.result.1 in
+    let w = rw c.as_slice-2.ensures.value at c.window_of-window.ensures in
+    let low = c.window_of-window.result.0 in
+    let high = c.window_of-window.result.1 in
     let before = all_before ls from to range near rs same low in
     let old = take (high - low) (drop low rs) in
     let behind = all_behind ls from to range near rs same high in
@@ -80,14 +83,14 @@ retyped_runs-requires-clause-runs g c =
     let t = c.args.mtype in
     let o = c.args.owner in
     let table = c.requires.table.table in
-    let near = rw c.as_slice.ensures.value at c.leaves_near-from.ensures in
-    let from = c.leaves_near-from.result.0 in
-    let to = c.leaves_near-from.result.1 in
+    let near = rw c.as_slice.ensures.value at c.leaves_near-near.ensures in
+    let from = c.leaves_near-near.result.0 in
+    let to = c.leaves_near-near.result.1 in
     let rs = c.in_ok-runs.runs.items in
     let same = rw c.deref.ensures.value at c.in_ok-runs.ensures in
-    let w = rw c.as_slice-2.ensures.value at c.window_of-low.ensures in
-    let low = c.window_of-low.result.0 in
-    let high = c.window_of-low.result.1 in
+    let w = rw c.as_slice-2.ensures.value at c.window_of-window.ensures in
+    let low = c.window_of-window.result.0 in
+    let high = c.window_of-window.result.1 in
     let before = all_before ls from to range near rs same low in
     let old = take (high - low) (drop low rs) in
     let behind = all_behind ls from to range near rs same high in
@@ -102,14 +105,14 @@ retyped_runs-requires-clause-ends g c =
     let t = c.args.mtype in
     let o = c.args.owner in
     let table = c.requires.table.table in
-    let near = rw c.as_slice.ensures.value at c.leaves_near-from.ensures in
-    let from = c.leaves_near-from.result.0 in
-    let to = c.leaves_near-from.result.1 in
+    let near = rw c.as_slice.ensures.value at c.leaves_near-near.ensures in
+    let from = c.leaves_near-near.result.0 in
+    let to = c.leaves_near-near.result.1 in
     let rs = c.in_ok-runs.runs.items in
     let same = rw c.deref.ensures.value at c.in_ok-runs.ensures in
-    let w = rw c.as_slice-2.ensures.value at c.window_of-low.ensures in
-    let low = c.window_of-low.result.0 in
-    let high = c.window_of-low.result.1 in
+    let w = rw c.as_slice-2.ensures.value at c.window_of-window.ensures in
+    let low = c.window_of-window.result.0 in
+    let high = c.window_of-window.result.1 in
     let before = all_before ls from to range near rs same low in
     let old = take (high - low) (drop low rs) in
     let behind = all_behind ls from to range near rs same high in
@@ -127,14 +130,14 @@ count_entries-new_entries-requires-clause-ends g c =
     let t = c.args.mtype in
     let o = c.args.owner in
     let table = c.requires.table.table in
-    let near = rw c.as_slice.ensures.value at c.leaves_near-from.ensures in
-    let from = c.leaves_near-from.result.0 in
-    let to = c.leaves_near-from.result.1 in
+    let near = rw c.as_slice.ensures.value at c.leaves_near-near.ensures in
+    let from = c.leaves_near-near.result.0 in
+    let to = c.leaves_near-near.result.1 in
     let rs = c.in_ok-runs.runs.items in
     let same = rw c.deref.ensures.value at c.in_ok-runs.ensures in
-    let w = rw c.as_slice-2.ensures.value at c.window_of-low.ensures in
-    let low = c.window_of-low.result.0 in
-    let high = c.window_of-low.result.1 in
+    let w = rw c.as_slice-2.ensures.value at c.window_of-window.ensures in
+    let low = c.window_of-window.result.0 in
+    let high = c.window_of-window.result.1 in
     let before = all_before ls from to range near rs same low in
     let old = take (high - low) (drop low rs) in
     let behind = all_behind ls from to range near rs same high in
@@ -152,14 +155,14 @@ overflow_sub-result g c =
     let t = c.args.mtype in
     let o = c.args.owner in
     let table = c.requires.table.table in
-    let near = rw c.as_slice.ensures.value at c.leaves_near-from.ensures in
-    let from = c.leaves_near-from.result.0 in
-    let to = c.leaves_near-from.result.1 in
+    let near = rw c.as_slice.ensures.value at c.leaves_near-near.ensures in
+    let from = c.leaves_near-near.result.0 in
+    let to = c.leaves_near-near.result.1 in
     let rs = c.in_ok-runs.runs.items in
     let same = rw c.deref.ensures.value at c.in_ok-runs.ensures in
-    let w = rw c.as_slice-2.ensures.value at c.window_of-low.ensures in
-    let low = c.window_of-low.result.0 in
-    let high = c.window_of-low.result.1 in
+    let w = rw c.as_slice-2.ensures.value at c.window_of-window.ensures in
+    let low = c.window_of-window.result.0 in
+    let high = c.window_of-window.result.1 in
     let before = all_before ls from to range near rs same low in
     let old = take (high - low) (drop low rs) in
     let behind = all_behind ls from to range near rs same high in
@@ -180,14 +183,14 @@ overflow_add-result g c =
     let t = c.args.mtype in
     let o = c.args.owner in
     let table = c.requires.table.table in
-    let near = rw c.as_slice.ensures.value at c.leaves_near-from.ensures in
-    let from = c.leaves_near-from.result.0 in
-    let to = c.leaves_near-from.result.1 in
+    let near = rw c.as_slice.ensures.value at c.leaves_near-near.ensures in
+    let from = c.leaves_near-near.result.0 in
+    let to = c.leaves_near-near.result.1 in
     let rs = c.in_ok-runs.runs.items in
     let same = rw c.deref.ensures.value at c.in_ok-runs.ensures in
-    let w = rw c.as_slice-2.ensures.value at c.window_of-low.ensures in
-    let low = c.window_of-low.result.0 in
-    let high = c.window_of-low.result.1 in
+    let w = rw c.as_slice-2.ensures.value at c.window_of-window.ensures in
+    let low = c.window_of-window.result.0 in
+    let high = c.window_of-window.result.1 in
     let before = all_before ls from to range near rs same low in
     let old = take (high - low) (drop low rs) in
     let behind = all_behind ls from to range near rs same high in
@@ -210,14 +213,14 @@ returns-clause-table g c =
     let t = c.args.mtype in
     let o = c.args.owner in
     let table = c.requires.table.table in
-    let near = rw c.as_slice.ensures.value at c.leaves_near-from.ensures in
-    let from = c.leaves_near-from.result.0 in
-    let to = c.leaves_near-from.result.1 in
+    let near = rw c.as_slice.ensures.value at c.leaves_near-near.ensures in
+    let from = c.leaves_near-near.result.0 in
+    let to = c.leaves_near-near.result.1 in
     let rs = c.in_ok-runs.runs.items in
     let same = rw c.deref.ensures.value at c.in_ok-runs.ensures in
-    let w = rw c.as_slice-2.ensures.value at c.window_of-low.ensures in
-    let low = c.window_of-low.result.0 in
-    let high = c.window_of-low.result.1 in
+    let w = rw c.as_slice-2.ensures.value at c.window_of-window.ensures in
+    let low = c.window_of-window.result.0 in
+    let high = c.window_of-window.result.1 in
     let before = all_before ls from to range near rs same low in
     let old = take (high - low) (drop low rs) in
     let behind = all_behind ls from to range near rs same high in
@@ -231,6 +234,7 @@ returns-clause-table g c =
     record {
       table = rw all (new_table (runs_in ls) n range t o table before old behind cut c.requires.some c.requires.present parts order pages c.requires.owner (n + c.count_entries-new_entries.result - c.count_entries-old_entries.result) (omega (arith, old_count, parts_count)));
       leaves = c.in_ok-put_parts.ensures.leaves;
+      begun = c.in_ok-put_parts.ensures.begun;
     }
 
 pub returns-clause-pages : goal.returns-clause-pages
@@ -241,14 +245,14 @@ returns-clause-pages g c =
     let t = c.args.mtype in
     let o = c.args.owner in
     let table = c.requires.table.table in
-    let near = rw c.as_slice.ensures.value at c.leaves_near-from.ensures in
-    let from = c.leaves_near-from.result.0 in
-    let to = c.leaves_near-from.result.1 in
+    let near = rw c.as_slice.ensures.value at c.leaves_near-near.ensures in
+    let from = c.leaves_near-near.result.0 in
+    let to = c.leaves_near-near.result.1 in
     let rs = c.in_ok-runs.runs.items in
     let same = rw c.deref.ensures.value at c.in_ok-runs.ensures in
-    let w = rw c.as_slice-2.ensures.value at c.window_of-low.ensures in
-    let low = c.window_of-low.result.0 in
-    let high = c.window_of-low.result.1 in
+    let w = rw c.as_slice-2.ensures.value at c.window_of-window.ensures in
+    let low = c.window_of-window.result.0 in
+    let high = c.window_of-window.result.1 in
     let before = all_before ls from to range near rs same low in
     let old = take (high - low) (drop low rs) in
     let behind = all_behind ls from to range near rs same high in
@@ -263,3 +267,112 @@ returns-clause-pages g c =
 
 pub put_parts-requires-clause-runs : goal.put_parts-requires-clause-runs
 put_parts-requires-clause-runs g c = rw c.deref.ensures.value at c.in_ok-runs.ensures
+
+pub put_parts-requires-clause-grows : goal.put_parts-requires-clause-grows
+put_parts-requires-clause-grows g c =
+    let ls = c.args.leaves.now.items in
+    let n = c.args.entries in
+    let range = c.args.range in
+    let t = c.args.mtype in
+    let o = c.args.owner in
+    let table = c.requires.table.table in
+    let near = rw c.as_slice.ensures.value at c.leaves_near-near.ensures in
+    let from = c.leaves_near-near.result.0 in
+    let to = c.leaves_near-near.result.1 in
+    let rs = c.in_ok-runs.runs.items in
+    let same = rw c.deref.ensures.value at c.in_ok-runs.ensures in
+    let w = rw c.as_slice-2.ensures.value at c.window_of-window.ensures in
+    let low = c.window_of-window.result.0 in
+    let high = c.window_of-window.result.1 in
+    let before = all_before ls from to range near rs same low in
+    let old = take (high - low) (drop low rs) in
+    let behind = all_behind ls from to range near rs same high in
+    let cut = cut_in_leaves ls from to range near rs same low high w in
+    let parts = c.in_ok-parts.parts.items in
+    let order = c.in_ok-parts.ensures.order in
+    let pages = rw c.deref-2.ensures.value at c.in_ok-parts.ensures.pages in
+    let old_count = rw c.deref-2.ensures.value at c.count_entries-old_entries.ensures.count in
+    let parts_count = rw c.as_slice-3.ensures.value at c.count_entries-new_entries.ensures.count in
+    let grows = window_grows (runs_in ls) n range t o table before old behind cut c.requires.some c.requires.present parts order pages in
+    put_grows ls from to range near rs same low high parts c.count_entries-old_entries.result c.count_entries-new_entries.result w.order (λ m k e. omega (arith, old_count, parts_count, grows m k e))
+
+pub put_parts-requires-clause-order : goal.put_parts-requires-clause-order
+put_parts-requires-clause-order g c =
+    let ls = c.args.leaves.now.items in
+    let n = c.args.entries in
+    let range = c.args.range in
+    let t = c.args.mtype in
+    let o = c.args.owner in
+    let table = c.requires.table.table in
+    let near = rw c.as_slice.ensures.value at c.leaves_near-near.ensures in
+    let from = c.leaves_near-near.result.0 in
+    let to = c.leaves_near-near.result.1 in
+    let rs = c.in_ok-runs.runs.items in
+    let same = rw c.deref.ensures.value at c.in_ok-runs.ensures in
+    let w = rw c.as_slice-2.ensures.value at c.window_of-window.ensures in
+    let low = c.window_of-window.result.0 in
+    let high = c.window_of-window.result.1 in
+    let before = all_before ls from to range near rs same low in
+    let old = take (high - low) (drop low rs) in
+    let behind = all_behind ls from to range near rs same high in
+    let cut = cut_in_leaves ls from to range near rs same low high w in
+    let parts = c.in_ok-parts.parts.items in
+    let order = c.in_ok-parts.ensures.order in
+    let pages = rw c.deref-2.ensures.value at c.in_ok-parts.ensures.pages in
+    let old_count = rw c.deref-2.ensures.value at c.count_entries-old_entries.ensures.count in
+    let parts_count = rw c.as_slice-3.ensures.value at c.count_entries-new_entries.ensures.count in
+    subst AreRuns (sym (put_is ls from to range near rs same low high parts)) (new_runs (runs_in ls) n range t o table before old behind cut c.requires.some c.requires.present parts order pages)
+
+pub put_parts-requires-clause-ends : goal.put_parts-requires-clause-ends
+put_parts-requires-clause-ends g c =
+    let ls = c.args.leaves.now.items in
+    let n = c.args.entries in
+    let range = c.args.range in
+    let t = c.args.mtype in
+    let o = c.args.owner in
+    let table = c.requires.table.table in
+    let near = rw c.as_slice.ensures.value at c.leaves_near-near.ensures in
+    let from = c.leaves_near-near.result.0 in
+    let to = c.leaves_near-near.result.1 in
+    let rs = c.in_ok-runs.runs.items in
+    let same = rw c.deref.ensures.value at c.in_ok-runs.ensures in
+    let w = rw c.as_slice-2.ensures.value at c.window_of-window.ensures in
+    let low = c.window_of-window.result.0 in
+    let high = c.window_of-window.result.1 in
+    let before = all_before ls from to range near rs same low in
+    let old = take (high - low) (drop low rs) in
+    let behind = all_behind ls from to range near rs same high in
+    let cut = cut_in_leaves ls from to range near rs same low high w in
+    let parts = c.in_ok-parts.parts.items in
+    let order = c.in_ok-parts.ensures.order in
+    let pages = rw c.deref-2.ensures.value at c.in_ok-parts.ensures.pages in
+    let old_count = rw c.deref-2.ensures.value at c.count_entries-old_entries.ensures.count in
+    let parts_count = rw c.as_slice-3.ensures.value at c.count_entries-new_entries.ensures.count in
+    subst (EndBy page_count) (sym (put_is ls from to range near rs same low high parts)) (new_ends (runs_in ls) n range t o table before old behind cut c.requires.some c.requires.present parts order pages c.requires.owner)
+
+pub put_parts-requires-clause-few : goal.put_parts-requires-clause-few
+put_parts-requires-clause-few g c =
+    let ls = c.args.leaves.now.items in
+    let n = c.args.entries in
+    let range = c.args.range in
+    let t = c.args.mtype in
+    let o = c.args.owner in
+    let table = c.requires.table.table in
+    let near = rw c.as_slice.ensures.value at c.leaves_near-near.ensures in
+    let from = c.leaves_near-near.result.0 in
+    let to = c.leaves_near-near.result.1 in
+    let rs = c.in_ok-runs.runs.items in
+    let same = rw c.deref.ensures.value at c.in_ok-runs.ensures in
+    let w = rw c.as_slice-2.ensures.value at c.window_of-window.ensures in
+    let low = c.window_of-window.result.0 in
+    let high = c.window_of-window.result.1 in
+    let before = all_before ls from to range near rs same low in
+    let old = take (high - low) (drop low rs) in
+    let behind = all_behind ls from to range near rs same high in
+    let cut = cut_in_leaves ls from to range near rs same low high w in
+    let parts = c.in_ok-parts.parts.items in
+    let order = c.in_ok-parts.ensures.order in
+    let pages = rw c.deref-2.ensures.value at c.in_ok-parts.ensures.pages in
+    let old_count = rw c.deref-2.ensures.value at c.count_entries-old_entries.ensures.count in
+    let parts_count = rw c.as_slice-3.ensures.value at c.count_entries-new_entries.ensures.count in
+    omega (arith, parts_count, few_entries parts (maximal_are_runs parts order) (parts_ends (runs_in ls) n range t o table before old behind cut c.requires.some c.requires.present parts order pages c.requires.owner))

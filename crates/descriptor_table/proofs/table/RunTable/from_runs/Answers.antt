@@ -3,6 +3,7 @@ use Rattle.std.proofs.lemmas.List.{take_all}
 use Rattle.page_ranges.specs.Memory.{IsProperMemory}
 use Rattle.page_ranges.specs.Runs.{pages_of}
 use Rattle.page_ranges.proofs.RunLists.{some_pages_at}
+use Rattle.descriptor_table.proofs.Begun.{begin_within}
 use Rattle.descriptor_table.proofs.CutRuns.{run_put_behind, up_to_next}
 use Rattle.descriptor_table.proofs.TableFacts.{proper_end_at, proper_ends}
 use Rattle.page_ranges.proofs.MaximalRuns.{maximal_are_runs}
@@ -43,9 +44,35 @@ invariant_of-result g c =
         entries = count;
       });
       leaves = c.in_ok-leaves.ensures.leaves;
+      begun = rw c.in_ok-begun.ensures (rw c.as_slice-3.ensures.value at c.in_ok-begun_in.ensures);
     }
 
 pub returns : goal.returns
 returns g c =
     let same = rw c.as_slice-2.ensures.value at c.in_ok-leaves.ensures.runs in
     ap pages_of same ∙ c.loop-run.invariant.pages ∙ ap pages_of (take_all c.loop-run.run-index c.args.runs.now (omega arith))
+
+pub begun_in-requires-clause-runs : goal.begun_in-requires-clause-runs
+begun_in-requires-clause-runs g c =
+    let joined = c.loop-run.joined.items in
+    let same = rw c.as_slice-2.ensures.value at c.in_ok-leaves.ensures.runs in
+    let runs = maximal_are_runs joined c.loop-run.invariant.order in
+    rw (c.as_slice-3.ensures.value, same) runs
+
+pub begun_in-requires-clause-ends : goal.begun_in-requires-clause-ends
+begun_in-requires-clause-ends g c =
+    let joined = c.loop-run.joined.items in
+    let same = rw c.as_slice-2.ensures.value at c.in_ok-leaves.ensures.runs in
+    let runs = maximal_are_runs joined c.loop-run.invariant.order in
+    let all = take_all c.loop-run.run-index c.args.runs.now (omega arith) in
+    let ends = proper_ends joined runs (subst IsProperMemory (sym (c.loop-run.invariant.pages ∙ ap pages_of all)) c.requires.proper) in
+    rw (c.as_slice-3.ensures.value, same) ends
+
+pub new-requires : goal.new-requires
+new-requires g c =
+    let joined = c.loop-run.joined.items in
+    let same = rw c.as_slice-2.ensures.value at c.in_ok-leaves.ensures.runs in
+    let runs = maximal_are_runs joined c.loop-run.invariant.order in
+    let all = take_all c.loop-run.run-index c.args.runs.now (omega arith) in
+    let ends = proper_ends joined runs (subst IsProperMemory (sym (c.loop-run.invariant.pages ∙ ap pages_of all)) c.requires.proper) in
+    begin_within c.in_ok-leaves.leaves.items c.in_ok-begun_in.field-0.items (rw same runs) (rw same ends) (rw c.as_slice-3.ensures.value at c.in_ok-begun_in.ensures)

@@ -1,0 +1,45 @@
+use Rattle.std.proofs.Common.{◌≡◌, ℕ, ◌+◌, ◌-◌, ◌≤◌, List, length, length-drop, take, drop, sym, ap, subst, ◌∷◌, ◌∙◌, arith}
+use Rattle.page_ranges.specs.MemoryTypes.{page_count}
+use Rattle.page_ranges.specs.MemoryMap.{memory_map}
+use Rattle.page_ranges.specs.Runs.{pages_of, AreRuns}
+use Rattle.page_ranges.proofs.Members.{all_append_right}
+use Rattle.page_ranges.proofs.RunLists.{runs-right}
+use Rattle.std.proofs.lemmas.List.{take_all}
+use Rattle.page_ranges.specs.declared.ranges.Run.{Run}
+use Rattle.descriptor_table.specs.Leaves.{runs_in}
+use Rattle.descriptor_table.specs.Tables.{EndBy}
+use Rattle.descriptor_table.proofs.LaterEntries.{no_last, all_entries, from_last, later_entries, behind_front}
+use Rattle.descriptor_table.proofs.entries.MapEntries.from_leaf.Goals as goal
+
+rest_of_leaves : (ls : List (List Run)) (i : ℕ) → runs_in (take (length ls - i) (drop i ls)) ≡ runs_in (drop i ls)
+rest_of_leaves ls i = ap runs_in (take_all (length ls - i) (drop i ls) (omega (arith, length-drop i ls)))
+
+pub invariant_of-result : goal.invariant_of-result
+invariant_of-result g c =
+    let ls = c.args.leaves.now in
+    let i = c.args.index in (
+      rw (c.new-walk.ensures.rest ∙ rest_of_leaves c.args.leaves.now c.args.index) (behind_front ls i AreRuns runs-right c.requires.runs),
+      rw (c.new-walk.ensures.rest ∙ rest_of_leaves c.args.leaves.now c.args.index) (behind_front ls i (EndBy page_count) (all_append_right (λ r. r.range.first + r.range.pages ≤ page_count)) c.requires.ends),
+    )
+
+pub returns-in_default : goal.returns-in_default
+returns-in_default g c =
+    let before = c.runs_before.result.now in
+    ap (λ rs. memory_map (pages_of rs)) (c.new-walk.ensures.rest ∙ rest_of_leaves c.args.leaves.now c.args.index) ∙ all_entries c.args.leaves.now c.args.index before c.runs_before.ensures (no_last before c.in_default.ensures.value)
+
+pub end_of_entry-requires-clause-runs : goal.end_of_entry-requires-clause-runs
+end_of_entry-requires-clause-runs g c =
+    let last = c.in-Some.last.now in
+    subst (λ rs. AreRuns (last ∷ rs)) (sym (c.new-walk.ensures.rest ∙ rest_of_leaves c.args.leaves.now c.args.index)) (from_last c.args.leaves.now c.args.index c.runs_before.result.now c.runs_before.ensures last c.in-Some.ensures.value AreRuns runs-right c.requires.runs)
+
+pub end_of_entry-requires-clause-ends : goal.end_of_entry-requires-clause-ends
+end_of_entry-requires-clause-ends g c =
+    let last = c.in-Some.last.now in
+    subst (λ rs. EndBy page_count (last ∷ rs)) (sym (c.new-walk.ensures.rest ∙ rest_of_leaves c.args.leaves.now c.args.index)) (from_last c.args.leaves.now c.args.index c.runs_before.result.now c.runs_before.ensures last c.in-Some.ensures.value (EndBy page_count) (all_append_right (λ r. r.range.first + r.range.pages ≤ page_count)) c.requires.ends)
+
+pub returns : goal.returns
+returns g c =
+    let last = c.in-Some.last.now in
+    let ls = c.args.leaves.now in
+    later_entries ls c.args.index c.runs_before.result.now c.runs_before.ensures last c.in-Some.ensures.value _ (memory_map (pages_of c.end_of_entry.new.walk.rest)) c.requires.runs
+    (ap (λ rs. memory_map (pages_of (last ∷ rs))) (sym (c.new-walk.ensures.rest ∙ rest_of_leaves c.args.leaves.now c.args.index)) ∙ c.end_of_entry.ensures.entry)

@@ -1,0 +1,25 @@
+use Rattle.std.proofs.Common.{◌≡◌, ◌+◌, ◌-◌, ◌*◌, length, take, drop, ap, ap₂, ◌∙◌, arith}
+use Rattle.descriptor_table.specs.Tallies.{total}
+use Rattle.descriptor_table.proofs.Tallied.{total_part, no_sums, next_sum}
+use Rattle.descriptor_table.proofs.tallies.group_sums.Goals as goal
+
+pub sum_of-requires : goal.sum_of-requires
+sum_of-requires g c =
+    let k = c.loop-group.group * 64 in
+    omega (arith, c.requires, total_part c.args.numbers.now k (k + 64 - k))
+
+pub loop-group-init : goal.loop-group-init
+loop-group-init g c = record { sums = rw c.in_ok-sums.ensures.items (no_sums c.args.numbers.now c.requires); count = omega (arith, ap length c.in_ok-sums.ensures.items) }
+
+pub loop-group-preserved : goal.loop-group-preserved
+loop-group-preserved g c =
+    let i = c.loop-group.invariant in
+    let ns = c.args.numbers.now in
+    let k = c.loop-group.group * 64 in
+    let n : k + 64 - k ≡ 64 = omega arith in
+    let m : k ≡ 64 * length c.loop-group.sums.items = omega (arith, i.count) in
+    let sum = c.sum_of.ensures ∙ ap₂ (λ a b. total (take a (drop b ns))) n m in
+    record {
+      sums = next_sum ns c.loop-group.sums.items c.push.new.self.items c.sum_of.result i.sums c.in_ok-push.ensures.items sum (omega (arith, i.count));
+      count = omega (arith, i.count, c.in_ok-push.ensures.len);
+    }

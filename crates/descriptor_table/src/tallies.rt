@@ -1,0 +1,130 @@
+//! Numbers in a row, and where their sum passes an index.
+ghost use Rattle.std.specs.Prelude.{◌≡◌, ◌+◌, ◌-◌, ◌<◌, ◌≤◌, ◌^◌, ◌++◌, length, set, take, drop, slice_index_or, IfOk};
+ghost use Rattle.descriptor_table.specs.Tallies.{total, AreGroupSums};
+
+use std::alloc::{AllocError, Allocator, Global};
+use std::marker::Model;
+
+/// So many numbers share a sum.
+const GROUP_SIZE: usize = 64;
+
+/// The sum of numbers.
+fn sum_of(numbers: &[usize]) -> usize
+    requires { total numbers.now < 2 ^ 63 }
+    ensures { result ≡ total numbers.now }
+{
+    let mut sum = 0;
+    for number in numbers {
+        sum += *number;
+    }
+    sum
+}
+
+/// The sums of groups of numbers; those that are left at the end have none.
+fn group_sums<A: Allocator + Copy>(alloc: A, numbers: &[usize]) -> Result<Vec<usize, A>, AllocError>
+    requires { total numbers.now < 2 ^ 63 }
+    ensures { IfOk result (λ v. AreGroupSums numbers.now v.items) }
+{
+    let count = numbers.len() / GROUP_SIZE;
+    let mut sums = Vec::with_capacity(alloc, count)?;
+    for group in 0..count {
+        let first = group * GROUP_SIZE;
+        sums.push(sum_of(&numbers[first..first + GROUP_SIZE]))?;
+    }
+    Ok(sums)
+}
+
+/// Numbers in a row, with the sums of groups of them.
+#[derive(Drop)]
+pub(crate) struct Tally<A: Allocator = Global> {
+    numbers: Vec<usize, A>,
+    sums: Vec<usize, A>,
+}
+
+impl<A: Allocator> Model for Tally<A> {
+    ghost use Rattle.std.specs.Prelude.{ℕ, List};
+    ghost use Rattle.descriptor_table.specs.Tallies.{AreGroupSums};
+
+    ghost Value = { List ℕ };
+
+    ghost view = { λ t. t.numbers.items };
+
+    ghost invariant = { λ t. AreGroupSums t.numbers.items t.sums.items };
+}
+
+impl<A: Allocator + Copy> Tally<A> {
+    /// Numbers with the sums of their groups.
+    pub(crate) fn new(alloc: A, numbers: Vec<usize, A>) -> Result<Tally<A>, AllocError>
+        requires { total numbers.items < 2 ^ 63 }
+        ensures { IfOk result (λ t. t ≡ numbers.items) }
+    {
+        let sums = group_sums(alloc, numbers.as_slice())?;
+        Ok(Tally { numbers, sums })
+    }
+
+    /// The numbers once others stand in the place of those between two indices.
+    pub(crate) fn with_part(
+        &self,
+        alloc: A,
+        from: usize,
+        to: usize,
+        part: &[usize],
+    ) -> Result<Tally<A>, AllocError>
+        requires order { (from ≤ to) × (to ≤ length self.now) }
+        requires within { total (take from self.now ++ (part.now ++ drop to self.now)) < 2 ^ 63 }
+        ensures { IfOk result (λ t. t ≡ take from self.now ++ (part.now ++ drop to self.now)) }
+    {
+        let numbers = self.numbers.as_slice();
+        let mut all = Vec::with_capacity(alloc, numbers.len() + part.len())?;
+        all.extend_from_slice(&numbers[..from])?;
+        all.extend_from_slice(part)?;
+        all.extend_from_slice(&numbers[to..])?;
+        Tally::new(alloc, all)
+    }
+
+    /// Makes a number so much less and so much more.
+    pub(crate) fn change(&mut self, index: usize, less: usize, more: usize)
+        requires bound { index < length self.old }
+        requires few { more < 2 ^ 63 }
+        requires enough { less ≤ slice_index_or self.old index 0 + more }
+        requires within { total (set self.old index (slice_index_or self.old index 0 + more - less)) < 2 ^ 63 }
+        ensures { self.new ≡ set self.old index (slice_index_or self.old index 0 + more - less) }
+    {
+        let number = self.numbers[index] + more - less;
+        self.set(index, number);
+    }
+
+    /// Puts a number in the place of another.
+    fn set(&mut self, index: usize, number: usize)
+        requires bound { index < length self.old }
+        requires within { total (set self.old index number) < 2 ^ 63 }
+        ensures { self.new ≡ set self.old index number }
+    {
+        let group = index / GROUP_SIZE;
+        if group >= self.sums.len() {
+            self.numbers[index] = number;
+            return;
+        }
+        self.sums[group] = self.sums[group] - self.numbers[index] + number;
+        self.numbers[index] = number;
+    }
+
+    /// So many numbers come before an index, and what the index is above their sum.
+    pub(crate) fn find(&self, index: usize) -> (usize, usize)
+        ensures bound { result.0 ≤ length self.now }
+        ensures place { total (take result.0 self.now) + result.1 ≡ index }
+    {
+        let mut left = index;
+        let mut group = 0;
+        while group < self.sums.len() && self.sums[group] <= left {
+            left -= self.sums[group];
+            group += 1;
+        }
+        let mut count = group * GROUP_SIZE;
+        while count < self.numbers.len() && self.numbers[count] <= left {
+            left -= self.numbers[count];
+            count += 1;
+        }
+        (count, left)
+    }
+}
