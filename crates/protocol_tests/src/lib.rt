@@ -1,5 +1,5 @@
-//! Tests of the protocol services of a core: drawn calls, judged by plain lists, the most handles, and drivers
-//! in boxes.
+//! Tests of handles, of drivers, and of the protocol services of a core: drawn calls, judged by plain lists, the
+//! most handles, and drivers in boxes.
 #![tactic(auto)]
 
 #[cfg(test)]

@@ -1,4 +1,5 @@
 //! Runs of the program, as text in and text out.
+mod blocks;
 mod certificates;
 mod commands;
 mod driver_rows;
@@ -55,6 +56,16 @@ pub fn assert_prints(
     assert_text(rt, name, outcome.err.as_slice(), "");
     assert_text(rt, name, outcome.out.as_slice(), out);
     assert_eq!(rt; outcome.status, 0);
+}
+
+/// A name, a machine, a trace, and what a run prints.
+pub type Row = (&'static str, &'static str, &'static str, &'static str);
+
+/// Asserts that each trace is run to its end, and what is printed.
+pub fn assert_rows(rt: &(impl AllocGlobal + Abort), rows: &[Row]) {
+    for (name, machine, trace, out) in rows {
+        assert_prints(rt, name, machine.as_bytes(), trace.as_bytes(), out);
+    }
 }
 
 /// Asserts that a run prints this text, and stops with the line of a fault.

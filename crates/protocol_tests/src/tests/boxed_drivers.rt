@@ -1,8 +1,9 @@
 //! A core with drivers in boxes, which may be of several kinds.
-use super::{guid, reply_to, small_machine};
+use super::{Services, Told, guid, small_machine, tell, told_by};
 use arrayvec::ArrayVec;
 use boot_core::{Call, CallHandles, Core, Reply};
 use driver_connect::{Driver, StartPlan, TableDriver, View, driver_binding};
+use page_ranges::Status;
 use std::process::Abort;
 use uuid::Uuid;
 
@@ -56,16 +57,40 @@ fn table(needed: Uuid) -> TableDriver {
     }
 }
 
+/// What a connect or a disconnect tells: its status.
+pub fn told_of(rt: &(impl AllocGlobal + Abort), reply: &Reply) -> Told {
+    match reply {
+        Reply::ConnectController(Ok(_)) | Reply::DisconnectController(Ok(())) => {
+            tell(rt, Status::Success, &[])
+        }
+        Reply::ConnectController(Err(status)) | Reply::DisconnectController(Err(status)) => {
+            tell(rt, *status, &[])
+        }
+        _ => panic!(rt; "another reply"),
+    }
+}
+
+/// Asserts whether a call of some services is served.
+fn assert_served<D: Driver>(
+    rt: &(impl AllocGlobal + Abort),
+    core: &mut Core<D>,
+    services: Services,
+    call: Call,
+    is_served: bool,
+) {
+    let told = told_by(rt, core, services, call);
+    assert!(rt; (told.status == Status::Success) == is_served);
+}
+
 /// Installs an interface on a new handle.
-fn install<D: Driver>(rt: &impl Abort, core: &mut Core<D>, guid: Uuid, value: u64) {
+fn install<D: Driver>(rt: &(impl AllocGlobal + Abort), core: &mut Core<D>, guid: Uuid, value: u64) {
     let call = Call::InstallProtocolInterface {
         handle: 0,
         guid,
         kind: 0,
         value,
     };
-    let reply = reply_to(rt, core, &call);
-    assert!(rt; matches!(&reply, Reply::InstallProtocolInterface(Ok(_))));
+    assert_served(rt, core, Services::Installing, call, true);
 }
 
 /// Asserts whether a connect of a handle starts a driver.
@@ -80,15 +105,18 @@ fn assert_connects<D: Driver>(
         drivers: CallHandles::new(Vec::new(rt.alloc())),
         recursive: false,
     };
-    let reply = reply_to(rt, core, &call);
-    assert!(rt; matches!(&reply, Reply::ConnectController(Ok(_))) == starts);
+    assert_served(rt, core, Services::Driving, call, starts);
 }
 
 /// Asserts whether the drivers of a handle are stopped.
-fn assert_disconnects<D: Driver>(rt: &impl Abort, core: &mut Core<D>, handle: u64, stops: bool) {
+fn assert_disconnects<D: Driver>(
+    rt: &(impl AllocGlobal + Abort),
+    core: &mut Core<D>,
+    handle: u64,
+    stops: bool,
+) {
     let call = Call::DisconnectController { handle, driver: 0 };
-    let reply = reply_to(rt, core, &call);
-    assert!(rt; matches!(&reply, Reply::DisconnectController(Ok(_))) == stops);
+    assert_served(rt, core, Services::Driving, call, stops);
 }
 
 /// Connects handles of a core with two drivers of different kinds, and stops one of them.

@@ -8,7 +8,7 @@ use page_ranges::Status;
 use std::process::Abort;
 
 /// A service that is called; the searches of LocateHandle stand for themselves.
-#[derive(Clone, Copy, Debug, PartialEq)]
+#[derive(Clone, Copy, PartialEq)]
 enum Service {
     Install,
     InstallMany,
@@ -133,10 +133,12 @@ const CALLS: u32 = 500;
 
 /// How often a service told a status.
 fn calls_of(tallies: &[Tally], service: Service, status: Status) -> u64 {
-    tallies
-        .iter()
-        .find(|t| t.service == service && t.status == status)
-        .map_or(0, |t| t.calls)
+    for tally in tallies {
+        if tally.service == service && tally.status == status {
+            return tally.calls;
+        }
+    }
+    0
 }
 
 /// Counts a call.
@@ -175,8 +177,8 @@ fn drawn_calls(rt: HostRuntime) {
     for seed in 0..10u64 {
         make_calls(&rt, &mut tallies, seed);
     }
-    for (service, status, least) in LEAST {
+    for (row, (service, status, least)) in LEAST.iter().enumerate() {
         let calls = calls_of(tallies.as_slice(), *service, *status);
-        assert!(rt; calls >= *least, "{service:?} {status:?}: {calls}");
+        assert!(rt; calls >= *least, "row {row}: {calls} calls");
     }
 }

@@ -1,39 +1,26 @@
 //! So many handles, and no more.
-use super::{guid, reply_to, small_core};
-use boot_core::{Call, Core, Reply};
+use super::{Services, assert_told, guid, small_core, tell_one, told_by};
+use boot_core::{Call, Core};
 use driver_connect::TableDriver;
 use page_ranges::Status;
 use std::process::Abort;
 
-/// What an installation on a handle answers: the handle.
-fn installed(
-    rt: &impl Abort,
+/// Asserts what an installation on a handle answers: the handle, and no event, or a refusal.
+fn assert_installed(
+    rt: &(impl AllocGlobal + Abort),
     core: &mut Core<TableDriver>,
     handle: u64,
     byte: u8,
-) -> Result<u64, Status> {
+    answer: Result<u64, Status>,
+) {
     let call = Call::InstallProtocolInterface {
         handle,
         guid: guid(byte),
         kind: 0,
         value: 0,
     };
-    match &reply_to(rt, core, &call) {
-        Reply::InstallProtocolInterface(Ok(told)) => Ok(told.handle),
-        Reply::InstallProtocolInterface(Err(status)) => Err(*status),
-        _ => panic!(rt; "another reply"),
-    }
-}
-
-/// Asserts what an installation on a handle answers.
-fn assert_installed(
-    rt: &impl Abort,
-    core: &mut Core<TableDriver>,
-    handle: u64,
-    byte: u8,
-    answer: Result<u64, Status>,
-) {
-    assert_eq!(rt; installed(rt, core, handle, byte), answer);
+    let told = told_by(rt, core, Services::Installing, call);
+    assert_told(rt, &told, &tell_one(rt, answer));
 }
 
 /// 4,096 handles can be live; a live one still takes interfaces then.

@@ -1,7 +1,7 @@
 //! Drawn installations and registrations.
 use super::draws::Draws;
 use super::plain_lists::{self, Lists};
-use super::{Told, assert_told, guid, reply_to, tell, tell_one};
+use super::{Services, Told, assert_told, guid, tell, tell_one, told_by};
 use boot_core::{Call, CallPairs, Core, Reply};
 use driver_connect::TableDriver;
 use page_ranges::Status;
@@ -33,7 +33,7 @@ fn told_installed(rt: &(impl AllocGlobal + Abort), handle: u64, events: &[u64]) 
 }
 
 /// What an installation or a registration tells.
-fn told_of(rt: &(impl AllocGlobal + Abort), reply: &Reply) -> Told {
+pub fn told_of(rt: &(impl AllocGlobal + Abort), reply: &Reply) -> Told {
     match reply {
         Reply::InstallProtocolInterface(Ok(done))
         | Reply::InstallMultipleProtocolInterfaces(Ok(done)) => {
@@ -63,7 +63,7 @@ pub fn install(
         kind,
         value,
     };
-    let reply = told_of(rt, &reply_to(rt, core, &call));
+    let reply = told_by(rt, core, Services::Installing, call);
     let plain = plain_lists::install(rt, lists, handle, kind, &[(byte, value)]);
     assert_told(rt, &reply, &plain)
 }
@@ -100,7 +100,7 @@ pub fn install_many(
         handle,
         pairs: call_pairs(rt, pairs.as_slice()),
     };
-    let reply = told_of(rt, &reply_to(rt, core, &call));
+    let reply = told_by(rt, core, Services::Installing, call);
     let plain = plain_lists::install(rt, lists, handle, 0, pairs.as_slice());
     assert_told(rt, &reply, &plain)
 }
@@ -118,7 +118,7 @@ pub fn register(
         guid: guid(byte),
         event,
     };
-    let reply = told_of(rt, &reply_to(rt, core, &call));
+    let reply = told_by(rt, core, Services::Installing, call);
     let plain = plain_lists::register(rt, lists, byte, event);
     assert_told(rt, &reply, &plain)
 }

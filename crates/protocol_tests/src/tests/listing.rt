@@ -1,74 +1,91 @@
 //! Lists in pool blocks.
-use super::reply_to;
+use super::{Services, Told, assert_told, tell, told_by};
 use boot_core::{Call, Core, PoolList, Reply};
 use driver_connect::TableDriver;
 use page_ranges::Status;
 use std::process::Abort;
 
-/// The count and the address of a list that a reply tells.
-pub fn place_told(rt: &impl Abort, reply: &Reply) -> Result<(u64, u64), Status> {
+/// What a call on a list in a pool block tells: its count and its address, or the bytes of the block.
+pub fn told_of(rt: &(impl AllocGlobal + Abort), reply: &Reply) -> Told {
     match reply {
-        Reply::LocateHandleBuffer(list) | Reply::OpenProtocolInformation(list) => place_of(list),
+        Reply::LocateHandleBuffer(list) | Reply::OpenProtocolInformation(list) => {
+            told_list(rt, list)
+        }
+        Reply::PoolRead { status, bytes } => tell_bytes(rt, *status, bytes.as_slice()),
+        Reply::FreePool(Ok(())) => tell(rt, Status::Success, &[]),
+        Reply::FreePool(Err(status)) => tell(rt, *status, &[]),
         _ => panic!(rt; "another reply"),
     }
 }
 
-fn place_of(list: &Result<PoolList, Status>) -> Result<(u64, u64), Status> {
+fn told_list(rt: &(impl AllocGlobal + Abort), list: &Result<PoolList, Status>) -> Told {
     match list {
-        Ok(list) => Ok((list.count, list.address)),
-        Err(status) => Err(*status),
+        Ok(list) => tell(rt, Status::Success, &[list.count, list.address]),
+        Err(status) => tell(rt, *status, &[]),
     }
+}
+
+/// A reply that tells bytes.
+fn tell_bytes(rt: &(impl AllocGlobal + Abort), status: Status, bytes: &[u8]) -> Told {
+    let mut told = tell(rt, status, &[]);
+    for byte in bytes {
+        told.numbers.push(*byte as u64).expect(rt, "memory");
+    }
+    told
 }
 
 /// Asserts that a list has these bytes, in items of so many, or was refused with a status. Its block is
 /// freed.
 pub fn assert_list(
-    rt: &impl Abort,
+    rt: &(impl AllocGlobal + Abort),
     core: &mut Core<TableDriver>,
-    list: Result<(u64, u64), Status>,
+    list: &Told,
     item_size: u64,
     status: Status,
     bytes: &[u8],
 ) -> Status {
-    match list {
-        Ok((count, address)) => {
-            assert_eq!(rt; status, Status::Success);
-            assert_eq!(rt; count.checked_mul(item_size), Some(bytes.len() as u64));
-            assert_block(rt, core, address, bytes);
-        }
-        Err(refusal) => assert_eq!(rt; refusal, status),
+    assert!(rt; list.status == status);
+    if status == Status::Success {
+        let count = number_at(rt, list, 0);
+        assert!(rt; count.checked_mul(item_size) == Some(bytes.len() as u64));
+        assert_block(rt, core, number_at(rt, list, 1), bytes);
     }
     status
 }
 
+/// A number that a reply tells.
+fn number_at(rt: &impl Abort, told: &Told, at: usize) -> u64 {
+    match told.numbers.get(at) {
+        Some(number) => *number,
+        None => panic!(rt; "too few numbers"),
+    }
+}
+
 /// Asserts that a block holds some bytes, and frees it. No block is wanted for no bytes.
-fn assert_block(rt: &impl Abort, core: &mut Core<TableDriver>, address: u64, bytes: &[u8]) {
+fn assert_block(
+    rt: &(impl AllocGlobal + Abort),
+    core: &mut Core<TableDriver>,
+    address: u64,
+    bytes: &[u8],
+) {
     if bytes.is_empty() {
-        assert_eq!(rt; address, 0);
-    } else {
-        assert_held(rt, core, address, bytes);
-        free(rt, core, address);
+        assert!(rt; address == 0);
+        return;
     }
-}
-
-fn assert_held(rt: &impl Abort, core: &mut Core<TableDriver>, address: u64, bytes: &[u8]) {
     let size = bytes.len() as u64;
-    let reply = reply_to(rt, core, &Call::PoolRead { address, size });
-    assert!(rt; has_read(&reply, bytes), "bytes at {address:#x}");
+    let held = tell_bytes(rt, Status::Success, bytes);
+    assert_tells(rt, core, Call::PoolRead { address, size }, &held);
+    let done = tell(rt, Status::Success, &[]);
+    assert_tells(rt, core, Call::FreePool { address }, &done);
 }
 
-/// Whether a reply tells that some bytes were read.
-fn has_read(reply: &Reply, bytes: &[u8]) -> bool {
-    match reply {
-        Reply::PoolRead {
-            status: Status::Success,
-            bytes: held,
-        } => held.as_slice() == bytes,
-        _ => false,
-    }
-}
-
-fn free(rt: &impl Abort, core: &mut Core<TableDriver>, address: u64) {
-    let reply = reply_to(rt, core, &Call::FreePool { address });
-    assert!(rt; matches!(&reply, Reply::FreePool(Ok(()))));
+/// Asserts what a call on a block tells.
+fn assert_tells(
+    rt: &(impl AllocGlobal + Abort),
+    core: &mut Core<TableDriver>,
+    call: Call,
+    wanted: &Told,
+) {
+    let told = told_by(rt, core, Services::Listing, call);
+    assert_told(rt, &told, wanted);
 }

@@ -1,8 +1,8 @@
 //! Drawn opens and what goes with them.
 use super::draws::Draws;
-use super::listing::{assert_list, place_told};
+use super::listing::assert_list;
 use super::plain_lists::{Item, Lists};
-use super::{Told, assert_told, guid, plain_opens, reply_to, tell};
+use super::{Services, Told, assert_told, guid, plain_opens, tell, told_by};
 use boot_core::{Call, Core, Reply};
 use driver_connect::TableDriver;
 use page_ranges::Status;
@@ -54,7 +54,7 @@ fn like_open(draws: &mut Draws, lists: &Lists) -> Item {
 }
 
 /// What an open, a close or a look at a value tells.
-fn told_of(rt: &(impl AllocGlobal + Abort), reply: &Reply) -> Told {
+pub fn told_of(rt: &(impl AllocGlobal + Abort), reply: &Reply) -> Told {
     match reply {
         Reply::OpenProtocol(Ok(Some(value))) | Reply::HandleProtocol(Ok(value)) => {
             tell(rt, Status::Success, &[*value])
@@ -84,7 +84,7 @@ pub fn open(
         controller: open.controller,
         attributes: open.attributes,
     };
-    let reply = told_of(rt, &reply_to(rt, core, &call));
+    let reply = told_by(rt, core, Services::Opening, call);
     assert_told(rt, &reply, &plain_opens::open(rt, lists, &open))
 }
 
@@ -102,7 +102,7 @@ pub fn close(
         agent: closed.agent,
         controller: closed.controller,
     };
-    let reply = told_of(rt, &reply_to(rt, core, &call));
+    let reply = told_by(rt, core, Services::Opening, call);
     assert_told(rt, &reply, &plain_opens::close(rt, lists, &closed))
 }
 
@@ -119,7 +119,7 @@ pub fn handle_protocol(
         handle,
         guid: guid(byte),
     };
-    let reply = told_of(rt, &reply_to(rt, core, &call));
+    let reply = told_by(rt, core, Services::Opening, call);
     let plain = plain_opens::handle_protocol(rt, lists, handle, byte);
     assert_told(rt, &reply, &plain)
 }
@@ -141,6 +141,6 @@ pub fn information(
         None => Status::NotFound,
     };
     let bytes = plain_opens::items_told(rt, lists, open.handle, open.guid);
-    let list = place_told(rt, &reply_to(rt, core, &call));
-    assert_list(rt, core, list, 24, status, bytes.as_slice())
+    let list = told_by(rt, core, Services::Listing, call);
+    assert_list(rt, core, &list, 24, status, bytes.as_slice())
 }

@@ -58,7 +58,7 @@ impl Lists {
     }
 
     pub fn is_live(&self, handle: u64) -> bool {
-        self.handles.iter().any(|live| *live == handle)
+        self.handles.contains(&handle)
     }
 
     /// Whether a handle is given, and is not live.
@@ -68,15 +68,22 @@ impl Lists {
 
     /// The value of a GUID on a handle.
     pub fn value(&self, handle: u64, guid: u8) -> Option<u64> {
-        self.interfaces
-            .iter()
-            .find(|i| i.handle == handle && i.guid == guid)
-            .map(|i| i.value)
+        for i in &self.interfaces {
+            if i.handle == handle && i.guid == guid {
+                return Some(i.value);
+            }
+        }
+        None
     }
 
     /// Whether a GUID stands twice among some pairs, or is on the handle.
     fn is_any_taken(&self, handle: u64, pairs: &[(u8, u64)]) -> bool {
-        pairs.iter().any(|pair| self.value(handle, pair.0).is_some() || times(pairs, pair.0) > 1)
+        for pair in pairs {
+            if self.value(handle, pair.0).is_some() || times(pairs, pair.0) > 1 {
+                return true;
+            }
+        }
+        false
     }
 
     /// Whether some pairs must not be installed.
@@ -85,7 +92,17 @@ impl Lists {
     }
 
     fn registration(&self, key: u64) -> Option<Registration> {
-        self.registrations.iter().find(|r| r.key == key).copied()
+        for registration in &self.registrations {
+            if registration.key == key {
+                return Some(*registration);
+            }
+        }
+        None
+    }
+
+    /// The GUID that a key is for.
+    pub fn guid_of(&self, key: u64) -> Option<u8> {
+        Some(self.registration(key)?.guid)
     }
 
     /// The interface of a registration's GUID with the least stamp above its mark.
@@ -93,7 +110,11 @@ impl Lists {
         let mut least: Option<Interface> = None;
         for i in &self.interfaces {
             let is_new = i.guid == registration.guid && registration.mark < i.stamp;
-            if is_new && least.is_none_or(|found| i.stamp < found.stamp) {
+            let is_less = match &least {
+                Some(found) => i.stamp < found.stamp,
+                None => true,
+            };
+            if is_new && is_less {
                 least = Some(*i);
             }
         }
@@ -145,7 +166,13 @@ impl Lists {
 
 /// How often a GUID stands among some pairs.
 fn times(pairs: &[(u8, u64)], guid: u8) -> usize {
-    pairs.iter().filter(|pair| pair.0 == guid).count()
+    let mut count = 0usize;
+    for pair in pairs {
+        if pair.0 == guid {
+            count = count.saturating_add(1);
+        }
+    }
+    count
 }
 
 /// Installs some pairs, and tells the handle and the events.

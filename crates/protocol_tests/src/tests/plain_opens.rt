@@ -61,24 +61,38 @@ fn is_holding(item: &Item) -> bool {
     HOLDING.contains(&item.attributes)
 }
 
+/// What the items on an interface are for an open of it.
+#[derive(Clone, Copy)]
+struct Beside {
+    has_twin: bool,
+    has_of_agent: bool,
+    is_held: bool,
+}
+
+fn found_beside(items: &[Item], open: &Item) -> Beside {
+    let mut found = Beside {
+        has_twin: false,
+        has_of_agent: false,
+        is_held: false,
+    };
+    for item in items {
+        if is_beside(item, open) {
+            found.has_twin = found.has_twin || is_twin(item, open);
+            found.has_of_agent = found.has_of_agent || is_of_agent(item, open);
+            found.is_held = found.is_held || is_holding(item);
+        }
+    }
+    found
+}
+
 /// The refusal of an open by the other items on its interface.
 fn item_refusal(items: &[Item], open: &Item) -> Option<Status> {
-    if items.iter().any(|item| is_twin(item, open)) {
-        return twin_refusal(open.attributes);
-    }
-    let is_for_driver = FOR_DRIVER.contains(&open.attributes);
-    if is_for_driver
-        && items
-            .iter()
-            .any(|item| is_beside(item, open) && is_of_agent(item, open))
-    {
-        return Some(Status::AlreadyStarted);
-    }
-    if is_holding(open)
-        && items
-            .iter()
-            .any(|item| is_beside(item, open) && is_holding(item))
-    {
+    let found = found_beside(items, open);
+    if found.has_twin {
+        twin_refusal(open.attributes)
+    } else if FOR_DRIVER.contains(&open.attributes) && found.has_of_agent {
+        Some(Status::AlreadyStarted)
+    } else if is_holding(open) && found.is_held {
         Some(Status::AccessDenied)
     } else {
         None
@@ -143,14 +157,26 @@ pub fn close(rt: &(impl AllocGlobal + Abort), lists: &mut Lists, closed: &Item) 
         return tell(rt, Status::InvalidParameter, &[]);
     }
     let before = lists.items.len();
-    lists.items.retain(|item| !(is_beside(item, closed)
-        && item.agent == closed.agent
-        && item.controller == closed.controller));
+    lists.items = items_but(rt, lists.items.as_slice(), closed);
     if lists.items.len() == before {
         tell(rt, Status::NotFound, &[])
     } else {
         tell(rt, Status::Success, &[])
     }
+}
+
+/// The items but those on an interface by an agent and a controller.
+fn items_but(rt: &(impl AllocGlobal + Abort), items: &[Item], closed: &Item) -> Vec<Item> {
+    let mut kept = Vec::new(rt.alloc());
+    for item in items {
+        let is_closed = is_beside(item, closed)
+            && item.agent == closed.agent
+            && item.controller == closed.controller;
+        if !is_closed {
+            kept.push(*item).expect(rt, "memory");
+        }
+    }
+    kept
 }
 
 /// The bytes of the open items on an interface.

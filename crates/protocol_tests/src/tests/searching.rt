@@ -1,9 +1,9 @@
 //! Drawn searches.
 use super::draws::Draws;
-use super::listing::{assert_list, place_told};
+use super::listing::assert_list;
 use super::plain_lists::{self, Lists};
 use super::plain_opens::push_bytes;
-use super::{Told, assert_told, guid, reply_to, tell, tell_one};
+use super::{Services, Told, assert_told, guid, tell, tell_one, told_by};
 use boot_core::{Call, Core, Reply};
 use driver_connect::TableDriver;
 use page_ranges::Status;
@@ -39,7 +39,7 @@ fn drawn_search(draws: &mut Draws) -> u32 {
 }
 
 /// What a search tells.
-fn told_of(rt: &(impl AllocGlobal + Abort), reply: &Reply) -> Told {
+pub fn told_of(rt: &(impl AllocGlobal + Abort), reply: &Reply) -> Told {
     match reply {
         Reply::LocateHandle(found) => {
             told_handles(rt, found.status, found.size, found.handles.as_slice())
@@ -68,7 +68,7 @@ pub fn locate(
         key,
         size,
     };
-    let reply = told_of(rt, &reply_to(rt, core, &call));
+    let reply = told_by(rt, core, Services::Searching, call);
     let plain = plain_lists::locate(rt, lists, search, byte, key, size);
     assert_told(rt, &reply, &plain)
 }
@@ -82,9 +82,9 @@ fn told_handles(
 ) -> Told {
     let count = handles.len() as u64;
     match status {
-        Status::Success => assert_eq!(rt; size, count.saturating_mul(8)),
+        Status::Success => assert!(rt; size == count.saturating_mul(8)),
         Status::BufferTooSmall => return tell(rt, status, &[size]),
-        _ => assert_eq!(rt; size, 0),
+        _ => assert!(rt; size == 0),
     }
     tell(rt, status, handles)
 }
@@ -115,8 +115,8 @@ pub fn locate_buffer(
     };
     let plain = plain_lists::locate(rt, lists, search, byte, key, u64::MAX);
     let bytes = handle_bytes(rt, plain.numbers.as_slice());
-    let list = place_told(rt, &reply_to(rt, core, &call));
-    assert_list(rt, core, list, 8, plain.status, bytes.as_slice())
+    let list = told_by(rt, core, Services::Listing, call);
+    assert_list(rt, core, &list, 8, plain.status, bytes.as_slice())
 }
 
 /// Locates an interface.
@@ -129,17 +129,13 @@ pub fn locate_protocol(
     let key = drawn_key(draws, lists);
     let mut byte = draws.guid();
     if draws.one_of(2) {
-        byte = lists
-            .registrations
-            .iter()
-            .find(|r| r.key == key)
-            .map_or(byte, |r| r.guid);
+        byte = lists.guid_of(key).unwrap_or(byte);
     }
     let call = Call::LocateProtocol {
         guid: guid(byte),
         key,
     };
-    let reply = told_of(rt, &reply_to(rt, core, &call));
+    let reply = told_by(rt, core, Services::Searching, call);
     let plain = plain_lists::locate_protocol(rt, lists, byte, key);
     assert_told(rt, &reply, &plain)
 }
@@ -163,9 +159,7 @@ pub fn protocols(
     draws: &mut Draws,
 ) -> Status {
     let handle = draws.handle(lists.count());
-    let reply = told_of(
-        rt,
-        &reply_to(rt, core, &Call::ProtocolsPerHandle { handle }),
-    );
+    let call = Call::ProtocolsPerHandle { handle };
+    let reply = told_by(rt, core, Services::Searching, call);
     assert_told(rt, &reply, &plain_lists::protocols(rt, lists, handle))
 }

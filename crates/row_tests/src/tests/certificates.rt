@@ -1,6 +1,6 @@
 //! Certificates that a run prints, and that are then judged.
 use super::placements::{LAST_PAGES, TWO_BLOCKS};
-use super::{MACHINE, assert_text, outcome_of};
+use super::{MACHINE, Row, assert_text, outcome_of, pools, protocols};
 use program_runs::serve_check;
 use std::process::Abort;
 
@@ -118,9 +118,19 @@ fn assert_certified(rt: &(impl AllocGlobal + Abort), row: &(&str, &str, &str, &s
     assert_accepted(rt, name, block);
 }
 
+/// Asserts that a run prints just this text, with its certificates.
+fn assert_certifies(rt: &(impl AllocGlobal + Abort), row: &Row) {
+    let (name, machine, trace, out) = row;
+    let outcome = outcome_of(rt, machine.as_bytes(), trace.as_bytes(), true);
+    assert_eq!(rt; outcome.status, 0);
+    assert_text(rt, name, outcome.out.as_slice(), out);
+}
+
 #[test]
-fn certified_placements(rt: HostRuntime) {
+fn certificates(rt: HostRuntime) {
     for row in &PLACEMENTS {
         assert_certified(&rt, row);
     }
+    assert_certifies(&rt, &pools::CERTIFIED);
+    assert_certifies(&rt, &protocols::CERTIFIED);
 }

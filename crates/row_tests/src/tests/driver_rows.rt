@@ -1,5 +1,6 @@
 //! Runs with calls that start and stop drivers, worked out by hand.
-use super::{MACHINE, assert_prints, assert_stops};
+use super::line_texts::LineFault;
+use super::{MACHINE, assert_prints};
 use std::process::Abort;
 
 /// A driver that makes two children.
@@ -40,7 +41,7 @@ const MISSING: &str = "[{\"version\":1,\"needs\":[\"11111111-1111-1111-1111-1111
 const NONE: &str = "[]";
 
 /// Traces that are run to their end: each a name, the drivers, the trace, and what is printed.
-const RUNS: [(&str, &str, &str, &str); 9] = [
+const RUNS: [(&str, &str, &str, &str); 10] = [
     (
         "an uninstall stops the driver, once no child of it is open exclusively",
         TWO_CHILDREN,
@@ -251,6 +252,50 @@ locate 2 22222222-2222-2222-2222-222222222222 0 64
 6 locate SUCCESS size=16 handles=3,4
 ",
     ),
+    (
+        "refusals, and the calls after an exit",
+        TWO_CHILDREN,
+        "install 0 11111111-1111-1111-1111-111111111111 0 0x10
+install 0 18a031ab-b443-4d1a-a5c0-0c09261e9f71 0 0
+uninstall 3 11111111-1111-1111-1111-111111111111 0x10
+uninstall 1 22222222-2222-2222-2222-222222222222 0x10
+uninstall 1 11111111-1111-1111-1111-111111111111 0x11
+reinstall 1 11111111-1111-1111-1111-111111111111 0 0
+open 1 11111111-1111-1111-1111-111111111111 2 2 8
+uninstall 1 11111111-1111-1111-1111-111111111111 0x10
+connect 3 0
+connect 1 0 1 2 3 4 5 6 7 8 9 10 11 12 13 14 15 16 17
+disconnect 3 0
+disconnect 1 1
+disconnect 1 3
+disconnect 1 0
+exit 1
+connect 1 0
+disconnect 1 0
+uninstall 1 11111111-1111-1111-1111-111111111111 0x10
+reinstall 1 11111111-1111-1111-1111-111111111111 0x10 0
+",
+        "1 install SUCCESS handle=1 events=-
+2 install SUCCESS handle=2 events=-
+3 uninstall INVALID_PARAMETER
+4 uninstall NOT_FOUND
+5 uninstall NOT_FOUND
+6 reinstall NOT_FOUND
+7 open SUCCESS interface=0x10
+8 uninstall ACCESS_DENIED
+9 connect INVALID_PARAMETER
+10 connect INVALID_PARAMETER
+11 disconnect INVALID_PARAMETER
+12 disconnect INVALID_PARAMETER
+13 disconnect INVALID_PARAMETER
+14 disconnect SUCCESS
+15 exit SUCCESS
+16 connect UNSUPPORTED
+17 disconnect UNSUPPORTED
+18 uninstall UNSUPPORTED
+19 reinstall UNSUPPORTED
+",
+    ),
 ];
 
 /// The machine with these drivers.
@@ -281,83 +326,23 @@ fn driver_runs(rt: HostRuntime) {
 }
 
 /// Lines that are no calls of the services that start and stop drivers: each with the word of its fault.
-const FAULTS: [(&str, &str); 12] = [
-    ("connect 1", "words"),
-    ("connect 1 2", "number"),
-    ("connect 1 0 x", "number"),
-    ("connect 1 1 2 0x", "number"),
-    ("disconnect 1", "words"),
-    ("disconnect 1 2 3", "words"),
-    ("uninstall 1 11111111-1111-1111-1111-111111111111", "words"),
-    ("uninstall 1 1111 0", "guid"),
-    ("uninstall x 1111 0", "number"),
+pub const FAULTS: &[LineFault] = &[
+    (b"connect 1", "words"),
+    (b"connect 1 2", "number"),
+    (b"connect 1 0 x", "number"),
+    (b"connect 1 1 2 0x", "number"),
+    (b"disconnect 1", "words"),
+    (b"disconnect 1 2 3", "words"),
+    (b"uninstall 1 11111111-1111-1111-1111-111111111111", "words"),
+    (b"uninstall 1 1111 0", "guid"),
+    (b"uninstall x 1111 0", "number"),
     (
-        "reinstall 1 11111111-1111-1111-1111-111111111111 0",
+        b"reinstall 1 11111111-1111-1111-1111-111111111111 0",
         "words",
     ),
     (
-        "reinstall 1 11111111-1111-1111-1111-111111111111 0 -1",
+        b"reinstall 1 11111111-1111-1111-1111-111111111111 0 -1",
         "number",
     ),
-    ("reinstall 1 g 0 0", "guid"),
+    (b"reinstall 1 g 0 0", "guid"),
 ];
-
-#[test]
-fn lines_that_are_no_driver_calls(rt: HostRuntime) {
-    for (line, fault) in &FAULTS {
-        let text = format!(in rt.alloc(); "bootcore: trace line 1: {fault}\n").expect(
-            &rt, "memory",
-        );
-        assert_stops(&rt, MACHINE.as_bytes(), line.as_bytes(), "", text.as_str());
-    }
-}
-
-/// Refusals, and the calls after an exit.
-const REFUSALS: (&str, &str) = (
-    "install 0 11111111-1111-1111-1111-111111111111 0 0x10
-install 0 18a031ab-b443-4d1a-a5c0-0c09261e9f71 0 0
-uninstall 3 11111111-1111-1111-1111-111111111111 0x10
-uninstall 1 22222222-2222-2222-2222-222222222222 0x10
-uninstall 1 11111111-1111-1111-1111-111111111111 0x11
-reinstall 1 11111111-1111-1111-1111-111111111111 0 0
-open 1 11111111-1111-1111-1111-111111111111 2 2 8
-uninstall 1 11111111-1111-1111-1111-111111111111 0x10
-connect 3 0
-connect 1 0 1 2 3 4 5 6 7 8 9 10 11 12 13 14 15 16 17
-disconnect 3 0
-disconnect 1 1
-disconnect 1 3
-disconnect 1 0
-exit 1
-connect 1 0
-disconnect 1 0
-uninstall 1 11111111-1111-1111-1111-111111111111 0x10
-reinstall 1 11111111-1111-1111-1111-111111111111 0x10 0
-",
-    "1 install SUCCESS handle=1 events=-
-2 install SUCCESS handle=2 events=-
-3 uninstall INVALID_PARAMETER
-4 uninstall NOT_FOUND
-5 uninstall NOT_FOUND
-6 reinstall NOT_FOUND
-7 open SUCCESS interface=0x10
-8 uninstall ACCESS_DENIED
-9 connect INVALID_PARAMETER
-10 connect INVALID_PARAMETER
-11 disconnect INVALID_PARAMETER
-12 disconnect INVALID_PARAMETER
-13 disconnect INVALID_PARAMETER
-14 disconnect SUCCESS
-15 exit SUCCESS
-16 connect UNSUPPORTED
-17 disconnect UNSUPPORTED
-18 uninstall UNSUPPORTED
-19 reinstall UNSUPPORTED
-",
-);
-
-#[test]
-fn refused_driver_calls(rt: HostRuntime) {
-    let (trace, out) = REFUSALS;
-    assert_drives(&rt, "refusals", TWO_CHILDREN, trace, out);
-}

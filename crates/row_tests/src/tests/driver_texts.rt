@@ -1,5 +1,6 @@
 //! The drivers of machine files: lists that are refused, with the line of the fault, and some that
 //! are read.
+use super::machine_texts::MachineFault;
 use super::{assert_prints, assert_stops};
 use std::process::Abort;
 
@@ -17,9 +18,6 @@ const NEEDS: &str = "\"version\":0,\"needs\":[],";
 const OPENS: &str = "\"version\":0,\"needs\":[],\"opens\":[],";
 
 const CHILDREN: &str = "\"version\":0,\"needs\":[],\"opens\":[],\"children\":[[]],";
-
-/// Members that are no objects, or lack all fields.
-const NO_DRIVERS: [&str; 4] = ["7", "null", "[]", "{}"];
 
 /// Values that are refused, with what stands before the field.
 const VALUES: [(&str, &str, &str); 34] = [
@@ -106,53 +104,48 @@ fn assert_value_fault(rt: &(impl AllocGlobal + Abort), front: &str, field: &str,
     assert_driver_fault(rt, member.expect(rt, "memory").as_str(), field);
 }
 
+/// Members that are no drivers, each with the field that is told: no objects, objects that lack a field behind
+/// those that stand there, and some with several wrong fields, the first of which is told in the order of the
+/// fields, whatever their order in the file.
+const MEMBERS: [(&str, &str); 12] = [
+    ("7", "version"),
+    ("null", "version"),
+    ("[]", "version"),
+    ("{}", "version"),
+    ("{\"version\":4294967295,\"x\":0}", "needs"),
+    ("{\"version\":0,\"needs\":[],\"x\":0}", "opens"),
+    (
+        "{\"version\":0,\"needs\":[],\"opens\":[],\"x\":0}",
+        "children",
+    ),
+    (
+        "{\"version\":0,\"needs\":[],\"opens\":[],\"children\":[[]],\"x\":0}",
+        "stops",
+    ),
+    ("{\"stops\":0,\"children\":0,\"version\":\"1\"}", "version"),
+    ("{\"stops\":0,\"children\":0,\"version\":1}", "needs"),
+    (
+        "{\"stops\":0,\"opens\":0,\"needs\":[],\"version\":1}",
+        "opens",
+    ),
+    (
+        "{\"stops\":0,\"opens\":[],\"needs\":[],\"version\":1}",
+        "children",
+    ),
+];
+
 #[test]
-fn driver_value_faults(rt: HostRuntime) {
+fn driver_faults(rt: HostRuntime) {
     for (front, field, value) in &VALUES {
         assert_value_fault(&rt, front, field, value);
     }
-}
-
-/// Asserts that a driver is refused where a field is missing, behind those that stand there.
-fn assert_missing(rt: &(impl AllocGlobal + Abort), front: &str, field: &str) {
-    let member = format!(in rt.alloc(); "{{{front}\"x\":0}}");
-    assert_driver_fault(rt, member.expect(rt, "memory").as_str(), field);
-}
-
-#[test]
-fn missing_driver_fields(rt: HostRuntime) {
-    for member in &NO_DRIVERS {
-        assert_driver_fault(&rt, member, "version");
+    for (member, field) in &MEMBERS {
+        assert_driver_fault(&rt, member, field);
     }
-    assert_missing(&rt, VERSION, "needs");
-    assert_missing(&rt, NEEDS, "opens");
-    assert_missing(&rt, OPENS, "children");
-    assert_missing(&rt, CHILDREN, "stops");
-}
-
-/// The first wrong field is told in the order of the fields, whatever the order in the file.
-#[test]
-fn driver_field_order(rt: HostRuntime) {
-    assert_driver_fault(
-        &rt,
-        "{\"stops\":0,\"children\":0,\"version\":\"1\"}",
-        "version",
-    );
-    assert_driver_fault(&rt, "{\"stops\":0,\"children\":0,\"version\":1}", "needs");
-    assert_driver_fault(
-        &rt,
-        "{\"stops\":0,\"opens\":0,\"needs\":[],\"version\":1}",
-        "opens",
-    );
-    assert_driver_fault(
-        &rt,
-        "{\"stops\":0,\"opens\":[],\"needs\":[],\"version\":1}",
-        "children",
-    );
 }
 
 /// Machine files that are refused as a whole, with what is told.
-const MACHINES: [(&[u8], &str); 9] = [
+pub const MACHINES: &[MachineFault] = &[
     (
         b"{\"drivers\":null,\"memory\":[]}",
         "bootcore: machine: no driver list\n",
@@ -190,13 +183,6 @@ const MACHINES: [(&[u8], &str); 9] = [
         "bootcore: machine: descriptors overlap\n",
     ),
 ];
-
-#[test]
-fn driver_list_faults(rt: HostRuntime) {
-    for (machine, fault) in &MACHINES {
-        assert_stops(&rt, machine, b"list\n", "", fault);
-    }
-}
 
 /// A list of so many times the same text.
 fn list_of(rt: &(impl AllocGlobal + Abort), text: &str, count: usize) -> String {
@@ -249,11 +235,6 @@ fn longest_driver_lists(rt: HostRuntime) {
     assert_driver_fault(&rt, children.as_str(), "children");
     let pairs = driver_of(&rt, 8, 8, 5);
     assert_driver_fault(&rt, pairs.as_str(), "children");
-}
-
-/// One GUID more than can be opened.
-#[test]
-fn longest_opens(rt: HostRuntime) {
     let names = list_of(&rt, "\"11111111-1111-1111-1111-111111111111\"", 9);
     assert_value_fault(&rt, NEEDS, "opens", names.as_str());
 }

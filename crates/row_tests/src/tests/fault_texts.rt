@@ -6,115 +6,109 @@ use program_runs::{Fault, serve_fault};
 use std::process::Abort;
 
 /// Asserts that the fault is told by this line.
-fn assert_told(rt: &(impl AllocGlobal + Abort), fault: Fault, line: &str) {
+fn assert_told(rt: &(impl AllocGlobal + Abort), fault: &Fault, line: &str) {
     let mut err = Vec::new(rt.alloc());
-    assert_eq!(rt; serve_fault(&mut err, &fault), 1);
+    assert_eq!(rt; serve_fault(&mut err, fault), 1);
     assert_text(rt, line, err.as_slice(), line);
 }
 
-#[test]
-fn own_faults(rt: HostRuntime) {
-    assert_told(
-        &rt,
-        Fault::CannotReadMachine,
-        "bootcore: cannot read machine\n",
-    );
-    assert_told(&rt, Fault::CannotReadTrace, "bootcore: cannot read trace\n");
-    assert_told(&rt, Fault::OutOfMemory, "bootcore: out of memory\n");
-}
-
-/// Faults of a machine file.
-const MACHINE_FAULTS: [(MachineFault, &str); 9] = [
-    (MachineFault::TooLong, "bootcore: machine: too long\n"),
-    (MachineFault::NotJson, "bootcore: machine: not JSON\n"),
+/// Faults of the program, and of a machine file, a run and a check.
+const FAULTS: [(Fault, &str); 24] = [
+    (Fault::CannotReadMachine, "bootcore: cannot read machine\n"),
+    (Fault::CannotReadTrace, "bootcore: cannot read trace\n"),
+    (Fault::OutOfMemory, "bootcore: out of memory\n"),
     (
-        MachineFault::NoMemoryList,
+        Fault::Machine(MachineFault::TooLong),
+        "bootcore: machine: too long\n",
+    ),
+    (
+        Fault::Machine(MachineFault::NotJson),
+        "bootcore: machine: not JSON\n",
+    ),
+    (
+        Fault::Machine(MachineFault::NoMemoryList),
         "bootcore: machine: no memory list\n",
     ),
     (
-        MachineFault::TooManyDescriptors,
+        Fault::Machine(MachineFault::TooManyDescriptors),
         "bootcore: machine: too many descriptors\n",
     ),
     (
-        MachineFault::Descriptor {
+        Fault::Machine(MachineFault::Descriptor {
             number: 65_535,
             field: MemberField::Attributes,
-        },
+        }),
         "bootcore: machine: descriptor 65535: attributes\n",
     ),
     (
-        MachineFault::NoDriverList,
+        Fault::Machine(MachineFault::NoDriverList),
         "bootcore: machine: no driver list\n",
     ),
     (
-        MachineFault::TooManyDrivers,
+        Fault::Machine(MachineFault::TooManyDrivers),
         "bootcore: machine: too many drivers\n",
     ),
     (
-        MachineFault::Overlap,
+        Fault::Machine(MachineFault::Overlap),
         "bootcore: machine: descriptors overlap\n",
     ),
-    (MachineFault::OutOfMemory, "bootcore: out of memory\n"),
-];
-
-#[test]
-fn machine_faults(rt: HostRuntime) {
-    for (fault, line) in &MACHINE_FAULTS {
-        assert_told(&rt, Fault::Machine(*fault), line);
-    }
-}
-
-/// Faults of a run.
-const RUN_FAULTS: [(RunFault, &str); 8] = [
-    (RunFault::Read, "bootcore: cannot read trace\n"),
-    (RunFault::Write, "bootcore: cannot write\n"),
-    (RunFault::TooManyLines, "bootcore: trace: too many lines\n"),
-    (RunFault::NoCallsLeft, "bootcore: trace: no calls left\n"),
-    (RunFault::OutOfMemory, "bootcore: out of memory\n"),
     (
-        RunFault::Line {
+        Fault::Machine(MachineFault::OutOfMemory),
+        "bootcore: out of memory\n",
+    ),
+    (Fault::Run(RunFault::Read), "bootcore: cannot read trace\n"),
+    (Fault::Run(RunFault::Write), "bootcore: cannot write\n"),
+    (
+        Fault::Run(RunFault::TooManyLines),
+        "bootcore: trace: too many lines\n",
+    ),
+    (
+        Fault::Run(RunFault::NoCallsLeft),
+        "bootcore: trace: no calls left\n",
+    ),
+    (
+        Fault::Run(RunFault::OutOfMemory),
+        "bootcore: out of memory\n",
+    ),
+    (
+        Fault::Run(RunFault::Line {
             number: 1_000_000,
             fault: TraceFault::Long,
-        },
+        }),
         "bootcore: trace line 1000000: long\n",
     ),
     (
-        RunFault::Line {
+        Fault::Run(RunFault::Line {
             number: 1,
             fault: TraceFault::Guid,
-        },
+        }),
         "bootcore: trace line 1: guid\n",
     ),
     (
-        RunFault::Line {
+        Fault::Run(RunFault::Line {
             number: 1,
             fault: TraceFault::Hex,
-        },
+        }),
         "bootcore: trace line 1: hex\n",
     ),
-];
-
-#[test]
-fn run_faults(rt: HostRuntime) {
-    for (fault, line) in &RUN_FAULTS {
-        assert_told(&rt, Fault::Run(*fault), line);
-    }
-}
-
-/// Faults of a check.
-const BLOCK_FAULTS: [(BlockFault, &str); 4] = [
-    (BlockFault::Read, "bootcore: cannot read block\n"),
-    (BlockFault::Write, "bootcore: cannot write\n"),
     (
-        BlockFault::Line { number: 5_000_001 },
+        Fault::Block(BlockFault::Read),
+        "bootcore: cannot read block\n",
+    ),
+    (Fault::Block(BlockFault::Write), "bootcore: cannot write\n"),
+    (
+        Fault::Block(BlockFault::Line { number: 5_000_001 }),
         "bootcore: block: line 5000001\n",
     ),
-    (BlockFault::OutOfMemory, "bootcore: out of memory\n"),
+    (
+        Fault::Block(BlockFault::OutOfMemory),
+        "bootcore: out of memory\n",
+    ),
 ];
 
 #[test]
-fn block_faults(rt: HostRuntime) {
-    for (fault, line) in &BLOCK_FAULTS {
-        assert_told(&rt, Fault::Block(*fault), line);
+fn faults(rt: HostRuntime) {
+    for (fault, line) in &FAULTS {
+        assert_told(&rt, fault, line);
     }
 }

@@ -1,9 +1,11 @@
 //! Trace lines: those that are refused, with what is told, and some that are read.
-use super::{MACHINE, assert_prints, assert_stops};
+use super::{MACHINE, Row, assert_stops, driver_rows, pools, protocols};
 use std::process::Abort;
 
-/// Trace lines that are refused, with what is told.
-const LINES: [(&[u8], &str); 30] = [
+/// A trace line that is refused, with what is told.
+pub type LineFault = (&'static [u8], &'static str);
+
+const LINES: &[LineFault] = &[
     (b"x", "verb"),
     (b"Pages 0 4 1 0", "verb"),
     (b"list\r\r", "verb"),
@@ -46,37 +48,68 @@ fn assert_line_fault(rt: &(impl AllocGlobal + Abort), line: &[u8], text: &str) {
     assert_stops(rt, MACHINE.as_bytes(), trace.as_slice(), "", fault.as_str());
 }
 
+fn assert_line_faults(rt: &(impl AllocGlobal + Abort), lines: &[LineFault]) {
+    for (line, text) in lines {
+        assert_line_fault(rt, line, text);
+    }
+}
+
 #[test]
 fn line_faults(rt: HostRuntime) {
-    for (line, text) in &LINES {
-        assert_line_fault(&rt, line, text);
-    }
+    assert_line_faults(&rt, LINES);
+    assert_line_faults(&rt, pools::FAULTS);
+    assert_line_faults(&rt, protocols::FAULTS);
+    assert_line_faults(&rt, driver_rows::FAULTS);
 }
 
 /// Lines that are read: the largest and the longest numbers, and blanks of each kind.
-const READ_LINES: [(&[u8], &str); 8] = [
+pub const READ_LINES: &[Row] = &[
     (
-        b"pages 3 4 18446744073709551615 0",
+        "a line",
+        MACHINE,
+        "pages 3 4 18446744073709551615 0",
         "1 pages INVALID_PARAMETER\n",
     ),
     (
-        b"pages 4294967295 4294967295 1 0",
+        "a line",
+        MACHINE,
+        "pages 4294967295 4294967295 1 0",
         "1 pages INVALID_PARAMETER\n",
     ),
     (
-        b"pages 3 0xFfFfFfFf 1 0xffffffffffffffff",
+        "a line",
+        MACHINE,
+        "pages 3 0xFfFfFfFf 1 0xffffffffffffffff",
         "1 pages INVALID_PARAMETER\n",
     ),
-    (b"pages 2 4 1 00000000000000004097", "1 pages NOT_FOUND\n"),
-    (b"pages 0x2 4 1 0x0000000000001001", "1 pages NOT_FOUND\n"),
-    (b"\tpages  2\t\t4 1 0x1001 \t", "1 pages NOT_FOUND\n"),
-    (b"pages 2 4 1 0x1001\r", "1 pages NOT_FOUND\n"),
-    (b"pages 2 4 1 0x1001 \r", "1 pages NOT_FOUND\n"),
+    (
+        "a line",
+        MACHINE,
+        "pages 2 4 1 00000000000000004097",
+        "1 pages NOT_FOUND\n",
+    ),
+    (
+        "a line",
+        MACHINE,
+        "pages 0x2 4 1 0x0000000000001001",
+        "1 pages NOT_FOUND\n",
+    ),
+    (
+        "a line",
+        MACHINE,
+        "\tpages  2\t\t4 1 0x1001 \t",
+        "1 pages NOT_FOUND\n",
+    ),
+    (
+        "a line",
+        MACHINE,
+        "pages 2 4 1 0x1001\r",
+        "1 pages NOT_FOUND\n",
+    ),
+    (
+        "a line",
+        MACHINE,
+        "pages 2 4 1 0x1001 \r",
+        "1 pages NOT_FOUND\n",
+    ),
 ];
-
-#[test]
-fn lines_that_are_read(rt: HostRuntime) {
-    for (line, out) in &READ_LINES {
-        assert_prints(&rt, out, MACHINE.as_bytes(), line, out);
-    }
-}

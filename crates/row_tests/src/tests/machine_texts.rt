@@ -1,5 +1,5 @@
 //! Machine files: those that are refused, with the line of the fault, and some that are read.
-use super::{MACHINE, assert_prints, assert_stops, outcome_of};
+use super::{MACHINE, Row, assert_prints, assert_stops, driver_texts, outcome_of, pools};
 use std::process::Abort;
 
 /// Members that are refused, each with the field that is told.
@@ -61,8 +61,10 @@ fn descriptor_faults(rt: HostRuntime) {
     }
 }
 
-/// Machine files that are refused as a whole, with what is told.
-const MACHINES: [(&[u8], &str); 10] = [
+/// A machine file that is refused as a whole, with what is told.
+pub type MachineFault = (&'static [u8], &'static str);
+
+const MACHINES: &[MachineFault] = &[
     (b"", "bootcore: machine: not JSON\n"),
     (b"{\"memory\":[]}x", "bootcore: machine: not JSON\n"),
     (
@@ -92,11 +94,16 @@ const MACHINES: [(&[u8], &str); 10] = [
     ),
 ];
 
+fn assert_machine_faults(rt: &(impl AllocGlobal + Abort), machines: &[MachineFault]) {
+    for (machine, fault) in machines {
+        assert_stops(rt, machine, b"list\n", "", fault);
+    }
+}
+
 #[test]
 fn machine_faults(rt: HostRuntime) {
-    for (machine, fault) in &MACHINES {
-        assert_stops(&rt, machine, b"list\n", "", fault);
-    }
+    assert_machine_faults(&rt, MACHINES);
+    assert_machine_faults(&rt, driver_texts::MACHINES);
 }
 
 /// No front of a machine file is a machine file, but for all of it.
@@ -112,20 +119,6 @@ fn fronts(rt: HostRuntime) {
             "bootcore: machine: not JSON\n",
         );
     }
-}
-
-/// Members in any order, with unknown keys, a doubled key and pages that touch.
-#[test]
-fn machine_as_if_sorted(rt: HostRuntime) {
-    let machine = b"{\"name\":3,\"memory\":[1],\"memory\":[
-{\"pages\":1,\"attributes\":\"0x0\",\"type\":0,\"type\":15,\"start\":\"0xfffffffffffff000\"},
-{\"type\":4294967295,\"start\":\"0x3000\",\"pages\":2,\"attributes\":\"0xF\",\"x\":{}},
-{\"type\":4294967295,\"start\":\"0x1000\",\"pages\":2,\"attributes\":\"0xf\"}]}";
-    let out = "1 list descriptors=2
-  4294967295 0x1000 4 0xf
-  15 0xfffffffffffff000 1 0x0
-";
-    assert_prints(&rt, "touching pages", machine, b"list", out);
 }
 
 /// The memory that u-boot leaves on a machine of QEMU, as in `examples/real-firmware`.
@@ -145,10 +138,25 @@ const FIRMWARE: &str = "{\"memory\":[
 {\"type\":5,\"start\":\"0x7fef0000\",\"pages\":16,\"attributes\":\"0x8000000000000008\"},
 {\"type\":3,\"start\":\"0x7ff00000\",\"pages\":256,\"attributes\":\"0x8\"}]}";
 
-/// A firmware's map is printed as it was read.
-#[test]
-fn firmware_map(rt: HostRuntime) {
-    let out = "1 map SUCCESS size=672 key=1 descriptor-size=48 version=1
+/// Machines of other kinds.
+pub const RUNS: &[Row] = &[
+    (
+        "members in any order, with unknown keys, a doubled key and pages that touch",
+        "{\"name\":3,\"memory\":[1],\"memory\":[
+{\"pages\":1,\"attributes\":\"0x0\",\"type\":0,\"type\":15,\"start\":\"0xfffffffffffff000\"},
+{\"type\":4294967295,\"start\":\"0x3000\",\"pages\":2,\"attributes\":\"0xF\",\"x\":{}},
+{\"type\":4294967295,\"start\":\"0x1000\",\"pages\":2,\"attributes\":\"0xf\"}]}",
+        "list",
+        "1 list descriptors=2
+  4294967295 0x1000 4 0xf
+  15 0xfffffffffffff000 1 0x0
+",
+    ),
+    (
+        "a firmware's map is printed as it was read",
+        FIRMWARE,
+        "map 4096\n",
+        "1 map SUCCESS size=672 key=1 descriptor-size=48 version=1
   7 0x40000000 32253 0x8
   9 0x47dfd000 518 0x8
   7 0x48003000 220551 0x8
@@ -163,9 +171,10 @@ fn firmware_map(rt: HostRuntime) {
   3 0x7ddb6000 8506 0x8
   5 0x7fef0000 16 0x8000000000000008
   3 0x7ff00000 256 0x8
-";
-    assert_prints(&rt, "firmware", FIRMWARE.as_bytes(), b"map 4096\n", out);
-}
+",
+    ),
+    pools::LAST_PAGE,
+];
 
 /// The most members of a machine file's memory list.
 const MOST_DESCRIPTORS: u32 = 65_536;

@@ -1,11 +1,13 @@
 //! Runs with calls of the pool, worked out by hand.
-use super::{MACHINE, assert_prints, assert_stops, assert_text, outcome_of};
+use super::line_texts::LineFault;
+use super::{MACHINE, Row, assert_prints};
 use std::process::Abort;
 
-/// Traces that are run to their end on the machine: each a name, the trace, and what is printed.
-const RUNS: [(&str, &str, &str); 7] = [
+/// Traces that are run to their end.
+pub const RUNS: &[Row] = &[
     (
         "a pool growth changes the key, a block in a live extent does not",
+        MACHINE,
         "map 191
 map 192
 pool 4 24
@@ -36,6 +38,7 @@ map 4096
     ),
     (
         "first fit",
+        MACHINE,
         "pool 4 24
 pool 4 25
 free-pool 0x7ff008
@@ -67,6 +70,7 @@ free-pages 0x7ff000 1
     ),
     (
         "an empty block, and sizes and types that are refused",
+        MACHINE,
         "pool 4 0
 read 0x7ff008 0
 write 0x7ff008 -
@@ -94,6 +98,7 @@ read 0x7ff008 0
     ),
     (
         "freed cells are taken again, all 0",
+        MACHINE,
         "pool 4 24
 pool 4 24
 pool 4 24
@@ -125,6 +130,7 @@ pool 4 24
     ),
     (
         "bytes of either case, a number of hexadecimal digits, and reads at both ends",
+        MACHINE,
         "pool 4 8
 write 0x7ff00A aBcD
 read 0x7Ff008 0x8
@@ -148,6 +154,7 @@ read 0x7ff008 8
     ),
     (
         "after an exit each call is refused",
+        MACHINE,
         "pool 4 8
 write 0x7ff008 77
 exit 2
@@ -167,6 +174,7 @@ write 0x7ff008 -
     ),
     (
         "extents that touch stay two: no block lies in both",
+        MACHINE,
         "pool 4 2024\npool 4 2024\npool 4 2024\nfree-pool 0x7ff008\npool 4 4088\npool 4 2024\npool 4 2024\nlist\n",
         "1 pool SUCCESS address=0x7ff008
 2 pool SUCCESS address=0x7ff808
@@ -185,21 +193,12 @@ write 0x7ff008 -
     ),
 ];
 
-#[test]
-fn pool_runs(rt: HostRuntime) {
-    for (name, trace, out) in &RUNS {
-        assert_prints(&rt, name, MACHINE.as_bytes(), trace.as_bytes(), out);
-    }
-}
-
 /// Blocks in the last page of all, up to its last byte.
-#[test]
-fn last_page_of_all(rt: HostRuntime) {
-    let machine =
-        b"{\"memory\":[{\"type\":7,\"start\":\"0xfffffffffffff000\",\"pages\":1,\"attributes\":\"0xf\"}]}";
-    let trace =
-        b"pool 4 4088\nwrite 0xffffffffffffffff 5a\nread 0xfffffffffffffffe 2\nread 0xffffffffffffffff 2\nread 0 0\npool 4 0\nfree-pool 0xfffffffffffff008\npool 4 4056\npool 4 0\nread 0xffffffffffffffe8 0\nread 0xffffffffffffffe9 0\n";
-    let out = "1 pool SUCCESS address=0xfffffffffffff008
+pub const LAST_PAGE: Row = (
+    "the last page",
+    "{\"memory\":[{\"type\":7,\"start\":\"0xfffffffffffff000\",\"pages\":1,\"attributes\":\"0xf\"}]}",
+    "pool 4 4088\nwrite 0xffffffffffffffff 5a\nread 0xfffffffffffffffe 2\nread 0xffffffffffffffff 2\nread 0 0\npool 4 0\nfree-pool 0xfffffffffffff008\npool 4 4056\npool 4 0\nread 0xffffffffffffffe8 0\nread 0xffffffffffffffe9 0\n",
+    "1 pool SUCCESS address=0xfffffffffffff008
 2 write SUCCESS
 3 read SUCCESS bytes=005a
 4 read INVALID_PARAMETER
@@ -210,32 +209,21 @@ fn last_page_of_all(rt: HostRuntime) {
 9 pool SUCCESS address=0xffffffffffffffe8
 10 read SUCCESS bytes=
 11 read INVALID_PARAMETER
-";
-    assert_prints(&rt, "the last page", machine, trace, out);
-}
+",
+);
 
 /// Lines that are no calls: each with what is wrong with it.
-const FAULTS: [(&str, &str); 9] = [
-    ("pool 4294967296 8", "number"),
-    ("pool 4", "words"),
-    ("free-pool 0x7ff008 1", "words"),
-    ("read 0x7ff008 65537", "number"),
-    ("write 0x7ff008 a", "hex"),
-    ("write 0x7ff008 --", "hex"),
-    ("write 0x7ff008 0x5a", "hex"),
-    ("write 5g 5g", "number"),
-    ("write 0x7ff008", "words"),
+pub const FAULTS: &[LineFault] = &[
+    (b"pool 4294967296 8", "number"),
+    (b"pool 4", "words"),
+    (b"free-pool 0x7ff008 1", "words"),
+    (b"read 0x7ff008 65537", "number"),
+    (b"write 0x7ff008 a", "hex"),
+    (b"write 0x7ff008 --", "hex"),
+    (b"write 0x7ff008 0x5a", "hex"),
+    (b"write 5g 5g", "number"),
+    (b"write 0x7ff008", "words"),
 ];
-
-#[test]
-fn lines_that_are_no_pool_calls(rt: HostRuntime) {
-    for (line, fault) in &FAULTS {
-        let text = format!(in rt.alloc(); "bootcore: trace line 1: {fault}\n").expect(
-            &rt, "memory",
-        );
-        assert_stops(&rt, MACHINE.as_bytes(), line.as_bytes(), "", text.as_str());
-    }
-}
 
 /// A block of the most bytes that a line can write or read is written and read whole.
 #[test]
@@ -258,15 +246,11 @@ fn longest_read_and_write(rt: HostRuntime) {
 }
 
 /// A new extent has a certificate, a block in a live one has none.
-#[test]
-fn pool_certificate(rt: HostRuntime) {
-    let trace = b"pool 4 24\npool 4 25\nfree-pool 0x7ff008\n";
-    let outcome = outcome_of(&rt, MACHINE.as_bytes(), trace, true);
-    assert_text(
-        &rt,
-        "pool certificate",
-        outcome.out.as_slice(),
-        "1 pool SUCCESS address=0x7ff008
+pub const CERTIFIED: Row = (
+    "pool certificate",
+    MACHINE,
+    "pool 4 24\npool 4 25\nfree-pool 0x7ff008\n",
+    "1 pool SUCCESS address=0x7ff008
 certificate
 map 4
 7 0 160 0xf
@@ -283,6 +267,4 @@ end
 2 pool SUCCESS address=0x7ff028
 3 free-pool SUCCESS
 ",
-    );
-    assert_eq!(rt; outcome.status, 0);
-}
+);

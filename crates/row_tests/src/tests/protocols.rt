@@ -1,11 +1,12 @@
 //! Runs with calls of the protocol services, worked out by hand.
-use super::{MACHINE, assert_prints, assert_stops, assert_text, outcome_of};
-use std::process::Abort;
+use super::line_texts::LineFault;
+use super::{MACHINE, Row};
 
-/// Traces that are run to their end on the machine: each a name, the trace, and what is printed.
-const RUNS: [(&str, &str, &str); 9] = [
+/// Traces that are run to their end.
+pub const RUNS: &[Row] = &[
     (
         "handles, searches, and handles in a buffer",
+        MACHINE,
         "locate-buffer 2 11111111-1111-1111-1111-111111111111 0
 install 0 11111111-1111-1111-1111-111111111111 0 0x10
 install 0 22222222-2222-2222-2222-222222222222 0 0
@@ -37,6 +38,7 @@ protocols 3
     ),
     (
         "several interfaces at once, all or none",
+        MACHINE,
         "install-many 0 11111111-1111-1111-1111-111111111111 1 22222222-2222-2222-2222-222222222222 2
 protocols 1
 install-many 1 33333333-3333-3333-3333-333333333333 3 11111111-1111-1111-1111-111111111111 4
@@ -64,6 +66,7 @@ install-many 0 09576e91-6d3f-11d2-8e39-00a0c969723b 0x7ff028
     ),
     (
         "events, and the next handle of a key",
+        MACHINE,
         "notify 11111111-1111-1111-1111-111111111111 7
 install 0 11111111-1111-1111-1111-111111111111 0 0x11
 notify 11111111-1111-1111-1111-111111111111 8
@@ -91,6 +94,7 @@ locate 1 11111111-1111-1111-1111-111111111111 3 8
     ),
     (
         "who has an interface open",
+        MACHINE,
         "install 0 11111111-1111-1111-1111-111111111111 0 0x10
 install 0 22222222-2222-2222-2222-222222222222 0 0
 install 0 22222222-2222-2222-2222-222222222222 0 0
@@ -124,6 +128,7 @@ handle-protocol 1 11111111-1111-1111-1111-111111111111
     ),
     (
         "the entries of open items",
+        MACHINE,
         "install 0 11111111-1111-1111-1111-111111111111 0 0x10
 install 0 22222222-2222-2222-2222-222222222222 0 0
 install 0 22222222-2222-2222-2222-222222222222 0 0
@@ -149,6 +154,7 @@ read 0x7ff008 48
     ),
     (
         "which opens go together",
+        MACHINE,
         "install 0 11111111-1111-1111-1111-111111111111 0 0x10
 install 0 22222222-2222-2222-2222-222222222222 0 0
 install 0 22222222-2222-2222-2222-222222222222 0 0
@@ -194,6 +200,7 @@ open 1 11111111-1111-1111-1111-111111111111 2 0 0x20
     ),
     (
         "the longest device path",
+        MACHINE,
         "pool 4 10
 pool 4 15
 pool 4 23
@@ -223,6 +230,7 @@ path 09576e91-6d3f-11d2-8e39-00a0c969723b 0x7ff028
     ),
     (
         "bytes that are no device path",
+        MACHINE,
         "pool 4 8
 write 0x7ff008 010103007fff0400
 path 09576e91-6d3f-11d2-8e39-00a0c969723b 0x7ff008
@@ -258,6 +266,7 @@ path 09576e91-6d3f-11d2-8e39-00a0c969723b 0x7ff008
     ),
     (
         "GUIDs in other forms, and calls after the exit",
+        MACHINE,
         "install 0 {11111111-1111-1111-1111-111111111111} 0 0xffffffffffffffff
 handle-protocol 1 11111111111111111111111111111111
 install 0 urn:uuid:ABCDEF01-2345-6789-abcd-ef0123456789 0 0
@@ -291,82 +300,61 @@ information 1 11111111-1111-1111-1111-111111111111
     ),
 ];
 
-#[test]
-fn protocol_runs(rt: HostRuntime) {
-    for (name, trace, out) in &RUNS {
-        assert_prints(&rt, name, MACHINE.as_bytes(), trace.as_bytes(), out);
-    }
-}
-
 /// Lines that are no call of the protocol services: each with the word of its fault.
-const FAULTS: [(&str, &str); 14] = [
-    ("install 0 11111111-1111-1111-1111-111111111111 0", "words"),
+pub const FAULTS: &[LineFault] = &[
+    (b"install 0 11111111-1111-1111-1111-111111111111 0", "words"),
     (
-        "install 0 11111111-1111-1111-1111-111111111111 0 0 0",
+        b"install 0 11111111-1111-1111-1111-111111111111 0 0 0",
         "words",
     ),
-    ("install-many 0", "words"),
+    (b"install-many 0", "words"),
     (
-        "install-many 0 11111111-1111-1111-1111-111111111111",
-        "words",
-    ),
-    (
-        "install-many 0 11111111-1111-1111-1111-111111111111 1 22222222-2222-2222-2222-222222222222",
+        b"install-many 0 11111111-1111-1111-1111-111111111111",
         "words",
     ),
     (
-        "install 0 11111111-1111-1111-1111-111111111111 4294967296 0",
+        b"install-many 0 11111111-1111-1111-1111-111111111111 1 22222222-2222-2222-2222-222222222222",
+        "words",
+    ),
+    (
+        b"install 0 11111111-1111-1111-1111-111111111111 4294967296 0",
         "number",
     ),
     (
-        "install x 11111111-1111-1111-1111-111111111111 0 0",
+        b"install x 11111111-1111-1111-1111-111111111111 0 0",
         "number",
     ),
-    ("install 0 1111 0 0", "guid"),
+    (b"install 0 1111 0 0", "guid"),
     (
-        "install-many 0 11111111-1111-1111-1111-111111111111 1 g 2",
+        b"install-many 0 11111111-1111-1111-1111-111111111111 1 g 2",
         "guid",
     ),
-    ("notify 11111111-1111-1111-1111-111111111111", "words"),
+    (b"notify 11111111-1111-1111-1111-111111111111", "words"),
     (
-        "locate 4294967296 11111111-1111-1111-1111-111111111111 0 0",
+        b"locate 4294967296 11111111-1111-1111-1111-111111111111 0 0",
         "number",
     ),
     (
-        "open 1 11111111-1111-1111-1111-111111111111 0 0 4294967296",
+        b"open 1 11111111-1111-1111-1111-111111111111 0 0 4294967296",
         "number",
     ),
-    ("path zz 0", "guid"),
+    (b"path zz 0", "guid"),
     (
-        "uninstalls 1 11111111-1111-1111-1111-111111111111 0",
+        b"uninstalls 1 11111111-1111-1111-1111-111111111111 0",
         "verb",
     ),
 ];
 
-#[test]
-fn lines_that_are_no_protocol_calls(rt: HostRuntime) {
-    for (line, fault) in &FAULTS {
-        let text = format!(in rt.alloc(); "bootcore: trace line 1: {fault}\n").expect(
-            &rt, "memory",
-        );
-        assert_stops(&rt, MACHINE.as_bytes(), line.as_bytes(), "", text.as_str());
-    }
-}
-
 /// The block of a list has a certificate where it takes a new extent, and none in a live one.
-#[test]
-fn list_certificate(rt: HostRuntime) {
-    let trace = b"install 0 11111111-1111-1111-1111-111111111111 0 0
+pub const CERTIFIED: Row = (
+    "list certificate",
+    MACHINE,
+    "install 0 11111111-1111-1111-1111-111111111111 0 0
 locate-buffer 0 11111111-1111-1111-1111-111111111111 0
 open 1 11111111-1111-1111-1111-111111111111 1 0 2
 information 1 11111111-1111-1111-1111-111111111111
-";
-    let outcome = outcome_of(&rt, MACHINE.as_bytes(), trace, true);
-    assert_text(
-        &rt,
-        "list certificate",
-        outcome.out.as_slice(),
-        "1 install SUCCESS handle=1 events=-
+",
+    "1 install SUCCESS handle=1 events=-
 2 locate-buffer SUCCESS count=1 address=0x7ff008
 certificate
 map 4
@@ -384,6 +372,4 @@ end
 3 open SUCCESS interface=0x0
 4 information SUCCESS count=1 address=0x7ff028
 ",
-    );
-    assert_eq!(rt; outcome.status, 0);
-}
+);

@@ -1,5 +1,8 @@
 //! Whole runs, worked out by hand.
-use super::{MACHINE, assert_prints, assert_stops};
+use super::{
+    MACHINE, Row, assert_prints, assert_rows, assert_stops, line_texts, machine_texts, placements,
+    pools, protocols,
+};
 
 /// The map of the machine, as lines.
 const MAP: &str = "  7 0x0 160 0xf
@@ -8,10 +11,11 @@ const MAP: &str = "  7 0x0 160 0xf
   7 0x410000 1008 0xf
 ";
 
-/// Traces that are run to their end on the machine: each a name, the trace, and what is printed.
-const RUNS: [(&str, &str, &str); 6] = [
+/// Traces that are run to their end.
+const RUNS: &[Row] = &[
     (
         "first run",
+        MACHINE,
         "pages 2 4 2 0x9e000\nlist\n",
         "1 pages SUCCESS address=0x9e000
 2 list descriptors=5
@@ -24,6 +28,7 @@ const RUNS: [(&str, &str, &str); 6] = [
     ),
     (
         "page refusals",
+        MACHINE,
         "pages 2 4 2 0x9f000
 pages 2 4 1 0x1001
 free-pages 0x400000 16
@@ -39,6 +44,7 @@ pages 0 14 1 0
     ),
     (
         "placements side by side are freed by one call, and join the block around them again",
+        MACHINE,
         "pages 2 4 10 0x7f6000
 pages 2 6 5 0x7f1000
 free-pages 0x7f1000 15
@@ -62,6 +68,7 @@ list
     ),
     (
         "keys through allocation and exit",
+        MACHINE,
         "map 192
 pages 0 4 10 0
 exit 1
@@ -102,6 +109,7 @@ list
     ),
     (
         "a buffer of a byte less than the map, and one of just so many",
+        MACHINE,
         "map 191\nmap 192\n",
         "1 map BUFFER_TOO_SMALL size=192
 2 map SUCCESS size=192 key=1 descriptor-size=48 version=1
@@ -113,26 +121,29 @@ list
     ),
     (
         "skipped lines",
+        MACHINE,
         "\n\r\n \t\n#\n# list x\n \t#list\n#list\r\n\t\r",
         "",
+    ),
+    (
+        "no memory",
+        "{\"memory\":[]}",
+        "map 0\npages 0 4 1 0\npages 0 4 0 0\n",
+        "1 map SUCCESS size=0 key=1 descriptor-size=48 version=1
+2 pages OUT_OF_RESOURCES
+3 pages INVALID_PARAMETER
+",
     ),
 ];
 
 #[test]
 fn runs(rt: HostRuntime) {
-    for (name, trace, out) in &RUNS {
-        assert_prints(&rt, name, MACHINE.as_bytes(), trace.as_bytes(), out);
-    }
-}
-
-#[test]
-fn no_memory_at_all(rt: HostRuntime) {
-    let trace = b"map 0\npages 0 4 1 0\npages 0 4 0 0\n";
-    let out = "1 map SUCCESS size=0 key=1 descriptor-size=48 version=1
-2 pages OUT_OF_RESOURCES
-3 pages INVALID_PARAMETER
-";
-    assert_prints(&rt, "no memory", b"{\"memory\":[]}", trace, out);
+    assert_rows(&rt, RUNS);
+    assert_rows(&rt, pools::RUNS);
+    assert_rows(&rt, protocols::RUNS);
+    assert_rows(&rt, placements::ROWS);
+    assert_rows(&rt, machine_texts::RUNS);
+    assert_rows(&rt, line_texts::READ_LINES);
 }
 
 /// Traces that a fault stops: each the trace, what was printed before, and the fault.

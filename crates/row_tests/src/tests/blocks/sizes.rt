@@ -1,5 +1,5 @@
 //! Blocks with long lines, and with many.
-use super::{LINES, block_with, verdict_of};
+use super::{LINES, Verdict, block_with, verdict_of};
 use certificate_blocks::{BlockFault, check_block};
 use std::io::{Read, Result};
 use std::process::Abort;
@@ -68,29 +68,25 @@ impl Read for Repeated {
 /// What stands behind the entries of a block that is well-formed.
 const BACK: &[u8] = b"request 4 1 1\nbounds 0\nanswer 0\nend\n";
 
-/// A block has up to 5,000,000 lines: all but six are entries here, which are no map.
-#[test]
-fn most_lines(rt: HostRuntime) {
+/// The verdict on a block of so many entries, which are no map.
+fn verdict_on(rt: &impl AllocGlobal, front: &'static [u8], entries: u64) -> Verdict {
     let block = Repeated {
-        now: b"certificate\nmap 4999994\n",
+        now: front,
         line: b"7 0 1 0\n",
-        left: 4_999_994,
+        left: entries,
         back: BACK,
     };
     let mut out = Vec::new(rt.alloc());
-    assert!(rt; check_block(rt.alloc(), block, &mut out) == Ok(false));
+    check_block(rt.alloc(), block, &mut out)
 }
 
-/// A line more is no line of a block, whatever it holds.
+/// A block has up to 5,000,000 lines, all but six of which are entries here. A line more is no line of
+/// a block, whatever it holds.
 #[test]
-fn too_many_lines(rt: HostRuntime) {
-    let block = Repeated {
-        now: b"certificate\nmap 4999995\n",
-        line: b"7 0 1 0\n",
-        left: 4_999_995,
-        back: BACK,
-    };
-    let mut out = Vec::new(rt.alloc());
+fn most_lines(rt: HostRuntime) {
+    let most = verdict_on(&rt, b"certificate\nmap 4999994\n", 4_999_994);
+    assert!(rt; most == Ok(false));
+    let more = verdict_on(&rt, b"certificate\nmap 4999995\n", 4_999_995);
     let fault = BlockFault::Line { number: 5_000_001 };
-    assert!(rt; check_block(rt.alloc(), block, &mut out) == Err(fault));
+    assert!(rt; more == Err(fault));
 }

@@ -126,7 +126,7 @@ fn assert_last(rt: &impl Abort, handles: &Handles, handle: u64, stamp: u64) {
             last = i.stamp;
         }
     }
-    assert_eq!(rt; last, stamp, "last on {handle}");
+    assert!(rt; last == stamp, "last on {handle}");
 }
 
 fn assert_row(rt: &impl Abort, handles: &mut Handles, row: &Row) {

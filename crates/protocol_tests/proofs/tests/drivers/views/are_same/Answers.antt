@@ -2,8 +2,8 @@ use Rattle.std.proofs.Common.{◌≡◌, ◌≢◌, ℕ, ◌+◌, ◌<◌, true,
 use Rattle.std.proofs.lemmas.Bool.{cases_Bool}
 use Rattle.guid_handles.proofs.SortedLists.{drop_next}
 use Rattle.driver_connect.specs.declared.view.ProtocolView.{ProtocolView}
-use Rattle.driver_tests.specs.Probes.{is_same, are_same}
-use Rattle.driver_tests.proofs.tests.views.are_same.Goals as goal
+use Rattle.protocol_tests.specs.Probes.{is_same, are_same}
+use Rattle.protocol_tests.proofs.tests.drivers.views.are_same.Goals as goal
 
 differ : (vs ws : List ProtocolView) → length vs ≢ length ws → are_same vs ws ≡ false
 differ [] [] h = absurd (h refl)

@@ -1,5 +1,6 @@
 //! What an open item means for the next call, by a table written by hand.
-use super::{guid, install, opened};
+use super::super::guid;
+use super::{install, opened};
 use guid_handles::Handles;
 use open_agents::{Decision, Opens};
 use page_ranges::Status;
@@ -64,7 +65,7 @@ fn decision_of(rt: &impl Abort, letter: u8) -> Decision {
 fn five_handles(rt: &(impl AllocGlobal + Abort)) -> Handles {
     let mut handles = Handles::new(rt.alloc());
     for number in 1..6 {
-        assert_eq!(rt; install(rt, &mut handles, 0, 1, 0, 0), Ok(number));
+        assert!(rt; install(rt, &mut handles, 0, 1, 0, 0) == Ok(number));
     }
     handles
 }
@@ -77,11 +78,11 @@ fn assert_letters(
     call: (u64, u8, u64, u64),
     letters: &[u8],
 ) {
-    assert_eq!(rt; letters.len(), SECOND.len());
+    assert!(rt; letters.len() == SECOND.len());
     let (handle, byte, agent, controller) = call;
     for (attributes, letter) in SECOND.iter().zip(letters.iter()) {
         let told = opens.decide(handles, handle, guid(byte), agent, controller, *attributes);
-        assert_eq!(rt; told, decision_of(rt, *letter), "{call:?} {attributes}");
+        assert!(rt; told == decision_of(rt, *letter), "{handle} {attributes}");
     }
 }
 
@@ -90,10 +91,10 @@ fn first_open(rt: &(impl AllocGlobal + Abort), handles: &Handles, attributes: u3
     let none = Opens::new(rt.alloc());
     let decision = none.decide(handles, 1, guid(1), 2, 4, attributes);
     if attributes == 3 {
-        assert_eq!(rt; decision, Decision::Refuse(Status::InvalidParameter));
+        assert!(rt; decision == Decision::Refuse(Status::InvalidParameter));
         none
     } else {
-        assert_eq!(rt; decision, Decision::Add);
+        assert!(rt; decision == Decision::Add);
         opened(rt, 2, 4, attributes)
     }
 }

@@ -1,5 +1,6 @@
 //! The handle table, by values worked out by hand.
-use super::{Installation, assert_installs, guid};
+use super::super::guid;
+use super::{Installation, assert_installs};
 use guid_handles::{Handles, MAX_HANDLES};
 use page_ranges::Status;
 use std::process::Abort;
@@ -17,17 +18,17 @@ const INSTALLED: [Installation; 6] = [
 
 /// Asserts which handles carry a GUID.
 pub fn assert_carriers(rt: &impl Abort, handles: &Handles, byte: u8, carriers: &[u64]) {
-    assert_eq!(rt; handles.by_protocol(guid(byte)), carriers);
+    assert!(rt; handles.by_protocol(guid(byte)) == carriers);
 }
 
 /// Asserts the value of a GUID on a handle, if there is one.
 pub fn assert_value(rt: &impl Abort, handles: &Handles, handle: u64, byte: u8, value: Option<u64>) {
-    assert_eq!(rt; handles.interface(handle, guid(byte)), value);
+    assert!(rt; handles.interface(handle, guid(byte)) == value);
 }
 
 /// Asserts which interface of the first GUID comes after a stamp: its handle and its stamp.
 pub fn assert_next(rt: &impl Abort, handles: &Handles, mark: u64, next: Option<(u64, u64)>) {
-    assert_eq!(rt; handles.after_stamp(guid(1), mark), next);
+    assert!(rt; handles.after_stamp(guid(1), mark) == next);
 }
 
 #[test]
@@ -36,7 +37,7 @@ fn handles_and_interfaces(rt: HostRuntime) {
     assert_installs(&rt, &mut handles, &INSTALLED);
     assert_carriers(&rt, &handles, 1, &[1, 2]);
     assert_carriers(&rt, &handles, 2, &[2]);
-    assert_eq!(rt; handles.all(), [1, 2].as_slice());
+    assert!(rt; handles.all() == [1, 2].as_slice());
     assert_value(&rt, &handles, 2, 1, Some(0x11));
     assert_value(&rt, &handles, 1, 2, None);
     assert_next(&rt, &handles, 1, Some((2, 3)));
@@ -63,14 +64,14 @@ fn assert_installs_both(
     }
     let [first, second] = *pairs;
     let pairs = [(guid(first.0), first.1), (guid(second.0), second.1)];
-    assert_eq!(rt; handles.install_many(handle, &pairs), answer);
+    assert!(rt; handles.install_many(handle, &pairs) == answer);
 }
 
 /// Asserts that the first handle carries the first two GUIDs.
 fn assert_both(rt: &impl Abort, handles: &Handles) {
     let mut guids = [guid(0); 2];
-    assert_eq!(rt; handles.protocols_of(1, &mut guids), Some(2));
-    assert_eq!(rt; guids.as_slice(), [guid(1), guid(2)].as_slice());
+    assert!(rt; handles.protocols_of(1, &mut guids) == Some(2));
+    assert!(rt; guids.as_slice() == [guid(1), guid(2)].as_slice());
 }
 
 #[test]
@@ -89,7 +90,7 @@ pub fn replace(rt: &impl Abort, handles: &mut Handles, handle: u64, value: u64) 
         panic!(rt; "no interface");
     }
     handles.replace(handle, one, value);
-    assert_eq!(rt; handles.interface(handle, one), Some(value));
+    assert!(rt; handles.interface(handle, one) == Some(value));
 }
 
 /// Takes the interface of the first GUID from a handle.
@@ -126,9 +127,9 @@ fn changes(rt: HostRuntime) {
     let mut handles = Handles::new(rt.alloc());
     assert_installs(&rt, &mut handles, &[(0, 1, 0, 0x10, Ok(1))]);
     replace(&rt, &mut handles, 1, 0x12);
-    assert_eq!(rt; handles.last_stamp(), 2);
+    assert!(rt; handles.last_stamp() == 2);
     make_child(&rt, &mut handles);
-    assert_eq!(rt; handles.maker(2), Some((1, 7)));
+    assert!(rt; handles.maker(2) == Some((1, 7)));
     empty_a_copy(&rt, &handles);
     assert!(rt; handles.is_live(1) && handles.is_live(2));
 }

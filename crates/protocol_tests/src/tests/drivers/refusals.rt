@@ -133,7 +133,7 @@ fn is_refused(
     let status = status_with(rt, &heap, &mut lists, drivers, call, left);
     let is_refused = status == Status::OutOfResources;
     if is_refused {
-        assert_eq!(rt; heap.used(), used, "{left} bytes left");
+        assert!(rt; heap.used() == used, "{left} bytes left");
         assert_each(rt, &heap, &mut lists, drivers, call);
     }
     assert_each(rt, &heap, &mut lists, drivers, after);

@@ -1,5 +1,6 @@
 //! Registrations, by values worked out by hand.
-use super::{assert_installs, guid};
+use super::super::guid;
+use super::assert_installs;
 use guid_handles::Handles;
 use protocol_notify::Notify;
 use std::process::Abort;
@@ -8,9 +9,9 @@ use std::process::Abort;
 fn registered(rt: &(impl AllocGlobal + Abort), handles: &mut Handles) -> Notify {
     let one = guid(1);
     let mut notify = Notify::new(rt.alloc());
-    assert_eq!(rt; notify.register(handles, one, 7), Ok(1));
+    assert!(rt; notify.register(handles, one, 7) == Ok(1));
     assert_installs(rt, handles, &[(0, 1, 0, 0x11, Ok(1))]);
-    assert_eq!(rt; notify.register(handles, one, 8), Ok(2));
+    assert!(rt; notify.register(handles, one, 8) == Ok(2));
     assert_installs(rt, handles, &[(0, 1, 0, 0x12, Ok(2))]);
     notify
 }
@@ -18,7 +19,7 @@ fn registered(rt: &(impl AllocGlobal + Abort), handles: &mut Handles) -> Notify 
 /// Asserts that both events are signaled.
 fn assert_signaled(rt: &impl Abort, notify: &Notify) {
     let events = notify.signaled(guid(1)).expect(rt, "memory");
-    assert_eq!(rt; events.as_slice(), [7, 8].as_slice());
+    assert!(rt; events.as_slice() == [7, 8].as_slice());
 }
 
 fn assert_guids(rt: &impl Abort, notify: &Notify) {
@@ -28,7 +29,7 @@ fn assert_guids(rt: &impl Abort, notify: &Notify) {
 
 /// Asserts which handle is next for a key.
 fn assert_next(rt: &impl Abort, notify: &Notify, handles: &Handles, key: u64, handle: u64) {
-    assert_eq!(rt; notify.next(handles, key), Some(handle));
+    assert!(rt; notify.next(handles, key) == Some(handle));
 }
 
 /// Takes the handle that is next for the first key.

@@ -1,6 +1,6 @@
 //! Drivers that look at what they are shown.
 ghost use Rattle.std.specs.Prelude.{◌≡◌};
-ghost use Rattle.driver_tests.specs.Probes as spec;
+ghost use Rattle.protocol_tests.specs.Probes as spec;
 
 use super::steps::{Step, assert_steps};
 use super::{BINDING, guid, opening};
@@ -31,7 +31,7 @@ fn has(protocols: &[ProtocolView], guid: Uuid, held: bool) -> bool
 
 impl Driver for Probe {
     ghost use Rattle.std.specs.Prelude.{◌==◌, ◌&&◌, not, true};
-    ghost use Rattle.driver_tests.specs.Probes as spec;
+    ghost use Rattle.protocol_tests.specs.Probes as spec;
 
     ghost meaning = { λ d. record { version = d.version; supports = λ s. spec.has s.protocols d.asks d.held; plan = λ s. d.plan; may_stop = λ s. not (s.controller == d.stays_on) && not (spec.has s.protocols d.stays_while_held true) } };
 

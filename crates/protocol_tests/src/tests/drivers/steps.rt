@@ -149,10 +149,10 @@ fn assert_events<A: Allocator + Copy>(
 ) {
     match told {
         Ok(signaled) => {
-            assert_eq!(rt; Status::Success, status);
-            assert_eq!(rt; signaled.as_slice(), events);
+            assert!(rt; Status::Success == status);
+            assert!(rt; signaled.as_slice() == events);
         }
-        Err(refusal) => assert_eq!(rt; *refusal, status),
+        Err(refusal) => assert!(rt; *refusal == status),
     }
 }
 
@@ -230,7 +230,7 @@ fn assert_managers<A: Allocator + Copy>(
     pairs: &[(u64, u64)],
 ) {
     match opens.managers(handle) {
-        Ok(managers) => assert_eq!(rt; managers.as_slice(), pairs, "{handle}"),
+        Ok(managers) => assert!(rt; managers.as_slice() == pairs, "{handle}"),
         Err(_) => panic!(rt; "out of memory"),
     }
 }
@@ -243,7 +243,7 @@ fn assert_items<A: Allocator + Copy>(
     wanted: &[OpenItem],
 ) {
     match opens.items(handle, guid(byte)) {
-        Ok(items) => assert_eq!(rt; items.as_slice(), wanted, "{handle}"),
+        Ok(items) => assert!(rt; items.as_slice() == wanted, "{handle}"),
         Err(_) => panic!(rt; "out of memory"),
     }
 }
@@ -252,7 +252,7 @@ fn assert_items<A: Allocator + Copy>(
 fn prepare<A: Allocator + Copy>(rt: &impl Abort, alloc: A, lists: &mut Lists<A>, step: &Step) {
     match step {
         Step::Install(handle, pairs, number) => {
-            assert_eq!(rt; install(rt, &mut lists.handles, *handle, pairs), *number);
+            assert!(rt; install(rt, &mut lists.handles, *handle, pairs) == *number);
         }
         Step::Register(byte, event) => {
             lists.notify = registered(rt, alloc, &lists.handles, *byte, *event);
@@ -276,15 +276,15 @@ fn prepare<A: Allocator + Copy>(rt: &impl Abort, alloc: A, lists: &mut Lists<A>,
 /// Asserts what a step says of the lists.
 fn assert_lists<A: Allocator + Copy>(rt: &impl Abort, lists: &Lists<A>, step: &Step) {
     match step {
-        Step::Handles(numbers) => assert_eq!(rt; lists.handles.all(), *numbers),
+        Step::Handles(numbers) => assert!(rt; lists.handles.all() == *numbers),
         Step::Counts(count, stamp) => {
-            assert_eq!(rt; lists.handles.all().len(), *count);
-            assert_eq!(rt; lists.handles.last_stamp(), *stamp);
+            assert!(rt; lists.handles.all().len() == *count);
+            assert!(rt; lists.handles.last_stamp() == *stamp);
         }
         Step::Interface(handle, byte, value) => {
-            assert_eq!(rt; lists.handles.interface(*handle, guid(*byte)), *value);
+            assert!(rt; lists.handles.interface(*handle, guid(*byte)) == *value);
         }
-        Step::Maker(handle, maker) => assert_eq!(rt; lists.handles.maker(*handle), *maker),
+        Step::Maker(handle, maker) => assert!(rt; lists.handles.maker(*handle) == *maker),
         Step::Managers(handle, pairs) => assert_managers(rt, &lists.opens, *handle, pairs),
         Step::Items(handle, byte, items) => assert_items(rt, &lists.opens, *handle, *byte, items),
         _ => panic!(rt; "no look at the lists"),
@@ -306,11 +306,11 @@ pub fn assert_step<D: Driver, A: Allocator + Copy>(
         }
         Step::Disconnect(handle, driver, status) => {
             let told = disconnect_one(alloc, lists, drivers, *handle, *driver);
-            assert_eq!(rt; status_told(told), *status, "{handle} {driver}");
+            assert!(rt; status_told(told) == *status, "{handle} {driver}");
         }
         Step::Stop(pairs, handle, stopped) => {
             let told = stop_pairs(alloc, lists, drivers, pairs, *handle);
-            assert_eq!(rt; told.ok(), Some(*stopped));
+            assert!(rt; told.ok() == Some(*stopped));
         }
         _ => prepare(rt, alloc, lists, step),
     }

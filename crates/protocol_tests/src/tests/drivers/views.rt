@@ -1,6 +1,6 @@
 //! What drivers are shown, compared whole.
 ghost use Rattle.std.specs.Prelude.{◌≡◌};
-ghost use Rattle.driver_tests.specs.Probes as spec;
+ghost use Rattle.protocol_tests.specs.Probes as spec;
 
 use super::steps::{Step, assert_steps};
 use super::{BINDING, guid, opening};
@@ -41,7 +41,7 @@ fn are_same(shown: &[ProtocolView], wanted: &[ProtocolView]) -> bool
 
 impl Driver for Watcher {
     ghost use Rattle.std.specs.Prelude.{◌==◌, ◌&&◌, true};
-    ghost use Rattle.driver_tests.specs.Probes as spec;
+    ghost use Rattle.protocol_tests.specs.Probes as spec;
 
     ghost meaning = { λ d. record { version = 1; supports = λ s. (s.agent == d.agent) && ((s.controller == d.controller) && spec.are_same s.protocols d.protocols.items); plan = λ s. d.plan; may_stop = λ s. true } };
 

@@ -1,6 +1,6 @@
 use Rattle.std.proofs.Common.{◌≡◌, drop}
-use Rattle.driver_tests.specs.Probes.{are_same}
-use Rattle.driver_tests.proofs.tests.views.are_same.Given as goal
+use Rattle.protocol_tests.specs.Probes.{are_same}
+use Rattle.protocol_tests.proofs.tests.drivers.views.are_same.Given as goal
 
 abbrev pub invariant-loop-k : goal.invariant-loop-k
 invariant-loop-k l = record {

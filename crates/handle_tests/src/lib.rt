@@ -1,5 +1,0 @@
-//! Tests of handles: the handle table, open items and registrations.
-#![tactic(auto)]
-
-#[cfg(test)]
-mod tests;
