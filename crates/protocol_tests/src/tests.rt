@@ -103,9 +103,16 @@ pub fn tell_one(rt: &(impl AllocGlobal + Abort), answer: Result<u64, Status>) ->
     }
 }
 
-/// Asserts that a service told what the plain lists tell, and answers the status.
-pub fn assert_told(rt: &impl Abort, reply: &Told, plain: &Told) -> Status {
-    assert!(rt; reply.status == plain.status);
-    assert!(rt; reply.numbers.as_slice() == plain.numbers.as_slice());
+/// Asserts that a call of some services tells what the plain lists tell, and answers the status.
+pub fn assert_tells(
+    rt: &(impl AllocGlobal + Abort),
+    core: &mut Core<TableDriver>,
+    services: Services,
+    call: Call,
+    plain: Told,
+) -> Status {
+    let told = told_by(rt, core, services, call);
+    assert!(rt; told.status == plain.status);
+    assert!(rt; told.numbers.as_slice() == plain.numbers.as_slice());
     plain.status
 }

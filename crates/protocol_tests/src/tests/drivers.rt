@@ -2,7 +2,7 @@
 mod crowds;
 mod probes;
 mod refusals;
-mod steps;
+pub mod steps;
 mod tables;
 mod views;
 

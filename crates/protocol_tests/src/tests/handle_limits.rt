@@ -1,5 +1,5 @@
 //! So many handles, and no more.
-use super::{Services, assert_told, guid, small_core, tell_one, told_by};
+use super::{Services, assert_tells, guid, small_core, tell_one};
 use boot_core::{Call, Core};
 use driver_connect::TableDriver;
 use page_ranges::Status;
@@ -19,8 +19,7 @@ fn assert_installed(
         kind: 0,
         value: 0,
     };
-    let told = told_by(rt, core, Services::Installing, call);
-    assert_told(rt, &told, &tell_one(rt, answer));
+    assert_tells(rt, core, Services::Installing, call, tell_one(rt, answer));
 }
 
 /// 4,096 handles can be live; a live one still takes interfaces then.

@@ -1,7 +1,7 @@
 //! Drawn installations and registrations.
 use super::draws::Draws;
 use super::plain_lists::{self, Lists};
-use super::{Services, Told, assert_told, guid, tell, tell_one, told_by};
+use super::{Services, Told, assert_tells, guid, tell, tell_one};
 use boot_core::{Call, CallPairs, Core, Reply};
 use driver_connect::TableDriver;
 use page_ranges::Status;
@@ -63,9 +63,8 @@ pub fn install(
         kind,
         value,
     };
-    let reply = told_by(rt, core, Services::Installing, call);
     let plain = plain_lists::install(rt, lists, handle, kind, &[(byte, value)]);
-    assert_told(rt, &reply, &plain)
+    assert_tells(rt, core, Services::Installing, call, plain)
 }
 
 /// Up to three interfaces, in which a GUID may stand twice.
@@ -100,9 +99,8 @@ pub fn install_many(
         handle,
         pairs: call_pairs(rt, pairs.as_slice()),
     };
-    let reply = told_by(rt, core, Services::Installing, call);
     let plain = plain_lists::install(rt, lists, handle, 0, pairs.as_slice());
-    assert_told(rt, &reply, &plain)
+    assert_tells(rt, core, Services::Installing, call, plain)
 }
 
 /// Registers an event.
@@ -118,7 +116,6 @@ pub fn register(
         guid: guid(byte),
         event,
     };
-    let reply = told_by(rt, core, Services::Installing, call);
     let plain = plain_lists::register(rt, lists, byte, event);
-    assert_told(rt, &reply, &plain)
+    assert_tells(rt, core, Services::Installing, call, plain)
 }

@@ -1,5 +1,5 @@
 //! Lists in pool blocks.
-use super::{Services, Told, assert_told, tell, told_by};
+use super::{Services, Told, assert_tells, tell, told_by};
 use boot_core::{Call, Core, PoolList, Reply};
 use driver_connect::TableDriver;
 use page_ranges::Status;
@@ -34,21 +34,22 @@ fn tell_bytes(rt: &(impl AllocGlobal + Abort), status: Status, bytes: &[u8]) -> 
     told
 }
 
-/// Asserts that a list has these bytes, in items of so many, or was refused with a status. Its block is
-/// freed.
+/// Asserts that a call tells a list of these bytes, in items of so many, or is refused with a status. The list's
+/// block is freed.
 pub fn assert_list(
     rt: &(impl AllocGlobal + Abort),
     core: &mut Core<TableDriver>,
-    list: &Told,
+    call: Call,
     item_size: u64,
     status: Status,
     bytes: &[u8],
 ) -> Status {
+    let list = told_by(rt, core, Services::Listing, call);
     assert!(rt; list.status == status);
     if status == Status::Success {
-        let count = number_at(rt, list, 0);
+        let count = number_at(rt, &list, 0);
         assert!(rt; count.checked_mul(item_size) == Some(bytes.len() as u64));
-        assert_block(rt, core, number_at(rt, list, 1), bytes);
+        assert_block(rt, core, number_at(rt, &list, 1), bytes);
     }
     status
 }
@@ -74,18 +75,19 @@ fn assert_block(
     }
     let size = bytes.len() as u64;
     let held = tell_bytes(rt, Status::Success, bytes);
-    assert_tells(rt, core, Call::PoolRead { address, size }, &held);
+    assert_tells(
+        rt,
+        core,
+        Services::Listing,
+        Call::PoolRead { address, size },
+        held,
+    );
     let done = tell(rt, Status::Success, &[]);
-    assert_tells(rt, core, Call::FreePool { address }, &done);
-}
-
-/// Asserts what a call on a block tells.
-fn assert_tells(
-    rt: &(impl AllocGlobal + Abort),
-    core: &mut Core<TableDriver>,
-    call: Call,
-    wanted: &Told,
-) {
-    let told = told_by(rt, core, Services::Listing, call);
-    assert_told(rt, &told, wanted);
+    assert_tells(
+        rt,
+        core,
+        Services::Listing,
+        Call::FreePool { address },
+        done,
+    );
 }

@@ -2,7 +2,7 @@
 use super::draws::Draws;
 use super::listing::assert_list;
 use super::plain_lists::{Item, Lists};
-use super::{Services, Told, assert_told, guid, plain_opens, tell, told_by};
+use super::{Services, Told, assert_tells, guid, plain_opens, tell};
 use boot_core::{Call, Core, Reply};
 use driver_connect::TableDriver;
 use page_ranges::Status;
@@ -84,8 +84,8 @@ pub fn open(
         controller: open.controller,
         attributes: open.attributes,
     };
-    let reply = told_by(rt, core, Services::Opening, call);
-    assert_told(rt, &reply, &plain_opens::open(rt, lists, &open))
+    let plain = plain_opens::open(rt, lists, &open);
+    assert_tells(rt, core, Services::Opening, call, plain)
 }
 
 /// Closes an interface.
@@ -102,8 +102,8 @@ pub fn close(
         agent: closed.agent,
         controller: closed.controller,
     };
-    let reply = told_by(rt, core, Services::Opening, call);
-    assert_told(rt, &reply, &plain_opens::close(rt, lists, &closed))
+    let plain = plain_opens::close(rt, lists, &closed);
+    assert_tells(rt, core, Services::Opening, call, plain)
 }
 
 /// Asks for the value of an interface.
@@ -119,9 +119,8 @@ pub fn handle_protocol(
         handle,
         guid: guid(byte),
     };
-    let reply = told_by(rt, core, Services::Opening, call);
     let plain = plain_opens::handle_protocol(rt, lists, handle, byte);
-    assert_told(rt, &reply, &plain)
+    assert_tells(rt, core, Services::Opening, call, plain)
 }
 
 /// Lists the open items of an interface in a pool block, which is freed.
@@ -141,6 +140,5 @@ pub fn information(
         None => Status::NotFound,
     };
     let bytes = plain_opens::items_told(rt, lists, open.handle, open.guid);
-    let list = told_by(rt, core, Services::Listing, call);
-    assert_list(rt, core, &list, 24, status, bytes.as_slice())
+    assert_list(rt, core, call, 24, status, bytes.as_slice())
 }

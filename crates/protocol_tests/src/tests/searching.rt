@@ -3,7 +3,7 @@ use super::draws::Draws;
 use super::listing::assert_list;
 use super::plain_lists::{self, Lists};
 use super::plain_opens::push_bytes;
-use super::{Services, Told, assert_told, guid, tell, tell_one, told_by};
+use super::{Services, Told, assert_tells, guid, tell, tell_one};
 use boot_core::{Call, Core, Reply};
 use driver_connect::TableDriver;
 use page_ranges::Status;
@@ -68,9 +68,8 @@ pub fn locate(
         key,
         size,
     };
-    let reply = told_by(rt, core, Services::Searching, call);
     let plain = plain_lists::locate(rt, lists, search, byte, key, size);
-    assert_told(rt, &reply, &plain)
+    assert_tells(rt, core, Services::Searching, call, plain)
 }
 
 /// What LocateHandle tells: the handles, or the size that they need.
@@ -115,8 +114,7 @@ pub fn locate_buffer(
     };
     let plain = plain_lists::locate(rt, lists, search, byte, key, u64::MAX);
     let bytes = handle_bytes(rt, plain.numbers.as_slice());
-    let list = told_by(rt, core, Services::Listing, call);
-    assert_list(rt, core, &list, 8, plain.status, bytes.as_slice())
+    assert_list(rt, core, call, 8, plain.status, bytes.as_slice())
 }
 
 /// Locates an interface.
@@ -135,9 +133,8 @@ pub fn locate_protocol(
         guid: guid(byte),
         key,
     };
-    let reply = told_by(rt, core, Services::Searching, call);
     let plain = plain_lists::locate_protocol(rt, lists, byte, key);
-    assert_told(rt, &reply, &plain)
+    assert_tells(rt, core, Services::Searching, call, plain)
 }
 
 /// The byte of each GUID, all of whose bytes are that one.
@@ -160,6 +157,6 @@ pub fn protocols(
 ) -> Status {
     let handle = draws.handle(lists.count());
     let call = Call::ProtocolsPerHandle { handle };
-    let reply = told_by(rt, core, Services::Searching, call);
-    assert_told(rt, &reply, &plain_lists::protocols(rt, lists, handle))
+    let plain = plain_lists::protocols(rt, lists, handle);
+    assert_tells(rt, core, Services::Searching, call, plain)
 }

@@ -223,7 +223,8 @@ fn status_told<T: Drop>(told: Result<T, Status>) -> Status {
     }
 }
 
-fn assert_managers<A: Allocator + Copy>(
+/// Asserts which pairs manage a handle.
+pub fn assert_managers<A: Allocator + Copy>(
     rt: &impl Abort,
     opens: &Opens<A>,
     handle: u64,
@@ -235,7 +236,8 @@ fn assert_managers<A: Allocator + Copy>(
     }
 }
 
-fn assert_items<A: Allocator + Copy>(
+/// Asserts which items are open on an interface.
+pub fn assert_items<A: Allocator + Copy>(
     rt: &impl Abort,
     opens: &Opens<A>,
     handle: u64,

@@ -1,4 +1,5 @@
 //! The open rule and the open items, by values worked out by hand.
+use super::super::drivers::steps::{assert_items, assert_managers};
 use super::super::guid;
 use super::{Installation, assert_installs, opened};
 use guid_handles::Handles;
@@ -58,22 +59,13 @@ fn open_table(rt: HostRuntime) {
     assert_closes(&rt, &mut opens, 2, 0, false);
 }
 
-/// Asserts that the interface has just an item of the driver, which manages the first handle.
-fn assert_item(rt: &impl Abort, opens: &Opens) {
-    let items = opens.items(1, guid(1)).expect(rt, "memory");
-    let item = OpenItem {
-        agent: 3,
-        controller: 1,
-        attributes: BY_DRIVER,
-        count: 1,
-    };
-    assert!(rt; items.as_slice() == [item].as_slice());
-}
-
-fn assert_managers(rt: &impl Abort, opens: &Opens) {
-    let pairs = opens.managers(1).expect(rt, "memory");
-    assert!(rt; pairs.as_slice() == [(1, 3)].as_slice());
-}
+/// The item of the driver, which manages the first handle.
+const DRIVING: &[OpenItem] = &[OpenItem {
+    agent: 3,
+    controller: 1,
+    attributes: BY_DRIVER,
+    count: 1,
+}];
 
 /// Takes the item from a copy.
 fn drop_from_a_copy(rt: &impl Abort, opens: &Opens) {
@@ -85,8 +77,8 @@ fn drop_from_a_copy(rt: &impl Abort, opens: &Opens) {
 #[test]
 fn items_of_an_interface(rt: HostRuntime) {
     let mut opens = opened(&rt, 3, 1, BY_DRIVER);
-    assert_item(&rt, &opens);
-    assert_managers(&rt, &opens);
+    assert_items(&rt, &opens, 1, 1, DRIVING);
+    assert_managers(&rt, &opens, 1, &[(1, 3)]);
     drop_from_a_copy(&rt, &opens);
     opens.drop_handle(3);
     assert_closes(&rt, &mut opens, 3, 1, false);
