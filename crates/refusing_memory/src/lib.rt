@@ -25,9 +25,13 @@ impl<B: Allocator> Refusing<B> {
         self.left.set(number.saturating_mul(2));
     }
 
-    /// Refuses the allocation of this number from now, and all after it.
+    /// Refuses the allocation of this number from now, and all after it; none for 0.
     pub fn refuse_from(&self, number: u64) {
-        self.left.set(number.saturating_mul(2) | 1);
+        if number == 0 {
+            self.left.set(0);
+        } else {
+            self.left.set(number.saturating_mul(2) | 1);
+        }
     }
 
     /// Whether that allocation has come; true also where none is to be refused.

@@ -1,6 +1,11 @@
 //! Runs and checks over streams.
+mod call_rows;
+mod heaps;
+mod left_states;
 mod openings;
 mod reads;
+mod refused_calls;
+mod refused_inputs;
 mod sizes;
 mod statuses;
 mod writes;

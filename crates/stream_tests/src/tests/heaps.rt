@@ -1,0 +1,63 @@
+//! Cores on memory that can be refused, and what lines print on them.
+use boot_core::{Core, Machine};
+use boot_trace::{MachineFile, read_machine, run};
+use driver_connect::TableDriver;
+use refusing_memory::Refusing;
+use std::alloc::{AllocError, Global};
+use std::process::Abort;
+
+/// A machine of 1,952 free pages in three blocks, with a driver that opens a GUID and makes two children.
+const DRIVER_MACHINE: &[u8] = b"{\"memory\":[
+{\"type\":7,\"start\":\"0x0\",\"pages\":160,\"attributes\":\"0xf\"},
+{\"type\":7,\"start\":\"0x100000\",\"pages\":768,\"attributes\":\"0xf\"},
+{\"type\":6,\"start\":\"0x400000\",\"pages\":16,\"attributes\":\"0x800000000000000f\"},
+{\"type\":7,\"start\":\"0x410000\",\"pages\":1008,\"attributes\":\"0xf\"}],
+\"drivers\":[{\"version\":1,\"stops\":true,
+\"needs\":[\"11111111-1111-1111-1111-111111111111\"],
+\"opens\":[\"11111111-1111-1111-1111-111111111111\"],
+\"children\":[[[\"22222222-2222-2222-2222-222222222222\",\"0x21\"]],
+[[\"22222222-2222-2222-2222-222222222222\",\"0x22\"]]]}]}";
+
+fn machine_file(rt: &(impl AllocGlobal + Abort)) -> MachineFile {
+    match read_machine(rt.alloc(), DRIVER_MACHINE) {
+        Ok(file) => file,
+        Err(_) => panic!(rt; "no machine file"),
+    }
+}
+
+/// The core of that machine on a heap that refuses an allocation of `Core::new` and all after it, or none for 0.
+pub fn new_core<'a>(
+    rt: &(impl AllocGlobal + Abort),
+    heap: &'a Refusing<Global>,
+    refused: u64,
+) -> Result<Core<TableDriver, &'a Refusing<Global>>, AllocError> {
+    let MachineFile { machine, drivers } = machine_file(rt);
+    let runs = Vec::from_slice(heap, machine.runs()).expect(rt, "memory");
+    let machine = Machine::new(runs).expect(rt, "a machine");
+    let mut moved = Vec::new(heap);
+    for driver in drivers {
+        moved.push(driver).expect(rt, "memory");
+    }
+    heap.refuse_from(refused);
+    Core::new(heap, machine, moved)
+}
+
+/// The core of that machine.
+pub fn core_on<'a>(
+    rt: &(impl AllocGlobal + Abort),
+    heap: &'a Refusing<Global>,
+) -> Core<TableDriver, &'a Refusing<Global>> {
+    new_core(rt, heap, 0).expect(rt, "memory")
+}
+
+/// What lines print on a core. They are read and printed on a heap of their own.
+pub fn printed<'a>(
+    rt: &(impl AllocGlobal + Abort),
+    lines_heap: &'a Refusing<Global>,
+    core: &mut Core<TableDriver, &'a Refusing<Global>>,
+    lines: &str,
+) -> Vec<u8> {
+    let mut out = Vec::new(rt.alloc());
+    assert!(rt; run(lines_heap, core, lines.as_bytes(), &mut out, false).is_ok());
+    out
+}

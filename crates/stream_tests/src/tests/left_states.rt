@@ -1,0 +1,174 @@
+//! The core after a run that ended by a read, a write or memory: in the state after the lines that were told.
+use super::call_rows::QUESTIONS;
+use super::heaps::{core_on, printed};
+use super::{NEVER, Source, sink_of};
+use boot_trace::{RunFault, run};
+use refusing_memory::Refusing;
+use std::process::Abort;
+
+/// Lines whose calls change what the questions are answered. No line feed stands behind the last.
+const LINES: &[u8] = b"pages 2 4 2 0x9e000
+# a comment
+pool 4 24
+list
+install 0 11111111-1111-1111-1111-111111111111 0 0x10
+map 1
+write 0x7ff008 a5
+locate 9 11111111-1111-1111-1111-111111111111 0 0";
+
+/// After how many reads, writes and flushes one fails, and from which allocation on memory is refused to the lines; 0 for
+/// none.
+#[derive(Clone, Copy)]
+struct Failing {
+    reads: u64,
+    writes: u64,
+    flushes: u64,
+    memory: u64,
+}
+
+/// All goes well.
+const NOTHING: Failing = Failing {
+    reads: NEVER,
+    writes: NEVER,
+    flushes: NEVER,
+    memory: 0,
+};
+
+/// How a run ended, how many bytes it wrote, and the core that it left: how many calls are left, and what the questions are
+/// answered.
+#[derive(Drop)]
+struct Left {
+    end: Result<(), RunFault>,
+    written: usize,
+    calls: u64,
+    answers: Vec<u8>,
+}
+
+fn left_by(rt: &(impl AllocGlobal + Abort), bytes: &[u8], failing: Failing) -> Left {
+    let heap = Refusing::new(rt.alloc());
+    let lines_heap = Refusing::new(rt.alloc());
+    let mut core = core_on(rt, &heap);
+    let source = Source {
+        bytes,
+        reads: failing.reads,
+    };
+    let mut sink = sink_of(rt, failing.writes, failing.flushes, false);
+    lines_heap.refuse_from(failing.memory);
+    let end = run(&lines_heap, &mut core, source, &mut sink, false);
+    Left {
+        end,
+        written: sink.taken.len(),
+        calls: core.calls_left(),
+        answers: printed(rt, &heap, &mut core, QUESTIONS),
+    }
+}
+
+/// The whole lines among the first bytes.
+fn front_of(count: usize) -> &'static [u8] {
+    let front = LINES.get(..count).unwrap_or(LINES);
+    let end = front.iter().rposition(|byte| *byte == b'\n');
+    front
+        .get(..end.map_or(0, |end| end.saturating_add(1)))
+        .unwrap_or(b"")
+}
+
+/// What the first lines leave, the fewest that print at least so many bytes.
+fn left_with(rt: &(impl AllocGlobal + Abort), least: usize) -> Left {
+    for count in 0..=LINES.len() {
+        let front = front_of(count);
+        if front.len() == count {
+            let left = left_by(rt, front, NOTHING);
+            if left.written >= least {
+                return left;
+            }
+        }
+    }
+    left_by(rt, LINES, NOTHING)
+}
+
+/// Whether both left the same state.
+fn are_alike(left: &Left, other: &Left) -> bool {
+    left.calls == other.calls && left.answers.as_slice() == other.answers.as_slice()
+}
+
+/// Each read: the calls of the whole lines before it were made, and no other.
+#[test]
+fn state_after_read_fails(rt: HostRuntime) {
+    for reads in 0..=LINES.len() {
+        let failing = Failing {
+            reads: reads as u64,
+            ..NOTHING
+        };
+        let left = left_by(&rt, LINES, failing);
+        let whole = left_by(&rt, front_of(reads), NOTHING);
+        assert!(rt; left.end == Err(RunFault::Read) && left.written == whole.written);
+        assert!(rt; are_alike(&left, &whole));
+    }
+}
+
+/// Asserts that a run tells that it cannot write, and that it made the calls of the lines that print the bytes that were
+/// written and so many more. Answers whether it can write after all.
+fn can_write(rt: &(impl AllocGlobal + Abort), failing: Failing, more: usize) -> bool {
+    let left = left_by(rt, LINES, failing);
+    if left.end.is_ok() {
+        return true;
+    }
+    assert!(rt; left.end == Err(RunFault::Write));
+    let least = left.written.saturating_add(more);
+    assert!(rt; are_alike(&left, &left_with(rt, least)));
+    false
+}
+
+/// More writes and allocations than a run makes.
+const MOST: u64 = 1000;
+
+/// Each write: the calls were made of the lines told whole and of the next.
+#[test]
+fn state_after_write_fails(rt: HostRuntime) {
+    for writes in 0..MOST {
+        if can_write(&rt, Failing { writes, ..NOTHING }, 1) {
+            assert!(rt; writes > 50);
+            return;
+        }
+    }
+    panic!(rt; "no end");
+}
+
+/// Each flush: no call was made of the lines behind the one that was written.
+#[test]
+fn state_after_flush_fails(rt: HostRuntime) {
+    for flushes in 0..MOST {
+        if can_write(&rt, Failing { flushes, ..NOTHING }, 0) {
+            assert!(rt; flushes == 7);
+            return;
+        }
+    }
+    panic!(rt; "no end");
+}
+
+/// Asserts that a run to whose lines memory is refused wrote whole lines, and leaves the state after these or after one
+/// more. Answers whether it is refused none.
+fn has_memory(rt: &(impl AllocGlobal + Abort), memory: u64) -> bool {
+    let left = left_by(rt, LINES, Failing { memory, ..NOTHING });
+    if left.end.is_ok() {
+        return true;
+    }
+    assert!(rt; left.end == Err(RunFault::OutOfMemory));
+    let told = left_with(rt, left.written);
+    let next = left_with(rt, left.written.saturating_add(1));
+    assert!(rt; left.written == told.written);
+    assert!(rt; are_alike(&left, &told) || are_alike(&left, &next));
+    false
+}
+
+/// Each allocation that is made for the lines and their texts.
+#[test]
+fn state_after_memory_is_refused(rt: HostRuntime) {
+    for memory in 1..MOST {
+        if has_memory(&rt, memory) {
+            assert!(rt; memory > 8);
+            return;
+        }
+    }
+    panic!(rt; "no end");
+}
