@@ -1,14 +1,16 @@
 //! The book of a machine's pages.
-ghost use Rattle.std.specs.Prelude.{◌≡◌, false, ◌+◌, ◌<◌, ◌≤◌, ◌^◌, MatchResult, Err};
+ghost use Rattle.std.specs.Prelude.{◌≡◌, false, ◌+◌, ◌*◌, ◌<◌, ◌≤◌, ◌^◌, MatchResult, Err, option_and_then};
 ghost use Rattle.page_ranges.specs.declared.ranges.Owner.TheVariants.{Given, Pool};
-ghost use Rattle.page_ranges.specs.MemoryTypes.{conventional, is_bad_type, page_count};
-ghost use Rattle.page_ranges.specs.Memory.{IsPresent, IsOwnedBy, AllInRange};
+ghost use Rattle.page_ranges.specs.MemoryTypes.{conventional, is_bad_type, page_count, page_size};
+ghost use Rattle.page_ranges.specs.Memory.{page_at, IsPresent, IsOwnedBy, AllInRange};
+ghost use Rattle.page_ranges.specs.Granules.{IsGranule};
 ghost use Rattle.placement_certificate.specs.Placement.{IsProperRequest};
-ghost use Rattle.page_services.specs.PageRules.{AllocatesPages, IsBestChoice, PlacesPages, FreesPages, TakesForPool, GivesFromPool, changed_book, fixed_address, new_book, placement_request, pool_request};
+ghost use Rattle.page_services.specs.PageRules.{AllocatesPages, IsBestChoice, PlacesPages, FreesPages, HasWholeGranules, TakesForPool, GivesFromPool, changed_book, fixed_address, freed_range, granule_of, if_counted, new_book, placement_request, pool_request, whole_pages, whole_request};
 
 use descriptor_table::RunTable;
 use page_ranges::{
-    MemoryType, Owner, PAGE_COUNT, PAGE_SIZE, PageRange, Status, pages_below, type_for_alloc,
+    MemoryType, Owner, PAGE_COUNT, PAGE_SIZE, PageRange, Status, granule_for, pages_below, rounded,
+    type_for_alloc,
 };
 use placement_certificate::{Certificate, Request};
 use placement_chooser::choose;
@@ -24,33 +26,49 @@ const ALLOCATE_MAX_ADDRESS: u32 = 1;
 /// AllocateAddress: the range starts at the address of the request.
 const ALLOCATE_ADDRESS: u32 = 2;
 
-/// What AllocatePages of the kind `kind` leaves the service to place: so many `pages` of the type
-/// `mtype`, anywhere (0) or up to the byte at the address `memory` (1). `None` for a kind that names
-/// its address.
-pub fn placement_request(kind: u32, mtype: MemoryType, pages: u64, memory: u64) -> Option<Request>
-    ensures { result ≡ placement_request kind mtype pages memory }
+// The request on a machine with a granule for so many pages of a type, up to a limit. None where
+// they are more than a number of 64 bits tells once they fill granules.
+fn whole_request(granule: u64, mtype: MemoryType, pages: u64, limit: u64) -> Option<Request>
+    ensures { result ≡ if_counted (whole_request granule mtype pages limit) }
+{
+    let granule = granule_for(mtype, granule);
+    let pages = rounded(pages, granule)?;
+    Some(Request {
+        mtype,
+        pages,
+        limit,
+        granule,
+    })
+}
+
+/// What AllocatePages of the kind `kind` leaves the service to place on a machine with a granule: so
+/// many `pages` of the type `mtype`, rounded up to the type's granule, anywhere (0) or up to the byte at the
+/// address `memory` (1). `None` for a kind that names its address, and where the rounded number has
+/// more than 64 bits.
+pub fn placement_request(
+    granule: u64,
+    kind: u32,
+    mtype: MemoryType,
+    pages: u64,
+    memory: u64,
+) -> Option<Request>
+    ensures { result ≡ option_and_then if_counted (placement_request granule kind mtype pages memory) }
 {
     let limit = match kind {
         ALLOCATE_ANY_PAGES => PAGE_COUNT,
         ALLOCATE_MAX_ADDRESS => pages_below(memory),
         _ => return None,
     };
-    Some(Request {
-        mtype,
-        pages,
-        limit,
-    })
+    whole_request(granule, mtype, pages, limit)
 }
 
-/// The request for so many `pages` of the type `mtype` for the pool: they may lie anywhere.
-pub fn pool_request(mtype: MemoryType, pages: u64) -> Request
-    ensures { result ≡ pool_request mtype pages }
+/// The request for so many `pages` of the type `mtype` for the pool of a machine with a granule: rounded
+/// up to the type's granule, they may lie anywhere. `None` where the rounded number has more than 64
+/// bits.
+pub fn pool_request(granule: u64, mtype: MemoryType, pages: u64) -> Option<Request>
+    ensures { result ≡ if_counted (pool_request granule mtype pages) }
 {
-    Request {
-        mtype,
-        pages,
-        limit: PAGE_COUNT,
-    }
+    whole_request(granule, mtype, pages, PAGE_COUNT)
 }
 
 /// Where pages were placed.
@@ -62,27 +80,38 @@ pub struct Placed<A: Allocator = Global> {
     pub certificate: Option<Certificate<A>>,
 }
 
-/// The memory of a machine, and how often the type of a page has changed in it.
+/// The memory of a machine, how often the type of a page has changed in it, and the machine's granule.
 #[derive(Drop)]
 pub struct PageBook<A: Allocator = Global> {
     table: RunTable<A>,
     key: u64,
+    granule: u64,
 }
 
 impl<A: Allocator> Model for PageBook<A> {
-    ghost use Rattle.page_services.specs.PageRules.{Book};
+    ghost use Rattle.page_services.specs.PageRules.{Book, IsInGranules};
 
     ghost Value = { Book };
 
-    ghost view = { λ b. record { memory = b.table; key = b.key } };
+    ghost view = { λ b. record { memory = b.table; key = b.key; granule = b.granule } };
+
+    ghost invariant = { λ b. IsInGranules (record { memory = b.table; key = b.key; granule = b.granule }) };
 }
 
 impl<A: Allocator + Copy> PageBook<A> {
-    /// The book of a memory in which no type has changed.
-    pub fn new(table: RunTable<A>) -> PageBook<A>
-        ensures { result ≡ new_book table }
+    /// The book of a machine with a granule of so many pages, 1 or 16, and a memory in which no type has
+    /// changed. Where a page of a granule was placed by AllocatePages with a type that stands in
+    /// granules, all pages of the granule were.
+    pub fn new(table: RunTable<A>, granule: u64) -> PageBook<A>
+        requires granule { IsGranule granule }
+        requires whole { HasWholeGranules granule table }
+        ensures { result ≡ new_book granule table }
     {
-        PageBook { table, key: 1 }
+        PageBook {
+            table,
+            key: 1,
+            granule,
+        }
     }
 
     /// AllocatePages of the kind `kind`, for the type `mtype`, so many `pages`: anywhere (0), up to
@@ -110,9 +139,12 @@ impl<A: Allocator + Copy> PageBook<A> {
         if pages == 0 {
             return Err(Status::InvalidParameter);
         }
-        match placement_request(kind, mtype, pages, memory) {
+        if kind == ALLOCATE_ADDRESS {
+            return self.place_at(mtype, pages, memory);
+        }
+        match placement_request(self.granule, kind, mtype, pages, memory) {
             Some(request) => self.place_best(request, Owner::Pages),
-            None => self.place_at(mtype, pages, memory),
+            None => Err(Status::OutOfResources),
         }
     }
 
@@ -123,11 +155,16 @@ impl<A: Allocator + Copy> PageBook<A> {
         requires some { 0 < pages }
         ensures { AllocatesPages IsBestChoice self.old fixed_address mtype pages memory result self.new }
     {
-        let range = PageRange {
-            first: memory / PAGE_SIZE,
-            pages,
+        let granule = granule_for(mtype, self.granule);
+        let first = memory / PAGE_SIZE;
+        if memory % PAGE_SIZE != 0 || first % granule != 0 {
+            return Err(Status::NotFound);
+        }
+        let Some(pages) = rounded(pages, granule) else {
+            return Err(Status::NotFound);
         };
-        if memory % PAGE_SIZE != 0 || !self.table.all_conventional(range) {
+        let range = PageRange { first, pages };
+        if !self.table.all_conventional(range) {
             return Err(Status::NotFound);
         }
         self.change(range, mtype, Owner::Pages)?;
@@ -178,7 +215,36 @@ impl<A: Allocator + Copy> PageBook<A> {
         if !self.table.all_owned(range, Owner::Pages) {
             return Err(Status::NotFound);
         }
-        self.change(range, MemoryType::conventional(), Owner::Given)
+        let freed = self.freed_range(range);
+        self.change(freed, MemoryType::conventional(), Owner::Given)
+    }
+
+    // The range with the rest of the granules that its ends lie in.
+    fn freed_range(&self, range: PageRange) -> PageRange
+        requires some { 0 < range.pages }
+        requires end { range.first + range.pages ≤ page_count }
+        ensures { result ≡ freed_range self.now (range.first * page_size) range.pages }
+    {
+        let end = range.first + range.pages;
+        let low = self.granule_at(range.first);
+        let high = self.granule_at(end - 1);
+        let first = range.first - range.first % low;
+        let over = end % high;
+        let end = if over == 0 { end } else { end + (high - over) };
+        PageRange {
+            first,
+            pages: end - first,
+        }
+    }
+
+    // The granule of the type of the page there, 1 where it is absent.
+    fn granule_at(&self, page: u64) -> u64
+        ensures { result ≡ granule_of self.now.granule (page_at self.now.memory page) }
+    {
+        match self.table.run_at(page) {
+            Some(run) => granule_for(run.mtype, self.granule),
+            None => 1,
+        }
     }
 
     /// Pages of the type `mtype` for the pool: so many `pages` at the best place of all, with a certificate
@@ -191,7 +257,10 @@ impl<A: Allocator + Copy> PageBook<A> {
         requires some { 0 < pages }
         ensures { TakesForPool IsBestChoice self.old mtype pages result self.new }
     {
-        self.place_best(pool_request(mtype, pages), Owner::Pool)
+        match pool_request(self.granule, mtype, pages) {
+            Some(request) => self.place_best(request, Owner::Pool),
+            None => Err(Status::OutOfResources),
+        }
     }
 
     /// Gives pages of the pool back, as those of an extent that ends: they are conventional again.
@@ -227,6 +296,14 @@ impl<A: Allocator + Copy> PageBook<A> {
         ensures { result ≡ self.now.key }
     {
         self.key
+    }
+
+    /// The machine's granule in pages, 1 or 16.
+    pub fn granule(&self) -> u64
+        ensures granule { result ≡ self.now.granule }
+        ensures valid { IsGranule result }
+    {
+        self.granule
     }
 
     /// The memory.

@@ -3,12 +3,14 @@ use page_ranges::MemoryType;
 use std::alloc::{Allocator, Global};
 use std::marker::Model;
 
-/// A request for pages: their type, how many they are, and the page number by which they end.
+/// A request for pages: their type, how many they are, the page number by which they end, and the
+/// granule: their first page is a multiple of it, and so is their number.
 #[derive(Clone, Copy, Debug, PartialEq, Eq)]
 pub struct Request {
     pub mtype: MemoryType,
     pub pages: u64,
     pub limit: u64,
+    pub granule: u64,
 }
 
 /// What a certificate says of one entry of the memory map, named by its first page and its pages:
