@@ -1,6 +1,6 @@
 //! Granules: the pages in which a machine places memory of some types.
 ghost use Rattle.std.specs.Prelude.{◌≡◌};
-ghost use Rattle.page_ranges.specs.Granules.{granule_for, if_64_bits, rounded};
+ghost use Rattle.page_ranges.specs.Granules.{granule_for, if_64_bits, is_granular, rounded};
 
 use crate::types::MemoryType;
 
@@ -9,10 +9,18 @@ use crate::types::MemoryType;
 pub fn granule_for(mtype: MemoryType, granule: u64) -> u64
     ensures { result ≡ granule_for mtype granule }
 {
-    match mtype.number() {
-        0 | 5 | 6 | 10 => granule,
-        _ => 1,
+    if is_granular(mtype.number()) {
+        granule
+    } else {
+        1
     }
+}
+
+// Whether the type of a number stands in granules.
+fn is_granular(number: u32) -> bool
+    ensures { result ≡ is_granular number }
+{
+    number == 0 || number == 5 || number == 6 || number == 10
 }
 
 /// The least multiple of a granule that is not below a number of pages, or None where it has more
@@ -20,8 +28,13 @@ pub fn granule_for(mtype: MemoryType, granule: u64) -> u64
 pub fn rounded(pages: u64, granule: u64) -> Option<u64>
     ensures { result ≡ if_64_bits (rounded pages granule) }
 {
-    if granule == 0 || pages % granule == 0 {
+    if granule == 0 {
         return Some(pages);
     }
-    pages.checked_add(granule - pages % granule)
+    let over = pages % granule;
+    if over == 0 {
+        Some(pages)
+    } else {
+        pages.checked_add(granule - over)
+    }
 }

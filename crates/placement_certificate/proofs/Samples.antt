@@ -1,5 +1,5 @@
 -- The definitions on small machines, by computing.
-use Rattle.std.proofs.Common.{◌≡◌, ◌≢◌, ℕ, ◌^◌, List, [], ◌∷◌, length, Option, Some, None, refl, ap, arith}
+use Rattle.std.proofs.Common.{◌≡◌, ◌≢◌, ℕ, ◌^◌, List, [], ◌∷◌, length, Option, Some, None, inl, refl, ap, arith}
 use Rattle.page_ranges.specs.declared.ranges.Run.{Run}
 use Rattle.page_ranges.specs.Memory.{Page, IsProperMemory, row}
 use Rattle.page_ranges.specs.Runs.{pages_of}
@@ -12,7 +12,7 @@ use Rattle.placement_certificate.proofs.OneCertificate.{one_certificate}
 use Rattle.placement_certificate.proofs.Decided.{certificate_of, certificate_true, no_certificate}
 
 abbrev request : ℕ → ℕ → ℕ → Request
-request t pages limit = record { mtype = t; pages = pages; limit = limit }
+request t pages limit = record { mtype = t; pages = pages; limit = limit; granule = 1 }
 
 abbrev bound : ℕ → ℕ → ℕ → ℕ → Bound
 bound first pages count top = record { first = first; pages = pages; least = Some (count, top) }
@@ -36,7 +36,7 @@ unfolding machine_b
 proper = proper_b
 
 proper_twelve : IsProperRequest twelve
-proper_twelve = record { some = omega arith; good = refl }
+proper_twelve = record { some = omega arith; good = refl; granule = inl refl; typed = refl; filled = omega arith }
 
 price_at_0 : price machine_b twelve 0 ≡ 3
 unfolding machine_b row
@@ -90,7 +90,7 @@ lower_start = not_true _ (λ e. let f : 0 ≡ 4 = ap (λ (c : CertificateValue).
 -- seventeen pages are not there
 none_for_17 : (p : ℕ) → ¬ IsPermittedStart machine_b (request 2 17 (2 ^ 52)) p
 unfolding machine_b row
-none_for_17 = no_certificate machine_b (request 2 17 (2 ^ 52)) proper (record { some = omega arith; good = refl }) refl
+none_for_17 = no_certificate machine_b (request 2 17 (2 ^ 52)) proper (record { some = omega arith; good = refl; granule = inl refl; typed = refl; filled = omega arith }) refl
 
 -- ---- pages that join a neighbor
 
