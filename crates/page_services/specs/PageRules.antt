@@ -1,5 +1,5 @@
 -- The rules of AllocatePages, of FreePages and of the pool's pages on a memory.
-use Rattle.std.specs.Prelude.{◌≡◌, ℕ, ◌+◌, ◌-◌, ◌*◌, ◌<◌, ◌≤◌, ◌/◌, ◌%◌, ◌==◌, true, false, List, Option, Some, None, Result, Ok, Err, MatchBool, option_map, if◌then◌else◌}
+use Rattle.std.specs.Prelude.{◌≡◌, ℕ, ◌+◌, ◌-◌, ◌*◌, ◌<◌, ◌≤◌, ◌/◌, ◌%◌, ◌==◌, true, false, List, Option, Some, None, Result, Ok, Err, option_map, if◌then◌else◌}
 use Rattle.page_ranges.specs.declared.ranges.Owner.{Owner}
 use Rattle.page_ranges.specs.declared.ranges.Owner.TheVariants.{Given, Pages, Pool}
 use Rattle.page_ranges.specs.declared.ranges.PageRange.{PageRange}

@@ -3,9 +3,9 @@ ghost use Rattle.std.specs.Prelude.{◌≡◌, false, ◌+◌, ◌*◌, ◌<◌,
 ghost use Rattle.page_ranges.specs.declared.ranges.Owner.TheVariants.{Given, Pool};
 ghost use Rattle.page_ranges.specs.MemoryTypes.{conventional, is_bad_type, page_count, page_size};
 ghost use Rattle.page_ranges.specs.Memory.{page_at, IsPresent, IsOwnedBy, AllInRange};
-ghost use Rattle.page_ranges.specs.Granules.{IsGranule};
+ghost use Rattle.page_ranges.specs.Granules.{IsGranule, granule_for};
 ghost use Rattle.placement_certificate.specs.Placement.{IsProperRequest};
-ghost use Rattle.page_services.specs.PageRules.{AllocatesPages, IsBestChoice, PlacesPages, FreesPages, HasWholeGranules, TakesForPool, GivesFromPool, changed_book, fixed_address, freed_range, granule_of, if_counted, new_book, placement_request, pool_request, whole_pages, whole_request};
+ghost use Rattle.page_services.specs.PageRules.{AllocatesPages, IsBestChoice, PlacesPages, FreesPages, HasWholeGranules, IsInGranules, TakesForPool, GivesFromPool, changed_book, fixed_address, freed_range, granule_of, if_counted, new_book, placement_request, pool_request, whole_pages, whole_request};
 
 use descriptor_table::RunTable;
 use page_ranges::{
@@ -115,13 +115,16 @@ impl<A: Allocator + Copy> PageBook<A> {
     }
 
     /// AllocatePages of the kind `kind`, for the type `mtype`, so many `pages`: anywhere (0), up to
-    /// the byte at the address `memory` (1), or at that address (2). Of the places that kinds 0 and
-    /// 1 permit it takes the highest after which the memory map has the fewest entries, and
-    /// answers a certificate of that.
+    /// the byte at the address `memory` (1), or at that address (2). A type that stands in granules
+    /// is given whole granules: the pages are rounded up to them, and start where one starts. Of the
+    /// places that kinds 0 and 1 permit it takes the highest after which the memory map has the
+    /// fewest entries, and answers a certificate of that.
     ///
     /// INVALID_PARAMETER: another kind, a type that no request may name, or no pages. NOT_FOUND: an
-    /// unaligned address, or a range there that is not all conventional. OUT_OF_RESOURCES: no place
-    /// of kind 0 or 1, or memory ran out. On an `Err` the book is as it was.
+    /// address that is not that of a page, or of a granule where the type stands in granules, or a
+    /// range there, with the pages that it is rounded up by, that is not all conventional.
+    /// OUT_OF_RESOURCES: no place of kind 0 or 1, also where the pages rounded up have a number of
+    /// more than 64 bits, or memory ran out. On an `Err` the book is as it was.
     pub fn allocate(
         &mut self,
         kind: u32,
@@ -148,7 +151,7 @@ impl<A: Allocator + Copy> PageBook<A> {
         }
     }
 
-    // Places pages at an address.
+    // Places pages at an address: so many, and those that fill the last granule of their type.
     fn place_at(&mut self, mtype: MemoryType, pages: u64, memory: u64) -> Result<Placed<A>, Status>
         requires key { self.old.key < 2 ^ 62 }
         requires good { is_bad_type mtype ≡ false }
@@ -161,6 +164,8 @@ impl<A: Allocator + Copy> PageBook<A> {
             return Err(Status::NotFound);
         }
         let Some(pages) = rounded(pages, granule) else {
+            // No memory has so many pages: a table says of itself that it is a proper memory.
+            let _ = self.table.descriptors();
             return Err(Status::NotFound);
         };
         let range = PageRange { first, pages };
@@ -179,6 +184,7 @@ impl<A: Allocator + Copy> PageBook<A> {
         requires key { self.old.key < 2 ^ 62 }
         requires proper { IsProperRequest request }
         requires limit { request.limit ≤ page_count }
+        requires granule { request.granule ≡ granule_for request.mtype self.old.granule }
         ensures { PlacesPages IsBestChoice self.old request owner result self.new }
     {
         let Ok(Some(certificate)) = choose(self.table.allocator(), &self.table, &request) else {
@@ -196,7 +202,9 @@ impl<A: Allocator + Copy> PageBook<A> {
         })
     }
 
-    /// FreePages of so many `pages` from the address `memory` on: they are conventional again.
+    /// FreePages of so many `pages` from the address `memory` on: they are conventional again, and at
+    /// each end so is the rest of the granule that the page there lies in, if its type stands in
+    /// granules.
     ///
     /// INVALID_PARAMETER: an unaligned address, no pages, or a range past the last page. NOT_FOUND:
     /// a page that AllocatePages did not place. OUT_OF_RESOURCES: memory ran out for the table. On an
@@ -229,8 +237,7 @@ impl<A: Allocator + Copy> PageBook<A> {
         let low = self.granule_at(range.first);
         let high = self.granule_at(end - 1);
         let first = range.first - range.first % low;
-        let over = end % high;
-        let end = if over == 0 { end } else { end + (high - over) };
+        let end = rounded(end, high).unwrap_or(end);
         PageRange {
             first,
             pages: end - first,
@@ -239,7 +246,8 @@ impl<A: Allocator + Copy> PageBook<A> {
 
     // The granule of the type of the page there, 1 where it is absent.
     fn granule_at(&self, page: u64) -> u64
-        ensures { result ≡ granule_of self.now.granule (page_at self.now.memory page) }
+        ensures granule { result ≡ granule_of self.now.granule (page_at self.now.memory page) }
+        ensures valid { IsGranule result }
     {
         match self.table.run_at(page) {
             Some(run) => granule_for(run.mtype, self.granule),
@@ -247,8 +255,8 @@ impl<A: Allocator + Copy> PageBook<A> {
         }
     }
 
-    /// Pages of the type `mtype` for the pool: so many `pages` at the best place of all, with a certificate
-    /// of that.
+    /// Pages of the type `mtype` for the pool: so many `pages`, rounded up to whole granules of the
+    /// type, at the best place of all, with a certificate of that.
     ///
     /// OUT_OF_RESOURCES: no place is permitted, or memory ran out. The book is then as it was.
     pub fn take_for_pool(&mut self, mtype: MemoryType, pages: u64) -> Result<Placed<A>, Status>
@@ -277,16 +285,17 @@ impl<A: Allocator + Copy> PageBook<A> {
         self.change(extent, MemoryType::conventional(), Owner::Given)
     }
 
-    // Gives pages, of which some are of another type, a type and an owner.
+    // Gives pages, of which some are of another type, a type and an owner, so that granules stay whole.
     fn change(&mut self, range: PageRange, mtype: MemoryType, owner: Owner) -> Result<(), Status>
         requires key { self.old.key < 2 ^ 62 }
         requires present { AllInRange self.old.memory range IsPresent }
         requires owner { mtype ≡ conventional → owner ≡ Given }
+        requires whole { IsInGranules self.old → IsInGranules (changed_book range mtype owner self.old) }
         ensures { MatchResult result (λ _. self.new ≡ changed_book range mtype owner self.old) (λ e. (e ≡ Status.OutOfResources) × (self.new ≡ self.old)) }
     {
-        self.table
-            .retype(range, mtype, owner)
-            .map_err(|_| Status::OutOfResources)?;
+        let Ok(()) = self.table.retype(range, mtype, owner) else {
+            return Err(Status::OutOfResources);
+        };
         self.key += 1;
         Ok(())
     }
