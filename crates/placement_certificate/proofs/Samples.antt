@@ -1,5 +1,5 @@
 -- The definitions on small machines, by computing.
-use Rattle.std.proofs.Common.{◌≡◌, ◌≢◌, ℕ, ◌^◌, List, [], ◌∷◌, length, Option, Some, None, inl, refl, ap, arith}
+use Rattle.std.proofs.Common.{◌≡◌, ◌≢◌, ℕ, zero, suc, ◌^◌, List, [], ◌∷◌, length, Option, Some, None, inl, inr, refl, ap, arith}
 use Rattle.page_ranges.specs.declared.ranges.Run.{Run}
 use Rattle.page_ranges.specs.Memory.{Page, IsProperMemory, row}
 use Rattle.page_ranges.specs.Runs.{pages_of}
@@ -130,3 +130,30 @@ limited = refl
 first_page : certificate_of (pages_of machine_c) (request 4 2 7) ≡ Some (certificate (bound 0 8 4 0 ∷ empty_bound 12 8 ∷ []) 0)
 unfolding row
 first_page = refl
+
+-- ---- granules of sixteen pages
+
+abbrev in_granules : ℕ → ℕ → Request
+in_granules t pages = record { mtype = t; pages = pages; limit = 2 ^ 52; granule = 16 }
+
+proper_in_granules : IsProperRequest (in_granules 6 16)
+proper_in_granules = record { some = omega arith; good = refl; granule = inr refl; typed = refl; filled = omega arith }
+
+-- data of boot services does not stand in granules
+not_typed : ¬ IsProperRequest (in_granules 4 16)
+not_typed h = let f : suc zero ≡ 16 = h.typed in omega arith
+
+-- both ends of the one start lie inside the entry, so the best price is the map's length plus 2
+longer_by_2 : certificate_of (pages_of (run 8 39 7 0xf ∷ [])) (in_granules 6 16) ≡ Some (certificate (bound 8 39 3 16 ∷ []) 16)
+unfolding row
+longer_by_2 = refl
+
+-- with a page more a start ends with the entry
+ends_with_entry : certificate_of (pages_of (run 8 40 7 0xf ∷ [])) (in_granules 6 16) ≡ Some (certificate (bound 8 40 2 32 ∷ []) 32)
+unfolding row
+ends_with_entry = refl
+
+-- the only multiple in the second entry has no room there, and the third one goes on from the second
+across_entries : certificate_of (pages_of (run 0 4 4 0xf ∷ run 14 10 7 0xf ∷ run 24 8 7 0x7 ∷ [])) (in_granules 0 16) ≡ Some (certificate (bound 14 10 4 16 ∷ empty_bound 24 8 ∷ []) 16)
+unfolding row
+across_entries = refl
