@@ -108,9 +108,13 @@ with_new_block p size es = replaced (begins_at p.first) (λ e. with_blocks (with
 abbrev pub extent_pages : ℕ → ℕ → ℕ → ℕ
 extent_pages granule t size = whole_pages granule t (pages_for size)
 
--- a new extent of a type, which has a new block at its first cell
+-- an extent of so many pages of a type, which has a new block at its first cell and no other
+abbrev pub extent_with_block : ℕ → ℕ → ℕ → ℕ → Extent
+extent_with_block first pages t size = record { first = first; pages = pages; mtype = t; blocks = new_block 0 size ∷ [] }
+
+-- a new extent of a type for a block of a size, on a machine with a granule
 abbrev pub new_extent : ℕ → ℕ → ℕ → ℕ → Extent
-new_extent granule first t size = record { first = first; pages = extent_pages granule t size; mtype = t; blocks = new_block 0 size ∷ [] }
+new_extent granule first t size = extent_with_block first (extent_pages granule t size) t size
 
 -- the extents with one more among them
 abbrev pub with_extent : Extent → List Extent → List Extent
