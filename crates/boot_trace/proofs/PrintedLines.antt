@@ -160,7 +160,7 @@ module _ (ds : List Meaning) (n : ℕ) (old : State) (is : IsReached n old) (bel
 
   block_of_step : {A : Type 0} (c : Call A) (answer : Reply A) (new : State) → HasCallNumbers c → Step ds old c answer new → IfSome (certified old.parts.book.granule c answer) (λ told. IsAcceptedBlock map_before told.0 told.1)
   block_of_step c answer new numbers step =
-      with_block (request_for old.parts.book.granule c answer) (certificate_in answer) (request_numbers old.parts.book.granule is.sound.granules.granule c answer numbers) (accepted_reply ds old.parts is.sound.proper is.typed old.exited old.calls_left c answer new.parts step.answers)
+      with_block (request_for old.parts.book.granule c answer) (certificate_in answer) (request_numbers old.parts.book.granule is.sound.granules.granule c answer numbers) (accepted_reply ds old.parts is.sound.proper is.typed is.sound.granules.granule old.exited old.calls_left c answer new.parts step.answers)
 
   block_of_line : (A : Type 0) (number : ℕ) (asks : Result (Option (TraceCall A)) TraceFault) (text : List ℕ) (new : State) → ((c : Call A) → asks ≡ Ok (Some (trace_call.Service c)) → HasCallNumbers c) → Prints A ds true number asks old text new → PrintsAcceptedBlock A ds number asks old text new
   block_of_line A number (Ok None) text new numbers prints = tt
