@@ -1,15 +1,16 @@
 -- Certificates, along runs.
-use Rattle.std.proofs.Common.{◌≡◌, ◌≤◌, ◌*◌, ℕ, length, refl, ◌∙◌, ap, sym, subst, arith, Bool, true, false, List, [], ◌∷◌, Option, Some, None, Result, Ok, Err, IfSome}
+use Rattle.std.proofs.Common.{◌≡◌, ◌≤◌, ◌*◌, ◌^◌, ℕ, nat_lt, cond, length, ◌∙◌, ap, sym, subst, arith, Bool, true, false, List, [], ◌∷◌, Option, Some, None, Result, Ok, Err, IfSome}
 use Rattle.std.proofs.lemmas.Bool.{le-leb}
 use Rattle.std.specs.Option.{option_map, option_and_then}
 use Rattle.std.specs.List.{AllByRecursion}
 use Rattle.page_ranges.specs.declared.ranges.Run.{Run}
 use Rattle.page_ranges.specs.declared.statuses.Status.{Status}
 use Rattle.page_ranges.specs.declared.statuses.Status.TheVariants.{Unsupported}
-use Rattle.page_ranges.specs.MemoryTypes.{is_bad_type, is_machine_type}
+use Rattle.page_ranges.specs.MemoryTypes.{page_count, is_bad_type, is_machine_type}
+use Rattle.page_ranges.specs.Granules.{IsGranule}
 use Rattle.page_ranges.specs.Memory.{Page, IsProperMemory, HasMachineTypes}
 use Rattle.page_ranges.specs.MemoryMap.{memory_map}
-use Rattle.page_ranges.specs.Runs.{page_in, pages_of, IsValidMachine}
+use Rattle.page_ranges.specs.Runs.{page_in, pages_of}
 use Rattle.page_ranges.proofs.Rows.{all-row}
 use Rattle.placement_certificate.specs.declared.certificates.Request.{Request}
 use Rattle.placement_certificate.specs.Placement.{IsProperRequest}
@@ -18,8 +19,9 @@ use Rattle.placement_certificate.specs.Acceptance.{IsAccepted}
 use Rattle.placement_certificate.proofs.Accepted.{true_accepted}
 use Rattle.map_keys.specs.Records.{IsRecordEntry}
 use Rattle.page_services.specs.declared.page_book.Placed.{Placed}
-use Rattle.page_services.specs.PageRules.{Book, IsBestChoice, IsPlaced, placement_request, pool_request, AllocatesPages}
+use Rattle.page_services.specs.PageRules.{Book, IsBestChoice, IsPlaced, if_counted, placement_request, pool_request, AllocatesPages}
 use Rattle.page_services.proofs.Choices.{best_is_permitted}
+use Rattle.page_services.proofs.Granules.{whole_request_proper}
 use Rattle.pool_services.specs.Extents.{Extent, Place, first_fit, max_size, pages_for}
 use Rattle.pool_services.specs.PoolRules.{Answer, AllocatesPool, FillsPool, IsPut, extent_request}
 use Rattle.open_agents.specs.declared.items.OpenItem.{OpenItem}
@@ -33,8 +35,8 @@ use Rattle.boot_core.specs.declared.calls.Call.TheVariants as call
 use Rattle.boot_core.specs.declared.calls.Reply.{Reply}
 use Rattle.boot_core.specs.declared.calls.Reply.TheVariants as reply
 use Rattle.boot_core.specs.MachineRuns.{HasRecordNumbers}
-use Rattle.boot_core.specs.Machines.{Parts, State, AreSound, first_state}
-use Rattle.boot_core.specs.Certified.{certified}
+use Rattle.boot_core.specs.Machines.{IsMachine, MachineValue, Parts, State, AreSound, first_state}
+use Rattle.boot_core.specs.Certified.{certificate_in, left_request}
 use Rattle.boot_core.specs.PoolLists.{LocatesBuffer, ListsOpens, PutsItems, list_type}
 use Rattle.boot_core.specs.Steps.{best_starts, Answers, CallRun}
 use Rattle.boot_core.specs.Laws.{IsAcceptedReply, AllAccepted, NamesTypes}
@@ -52,11 +54,6 @@ module _ (m : List Page) (proper : IsProperMemory m) (typed : HasMachineTypes m)
   with_certificate r start None good best = tt
   with_certificate r start (Some c) good best = true_accepted m r c proper typed good best.0
 
-  -- the certificate of a placement is accepted with its request
-  accepted_placement : {A : Type 0} (r : Option Request) (pages memory : ℕ) (placed : Placed A) → IfSome r IsProperRequest → IsPlaced IsBestChoice m r pages memory placed → IfSome {T = Request × CertificateValue} (option_and_then (λ r. option_map (λ c. (r, c)) placed.certificate) r) (λ told. IsAccepted (memory_map m) told.0 told.1)
-  accepted_placement None pages memory placed good h = tt
-  accepted_placement (Some r) pages memory placed good (start, best, at) = with_certificate r start placed.certificate good best
-
 -- a reply without a certificate
 abbrev none_for : Request → Option (Request × CertificateValue)
 none_for r = None
@@ -65,93 +62,118 @@ uncertified : (r : Option Request) (P : (Request × CertificateValue) → Type 0
 uncertified None P = tt
 uncertified (Some r) P = tt
 
-module _ (old : Parts) (proper : IsProperMemory old.book.memory) (typed : HasMachineTypes old.book.memory) where
+-- the certificate of a placement is accepted with its request
+accepted_placement : {A : Type 0} (b : Book) (r : Option Request) (t pages memory : ℕ) (placed : Placed A) → IsProperMemory b.memory → HasMachineTypes b.memory → IfSome r IsProperRequest → IsPlaced IsBestChoice b r t pages memory placed →
+    IfSome {T = Request × CertificateValue} (option_and_then (λ r. option_map (λ c. (r, c)) placed.certificate) r) (λ told. IsAccepted (memory_map b.memory) told.0 told.1)
+accepted_placement b None t pages memory placed proper typed good h = tt
+accepted_placement b (Some r) t pages memory placed proper typed good (start, best, at) = with_certificate b.memory proper typed r start placed.certificate good best
+
+-- the certificate of a reply, with the request that the call leaves to the service
+abbrev tells : {A : Type 0} → ℕ → Call A → Reply A → Option (Request × CertificateValue)
+tells granule c answer = option_and_then (λ r. option_map (λ certificate. (r, certificate)) (certificate_in answer)) (left_request granule c answer)
+
+-- what holds of it holds too where its pages are counted
+counted_one : (r : Request) (tell : Request → Option (Request × CertificateValue)) (P : (Request × CertificateValue) → Type 0) → IfSome (tell r) P → IfSome (option_and_then tell (if_counted r)) P
+counted_one r tell P h = elim (nat_lt r.pages (2 ^ 64)) as (λ b. IfSome (option_and_then tell (option_map (λ n. r) (cond b (Some r.pages) None))) P) [
+  | true ↦ h
+  | false ↦ tt
+]
+
+counted : (o : Option Request) (tell : Request → Option (Request × CertificateValue)) (P : (Request × CertificateValue) → Type 0) → IfSome (option_and_then tell o) P → IfSome (option_and_then tell (option_and_then if_counted o)) P
+counted None tell P h = tt
+counted (Some r) tell P h = counted_one r tell P h
+
+module _ (old : Parts) (proper : IsProperMemory old.book.memory) (typed : HasMachineTypes old.book.memory) (granule : IsGranule old.book.granule) where
   accepted_block : (t size : ℕ) (o : Option Place) (answer : Answer) (b : Book) (es : List Extent) → is_bad_type t ≡ false → size ≤ max_size → IsPut IsBestChoice o old.book old.pools t size answer b es →
-      IfSome {T = Request × CertificateValue} (option_and_then (λ r. option_map (λ c. (r, c)) answer.1) (extent_request t size)) (λ told. IsAccepted (memory_map old.book.memory) told.0 told.1)
-  accepted_block t size (Some p) answer b es good few (address, none, book, extents) = rw none (uncertified (extent_request t size) _)
+      IfSome {T = Request × CertificateValue} (option_and_then (λ r. option_map (λ c. (r, c)) answer.1) (extent_request old.book.granule t size)) (λ told. IsAccepted (memory_map old.book.memory) told.0 told.1)
+  accepted_block t size (Some p) answer b es good few (address, none, book, extents) = rw none (uncertified (extent_request old.book.granule t size) _)
   accepted_block t size None answer b es good few (start, best, at, book, extents) =
-      rw (le-leb size max_size few) (with_certificate old.book.memory proper typed (pool_request t (pages_for size)) start answer.1 (record { some = omega arith; good = good }) best)
+      rw (le-leb size max_size few) (with_certificate old.book.memory proper typed (pool_request old.book.granule t (pages_for size)) start answer.1 (whole_request_proper old.book.granule t (pages_for size) page_count granule good (omega arith)) best)
 
   pool_result : (A : Type 0) (t size : ℕ) (result : Result Answer Status) (b : Book) (es : List Extent) → AllocatesPool IsBestChoice old.book old.pools t size result b es →
-      IfSome (certified {A = A} (call.AllocatePool t size) (reply.AllocatePool result)) (λ told. IsAccepted (memory_map old.book.memory) told.0 told.1)
+      IfSome (tells {A = A} old.book.granule (call.AllocatePool t size) (reply.AllocatePool result)) (λ told. IsAccepted (memory_map old.book.memory) told.0 told.1)
   pool_result A t size (Ok answer) b es (good, few, put) = accepted_block t size (first_fit t size old.pools) answer b es good few put
-  pool_result A t size (Err e) b es h = uncertified (extent_request t size) _
+  pool_result A t size (Err e) b es h = uncertified (extent_request old.book.granule t size) _
 
   -- the block of a list, with the certificate of a new extent
   list_result : {A : Type 0} (size : ℕ) (bytes : List ℕ) (told : PoolList A) (b : Book) (es : List Extent) → length bytes ≡ size * told.count → FillsPool IsBestChoice old.book old.pools list_type bytes (Ok (told.address, told.certificate)) b es →
-      IfSome {T = Request × CertificateValue} (option_and_then (λ r. option_map (λ c. (r, c)) told.certificate) (extent_request list_type (size * told.count))) (λ told. IsAccepted (memory_map old.book.memory) told.0 told.1)
+      IfSome {T = Request × CertificateValue} (option_and_then (λ r. option_map (λ c. (r, c)) told.certificate) (extent_request old.book.granule list_type (size * told.count))) (λ told. IsAccepted (memory_map old.book.memory) told.0 told.1)
   list_result size bytes told b es long (placed, (good, few, put), e) =
-      subst (λ (n : ℕ). IfSome {T = Request × CertificateValue} (option_and_then (λ r. option_map (λ c. (r, c)) told.certificate) (extent_request list_type n)) (λ told. IsAccepted (memory_map old.book.memory) told.0 told.1)) long
+      subst (λ (n : ℕ). IfSome {T = Request × CertificateValue} (option_and_then (λ r. option_map (λ c. (r, c)) told.certificate) (extent_request old.book.granule list_type n)) (λ told. IsAccepted (memory_map old.book.memory) told.0 told.1)) long
       (accepted_block list_type (length bytes) (first_fit list_type (length bytes) old.pools) (told.address, told.certificate) b placed good few put)
 
   buffer_result : {A : Type 0} (search : ℕ) (guid : List ℕ) (key : ℕ) (result : Result (PoolList A) Status) (new : Parts) → LocatesBuffer IsBestChoice old search guid key result new →
-      IfSome (certified (call.LocateHandleBuffer search guid key) (reply.LocateHandleBuffer result)) (λ told. IsAccepted (memory_map old.book.memory) told.0 told.1)
+      IfSome (tells old.book.granule (call.LocateHandleBuffer search guid key) (reply.LocateHandleBuffer result)) (λ told. IsAccepted (memory_map old.book.memory) told.0 told.1)
   buffer_result search guid key (Ok told) new (handles, found, some, count, filled, lists) =
       list_result 8 (handle_bytes handles) told new.book new.pools (handle_bytes-length handles ∙ ap (λ (n : ℕ). 8 * n) (sym count)) filled
   buffer_result search guid key (Err e) new h = tt
 
   items_result : {A : Type 0} (handle : ℕ) (guid : List ℕ) (items : List OpenItem) (told : PoolList A) (new : Parts) → told.count ≡ length items → PutsItems IsBestChoice old items told new →
-      IfSome (certified (call.OpenProtocolInformation handle guid) (reply.OpenProtocolInformation (Ok told))) (λ told. IsAccepted (memory_map old.book.memory) told.0 told.1)
-  items_result handle guid [] told new count h = rw h.1 (uncertified (extent_request list_type (24 * told.count)) _)
+      IfSome (tells old.book.granule (call.OpenProtocolInformation handle guid) (reply.OpenProtocolInformation (Ok told))) (λ told. IsAccepted (memory_map old.book.memory) told.0 told.1)
+  items_result handle guid [] told new count h = rw h.1 (uncertified (extent_request old.book.granule list_type (24 * told.count)) _)
   items_result handle guid (i ∷ items) told new count h = list_result 24 (item_bytes (i ∷ items)) told new.book new.pools (item_bytes-length (i ∷ items) ∙ ap (λ (n : ℕ). 24 * n) (sym count)) h.0
 
   opens_result : {A : Type 0} (handle : ℕ) (guid : List ℕ) (result : Result (PoolList A) Status) (new : Parts) → ListsOpens IsBestChoice old handle guid result new →
-      IfSome (certified (call.OpenProtocolInformation handle guid) (reply.OpenProtocolInformation result)) (λ told. IsAccepted (memory_map old.book.memory) told.0 told.1)
+      IfSome (tells old.book.granule (call.OpenProtocolInformation handle guid) (reply.OpenProtocolInformation result)) (λ told. IsAccepted (memory_map old.book.memory) told.0 told.1)
   opens_result handle guid (Ok told) new h = items_result handle guid (items_on old.lists.opens handle guid) told new h.1 h.2
   opens_result handle guid (Err e) new h = tt
 
-module _ {A : Type 0} (ds : List Meaning) (old : Parts) (proper : IsProperMemory old.book.memory) (typed : HasMachineTypes old.book.memory) where
-  accepted_result : (kind t pages memory : ℕ) (result : Result (Placed A) Status) (new : Parts) → AllocatesPages IsBestChoice old.book kind t pages memory result new.book → IfSome (certified (call.AllocatePages kind t pages memory) (reply.AllocatePages result)) (λ told. IsAccepted (memory_map old.book.memory) told.0 told.1)
+module _ {A : Type 0} (ds : List Meaning) (old : Parts) (proper : IsProperMemory old.book.memory) (typed : HasMachineTypes old.book.memory) (granule : IsGranule old.book.granule) where
+  accepted_result : (kind t pages memory : ℕ) (result : Result (Placed A) Status) (new : Parts) → AllocatesPages IsBestChoice old.book kind t pages memory result new.book → IfSome (tells old.book.granule (call.AllocatePages kind t pages memory) (reply.AllocatePages result)) (λ told. IsAccepted (memory_map old.book.memory) told.0 told.1)
   accepted_result kind t pages memory (Ok placed) new (valid, at, e) =
-      accepted_placement old.book.memory proper typed (placement_request kind t pages memory) pages memory placed (proper_request kind t pages memory valid.1 valid.2) at
-  accepted_result kind t pages memory (Err e) new h = uncertified (placement_request kind t pages memory) _
+      accepted_placement old.book (placement_request old.book.granule kind t pages memory) t pages memory placed proper typed (proper_request old.book.granule kind t pages memory granule valid.1 valid.2) at
+  accepted_result kind t pages memory (Err e) new h = uncertified (placement_request old.book.granule kind t pages memory) _
 
-  accepted_pages : (exited : Bool) (kind t pages memory : ℕ) (answer : Reply A) (new : Parts) → Answers (best_starts ds) exited old (call.AllocatePages kind t pages memory) answer new → IfSome (certified (call.AllocatePages kind t pages memory) answer) (λ told. IsAccepted (memory_map old.book.memory) told.0 told.1)
+  accepted_pages : (exited : Bool) (kind t pages memory : ℕ) (answer : Reply A) (new : Parts) → Answers (best_starts ds) exited old (call.AllocatePages kind t pages memory) answer new → IfSome (tells old.book.granule (call.AllocatePages kind t pages memory) answer) (λ told. IsAccepted (memory_map old.book.memory) told.0 told.1)
   accepted_pages true kind t pages memory answer new (result, e, h) =
       let refused : answer ≡ reply.AllocatePages (Err Unsupported) = e ∙ ap reply.AllocatePages h.0 in
-      subst (λ (a : Reply A). IfSome (certified (call.AllocatePages kind t pages memory) a) (λ told. IsAccepted (memory_map old.book.memory) told.0 told.1)) (sym refused) (uncertified (placement_request kind t pages memory) _)
+      subst (λ (a : Reply A). IfSome (tells old.book.granule (call.AllocatePages kind t pages memory) a) (λ told. IsAccepted (memory_map old.book.memory) told.0 told.1)) (sym refused) (uncertified (placement_request old.book.granule kind t pages memory) _)
   accepted_pages false kind t pages memory answer new (result, e, h) =
-      subst (λ (a : Reply A). IfSome (certified (call.AllocatePages kind t pages memory) a) (λ told. IsAccepted (memory_map old.book.memory) told.0 told.1)) (sym e) (accepted_result kind t pages memory result new h.0)
+      subst (λ (a : Reply A). IfSome (tells old.book.granule (call.AllocatePages kind t pages memory) a) (λ told. IsAccepted (memory_map old.book.memory) told.0 told.1)) (sym e) (accepted_result kind t pages memory result new h.0)
 
-  accepted_pool : (exited : Bool) (t size : ℕ) (answer : Reply A) (new : Parts) → Answers (best_starts ds) exited old (call.AllocatePool t size) answer new → IfSome (certified (call.AllocatePool t size) answer) (λ told. IsAccepted (memory_map old.book.memory) told.0 told.1)
+  accepted_pool : (exited : Bool) (t size : ℕ) (answer : Reply A) (new : Parts) → Answers (best_starts ds) exited old (call.AllocatePool t size) answer new → IfSome (tells old.book.granule (call.AllocatePool t size) answer) (λ told. IsAccepted (memory_map old.book.memory) told.0 told.1)
   accepted_pool true t size answer new (result, e, h) =
       let refused : answer ≡ reply.AllocatePool (Err Unsupported) = e ∙ ap reply.AllocatePool h.0 in
-      subst (λ (a : Reply A). IfSome (certified (call.AllocatePool t size) a) (λ told. IsAccepted (memory_map old.book.memory) told.0 told.1)) (sym refused) (uncertified (extent_request t size) _)
+      subst (λ (a : Reply A). IfSome (tells old.book.granule (call.AllocatePool t size) a) (λ told. IsAccepted (memory_map old.book.memory) told.0 told.1)) (sym refused) (uncertified (extent_request old.book.granule t size) _)
   accepted_pool false t size answer new (result, e, h) =
-      subst (λ (a : Reply A). IfSome (certified (call.AllocatePool t size) a) (λ told. IsAccepted (memory_map old.book.memory) told.0 told.1)) (sym e) (pool_result old proper typed A t size result new.book new.pools h.0)
+      subst (λ (a : Reply A). IfSome (tells old.book.granule (call.AllocatePool t size) a) (λ told. IsAccepted (memory_map old.book.memory) told.0 told.1)) (sym e) (pool_result old proper typed granule A t size result new.book new.pools h.0)
 
-  accepted_buffer : (exited : Bool) (search : ℕ) (guid : List ℕ) (key : ℕ) (answer : Reply A) (new : Parts) → Answers (best_starts ds) exited old (call.LocateHandleBuffer search guid key) answer new → IfSome (certified (call.LocateHandleBuffer search guid key) answer) (λ told. IsAccepted (memory_map old.book.memory) told.0 told.1)
+  accepted_buffer : (exited : Bool) (search : ℕ) (guid : List ℕ) (key : ℕ) (answer : Reply A) (new : Parts) → Answers (best_starts ds) exited old (call.LocateHandleBuffer search guid key) answer new → IfSome (tells old.book.granule (call.LocateHandleBuffer search guid key) answer) (λ told. IsAccepted (memory_map old.book.memory) told.0 told.1)
   accepted_buffer true search guid key answer new (result, e, h) =
       let refused : answer ≡ reply.LocateHandleBuffer (Err Unsupported) = e ∙ ap reply.LocateHandleBuffer h.0 in
-      subst (λ (a : Reply A). IfSome (certified (call.LocateHandleBuffer search guid key) a) (λ told. IsAccepted (memory_map old.book.memory) told.0 told.1)) (sym refused) tt
+      subst (λ (a : Reply A). IfSome (tells old.book.granule (call.LocateHandleBuffer search guid key) a) (λ told. IsAccepted (memory_map old.book.memory) told.0 told.1)) (sym refused) tt
   accepted_buffer false search guid key answer new (result, e, h) =
-      subst (λ (a : Reply A). IfSome (certified (call.LocateHandleBuffer search guid key) a) (λ told. IsAccepted (memory_map old.book.memory) told.0 told.1)) (sym e) (buffer_result old proper typed search guid key result new h)
+      subst (λ (a : Reply A). IfSome (tells old.book.granule (call.LocateHandleBuffer search guid key) a) (λ told. IsAccepted (memory_map old.book.memory) told.0 told.1)) (sym e) (buffer_result old proper typed granule search guid key result new h)
 
-  accepted_opens : (exited : Bool) (handle : ℕ) (guid : List ℕ) (answer : Reply A) (new : Parts) → Answers (best_starts ds) exited old (call.OpenProtocolInformation handle guid) answer new → IfSome (certified (call.OpenProtocolInformation handle guid) answer) (λ told. IsAccepted (memory_map old.book.memory) told.0 told.1)
+  accepted_opens : (exited : Bool) (handle : ℕ) (guid : List ℕ) (answer : Reply A) (new : Parts) → Answers (best_starts ds) exited old (call.OpenProtocolInformation handle guid) answer new → IfSome (tells old.book.granule (call.OpenProtocolInformation handle guid) answer) (λ told. IsAccepted (memory_map old.book.memory) told.0 told.1)
   accepted_opens true handle guid answer new (result, e, h) =
       let refused : answer ≡ reply.OpenProtocolInformation (Err Unsupported) = e ∙ ap reply.OpenProtocolInformation h.0 in
-      subst (λ (a : Reply A). IfSome (certified (call.OpenProtocolInformation handle guid) a) (λ told. IsAccepted (memory_map old.book.memory) told.0 told.1)) (sym refused) tt
+      subst (λ (a : Reply A). IfSome (tells old.book.granule (call.OpenProtocolInformation handle guid) a) (λ told. IsAccepted (memory_map old.book.memory) told.0 told.1)) (sym refused) tt
   accepted_opens false handle guid answer new (result, e, h) =
-      subst (λ (a : Reply A). IfSome (certified (call.OpenProtocolInformation handle guid) a) (λ told. IsAccepted (memory_map old.book.memory) told.0 told.1)) (sym e) (opens_result old proper typed handle guid result new h)
+      subst (λ (a : Reply A). IfSome (tells old.book.granule (call.OpenProtocolInformation handle guid) a) (λ told. IsAccepted (memory_map old.book.memory) told.0 told.1)) (sym e) (opens_result old proper typed granule handle guid result new h)
+
+  accepted_telling : (exited : Bool) (c : Call A) (answer : Reply A) (new : Parts) → Answers (best_starts ds) exited old c answer new → IfSome (tells old.book.granule c answer) (λ told. IsAccepted (memory_map old.book.memory) told.0 told.1)
+  accepted_telling exited (call.AllocatePages kind t pages memory) answer new h = accepted_pages exited kind t pages memory answer new h
+  accepted_telling exited (call.AllocatePool t size) answer new h = accepted_pool exited t size answer new h
+  accepted_telling exited (call.LocateHandleBuffer search guid key) answer new h = accepted_buffer exited search guid key answer new h
+  accepted_telling exited (call.OpenProtocolInformation handle guid) answer new h = accepted_opens exited handle guid answer new h
+  accepted_telling exited c answer new h = tt
 
   pub accepted_reply : (exited : Bool) (calls_left : ℕ) (c : Call A) (answer : Reply A) (new : Parts) → Answers (best_starts ds) exited old c answer new → IsAcceptedReply (record { parts = old; exited = exited; calls_left = calls_left }) c answer
-  accepted_reply exited n (call.AllocatePages kind t pages memory) answer new h = accepted_pages exited kind t pages memory answer new h
-  accepted_reply exited n (call.AllocatePool t size) answer new h = accepted_pool exited t size answer new h
-  accepted_reply exited n (call.LocateHandleBuffer search guid key) answer new h = accepted_buffer exited search guid key answer new h
-  accepted_reply exited n (call.OpenProtocolInformation handle guid) answer new h = accepted_opens exited handle guid answer new h
-  accepted_reply exited n c answer new h = tt
+  accepted_reply exited n c answer new h =
+      counted (left_request old.book.granule c answer) (λ r. option_map (λ certificate. (r, certificate)) (certificate_in answer)) (λ told. IsAccepted (memory_map old.book.memory) told.0 told.1) (accepted_telling exited c answer new h)
 
 all_accepted : {A : Type 0} (ds : List Meaning) (old : State) (calls : List (Call A)) (replies : List (Reply A)) (new : State) (run : CallRun ds old calls replies new) → AreSound old.parts → HasMachineTypes old.parts.book.memory → AllAccepted ds old calls replies new run
 all_accepted ds old (c ∷ calls) (r ∷ replies) new (next, step, run) sound typed =
     let o = outcome (best_starts ds) best_is_permitted old.exited old.parts c r next.parts sound step.answers in
     let still = stays_sound (best_starts ds) best_is_permitted old.exited old.parts c r next.parts sound step.answers in
-    (accepted_reply ds old.parts sound.proper typed old.exited old.calls_left c r next.parts step.answers, all_accepted ds next calls replies new run still (stays_typed (NamesTypes c) old.parts.book next.parts.book typed o))
+    (accepted_reply ds old.parts sound.proper typed sound.granules.granule old.exited old.calls_left c r next.parts step.answers, all_accepted ds next calls replies new run still (stays_typed (NamesTypes c) old.parts.book next.parts.book typed o))
 all_accepted ds old [] [] new run sound typed = tt
 all_accepted ds old [] (r ∷ replies) new run sound typed = tt
 all_accepted ds old (c ∷ calls) [] new run sound typed = tt
 
-pub accepted_run : {A : Type 0} (ds : List Meaning) (machine : List Run) (calls : List (Call A)) (replies : List (Reply A)) (new : State) (run : CallRun ds (first_state machine) calls replies new) → IsValidMachine machine → AllAccepted ds (first_state machine) calls replies new run
-accepted_run ds machine calls replies new run valid = all_accepted ds (first_state machine) calls replies new run (first_sound machine valid) (first_types machine valid.mtypes)
+pub accepted_run : {A : Type 0} (ds : List Meaning) (machine : MachineValue) (calls : List (Call A)) (replies : List (Reply A)) (new : State) (run : CallRun ds (first_state machine) calls replies new) → IsMachine machine → AllAccepted ds (first_state machine) calls replies new run
+accepted_run ds machine calls replies new run valid = all_accepted ds (first_state machine) calls replies new run (first_sound machine valid) (first_types machine.runs valid.runs.mtypes)
 
 -- ---- records
 
@@ -164,5 +186,5 @@ entries_after ds old (c ∷ calls) (r ∷ replies) new (next, step, run) sound f
 entries_after ds old [] (r ∷ replies) new run sound fields names = absurd run
 entries_after ds old (c ∷ calls) [] new run sound fields names = absurd run
 
-pub entries_of_run : {A : Type 0} (ds : List Meaning) (machine : List Run) (calls : List (Call A)) (replies : List (Reply A)) (new : State) → IsValidMachine machine → AllByRecursion HasRecordNumbers machine → AllByRecursion NamesTypes calls → CallRun ds (first_state machine) calls replies new → AllByRecursion IsRecordEntry (memory_map new.parts.book.memory)
-entries_of_run ds machine calls replies new valid numbers names run = entries_after ds (first_state machine) calls replies new run (first_sound machine valid) (first_fields machine numbers) names
+pub entries_of_run : {A : Type 0} (ds : List Meaning) (machine : MachineValue) (calls : List (Call A)) (replies : List (Reply A)) (new : State) → IsMachine machine → AllByRecursion HasRecordNumbers machine.runs → AllByRecursion NamesTypes calls → CallRun ds (first_state machine) calls replies new → AllByRecursion IsRecordEntry (memory_map new.parts.book.memory)
+entries_of_run ds machine calls replies new valid numbers names run = entries_after ds (first_state machine) calls replies new run (first_sound machine valid) (first_fields machine.runs numbers) names

@@ -1,8 +1,7 @@
 -- A step with the best start is a step with any permitted start.
-use Rattle.std.proofs.Common.{ℕ, Bool, true, false, List, [], ◌∷◌, length, Option, Some, None, Result, Ok, Err, subst}
+use Rattle.std.proofs.Common.{ℕ, Bool, true, false, List, [], ◌∷◌, length, Option, Some, None, Result, Ok, Err}
 use Rattle.page_ranges.specs.declared.statuses.Status.{Status}
 use Rattle.page_ranges.specs.declared.statuses.Status.TheVariants as status
-use Rattle.page_ranges.specs.Memory.{Page}
 use Rattle.placement_certificate.specs.declared.certificates.Request.{Request}
 use Rattle.page_services.specs.declared.page_book.Placed.{Placed}
 use Rattle.page_services.specs.PageRules.{Book, IsAnyStart, IsBestChoice, IsPlaced, placement_request, pool_request, AllocatesPages}
@@ -21,12 +20,12 @@ use Rattle.boot_core.specs.Machines.{Parts, State}
 use Rattle.boot_core.specs.PoolLists.{LocatesBuffer, ListsOpens, PutsItems, list_type}
 use Rattle.boot_core.specs.Steps.{best_starts, any_starts, OnBook, OnBookAndPools, WhileOpen, Serves, Answers, Step, StepAny, CallRunBy, CallRun}
 
-placed_any : {A : Type 0} (m : List Page) (r : Option Request) (pages memory : ℕ) (placed : Placed A) → IsPlaced IsBestChoice m r pages memory placed → IsPlaced IsAnyStart m r pages memory placed
-placed_any m (Some r) pages memory placed (start, chosen, at) = (start, best_is_permitted m r start placed.certificate chosen, at)
-placed_any m None pages memory placed h = h
+placed_any : {A : Type 0} (b : Book) (r : Option Request) (t pages memory : ℕ) (placed : Placed A) → IsPlaced IsBestChoice b r t pages memory placed → IsPlaced IsAnyStart b r t pages memory placed
+placed_any b (Some r) t pages memory placed (start, chosen, at) = (start, best_is_permitted b.memory r start placed.certificate chosen, at)
+placed_any b None t pages memory placed h = h
 
 allocates_any : {A : Type 0} (b : Book) (kind t pages memory : ℕ) (result : Result (Placed A) Status) (new : Book) → AllocatesPages IsBestChoice b kind t pages memory result new → AllocatesPages IsAnyStart b kind t pages memory result new
-allocates_any b kind t pages memory (Ok placed) new h = (h.0, placed_any b.memory (placement_request kind t pages memory) pages memory placed h.1, h.2)
+allocates_any b kind t pages memory (Ok placed) new h = (h.0, placed_any b (placement_request b.granule kind t pages memory) t pages memory placed h.1, h.2)
 allocates_any b kind t pages memory (Err status.InvalidParameter) new h = h
 allocates_any b kind t pages memory (Err status.NotFound) new h = h
 allocates_any b kind t pages memory (Err status.OutOfResources) new h = h
@@ -39,7 +38,7 @@ allocates_any b kind t pages memory (Err status.AlreadyStarted) new h = absurd h
 
 put_any : (b : Book) (es : List Extent) (t size : ℕ) (o : Option Place) (answer : Answer) (new_b : Book) (new : List Extent) → IsPut IsBestChoice o b es t size answer new_b new → IsPut IsAnyStart o b es t size answer new_b new
 put_any b es t size (Some p) answer new_b new h = h
-put_any b es t size None answer new_b new (start, chosen, at, book, extents) = (start, best_is_permitted b.memory (pool_request t (pages_for size)) start answer.1 chosen, at, book, extents)
+put_any b es t size None answer new_b new (start, chosen, at, book, extents) = (start, best_is_permitted b.memory (pool_request b.granule t (pages_for size)) start answer.1 chosen, at, book, extents)
 
 pool_any : (b : Book) (es : List Extent) (t size : ℕ) (result : Result Answer Status) (new_b : Book) (new : List Extent) → AllocatesPool IsBestChoice b es t size result new_b new → AllocatesPool IsAnyStart b es t size result new_b new
 pool_any b es t size (Ok answer) new_b new h = (h.0, h.1, put_any b es t size (first_fit t size es) answer new_b new h.2)

@@ -1,12 +1,11 @@
 -- What the calls so far can have brought, one call more.
-use Rattle.std.proofs.Common.{◌≡◌, ℕ, ◌+◌, ◌-◌, ◌*◌, ◌<◌, ◌≤◌, ◌^◌, Bool, List, [], ◌∷◌, length, sym, subst, arith}
+use Rattle.std.proofs.Common.{◌≡◌, ℕ, ◌+◌, ◌-◌, ◌<◌, ◌≤◌, ◌^◌, Bool, List, [], ◌∷◌, sym, subst, arith}
 use Rattle.std.specs.List.{AllByRecursion}
-use Rattle.page_ranges.specs.declared.ranges.Run.{Run}
 use Rattle.open_agents.specs.declared.items.OpenRecord.{OpenRecord}
 use Rattle.protocol_services.specs.Lists.{Lists, HasRoom, IsRaised}
 use Rattle.protocol_services.specs.Driving.{HasRoomToConnect}
 use Rattle.protocol_services.specs.Removing.{HasRoomToReinstall}
-use Rattle.boot_core.specs.Machines.{Parts, CoreValue, FollowsCalls, all_calls, first_state}
+use Rattle.boot_core.specs.Machines.{MachineValue, Parts, CoreValue, FollowsCalls, all_calls, first_state}
 
 weaken : (P Q : OpenRecord → Type 0) → ((o : OpenRecord) → P o → Q o) → (opens : List OpenRecord) → AllByRecursion P opens → AllByRecursion Q opens
 weaken P Q f [] a = tt
@@ -54,5 +53,5 @@ pub has_room_to_reinstall : (p : Parts) (n : ℕ) → FollowsCalls p (n + 1) →
 has_room_to_reinstall p n follows = record { numbers = omega (arith, follows.numbers); stamps = omega (arith, follows.stamps) }
 
 -- before any call
-pub first_follows : (machine : List Run) → FollowsCalls (first_state machine).parts all_calls
+pub first_follows : (machine : MachineValue) → FollowsCalls (first_state machine).parts all_calls
 first_follows machine = record { key = omega arith; numbers = omega arith; stamps = omega arith; registrations = omega arith; counts = tt }

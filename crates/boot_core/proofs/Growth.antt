@@ -1,13 +1,11 @@
 -- How long the memory map can be after calls.
-use Rattle.std.proofs.Common.{ℕ, ◌+◌, ◌*◌, ◌≤◌, List, [], ◌∷◌, length, ap, arith}
-use Rattle.page_ranges.specs.declared.ranges.Run.{Run}
+use Rattle.std.proofs.Common.{◌+◌, ◌*◌, ◌≤◌, List, [], ◌∷◌, length, ap, arith}
 use Rattle.page_ranges.specs.MemoryMap.{memory_map}
-use Rattle.page_ranges.specs.Runs.{IsValidMachine}
 use Rattle.page_ranges.proofs.RunMaps.{entries_at_most}
 use Rattle.page_services.proofs.Choices.{Permits}
 use Rattle.boot_core.specs.declared.calls.Call.{Call}
 use Rattle.boot_core.specs.declared.calls.Reply.{Reply}
-use Rattle.boot_core.specs.Machines.{State, AreSound, first_state}
+use Rattle.boot_core.specs.Machines.{IsMachine, MachineValue, State, AreSound, first_state}
 use Rattle.boot_core.specs.Steps.{Setting, CallRunBy}
 use Rattle.boot_core.specs.Laws.{NamesTypes}
 use Rattle.boot_core.proofs.Outcomes.{outcome, map_grows}
@@ -23,5 +21,5 @@ module _ (S : Setting) (permits : Permits S.chosen) where
   grows old [] (r ∷ replies) new sound run = absurd run
   grows old (c ∷ calls) [] new sound run = absurd run
 
-  pub grown_map : {A : Type 0} (machine : List Run) (calls : List (Call A)) (replies : List (Reply A)) (new : State) → IsValidMachine machine → CallRunBy S (first_state machine) calls replies new → length (memory_map new.parts.book.memory) ≤ length machine + 2 * length calls
-  grown_map machine calls replies new valid run = omega (arith, entries_at_most machine valid.runs, grows (first_state machine) calls replies new (first_sound machine valid) run)
+  pub grown_map : {A : Type 0} (machine : MachineValue) (calls : List (Call A)) (replies : List (Reply A)) (new : State) → IsMachine machine → CallRunBy S (first_state machine) calls replies new → length (memory_map new.parts.book.memory) ≤ length machine.runs + 2 * length calls
+  grown_map machine calls replies new valid run = omega (arith, entries_at_most machine.runs valid.runs.runs, grows (first_state machine) calls replies new (first_sound machine valid) run)

@@ -1,5 +1,5 @@
 -- The bytes that a read gives are those last laid.
-use Rattle.std.proofs.Common.{◌≡◌, ℕ, suc, ◌+◌, ◌-◌, ◌<◌, List, [], ◌∷◌, length, drop, replicate, Option, Some, Ok, Vec, refl, sym, ap, subst, ◌∙◌, arith}
+use Rattle.std.proofs.Common.{◌≡◌, ℕ, suc, ◌+◌, ◌-◌, ◌<◌, List, [], ◌∷◌, length, drop, Option, Some, Vec, refl, sym, ap, ◌∙◌, arith}
 use Rattle.std.proofs.lemmas.Option.{same_Some}
 use Rattle.page_ranges.specs.declared.statuses.Status.TheVariants.{Success}
 use Rattle.page_services.proofs.Choices.{best_is_permitted}
@@ -12,7 +12,7 @@ use Rattle.boot_core.specs.declared.calls.Reply.{Reply}
 use Rattle.boot_core.specs.declared.calls.Reply.TheVariants as reply
 use Rattle.boot_core.specs.Machines.{State, AreSound}
 use Rattle.boot_core.specs.Steps.{best_starts, Step, CallRun}
-use Rattle.boot_core.specs.Laws.{byte_after, gives_back, laid_over, lays, left_by, LeavesByte}
+use Rattle.boot_core.specs.Laws.{gives_back, laid_over, lays, left_by, LeavesByte}
 use Rattle.boot_core.proofs.PoolBytes.{bytes_after, read_bytes}
 use Rattle.boot_core.proofs.Soundness.{run_sound, stays_sound}
 

@@ -1,5 +1,5 @@
 -- What a step does to a book: it keeps it, or changes the type of a page.
-use Rattle.std.proofs.Common.{◌≡◌, ◌⊎◌, ℕ, ◌+◌, ◌/◌, ◌^◌, ◌<◌, ◌≤◌, ◌==◌, Bool, true, false, cond, List, [], ◌∷◌, Option, Some, None, Result, Ok, Err, IfSome, length, refl, sym, ap, subst, ◌∙◌, inl, inr, arith, ne_eqb}
+use Rattle.std.proofs.Common.{◌≡◌, ◌⊎◌, ℕ, ◌+◌, ◌/◌, ◌^◌, ◌<◌, ◌≤◌, Bool, true, false, List, [], ◌∷◌, Option, Some, None, Result, Ok, Err, IfSome, length, refl, sym, ap, subst, ◌∙◌, inl, inr, arith, ne_eqb}
 use Rattle.std.specs.Option.{option_map}
 use Rattle.std.proofs.lemmas.Option.{same_Some}
 use Rattle.page_ranges.specs.declared.ranges.Owner.{Owner}
@@ -7,8 +7,9 @@ use Rattle.page_ranges.specs.declared.ranges.Owner.TheVariants.{Given, Pages, Po
 use Rattle.page_ranges.specs.declared.ranges.PageRange.{PageRange}
 use Rattle.page_ranges.specs.declared.statuses.Status.{Status}
 use Rattle.page_ranges.specs.declared.statuses.Status.TheVariants as status
-use Rattle.page_ranges.specs.MemoryTypes.{page_size, page_count, pages_below, conventional, is_bad_type}
+use Rattle.page_ranges.specs.MemoryTypes.{page_size, conventional, is_bad_type}
 use Rattle.page_ranges.specs.Memory.{Page, page_at, IsProperPage, IsProperMemory, HasMachineTypes, IsConventional, IsOwnedBy, AllInRange, retyped}
+use Rattle.page_ranges.specs.Granules.{IsGranule}
 use Rattle.page_ranges.specs.MemoryMap.{memory_map}
 use Rattle.page_ranges.proofs.EntryCounts.{two_more}
 use Rattle.page_ranges.proofs.Lookups.{page_at-number, page_at-all}
@@ -16,9 +17,10 @@ use Rattle.page_ranges.proofs.Retyped.{changed, changed_in, page_at-retyped, ret
 use Rattle.placement_certificate.specs.declared.certificates.Request.{Request}
 use Rattle.placement_certificate.specs.Placement.{IsProperRequest}
 use Rattle.page_services.specs.declared.page_book.Placed.{Placed}
-use Rattle.page_services.specs.PageRules.{Book, any_pages, max_address, range_from, changed_book, placement_request, pool_request, IsPlaced, AllocatesPages, FreesPages}
+use Rattle.page_services.specs.PageRules.{Book, IsInGranules, changed_book, freed_range, placement_request, pool_request, range_from, whole_pages, IsPlaced, AllocatesPages, FreesPages}
 use Rattle.page_services.proofs.Choices.{Permits}
-use Rattle.pool_services.specs.Extents.{Extent, Place, AreExtents, ended, first_fit, pages_for}
+use Rattle.page_services.proofs.Granules.{freed_names, freed_owned, placement_request_proper, whole_pages_some}
+use Rattle.pool_services.specs.Extents.{Extent, Place, AreExtents, ended, extent_pages, first_fit, pages_for}
 use Rattle.pool_services.specs.PoolRules.{Answer, AllocatesPool, FillsPool, FreesPool, IsPut, OwnsExtents, WritesPool, given_if}
 use Rattle.pool_services.proofs.KeptPools.{ended-owned}
 use Rattle.boot_core.specs.declared.calls.Call.{Call}
@@ -57,7 +59,7 @@ same_type range t o m x here some same =
 
 -- ---- a book
 
--- The book after a step from a book of proper memory: as it was, or with a key that is 1 higher and a page of another type.
+-- The book after a step from a book of proper memory and whole granules: as it was, or with a key that is 1 higher and a page of another type.
 -- The types that the call names fit where Fits holds.
 pub record IsChanged (Fits : Type 0) (old new : Book) : Type 0 where
   pub up : new.key ≡ old.key + 1
@@ -96,12 +98,17 @@ freed Fits b range o placed proper some owned =
       grows = two_more range conventional Given b.memory proper.ascending;
     }
 
-pub frees : (Fits : Type 0) (b : Book) (address pages : ℕ) (result : Result (Unit {0}) Status) (new : Book) → IsProperMemory b.memory → FreesPages b address pages result new → Outcome Fits b new
-frees Fits b address pages (Ok done) new proper (valid, owned, e) = subst (Outcome Fits b) (sym e) (inr (freed Fits b (range_from address pages) Pages (λ e. absurd cc) proper valid.1 (owned (address / page_size) (omega arith) (omega arith))))
-frees Fits b address pages (Err status.InvalidParameter) new proper h = inl h.1
-frees Fits b address pages (Err status.NotFound) new proper h = inl h.2
-frees Fits b address pages (Err status.OutOfResources) new proper h = inl h.2
-frees Fits b address pages (Err other) new proper h = absurd h
+pub frees : (Fits : Type 0) (b : Book) (address pages : ℕ) (result : Result (Unit {0}) Status) (new : Book) → IsProperMemory b.memory → IsInGranules b → FreesPages b address pages result new → Outcome Fits b new
+frees Fits b address pages (Ok done) new proper granules (valid, owned, e) =
+    let range : PageRange = freed_range b address pages in
+    let names = freed_names b address pages granules in
+    let some : 0 < range.pages = omega (arith, names.0, names.1, valid.1) in
+    let all = freed_owned b address pages granules valid.1 owned in
+    subst (Outcome Fits b) (sym e) (inr (freed Fits b range Pages (λ e. absurd cc) proper some (all range.first (omega arith) (omega (arith, some)))))
+frees Fits b address pages (Err status.InvalidParameter) new proper granules h = inl h.1
+frees Fits b address pages (Err status.NotFound) new proper granules h = inl h.2
+frees Fits b address pages (Err status.OutOfResources) new proper granules h = inl h.2
+frees Fits b address pages (Err other) new proper granules h = absurd h
 
 -- the book once an extent ended, if one did
 given : (Fits : Type 0) (b : Book) (o : Option PageRange) → IsProperMemory b.memory → ((range : PageRange) → o ≡ Some range → (0 < range.pages) × AllInRange b.memory range (IsOwnedBy Pool)) → Outcome Fits b (given_if o b)
@@ -148,15 +155,12 @@ module _ (Fits : Type 0) (old new : Book) where
 
 -- ---- a call
 
--- what holds of the request of a call whose numbers allow it
-pub request_has : (P : Request → Type 0) (any max : Bool) (r s : Request) → P r → P s → IfSome (cond any (Some r) (cond max (Some s) None)) P
-request_has P true max r s p q = p
-request_has P false true r s p q = q
-request_has P false false r s p q = tt
+if_some : {X : Type 0} (o : Option X) (P : X → Type 0) → ((x : X) → o ≡ Some x → P x) → IfSome o P
+if_some None P f = tt
+if_some (Some x) P f = f x refl
 
-pub proper_request : (kind t pages memory : ℕ) → is_bad_type t ≡ false → 0 < pages → IfSome (placement_request kind t pages memory) IsProperRequest
-proper_request kind t pages memory good some =
-    request_has IsProperRequest (kind == any_pages) (kind == max_address) (record { mtype = t; pages = pages; limit = page_count }) (record { mtype = t; pages = pages; limit = pages_below memory }) (record { some = some; good = good }) (record { some = some; good = good })
+pub proper_request : (granule kind t pages memory : ℕ) → IsGranule granule → is_bad_type t ≡ false → 0 < pages → IfSome (placement_request granule kind t pages memory) IsProperRequest
+proper_request granule kind t pages memory is good some = if_some (placement_request granule kind t pages memory) IsProperRequest (λ r e. placement_request_proper granule kind t pages memory r is good some e)
 
 -- a service that leaves all parts, or goes by a rule for the book
 served : {A R : Type 0} (Fits : Type 0) (exited : Bool) (old new : Parts) (answer : Reply A) (tell : Result R Status → Reply A) (Rule : Result R Status → Type 0) → ((result : Result R Status) → Rule result → Outcome Fits old.book new.book) → Serves exited old new answer tell Rule → Outcome Fits old.book new.book
@@ -172,71 +176,76 @@ any_fits Fits old new fits (inl e) = inl e
 any_fits Fits old new fits (inr changed) = inr (record { up = changed.up; proper = changed.proper; differs = changed.differs; typed = changed.typed; fields = λ u. changed.fields fits; grows = changed.grows })
 
 module _ (S : Setting) (permits : Permits S.chosen) where
-  first_is_free : {A : Type 0} (m : List Page) (r : Option Request) (pages memory : ℕ) (placed : Placed A) → 0 < pages → IfSome r IsProperRequest → IsPlaced S.chosen m r pages memory placed → IsConventional (page_at m (placed.address / page_size))
-  first_is_free m None pages memory placed some good (free, e, none) = subst (λ (a : ℕ). IsConventional (page_at m (a / page_size))) (sym e) (free.1 (memory / page_size) (omega arith) (omega arith))
-  first_is_free m (Some r) pages memory placed some good (start, chosen, e) =
+  first_is_free : {A : Type 0} (b : Book) (r : Option Request) (t pages memory : ℕ) (placed : Placed A) → 0 < whole_pages b.granule t pages → IfSome r IsProperRequest → IsPlaced S.chosen b r t pages memory placed → IsConventional (page_at b.memory (placed.address / page_size))
+  first_is_free b None t pages memory placed some good (free, e, none) = subst (λ (a : ℕ). IsConventional (page_at b.memory (a / page_size))) (sym e) (free.2 (memory / page_size) (omega arith) (omega (arith, some)))
+  first_is_free b (Some r) t pages memory placed some good (start, chosen, e) =
       let first : placed.address / page_size ≡ start = omega (arith, e) in
-      subst (λ (k : ℕ). IsConventional (page_at m k)) (sym first) ((permits m r start placed.certificate chosen).conventional start (omega arith) (omega (arith, good.some)))
+      subst (λ (k : ℕ). IsConventional (page_at b.memory k)) (sym first) ((permits b.memory r start placed.certificate chosen).conventional start (omega arith) (omega (arith, good.some)))
 
-  pub allocates : {A : Type 0} (b : Book) (kind t pages memory : ℕ) (result : Result (Placed A) Status) (new : Book) → IsProperMemory b.memory → AllocatesPages S.chosen b kind t pages memory result new → Outcome (t < 2 ^ 32) b new
-  allocates b kind t pages memory (Ok placed) new proper (valid, at, e) =
-      subst (Outcome (t < 2 ^ 32) b) (sym e)
-      (inr (allocated b (range_from placed.address pages) t Pages proper valid.1 valid.2 (first_is_free b.memory (placement_request kind t pages memory) pages memory placed valid.2 (proper_request kind t pages memory valid.1 valid.2) at)))
-  allocates b kind t pages memory (Err status.InvalidParameter) new proper h = inl h.1
-  allocates b kind t pages memory (Err status.NotFound) new proper h = inl h.3
-  allocates b kind t pages memory (Err status.OutOfResources) new proper h = inl h.2
-  allocates b kind t pages memory (Err other) new proper h = absurd h
+  pub allocates : {A : Type 0} (b : Book) (kind t pages memory : ℕ) (result : Result (Placed A) Status) (new : Book) → IsProperMemory b.memory → IsInGranules b → AllocatesPages S.chosen b kind t pages memory result new → Outcome (t < 2 ^ 32) b new
+  allocates b kind t pages memory (Ok placed) new proper granules (valid, at, e) =
+      let range : PageRange = range_from placed.address (whole_pages b.granule t pages) in
+      let some : 0 < range.pages = whole_pages_some b.granule t pages granules.granule valid.2 in
+      let request = proper_request b.granule kind t pages memory granules.granule valid.1 valid.2 in
+      let free = first_is_free b (placement_request b.granule kind t pages memory) t pages memory placed some request at in
+      subst (Outcome (t < 2 ^ 32) b) (sym e) (inr (allocated b range t Pages proper valid.1 some free))
+  allocates b kind t pages memory (Err status.InvalidParameter) new proper granules h = inl h.1
+  allocates b kind t pages memory (Err status.NotFound) new proper granules h = inl h.3
+  allocates b kind t pages memory (Err status.OutOfResources) new proper granules h = inl h.2
+  allocates b kind t pages memory (Err other) new proper granules h = absurd h
 
-  put : (b : Book) (es : List Extent) (t size : ℕ) (o : Option Place) (answer : Answer) (new_b : Book) (new : List Extent) → IsProperMemory b.memory → is_bad_type t ≡ false → IsPut S.chosen o b es t size answer new_b new → Outcome (t < 2 ^ 32) b new_b
-  put b es t size (Some p) answer new_b new proper good (address, none, same, rest) = inl same
-  put b es t size None answer new_b new proper good (start, chosen, address, e, rest) =
-      let start_is = permits b.memory (pool_request t (pages_for size)) start answer.1 chosen in
-      subst (Outcome (t < 2 ^ 32) b) (sym e) (inr (allocated b (record { first = start; pages = pages_for size }) t Pool proper good (omega arith) (start_is.conventional start (omega arith) (omega arith))))
+  put : (b : Book) (es : List Extent) (t size : ℕ) (o : Option Place) (answer : Answer) (new_b : Book) (new : List Extent) → IsProperMemory b.memory → IsInGranules b → is_bad_type t ≡ false → IsPut S.chosen o b es t size answer new_b new → Outcome (t < 2 ^ 32) b new_b
+  put b es t size (Some p) answer new_b new proper granules good (address, none, same, rest) = inl same
+  put b es t size None answer new_b new proper granules good (start, chosen, address, e, rest) =
+      let request : Request = pool_request b.granule t (pages_for size) in
+      let start_is = permits b.memory request start answer.1 chosen in
+      let some : 0 < request.pages = whole_pages_some b.granule t (pages_for size) granules.granule (omega arith) in
+      subst (Outcome (t < 2 ^ 32) b) (sym e) (inr (allocated b (record { first = start; pages = extent_pages b.granule t size }) t Pool proper good some (start_is.conventional start (omega arith) (omega (arith, some)))))
 
-  pub allocates_pool : (b : Book) (es : List Extent) (t size : ℕ) (result : Result Answer Status) (new_b : Book) (new : List Extent) → IsProperMemory b.memory → AllocatesPool S.chosen b es t size result new_b new → Outcome (t < 2 ^ 32) b new_b
-  allocates_pool b es t size (Ok answer) new_b new proper (good, few, at) = put b es t size (first_fit t size es) answer new_b new proper good at
-  allocates_pool b es t size (Err status.InvalidParameter) new_b new proper h = inl h.1
-  allocates_pool b es t size (Err status.OutOfResources) new_b new proper h = inl h.2
-  allocates_pool b es t size (Err other) new_b new proper h = absurd h
+  pub allocates_pool : (b : Book) (es : List Extent) (t size : ℕ) (result : Result Answer Status) (new_b : Book) (new : List Extent) → IsProperMemory b.memory → IsInGranules b → AllocatesPool S.chosen b es t size result new_b new → Outcome (t < 2 ^ 32) b new_b
+  allocates_pool b es t size (Ok answer) new_b new proper granules (good, few, at) = put b es t size (first_fit t size es) answer new_b new proper granules good at
+  allocates_pool b es t size (Err status.InvalidParameter) new_b new proper granules h = inl h.1
+  allocates_pool b es t size (Err status.OutOfResources) new_b new proper granules h = inl h.2
+  allocates_pool b es t size (Err other) new_b new proper granules h = absurd h
 
-  pub fills_pool : (b : Book) (es : List Extent) (t : ℕ) (bytes : List ℕ) (result : Result Answer Status) (new_b : Book) (new : List Extent) → IsProperMemory b.memory → FillsPool S.chosen b es t bytes result new_b new → Outcome (t < 2 ^ 32) b new_b
-  fills_pool b es t bytes (Ok answer) new_b new proper (placed, h, e) = allocates_pool b es t (length bytes) (Ok answer) new_b placed proper h
-  fills_pool b es t bytes (Err e) new_b new proper h = allocates_pool b es t (length bytes) (Err e) new_b new proper h
+  pub fills_pool : (b : Book) (es : List Extent) (t : ℕ) (bytes : List ℕ) (result : Result Answer Status) (new_b : Book) (new : List Extent) → IsProperMemory b.memory → IsInGranules b → FillsPool S.chosen b es t bytes result new_b new → Outcome (t < 2 ^ 32) b new_b
+  fills_pool b es t bytes (Ok answer) new_b new proper granules (placed, h, e) = allocates_pool b es t (length bytes) (Ok answer) new_b placed proper granules h
+  fills_pool b es t bytes (Err e) new_b new proper granules h = allocates_pool b es t (length bytes) (Err e) new_b new proper granules h
 
   -- the type of a list's block has 32 bits
-  listed : (b : Book) (es : List Extent) (bytes : List ℕ) (result : Result Answer Status) (new_b : Book) (new : List Extent) → IsProperMemory b.memory → FillsPool S.chosen b es list_type bytes result new_b new → Outcome (Unit {0}) b new_b
-  listed b es bytes result new_b new proper h = any_fits (list_type < 2 ^ 32) b new_b (omega arith) (fills_pool b es list_type bytes result new_b new proper h)
+  listed : (b : Book) (es : List Extent) (bytes : List ℕ) (result : Result Answer Status) (new_b : Book) (new : List Extent) → IsProperMemory b.memory → IsInGranules b → FillsPool S.chosen b es list_type bytes result new_b new → Outcome (Unit {0}) b new_b
+  listed b es bytes result new_b new proper granules h = any_fits (list_type < 2 ^ 32) b new_b (omega arith) (fills_pool b es list_type bytes result new_b new proper granules h)
 
-  locates_buffer : {A : Type 0} (old : Parts) (search : ℕ) (guid : List ℕ) (key : ℕ) (result : Result (PoolList A) Status) (new : Parts) → IsProperMemory old.book.memory → LocatesBuffer S.chosen old search guid key result new → Outcome (Unit {0}) old.book new.book
-  locates_buffer old search guid key (Ok told) new proper (handles, found, some, count, filled, lists) = listed old.book old.pools (handle_bytes handles) (Ok (told.address, told.certificate)) new.book new.pools proper filled
-  locates_buffer old search guid key (Err status.InvalidParameter) new proper h = kept (Unit {0}) old new h.1
-  locates_buffer old search guid key (Err status.NotFound) new proper h = kept (Unit {0}) old new h.1
-  locates_buffer old search guid key (Err status.OutOfResources) new proper h = kept (Unit {0}) old new h.3
-  locates_buffer old search guid key (Err other) new proper h = absurd h
+  locates_buffer : {A : Type 0} (old : Parts) (search : ℕ) (guid : List ℕ) (key : ℕ) (result : Result (PoolList A) Status) (new : Parts) → IsProperMemory old.book.memory → IsInGranules old.book → LocatesBuffer S.chosen old search guid key result new → Outcome (Unit {0}) old.book new.book
+  locates_buffer old search guid key (Ok told) new proper granules (handles, found, some, count, filled, lists) = listed old.book old.pools (handle_bytes handles) (Ok (told.address, told.certificate)) new.book new.pools proper granules filled
+  locates_buffer old search guid key (Err status.InvalidParameter) new proper granules h = kept (Unit {0}) old new h.1
+  locates_buffer old search guid key (Err status.NotFound) new proper granules h = kept (Unit {0}) old new h.1
+  locates_buffer old search guid key (Err status.OutOfResources) new proper granules h = kept (Unit {0}) old new h.3
+  locates_buffer old search guid key (Err other) new proper granules h = absurd h
 
-  puts_items : {A : Type 0} (old : Parts) (items : List OpenItem) (told : PoolList A) (new : Parts) → IsProperMemory old.book.memory → PutsItems S.chosen old items told new → Outcome (Unit {0}) old.book new.book
-  puts_items old [] told new proper h = kept (Unit {0}) old new h.2
-  puts_items old (i ∷ items) told new proper h = listed old.book old.pools (item_bytes (i ∷ items)) (Ok (told.address, told.certificate)) new.book new.pools proper h.0
+  puts_items : {A : Type 0} (old : Parts) (items : List OpenItem) (told : PoolList A) (new : Parts) → IsProperMemory old.book.memory → IsInGranules old.book → PutsItems S.chosen old items told new → Outcome (Unit {0}) old.book new.book
+  puts_items old [] told new proper granules h = kept (Unit {0}) old new h.2
+  puts_items old (i ∷ items) told new proper granules h = listed old.book old.pools (item_bytes (i ∷ items)) (Ok (told.address, told.certificate)) new.book new.pools proper granules h.0
 
-  lists_opens : {A : Type 0} (old : Parts) (handle : ℕ) (guid : List ℕ) (result : Result (PoolList A) Status) (new : Parts) → IsProperMemory old.book.memory → ListsOpens S.chosen old handle guid result new → Outcome (Unit {0}) old.book new.book
-  lists_opens old handle guid (Ok told) new proper h = puts_items old (items_on old.lists.opens handle guid) told new proper h.2
-  lists_opens old handle guid (Err status.NotFound) new proper h = kept (Unit {0}) old new h.1
-  lists_opens old handle guid (Err status.OutOfResources) new proper h = kept (Unit {0}) old new h.2
-  lists_opens old handle guid (Err other) new proper h = absurd h
+  lists_opens : {A : Type 0} (old : Parts) (handle : ℕ) (guid : List ℕ) (result : Result (PoolList A) Status) (new : Parts) → IsProperMemory old.book.memory → IsInGranules old.book → ListsOpens S.chosen old handle guid result new → Outcome (Unit {0}) old.book new.book
+  lists_opens old handle guid (Ok told) new proper granules h = puts_items old (items_on old.lists.opens handle guid) told new proper granules h.2
+  lists_opens old handle guid (Err status.NotFound) new proper granules h = kept (Unit {0}) old new h.1
+  lists_opens old handle guid (Err status.OutOfResources) new proper granules h = kept (Unit {0}) old new h.2
+  lists_opens old handle guid (Err other) new proper granules h = absurd h
 
   pub outcome : {A : Type 0} (exited : Bool) (old : Parts) (c : Call A) (answer : Reply A) (new : Parts) → AreSound old → Answers S exited old c answer new → Outcome (NamesTypes c) old.book new.book
   outcome exited old (call.AllocatePages kind t pages memory) answer new sound h =
-      served (t < 2 ^ 32) exited old new answer _ (λ result. OnBook (AllocatesPages S.chosen old.book kind t pages memory result) old new) (λ result rule. allocates old.book kind t pages memory result new.book sound.proper rule.0) h
+      served (t < 2 ^ 32) exited old new answer _ (λ result. OnBook (AllocatesPages S.chosen old.book kind t pages memory result) old new) (λ result rule. allocates old.book kind t pages memory result new.book sound.proper sound.granules rule.0) h
   outcome exited old (call.FreePages memory pages) answer new sound h =
-      served (Unit {0}) exited old new answer _ (λ result. OnBook (FreesPages old.book memory pages result) old new) (λ result rule. frees (Unit {0}) old.book memory pages result new.book sound.proper rule.0) h
+      served (Unit {0}) exited old new answer _ (λ result. OnBook (FreesPages old.book memory pages result) old new) (λ result rule. frees (Unit {0}) old.book memory pages result new.book sound.proper sound.granules rule.0) h
   outcome exited old (call.AllocatePool t size) answer new sound h =
-      served (t < 2 ^ 32) exited old new answer _ (λ result. OnBookAndPools (AllocatesPool S.chosen old.book old.pools t size result) old new) (λ result rule. allocates_pool old.book old.pools t size result new.book new.pools sound.proper rule.0) h
+      served (t < 2 ^ 32) exited old new answer _ (λ result. OnBookAndPools (AllocatesPool S.chosen old.book old.pools t size result) old new) (λ result rule. allocates_pool old.book old.pools t size result new.book new.pools sound.proper sound.granules rule.0) h
   outcome exited old (call.FreePool address) answer new sound h =
       served (Unit {0}) exited old new answer _ (λ result. OnBookAndPools (FreesPool old.book old.pools address result) old new) (λ result rule. frees_pool (Unit {0}) old.book old.pools address result new.book new.pools sound.proper sound.extents sound.owned rule.0) h
   outcome exited old (call.PoolWrite address bytes) answer new sound h =
       served (Unit {0}) exited old new answer _ (λ result. OnPools (WritesPool old.pools address bytes result) old new) (λ result rule. inl rule.1) h
   outcome exited old (call.LocateHandleBuffer search guid key) answer new sound h =
-      served (Unit {0}) exited old new answer _ (λ result. LocatesBuffer S.chosen old search guid key result new) (λ result rule. locates_buffer old search guid key result new sound.proper rule) h
+      served (Unit {0}) exited old new answer _ (λ result. LocatesBuffer S.chosen old search guid key result new) (λ result rule. locates_buffer old search guid key result new sound.proper sound.granules rule) h
   outcome exited old (call.OpenProtocolInformation handle guid) answer new sound h =
-      served (Unit {0}) exited old new answer _ (λ result. ListsOpens S.chosen old handle guid result new) (λ result rule. lists_opens old handle guid result new sound.proper rule) h
+      served (Unit {0}) exited old new answer _ (λ result. ListsOpens S.chosen old handle guid result new) (λ result rule. lists_opens old handle guid result new sound.proper sound.granules rule) h
   outcome exited old c answer new sound h = inl (quiet S exited old c answer new tt h).0

@@ -1,12 +1,12 @@
 -- The pool's bytes, call after call.
-use Rattle.std.proofs.Common.{◌≡◌, ℕ, ◌+◌, ◌<◌, ◌≤◌, is_ok, inl, inr, Bool, true, false, cond, List, [], ◌∷◌, length, take, drop, replicate, Option, Some, None, Result, Ok, Err, refl, sym, ap, subst, ◌∙◌, arith, Vec}
+use Rattle.std.proofs.Common.{◌≡◌, ℕ, ◌+◌, ◌<◌, is_ok, inl, inr, Bool, true, false, cond, List, [], ◌∷◌, length, take, drop, replicate, Option, Some, None, Result, Ok, Err, refl, sym, ap, subst, ◌∙◌, arith, Vec}
 use Rattle.std.proofs.lemmas.Bool.{cases_lt}
 use Rattle.std.proofs.lemmas.List.{length-take-le}
 use Rattle.page_ranges.specs.declared.statuses.Status.{Status}
 use Rattle.page_ranges.specs.declared.statuses.Status.TheVariants as status
-use Rattle.page_services.specs.PageRules.{Book, IsBestChoice, AllocatesPages, FreesPages}
-use Rattle.pool_services.specs.Extents.{Extent, tail_at}
-use Rattle.pool_services.specs.PoolRules.{Answer, AllocatesPool, FillsPool, FreesPool, ReadsPool, WritesPool}
+use Rattle.page_services.specs.PageRules.{Book, IsBestChoice}
+use Rattle.pool_services.specs.Extents.{Extent}
+use Rattle.pool_services.specs.PoolRules.{Answer, AllocatesPool, FillsPool, FreesPool, WritesPool}
 use Rattle.pool_services.proofs.FilledBlocks.{filled}
 use Rattle.open_agents.specs.declared.items.OpenItem.{OpenItem}
 use Rattle.open_agents.specs.OpenItems.{items_on}
@@ -22,10 +22,10 @@ use Rattle.boot_core.specs.declared.calls.Call.TheVariants as call
 use Rattle.boot_core.specs.declared.calls.PoolList.{PoolList}
 use Rattle.boot_core.specs.declared.calls.Reply.{Reply}
 use Rattle.boot_core.specs.declared.calls.Reply.TheVariants as reply
-use Rattle.boot_core.specs.Machines.{Parts, State, AreSound}
+use Rattle.boot_core.specs.Machines.{Parts, AreSound}
 use Rattle.boot_core.specs.PoolCalls.{AnswersRead}
 use Rattle.boot_core.specs.PoolLists.{LocatesBuffer, ListsOpens, PutsItems, list_type}
-use Rattle.boot_core.specs.Steps.{best_starts, OnBookAndPools, OnPools, WhileOpen, Serves, Answers, Step}
+use Rattle.boot_core.specs.Steps.{best_starts, OnBookAndPools, OnPools, WhileOpen, Serves, Answers}
 use Rattle.boot_core.specs.Laws.{byte_after, bytes_left, gives_back, handles_of, laid_over, lays, left_by}
 use Rattle.boot_core.proofs.Quiet.{quiet}
 use Rattle.boot_core.proofs.Soundness.{parts_of}
@@ -45,7 +45,7 @@ block_told address bytes (Ok told) = Some (address told, bytes)
 block_told address bytes (Err e) = None
 
 allocated : (b new_b : Book) (es new : List Extent) (t size : ℕ) (result : Result Answer Status) (l : Lists) → AreSound (parts_of b es l) → AllocatesPool IsBestChoice b es t size result new_b new → Laid (block_told (λ (block : Answer). block.0) (replicate size 0) result) es new
-allocated b new_b es new t size (Ok answer) l sound h k = (took b new_b es new t size answer sound.proper sound.owned sound.extents h k).0
+allocated b new_b es new t size (Ok answer) l sound h k = (took b new_b es new t size answer sound.granules.granule sound.proper sound.owned sound.extents h k).0
 allocated b new_b es new t size (Err status.InvalidParameter) l sound h k = ap (byte_at k) h.2
 allocated b new_b es new t size (Err status.OutOfResources) l sound h k = ap (byte_at k) h.3
 allocated b new_b es new t size (Err other) l sound h k = absurd h
@@ -65,7 +65,7 @@ written_bytes es new address bytes (Err status.InvalidParameter) b l sound h k =
 written_bytes es new address bytes (Err other) b l sound h k = absurd h
 
 filled_bytes : {A : Type 0} (old new : Parts) (bytes : List ℕ) (told : PoolList A) → AreSound old → FillsPool IsBestChoice old.book old.pools list_type bytes (Ok (told.address, told.certificate)) new.book new.pools → Laid (Some (told.address, bytes)) old.pools new.pools
-filled_bytes old new bytes told sound h k = (filled old.book new.book old.pools new.pools list_type bytes (told.address, told.certificate) sound.proper sound.owned sound.extents h k).0
+filled_bytes old new bytes told sound h k = (filled old.book new.book old.pools new.pools list_type bytes (told.address, told.certificate) sound.granules.granule sound.proper sound.owned sound.extents h k).0
 
 buffer_bytes : {A : Type 0} (old new : Parts) (search : ℕ) (guid : List ℕ) (key : ℕ) (result : Result (PoolList A) Status) → AreSound old → LocatesBuffer IsBestChoice old search guid key result new →
     Laid (block_told (λ (told : PoolList A). told.address) (handle_bytes (handles_of (found_handles old.lists search guid key))) result) old.pools new.pools

@@ -1,6 +1,5 @@
 -- The lists of the protocol services are proper along runs.
 use Rattle.std.proofs.Common.{◌≡◌, ℕ, Bool, true, false, List, [], ◌∷◌, Result, Ok, Err, sym, subst, arith}
-use Rattle.page_ranges.specs.declared.ranges.Run.{Run}
 use Rattle.page_ranges.specs.declared.statuses.Status.{Status}
 use Rattle.page_ranges.specs.declared.statuses.Status.TheVariants as status
 use Rattle.device_path_locate.specs.Locating.{has_path_installed}
@@ -15,7 +14,7 @@ use Rattle.boot_core.specs.declared.calls.Call.{Call}
 use Rattle.boot_core.specs.declared.calls.Call.TheVariants as call
 use Rattle.boot_core.specs.declared.calls.PoolList.{PoolList}
 use Rattle.boot_core.specs.declared.calls.Reply.{Reply}
-use Rattle.boot_core.specs.Machines.{Parts, State, first_state}
+use Rattle.boot_core.specs.Machines.{MachineValue, Parts, State, first_state}
 use Rattle.boot_core.specs.PoolLists.{ListsOpens, LocatesBuffer, PutsItems}
 use Rattle.boot_core.specs.Steps.{Setting, WhileOpen, Serves, Answers, CallRunBy}
 
@@ -95,5 +94,5 @@ run_proper S old (c ∷ calls) [] new s run = absurd run
 first_proper : AreProperLists no_lists
 first_proper = record { table = record { ascending = tt; given = tt; limit = omega arith; on_live = tt }; guids = tt; names = tt; holders = tt }
 
-pub proper_after : {A : Type 0} (S : Setting) (machine : List Run) (calls : List (Call A)) (replies : List (Reply A)) (new : State) → CallRunBy S (first_state machine) calls replies new → AreProperLists new.parts.lists
+pub proper_after : {A : Type 0} (S : Setting) (machine : MachineValue) (calls : List (Call A)) (replies : List (Reply A)) (new : State) → CallRunBy S (first_state machine) calls replies new → AreProperLists new.parts.lists
 proper_after S machine calls replies new run = run_proper S (first_state machine) calls replies new first_proper run

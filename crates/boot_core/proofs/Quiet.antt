@@ -1,5 +1,5 @@
 -- Which calls leave the book and the pool as they are.
-use Rattle.std.proofs.Common.{◌≡◌, ℕ, Bool, true, false, List, Result, ap}
+use Rattle.std.proofs.Common.{◌≡◌, Bool, true, false, Result, ap}
 use Rattle.page_ranges.specs.declared.statuses.Status.{Status}
 use Rattle.boot_core.specs.declared.calls.Call.{Call}
 use Rattle.boot_core.specs.declared.calls.Call.TheVariants as call

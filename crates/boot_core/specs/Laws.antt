@@ -2,12 +2,10 @@
 use Rattle.std.specs.Prelude.{◌≡◌, ◌⊎◌, ◌↔◌, ℕ, ◌+◌, ◌*◌, ◌<◌, ◌≤◌, ◌^◌, false, cond, List, [], ◌∷◌, ◌++◌, length, take, drop, replicate, Option, Some, None, Ok, IfSome, Vec, Bool, true}
 use Rattle.std.specs.Option.{option_map}
 use Rattle.std.specs.List.{AllByRecursion}
-use Rattle.page_ranges.specs.declared.ranges.Run.{Run}
 use Rattle.page_ranges.specs.declared.statuses.Status.{Status}
 use Rattle.page_ranges.specs.declared.statuses.Status.TheVariants.{Success}
 use Rattle.page_ranges.specs.Memory.{Page, page_at}
 use Rattle.page_ranges.specs.MemoryMap.{memory_map}
-use Rattle.page_ranges.specs.Runs.{IsValidMachine}
 use Rattle.placement_certificate.specs.Acceptance.{IsAccepted}
 use Rattle.map_keys.specs.declared.memory_maps.MapReply.{MapReply}
 use Rattle.map_keys.specs.Records.{IsRecordEntry}
@@ -23,7 +21,7 @@ use Rattle.boot_core.specs.declared.calls.Call.TheVariants as call
 use Rattle.boot_core.specs.declared.calls.Reply.{Reply}
 use Rattle.boot_core.specs.declared.calls.Reply.TheVariants as reply
 use Rattle.boot_core.specs.MachineRuns.{HasRecordNumbers}
-use Rattle.boot_core.specs.Machines.{Parts, State, AreSound, first_state}
+use Rattle.boot_core.specs.Machines.{IsMachine, MachineValue, Parts, State, AreSound, first_state}
 use Rattle.boot_core.specs.Certified.{certified}
 use Rattle.boot_core.specs.Steps.{Setting, any_starts, MapStep, ReadStep, Step, StepAny, StepBy, CallRun, CallRunBy}
 
@@ -37,11 +35,11 @@ AnyRunLaw A = (ds : List Meaning) (old : State) (calls : List (Call A)) (replies
 
 -- The parts are sound after calls on a valid machine, however starts are chosen among the permitted ones.
 abbrev pub SoundLaw : Setting → Type 0 → Type 0
-SoundLaw S A = (machine : List Run) (calls : List (Call A)) (replies : List (Reply A)) (new : State) → IsValidMachine machine → CallRunBy S (first_state machine) calls replies new → AreSound new.parts
+SoundLaw S A = (machine : MachineValue) (calls : List (Call A)) (replies : List (Reply A)) (new : State) → IsMachine machine → CallRunBy S (first_state machine) calls replies new → AreSound new.parts
 
 -- The lists of the protocol services are proper after any calls, however starts are chosen and whatever the drivers answer.
 abbrev pub ProperListsLaw : Setting → Type 0 → Type 0
-ProperListsLaw S A = (machine : List Run) (calls : List (Call A)) (replies : List (Reply A)) (new : State) → CallRunBy S (first_state machine) calls replies new → AreProperLists new.parts.lists
+ProperListsLaw S A = (machine : MachineValue) (calls : List (Call A)) (replies : List (Reply A)) (new : State) → CallRunBy S (first_state machine) calls replies new → AreProperLists new.parts.lists
 
 -- ---- keys
 
@@ -119,13 +117,13 @@ NamesTypes c = Unit {0}
 
 -- After calls on a valid machine whose numbers fit their fields, each entry of the memory map is one that a record can spell.
 abbrev pub RecordEntriesLaw : Type 0 → Type 0
-RecordEntriesLaw A = (ds : List Meaning) (machine : List Run) (calls : List (Call A)) (replies : List (Reply A)) (new : State) → IsValidMachine machine → AllByRecursion HasRecordNumbers machine → AllByRecursion NamesTypes calls →
+RecordEntriesLaw A = (ds : List Meaning) (machine : MachineValue) (calls : List (Call A)) (replies : List (Reply A)) (new : State) → IsMachine machine → AllByRecursion HasRecordNumbers machine.runs → AllByRecursion NamesTypes calls →
     CallRun ds (first_state machine) calls replies new → AllByRecursion IsRecordEntry (memory_map new.parts.book.memory)
 
 -- After calls on a valid machine the memory map has an entry for each run of the machine and two for each call, or fewer.
 abbrev pub MapGrowthLaw : Setting → Type 0 → Type 0
-MapGrowthLaw S A = (machine : List Run) (calls : List (Call A)) (replies : List (Reply A)) (new : State) → IsValidMachine machine → CallRunBy S (first_state machine) calls replies new →
-    length (memory_map new.parts.book.memory) ≤ length machine + 2 * length calls
+MapGrowthLaw S A = (machine : MachineValue) (calls : List (Call A)) (replies : List (Reply A)) (new : State) → IsMachine machine → CallRunBy S (first_state machine) calls replies new →
+    length (memory_map new.parts.book.memory) ≤ length machine.runs + 2 * length calls
 
 -- ---- the pool's bytes
 
@@ -203,7 +201,7 @@ LastBytesLaw A = (ds : List Meaning) (first old : State) (c : Call A) (answer : 
 
 -- The certificate of a reply, where it has one, is accepted by the checker with the memory map before the call.
 abbrev pub IsAcceptedReply : {A : Type 0} → State → Call A → Reply A → Type 0
-IsAcceptedReply old c answer = IfSome (certified c answer) (λ told. IsAccepted (memory_map old.parts.book.memory) told.0 told.1)
+IsAcceptedReply old c answer = IfSome (certified old.parts.book.granule c answer) (λ told. IsAccepted (memory_map old.parts.book.memory) told.0 told.1)
 
 -- so is the certificate of each reply of the run
 abbrev pub AllAccepted : {A : Type 0} (ds : List Meaning) (old : State) (calls : List (Call A)) (replies : List (Reply A)) (new : State) → CallRun ds old calls replies new → Type 0
@@ -212,4 +210,4 @@ AllAccepted ds old calls replies new run = Unit {0}
 
 -- On a valid machine the checker accepts each certificate of a run.
 abbrev pub AcceptanceLaw : Type 0 → Type 0
-AcceptanceLaw A = (ds : List Meaning) (machine : List Run) (calls : List (Call A)) (replies : List (Reply A)) (new : State) (run : CallRun ds (first_state machine) calls replies new) → IsValidMachine machine → AllAccepted ds (first_state machine) calls replies new run
+AcceptanceLaw A = (ds : List Meaning) (machine : MachineValue) (calls : List (Call A)) (replies : List (Reply A)) (new : State) (run : CallRun ds (first_state machine) calls replies new) → IsMachine machine → AllAccepted ds (first_state machine) calls replies new run

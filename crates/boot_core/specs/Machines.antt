@@ -2,12 +2,23 @@
 use Rattle.std.specs.Prelude.{ℕ, ◌+◌, ◌*◌, ◌≤◌, Bool, false, List, [], length}
 use Rattle.std.specs.List.{AllByRecursion}
 use Rattle.page_ranges.specs.declared.ranges.Run.{Run}
+use Rattle.page_ranges.specs.Granules.{IsGranule}
 use Rattle.page_ranges.specs.Memory.{IsProperMemory}
-use Rattle.page_ranges.specs.Runs.{pages_of}
-use Rattle.page_services.specs.PageRules.{Book, new_book}
+use Rattle.page_ranges.specs.Runs.{pages_of, IsValidMachine}
+use Rattle.page_services.specs.PageRules.{Book, IsInGranules, new_book}
 use Rattle.pool_services.specs.Extents.{Extent, AreExtents}
 use Rattle.pool_services.specs.PoolRules.{OwnsExtents}
 use Rattle.protocol_services.specs.Lists.{Lists, most_given, no_lists}
+
+-- what a machine is before any call: the runs of its memory, and its granule
+pub record MachineValue : Type 0 where
+  pub runs : List Run
+  pub granule : ℕ
+
+-- The runs and the granule are such as a machine may have.
+pub record IsMachine (m : MachineValue) : Type 0 where
+  pub runs : IsValidMachine m.runs
+  pub granule : IsGranule m.granule
 
 -- what the services work on: the memory with its key, the extents of the pool, and the lists of the protocol services
 pub record Parts : Type 0 where
@@ -25,9 +36,9 @@ pub record State : Type 0 where
 abbrev pub all_calls : ℕ
 all_calls = 0x80000000
 
--- the state of a machine of these runs before any call
-abbrev pub first_state : List Run → State
-first_state runs = record { parts = record { book = new_book (pages_of runs); pools = []; lists = no_lists }; exited = false; calls_left = all_calls }
+-- the state of a machine before any call
+abbrev pub first_state : MachineValue → State
+first_state machine = record { parts = record { book = new_book machine.granule (pages_of machine.runs); pools = []; lists = no_lists }; exited = false; calls_left = all_calls }
 
 -- What the calls so far can have brought: the key is one more than these at most, and numbers, stamps, registrations and the
 -- counts of open items follow them too.
@@ -38,9 +49,11 @@ pub record FollowsCalls (p : Parts) (calls_left : ℕ) : Type 0 where
   pub registrations : length p.lists.registrations + calls_left ≤ all_calls
   pub counts : AllByRecursion (λ o. o.count + calls_left ≤ all_calls) p.lists.opens
 
--- The memory is proper, the extents stand apart, and the pages of the pool are theirs.
+-- The memory is proper, what AllocatePages placed in it fills whole granules, the extents stand apart, and the pages of the pool
+-- are theirs.
 pub record AreSound (p : Parts) : Type 0 where
   pub proper : IsProperMemory p.book.memory
+  pub granules : IsInGranules p.book
   pub extents : AreExtents p.pools
   pub owned : OwnsExtents p.book.memory p.pools
 

@@ -1,5 +1,6 @@
 //! The certificates that replies carry.
-ghost use Rattle.std.specs.Prelude.{◌≡◌, ◌<◌, option_map};
+ghost use Rattle.std.specs.Prelude.{◌≡◌, ◌<◌, option_and_then, option_map};
+ghost use Rattle.page_services.specs.PageRules.{if_counted};
 ghost use Rattle.boot_core.specs.Certified.{certificate_in, certified, list_request, may_be_certified, request_for, told_count};
 
 use crate::calls::{Call, Reply};
@@ -10,23 +11,25 @@ use placement_certificate::{Certificate, Request};
 use pool_services::extent_request;
 use std::alloc::Allocator;
 
-/// The certificate of the reply to a call, and the request that it is for.
+/// The certificate of the reply to a call on a machine with a granule of so many pages, and the request
+/// that it is for.
 pub fn certified<'a, A: Allocator>(
+    granule: u64,
     call: &Call<A>,
     reply: &'a Reply<A>,
 ) -> Option<(Request, &'a Certificate<A>)>
-    ensures { option_map (λ told. (told.0, told.1.now)) result ≡ certified call.now reply.now }
+    ensures { option_map (λ told. (told.0, told.1.now)) result ≡ certified granule call.now reply.now }
 {
-    match (request_for(call, reply), certificate_in(reply)) {
+    match (request_for(granule, call, reply), certificate_in(reply)) {
         (Some(request), Some(certificate)) => Some((request, certificate)),
         _ => None,
     }
 }
 
-/// Whether a reply to the call may carry a certificate, which says nothing without the memory map
-/// before the call.
-pub fn may_be_certified<A: Allocator>(call: &Call<A>) -> bool
-    ensures { result ≡ may_be_certified call.now }
+/// Whether a reply to the call on a machine with a granule of so many pages may carry a certificate,
+/// which says nothing without the memory map before the call.
+pub fn may_be_certified<A: Allocator>(granule: u64, call: &Call<A>) -> bool
+    ensures { result ≡ may_be_certified granule call.now }
 {
     match call {
         Call::AllocatePages {
@@ -34,18 +37,19 @@ pub fn may_be_certified<A: Allocator>(call: &Call<A>) -> bool
             mtype,
             pages,
             memory,
-        } => placement_request(*kind, MemoryType::new(*mtype), *pages, *memory).is_some(),
+        } => placement_request(granule, *kind, MemoryType::new(*mtype), *pages, *memory).is_some(),
         Call::AllocatePool { mtype, size } => {
-            extent_request(MemoryType::new(*mtype), *size).is_some()
+            let request = extent_request(granule, MemoryType::new(*mtype), *size);
+            request.is_some()
         }
         Call::LocateHandleBuffer { .. } | Call::OpenProtocolInformation { .. } => true,
         _ => false,
     }
 }
 
-/// The request that a call leaves to the service to place.
-fn request_for<A: Allocator>(call: &Call<A>, reply: &Reply<A>) -> Option<Request>
-    ensures { result ≡ request_for call.now reply.now }
+/// The request that a call on a machine with a granule leaves to the service to place.
+fn request_for<A: Allocator>(granule: u64, call: &Call<A>, reply: &Reply<A>) -> Option<Request>
+    ensures { result ≡ request_for granule call.now reply.now }
 {
     match call {
         Call::AllocatePages {
@@ -53,10 +57,16 @@ fn request_for<A: Allocator>(call: &Call<A>, reply: &Reply<A>) -> Option<Request
             mtype,
             pages,
             memory,
-        } => placement_request(*kind, MemoryType::new(*mtype), *pages, *memory),
-        Call::AllocatePool { mtype, size } => extent_request(MemoryType::new(*mtype), *size),
-        Call::LocateHandleBuffer { .. } => list_request(HANDLE_SIZE, told_count(reply)),
-        Call::OpenProtocolInformation { .. } => list_request(ENTRY_SIZE, told_count(reply)),
+        } => placement_request(granule, *kind, MemoryType::new(*mtype), *pages, *memory),
+        Call::AllocatePool { mtype, size } => {
+            extent_request(granule, MemoryType::new(*mtype), *size)
+        }
+        Call::LocateHandleBuffer { .. } => list_request(granule, HANDLE_SIZE, told_count(reply)),
+        Call::OpenProtocolInformation { .. } => list_request(
+            granule,
+            ENTRY_SIZE,
+            told_count(reply),
+        ),
         _ => None,
     }
 }
@@ -72,14 +82,14 @@ fn told_count<A: Allocator>(reply: &Reply<A>) -> Option<u64>
     }
 }
 
-/// The request for a block of so many items of so many bytes each, where they are so few that a block
-/// can have them.
-fn list_request(size: u64, count: Option<u64>) -> Option<Request>
+/// The request on a machine with a granule for a block of so many items of so many bytes each, where
+/// they are so few that a block can have them.
+fn list_request(granule: u64, size: u64, count: Option<u64>) -> Option<Request>
     requires { 0 < size }
-    ensures { result ≡ list_request size count }
+    ensures { result ≡ option_and_then if_counted (list_request granule size count) }
 {
     let bytes = count?.checked_mul(size)?;
-    extent_request(MemoryType::new(LIST_TYPE), bytes)
+    extent_request(granule, MemoryType::new(LIST_TYPE), bytes)
 }
 
 /// The certificate that a reply carries.

@@ -57,7 +57,7 @@ impl<D: Driver, A: Allocator + Copy> Core<D, A> {
     {
         let table = RunTable::from_runs(alloc, machine.runs())?;
         Ok(Core {
-            book: PageBook::new(table),
+            book: PageBook::new(table, machine.granule()),
             pools: Pools::new(alloc),
             protocols: Protocols::new(alloc),
             drivers,
@@ -88,7 +88,13 @@ impl<D: Driver, A: Allocator + Copy> Core<D, A> {
         }
     }
 
-    /// AllocatePages.
+    /// AllocatePages: so many `pages` of the type `mtype`, anywhere (kind 0), up to the byte at the address
+    /// `memory` (1), or at that address (2). For a type that stands in granules they begin at a granule
+    /// and are rounded up to whole ones. The reply tells their address, and for kinds 0 and 1 the
+    /// certificate of their place.
+    ///
+    /// INVALID_PARAMETER: another kind, a type that no request may name, or no pages. NOT_FOUND: the
+    /// pages cannot be had at the address. OUT_OF_RESOURCES: no place of kind 0 or 1, or memory ran out.
     pub fn allocate_pages(&mut self, kind: u32, mtype: u32, pages: u64, memory: u64) -> Reply<A>
         requires { 0 < self.old.state.calls_left }
         ensures step { Step (map D.meaning self.old.drivers) self.old.state (Call.AllocatePages kind mtype pages memory) result self.new.state }
@@ -100,7 +106,11 @@ impl<D: Driver, A: Allocator + Copy> Core<D, A> {
         })
     }
 
-    /// FreePages.
+    /// FreePages: so many `pages` from the address `memory` on are conventional again, and with them the rest
+    /// of the granules that the first and the last of them lie in.
+    ///
+    /// INVALID_PARAMETER: an unaligned address, no pages, or a range past the last page. NOT_FOUND: one
+    /// of the pages was not placed by AllocatePages. OUT_OF_RESOURCES: memory ran out.
     pub fn free_pages(&mut self, memory: u64, pages: u64) -> Reply<A>
         requires { 0 < self.old.state.calls_left }
         ensures step { Step (map D.meaning self.old.drivers) self.old.state (Call.FreePages memory pages) result self.new.state }
@@ -601,6 +611,13 @@ impl<D: Driver, A: Allocator + Copy> Core<D, A> {
         ensures { result ≡ self.now.state.calls_left }
     {
         self.calls_left
+    }
+
+    /// The machine's granule in pages: 1 or 16.
+    pub fn granule(&self) -> u64
+        ensures { result ≡ self.now.state.parts.book.granule }
+    {
+        self.book.granule()
     }
 
     /// How many entries the memory map has.

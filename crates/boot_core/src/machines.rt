@@ -1,40 +1,41 @@
 //! Machines that may be started.
 ghost use Rattle.std.specs.Prelude.{◌≡◌, ◌↔◌, IsTrue, IsSome, IfSome};
+ghost use Rattle.page_ranges.specs.Granules.{IsGranule};
 ghost use Rattle.page_ranges.specs.Runs.{IsValidMachine};
 ghost use Rattle.boot_core.specs.MachineRuns.{IsMachineRun};
+ghost use Rattle.boot_core.specs.Machines.{IsMachine};
 
 use page_ranges::{MemoryType, Owner, PAGE_COUNT, Run, has_runtime};
 use std::alloc::{Allocator, Global};
 use std::marker::Model;
 
-/// The memory that a machine has at first: valid runs.
+/// The memory that a machine has at first, valid runs, and its granule.
 #[derive(Drop)]
 pub struct Machine<A: Allocator = Global> {
     runs: Vec<Run, A>,
+    granule: u64,
 }
 
 impl<A: Allocator> Model for Machine<A> {
-    ghost use Rattle.std.specs.Prelude.{List};
-    ghost use Rattle.page_ranges.specs.declared.ranges.Run.{Run};
-    ghost use Rattle.page_ranges.specs.Runs.{IsValidMachine};
+    ghost use Rattle.boot_core.specs.Machines.{IsMachine, MachineValue};
 
-    ghost Value = { List Run };
+    ghost Value = { MachineValue };
 
-    ghost view = { λ m. m.runs.items };
+    ghost view = { λ m. record { runs = m.runs.items; granule = m.granule } };
 
-    ghost invariant = { λ m. IsValidMachine m.runs.items };
+    ghost invariant = { λ m. IsMachine (record { runs = m.runs.items; granule = m.granule }) };
 }
 
 impl<A: Allocator> Machine<A> {
-    /// The machine of runs; None where they are not in ascending order, disjoint, nonempty, of
-    /// the machine's own, below page 2^52 and of types that a machine may have, or where
-    /// conventional memory carries RUNTIME.
-    pub fn new(runs: Vec<Run, A>) -> Option<Machine<A>>
-        ensures valid { IsSome result ↔ IsValidMachine runs.items }
-        ensures runs { IfSome result (λ machine. machine ≡ runs.items) }
+    /// The machine of runs, with a granule of so many pages. None where the runs are not in ascending
+    /// order, disjoint, nonempty, of the machine's own, below page 2^52 and of types that a machine
+    /// may have, where conventional memory carries RUNTIME, or where the granule is neither 1 nor 16.
+    pub fn new(runs: Vec<Run, A>, granule: u64) -> Option<Machine<A>>
+        ensures valid { IsSome result ↔ IsMachine (record { runs = runs.items; granule = granule }) }
+        ensures machine { IfSome result (λ machine. machine ≡ record { runs = runs.items; granule = granule }) }
     {
-        if are_machine_runs(runs.as_slice()) {
-            Some(Machine { runs })
+        if is_granule(granule) && are_machine_runs(runs.as_slice()) {
+            Some(Machine { runs, granule })
         } else {
             None
         }
@@ -42,11 +43,26 @@ impl<A: Allocator> Machine<A> {
 
     /// The runs, by ascending page.
     pub fn runs(&self) -> &[Run]
-        ensures runs { result.now ≡ self.now }
-        ensures valid { IsValidMachine self.now }
+        ensures runs { result.now ≡ self.now.runs }
+        ensures valid { IsValidMachine self.now.runs }
     {
         self.runs.as_slice()
     }
+
+    /// The granule in pages: 1 or 16.
+    pub fn granule(&self) -> u64
+        ensures granule { result ≡ self.now.granule }
+        ensures valid { IsGranule result }
+    {
+        self.granule
+    }
+}
+
+/// Whether a machine may have a granule of so many pages.
+fn is_granule(granule: u64) -> bool
+    ensures { IsTrue result ↔ IsGranule granule }
+{
+    granule == 1 || granule == 16
 }
 
 /// Whether the runs are those of a machine.

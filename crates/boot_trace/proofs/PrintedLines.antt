@@ -1,24 +1,26 @@
 -- What is printed of each line, in the states that a run on a machine file comes to.
-use Rattle.std.proofs.Common.{◌≡◌, ℕ, ◌+◌, ◌*◌, ◌^◌, ◌<◌, ◌≤◌, ◌==◌, nat_le, Bool, true, false, cond, List, [], ◌∷◌, ◌++◌, length, take, Option, Some, None, Result, Ok, Err, IfSome, Vec, refl, sym, ap, subst, ◌∙◌, arith, append-nil, lit<}
+use Rattle.std.proofs.Common.{◌≡◌, ℕ, ◌+◌, ◌*◌, ◌^◌, ◌<◌, ◌≤◌, ◌==◌, nat_le, nat_lt, Bool, true, false, cond, List, [], ◌∷◌, ◌++◌, length, take, Option, Some, None, Result, Ok, Err, IfSome, Vec, refl, sym, ap, subst, ◌∙◌, arith, append-nil, lit<}
 use Rattle.std.specs.List.{AllByRecursion}
 use Rattle.std.specs.Option.{option_map, option_and_then}
-use Rattle.std.proofs.lemmas.Bool.{leb-true}
+use Rattle.std.proofs.lemmas.Bool.{ltb-true}
 use Rattle.std.proofs.lemmas.List.{length-take}
 use Rattle.page_ranges.specs.declared.ranges.Descriptor.{Descriptor}
 use Rattle.page_ranges.specs.declared.ranges.Run.{Run}
 use Rattle.page_ranges.specs.declared.statuses.Status.TheVariants.{Success}
 use Rattle.page_ranges.specs.MemoryTypes.{page_count, pages_below}
+use Rattle.page_ranges.specs.Granules.{IsGranule}
 use Rattle.page_ranges.specs.Memory.{HasMachineTypes}
 use Rattle.page_ranges.specs.MemoryMap.{memory_map}
 use Rattle.page_ranges.proofs.Members.{all_implied}
 use Rattle.page_ranges.proofs.RunMaps.{entries_at_most}
+use Rattle.page_ranges.proofs.WholeGranules.{granule_for_granule}
 use Rattle.placement_certificate.specs.declared.certificates.Request.{Request}
 use Rattle.placement_certificate.specs.Certificates.{CertificateValue}
 use Rattle.placement_certificate.specs.Acceptance.{IsAccepted}
 use Rattle.map_keys.specs.declared.memory_maps.MapReply.{MapReply}
 use Rattle.map_keys.specs.Records.{IsRecordEntry, ReadsRecords}
 use Rattle.map_keys.proofs.RecordLists.{read_back}
-use Rattle.page_services.specs.PageRules.{any_pages, max_address, pool_request}
+use Rattle.page_services.specs.PageRules.{any_pages, max_address, if_counted, pool_request, whole_request}
 use Rattle.page_services.proofs.Choices.{best_is_permitted}
 use Rattle.pool_services.specs.Extents.{max_size, pages_for}
 use Rattle.pool_services.specs.PoolRules.{extent_request}
@@ -29,13 +31,13 @@ use Rattle.boot_core.specs.declared.calls.Call.{Call}
 use Rattle.boot_core.specs.declared.calls.Call.TheVariants as call
 use Rattle.boot_core.specs.declared.calls.Reply.{Reply}
 use Rattle.boot_core.specs.declared.calls.Reply.TheVariants as reply
-use Rattle.boot_core.specs.Certified.{list_request, request_for, certificate_in, certified, told_count}
+use Rattle.boot_core.specs.Certified.{left_request, list_request, request_for, certificate_in, certified, told_count}
 use Rattle.boot_core.specs.PoolLists.{list_type}
 use Rattle.boot_core.specs.Laws.{NamesTypes}
 use Rattle.boot_core.specs.Machines.{State, AreSound, first_state}
 use Rattle.boot_core.specs.Steps.{best_starts, Step}
 use Rattle.boot_core.proofs.Acceptances.{first_types, accepted_reply}
-use Rattle.boot_core.proofs.Outcomes.{outcome, stays_typed, stays_fitting, map_grows, request_has}
+use Rattle.boot_core.proofs.Outcomes.{outcome, stays_typed, stays_fitting, map_grows}
 use Rattle.boot_core.proofs.RecordPages.{HaveFields, first_fields, record_entries}
 use Rattle.boot_core.proofs.Soundness.{first_sound, stays_sound}
 use Rattle.machine_files.specs.MachineText.{ListedMachine, most_descriptors, machine_of}
@@ -62,10 +64,10 @@ record IsReached (lines : ℕ) (s : State) : Type 0 where
   fields : HaveFields s.parts.book.memory
   few : length (memory_map s.parts.book.memory) ≤ most_descriptors + 2 * lines
 
-first_reached : (file : List ℕ) (machine : ListedMachine) → machine_of file ≡ Ok machine → IsReached 0 (first_state machine.runs)
+first_reached : (file : List ℕ) (machine : ListedMachine) → machine_of file ≡ Ok machine → IsReached 0 (first_state machine.machine)
 first_reached file machine said =
     let (valid, numbers, few, drivers) = machine_in file machine said in
-    record { sound = first_sound machine.runs valid; typed = first_types machine.runs valid.mtypes; fields = first_fields machine.runs numbers; few = omega (arith, entries_at_most machine.runs valid.runs) }
+    record { sound = first_sound machine.machine valid; typed = first_types machine.machine.runs valid.runs.mtypes; fields = first_fields machine.machine.runs numbers; few = omega (arith, entries_at_most machine.machine.runs valid.runs.runs) }
 
 reached_later : (n : ℕ) (s : State) → IsReached n s → IsReached (n + 1) s
 reached_later n s is = record { sound = is.sound; typed = is.typed; fields = is.fields; few = omega (arith, is.few) }
@@ -97,30 +99,47 @@ entry_numbers d is =
     let room : page_count < 2 ^ 64 = lit< tt in
     record { mtype = is.mtype; first = omega (arith, is.within); pages = omega (arith, is.within); attributes = is.attributes }
 
-extent_numbers_if : (few : Bool) (t size : ℕ) → nat_le size max_size ≡ few → t < 2 ^ 32 → IfSome (cond few (Some (pool_request t (pages_for size))) None) HasRequestNumbers
-extent_numbers_if true t size few mtype =
-    let most : size ≤ max_size = leb-true size max_size few in
-    record { mtype = mtype; pages = omega arith; limit = lit< tt }
-extent_numbers_if false t size few mtype = tt
+-- the numbers of a request but that of its pages
+abbrev HasOtherNumbers : Request → Type 0
+HasOtherNumbers r = (r.mtype < 2 ^ 32) × (r.limit < 2 ^ 64) × IsGranule r.granule
+
+chosen_numbers : (b : Bool) (r : Request) (o : Option Request) → HasOtherNumbers r → IfSome o HasOtherNumbers → IfSome (cond b (Some r) o) HasOtherNumbers
+chosen_numbers true r o h k = h
+chosen_numbers false r o h k = k
+
+-- a request on a machine with a granule, up to a limit
+whole_numbers : (g t pages limit : ℕ) → IsGranule g → t < 2 ^ 32 → limit < 2 ^ 64 → HasOtherNumbers (whole_request g t pages limit)
+whole_numbers g t pages limit fits mtype low = (mtype, low, granule_for_granule t g fits)
 
 -- the request for a new extent of a block
-extent_numbers : (t size : ℕ) → t < 2 ^ 32 → IfSome (extent_request t size) HasRequestNumbers
-extent_numbers t size mtype = extent_numbers_if (nat_le size max_size) t size refl mtype
+extent_numbers : (g t size : ℕ) → IsGranule g → t < 2 ^ 32 → IfSome (extent_request g t size) HasOtherNumbers
+extent_numbers g t size fits mtype = chosen_numbers (nat_le size max_size) (pool_request g t (pages_for size)) None (whole_numbers g t (pages_for size) page_count fits mtype (lit< tt)) tt
 
 -- the request for the block of a list
-list_numbers : (size : ℕ) (count : Option ℕ) → IfSome (list_request size count) HasRequestNumbers
-list_numbers size None = tt
-list_numbers size (Some n) = extent_numbers list_type (size * n) (omega arith)
+list_numbers : (g size : ℕ) (count : Option ℕ) → IsGranule g → IfSome (list_request g size count) HasOtherNumbers
+list_numbers g size None fits = tt
+list_numbers g size (Some n) fits = extent_numbers g list_type (size * n) fits (omega arith)
 
-request_numbers : {A : Type 0} (c : Call A) (answer : Reply A) → HasCallNumbers c → IfSome (request_for c answer) HasRequestNumbers
-request_numbers (call.AllocatePages kind t pages memory) answer (k, mtype, count, address) =
-    request_has HasRequestNumbers (kind == any_pages) (kind == max_address) (record { mtype = t; pages = pages; limit = page_count }) (record { mtype = t; pages = pages; limit = pages_below memory })
-    (record { mtype = mtype; pages = count; limit = lit< tt })
-    (record { mtype = mtype; pages = count; limit = omega arith })
-request_numbers (call.AllocatePool t size) answer (mtype, fits) = extent_numbers t size mtype
-request_numbers (call.LocateHandleBuffer search guid key) answer h = list_numbers 8 (told_count answer)
-request_numbers (call.OpenProtocolInformation handle guid) answer h = list_numbers 24 (told_count answer)
-request_numbers c answer h = tt
+left_numbers : {A : Type 0} (g : ℕ) → IsGranule g → (c : Call A) (answer : Reply A) → HasCallNumbers c → IfSome (left_request g c answer) HasOtherNumbers
+left_numbers g fits (call.AllocatePages kind t pages memory) answer (k, mtype, count, address) =
+    chosen_numbers (kind == any_pages) (whole_request g t pages page_count) (cond (kind == max_address) (Some (whole_request g t pages (pages_below memory))) None)
+    (whole_numbers g t pages page_count fits mtype (lit< tt))
+    (chosen_numbers (kind == max_address) (whole_request g t pages (pages_below memory)) None (whole_numbers g t pages (pages_below memory) fits mtype (omega arith)) tt)
+left_numbers g fits (call.AllocatePool t size) answer (mtype, few) = extent_numbers g t size fits mtype
+left_numbers g fits (call.LocateHandleBuffer search guid key) answer h = list_numbers g 8 (told_count answer) fits
+left_numbers g fits (call.OpenProtocolInformation handle guid) answer h = list_numbers g 24 (told_count answer) fits
+left_numbers g fits c answer h = tt
+
+counted : (r : Request) (b : Bool) → nat_lt r.pages (2 ^ 64) ≡ b → HasOtherNumbers r → IfSome (option_map (λ n. r) (cond b (Some r.pages) None)) HasRequestNumbers
+counted r true e (mtype, limit, granule) = record { mtype = mtype; pages = ltb-true r.pages (2 ^ 64) e; limit = limit; granule = granule }
+counted r false e h = tt
+
+if_counted_numbers : (o : Option Request) → IfSome o HasOtherNumbers → IfSome (option_and_then if_counted o) HasRequestNumbers
+if_counted_numbers None h = tt
+if_counted_numbers (Some r) h = counted r (nat_lt r.pages (2 ^ 64)) refl h
+
+request_numbers : {A : Type 0} (g : ℕ) → IsGranule g → (c : Call A) (answer : Reply A) → HasCallNumbers c → IfSome (request_for g c answer) HasRequestNumbers
+request_numbers g fits c answer h = if_counted_numbers (left_request g c answer) (left_numbers g fits c answer h)
 
 no_block : (certify : Bool) (text : List ℕ) → text ++ cond certify [] [] ≡ text
 no_block true text = append-nil text
@@ -139,9 +158,9 @@ module _ (ds : List Meaning) (n : ℕ) (old : State) (is : IsReached n old) (bel
   with_block (Some r) None numbers accepted = tt
   with_block (Some r) (Some c) numbers accepted = accepted_block map_before r c accepted (all_implied IsRecordEntry HasEntryNumbers entry_numbers map_before entries_fit) numbers (omega (arith, is.few))
 
-  block_of_step : {A : Type 0} (c : Call A) (answer : Reply A) (new : State) → HasCallNumbers c → Step ds old c answer new → IfSome (certified c answer) (λ told. IsAcceptedBlock map_before told.0 told.1)
+  block_of_step : {A : Type 0} (c : Call A) (answer : Reply A) (new : State) → HasCallNumbers c → Step ds old c answer new → IfSome (certified old.parts.book.granule c answer) (λ told. IsAcceptedBlock map_before told.0 told.1)
   block_of_step c answer new numbers step =
-      with_block (request_for c answer) (certificate_in answer) (request_numbers c answer numbers) (accepted_reply ds old.parts is.sound.proper is.typed old.exited old.calls_left c answer new.parts step.answers)
+      with_block (request_for old.parts.book.granule c answer) (certificate_in answer) (request_numbers old.parts.book.granule is.sound.granules.granule c answer numbers) (accepted_reply ds old.parts is.sound.proper is.typed is.sound.granules.granule old.exited old.calls_left c answer new.parts step.answers)
 
   block_of_line : (A : Type 0) (number : ℕ) (asks : Result (Option (TraceCall A)) TraceFault) (text : List ℕ) (new : State) → ((c : Call A) → asks ≡ Ok (Some (trace_call.Service c)) → HasCallNumbers c) → Prints A ds true number asks old text new → PrintsAcceptedBlock A ds number asks old text new
   block_of_line A number (Ok None) text new numbers prints = tt
@@ -151,7 +170,7 @@ module _ (ds : List Meaning) (n : ℕ) (old : State) (is : IsReached n old) (bel
 
   -- ---- memory maps
 
-  map_of_step : {A : Type 0} (certify : Bool) (number size : ℕ) (told : MapReply) (bytes : Vec ℕ A) (text : List ℕ) (new : State) → Step ds old (call.GetMemoryMap size) (reply.GetMemoryMap told bytes) new → PrintsCall certify number old.parts.book.memory (call.GetMemoryMap size) (reply.GetMemoryMap told bytes) text → told.status ≡ Success →
+  map_of_step : {A : Type 0} (certify : Bool) (number size : ℕ) (told : MapReply) (bytes : Vec ℕ A) (text : List ℕ) (new : State) → Step ds old (call.GetMemoryMap size) (reply.GetMemoryMap told bytes) new → PrintsCall certify number old.parts.book (call.GetMemoryMap size) (reply.GetMemoryMap told bytes) text → told.status ≡ Success →
       ((found : Option (List Descriptor)) → ReadsRecords bytes.items found → found ≡ Some map_before) × (text ≡ reply_text number map_before (reply.GetMemoryMap told bytes))
   map_of_step certify number size told bytes text new step (entries, carries, e) success = (
     λ found reads. read_back map_before found entries_fit (subst (λ (bs : List ℕ). ReadsRecords bs found) (told_bytes ds old size told bytes new step success) reads),
@@ -162,7 +181,7 @@ module _ (ds : List Meaning) (n : ℕ) (old : State) (is : IsReached n old) (bel
   map_of_line A certify number (Ok (Some (trace_call.Service (call.GetMemoryMap size)))) text new (answer, step, prints) =
       let (told, bytes, e, h) = step.answers in
       let same : Step ds old (call.GetMemoryMap size) (reply.GetMemoryMap told bytes) new = subst (λ (a : Reply A). Step ds old (call.GetMemoryMap size) a new) e step in
-      let printed : PrintsCall certify number old.parts.book.memory (call.GetMemoryMap size) (reply.GetMemoryMap told bytes) text = subst (λ (a : Reply A). PrintsCall certify number old.parts.book.memory (call.GetMemoryMap size) a text) e prints in
+      let printed : PrintsCall certify number old.parts.book (call.GetMemoryMap size) (reply.GetMemoryMap told bytes) text = subst (λ (a : Reply A). PrintsCall certify number old.parts.book (call.GetMemoryMap size) a text) e prints in
       (told, bytes, same, map_of_step certify number size told bytes text new same printed)
   map_of_line A certify number asks text new prints = tt
 
@@ -176,12 +195,12 @@ module _ (A : Type 0) (ds : List Meaning) (certify : Bool) (Is : OfLine A) (of_l
     each_line (n + 1) (number + 1) lines mid rest new (reached_by_line A ds certify n number (line_of line) old first mid is (named_types line) prints) (omega arith) more,
   )
 
-  of_run : (file bytes : List ℕ) (machine : ListedMachine) (count : ℕ) (new : State) (before after : Option (List ℕ)) (wrote : Wrote A ds certify bytes count (first_state machine.runs) new before after) → machine_of file ≡ Ok machine → count ≤ most_lines → OfEachLine A ds certify Is 1 (take count (lines_of bytes)) (first_state machine.runs) wrote.text new wrote.prints
+  of_run : (file bytes : List ℕ) (machine : ListedMachine) (count : ℕ) (new : State) (before after : Option (List ℕ)) (wrote : Wrote A ds certify bytes count (first_state machine.machine) new before after) → machine_of file ≡ Ok machine → count ≤ most_lines → OfEachLine A ds certify Is 1 (take count (lines_of bytes)) (first_state machine.machine) wrote.text new wrote.prints
   of_run file bytes machine count new before after wrote said few =
-      each_line 0 1 (take count (lines_of bytes)) (first_state machine.runs) wrote.text new (first_reached file machine said) (omega (arith, length-take count (lines_of bytes))) wrote.prints
+      each_line 0 1 (take count (lines_of bytes)) (first_state machine.machine) wrote.text new (first_reached file machine said) (omega (arith, length-take count (lines_of bytes))) wrote.prints
 
-pub printed_blocks : {A : Type 0} (ds : List Meaning) (file bytes : List ℕ) (machine : ListedMachine) (count : ℕ) (new : State) (before after : Option (List ℕ)) (wrote : Wrote A ds true bytes count (first_state machine.runs) new before after) → machine_of file ≡ Ok machine → count ≤ most_lines → OfEachLine A ds true (PrintsAcceptedBlock A ds) 1 (take count (lines_of bytes)) (first_state machine.runs) wrote.text new wrote.prints
+pub printed_blocks : {A : Type 0} (ds : List Meaning) (file bytes : List ℕ) (machine : ListedMachine) (count : ℕ) (new : State) (before after : Option (List ℕ)) (wrote : Wrote A ds true bytes count (first_state machine.machine) new before after) → machine_of file ≡ Ok machine → count ≤ most_lines → OfEachLine A ds true (PrintsAcceptedBlock A ds) 1 (take count (lines_of bytes)) (first_state machine.machine) wrote.text new wrote.prints
 printed_blocks {A = A} ds = of_run A ds true (PrintsAcceptedBlock A ds) (λ n number line old text new is below prints. block_of_line ds n old is below A number (line_of line) text new (call_numbers line) prints)
 
-pub printed_maps : {A : Type 0} (ds : List Meaning) (certify : Bool) (file bytes : List ℕ) (machine : ListedMachine) (count : ℕ) (new : State) (before after : Option (List ℕ)) (wrote : Wrote A ds certify bytes count (first_state machine.runs) new before after) → machine_of file ≡ Ok machine → count ≤ most_lines → OfEachLine A ds certify (PrintsReadMap A ds) 1 (take count (lines_of bytes)) (first_state machine.runs) wrote.text new wrote.prints
+pub printed_maps : {A : Type 0} (ds : List Meaning) (certify : Bool) (file bytes : List ℕ) (machine : ListedMachine) (count : ℕ) (new : State) (before after : Option (List ℕ)) (wrote : Wrote A ds certify bytes count (first_state machine.machine) new before after) → machine_of file ≡ Ok machine → count ≤ most_lines → OfEachLine A ds certify (PrintsReadMap A ds) 1 (take count (lines_of bytes)) (first_state machine.machine) wrote.text new wrote.prints
 printed_maps {A = A} ds certify = of_run A ds certify (PrintsReadMap A ds) (λ n number line old text new is below prints. map_of_line ds n old is below A certify number (line_of line) text new prints)

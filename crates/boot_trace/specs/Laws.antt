@@ -34,8 +34,8 @@ OfEachLine A ds certify Is number (line ∷ lines) old text new (mid, first, res
 
 -- it holds of each line whose text a run on a machine file and a trace wrote
 abbrev pub OfRun : (A : Type 0) → List Meaning → Bool → OfLine A → Type 0
-OfRun A ds certify Is = (file bytes : List ℕ) (machine : ListedMachine) (count : ℕ) (new : State) (before after : Option (List ℕ)) (wrote : Wrote A ds certify bytes count (first_state machine.runs) new before after) →
-    machine_of file ≡ Ok machine → count ≤ most_lines → OfEachLine A ds certify Is 1 (take count (lines_of bytes)) (first_state machine.runs) wrote.text new wrote.prints
+OfRun A ds certify Is = (file bytes : List ℕ) (machine : ListedMachine) (count : ℕ) (new : State) (before after : Option (List ℕ)) (wrote : Wrote A ds certify bytes count (first_state machine.machine) new before after) →
+    machine_of file ≡ Ok machine → count ≤ most_lines → OfEachLine A ds certify Is 1 (take count (lines_of bytes)) (first_state machine.machine) wrote.text new wrote.prints
 
 -- ---- certificates
 
@@ -43,8 +43,8 @@ OfRun A ds certify Is = (file bytes : List ℕ) (machine : ListedMachine) (count
 -- the call's request and the certificate. The block is read back as these, and its check answers that it is accepted.
 abbrev pub PrintsAcceptedBlock : (A : Type 0) → List Meaning → OfLine A
 PrintsAcceptedBlock A ds number (Ok (Some (trace_call.Service c))) old text new =
-    (answer : Reply A) × (entries : List Descriptor) × Step ds old c answer new × (text ≡ reply_text number entries answer ++ certificate_text (memory_map old.parts.book.memory) (certified c answer)) ×
-    IfSome (certified c answer) (λ told. IsAcceptedBlock (memory_map old.parts.book.memory) told.0 told.1)
+    (answer : Reply A) × (entries : List Descriptor) × Step ds old c answer new × (text ≡ reply_text number entries answer ++ certificate_text (memory_map old.parts.book.memory) (certified old.parts.book.granule c answer)) ×
+    IfSome (certified old.parts.book.granule c answer) (λ told. IsAcceptedBlock (memory_map old.parts.book.memory) told.0 told.1)
 PrintsAcceptedBlock A ds number asks old text new = Unit {0}
 
 -- So it is of each call of a run with certificates.

@@ -21,7 +21,7 @@ use Rattle.trace_lines.specs.TraceLine.{line_of}
 abbrev pub Prints : (A : Type 0) → List Meaning → Bool → ℕ → Result (Option (TraceCall A)) TraceFault → State → List ℕ → State → Type 0
 Prints A ds certify number (Ok None) old text new = (text ≡ []) × (new ≡ old)
 Prints A ds certify number (Ok (Some trace_call.List)) old text new = (text ≡ list_text number (memory_map old.parts.book.memory)) × (new ≡ old)
-Prints A ds certify number (Ok (Some (trace_call.Service c))) old text new = (answer : Reply A) × Step ds old c answer new × PrintsCall certify number old.parts.book.memory c answer text
+Prints A ds certify number (Ok (Some (trace_call.Service c))) old text new = (answer : Reply A) × Step ds old c answer new × PrintsCall certify number old.parts.book c answer text
 Prints A ds certify number (Err e) old text new = ⊥
 
 -- the line asks for a call

@@ -99,11 +99,12 @@ fn make_call<D: Driver, A: Allocator + Copy>(
     if core.calls_left() == 0 {
         return Err(RunFault::NoCallsLeft);
     }
+    let granule = core.granule();
     let Ok(before) = map_before(alloc, core, call, certify) else {
         return Err(RunFault::OutOfMemory);
     };
     let reply = core.call(call);
-    match print_call(alloc, text, number, &before, call, &reply) {
+    match print_call(alloc, text, number, granule, &before, call, &reply) {
         Ok(()) => Ok(()),
         Err(_) => Err(RunFault::OutOfMemory),
     }

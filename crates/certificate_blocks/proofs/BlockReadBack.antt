@@ -1,9 +1,11 @@
 -- The text of a certificate block, read back.
-use Rattle.std.proofs.Common.{◌≡◌, ℕ, ◌+◌, ◌^◌, ◌<◌, ◌≤◌, Bool, true, false, nat_lt, ◌&&◌, nat_le, List, [], ◌∷◌, ◌++◌, length, map, Option, Some, None, Ok, codes, refl, ap, ◌∙◌, arith, lt-ltb, ltb-true, leb-true, append_assoc, length-append, lit<, lit≤}
+use Rattle.std.proofs.Common.{◌≡◌, ℕ, ◌+◌, ◌^◌, ◌<◌, ◌≤◌, Bool, true, false, nat_lt, ◌&&◌, nat_le, List, [], ◌∷◌, ◌++◌, length, map, Option, Some, None, Ok, codes, inl, inr, refl, sym, ap, ◌∙◌, arith, lt-ltb, ltb-true, leb-true, append_assoc, length-append, lit<, lit≤}
 use Rattle.std.specs.List.{AllByRecursion}
 use Rattle.std.specs.Fmt.{decimal}
 use Rattle.std.proofs.lemmas.List.{length-map, map-append}
+use Rattle.std.proofs.lemmas.Fmt.{decimal_step, decimal_by_steps}
 use Rattle.page_ranges.specs.declared.ranges.Descriptor.{Descriptor}
+use Rattle.page_ranges.specs.Granules.{IsGranule}
 use Rattle.placement_certificate.specs.declared.certificates.Request.{Request}
 use Rattle.placement_certificate.specs.declared.certificates.Bound.{Bound}
 use Rattle.placement_certificate.specs.Certificates.{CertificateValue}
@@ -58,11 +60,25 @@ entry_fits d h = (
   rw (type_read d.mtype h.mtype, decimal_read d.first h.first, decimal_read d.pages h.pages, hexadecimal_read d.attributes h.attributes) refl,
 )
 
-request_fits : (r : Request) → HasRequestNumbers r → IsReadAs request_of (request_words r) r
-request_fits r h = (
-  ((name_word (codes "request") refl refl refl, (decimal_word r.mtype (wide r.mtype h.mtype), (decimal_word r.pages h.pages, (decimal_word r.limit h.limit, tt)))), lit< tt, lit≤ tt),
-  rw (type_read r.mtype h.mtype, decimal_read r.pages h.pages, decimal_read r.limit h.limit) refl,
+one : decimal 1 ≡ codes "1"
+one = decimal_by_steps (λ m ds. m ≡ 1 → ds ≡ codes "1") (λ m l e. rw e refl) (λ m ds l h e. absurd (omega arith)) 1 (lit< tt) refl
+
+sixteen : decimal 16 ≡ codes "16"
+sixteen = decimal_step 16 (lit≤ tt) (lit< tt) ∙ rw one refl
+
+request_fits_with : (t pages limit granule : ℕ) → t < 2 ^ 32 → pages < 2 ^ 64 → limit < 2 ^ 64 → IsGranule granule →
+    IsReadAs request_of (request_words (record { mtype = t; pages = pages; limit = limit; granule = granule })) (record { mtype = t; pages = pages; limit = limit; granule = granule })
+request_fits_with t pages limit granule ht hp hl (inl e) = rw e (
+  ((name_word (codes "request") refl refl refl, (decimal_word t (wide t ht), (decimal_word pages hp, (decimal_word limit hl, tt)))), lit< tt, lit≤ tt),
+  rw (type_read t ht, decimal_read pages hp, decimal_read limit hl) refl,
 )
+request_fits_with t pages limit granule ht hp hl (inr e) = rw (e, sixteen) (
+  ((name_word (codes "request") refl refl refl, (decimal_word t (wide t ht), (decimal_word pages hp, (decimal_word limit hl, (name_word (codes "16") refl refl refl, tt))))), lit< tt, lit≤ tt),
+  rw (type_read t ht, decimal_read pages hp, decimal_read limit hl) refl,
+)
+
+request_fits : (r : Request) → HasRequestNumbers r → IsReadAs request_of (request_words r) r
+request_fits r h = request_fits_with r.mtype r.pages r.limit r.granule h.mtype h.pages h.limit h.granule
 
 bound_fits_with : (first pages : ℕ) (least : Option (ℕ × ℕ)) → first < 2 ^ 64 → pages < 2 ^ 64 → HasLeastNumbers least → IsReadAs bound_of (bound_words (record { first = first; pages = pages; least = least })) (record { first = first; pages = pages; least = least })
 bound_fits_with first pages None f p h = (((decimal_word first f, (decimal_word pages p, (name_word (codes "none") refl refl refl, tt))), lit< tt, lit≤ tt), rw (decimal_read first f, decimal_read pages p) refl)

@@ -18,13 +18,18 @@ entry_other (a ∷ b ∷ c ∷ []) h = refl
 entry_other (a ∷ b ∷ c ∷ d ∷ []) h = absurd (four (a ∷ b ∷ c ∷ d ∷ []) h refl)
 entry_other (a ∷ b ∷ c ∷ d ∷ e ∷ words) h = refl
 
-pub request_other : (words : List (List ℕ)) → OtherThan 4 4 words → request_of words ≡ None
+five : (words : List (List ℕ)) → OtherThan 4 5 words → 3 < length words → length words < 6 → ⊥
+five words (inl h) low high = omega arith
+five words (inr h) low high = omega arith
+
+pub request_other : (words : List (List ℕ)) → OtherThan 4 5 words → request_of words ≡ None
 request_other [] h = refl
 request_other (a ∷ []) h = refl
 request_other (a ∷ b ∷ []) h = refl
 request_other (a ∷ b ∷ c ∷ []) h = refl
-request_other (a ∷ b ∷ c ∷ d ∷ []) h = absurd (four (a ∷ b ∷ c ∷ d ∷ []) h refl)
-request_other (a ∷ b ∷ c ∷ d ∷ e ∷ words) h = refl
+request_other (a ∷ b ∷ c ∷ d ∷ []) h = absurd (five (a ∷ b ∷ c ∷ d ∷ []) h (omega arith) (omega arith))
+request_other (a ∷ b ∷ c ∷ d ∷ e ∷ []) h = absurd (five (a ∷ b ∷ c ∷ d ∷ e ∷ []) h (omega arith) (omega arith))
+request_other (a ∷ b ∷ c ∷ d ∷ e ∷ f ∷ words) h = refl
 
 short : (words : List (List ℕ)) → OtherThan 3 4 words → 2 < length words → length words < 5 → ⊥
 short words (inl h) low high = omega arith

@@ -25,7 +25,7 @@ pub record IsWord (word : List ℕ) : Type 0 where
 
 -- the words of a line of a block
 abbrev pub AreWords : List (List ℕ) → Type 0
-AreWords words = AllByRecursion IsWord words × (0 < length words) × (length words ≤ 4)
+AreWords words = AllByRecursion IsWord words × (0 < length words) × (length words ≤ 5)
 
 pub printed_is : (words : List (List ℕ)) → printed_line words ≡ joined words ++ line_feed
 printed_is [] = refl

@@ -2,6 +2,7 @@
 use Rattle.std.specs.Prelude.{◌≡◌, ℕ, ◌+◌, ◌*◌, ◌^◌, ◌<◌, ◌≤◌, Bool, IsTrue, List, length, Option, Some, None, Result, Ok, Err}
 use Rattle.std.specs.List.{AllByRecursion}
 use Rattle.page_ranges.specs.declared.ranges.Descriptor.{Descriptor}
+use Rattle.page_ranges.specs.Granules.{IsGranule}
 use Rattle.placement_certificate.specs.declared.certificates.Request.{Request}
 use Rattle.placement_certificate.specs.declared.certificates.Bound.{Bound}
 use Rattle.placement_certificate.specs.Certificates.{CertificateValue}
@@ -19,11 +20,12 @@ pub record HasEntryNumbers (d : Descriptor) : Type 0 where
   pub pages : d.pages < 2 ^ 64
   pub attributes : d.attributes < 2 ^ 64
 
--- the same of a request
+-- the same of a request, and its granule is one that a block can say
 pub record HasRequestNumbers (r : Request) : Type 0 where
   pub mtype : r.mtype < 2 ^ 32
   pub pages : r.pages < 2 ^ 64
   pub limit : r.limit < 2 ^ 64
+  pub granule : IsGranule r.granule
 
 abbrev pub HasLeastNumbers : Option (ℕ × ℕ) → Type 0
 HasLeastNumbers (Some (count, top)) = (count < 2 ^ 64) × (top < 2 ^ 64)

@@ -44,14 +44,21 @@ entry_of_words (mtype ∷ first ∷ pages ∷ attributes ∷ []) = do
   Some (record { mtype = t; first = f; pages = p; attributes = a })
 entry_of_words words = None
 
--- `request TYPE PAGES LIMIT`
-abbrev pub request_of : List (List ℕ) → Option Request
-request_of (word ∷ mtype ∷ pages ∷ limit ∷ []) = do
+-- the request of these words, with a granule
+abbrev pub request_with : List ℕ → List ℕ → List ℕ → List ℕ → ℕ → Option Request
+request_with word mtype pages limit granule = do
   same ← named (codes "request") word
   t ← type_of_word mtype
   p ← number_of pages
   l ← number_of limit
-  Some (record { mtype = t; pages = p; limit = l })
+  Some (record { mtype = t; pages = p; limit = l; granule = granule })
+
+-- `request TYPE PAGES LIMIT`, where the granule is a page, or `request TYPE PAGES LIMIT 16`
+abbrev pub request_of : List (List ℕ) → Option Request
+request_of (word ∷ mtype ∷ pages ∷ limit ∷ []) = request_with word mtype pages limit 1
+request_of (word ∷ mtype ∷ pages ∷ limit ∷ granule ∷ []) = do
+  same ← named (codes "16") granule
+  request_with word mtype pages limit 16
 request_of words = None
 
 -- `FIRST PAGES COUNT TOP`, a bound with the lowest price and the highest start at it, or `FIRST PAGES none`

@@ -1,5 +1,5 @@
 -- The text of a certificate block.
-use Rattle.std.specs.Prelude.{ℕ, List, [], ◌∷◌, ◌++◌, length, map, flat_map, codes, Option, Some, None}
+use Rattle.std.specs.Prelude.{ℕ, ◌==◌, if◌then◌else◌, List, [], ◌∷◌, ◌++◌, length, map, flat_map, codes, Option, Some, None}
 use Rattle.std.specs.Fmt.{decimal}
 use Rattle.page_ranges.specs.declared.ranges.Descriptor.{Descriptor}
 use Rattle.placement_certificate.specs.declared.certificates.Request.{Request}
@@ -24,9 +24,13 @@ bound_words b = decimal b.first ∷ decimal b.pages ∷ least_words b.least
 abbrev pub map_lines : List Descriptor → List (List (List ℕ))
 map_lines entries = (codes "map" ∷ decimal (length entries) ∷ []) ∷ map entry_words entries
 
+-- what a request's line says of its granule: nothing where it is a page
+abbrev pub granule_words : ℕ → List (List ℕ)
+granule_words granule = if granule == 1 then [] else decimal granule ∷ []
+
 -- the words of the request's line
 abbrev pub request_words : Request → List (List ℕ)
-request_words r = codes "request" ∷ decimal r.mtype ∷ decimal r.pages ∷ decimal r.limit ∷ []
+request_words r = codes "request" ∷ decimal r.mtype ∷ decimal r.pages ∷ decimal r.limit ∷ granule_words r.granule
 
 -- the words of the lines that say the bounds
 abbrev pub bound_lines : List Bound → List (List (List ℕ))

@@ -1,6 +1,6 @@
 //! The lines of certificate blocks, by their words.
 ghost use Rattle.std.specs.Prelude.{◌≡◌, [], ◌∷◌, map};
-ghost use Rattle.certificate_blocks.specs.BlockLines.{type_of_word, named, name_alone, number_after, entry_of_words, request_of, bound_of};
+ghost use Rattle.certificate_blocks.specs.BlockLines.{type_of_word, named, name_alone, number_after, entry_of_words, request_of, request_with, bound_of};
 
 use page_ranges::{Descriptor, MemoryType};
 use placement_certificate::{Bound, Request};
@@ -58,25 +58,37 @@ fn entry_with(mtype: &[u8], first: &[u8], pages: &[u8], attributes: &[u8]) -> Op
     })
 }
 
-/// The request of `request TYPE PAGES LIMIT`, None for other words.
+/// The request of `request TYPE PAGES LIMIT`, with a granule of 1, or of `request TYPE PAGES LIMIT 16`,
+/// None for other words.
 pub fn request_of(words: &[&[u8]]) -> Option<Request>
     ensures { result ≡ request_of (map (λ word. word.now) words.now) }
 {
     match words {
-        [word, mtype, pages, limit] => request_with(word, mtype, pages, limit),
+        [word, mtype, pages, limit] => request_with(word, mtype, pages, limit, 1),
+        [word, mtype, pages, limit, granule] => {
+            named(b"16", granule)?;
+            request_with(word, mtype, pages, limit, 16)
+        }
         _ => None,
     }
 }
 
-/// A request of these fields, after its name.
-fn request_with(word: &[u8], mtype: &[u8], pages: &[u8], limit: &[u8]) -> Option<Request>
-    ensures { result ≡ request_of (word.now ∷ mtype.now ∷ pages.now ∷ limit.now ∷ []) }
+/// A request of these fields, after its name, with a granule.
+fn request_with(
+    word: &[u8],
+    mtype: &[u8],
+    pages: &[u8],
+    limit: &[u8],
+    granule: u64,
+) -> Option<Request>
+    ensures { result ≡ request_with word.now mtype.now pages.now limit.now granule }
 {
     named(b"request", word)?;
     Some(Request {
         mtype: type_of_word(mtype)?,
         pages: number_of(pages)?,
         limit: number_of(limit)?,
+        granule,
     })
 }
 

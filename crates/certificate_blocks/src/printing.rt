@@ -52,7 +52,10 @@ fn print_request<A: Allocator>(text: &mut String<A>, request: &Request) -> Resul
     let mtype = request.mtype.number();
     let pages = request.pages;
     let limit = request.limit;
-    writeln!(text, "request {mtype} {pages} {limit}")
+    match request.granule {
+        1 => writeln!(text, "request {mtype} {pages} {limit}"),
+        granule => writeln!(text, "request {mtype} {pages} {limit} {granule}"),
+    }
 }
 
 /// Appends the lines that say the bounds.

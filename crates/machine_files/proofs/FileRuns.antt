@@ -22,7 +22,7 @@ use Rattle.machine_files.specs.MachineText.{member_type, first_page_of, page_cou
 
 -- ---- steps that went well
 
-passed : (test : ℕ → Bool) (o : Option ℕ) (n : ℕ) → option_and_then (if_passes test) o ≡ Some n → test n ≡ true
+pub passed : (test : ℕ → Bool) (o : Option ℕ) (n : ℕ) → option_and_then (if_passes test) o ≡ Some n → test n ≡ true
 passed test None n e = absurd (cc)
 passed test (Some m) n e = passes (test m) refl e
   where

@@ -1,12 +1,12 @@
 -- The laws of machine files. Each is the contract of a public function.
 use Rattle.std.specs.Prelude.{◌≡◌, ℕ, ◌≤◌, List, length, Ok}
 use Rattle.std.specs.List.{AllByRecursion}
-use Rattle.page_ranges.specs.Runs.{IsValidMachine}
 use Rattle.boot_core.specs.MachineRuns.{HasRecordNumbers}
+use Rattle.boot_core.specs.Machines.{IsMachine}
 use Rattle.machine_files.specs.DriverText.{most_drivers}
 use Rattle.machine_files.specs.MachineText.{ListedMachine, most_descriptors, machine_of}
 
--- The runs that a file lists are a valid machine of at most so many, and their types and attributes fit their fields of a
--- record. It lists at most so many drivers.
+-- What a file lists is a machine of at most so many runs, and their types and attributes fit their fields of a record. It
+-- lists at most so many drivers.
 abbrev pub MachineLaw : Type 0
-MachineLaw = (bytes : List ℕ) (machine : ListedMachine) → machine_of bytes ≡ Ok machine → IsValidMachine machine.runs × AllByRecursion HasRecordNumbers machine.runs × (length machine.runs ≤ most_descriptors) × (length machine.drivers ≤ most_drivers)
+MachineLaw = (bytes : List ℕ) (machine : ListedMachine) → machine_of bytes ≡ Ok machine → IsMachine machine.machine × AllByRecursion HasRecordNumbers machine.machine.runs × (length machine.machine.runs ≤ most_descriptors) × (length machine.drivers ≤ most_drivers)

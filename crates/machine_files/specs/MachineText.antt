@@ -1,13 +1,14 @@
 -- What a machine file means.
-use Rattle.std.specs.Prelude.{◌≡◌, ◌⊎◌, MatchResult, ℕ, ◌+◌, ◌/◌, ◌%◌, ◌^◌, Bool, ◌&&◌, ◌==◌, not, nat_lt, nat_le, List, [], ◌∷◌, length, map, codes, Option, Some, None, option_and_then, Result, Ok, Err, if◌then◌else◌, count_by}
+use Rattle.std.specs.Prelude.{◌≡◌, ◌⊎◌, MatchResult, ℕ, ◌+◌, ◌/◌, ◌%◌, ◌^◌, Bool, ◌&&◌, ◌||◌, ◌==◌, not, nat_lt, nat_le, List, [], ◌∷◌, length, map, codes, Option, Some, None, option_and_then, option_map, Result, Ok, Err, if◌then◌else◌, count_by}
 use Rattle.std.specs.List.{list_any}
 use Rattle.std.specs.Str.{is_utf8}
 use Rattle.serde_json.specs.Data.{Data, Items}
 use Rattle.serde_json.specs.Read.{read}
-use Rattle.serde_json.specs.Find.{get, as_array}
+use Rattle.serde_json.specs.Find.{get, as_array, as_number, as_u64}
 use Rattle.page_ranges.specs.declared.ranges.Owner.TheVariants.{Given}
 use Rattle.page_ranges.specs.declared.ranges.Run.{Run}
 use Rattle.page_ranges.specs.MemoryTypes.{page_size, page_count, conventional, has_runtime, is_machine_type}
+use Rattle.boot_core.specs.Machines.{MachineValue}
 use Rattle.machine_files.specs.declared.faults.MachineFault.{MachineFault}
 use Rattle.machine_files.specs.declared.faults.MachineFault.TheVariants as fault
 use Rattle.machine_files.specs.declared.faults.MemberField.{MemberField}
@@ -75,6 +76,18 @@ root_runs root = do
   list ← or_fault fault.NoMemoryList (option_and_then as_array (get (codes "memory") root))
   if nat_lt most_descriptors (item_count list) then Err fault.TooManyDescriptors else runs_from 0 list
 
+-- a granule that a machine may have
+abbrev pub granule_of : Data → Option ℕ
+granule_of d = option_and_then (if_passes (λ n. (n == 1) || (n == 16))) (option_and_then as_u64 (as_number d))
+
+-- the granule that a file names, or a page where it names none
+abbrev pub granule_if : Option Data → Option ℕ
+granule_if None = Some 1
+granule_if (Some d) = granule_of d
+
+abbrev pub root_granule : Data → Option ℕ
+root_granule root = granule_if (get (codes "granule") root)
+
 -- what JSON a file of at most so many bytes is
 unfoldable pub root_of : List ℕ → Result Data MachineFault
 root_of bytes = if nat_lt longest_file (length bytes) then Err fault.TooLong else or_fault fault.NotJson (json_of bytes)
@@ -99,14 +112,14 @@ abbrev pub in_order : List Run → List Run
 in_order [] = []
 in_order (r ∷ runs) = with_run r (in_order runs)
 
--- what a machine file lists: the runs by ascending page, and the drivers
+-- what a machine file lists: the machine, with its runs by ascending page, and the drivers
 pub record ListedMachine : Type 0 where
-  pub runs : List Run
+  pub machine : MachineValue
   pub drivers : List ListedDriver
 
--- the machine of these runs and drivers, unless runs have a page in common
-abbrev pub machine_with : List Run → List ListedDriver → Result ListedMachine MachineFault
-machine_with runs drivers = if overlap runs then Err fault.Overlap else Ok (record { runs = in_order runs; drivers = drivers })
+-- the machine of these runs and this granule, unless runs have a page in common or the granule is none
+abbrev pub machine_with : List Run → Option ℕ → Result MachineValue MachineFault
+machine_with runs granule = if overlap runs then Err fault.Overlap else or_fault fault.Granule (option_map (λ g. record { runs = in_order runs; granule = g }) granule)
 
 -- the machine that a file lists, with its descriptors in any order
 unfoldable pub machine_of : List ℕ → Result ListedMachine MachineFault
@@ -114,11 +127,12 @@ machine_of bytes = do
   root ← root_of bytes
   runs ← root_runs root
   drivers ← root_drivers root
-  machine_with runs drivers
+  machine ← machine_with runs (root_granule root)
+  Ok (record { machine = machine; drivers = drivers })
 
 -- how a file lists what was read of it
 abbrev pub listed_machine : MachineFile → ListedMachine
-listed_machine file = record { runs = file.machine; drivers = map listed file.drivers.items }
+listed_machine file = record { machine = file.machine; drivers = map listed file.drivers.items }
 
 -- What a function returned, seen by view, is what the definition reads, unless memory ran out.
 abbrev pub Gives : {X Y : Type 0} → (X → Y) → Result X MachineFault → Result Y MachineFault → Type 0

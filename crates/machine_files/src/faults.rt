@@ -76,6 +76,9 @@ pub enum MachineFault {
     Driver { number: usize, field: DriverField },
     #[error("machine: descriptors overlap")]
     Overlap,
+    /// The granule is there and is neither the number 1 nor 16.
+    #[error("machine: granule")]
+    Granule,
     #[error("out of memory")]
     OutOfMemory,
 }

@@ -1,12 +1,13 @@
 //! A machine file and its lists.
-ghost use Rattle.std.specs.Prelude.{◌≡◌, map, Some, None, if◌then◌else◌};
+ghost use Rattle.std.specs.Prelude.{◌≡◌, map, IfSome, Some, None, if◌then◌else◌};
 ghost use Rattle.std.specs.List.{AllByRecursion};
+ghost use Rattle.page_ranges.specs.Granules.{IsGranule};
 ghost use Rattle.boot_core.specs.MachineRuns.{IsMachineRun};
 ghost use Rattle.serde_json.specs.Read.{read};
 ghost use Rattle.serde_json.specs.View.{view, items_view};
 ghost use Rattle.text_lines.specs.FirstFault.{or_fault};
 ghost use Rattle.machine_files.specs.DriverText.{listed, drivers_from, drivers_of, root_drivers};
-ghost use Rattle.machine_files.specs.MachineText.{Gives, json_of, runs_from, root_runs, root_of, overlap, in_order, machine_of, listed_machine};
+ghost use Rattle.machine_files.specs.MachineText.{Gives, json_of, runs_from, root_runs, root_of, overlap, in_order, root_granule, machine_with, machine_of, listed_machine};
 
 use crate::drivers::member_driver;
 use crate::faults::MachineFault;
@@ -41,19 +42,44 @@ pub fn read_machine(alloc: Global, bytes: &[u8]) -> Result<MachineFile, MachineF
     let root = root_of(alloc, bytes)?;
     let runs = root_runs(alloc, &root)?;
     let drivers = root_drivers(alloc, &root)?;
-    match machine_with(runs) {
-        Some(machine) => Ok(MachineFile { machine, drivers }),
-        None => Err(MachineFault::Overlap),
+    let machine = machine_with(runs, root_granule(&root))?;
+    Ok(MachineFile { machine, drivers })
+}
+
+/// The machine with these runs and this granule. Two runs that have a page in common are told before a
+/// granule that is none.
+fn machine_with(runs: Vec<Run>, granule: Option<u64>) -> Result<Machine, MachineFault>
+    requires runs { AllByRecursion IsMachineRun runs.items }
+    requires granule { IfSome granule IsGranule }
+    ensures { result ≡ machine_with runs.items granule }
+{
+    let machine = whole_machine(runs, granule.unwrap_or(1)).ok_or(MachineFault::Overlap)?;
+    match granule {
+        Some(_) => Ok(machine),
+        None => Err(MachineFault::Granule),
     }
 }
 
-/// The machine with these runs, None where two of them have a page in common.
-fn machine_with(mut runs: Vec<Run>) -> Option<Machine>
-    requires { AllByRecursion IsMachineRun runs.items }
-    ensures { result ≡ (if overlap runs.items then None else Some (in_order runs.items)) }
+/// The machine with these runs and this granule, None where two runs have a page in common.
+fn whole_machine(mut runs: Vec<Run>, granule: u64) -> Option<Machine>
+    requires runs { AllByRecursion IsMachineRun runs.items }
+    requires granule { IsGranule granule }
+    ensures { result ≡ (if overlap runs.items then None else Some (record { runs = in_order runs.items; granule = granule })) }
 {
     runs.sort_unstable_by_key(|run| run.range.first);
-    Machine::new(runs)
+    Machine::new(runs, granule)
+}
+
+/// The granule that the root names, 1 where it names none; None for one that is neither 1 nor 16.
+fn root_granule(root: &Value) -> Option<u64>
+    ensures is { result ≡ root_granule (view root.now) }
+    ensures granule { IfSome result IsGranule }
+{
+    let Some(value) = root.get("granule") else {
+        return Some(1);
+    };
+    let granule = value.as_u64()?;
+    (granule == 1 || granule == 16).then_some(granule)
 }
 
 /// What JSON a file's bytes are.

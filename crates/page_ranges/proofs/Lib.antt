@@ -2,6 +2,7 @@ pub mod Lookups
 pub mod Members
 pub mod Attributes
 pub mod Retyped
+pub mod WholeGranules
 pub mod Blocks
 pub mod Rows
 pub mod Maps

@@ -1,4 +1,5 @@
 pub mod MemoryTypes
+pub mod Granules
 pub mod Memory
 pub mod MemoryMap
 pub mod Cursors

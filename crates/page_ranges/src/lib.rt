@@ -3,6 +3,7 @@
 
 mod addresses;
 mod cursors;
+mod granules;
 mod laws;
 mod ranges;
 mod statuses;
@@ -10,6 +11,7 @@ mod types;
 
 pub use addresses::{PAGE_COUNT, PAGE_SIZE, pages_below};
 pub use cursors::PageCursor;
+pub use granules::{granule_for, rounded};
 pub use laws::{
     map_memory_law, maximal_blocks_law, maximal_runs_law, memory_map_law, retyped_law,
     retyped_types_law,

@@ -1,25 +1,42 @@
 -- The rules of AllocatePages, of FreePages and of the pool's pages on a memory.
-use Rattle.std.specs.Prelude.{◌≡◌, ℕ, ◌+◌, ◌*◌, ◌<◌, ◌≤◌, ◌/◌, ◌%◌, ◌==◌, true, false, List, Option, Some, None, Result, Ok, Err, MatchBool, if◌then◌else◌}
+use Rattle.std.specs.Prelude.{◌≡◌, ℕ, ◌+◌, ◌-◌, ◌*◌, ◌<◌, ◌≤◌, ◌/◌, ◌%◌, ◌==◌, true, false, List, Option, Some, None, Result, Ok, Err, option_map, if◌then◌else◌}
 use Rattle.page_ranges.specs.declared.ranges.Owner.{Owner}
 use Rattle.page_ranges.specs.declared.ranges.Owner.TheVariants.{Given, Pages, Pool}
 use Rattle.page_ranges.specs.declared.ranges.PageRange.{PageRange}
 use Rattle.page_ranges.specs.declared.statuses.Status.{Status}
 use Rattle.page_ranges.specs.declared.statuses.Status.TheVariants.{InvalidParameter, NotFound, OutOfResources}
 use Rattle.page_ranges.specs.MemoryTypes.{page_size, page_count, pages_below, conventional, is_bad_type}
-use Rattle.page_ranges.specs.Memory.{Page, IsConventional, IsOwnedBy, AllInRange, retyped}
+use Rattle.page_ranges.specs.Granules.{IsGranule, is_granular, granule_for, if_64_bits, rounded}
+use Rattle.page_ranges.specs.Memory.{Page, page_at, page_below, IsConventional, IsOwnedBy, AllInRange, retyped}
 use Rattle.placement_certificate.specs.declared.certificates.Request.{Request}
 use Rattle.placement_certificate.specs.Placement.{IsPermittedStart}
 use Rattle.placement_certificate.specs.Certificates.{CertificateValue, IsTrueCertificate}
 use Rattle.page_services.specs.declared.page_book.Placed.{Placed}
 
--- the memory, and the map key: 1 at first, and one more after each call that changed some page's type
+-- the memory, the map key, which is 1 at first and one more after each call that changed some page's type, and the machine's
+-- granule
 pub record Book : Type 0 where
   pub memory : List Page
   pub key : ℕ
+  pub granule : ℕ
 
--- the book of a memory in which no type has changed
-abbrev pub new_book : List Page → Book
-new_book m = record { memory = m; key = 1 }
+-- the book of a machine with a granule and a memory in which no type has changed
+abbrev pub new_book : ℕ → List Page → Book
+new_book granule m = record { memory = m; key = 1; granule = granule }
+
+-- the page was placed by AllocatePages with a type that stands in granules
+abbrev pub IsInGranule : Option Page → Type 0
+IsInGranule None = ⊥
+IsInGranule (Some x) = (x.owner ≡ Pages) × (is_granular x.mtype ≡ true)
+
+-- Where one page of a granule was so placed, all of its pages were.
+abbrev pub HasWholeGranules : ℕ → List Page → Type 0
+HasWholeGranules granule m = (k j : ℕ) → k / granule ≡ j / granule → IsInGranule (page_at m k) → IsInGranule (page_at m j)
+
+-- the book's granule is one that a machine may have, and the pages so placed fill whole granules
+pub record IsInGranules (b : Book) : Type 0 where
+  pub granule : IsGranule b.granule
+  pub whole : HasWholeGranules b.granule b.memory
 
 -- so many pages from the page of an address on
 abbrev pub range_from : ℕ → ℕ → PageRange
@@ -30,7 +47,21 @@ IsAligned address = address % page_size ≡ 0
 
 -- the book after a call that gave the pages of a range another type
 abbrev pub changed_book : PageRange → ℕ → Owner → Book → Book
-changed_book range t o b = record { memory = retyped range t o b.memory; key = b.key + 1 }
+changed_book range t o b = record { memory = retyped range t o b.memory; key = b.key + 1; granule = b.granule }
+
+-- ---- requests
+
+-- so many pages once they fill granules of a type
+abbrev pub whole_pages : ℕ → ℕ → ℕ → ℕ
+whole_pages granule t pages = rounded pages (granule_for t granule)
+
+-- the request on a machine with a granule for so many pages of a type, up to a limit: its pages fill granules of the type
+abbrev pub whole_request : ℕ → ℕ → ℕ → ℕ → Request
+whole_request granule t pages limit = record { mtype = t; pages = whole_pages granule t pages; limit = limit; granule = granule_for t granule }
+
+-- a request, if the number of its pages has at most 64 bits: no memory has more
+abbrev pub if_counted : Request → Option Request
+if_counted r = option_map (λ n. r) (if_64_bits r.pages)
 
 -- ---- how a start is chosen
 
@@ -75,30 +106,32 @@ fixed_address = 2
 abbrev pub IsValidRequest : ℕ → ℕ → ℕ → Type 0
 IsValidRequest kind t pages = (kind ≤ fixed_address) × (is_bad_type t ≡ false) × (0 < pages)
 
--- What the service is left to place: so many pages of a type, anywhere or up to the byte at an address. A call that names
--- its address leaves no choice.
-abbrev pub placement_request : ℕ → ℕ → ℕ → ℕ → Option Request
-placement_request kind t pages memory =
+-- What the service is left to place on a machine with a granule: so many pages of a type, anywhere or up to the byte at an
+-- address. A call that names its address leaves no choice.
+abbrev pub placement_request : ℕ → ℕ → ℕ → ℕ → ℕ → Option Request
+placement_request granule kind t pages memory =
     if kind == any_pages
-    then Some (record { mtype = t; pages = pages; limit = page_count })
-    else (if kind == max_address then Some (record { mtype = t; pages = pages; limit = pages_below memory }) else None)
+    then Some (whole_request granule t pages page_count)
+    else (if kind == max_address then Some (whole_request granule t pages (pages_below memory)) else None)
 
--- the pages at an address may be allocated
-abbrev pub IsFree : List Page → ℕ → ℕ → Type 0
-IsFree m address pages = IsAligned address × AllInRange m (range_from address pages) IsConventional
+-- Pages of a type may be allocated at an address: the address is that of a page, and of a granule of the type, and the pages
+-- are conventional, with those that fill the last granule.
+abbrev pub IsFree : Book → ℕ → ℕ → ℕ → Type 0
+IsFree b t pages address =
+    IsAligned address × ((address / page_size) % granule_for t b.granule ≡ 0) × AllInRange b.memory (range_from address (whole_pages b.granule t pages)) IsConventional
 
 -- Where the pages were placed: at the start that was chosen for the request, or else at the address that the call names.
-abbrev pub IsPlaced : {A : Type 0} → Choice → List Page → Option Request → ℕ → ℕ → Placed A → Type 0
-IsPlaced Chosen m (Some r) pages memory placed = IsChosenPlace Chosen m r placed
-IsPlaced Chosen m None pages memory placed = IsFree m memory pages × (placed.address ≡ memory) × (placed.certificate ≡ None)
+abbrev pub IsPlaced : {A : Type 0} → Choice → Book → Option Request → ℕ → ℕ → ℕ → Placed A → Type 0
+IsPlaced Chosen b (Some r) t pages memory placed = IsChosenPlace Chosen b.memory r placed
+IsPlaced Chosen b None t pages memory placed = IsFree b t pages memory × (placed.address ≡ memory) × (placed.certificate ≡ None)
 
 -- What AllocatePages answers, and the book after it. A refusal leaves the book. OUT_OF_RESOURCES means that memory ran out,
 -- and for the kinds that name no address also that no start is permitted.
 abbrev pub AllocatesPages : {A : Type 0} → Choice → Book → ℕ → ℕ → ℕ → ℕ → Result (Placed A) Status → Book → Type 0
-AllocatesPages Chosen b kind t pages memory (Ok placed) new = IsValidRequest kind t pages × IsPlaced Chosen b.memory (placement_request kind t pages memory) pages memory placed × (new ≡ changed_book (range_from placed.address pages) t Pages b)
+AllocatesPages Chosen b kind t pages memory (Ok placed) new = IsValidRequest kind t pages × IsPlaced Chosen b (placement_request b.granule kind t pages memory) t pages memory placed × (new ≡ changed_book (range_from placed.address (whole_pages b.granule t pages)) t Pages b)
 AllocatesPages Chosen b kind t pages memory (Err InvalidParameter) new = (¬ IsValidRequest kind t pages) × (new ≡ b)
-AllocatesPages Chosen b kind t pages memory (Err NotFound) new = IsValidRequest kind t pages × (kind ≡ fixed_address) × (¬ IsFree b.memory memory pages) × (new ≡ b)
-AllocatesPages Chosen b kind t pages memory (Err OutOfResources) new = IsValidRequest kind t pages × (kind ≡ fixed_address → IsFree b.memory memory pages) × (new ≡ b)
+AllocatesPages Chosen b kind t pages memory (Err NotFound) new = IsValidRequest kind t pages × (kind ≡ fixed_address) × (¬ IsFree b t pages memory) × (new ≡ b)
+AllocatesPages Chosen b kind t pages memory (Err OutOfResources) new = IsValidRequest kind t pages × (kind ≡ fixed_address → IsFree b t pages memory) × (new ≡ b)
 AllocatesPages Chosen b kind t pages memory (Err status) new = ⊥
 
 -- ---- FreePages
@@ -111,9 +144,23 @@ IsValidRange address pages = IsAligned address × (0 < pages) × (address / page
 abbrev pub IsAllocated : List Page → ℕ → ℕ → Type 0
 IsAllocated m address pages = AllInRange m (range_from address pages) (IsOwnedBy Pages)
 
+-- the granule that a page lies in, in pages: that of its type, and a page of its own where it is absent
+abbrev pub granule_of : ℕ → Option Page → ℕ
+granule_of granule None = 1
+granule_of granule (Some x) = granule_for x.mtype granule
+
+-- What is freed where so many pages from the one of an address on are named: these, and at each end the rest of the granule
+-- that the page at that end lies in.
+abbrev pub freed_range : Book → ℕ → ℕ → PageRange
+freed_range b address pages =
+    let named = address / page_size in
+    let first = named - named % granule_of b.granule (page_at b.memory named) in
+    let end = rounded (named + pages) (granule_of b.granule (page_below b.memory (named + pages))) in
+    record { first = first; pages = end - first }
+
 -- what FreePages answers, and the book after it; a refusal leaves the book
 abbrev pub FreesPages : Book → ℕ → ℕ → Result (Unit {0}) Status → Book → Type 0
-FreesPages b address pages (Ok done) new = IsValidRange address pages × IsAllocated b.memory address pages × (new ≡ changed_book (range_from address pages) conventional Given b)
+FreesPages b address pages (Ok done) new = IsValidRange address pages × IsAllocated b.memory address pages × (new ≡ changed_book (freed_range b address pages) conventional Given b)
 FreesPages b address pages (Err InvalidParameter) new = (¬ IsValidRange address pages) × (new ≡ b)
 FreesPages b address pages (Err NotFound) new = IsValidRange address pages × (¬ IsAllocated b.memory address pages) × (new ≡ b)
 FreesPages b address pages (Err OutOfResources) new = IsValidRange address pages × IsAllocated b.memory address pages × (new ≡ b)
@@ -121,13 +168,13 @@ FreesPages b address pages (Err status) new = ⊥
 
 -- ---- the pages of the pool
 
--- the request of the pool: any pages
-abbrev pub pool_request : ℕ → ℕ → Request
-pool_request t pages = record { mtype = t; pages = pages; limit = page_count }
+-- the request of the pool on a machine with a granule: any pages
+abbrev pub pool_request : ℕ → ℕ → ℕ → Request
+pool_request granule t pages = whole_request granule t pages page_count
 
 -- what the pool is answered that takes pages, and the book after it: they are placed with the owner Pool
 abbrev pub TakesForPool : {A : Type 0} → Choice → Book → ℕ → ℕ → Result (Placed A) Status → Book → Type 0
-TakesForPool Chosen b t pages result new = PlacesPages Chosen b (pool_request t pages) Pool result new
+TakesForPool Chosen b t pages result new = PlacesPages Chosen b (pool_request b.granule t pages) Pool result new
 
 -- the book after the pool gave a range back: its pages are conventional; of no pages no type changes, and the key stays
 abbrev pub given_back : PageRange → Book → Book

@@ -1,14 +1,16 @@
 //! The book of a machine's pages.
-ghost use Rattle.std.specs.Prelude.{◌≡◌, false, ◌+◌, ◌<◌, ◌≤◌, ◌^◌, MatchResult, Err};
+ghost use Rattle.std.specs.Prelude.{◌≡◌, false, ◌+◌, ◌*◌, ◌<◌, ◌≤◌, ◌^◌, MatchResult, Err, option_and_then};
 ghost use Rattle.page_ranges.specs.declared.ranges.Owner.TheVariants.{Given, Pool};
-ghost use Rattle.page_ranges.specs.MemoryTypes.{conventional, is_bad_type, page_count};
-ghost use Rattle.page_ranges.specs.Memory.{IsPresent, IsOwnedBy, AllInRange};
+ghost use Rattle.page_ranges.specs.MemoryTypes.{conventional, is_bad_type, page_count, page_size};
+ghost use Rattle.page_ranges.specs.Memory.{page_at, IsPresent, IsOwnedBy, AllInRange};
+ghost use Rattle.page_ranges.specs.Granules.{IsGranule, granule_for};
 ghost use Rattle.placement_certificate.specs.Placement.{IsProperRequest};
-ghost use Rattle.page_services.specs.PageRules.{AllocatesPages, IsBestChoice, PlacesPages, FreesPages, TakesForPool, GivesFromPool, changed_book, fixed_address, new_book, placement_request, pool_request};
+ghost use Rattle.page_services.specs.PageRules.{AllocatesPages, IsBestChoice, PlacesPages, FreesPages, HasWholeGranules, IsInGranules, TakesForPool, GivesFromPool, changed_book, fixed_address, freed_range, granule_of, if_counted, new_book, placement_request, pool_request, whole_pages, whole_request};
 
 use descriptor_table::RunTable;
 use page_ranges::{
-    MemoryType, Owner, PAGE_COUNT, PAGE_SIZE, PageRange, Status, pages_below, type_for_alloc,
+    MemoryType, Owner, PAGE_COUNT, PAGE_SIZE, PageRange, Status, granule_for, pages_below, rounded,
+    type_for_alloc,
 };
 use placement_certificate::{Certificate, Request};
 use placement_chooser::choose;
@@ -24,33 +26,49 @@ const ALLOCATE_MAX_ADDRESS: u32 = 1;
 /// AllocateAddress: the range starts at the address of the request.
 const ALLOCATE_ADDRESS: u32 = 2;
 
-/// What AllocatePages of the kind `kind` leaves the service to place: so many `pages` of the type
-/// `mtype`, anywhere (0) or up to the byte at the address `memory` (1). `None` for a kind that names
-/// its address.
-pub fn placement_request(kind: u32, mtype: MemoryType, pages: u64, memory: u64) -> Option<Request>
-    ensures { result ≡ placement_request kind mtype pages memory }
+// The request on a machine with a granule for so many pages of a type, up to a limit. None where
+// they are more than a number of 64 bits tells once they fill granules.
+fn whole_request(granule: u64, mtype: MemoryType, pages: u64, limit: u64) -> Option<Request>
+    ensures { result ≡ if_counted (whole_request granule mtype pages limit) }
+{
+    let granule = granule_for(mtype, granule);
+    let pages = rounded(pages, granule)?;
+    Some(Request {
+        mtype,
+        pages,
+        limit,
+        granule,
+    })
+}
+
+/// What AllocatePages of the kind `kind` leaves the service to place on a machine with a granule: so
+/// many `pages` of the type `mtype`, rounded up to the type's granule, anywhere (0) or up to the byte at the
+/// address `memory` (1). `None` for a kind that names its address, and where the rounded number has
+/// more than 64 bits.
+pub fn placement_request(
+    granule: u64,
+    kind: u32,
+    mtype: MemoryType,
+    pages: u64,
+    memory: u64,
+) -> Option<Request>
+    ensures { result ≡ option_and_then if_counted (placement_request granule kind mtype pages memory) }
 {
     let limit = match kind {
         ALLOCATE_ANY_PAGES => PAGE_COUNT,
         ALLOCATE_MAX_ADDRESS => pages_below(memory),
         _ => return None,
     };
-    Some(Request {
-        mtype,
-        pages,
-        limit,
-    })
+    whole_request(granule, mtype, pages, limit)
 }
 
-/// The request for so many `pages` of the type `mtype` for the pool: they may lie anywhere.
-pub fn pool_request(mtype: MemoryType, pages: u64) -> Request
-    ensures { result ≡ pool_request mtype pages }
+/// The request for so many `pages` of the type `mtype` for the pool of a machine with a granule: rounded
+/// up to the type's granule, they may lie anywhere. `None` where the rounded number has more than 64
+/// bits.
+pub fn pool_request(granule: u64, mtype: MemoryType, pages: u64) -> Option<Request>
+    ensures { result ≡ if_counted (pool_request granule mtype pages) }
 {
-    Request {
-        mtype,
-        pages,
-        limit: PAGE_COUNT,
-    }
+    whole_request(granule, mtype, pages, PAGE_COUNT)
 }
 
 /// Where pages were placed.
@@ -62,37 +80,51 @@ pub struct Placed<A: Allocator = Global> {
     pub certificate: Option<Certificate<A>>,
 }
 
-/// The memory of a machine, and how often the type of a page has changed in it.
+/// The memory of a machine, how often the type of a page has changed in it, and the machine's granule.
 #[derive(Drop)]
 pub struct PageBook<A: Allocator = Global> {
     table: RunTable<A>,
     key: u64,
+    granule: u64,
 }
 
 impl<A: Allocator> Model for PageBook<A> {
-    ghost use Rattle.page_services.specs.PageRules.{Book};
+    ghost use Rattle.page_services.specs.PageRules.{Book, IsInGranules};
 
     ghost Value = { Book };
 
-    ghost view = { λ b. record { memory = b.table; key = b.key } };
+    ghost view = { λ b. record { memory = b.table; key = b.key; granule = b.granule } };
+
+    ghost invariant = { λ b. IsInGranules (record { memory = b.table; key = b.key; granule = b.granule }) };
 }
 
 impl<A: Allocator + Copy> PageBook<A> {
-    /// The book of a memory in which no type has changed.
-    pub fn new(table: RunTable<A>) -> PageBook<A>
-        ensures { result ≡ new_book table }
+    /// The book of a machine with a granule of so many pages, 1 or 16, and a memory in which no type has
+    /// changed. Where a page of a granule was placed by AllocatePages with a type that stands in
+    /// granules, all pages of the granule were.
+    pub fn new(table: RunTable<A>, granule: u64) -> PageBook<A>
+        requires granule { IsGranule granule }
+        requires whole { HasWholeGranules granule table }
+        ensures { result ≡ new_book granule table }
     {
-        PageBook { table, key: 1 }
+        PageBook {
+            table,
+            key: 1,
+            granule,
+        }
     }
 
     /// AllocatePages of the kind `kind`, for the type `mtype`, so many `pages`: anywhere (0), up to
-    /// the byte at the address `memory` (1), or at that address (2). Of the places that kinds 0 and
-    /// 1 permit it takes the highest after which the memory map has the fewest entries, and
-    /// answers a certificate of that.
+    /// the byte at the address `memory` (1), or at that address (2). A type that stands in granules
+    /// is given whole granules: the pages are rounded up to them, and start where one starts. Of the
+    /// places that kinds 0 and 1 permit it takes the highest after which the memory map has the
+    /// fewest entries, and answers a certificate of that.
     ///
     /// INVALID_PARAMETER: another kind, a type that no request may name, or no pages. NOT_FOUND: an
-    /// unaligned address, or a range there that is not all conventional. OUT_OF_RESOURCES: no place
-    /// of kind 0 or 1, or memory ran out. On an `Err` the book is as it was.
+    /// address that is not that of a page, or of a granule where the type stands in granules, or a
+    /// range there, with the pages that it is rounded up by, that is not all conventional.
+    /// OUT_OF_RESOURCES: no place of kind 0 or 1, also where the pages rounded up have a number of
+    /// more than 64 bits, or memory ran out. On an `Err` the book is as it was.
     pub fn allocate(
         &mut self,
         kind: u32,
@@ -110,24 +142,34 @@ impl<A: Allocator + Copy> PageBook<A> {
         if pages == 0 {
             return Err(Status::InvalidParameter);
         }
-        match placement_request(kind, mtype, pages, memory) {
+        if kind == ALLOCATE_ADDRESS {
+            return self.place_at(mtype, pages, memory);
+        }
+        match placement_request(self.granule, kind, mtype, pages, memory) {
             Some(request) => self.place_best(request, Owner::Pages),
-            None => self.place_at(mtype, pages, memory),
+            None => Err(Status::OutOfResources),
         }
     }
 
-    // Places pages at an address.
+    // Places pages at an address: so many, and those that fill the last granule of their type.
     fn place_at(&mut self, mtype: MemoryType, pages: u64, memory: u64) -> Result<Placed<A>, Status>
         requires key { self.old.key < 2 ^ 62 }
         requires good { is_bad_type mtype ≡ false }
         requires some { 0 < pages }
         ensures { AllocatesPages IsBestChoice self.old fixed_address mtype pages memory result self.new }
     {
-        let range = PageRange {
-            first: memory / PAGE_SIZE,
-            pages,
+        let granule = granule_for(mtype, self.granule);
+        let first = memory / PAGE_SIZE;
+        if memory % PAGE_SIZE != 0 || first % granule != 0 {
+            return Err(Status::NotFound);
+        }
+        let Some(pages) = rounded(pages, granule) else {
+            // No memory has so many pages: a table says of itself that it is a proper memory.
+            let _ = self.table.descriptors();
+            return Err(Status::NotFound);
         };
-        if memory % PAGE_SIZE != 0 || !self.table.all_conventional(range) {
+        let range = PageRange { first, pages };
+        if !self.table.all_conventional(range) {
             return Err(Status::NotFound);
         }
         self.change(range, mtype, Owner::Pages)?;
@@ -142,6 +184,7 @@ impl<A: Allocator + Copy> PageBook<A> {
         requires key { self.old.key < 2 ^ 62 }
         requires proper { IsProperRequest request }
         requires limit { request.limit ≤ page_count }
+        requires granule { request.granule ≡ granule_for request.mtype self.old.granule }
         ensures { PlacesPages IsBestChoice self.old request owner result self.new }
     {
         let Ok(Some(certificate)) = choose(self.table.allocator(), &self.table, &request) else {
@@ -159,7 +202,9 @@ impl<A: Allocator + Copy> PageBook<A> {
         })
     }
 
-    /// FreePages of so many `pages` from the address `memory` on: they are conventional again.
+    /// FreePages of so many `pages` from the address `memory` on: they are conventional again, and at
+    /// each end so is the rest of the granule that the page there lies in, if its type stands in
+    /// granules.
     ///
     /// INVALID_PARAMETER: an unaligned address, no pages, or a range past the last page. NOT_FOUND:
     /// a page that AllocatePages did not place. OUT_OF_RESOURCES: memory ran out for the table. On an
@@ -178,11 +223,40 @@ impl<A: Allocator + Copy> PageBook<A> {
         if !self.table.all_owned(range, Owner::Pages) {
             return Err(Status::NotFound);
         }
-        self.change(range, MemoryType::conventional(), Owner::Given)
+        let freed = self.freed_range(range);
+        self.change(freed, MemoryType::conventional(), Owner::Given)
     }
 
-    /// Pages of the type `mtype` for the pool: so many `pages` at the best place of all, with a certificate
-    /// of that.
+    // The range with the rest of the granules that its ends lie in.
+    fn freed_range(&self, range: PageRange) -> PageRange
+        requires some { 0 < range.pages }
+        requires end { range.first + range.pages ≤ page_count }
+        ensures { result ≡ freed_range self.now (range.first * page_size) range.pages }
+    {
+        let end = range.first + range.pages;
+        let low = self.granule_at(range.first);
+        let high = self.granule_at(end - 1);
+        let first = range.first - range.first % low;
+        let end = rounded(end, high).unwrap_or(end);
+        PageRange {
+            first,
+            pages: end - first,
+        }
+    }
+
+    // The granule of the type of the page there, 1 where it is absent.
+    fn granule_at(&self, page: u64) -> u64
+        ensures granule { result ≡ granule_of self.now.granule (page_at self.now.memory page) }
+        ensures valid { IsGranule result }
+    {
+        match self.table.run_at(page) {
+            Some(run) => granule_for(run.mtype, self.granule),
+            None => 1,
+        }
+    }
+
+    /// Pages of the type `mtype` for the pool: so many `pages`, rounded up to whole granules of the
+    /// type, at the best place of all, with a certificate of that.
     ///
     /// OUT_OF_RESOURCES: no place is permitted, or memory ran out. The book is then as it was.
     pub fn take_for_pool(&mut self, mtype: MemoryType, pages: u64) -> Result<Placed<A>, Status>
@@ -191,7 +265,10 @@ impl<A: Allocator + Copy> PageBook<A> {
         requires some { 0 < pages }
         ensures { TakesForPool IsBestChoice self.old mtype pages result self.new }
     {
-        self.place_best(pool_request(mtype, pages), Owner::Pool)
+        match pool_request(self.granule, mtype, pages) {
+            Some(request) => self.place_best(request, Owner::Pool),
+            None => Err(Status::OutOfResources),
+        }
     }
 
     /// Gives pages of the pool back, as those of an extent that ends: they are conventional again.
@@ -208,16 +285,17 @@ impl<A: Allocator + Copy> PageBook<A> {
         self.change(extent, MemoryType::conventional(), Owner::Given)
     }
 
-    // Gives pages, of which some are of another type, a type and an owner.
+    // Gives pages, of which some are of another type, a type and an owner, so that granules stay whole.
     fn change(&mut self, range: PageRange, mtype: MemoryType, owner: Owner) -> Result<(), Status>
         requires key { self.old.key < 2 ^ 62 }
         requires present { AllInRange self.old.memory range IsPresent }
         requires owner { mtype ≡ conventional → owner ≡ Given }
+        requires whole { IsInGranules self.old → IsInGranules (changed_book range mtype owner self.old) }
         ensures { MatchResult result (λ _. self.new ≡ changed_book range mtype owner self.old) (λ e. (e ≡ Status.OutOfResources) × (self.new ≡ self.old)) }
     {
-        self.table
-            .retype(range, mtype, owner)
-            .map_err(|_| Status::OutOfResources)?;
+        let Ok(()) = self.table.retype(range, mtype, owner) else {
+            return Err(Status::OutOfResources);
+        };
         self.key += 1;
         Ok(())
     }
@@ -227,6 +305,14 @@ impl<A: Allocator + Copy> PageBook<A> {
         ensures { result ≡ self.now.key }
     {
         self.key
+    }
+
+    /// The machine's granule in pages, 1 or 16.
+    pub fn granule(&self) -> u64
+        ensures granule { result ≡ self.now.granule }
+        ensures valid { IsGranule result }
+    {
+        self.granule
     }
 
     /// The memory.

@@ -1,5 +1,5 @@
 -- The true certificate of a request, computed from the pages: each start of each conventional entry is tried.
-use Rattle.std.proofs.Common.{◌≡◌, ℕ, zero, suc, ◌+◌, ◌<◌, ◌≤◌, Bool, true, false, not, cond, ◌&&◌, eqb, leb, List, [], ◌∷◌, ◌++◌, map, Option, Some, None, inl, inr, true≢false, refl, sym, ap, subst, ◌∙◌, append_assoc, arith}
+use Rattle.std.proofs.Common.{◌≡◌, ℕ, zero, suc, ◌+◌, ◌%◌, ◌<◌, ◌≤◌, Bool, true, false, not, cond, ◌&&◌, eqb, leb, List, [], ◌∷◌, ◌++◌, map, Option, Some, None, inl, inr, true≢false, refl, sym, ap, subst, ◌∙◌, append_assoc, arith}
 use Rattle.std.specs.List.{AllZip}
 use Rattle.std.proofs.lemmas.Bool.{cases_eq, cases_Bool, eqb-true, eq-eqb, leb-true, le-leb, and_parts, and_from, not-true}
 use Rattle.std.proofs.lemmas.List.{append-nil}
@@ -49,16 +49,17 @@ are_free_is m p zero c = refl
 are_free_is m p (suc n) c = and_from _ _ (free_is (page_at m p) (c p (omega arith) (omega arith))) (are_free_is m (p + 1) n (λ k l u. c k (omega arith) (omega arith)))
 
 abbrev is_permitted : List Page → Request → ℕ → Bool
-is_permitted m r p = leb (p + r.pages) r.limit && are_free m p r.pages
+is_permitted m r p = eqb (p % r.granule) 0 && (leb (p + r.pages) r.limit && are_free m p r.pages)
 
 permitted_from : (m : List Page) (r : Request) (p : ℕ) → is_permitted m r p ≡ true → IsPermittedStart m r p
 permitted_from m r p h =
-    let t = and_parts (leb (p + r.pages) r.limit) (are_free m p r.pages) h in
+    let u = and_parts (eqb (p % r.granule) 0) (leb (p + r.pages) r.limit && are_free m p r.pages) h in
+    let t = and_parts (leb (p + r.pages) r.limit) (are_free m p r.pages) u.1 in
     let free = are_free_from m p r.pages t.1 in
-    record { within = leb-true (p + r.pages) r.limit t.0; conventional = λ k l u. (free k l u).0; ordinary = λ k l u. (free k l u).1 }
+    record { whole = eqb-true (p % r.granule) 0 u.0; within = leb-true (p + r.pages) r.limit t.0; conventional = λ k l u. (free k l u).0; ordinary = λ k l u. (free k l u).1 }
 
 not_permitted : (m : List Page) (r : Request) (p : ℕ) → is_permitted m r p ≡ false → ¬ IsPermittedStart m r p
-not_permitted m r p f h = true≢false (sym (and_from _ _ (le-leb (p + r.pages) r.limit h.within) (are_free_is m p r.pages (λ k l u. (h.conventional k l u, h.ordinary k l u)))) ∙ f)
+not_permitted m r p f h = true≢false (sym (and_from _ _ (eq-eqb (p % r.granule) 0 h.whole) (and_from _ _ (le-leb (p + r.pages) r.limit h.within) (are_free_is m p r.pages (λ k l u. (h.conventional k l u, h.ordinary k l u))))) ∙ f)
 
 -- ---- the bound of an entry
 

@@ -1,12 +1,15 @@
 -- Stretches of available pages.
-use Rattle.std.proofs.Common.{◌≡◌, ℕ, ◌+◌, ◌<◌, ◌≤◌, min, List, Contains, inl, inr, arith}
+use Rattle.std.proofs.Common.{◌≡◌, ℕ, ◌+◌, ◌<◌, ◌≤◌, min, List, Contains, None, inl, inr, arith}
 use Rattle.std.proofs.lemmas.Bool.{cases_lt}
 use Rattle.page_ranges.specs.declared.ranges.Descriptor.{Descriptor}
 use Rattle.page_ranges.specs.Memory.{Page, page_at, IsProperMemory}
-use Rattle.page_ranges.specs.MemoryMap.{memory_map}
+use Rattle.page_ranges.specs.Granules.{rounded}
+use Rattle.page_ranges.specs.MemoryMap.{memory_map, IsIn}
 use Rattle.page_ranges.proofs.Blocks.{entry_is_block}
+use Rattle.page_ranges.proofs.WholeGranules.{rounded_at_least, rounded_least}
 use Rattle.placement_certificate.specs.declared.certificates.Request.{Request}
-use Rattle.placement_certificate.specs.Placement.{IsAvailable}
+use Rattle.placement_certificate.specs.Placement.{IsProperRequest, IsAvailable}
+use Rattle.placement_certificate.specs.Certificates.{IsTrueLeast}
 use Rattle.placement_certificate.specs.Laws.{IsStretch}
 use Rattle.placement_certificate.specs.Search.{IsStop, PermitsUpTo, IsAvailableBlock}
 use Rattle.placement_certificate.proofs.Edges.{like_available}
@@ -31,4 +34,16 @@ known_stop m e first stop proper entry free low high is = entry_stop m e stop pr
 pub permits_up_to : (m : List Page) (r : Request) (e : Descriptor) (stop end : ℕ) → IsStop m e stop → end ≡ min stop r.limit → PermitsUpTo m r e end
 permits_up_to m r e stop end is at q i =
     let both = stretch m r e.first stop q is.stretch i.low (omega (arith, i.high, is.within)) in
-    (λ h. let t = both.0 h in omega (arith, t.0, t.1), λ h. both.1 (omega arith, omega arith))
+    (λ h. let t = both.0 h in (t.0, omega (arith, t.1, t.2)), λ h. both.1 (h.0, omega (arith, h.1), omega (arith, h.1)))
+
+-- ---- an entry without a permitted start
+
+-- the first multiple of the granule from the entry's first page on lies above the entry
+pub none_in_entry : (m : List Page) (r : Request) (e : Descriptor) → IsProperRequest r → ¬ IsIn e (rounded e.first r.granule) → IsTrueLeast m r e None
+none_in_entry m r e good out p i permitted =
+    out (record { low = rounded_at_least e.first r.granule good.granule; high = omega (arith, rounded_least e.first p r.granule good.granule i.low permitted.whole, i.high) })
+
+-- or its pages don't end by the number
+pub none_fits : (m : List Page) (r : Request) (e : Descriptor) (end : ℕ) → IsProperRequest r → PermitsUpTo m r e end → (rounded e.first r.granule + r.pages ≤ end → ⊥) → IsTrueLeast m r e None
+none_fits m r e end good up out p i permitted =
+    out (omega (arith, rounded_least e.first p r.granule good.granule i.low permitted.whole, ((up p i).0 permitted).1))

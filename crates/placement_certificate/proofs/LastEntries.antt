@@ -1,30 +1,28 @@
--- The best start in an available entry behind which no available page lies.
-use Rattle.std.proofs.Common.{◌≡◌, ◌≢◌, ℕ, ◌+◌, ◌-◌, ◌<◌, ◌≤◌, min, List, length, Contains, Option, Some, None, inl, inr, refl, sym, subst, arith}
+-- The best start in an available entry behind which no available page lies, where the granule is 1.
+use Rattle.std.proofs.Common.{◌≡◌, ◌≢◌, ℕ, ◌+◌, ◌-◌, ◌%◌, ◌<◌, ◌≤◌, min, List, length, Contains, Some, None, inl, inr, refl, sym, subst, arith}
 use Rattle.std.proofs.lemmas.Bool.{cases_lt}
 use Rattle.page_ranges.specs.declared.ranges.Descriptor.{Descriptor}
 use Rattle.page_ranges.specs.declared.ranges.Owner.TheVariants.{Pages}
 use Rattle.page_ranges.specs.MemoryTypes.{page_count, conventional}
 use Rattle.page_ranges.specs.Memory.{Page, page_at, page_below, IsProperMemory}
+use Rattle.page_ranges.specs.Granules.{rounded}
 use Rattle.page_ranges.specs.MemoryMap.{memory_map, IsIn, IsMaximalBlock}
 use Rattle.page_ranges.proofs.Blocks.{entry_is_block}
+use Rattle.page_ranges.proofs.WholeGranules.{mod_one, rounded_one}
 use Rattle.placement_certificate.specs.declared.certificates.Request.{Request}
 use Rattle.placement_certificate.specs.Placement.{IsProperRequest, IsPermittedStart, IsAvailable, price}
 use Rattle.placement_certificate.specs.Certificates.{IsTrueLeast}
 use Rattle.placement_certificate.specs.Laws.{EndsEntry, adds, saves}
 use Rattle.placement_certificate.specs.Search.{better, IsTried, IsOnPage, PermitsUpTo, IsAvailableBlock}
-use Rattle.placement_certificate.proofs.BlockStarts.{few_in_map, inside_block, none_fits}
+use Rattle.placement_certificate.proofs.BlockStarts.{few_in_map, inside_block}
 use Rattle.placement_certificate.proofs.Edges.{adds-none, adds-none_above, adds-one, saves-none, good_not_conventional, below_is_like, like_conventional}
-use Rattle.placement_certificate.proofs.FoundStarts.{least_found}
-use Rattle.placement_certificate.proofs.FreeStretches.{entry_free, permits_up_to}
+use Rattle.placement_certificate.proofs.FoundStarts.{IsTop, tried_if, least_found}
+use Rattle.placement_certificate.proofs.FreeStretches.{entry_free, permits_up_to, none_fits}
 use Rattle.placement_certificate.proofs.Places.{edges}
 use Rattle.placement_certificate.proofs.Prices.{price_is}
 use Rattle.placement_certificate.proofs.Tries.{better_cases}
 
-tried_if : (m : List Page) (r : Request) (e : Descriptor) (l : Option (ℕ × ℕ)) (q : ℕ) → (IsIn e q → IsPermittedStart m r q → IsTried m r e l q) → IsTried m r e l q
-tried_if m r e None q t = λ i h. t i h i h
-tried_if m r e (Some (count, top)) q t = λ i h. t i h i h
-
-module _ (m : List Page) (r : Request) (e : Descriptor) (n : ℕ) (proper : IsProperMemory m) (good : IsProperRequest r) (entries : n ≡ length (memory_map m)) (entry : Contains (memory_map m) e) (free : IsAvailableBlock e) (behind : ¬ IsAvailable (page_at m (e.first + e.pages))) where
+module _ (m : List Page) (r : Request) (e : Descriptor) (n : ℕ) (one : r.granule ≡ 1) (proper : IsProperMemory m) (good : IsProperRequest r) (entries : n ≡ length (memory_map m)) (entry : Contains (memory_map m) e) (free : IsAvailableBlock e) (behind : ¬ IsAvailable (page_at m (e.first + e.pages))) where
   abbrev end : ℕ
   end = e.first + e.pages
 
@@ -41,11 +39,18 @@ module _ (m : List Page) (r : Request) (e : Descriptor) (n : ℕ) (proper : IsPr
   pub few : n ≤ page_count
   few = omega (arith, entries, few_in_map m proper)
 
+  -- each page may be a start
+  whole : (p : ℕ) → p % r.granule ≡ 0
+  whole p = rw one (mod_one p)
+
+  first_whole : rounded e.first r.granule ≡ e.first
+  first_whole = rw one (rounded_one e.first)
+
   pub permits : PermitsUpTo m r e (min end r.limit)
   permits = permits_up_to m r e end (min end r.limit) (record { within = omega arith; stretch = record { all = entry_free m e proper entry free; stops = behind } }) refl
 
   pub none_fit : (e.first + r.pages ≤ min end r.limit → ⊥) → IsTrueLeast m r e None
-  none_fit out = none_fits m r e (min end r.limit) proper good entry permits out
+  none_fit out = none_fits m r e (min end r.limit) good permits (subst (λ k. k + r.pages ≤ min end r.limit → ⊥) (sym first_whole) out)
 
   -- blocks with the pages at the entry's edges
   pub first_on : IsOnPage (Some e) (page_at m e.first)
@@ -55,7 +60,7 @@ module _ (m : List Page) (r : Request) (e : Descriptor) (n : ℕ) (proper : IsPr
   last_on = let some = block.some in below_is_like m e end block (omega arith) (omega arith)
 
   permitted : (p : ℕ) → IsIn e p → p + r.pages ≤ min end r.limit → IsPermittedStart m r p
-  permitted p i by = (permits p i).1 by
+  permitted p i by = (permits p i).1 (whole p, by)
 
   other : r.mtype ≢ conventional
   other = good_not_conventional r.mtype good.good
@@ -113,9 +118,15 @@ module _ (m : List Page) (r : Request) (e : Descriptor) (n : ℕ) (proper : IsPr
   best_of_two : (h count top : ℕ) → h ≡ min (e.first + (e.pages - 1)) (min end r.limit - r.pages) → IsIn e top → top + r.pages ≤ min end r.limit → price m r top ≡ count → IsTried m r e (Some (count, top)) e.first → IsTried m r e (Some (count, top)) h → IsTrueLeast m r e (Some (count, top))
   best_of_two h count top at i by paid first highest =
       let some = good.some in
-      least_found m r e (Some (count, top)) (min end r.limit) h proper good entry permits at (i, permitted top i by, paid) first highest
+      let here : IsIn e h = record { low = omega (arith, at, i.low, i.high, by); high = omega (arith, at, i.low, i.high) } in
+      let is : IsTop m r e h = record {
+        in_entry = here;
+        permitted = permitted h here (omega (arith, at, by));
+        highest = λ q j permitted_q. omega (arith, at, j.high, ((permits q j).0 permitted_q).1);
+      } in
+      least_found m r e (Some (count, top)) h proper good entry is (i, permitted top i by, paid) first highest
       (λ q ends. tried_if m r e (Some (count, top)) q (λ j permitted_q.
-      let by_q = (permits q j).0 permitted_q in
+      let by_q = ((permits q j).0 permitted_q).1 in
       elim (cases_lt (q + r.pages) end) [
         | inl l ↦ absurd (inside_none (q + r.pages) (omega (arith, j.low)) l ends)
         | inr g ↦ subst (IsTried m r e (Some (count, top))) (omega arith) highest

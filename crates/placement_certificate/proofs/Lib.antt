@@ -11,6 +11,7 @@ pub mod Decided
 pub mod Machines
 pub mod Samples
 pub mod Accepted
+pub mod Granules
 pub mod FoundStarts
 pub mod BlockStarts
 pub mod FreeStretches

@@ -80,6 +80,7 @@ ordinary_look (Some x) (Some y) l c = ap is_specific_purpose (sym l.1) ∙ c
 
 pub permitted_too : (m n : List Page) → IsAscending m → IsAscending n → memory_map m ≡ memory_map n → (r : Request) (p : ℕ) → IsPermittedStart m r p → IsPermittedStart n r p
 permitted_too m n a c e r p h = record {
+  whole = h.whole;
   within = h.within;
   conventional = λ k l u. conventional_look (page_at m k) (page_at n k) (look_alike m n a c e k) (h.conventional k l u);
   ordinary = λ k l u. ordinary_look (page_at m k) (page_at n k) (look_alike m n a c e k) (h.ordinary k l u);

@@ -1,5 +1,5 @@
 -- Where the best start stands in its entry.
-use Rattle.std.proofs.Common.{◌≡◌, ◌⊎◌, ◌↔◌, ℕ, zero, suc, ◌+◌, ◌-◌, ◌<◌, ◌≤◌, true, false, List, length, Contains, Option, Some, None, inl, inr, true≢false, refl, sym, ◌∙◌, arith}
+use Rattle.std.proofs.Common.{◌≡◌, ◌⊎◌, ◌↔◌, ℕ, zero, suc, ◌+◌, ◌-◌, ◌%◌, ◌<◌, ◌≤◌, true, false, List, length, Contains, Option, Some, None, inl, inr, true≢false, refl, sym, ◌∙◌, arith}
 use Rattle.std.proofs.lemmas.Bool.{cases_lt}
 use Rattle.page_ranges.specs.declared.ranges.Descriptor.{Descriptor}
 use Rattle.page_ranges.specs.declared.ranges.Owner.TheVariants.{Pages}
@@ -7,6 +7,7 @@ use Rattle.page_ranges.specs.MemoryTypes.{page_count, conventional, is_specific_
 use Rattle.page_ranges.specs.Memory.{Page, page_at, page_below, IsProperMemory, IsConventional}
 use Rattle.page_ranges.specs.MemoryMap.{memory_map, IsLike, IsIn, IsMaximalBlock}
 use Rattle.page_ranges.proofs.Blocks.{entry_is_block, entry_of_page, entry_end}
+use Rattle.page_ranges.proofs.WholeGranules.{mod_one}
 use Rattle.placement_certificate.specs.declared.certificates.Request.{Request}
 use Rattle.placement_certificate.specs.Placement.{IsProperRequest, IsPermittedStart, price, IsBestIn}
 use Rattle.placement_certificate.specs.Certificates.{IsTrueLeast}
@@ -16,18 +17,19 @@ use Rattle.placement_certificate.proofs.Prices.{price_is}
 
 -- ---- stretches
 
-permitted_in_stretch : (m : List Page) (r : Request) (first stop p : ℕ) → IsStretch m first stop → first ≤ p → p < stop → IsPermittedStart m r p → (p + r.pages ≤ r.limit) × (p + r.pages ≤ stop)
+permitted_in_stretch : (m : List Page) (r : Request) (first stop p : ℕ) → IsStretch m first stop → first ≤ p → p < stop → IsPermittedStart m r p → (p % r.granule ≡ 0) × (p + r.pages ≤ r.limit) × (p + r.pages ≤ stop)
 permitted_in_stretch m r first stop p is low high h =
-    (h.within, elim (cases_lt stop (p + r.pages)) [ inl l ↦ absurd (is.stops (h.conventional stop (omega arith) l, h.ordinary stop (omega arith) l)) | inr g ↦ g ])
+    (h.whole, h.within, elim (cases_lt stop (p + r.pages)) [ inl l ↦ absurd (is.stops (h.conventional stop (omega arith) l, h.ordinary stop (omega arith) l)) | inr g ↦ g ])
 
-stretch_permits : (m : List Page) (r : Request) (first stop p : ℕ) → IsStretch m first stop → first ≤ p → (p + r.pages ≤ r.limit) × (p + r.pages ≤ stop) → IsPermittedStart m r p
+stretch_permits : (m : List Page) (r : Request) (first stop p : ℕ) → IsStretch m first stop → first ≤ p → (p % r.granule ≡ 0) × (p + r.pages ≤ r.limit) × (p + r.pages ≤ stop) → IsPermittedStart m r p
 stretch_permits m r first stop p is low h = record {
-  within = h.0;
-  conventional = λ k l u. (is.all k (omega arith) (omega (arith, h.1))).0;
-  ordinary = λ k l u. (is.all k (omega arith) (omega (arith, h.1))).1;
+  whole = h.0;
+  within = h.1;
+  conventional = λ k l u. (is.all k (omega arith) (omega (arith, h.2))).0;
+  ordinary = λ k l u. (is.all k (omega arith) (omega (arith, h.2))).1;
 }
 
-pub stretch : (m : List Page) (r : Request) (first stop p : ℕ) → IsStretch m first stop → first ≤ p → p < stop → IsPermittedStart m r p ↔ ((p + r.pages ≤ r.limit) × (p + r.pages ≤ stop))
+pub stretch : (m : List Page) (r : Request) (first stop p : ℕ) → IsStretch m first stop → first ≤ p → p < stop → IsPermittedStart m r p ↔ ((p % r.granule ≡ 0) × (p + r.pages ≤ r.limit) × (p + r.pages ≤ stop))
 stretch m r first stop p is low high = (permitted_in_stretch m r first stop p is low high, stretch_permits m r first stop p is low)
 
 -- ---- a permitted start
@@ -75,8 +77,10 @@ module _ (m : List Page) (r : Request) (e : Descriptor) (p : ℕ) (proper : IsPr
   ordinary_entry : is_specific_purpose e.attributes ≡ false
   ordinary_entry = let some = good.some in block_ordinary e (page_at m p) (is_block.all p in_entry) (permitted.ordinary p (omega arith) (omega arith))
 
-  pub first_permitted : IsPermittedStart m r e.first
-  first_permitted = record {
+  -- with a granule of 1 the first page is permitted too
+  pub first_permitted : r.granule ≡ 1 → IsPermittedStart m r e.first
+  first_permitted one = record {
+    whole = rw one (mod_one e.first);
     within = omega (arith, permitted.within, in_entry.low);
     conventional = λ k l h. elim (cases_lt k p) [
       | inl b ↦ like_conventional e (page_at m k) (is_block.all k (record { low = l; high = omega (arith, in_entry.high) })) free_entry
@@ -88,11 +92,11 @@ module _ (m : List Page) (r : Request) (e : Descriptor) (p : ℕ) (proper : IsPr
     ];
   }
 
-  pub first_price : price m r e.first ≤ length (memory_map m) + 1
-  first_price =
+  pub first_price : r.granule ≡ 1 → price m r e.first ≤ length (memory_map m) + 1
+  first_price one =
       let some = is_block.some in
       let low = adds-none e (page_below m e.first) (page_at m e.first) is_block.none_below (is_block.all e.first (record { low = omega arith; high = omega arith })) in
-      omega (arith, price_is m r Pages e.first proper good first_permitted, low, adds-most (page_below m (e.first + r.pages)) (page_at m (e.first + r.pages)))
+      omega (arith, price_is m r Pages e.first proper good (first_permitted one), low, adds-most (page_below m (e.first + r.pages)) (page_at m (e.first + r.pages)))
 
   -- a start whose two edges are inside entries
   inner_price : (c : Descriptor) → IsMaximalBlock m c → e.first < p → IsIn c (p + r.pages - 1) → p + r.pages < c.first + c.pages → price m r p ≡ length (memory_map m) + 2
@@ -135,16 +139,26 @@ best_place m r e p proper good entry best = elim (edges m r e p proper good entr
 ]
 
 -- the first page is cheaper than a start whose two edges are inside entries
-pub best_first_or_end : (m : List Page) (r : Request) (e : Descriptor) (p : ℕ) → IsProperMemory m → IsProperRequest r → Contains (memory_map m) e → IsBestIn m r e p → (p ≡ e.first) ⊎ EndsEntry m (p + r.pages)
-best_first_or_end m r e p proper good entry best = elim (edges m r e p proper good entry best.in_entry best.permitted) [
+pub best_first_or_end : (m : List Page) (r : Request) (e : Descriptor) (p : ℕ) → r.granule ≡ 1 → IsProperMemory m → IsProperRequest r → Contains (memory_map m) e → IsBestIn m r e p → (p ≡ e.first) ⊎ EndsEntry m (p + r.pages)
+best_first_or_end m r e p one proper good entry best = elim (edges m r e p proper good entry best.in_entry best.permitted) [
   | inl a ↦ inl a
   | inr (inl b) ↦ inr b
   | inr (inr c) ↦
       let some = (entry_is_block m proper.ascending e entry).some in
-      let first = first_permitted m r e p proper good entry best.in_entry best.permitted in
-      let cheap = first_price m r e p proper good entry best.in_entry best.permitted in
+      let first = first_permitted m r e p proper good entry best.in_entry best.permitted one in
+      let cheap = first_price m r e p proper good entry best.in_entry best.permitted one in
       absurd (omega (arith, c, cheap, best.lowest e.first (record { low = omega arith; high = omega arith }) first))
 ]
+
+-- the price of the best start, at most
+pub best_price : (m : List Page) (r : Request) (e : Descriptor) (p : ℕ) → IsProperMemory m → IsProperRequest r → Contains (memory_map m) e → IsBestIn m r e p → (price m r p ≤ length (memory_map m) + 2) × (r.granule ≡ 1 → price m r p ≤ length (memory_map m) + 1)
+best_price m r e p proper good entry best = (
+  price_most m r p proper good best.permitted,
+  λ one.
+      let some = (entry_is_block m proper.ascending e entry).some in
+      let first = first_permitted m r e p proper good entry best.in_entry best.permitted one in
+      omega (arith, first_price m r e p proper good entry best.in_entry best.permitted one, best.lowest e.first (record { low = omega arith; high = omega arith }) first),
+)
 
 module _ (m : List Page) (r : Request) (e : Descriptor) (p : ℕ) (proper : IsProperMemory m) (good : IsProperRequest r) (entry : Contains (memory_map m) e) (in_entry : IsIn e p) (permitted : IsPermittedStart m r p)
     (tried : (q : ℕ) → IsIn e q → IsPermittedStart m r q → IsPlace m r e q → (price m r p ≤ price m r q) × (price m r q ≡ price m r p → q ≤ p)) where

@@ -1,5 +1,5 @@
 -- The definitions on small machines, by computing.
-use Rattle.std.proofs.Common.{◌≡◌, ◌≢◌, ℕ, ◌^◌, List, [], ◌∷◌, length, Option, Some, None, refl, ap, arith}
+use Rattle.std.proofs.Common.{◌≡◌, ◌≢◌, ℕ, zero, suc, ◌^◌, List, [], ◌∷◌, length, Option, Some, None, inl, inr, refl, ap, arith}
 use Rattle.page_ranges.specs.declared.ranges.Run.{Run}
 use Rattle.page_ranges.specs.Memory.{Page, IsProperMemory, row}
 use Rattle.page_ranges.specs.Runs.{pages_of}
@@ -12,7 +12,7 @@ use Rattle.placement_certificate.proofs.OneCertificate.{one_certificate}
 use Rattle.placement_certificate.proofs.Decided.{certificate_of, certificate_true, no_certificate}
 
 abbrev request : ℕ → ℕ → ℕ → Request
-request t pages limit = record { mtype = t; pages = pages; limit = limit }
+request t pages limit = record { mtype = t; pages = pages; limit = limit; granule = 1 }
 
 abbrev bound : ℕ → ℕ → ℕ → ℕ → Bound
 bound first pages count top = record { first = first; pages = pages; least = Some (count, top) }
@@ -36,7 +36,7 @@ unfolding machine_b
 proper = proper_b
 
 proper_twelve : IsProperRequest twelve
-proper_twelve = record { some = omega arith; good = refl }
+proper_twelve = record { some = omega arith; good = refl; granule = inl refl; typed = refl; filled = omega arith }
 
 price_at_0 : price machine_b twelve 0 ≡ 3
 unfolding machine_b row
@@ -90,7 +90,7 @@ lower_start = not_true _ (λ e. let f : 0 ≡ 4 = ap (λ (c : CertificateValue).
 -- seventeen pages are not there
 none_for_17 : (p : ℕ) → ¬ IsPermittedStart machine_b (request 2 17 (2 ^ 52)) p
 unfolding machine_b row
-none_for_17 = no_certificate machine_b (request 2 17 (2 ^ 52)) proper (record { some = omega arith; good = refl }) refl
+none_for_17 = no_certificate machine_b (request 2 17 (2 ^ 52)) proper (record { some = omega arith; good = refl; granule = inl refl; typed = refl; filled = omega arith }) refl
 
 -- ---- pages that join a neighbor
 
@@ -130,3 +130,30 @@ limited = refl
 first_page : certificate_of (pages_of machine_c) (request 4 2 7) ≡ Some (certificate (bound 0 8 4 0 ∷ empty_bound 12 8 ∷ []) 0)
 unfolding row
 first_page = refl
+
+-- ---- granules of sixteen pages
+
+abbrev in_granules : ℕ → ℕ → Request
+in_granules t pages = record { mtype = t; pages = pages; limit = 2 ^ 52; granule = 16 }
+
+proper_in_granules : IsProperRequest (in_granules 6 16)
+proper_in_granules = record { some = omega arith; good = refl; granule = inr refl; typed = refl; filled = omega arith }
+
+-- data of boot services does not stand in granules
+not_typed : ¬ IsProperRequest (in_granules 4 16)
+not_typed h = let f : suc zero ≡ 16 = h.typed in omega arith
+
+-- both ends of the one start lie inside the entry, so the best price is the map's length plus 2
+longer_by_2 : certificate_of (pages_of (run 8 39 7 0xf ∷ [])) (in_granules 6 16) ≡ Some (certificate (bound 8 39 3 16 ∷ []) 16)
+unfolding row
+longer_by_2 = refl
+
+-- with a page more a start ends with the entry
+ends_with_entry : certificate_of (pages_of (run 8 40 7 0xf ∷ [])) (in_granules 6 16) ≡ Some (certificate (bound 8 40 2 32 ∷ []) 32)
+unfolding row
+ends_with_entry = refl
+
+-- the only multiple in the second entry has no room there, and the third one goes on from the second
+across_entries : certificate_of (pages_of (run 0 4 4 0xf ∷ run 14 10 7 0xf ∷ run 24 8 7 0x7 ∷ [])) (in_granules 0 16) ≡ Some (certificate (bound 14 10 4 16 ∷ empty_bound 24 8 ∷ []) 16)
+unfolding row
+across_entries = refl

@@ -1,5 +1,5 @@
 -- The laws that the search for the best start rests on.
-use Rattle.std.specs.Prelude.{◌≡◌, ◌⊎◌, ◌↔◌, ℕ, ◌+◌, ◌<◌, ◌≤◌, Bool, true, false, not, ◌&&◌, ◌==◌, List, length, count_by, Contains, Option, Some, None, if◌then◌else◌}
+use Rattle.std.specs.Prelude.{◌≡◌, ◌⊎◌, ◌↔◌, ℕ, ◌+◌, ◌%◌, ◌<◌, ◌≤◌, Bool, true, false, not, ◌&&◌, ◌==◌, List, length, count_by, Contains, Option, Some, None, if◌then◌else◌}
 use Rattle.std.specs.List.{AllZip, AllByRecursion}
 use Rattle.page_ranges.specs.declared.ranges.Descriptor.{Descriptor}
 use Rattle.page_ranges.specs.MemoryTypes.{attributes_as}
@@ -43,9 +43,10 @@ PriceLaw = (m : List Page) (r : Request) (p : ℕ) → IsProperMemory m → IsPr
     price m r p + (saves r.mtype (page_below m p) (page_at m p) + saves r.mtype (page_at m end) (page_below m end))
     ≡ length (memory_map m) + (adds (page_below m p) (page_at m p) + adds (page_below m end) (page_at m end))
 
--- An entry that holds a permitted start may also be placed in from its first page on, and that makes the map longer by 1 at most.
+-- With a granule of 1, an entry that holds a permitted start may also be placed in from its first page on, and that makes
+-- the map longer by 1 at most.
 abbrev pub FirstPageLaw : Type 0
-FirstPageLaw = (m : List Page) (r : Request) (e : Descriptor) (p : ℕ) → IsProperMemory m → IsProperRequest r → Contains (memory_map m) e → IsIn e p → IsPermittedStart m r p →
+FirstPageLaw = (m : List Page) (r : Request) (e : Descriptor) (p : ℕ) → r.granule ≡ 1 → IsProperMemory m → IsProperRequest r → Contains (memory_map m) e → IsIn e p → IsPermittedStart m r p →
     IsPermittedStart m r e.first × (price m r e.first ≤ length (memory_map m) + 1)
 
 -- The pages from first on are available up to stop, and the page at stop is not.
@@ -53,9 +54,10 @@ pub record IsStretch (m : List Page) (first stop : ℕ) : Type 0 where
   pub all : (k : ℕ) → first ≤ k → k < stop → IsAvailable (page_at m k)
   pub stops : ¬ IsAvailable (page_at m stop)
 
--- In a stretch a start is permitted just where its pages end by the stretch's end and by the limit.
+-- In a stretch a start is permitted just where it is a multiple of the granule and its pages end by the stretch's end and
+-- by the limit.
 abbrev pub StretchLaw : Type 0
-StretchLaw = (m : List Page) (r : Request) (first stop p : ℕ) → IsStretch m first stop → first ≤ p → p < stop → IsPermittedStart m r p ↔ ((p + r.pages ≤ r.limit) × (p + r.pages ≤ stop))
+StretchLaw = (m : List Page) (r : Request) (first stop p : ℕ) → IsStretch m first stop → first ≤ p → p < stop → IsPermittedStart m r p ↔ ((p % r.granule ≡ 0) × (p + r.pages ≤ r.limit) × (p + r.pages ≤ stop))
 
 -- some entry ends at the number
 abbrev pub EndsEntry : List Page → ℕ → Type 0
@@ -78,9 +80,15 @@ IsPlace m r e p = (p ≡ e.first) ⊎ EndsEntry m (p + r.pages) ⊎ IsHighestIn 
 abbrev pub BlockEndsLaw : Type 0
 BlockEndsLaw = (m : List Page) (r : Request) (e : Descriptor) (p : ℕ) → IsProperMemory m → IsProperRequest r → Contains (memory_map m) e → IsBestIn m r e p → IsPlace m r e p
 
--- It is the entry's first page, or ends where an entry ends, since the first page is permitted where any start in the entry is.
+-- With a granule of 1 it is the entry's first page, or ends where an entry ends, since the first page is permitted where any
+-- start in the entry is.
 abbrev pub FirstOrEndLaw : Type 0
-FirstOrEndLaw = (m : List Page) (r : Request) (e : Descriptor) (p : ℕ) → IsProperMemory m → IsProperRequest r → Contains (memory_map m) e → IsBestIn m r e p → (p ≡ e.first) ⊎ EndsEntry m (p + r.pages)
+FirstOrEndLaw = (m : List Page) (r : Request) (e : Descriptor) (p : ℕ) → r.granule ≡ 1 → IsProperMemory m → IsProperRequest r → Contains (memory_map m) e → IsBestIn m r e p → (p ≡ e.first) ⊎ EndsEntry m (p + r.pages)
+
+-- The best start in an entry makes the map longer by 2 at most, and with a granule of 1 by 1 at most.
+abbrev pub BestPriceLaw : Type 0
+BestPriceLaw = (m : List Page) (r : Request) (e : Descriptor) (p : ℕ) → IsProperMemory m → IsProperRequest r → Contains (memory_map m) e → IsBestIn m r e p →
+    (price m r p ≤ length (memory_map m) + 2) × (r.granule ≡ 1 → price m r p ≤ length (memory_map m) + 1)
 
 -- A permitted start in an entry is the best there if no permitted start at one of these places is better.
 abbrev pub CandidatesLaw : Type 0

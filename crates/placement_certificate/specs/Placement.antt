@@ -1,18 +1,23 @@
 -- Where a request may stand, what the memory is then, and which start is best.
-use Rattle.std.specs.Prelude.{◌≡◌, ℕ, ◌+◌, ◌<◌, ◌≤◌, false, List, length, Option, Some, None}
+use Rattle.std.specs.Prelude.{◌≡◌, ℕ, ◌+◌, ◌%◌, ◌<◌, ◌≤◌, false, List, length, Option, Some, None}
 use Rattle.page_ranges.specs.declared.ranges.Descriptor.{Descriptor}
 use Rattle.page_ranges.specs.declared.ranges.Owner.{Owner}
 use Rattle.page_ranges.specs.declared.ranges.Owner.TheVariants.{Pages}
 use Rattle.page_ranges.specs.declared.ranges.PageRange.{PageRange}
 use Rattle.page_ranges.specs.MemoryTypes.{is_bad_type, is_specific_purpose}
+use Rattle.page_ranges.specs.Granules.{IsGranule, granule_for}
 use Rattle.page_ranges.specs.Memory.{Page, IsConventional, AllInRange, retyped}
 use Rattle.page_ranges.specs.MemoryMap.{memory_map, IsIn}
 use Rattle.placement_certificate.specs.declared.certificates.Request.{Request}
 
--- The request is for at least one page, of a type that requests may name.
+-- The request is for at least one page, of a type that requests may name. Its granule is one that the type has on some
+-- machine, and its pages fill whole granules.
 pub record IsProperRequest (r : Request) : Type 0 where
   pub some : 0 < r.pages
   pub good : is_bad_type r.mtype ≡ false
+  pub granule : IsGranule r.granule
+  pub typed : granule_for r.mtype r.granule ≡ r.granule
+  pub filled : r.pages % r.granule ≡ 0
 
 -- the pages of a request that stands at a start
 abbrev pub range_at : Request → ℕ → PageRange
@@ -23,9 +28,10 @@ abbrev pub IsOrdinary : Option Page → Type 0
 IsOrdinary None = ⊥
 IsOrdinary (Some x) = is_specific_purpose x.attributes ≡ false
 
--- A permitted start: the pages from there on end by the limit, and all of them are conventional and of no specific
--- purpose. All that is said of permission is said here.
+-- A permitted start: it is a multiple of the granule, the pages from there on end by the limit, and all of them are
+-- conventional and of no specific purpose. All that is said of permission is said here.
 pub record IsPermittedStart (m : List Page) (r : Request) (p : ℕ) : Type 0 where
+  pub whole : p % r.granule ≡ 0
   pub within : p + r.pages ≤ r.limit
   pub conventional : AllInRange m (range_at r p) IsConventional
   pub ordinary : AllInRange m (range_at r p) IsOrdinary

@@ -1,8 +1,9 @@
 -- Words for the contracts of searches.
-use Rattle.std.specs.Prelude.{◌≡◌, ◌↔◌, ℕ, ◌+◌, ◌≤◌, false, ◌&&◌, ◌||◌, ◌==◌, nat_lt, List, Option, Some, None, if◌then◌else◌, length, Contains}
+use Rattle.std.specs.Prelude.{◌≡◌, ◌↔◌, ℕ, ◌+◌, ◌-◌, ◌%◌, ◌≤◌, false, ◌&&◌, ◌||◌, ◌==◌, nat_lt, List, Option, Some, None, if◌then◌else◌, length, Contains}
 use Rattle.std.specs.List.{AllByRecursion}
 use Rattle.page_ranges.specs.declared.ranges.Descriptor.{Descriptor}
 use Rattle.page_ranges.specs.MemoryTypes.{conventional, is_specific_purpose}
+use Rattle.page_ranges.specs.Granules.{rounded}
 use Rattle.page_ranges.specs.Memory.{Page, page_below, IsProperMemory}
 use Rattle.page_ranges.specs.MemoryMap.{memory_map, IsLike, IsIn, should_be_one}
 use Rattle.page_ranges.specs.Cursors.{IsBlockAt}
@@ -44,9 +45,13 @@ pub record IsStop (m : List Page) (e : Descriptor) (stop : ℕ) : Type 0 where
   pub within : e.first + e.pages ≤ stop
   pub stretch : IsStretch m e.first stop
 
--- a start in the entry is permitted just where its pages end by a page number
+-- the highest multiple of a granule that is at most a number
+abbrev pub multiple_to : ℕ → ℕ → ℕ
+multiple_to number granule = number - number % granule
+
+-- a start in the entry is permitted just where it is a multiple of the granule and its pages end by a page number
 abbrev pub PermitsUpTo : List Page → Request → Descriptor → ℕ → Type 0
-PermitsUpTo m r e end = (q : ℕ) → IsIn e q → IsPermittedStart m r q ↔ (q + r.pages ≤ end)
+PermitsUpTo m r e end = (q : ℕ) → IsIn e q → IsPermittedStart m r q ↔ ((q % r.granule ≡ 0) × (q + r.pages ≤ end))
 
 -- a page has the type and attributes of a block, or is absent where there is none
 abbrev pub IsOnPage : Option Descriptor → Option Page → Type 0
@@ -54,12 +59,14 @@ IsOnPage None o = o ≡ None
 IsOnPage (Some e) o = IsLike e o
 
 -- What a search knows of the starts in an entry: a conventional one of the map of a proper memory, with how many entries
--- there are, up to where starts are permitted, and what the page below it and one other page are.
+-- there are, the first multiple of the granule from the entry's first page on, up to where starts are permitted, and what
+-- the page below it and one other page are.
 pub record AreStartsIn (m : List Page) (s : EntryStarts) : Type 0 where
   pub proper : IsProperMemory m
   pub good : IsProperRequest s.request
   pub entry : Contains (memory_map m) s.entry
   pub entries : s.entries ≡ length (memory_map m)
+  pub lowest : s.lowest ≡ rounded s.entry.first s.request.granule
   pub end_by : PermitsUpTo m s.request s.entry s.end_by
   pub below : IsOnPage s.below (page_below m s.entry.first)
   pub known : IsBlockAt m s.known_page s.known_block

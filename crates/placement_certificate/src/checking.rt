@@ -1,6 +1,7 @@
 //! The check of a certificate, from nothing but a list of entries and a request.
-ghost use Rattle.std.specs.Prelude.{◌≡◌, ◌↔◌, ℕ, Some, IsTrue, slice_get};
+ghost use Rattle.std.specs.Prelude.{◌≡◌, ◌↔◌, ℕ, ◌%◌, Some, IsTrue, slice_get};
 ghost use Rattle.std.specs.List.{AllZip};
+ghost use Rattle.page_ranges.specs.Granules.{IsGranule, granule_for};
 ghost use Rattle.page_ranges.specs.MemoryMap.{IsMap, memory_of};
 ghost use Rattle.placement_certificate.specs.Placement.{IsProperRequest};
 ghost use Rattle.placement_certificate.specs.Certificates.{IsTrueBound, conventional_entries};
@@ -12,11 +13,12 @@ use crate::certificates::{Bound, Certificate, Request};
 use crate::cursors::MapCursor;
 use crate::entries::{is_map, item_at};
 use crate::search::EntrySearch;
-use page_ranges::{Descriptor, MemoryType, type_for_alloc};
+use page_ranges::{Descriptor, MemoryType, granule_for, type_for_alloc};
 use std::alloc::Allocator;
 
 /// Whether a list of entries is a map, a request is for some pages of a type that requests may
-/// name, and a certificate is true for both. It takes no memory.
+/// name, in whole granules, and a certificate is true for both. The request's granule is 1 or 16, and 16
+/// only with a type that stands in granules. It takes no memory.
 pub fn check<A: Allocator>(
     map: &[Descriptor],
     request: &Request,
@@ -31,11 +33,22 @@ pub fn check<A: Allocator>(
     are_true_bounds(map, request, bounds) && is_best(bounds, certificate.answer)
 }
 
-// Whether a request is for some pages of a type that requests may name.
+// Whether a request is for some pages of a type that requests may name, and for whole granules.
 fn is_proper(request: &Request) -> bool
     ensures { IsTrue result ↔ IsProperRequest request.now }
 {
-    request.pages > 0 && type_for_alloc(request.mtype.number()).is_ok()
+    request.pages > 0 && type_for_alloc(request.mtype.number()).is_ok() && fills_granules(request)
+}
+
+// Whether a request's granule is one that its type has on some machine, and its pages fill whole
+// granules.
+fn fills_granules(request: &Request) -> bool
+    ensures { IsTrue result ↔ (IsGranule request.now.granule × (granule_for request.now.mtype request.now.granule ≡ request.now.granule) × (request.now.pages % request.now.granule ≡ 0)) }
+{
+    let granule = request.granule;
+    (granule == 1 || granule == 16)
+        && granule_for(request.mtype, granule) == granule
+        && request.pages % granule == 0
 }
 
 // Whether bounds are true, one for each conventional entry of a map, in their order.

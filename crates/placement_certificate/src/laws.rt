@@ -1,6 +1,6 @@
 //! The laws that the search for the best start rests on, each the contract of a function that does
 //! nothing.
-ghost use Rattle.placement_certificate.specs.Laws.{MapLengthLaw, InsideLaw, PriceLaw, FirstPageLaw, StretchLaw, EdgesLaw, BlockEndsLaw, FirstOrEndLaw, CandidatesLaw, OneCertificateLaw, MapDecidesLaw, BestBoundLaw};
+ghost use Rattle.placement_certificate.specs.Laws.{MapLengthLaw, InsideLaw, PriceLaw, FirstPageLaw, StretchLaw, EdgesLaw, BlockEndsLaw, FirstOrEndLaw, BestPriceLaw, CandidatesLaw, OneCertificateLaw, MapDecidesLaw, BestBoundLaw};
 ghost use Rattle.placement_certificate.specs.Acceptance.{AcceptedLaw, TrueIsAcceptedLaw};
 
 /// The memory map has one entry for each page with no equal page just below it.
@@ -18,7 +18,7 @@ pub fn price_law()
     ensures { PriceLaw }
 {}
 
-/// An entry's first page, where the entry has a permitted start.
+/// An entry's first page, where the entry has a permitted start and the granule is 1.
 pub fn first_page_law()
     ensures { FirstPageLaw }
 {}
@@ -38,9 +38,14 @@ pub fn block_ends_law()
     ensures { BlockEndsLaw }
 {}
 
-/// Where a best start stands in its entry, given that the entry's first page is permitted.
+/// Where a best start stands in its entry, where the granule is 1.
 pub fn first_or_end_law()
     ensures { FirstOrEndLaw }
+{}
+
+/// How much longer a best start makes the map at most.
+pub fn best_price_law()
+    ensures { BestPriceLaw }
 {}
 
 /// Which starts of an entry need to be tried.

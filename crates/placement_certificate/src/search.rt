@@ -10,6 +10,7 @@ ghost use Rattle.placement_certificate.specs.Search.{IsStop, IsOnPage, IsAvailab
 
 use crate::better::{PricedStart, better_of};
 use crate::certificates::Request;
+use crate::multiples::multiple_from;
 use crate::starts::{EntryStarts, edge_saves};
 use page_ranges::{Descriptor, MemoryType, PageCursor, is_specific_purpose};
 use std::marker::Model;
@@ -54,12 +55,12 @@ fn block_below<C: PageCursor>(cursor: &mut C, page: u64) -> Option<Descriptor>
     cursor.block_at(page - 1)
 }
 
-// Whether the pages of a request that stands at an entry's first page end by a page number.
+// Whether the pages of a request that stands at a page end by a page number.
 #[inline(always)]
-fn first_fits(request: &Request, entry: &Descriptor, end_by: u64) -> bool
-    ensures { IsTrue result ↔ (entry.now.first + request.now.pages ≤ end_by) }
+fn fits(request: &Request, start: u64, end_by: u64) -> bool
+    ensures { IsTrue result ↔ (start + request.now.pages ≤ end_by) }
 {
-    entry.first <= end_by && request.pages <= end_by - entry.first
+    start <= end_by && request.pages <= end_by - start
 }
 
 // Whether the page that a block holds is available.
@@ -152,15 +153,20 @@ impl<C: PageCursor + Drop> EntrySearch<C> {
         ensures stays { self.new ≡ self.old }
         ensures least { IsTrueLeast self.old request.now entry.now result }
     {
+        let lowest = multiple_from(entry.first, request.granule);
+        if lowest - entry.first >= entry.pages {
+            return None;
+        }
         let (stop, known_page, known_block) = self.stop_of(entry);
         let end_by = stop.min(request.limit);
-        if !first_fits(request, entry, end_by) {
+        if !fits(request, lowest, end_by) {
             return None;
         }
         let starts = EntryStarts {
             request: *request,
             entry: *entry,
             entries,
+            lowest,
             end_by,
             below,
             known_page,
@@ -171,8 +177,8 @@ impl<C: PageCursor + Drop> EntrySearch<C> {
 
     /// The best start of a request in a conventional entry, with its price, given how many entries the
     /// map has, and blocks with the page just below the entry and the page just behind it.
-    /// Where the latter is not free, nothing is looked up. In an entry of specific purpose there is no
-    /// start. Entries may be asked for in any order.
+    /// Where the latter is not free and the granule is 1, nothing is looked up. In an entry of specific
+    /// purpose there is no start. Entries may be asked for in any order.
     #[inline(always)]
     pub fn least_beside(
         &mut self,
@@ -195,11 +201,11 @@ impl<C: PageCursor + Drop> EntrySearch<C> {
         if is_specific_purpose(entry.attributes) {
             return None;
         }
-        if is_available_at(&above) {
+        if request.granule != 1 || is_available_at(&above) {
             return self.least_in_stretch(request, entries, entry, below);
         }
         let end = entry.first + entry.pages;
-        if !first_fits(request, entry, end.min(request.limit)) {
+        if !fits(request, entry.first, end.min(request.limit)) {
             return None;
         }
         let free = Some(*entry);

@@ -3,13 +3,14 @@ ghost use Rattle.std.specs.Prelude.{◌≡◌, ℕ, ◌+◌, ◌-◌, ◌<◌, �
 ghost use Rattle.page_ranges.specs.Memory.{Page, page_below};
 ghost use Rattle.page_ranges.specs.MemoryMap.{IsIn};
 ghost use Rattle.page_ranges.specs.Cursors.{IsBlock, IsBlockAt};
-ghost use Rattle.placement_certificate.specs.Placement.{price};
+ghost use Rattle.placement_certificate.specs.Placement.{IsPermittedStart, price};
 ghost use Rattle.placement_certificate.specs.Certificates.{IsTrueLeast};
 ghost use Rattle.placement_certificate.specs.Laws.{adds, saves};
 ghost use Rattle.placement_certificate.specs.Search.{AreStartsIn, IsFound, IsTried, IsOnPage};
 
 use crate::better::{PricedStart, better_of};
 use crate::certificates::Request;
+use crate::multiples::multiple_to;
 use page_ranges::{Descriptor, MemoryType, PageCursor};
 
 /// The starts of a request in a conventional entry of a map.
@@ -19,7 +20,10 @@ pub(crate) struct EntryStarts {
     pub(crate) entry: Descriptor,
     // How many entries the map has.
     pub(crate) entries: u64,
-    // A start in the entry is permitted just where its pages end by this page.
+    // The first multiple of the granule from the entry's first page on.
+    pub(crate) lowest: u64,
+    // A start in the entry is permitted just where it is a multiple of the granule and its pages end
+    // by this page.
     pub(crate) end_by: u64,
     // A block with the page just below the entry, `None` where that is absent.
     pub(crate) below: Option<Descriptor>,
@@ -69,7 +73,7 @@ impl EntryStarts {
         }
     }
 
-    // A block with the page at a place, which is in a block or just behind it.
+    // A block with the page at a place, which is in a block or behind it.
     #[inline(always)]
     fn block_above<C: PageCursor>(
         &self,
@@ -79,7 +83,7 @@ impl EntryStarts {
     ) -> Option<Descriptor>
         requires starts { AreStartsIn (C.memory cursor.old) self.now }
         requires block { IsBlock (C.memory cursor.old) block.now }
-        requires behind { IsIn block.now (page - 1) }
+        requires behind { block.now.first ≤ page }
         requires within { block.now.first + block.now.pages < 2 ^ 64 }
         ensures stays { C.memory cursor.new ≡ C.memory cursor.old }
         ensures above { IsBlockAt (C.memory cursor.old) page result }
@@ -98,7 +102,7 @@ impl EntryStarts {
     fn price_of<C: PageCursor>(&self, cursor: &mut C, start: u64, block: &Descriptor) -> u64
         requires starts { AreStartsIn (C.memory cursor.old) self.now }
         requires in_entry { IsIn self.now.entry start }
-        requires permitted { start + self.now.request.pages ≤ self.now.end_by }
+        requires permitted { IsPermittedStart (C.memory cursor.old) self.now.request start }
         requires block { IsBlock (C.memory cursor.old) block.now }
         requires last { IsIn block.now (start + self.now.request.pages - 1) }
         ensures stays { C.memory cursor.new ≡ C.memory cursor.old }
@@ -114,19 +118,21 @@ impl EntryStarts {
             - edge_saves(mtype, &above, &last)
     }
 
-    // A block with the last page of the start at the entry's first page.
+    // A block with the last page of the lowest start.
     #[inline(always)]
     fn first_block<C: PageCursor>(&self, cursor: &mut C) -> Option<Descriptor>
         requires starts { AreStartsIn (C.memory cursor.old) self.now }
-        requires fits { self.now.entry.first + self.now.request.pages ≤ self.now.end_by }
+        requires in_entry { IsIn self.now.entry self.now.lowest }
+        requires permitted { IsPermittedStart (C.memory cursor.old) self.now.request self.now.lowest }
         ensures stays { C.memory cursor.new ≡ C.memory cursor.old }
-        ensures block { IfSome result (λ b. IsBlock (C.memory cursor.old) b × IsIn b (self.now.entry.first + self.now.request.pages - 1)) }
+        ensures block { IfSome result (λ b. IsBlock (C.memory cursor.old) b × IsIn b (self.now.lowest + self.now.request.pages - 1)) }
         ensures some { result ≢ None }
     {
-        if self.request.pages <= self.entry.pages {
+        let last = self.lowest + (self.request.pages - 1);
+        if last < self.entry.first + self.entry.pages {
             Some(self.entry)
         } else {
-            cursor.block_at(self.entry.first + (self.request.pages - 1))
+            cursor.block_at(last)
         }
     }
 
@@ -141,7 +147,7 @@ impl EntryStarts {
     ) -> Option<PricedStart>
         requires starts { AreStartsIn (C.memory cursor.old) self.now }
         requires in_entry { IsIn self.now.entry start }
-        requires permitted { start + self.now.request.pages ≤ self.now.end_by }
+        requires permitted { IsPermittedStart (C.memory cursor.old) self.now.request start }
         requires block { IsBlock (C.memory cursor.old) block.now }
         requires last { IsIn block.now (start + self.now.request.pages - 1) }
         requires found { IsFound (C.memory cursor.old) self.now.request self.now.entry found }
@@ -154,29 +160,32 @@ impl EntryStarts {
         better_of(found, Some((count, start)))
     }
 
-    /// The best start, where the entry's first page is permitted. Tried are that page, and for each
-    /// block of pages the highest start with its last page there: so all starts that end where an entry
-    /// ends, and the highest of all.
+    /// The best start, where the lowest one is permitted. Tried are that one, and for each block of
+    /// pages the highest start with its last page there: so all starts that end where an entry ends, and
+    /// the highest of all.
     #[inline(always)]
     pub(crate) fn least<C: PageCursor>(&self, cursor: &mut C) -> Option<PricedStart>
         requires starts { AreStartsIn (C.memory cursor.old) self.now }
-        requires fits { self.now.entry.first + self.now.request.pages ≤ self.now.end_by }
+        requires in_entry { IsIn self.now.entry self.now.lowest }
+        requires permitted { IsPermittedStart (C.memory cursor.old) self.now.request self.now.lowest }
         ensures stays { C.memory cursor.new ≡ C.memory cursor.old }
         ensures least { IsTrueLeast (C.memory cursor.old) self.now.request self.now.entry result }
     {
         let pages = self.request.pages;
-        let highest = self.entry.first + (self.entry.pages - 1);
-        let mut start = self.entry.first;
+        let granule = self.request.granule;
+        let top = self.entry.first + (self.entry.pages - 1);
+        let highest = multiple_to(top.min(self.end_by - pages), granule);
+        let mut start = self.lowest;
         let mut block = self.first_block(cursor)?;
         let mut found = None;
         loop {
             found = self.try_start(cursor, found, start, &block);
-            let end = start + pages;
-            if start == highest || end == self.end_by {
+            if start == highest {
                 return found;
             }
-            block = self.block_above(cursor, &block, end)?;
-            start = highest.min(self.end_by.min(block.first + block.pages) - pages);
+            // The block with the last page of the next start.
+            block = self.block_above(cursor, &block, start + pages + (granule - 1))?;
+            start = highest.min(multiple_to(block.first + block.pages - pages, granule));
         }
     }
 }

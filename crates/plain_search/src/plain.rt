@@ -1,6 +1,6 @@
 //! A plain search for the best start, which tries every start and builds the changed memory for
 //! each: slow, and meant for tests of faster ones.
-ghost use Rattle.std.specs.Prelude.{◌≡◌, ℕ, ◌+◌, ◌-◌, ◌≤◌, ◌++◌, ◌↔◌, false, None, IsTrue, IfSome, IfOk, OnOk};
+ghost use Rattle.std.specs.Prelude.{◌≡◌, ℕ, ◌+◌, ◌-◌, ◌<◌, ◌≤◌, ◌++◌, ◌↔◌, false, None, IsTrue, IfSome, IfOk, OnOk};
 ghost use Rattle.page_ranges.specs.declared.ranges.Owner.TheVariants.{Pages};
 ghost use Rattle.page_ranges.specs.MemoryTypes.{page_count, conventional, is_specific_purpose};
 ghost use Rattle.page_ranges.specs.Memory.{row, page_at, retyped, IsProperMemory};
@@ -129,7 +129,8 @@ fn push_part<A: Allocator>(
     Ok(())
 }
 
-/// The true certificate of a request, `None` where no start is permitted.
+/// The true certificate of a request, `None` where no start is permitted. The request's granule is 1 or
+/// 16; each page of a free entry is tried, and those that are no multiple of it are not permitted.
 pub fn plain_certificate<A: Allocator + Copy>(
     alloc: A,
     runs: &[Run],
@@ -185,8 +186,12 @@ fn least_in<A: Allocator + Copy>(
 }
 
 fn is_permitted(runs: &[Run], request: &Request, start: u64) -> bool
+    requires { 0 < request.now.granule }
     ensures { IsTrue result ↔ IsPermittedStart (pages_of runs.now) request.now start }
 {
+    if start % request.granule != 0 {
+        return false;
+    }
     if start > request.limit || request.pages > request.limit - start {
         return false;
     }

@@ -1,19 +1,18 @@
 //! Expected values worked out by hand.
-ghost use Rattle.std.specs.Prelude.{◌≡◌};
+ghost use Rattle.std.specs.Prelude.{◌≡◌, ◌<◌, false};
 ghost use Rattle.page_ranges.specs.declared.ranges.Owner.TheVariants.{Given};
-ghost use Rattle.page_ranges.specs.MemoryTypes.{page_count};
+ghost use Rattle.page_ranges.specs.MemoryTypes.{is_bad_type, page_count};
 ghost use Rattle.page_ranges.specs.Memory.{IsProperMemory};
 ghost use Rattle.page_ranges.specs.Runs.{pages_of};
+ghost use Rattle.placement_certificate.specs.Placement.{IsProperRequest};
 ghost use Rattle.plain_search.specs.RunsBy.{AreRunsBy};
 
 mod choices;
 
 use super::*;
-use page_ranges::{Descriptor, MemoryType, Owner, PageRange, Run};
+use page_ranges::{Descriptor, MemoryType, Owner, PAGE_COUNT, PageRange, Run};
 use placement_certificate::{Bound, Request};
 use std::alloc::AllocError;
-
-const LIMIT: u64 = 0x10_0000_0000_0000;
 
 fn run(first: u64, pages: u64, number: u32, attributes: u64) -> Run
     ensures { result ≡ record { range = record { first = first; pages = pages }; mtype = number; attributes = attributes; owner = Given } }
@@ -47,6 +46,19 @@ fn machine_b() -> [Run; 2]
     [run(0, 8, 7, 0xf), run(8, 8, 7, 0x7)]
 }
 
+// A request for pages that may stand at each page.
+fn request(number: u32, pages: u64, limit: u64) -> Request
+    ensures made { result ≡ record { mtype = number; pages = pages; limit = limit; granule = 1 } }
+    ensures proper { 0 < pages → is_bad_type number ≡ false → IsProperRequest result }
+{
+    Request {
+        mtype: MemoryType::new(number),
+        pages,
+        limit,
+        granule: 1,
+    }
+}
+
 #[test]
 fn lists_the_map(rt: HostRuntime) -> Result<(), AllocError> {
     let entries = plain_map(rt.alloc(), &machine_a())?;
@@ -63,11 +75,7 @@ fn lists_the_map(rt: HostRuntime) -> Result<(), AllocError> {
 
 #[test]
 fn prices_starts(rt: HostRuntime) -> Result<(), AllocError> {
-    let request = Request {
-        mtype: MemoryType::new(2),
-        pages: 12,
-        limit: LIMIT,
-    };
+    let request = request(2, 12, PAGE_COUNT);
     for (start, want) in [(0, 3), (2, 4), (4, 3)] {
         let price = plain_price(rt.alloc(), &machine_b(), &request, start)?;
         assert_eq!(rt; price, want, "at {start}");
@@ -85,11 +93,7 @@ fn bound(first: u64, pages: u64, count: u64, top: u64) -> Bound {
 
 #[test]
 fn certifies_a_best_start(rt: HostRuntime) -> Result<(), AllocError> {
-    let request = Request {
-        mtype: MemoryType::new(4),
-        pages: 10,
-        limit: LIMIT,
-    };
+    let request = request(4, 10, PAGE_COUNT);
     let want = [
         bound(0, 160, 5, 150),
         bound(256, 768, 5, 1014),
@@ -107,11 +111,7 @@ fn certifies_a_best_start(rt: HostRuntime) -> Result<(), AllocError> {
 
 #[test]
 fn certifies_a_start_across_entries(rt: HostRuntime) -> Result<(), AllocError> {
-    let request = Request {
-        mtype: MemoryType::new(2),
-        pages: 12,
-        limit: LIMIT,
-    };
+    let request = request(2, 12, PAGE_COUNT);
     let none = Bound {
         first: 8,
         pages: 8,

@@ -4,6 +4,7 @@ use Rattle.std.specs.List.{AllByRecursion}
 use Rattle.std.proofs.lemmas.Bool.{cases_lt, cases_eq, cases_Bool, lt-leb, leb-true, ltb-true, and_from, and_parts, and_left, and_right}
 use Rattle.std.proofs.lemmas.List.{length-replicate, drop_all}
 use Rattle.std.proofs.lemmas.Option.{same_Some}
+use Rattle.page_ranges.specs.Granules.{IsGranule}
 use Rattle.page_ranges.specs.Memory.{Page, AllInRange, IsConventional, IsProperMemory}
 use Rattle.page_services.specs.PageRules.{Book, IsBestChoice}
 use Rattle.page_services.proofs.Choices.{best_is_permitted}
@@ -157,38 +158,38 @@ none-held : (k : ℕ) (es : List Extent) → AreExtents es → AllByRecursion (�
 none-held k [] a n = tt
 none-held k (x ∷ xs) a n = (tail-elsewhere x k a.0 n.0, none-held k xs a.2 n.1)
 
-with-new : (start t size k : ℕ) (es : List Extent) (w : Bool) → is_within start k (new_block 0 size) ≡ w → (w ≡ true → AllByRecursion (λ (x : Extent). tail_in x.first k x.blocks ≡ None) es) →
-    tail_at k (with_extent (new_extent start t size) es) ≡ cond (is_within start k (new_block 0 size)) (Some (drop (k - address_of start 0) (replicate size 0))) (tail_at k es)
-with-new start t size k es true e n = rw e (with-here k (new_extent start t size) es (drop (k - address_of start 0) (replicate size 0)) (rw e refl) (n refl))
-with-new start t size k es false e n = rw e (with-elsewhere k (new_extent start t size) es (rw e refl))
+with-new : (granule start t size k : ℕ) (es : List Extent) (w : Bool) → is_within start k (new_block 0 size) ≡ w → (w ≡ true → AllByRecursion (λ (x : Extent). tail_in x.first k x.blocks ≡ None) es) →
+    tail_at k (with_extent (new_extent granule start t size) es) ≡ cond (is_within start k (new_block 0 size)) (Some (drop (k - address_of start 0) (replicate size 0))) (tail_at k es)
+with-new granule start t size k es true e n = rw e (with-here k (new_extent granule start t size) es (drop (k - address_of start 0) (replicate size 0)) (rw e refl) (n refl))
+with-new granule start t size k es false e n = rw e (with-elsewhere k (new_extent granule start t size) es (rw e refl))
 
-extent-bytes : (m : List Page) (t size start k : ℕ) (es : List Extent) → IsProperMemory m → OwnsExtents m es → AreExtents es → IsExtent (new_extent start t size) → AllInRange m (range_of (new_extent start t size)) IsConventional →
-    IsNewAt (address_of start 0) size es (with_extent (new_extent start t size) es) k
-extent-bytes m t size start k es proper owns a x free =
-    let e : Extent = new_extent start t size in
+extent-bytes : (m : List Page) (granule t size start k : ℕ) (es : List Extent) → IsProperMemory m → OwnsExtents m es → AreExtents es → IsExtent (new_extent granule start t size) → AllInRange m (range_of (new_extent granule start t size)) IsConventional →
+    IsNewAt (address_of start 0) size es (with_extent (new_extent granule start t size) es) k
+extent-bytes m granule t size start k es proper owns a x free =
+    let e : Extent = new_extent granule start t size in
     let from = apart e es x.some a (λ j u. sym (owns j) ∙ free-none m (range_of e) proper free j u) in
     let others : address_of start 0 ≤ k → k ≤ address_of start 0 + size → AllByRecursion (λ (z : Extent). ¬ HoldsAddress z k) es = λ l u.
     all-map (λ z. (z.first + z.pages ≤ e.first) ⊎ (e.first + e.pages ≤ z.first)) (λ z. ¬ HoldsAddress z k) (λ z d h. elim d [ inl g ↦ omega (arith, g, l, h.1) | inr g ↦ omega (arith, g, u, h.0) ]) es from in
     let parts : is_within start k (new_block 0 size) ≡ true → (address_of start 0 ≤ k) × (k ≤ address_of start 0 + size) = λ w.
     let p = and_parts (nat_le (address_of start 0) k) (nat_le k (address_of start 0 + size)) w in (leb-true (address_of start 0) k p.0, leb-true k (address_of start 0 + size) p.1) in
-    let new = with-new start t size k es (is_within start k (new_block 0 size)) refl (λ w. none-held k es a (others (parts w).0 (parts w).1)) in (
+    let new = with-new granule start t size k es (is_within start k (new_block 0 size)) refl (λ w. none-held k es a (others (parts w).0 (parts w).1)) in (
       ap first_byte new ∙ over start 0 size k (tail_at k es) (λ l u. no-tail k es a (others l u)),
       λ w. let q = among-parts (address_of start 0) size k w in ap first_byte (no-tail k es a (others q.0 (omega (arith, q.1)))),
     )
 
 -- ---- the law
 
-by-fit : (b new_b : Book) (es new : List Extent) (t size : ℕ) (answer : Answer) (o : Option Place) → IsProperMemory b.memory → OwnsExtents b.memory es → AreExtents es → size ≤ max_size → first_fit t size es ≡ o →
+by-fit : (b new_b : Book) (es new : List Extent) (t size : ℕ) (answer : Answer) (o : Option Place) → IsGranule b.granule → IsProperMemory b.memory → OwnsExtents b.memory es → AreExtents es → size ≤ max_size → first_fit t size es ≡ o →
     IsPut IsBestChoice o b es t size answer new_b new → (k : ℕ) → IsNewAt answer.0 size es new k
-by-fit b new_b es new t size answer (Some p) proper owns a s f (d, c, g, n) k =
+by-fit b new_b es new t size answer (Some p) granule proper owns a s f (d, c, g, n) k =
     subst (λ (zs : List Extent). IsNewAt answer.0 size es zs k) (sym n) (subst (λ (j : ℕ). IsNewAt j size es (with_new_block p size es) k) (sym d) (live-bytes t size k es p a f))
-by-fit b new_b es new t size answer None proper owns a s f (start, c, d, g, n) k =
-    let x = is-new-extent IsBestChoice best_is_permitted b.memory t size start answer.1 s c in
-    subst (λ (zs : List Extent). IsNewAt answer.0 size es zs k) (sym n) (subst (λ (j : ℕ). IsNewAt j size es (with_extent (new_extent start t size) es) k) (sym d) (extent-bytes b.memory t size start k es proper owns a x.0 x.1))
+by-fit b new_b es new t size answer None granule proper owns a s f (start, c, d, g, n) k =
+    let x = is-new-extent IsBestChoice best_is_permitted b t size start answer.1 granule s c in
+    subst (λ (zs : List Extent). IsNewAt answer.0 size es zs k) (sym n) (subst (λ (j : ℕ). IsNewAt j size es (with_extent (new_extent b.granule start t size) es) k) (sym d) (extent-bytes b.memory b.granule t size start k es proper owns a x.0 x.1))
 
-pub took : (b new_b : Book) (es new : List Extent) (t size : ℕ) (answer : Answer) → IsProperMemory b.memory → OwnsExtents b.memory es → AreExtents es → AllocatesPool IsBestChoice b es t size (Ok answer) new_b new →
+pub took : (b new_b : Book) (es new : List Extent) (t size : ℕ) (answer : Answer) → IsGranule b.granule → IsProperMemory b.memory → OwnsExtents b.memory es → AreExtents es → AllocatesPool IsBestChoice b es t size (Ok answer) new_b new →
     (k : ℕ) → (byte_at k new ≡ laid answer.0 (replicate size 0) k (byte_at k es)) × (is_among answer.0 size k ≡ true → byte_at k es ≡ None)
-took b new_b es new t size answer proper owns a (good, s, put) k = by-fit b new_b es new t size answer (first_fit t size es) proper owns a s refl put k
+took b new_b es new t size answer granule proper owns a (good, s, put) k = by-fit b new_b es new t size answer (first_fit t size es) granule proper owns a s refl put k
 
 -- ---- a block given back
 

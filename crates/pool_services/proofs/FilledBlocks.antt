@@ -4,6 +4,7 @@ use Rattle.std.proofs.lemmas.Bool.{cases_lt, lt-leb}
 use Rattle.std.proofs.lemmas.List.{length-replicate}
 use Rattle.page_ranges.specs.declared.statuses.Status.{Status}
 use Rattle.page_ranges.specs.declared.statuses.Status.TheVariants.{InvalidParameter}
+use Rattle.page_ranges.specs.Granules.{IsGranule}
 use Rattle.page_ranges.specs.Memory.{IsProperMemory}
 use Rattle.page_services.specs.PageRules.{Book, Choice, IsBestChoice}
 use Rattle.page_services.proofs.Choices.{Permits, best_is_permitted}
@@ -66,9 +67,9 @@ with-at e (x ∷ xs) = elim (cases_lt e.first x.first) [
   | inr l ↦ let r = with-at e xs in rw (le-leb x.first e.first l) (suc r.0, (omega (arith, r.1.0), r.1.1))
 ]
 
-extent-tail : (start t size : ℕ) (es : List Extent) → AreExtents (with_extent (new_extent start t size) es) → tail_at (address_of start 0) (with_extent (new_extent start t size) es) ≡ Some (replicate size 0)
-extent-tail start t size es new =
-    let e : Extent = new_extent start t size in
+extent-tail : (granule start t size : ℕ) (es : List Extent) → AreExtents (with_extent (new_extent granule start t size) es) → tail_at (address_of start 0) (with_extent (new_extent granule start t size) es) ≡ Some (replicate size 0)
+extent-tail granule start t size es new =
+    let e : Extent = new_extent granule start t size in
     let r = with-at e es in
     tail-of-one (address_of start 0) (with_extent e es) r.0 e (replicate size 0) new r.1 (whole start 0 size None)
 
@@ -77,7 +78,7 @@ put-tail : (Chosen : Choice) (b new_b : Book) (es new : List Extent) (t size : �
 put-tail Chosen b new_b es new t size answer (Some p) a v f (d, c, g, n) =
     ap (λ (k : ℕ). tail_at k new) d ∙ ap (λ (zs : List Extent). tail_at (address_of p.first p.cell) zs) n ∙ live-tail t size es p a (subst AreExtents n v) f
 put-tail Chosen b new_b es new t size answer None a v f (start, c, d, g, n) =
-    ap (λ (k : ℕ). tail_at k new) d ∙ ap (λ (zs : List Extent). tail_at (address_of start 0) zs) n ∙ extent-tail start t size es (subst AreExtents n v)
+    ap (λ (k : ℕ). tail_at k new) d ∙ ap (λ (zs : List Extent). tail_at (address_of start 0) zs) n ∙ extent-tail b.granule start t size es (subst AreExtents n v)
 
 -- AllocatePool answers the address of a block all of whose bytes are 0.
 pub allocated-tail : (Chosen : Choice) (b new_b : Book) (es new : List Extent) (t size : ℕ) (answer : Answer) → AreExtents es → AreExtents new → AllocatesPool Chosen b es t size (Ok answer) new_b new →
@@ -101,11 +102,11 @@ not-refused Chosen b new_b es placed t size answer bytes status new a v h w l = 
 -- ---- a block that is filled
 
 pub filled-keeps : (Chosen : Choice) → Permits Chosen → (b : Book) (es : List Extent) (t : ℕ) (bytes : List ℕ) (result : Result Answer Status) (new_b : Book) (new : List Extent) →
-    IsProperMemory b.memory → AreExtents es → OwnsExtents b.memory es → FillsPool Chosen b es t bytes result new_b new → AreExtents new × OwnsExtents new_b.memory new
-filled-keeps Chosen permits b es t bytes (Ok answer) new_b new proper a owns (placed, h, n) =
-    let k = allocated-keeps Chosen permits b es t (length bytes) (Ok answer) new_b placed proper a owns h in
+    IsGranule b.granule → IsProperMemory b.memory → AreExtents es → OwnsExtents b.memory es → FillsPool Chosen b es t bytes result new_b new → AreExtents new × OwnsExtents new_b.memory new
+filled-keeps Chosen permits b es t bytes (Ok answer) new_b new granule proper a owns (placed, h, n) =
+    let k = allocated-keeps Chosen permits b es t (length bytes) (Ok answer) new_b placed granule proper a owns h in
     written-keeps new_b.memory placed answer.0 bytes (Ok tt) new k.0 k.1 (allocated-holds Chosen b new_b es placed t (length bytes) (length bytes) answer a k.0 h (omega arith), n)
-filled-keeps Chosen permits b es t bytes (Err e) new_b new proper a owns h = allocated-keeps Chosen permits b es t (length bytes) (Err e) new_b new proper a owns h
+filled-keeps Chosen permits b es t bytes (Err e) new_b new granule proper a owns h = allocated-keeps Chosen permits b es t (length bytes) (Err e) new_b new granule proper a owns h
 
 -- bytes over as many others
 laid-over : (start : ℕ) (bytes under : List ℕ) (k : ℕ) (old : Option ℕ) → length under ≡ length bytes → laid start bytes k (laid start under k old) ≡ laid start bytes k old
@@ -117,12 +118,12 @@ laid-over start bytes under k old n = elim (cases_lt k start) [
   ]
 ]
 
-pub filled : (b new_b : Book) (es new : List Extent) (t : ℕ) (bytes : List ℕ) (answer : Answer) → IsProperMemory b.memory → OwnsExtents b.memory es → AreExtents es → FillsPool IsBestChoice b es t bytes (Ok answer) new_b new →
+pub filled : (b new_b : Book) (es new : List Extent) (t : ℕ) (bytes : List ℕ) (answer : Answer) → IsGranule b.granule → IsProperMemory b.memory → OwnsExtents b.memory es → AreExtents es → FillsPool IsBestChoice b es t bytes (Ok answer) new_b new →
     (k : ℕ) → (byte_at k new ≡ laid answer.0 bytes k (byte_at k es)) × (is_among answer.0 (length bytes) k ≡ true → byte_at k es ≡ None)
-filled b new_b es new t bytes answer proper owns a (placed, h, n) k =
+filled b new_b es new t bytes answer granule proper owns a (placed, h, n) k =
     let zeros : List ℕ = replicate (length bytes) 0 in
-    let v = allocated-keeps IsBestChoice best_is_permitted b es t (length bytes) (Ok answer) new_b placed proper a owns h in
-    let old = took b new_b es placed t (length bytes) answer proper owns a h k in (
+    let v = allocated-keeps IsBestChoice best_is_permitted b es t (length bytes) (Ok answer) new_b placed granule proper a owns h in
+    let old = took b new_b es placed t (length bytes) answer granule proper owns a h k in (
       wrote placed new answer.0 bytes tt v.0 (allocated-holds IsBestChoice b new_b es placed t (length bytes) (length bytes) answer a v.0 h (omega arith), n) k
           ∙ ap (laid answer.0 bytes k) old.0
           ∙ laid-over answer.0 bytes zeros k (byte_at k es) (length-replicate (length bytes) 0),

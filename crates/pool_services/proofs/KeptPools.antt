@@ -10,14 +10,16 @@ use Rattle.page_ranges.specs.declared.ranges.Run.{Run}
 use Rattle.page_ranges.specs.declared.statuses.Status.{Status}
 use Rattle.page_ranges.specs.declared.statuses.Status.TheVariants.{InvalidParameter, NotFound, OutOfResources}
 use Rattle.page_ranges.specs.MemoryTypes.{conventional, page_size, page_count, pages_below}
+use Rattle.page_ranges.specs.Granules.{IsGranule}
 use Rattle.page_ranges.specs.Memory.{Page, page_at, AllInRange, IsConventional, IsOwnedBy, IsProperMemory}
 use Rattle.page_ranges.specs.Runs.{page_in, pages_of, is_same_owner, IsValidMachine}
 use Rattle.page_ranges.proofs.Lookups.{page_at-all}
 use Rattle.page_ranges.proofs.Rows.{all-row}
 use Rattle.placement_certificate.specs.declared.certificates.Request.{Request}
 use Rattle.page_services.specs.declared.page_book.Placed.{Placed}
-use Rattle.page_services.specs.PageRules.{Book, Choice, AllocatesPages, FreesPages, IsChosenPlace, IsPlaced, any_pages, changed_book, max_address, placement_request, range_from}
+use Rattle.page_services.specs.PageRules.{Book, Choice, AllocatesPages, FreesPages, IsChosenPlace, IsPlaced, IsInGranules, any_pages, changed_book, freed_range, max_address, placement_request, range_from, whole_pages, whole_request}
 use Rattle.page_services.proofs.Choices.{Permits}
+use Rattle.page_services.proofs.Granules.{freed_owned}
 use Rattle.raw_pool.specs.Blocks.{Block, new_block, with_block, without_block}
 use Rattle.pool_services.specs.Extents.{Extent, Place, AreExtents, IsExtent, begins_at, ended, first_fit, has_tail, left_of, max_size, new_extent, range_if_ended, range_of, replaced, tail_in, with_blocks, with_new_block, without, written_in}
 use Rattle.pool_services.specs.PoolRules.{Answer, AllocatesPool, FreesPool, IsPut, OwnsExtents, WritesPool, given_if, pool_type}
@@ -34,12 +36,12 @@ use Rattle.pool_services.proofs.BlockBytes.{held-fit, holding}
 some-pages : (a r : Request) → Some a ≡ Some r → r.pages ≡ a.pages
 some-pages a r e = cc
 
--- the request is for the pages of the call
-same-pages : (kind t pages memory : ℕ) (r : Request) → placement_request kind t pages memory ≡ Some r → r.pages ≡ pages
-same-pages kind t pages memory r e = elim (cases_Bool (kind == any_pages)) [
-  | inl u ↦ some-pages (record { mtype = t; pages = pages; limit = page_count }) r (rw u at e)
+-- the request is for the pages of the call, with those that fill granules
+same-pages : (granule kind t pages memory : ℕ) (r : Request) → placement_request granule kind t pages memory ≡ Some r → r.pages ≡ whole_pages granule t pages
+same-pages granule kind t pages memory r e = elim (cases_Bool (kind == any_pages)) [
+  | inl u ↦ some-pages (whole_request granule t pages page_count) r (rw u at e)
   | inr u ↦ elim (cases_Bool (kind == max_address)) [
-    | inl v ↦ some-pages (record { mtype = t; pages = pages; limit = pages_below memory }) r (rw (u, v) at e)
+    | inl v ↦ some-pages (whole_request granule t pages (pages_below memory)) r (rw (u, v) at e)
     | inr v ↦ let n : None ≡ Some r = rw (u, v) at e in cc
   ]
 ]
@@ -49,32 +51,35 @@ chosen-free Chosen permits m r placed (start, c, a) =
     let s : start ≡ placed.address / page_size = omega (arith, a) in
     subst (λ (n : ℕ). AllInRange m (record { first = n; pages = r.pages }) IsConventional) s (permits m r start placed.certificate c).conventional
 
-placed-free : {A : Type 0} (Chosen : Choice) → Permits Chosen → (m : List Page) (o : Option Request) (pages memory : ℕ) (placed : Placed A) → ((r : Request) → o ≡ Some r → r.pages ≡ pages) → IsPlaced Chosen m o pages memory placed →
-    AllInRange m (range_from placed.address pages) IsConventional
-placed-free Chosen permits m (Some r) pages memory placed same h = subst (λ (n : ℕ). AllInRange m (range_from placed.address n) IsConventional) (same r refl) (chosen-free Chosen permits m r placed h)
-placed-free Chosen permits m None pages memory placed same (f, a, n) = subst (λ (at : ℕ). AllInRange m (range_from at pages) IsConventional) (sym a) f.1
+placed-free : {A : Type 0} (Chosen : Choice) → Permits Chosen → (b : Book) (o : Option Request) (t pages memory : ℕ) (placed : Placed A) → ((r : Request) → o ≡ Some r → r.pages ≡ whole_pages b.granule t pages) → IsPlaced Chosen b o t pages memory placed →
+    AllInRange b.memory (range_from placed.address (whole_pages b.granule t pages)) IsConventional
+placed-free Chosen permits b (Some r) t pages memory placed same h = subst (λ (n : ℕ). AllInRange b.memory (range_from placed.address n) IsConventional) (same r refl) (chosen-free Chosen permits b.memory r placed h)
+placed-free Chosen permits b None t pages memory placed same (f, a, n) = subst (λ (at : ℕ). AllInRange b.memory (range_from at (whole_pages b.granule t pages)) IsConventional) (sym a) f.2
 
 pub placed-keeps : {A : Type 0} (Chosen : Choice) → Permits Chosen → (b : Book) (es : List Extent) (kind t pages memory : ℕ) (result : Result (Placed A) Status) (new : Book) →
     IsProperMemory b.memory → OwnsExtents b.memory es → AllocatesPages Chosen b kind t pages memory result new → OwnsExtents new.memory es
 placed-keeps Chosen permits b es kind t pages memory (Ok placed) new proper owns (v, h, n) =
-    let free = placed-free Chosen permits b.memory (placement_request kind t pages memory) pages memory placed (same-pages kind t pages memory) h in
-    subst (λ (x : Book). OwnsExtents x.memory es) (sym n) (others-keep b.memory es (range_from placed.address pages) t Pages owns refl (free-none b.memory (range_from placed.address pages) proper free))
+    let range : PageRange = range_from placed.address (whole_pages b.granule t pages) in
+    let free = placed-free Chosen permits b (placement_request b.granule kind t pages memory) t pages memory placed (same-pages b.granule kind t pages memory) h in
+    subst (λ (x : Book). OwnsExtents x.memory es) (sym n) (others-keep b.memory es range t Pages owns refl (free-none b.memory range proper free))
 placed-keeps Chosen permits b es kind t pages memory (Err InvalidParameter) new proper owns h = subst (λ (x : Book). OwnsExtents x.memory es) (sym h.1) owns
 placed-keeps Chosen permits b es kind t pages memory (Err NotFound) new proper owns h = subst (λ (x : Book). OwnsExtents x.memory es) (sym h.3) owns
 placed-keeps Chosen permits b es kind t pages memory (Err OutOfResources) new proper owns h = subst (λ (x : Book). OwnsExtents x.memory es) (sym h.2) owns
 placed-keeps Chosen permits b es kind t pages memory (Err status) new proper owns h = absurd h
 
-pub freed-keeps : (b : Book) (es : List Extent) (address pages : ℕ) (result : Result (Unit {0}) Status) (new : Book) → OwnsExtents b.memory es → FreesPages b address pages result new → OwnsExtents new.memory es
-freed-keeps b es address pages (Ok done) new owns (v, h, n) =
-    subst (λ (x : Book). OwnsExtents x.memory es) (sym n) (others-keep b.memory es (range_from address pages) conventional Given owns refl (allocated-none b.memory (range_from address pages) h))
-freed-keeps b es address pages (Err InvalidParameter) new owns h = subst (λ (x : Book). OwnsExtents x.memory es) (sym h.1) owns
-freed-keeps b es address pages (Err NotFound) new owns h = subst (λ (x : Book). OwnsExtents x.memory es) (sym h.2) owns
-freed-keeps b es address pages (Err OutOfResources) new owns h = subst (λ (x : Book). OwnsExtents x.memory es) (sym h.2) owns
-freed-keeps b es address pages (Err status) new owns h = absurd h
+pub freed-keeps : (b : Book) (es : List Extent) (address pages : ℕ) (result : Result (Unit {0}) Status) (new : Book) → IsInGranules b → OwnsExtents b.memory es → FreesPages b address pages result new → OwnsExtents new.memory es
+freed-keeps b es address pages (Ok done) new granules owns (v, h, n) =
+    let range : PageRange = freed_range b address pages in
+    let freed : AllInRange b.memory range (IsOwnedBy Pages) = freed_owned b address pages granules v.1 h in
+    subst (λ (x : Book). OwnsExtents x.memory es) (sym n) (others-keep b.memory es range conventional Given owns refl (allocated-none b.memory range freed))
+freed-keeps b es address pages (Err InvalidParameter) new granules owns h = subst (λ (x : Book). OwnsExtents x.memory es) (sym h.1) owns
+freed-keeps b es address pages (Err NotFound) new granules owns h = subst (λ (x : Book). OwnsExtents x.memory es) (sym h.2) owns
+freed-keeps b es address pages (Err OutOfResources) new granules owns h = subst (λ (x : Book). OwnsExtents x.memory es) (sym h.2) owns
+freed-keeps b es address pages (Err status) new granules owns h = absurd h
 
 -- ---- a machine at first
 
-all-given : (rs : List Run) → AllByRecursion (λ r. r.owner ≡ Given) rs → AllByRecursion (λ (x : Page). x.owner ≡ Given) (pages_of rs)
+pub all-given : (rs : List Run) → AllByRecursion (λ r. r.owner ≡ Given) rs → AllByRecursion (λ (x : Page). x.owner ≡ Given) (pages_of rs)
 all-given [] a = tt
 all-given (r ∷ rs) a = all-row (λ (x : Page). x.owner ≡ Given) (pages_of rs) r.range.pages (page_in r.range.first r) (λ k l u. a.0) (all-given rs a.1)
 
@@ -101,22 +106,22 @@ fit-keeps m es t size p a owns s =
     )
 
 put-keeps : (Chosen : Choice) → Permits Chosen → (b new_b : Book) (es new : List Extent) (t size : ℕ) (answer : Answer) (o : Option Place) →
-    IsProperMemory b.memory → AreExtents es → OwnsExtents b.memory es → size ≤ max_size → first_fit t size es ≡ o → IsPut Chosen o b es t size answer new_b new → AreExtents new × OwnsExtents new_b.memory new
-put-keeps Chosen permits b new_b es new t size answer (Some p) proper a owns s f (d, c, g, n) =
+    IsGranule b.granule → IsProperMemory b.memory → AreExtents es → OwnsExtents b.memory es → size ≤ max_size → first_fit t size es ≡ o → IsPut Chosen o b es t size answer new_b new → AreExtents new × OwnsExtents new_b.memory new
+put-keeps Chosen permits b new_b es new t size answer (Some p) granule proper a owns s f (d, c, g, n) =
     let k = fit-keeps b.memory es t size p a owns f in same-keeps b new_b (with_new_block p size es) new k.0 k.1 g n
-put-keeps Chosen permits b new_b es new t size answer None proper a owns s f (start, c, d, g, n) =
-    let e : Extent = new_extent start t size in
-    let x = is-new-extent Chosen permits b.memory t size start answer.1 s c in (
+put-keeps Chosen permits b new_b es new t size answer None granule proper a owns s f (start, c, d, g, n) =
+    let e : Extent = new_extent b.granule start t size in
+    let x = is-new-extent Chosen permits b t size start answer.1 granule s c in (
       subst AreExtents (sym n) (are-more b.memory e es x.0 a owns proper x.1),
       subst (λ (z : Book). OwnsExtents z.memory new) (sym g) (subst (OwnsExtents (changed_book (range_of e) t Pool b).memory) (sym n) (owns-more b.memory e es owns proper x.1)),
     )
 
 pub allocated-keeps : (Chosen : Choice) → Permits Chosen → (b : Book) (es : List Extent) (t size : ℕ) (result : Result Answer Status) (new_b : Book) (new : List Extent) →
-    IsProperMemory b.memory → AreExtents es → OwnsExtents b.memory es → AllocatesPool Chosen b es t size result new_b new → AreExtents new × OwnsExtents new_b.memory new
-allocated-keeps Chosen permits b es t size (Ok answer) new_b new proper a owns (good, s, put) = put-keeps Chosen permits b new_b es new t size answer (first_fit t size es) proper a owns s refl put
-allocated-keeps Chosen permits b es t size (Err InvalidParameter) new_b new proper a owns h = same-keeps b new_b es new a owns h.1 h.2
-allocated-keeps Chosen permits b es t size (Err OutOfResources) new_b new proper a owns h = same-keeps b new_b es new a owns h.2 h.3
-allocated-keeps Chosen permits b es t size (Err status) new_b new proper a owns h = absurd h
+    IsGranule b.granule → IsProperMemory b.memory → AreExtents es → OwnsExtents b.memory es → AllocatesPool Chosen b es t size result new_b new → AreExtents new × OwnsExtents new_b.memory new
+allocated-keeps Chosen permits b es t size (Ok answer) new_b new granule proper a owns (good, s, put) = put-keeps Chosen permits b new_b es new t size answer (first_fit t size es) granule proper a owns s refl put
+allocated-keeps Chosen permits b es t size (Err InvalidParameter) new_b new granule proper a owns h = same-keeps b new_b es new a owns h.1 h.2
+allocated-keeps Chosen permits b es t size (Err OutOfResources) new_b new granule proper a owns h = same-keeps b new_b es new a owns h.2 h.3
+allocated-keeps Chosen permits b es t size (Err status) new_b new granule proper a owns h = absurd h
 
 -- ---- FreePool
 

@@ -9,3 +9,4 @@ pub mod PoolBytes
 pub mod BlockBytes
 pub mod KeptPools
 pub mod FilledBlocks
+pub mod PoolGranules

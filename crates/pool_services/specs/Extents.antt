@@ -3,6 +3,7 @@ use Rattle.std.specs.Prelude.{◌≡◌, ℕ, ◌+◌, ◌-◌, ◌*◌, ◌^◌
 use Rattle.std.specs.List.{AllByRecursion}
 use Rattle.page_ranges.specs.declared.ranges.PageRange.{PageRange}
 use Rattle.page_ranges.specs.MemoryTypes.{page_size, page_count}
+use Rattle.page_services.specs.PageRules.{whole_pages}
 use Rattle.raw_pool.specs.Bytes.{put}
 use Rattle.raw_pool.specs.Blocks.{Block, cells_for, end_of, lowest_fit, new_block, with_block, without_block}
 
@@ -103,9 +104,17 @@ begins_at first e = e.first == first
 abbrev pub with_new_block : Place → ℕ → List Extent → List Extent
 with_new_block p size es = replaced (begins_at p.first) (λ e. with_blocks (with_block (new_block p.cell size) e.blocks) e ∷ []) es
 
--- a new extent of a type, which has a new block at its first cell
-abbrev pub new_extent : ℕ → ℕ → ℕ → Extent
-new_extent first t size = record { first = first; pages = pages_for size; mtype = t; blocks = new_block 0 size ∷ [] }
+-- the pages of a new extent of a type for a block of a size, on a machine with a granule: they fill granules of the type
+abbrev pub extent_pages : ℕ → ℕ → ℕ → ℕ
+extent_pages granule t size = whole_pages granule t (pages_for size)
+
+-- an extent of so many pages of a type, which has a new block at its first cell and no other
+abbrev pub extent_with_block : ℕ → ℕ → ℕ → ℕ → Extent
+extent_with_block first pages t size = record { first = first; pages = pages; mtype = t; blocks = new_block 0 size ∷ [] }
+
+-- a new extent of a type for a block of a size, on a machine with a granule
+abbrev pub new_extent : ℕ → ℕ → ℕ → ℕ → Extent
+new_extent granule first t size = extent_with_block first (extent_pages granule t size) t size
 
 -- the extents with one more among them
 abbrev pub with_extent : Extent → List Extent → List Extent

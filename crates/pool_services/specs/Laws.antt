@@ -2,10 +2,11 @@
 use Rattle.std.specs.Prelude.{◌≡◌, ℕ, ◌+◌, ◌-◌, ◌<◌, ◌&&◌, nat_le, nat_lt, Bool, cond, List, [], ◌∷◌, length, drop, replicate, true, Option, Some, None, Result, Ok}
 use Rattle.page_ranges.specs.declared.ranges.Run.{Run}
 use Rattle.page_ranges.specs.declared.statuses.Status.{Status}
+use Rattle.page_ranges.specs.Granules.{IsGranule}
 use Rattle.page_ranges.specs.Memory.{Page, IsProperMemory}
 use Rattle.page_ranges.specs.Runs.{pages_of, IsValidMachine}
 use Rattle.page_services.specs.declared.page_book.Placed.{Placed}
-use Rattle.page_services.specs.PageRules.{Book, Choice, AllocatesPages, FreesPages}
+use Rattle.page_services.specs.PageRules.{Book, Choice, AllocatesPages, FreesPages, IsInGranules}
 use Rattle.pool_services.specs.Extents.{Extent, AreExtents, tail_at, written}
 use Rattle.pool_services.specs.PoolRules.{Answer, AllocatesPool, FillsPool, FreesPool, OwnsExtents, ReadsPool, WritesPool}
 
@@ -19,11 +20,11 @@ PlacedKeepsPoolLaw Chosen A =
     (b : Book) (es : List Extent) (kind t pages memory : ℕ) (result : Result (Placed A) Status) (new : Book) →
     IsProperMemory b.memory → OwnsExtents b.memory es → AllocatesPages Chosen b kind t pages memory result new → OwnsExtents new.memory es
 
--- FreePages leaves the pages of the pool.
+-- FreePages leaves the pages of the pool: with those that a call names it frees others, and none of the pool's.
 abbrev pub FreedKeepsPoolLaw : Type 0
 FreedKeepsPoolLaw =
     (b : Book) (es : List Extent) (address pages : ℕ) (result : Result (Unit {0}) Status) (new : Book) →
-    OwnsExtents b.memory es → FreesPages b address pages result new → OwnsExtents new.memory es
+    IsInGranules b → OwnsExtents b.memory es → FreesPages b address pages result new → OwnsExtents new.memory es
 
 -- A write leaves the pages of the pool.
 abbrev pub WrittenKeepsPoolLaw : Type 0
@@ -67,13 +68,13 @@ WrittenBytesLaw =
 -- A new block's bytes are 0 and stood in no block before; AllocatePool changes no other byte.
 abbrev pub AllocatedBytesLaw : Choice → Type 0
 AllocatedBytesLaw Chosen =
-    (b new_b : Book) (es new : List Extent) (t size : ℕ) (answer : Answer) → IsProperMemory b.memory → OwnsExtents b.memory es → AreExtents es → AllocatesPool Chosen b es t size (Ok answer) new_b new →
+    (b new_b : Book) (es new : List Extent) (t size : ℕ) (answer : Answer) → IsGranule b.granule → IsProperMemory b.memory → OwnsExtents b.memory es → AreExtents es → AllocatesPool Chosen b es t size (Ok answer) new_b new →
     (k : ℕ) → (byte_at k new ≡ laid answer.0 (replicate size 0) k (byte_at k es)) × (is_among answer.0 size k ≡ true → byte_at k es ≡ None)
 
 -- A block that is filled has the bytes that it was filled with, which stood in no block before; no other byte changes.
 abbrev pub FilledBytesLaw : Choice → Type 0
 FilledBytesLaw Chosen =
-    (b new_b : Book) (es new : List Extent) (t : ℕ) (bytes : List ℕ) (answer : Answer) → IsProperMemory b.memory → OwnsExtents b.memory es → AreExtents es → FillsPool Chosen b es t bytes (Ok answer) new_b new →
+    (b new_b : Book) (es new : List Extent) (t : ℕ) (bytes : List ℕ) (answer : Answer) → IsGranule b.granule → IsProperMemory b.memory → OwnsExtents b.memory es → AreExtents es → FillsPool Chosen b es t bytes (Ok answer) new_b new →
     (k : ℕ) → (byte_at k new ≡ laid answer.0 bytes k (byte_at k es)) × (is_among answer.0 (length bytes) k ≡ true → byte_at k es ≡ None)
 
 -- FreePool takes the bytes of the block at the address away, and changes no other byte.

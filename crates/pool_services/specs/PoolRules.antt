@@ -10,7 +10,7 @@ use Rattle.page_ranges.specs.Runs.{is_same_owner}
 use Rattle.placement_certificate.specs.declared.certificates.Request.{Request}
 use Rattle.placement_certificate.specs.Certificates.{CertificateValue}
 use Rattle.page_services.specs.PageRules.{Book, Choice, changed_book, given_back, pool_request}
-use Rattle.pool_services.specs.Extents.{Extent, Place, address_of, ended, first_fit, max_size, new_extent, pages_for, place_of, range_of, tail_at, with_extent, with_new_block, without, written}
+use Rattle.pool_services.specs.Extents.{Extent, Place, address_of, ended, extent_pages, first_fit, max_size, new_extent, pages_for, place_of, range_of, tail_at, with_extent, with_new_block, without, written}
 
 -- ---- the pages of the pool
 
@@ -30,9 +30,9 @@ OwnsExtents m es = (k : ℕ) → pool_type (page_at m k) ≡ extent_type k es
 
 -- ---- AllocatePool
 
--- the request for the pages of a new extent for a block of a size, if a block may have that size
-abbrev pub extent_request : ℕ → ℕ → Option Request
-extent_request t size = if nat_le size max_size then Some (pool_request t (pages_for size)) else None
+-- the request on a machine with a granule for the pages of a new extent for a block of a size, if a block may have that size
+abbrev pub extent_request : ℕ → ℕ → ℕ → Option Request
+extent_request granule t size = if nat_le size max_size then Some (pool_request granule t (pages_for size)) else None
 
 -- the parts of an answer of AllocatePool: the block's address, and the certificate of the place of a new extent
 abbrev pub Answer : Type 0
@@ -45,8 +45,8 @@ IsPutAt p b es size answer new_b new_es = (answer.0 ≡ address_of p.first p.cel
 -- Where a block was put that no live extent has room for: at the first cell of a new extent, at a start that was chosen.
 abbrev pub IsPutInNew : Choice → Book → List Extent → ℕ → ℕ → Answer → Book → List Extent → Type 0
 IsPutInNew Chosen b es t size answer new_b new_es =
-    (start : ℕ) × Chosen b.memory (pool_request t (pages_for size)) start answer.1 × (answer.0 ≡ address_of start 0)
-    × (new_b ≡ changed_book (record { first = start; pages = pages_for size }) t Pool b) × (new_es ≡ with_extent (new_extent start t size) es)
+    (start : ℕ) × Chosen b.memory (pool_request b.granule t (pages_for size)) start answer.1 × (answer.0 ≡ address_of start 0)
+    × (new_b ≡ changed_book (record { first = start; pages = extent_pages b.granule t size }) t Pool b) × (new_es ≡ with_extent (new_extent b.granule start t size) es)
 
 abbrev pub IsPut : Choice → Option Place → Book → List Extent → ℕ → ℕ → Answer → Book → List Extent → Type 0
 IsPut Chosen (Some p) b es t size answer new_b new_es = IsPutAt p b es size answer new_b new_es

@@ -1,12 +1,13 @@
 //! An extent of the pool with its region of memory.
 ghost use Rattle.std.specs.Prelude.{◌≡◌, ◌+◌, ◌<◌, ◌≤◌, ◌↔◌, ◌^◌, [], length, is_some, option_map, true, IsTrue, MatchOption};
+ghost use Rattle.page_ranges.specs.Granules.{IsGranule};
 ghost use Rattle.raw_pool.specs.Blocks.{block_at, cells_for, lowest_fit, new_block, with_block, without_block};
-ghost use Rattle.pool_services.specs.Extents.{IsExtent, address_of, cell_of, cells_in, max_size, new_extent, pages_for, tail_in, with_blocks};
+ghost use Rattle.pool_services.specs.Extents.{IsExtent, address_of, cell_of, cells_in, extent_pages, extent_with_block, max_size, pages_for, tail_in, with_blocks};
 ghost use Rattle.pool_services.specs.Rooms.{room_of};
 ghost use Rattle.pool_services.specs.Searches.{HasRoom, HoldsAddress, IsLastUpTo, IsLocated, written_if};
 
 use crate::rooms::Room;
-use page_ranges::{MemoryType, PAGE_SIZE, PageRange};
+use page_ranges::{MemoryType, PAGE_SIZE, PageRange, granule_for, rounded};
 use raw_pool::RawPool;
 use std::alloc::Allocator;
 use std::marker::Model;
@@ -33,9 +34,23 @@ pub(crate) fn pages_for(size: usize) -> usize
     requires { size ≤ max_size }
     ensures pages { result ≡ pages_for size }
     ensures some { 0 < result }
-    ensures few { result ≤ 2 ^ 21 }
+    ensures few { result ≤ 2 ^ 20 + 1 }
 {
     (cells_for(size) + (PAGE_CELLS - 1)) / PAGE_CELLS
+}
+
+/// The pages of a new extent of a type for a block of a size, on a machine with a granule.
+pub(crate) fn extent_pages(granule: u64, mtype: MemoryType, size: usize) -> usize
+    requires granule { IsGranule granule }
+    requires size { size ≤ max_size }
+    ensures pages { result ≡ extent_pages granule mtype size }
+    ensures enough { pages_for size ≤ result }
+    ensures few { result ≤ 2 ^ 21 }
+{
+    let Some(pages) = rounded(pages_for(size) as u64, granule_for(mtype, granule)) else {
+        unreachable!();
+    };
+    pages as usize
 }
 
 /// Some pages of one type and the blocks in them.
@@ -60,7 +75,7 @@ impl<A: Allocator> Model for PoolExtent<A> {
 }
 
 impl<A: Allocator + Copy> PoolExtent<A> {
-    /// An extent with a first block, for which it is just large enough.
+    /// An extent with a first block, for which it is large enough.
     pub(crate) fn with_block(
         first: u64,
         mtype: MemoryType,
@@ -68,10 +83,10 @@ impl<A: Allocator + Copy> PoolExtent<A> {
         pages: u64,
         size: usize,
     ) -> PoolExtent<A>
-        requires pages { pages ≡ pages_for size }
+        requires pages { pages_for size ≤ pages }
         requires size { size ≤ max_size }
         requires region { region ≡ record { cells = cells_in pages; blocks = [] } }
-        ensures { result ≡ new_extent first mtype size }
+        ensures { result ≡ extent_with_block first pages mtype size }
     {
         if region.take(size).is_none() {
             unreachable!();

@@ -1,12 +1,12 @@
 //! The pool of a machine.
-ghost use Rattle.std.specs.Prelude.{◌≡◌, ◌+◌, ◌<◌, ◌≤◌, ◌^◌, false, [], length, option_map, IfSome, None, Some};
+ghost use Rattle.std.specs.Prelude.{◌≡◌, ◌+◌, ◌<◌, ◌≤◌, ◌^◌, false, [], length, option_and_then, option_map, IfSome, None, Some};
 ghost use Rattle.page_ranges.specs.MemoryTypes.{is_bad_type};
-ghost use Rattle.page_services.specs.PageRules.{IsBestChoice};
+ghost use Rattle.page_services.specs.PageRules.{IsBestChoice, if_counted};
 ghost use Rattle.pool_services.specs.Extents.{first_fit, max_size, tail_at};
 ghost use Rattle.pool_services.specs.PoolRules.{AllocatesPool, FillsPool, FreesPool, OwnsExtents, ReadsPool, WritesPool, extent_request};
 ghost use Rattle.pool_services.specs.Searches.{IsEnded, IsFound, IsGivable, IsGivenIn, IsHolder, IsTakenIn, IsTakenLive, IsWrittenIn};
 
-use crate::extents::{HEADER_SIZE, PoolExtent, cells_for, pages_for};
+use crate::extents::{HEADER_SIZE, PoolExtent, cells_for, extent_pages, pages_for};
 use crate::rooms::Rooms;
 use crate::searches::{add, holder};
 use page_ranges::{MemoryType, PAGE_SIZE, Status, type_for_alloc};
@@ -19,15 +19,16 @@ use std::marker::Model;
 /// A block may have so many bytes.
 const MAX_SIZE: u64 = 0x1_0000_0000;
 
-/// The request for the pages of a new extent of the type `mtype` for a block of so many bytes. `None`
-/// where no block may have so many.
-pub fn extent_request(mtype: MemoryType, size: u64) -> Option<Request>
-    ensures { result ≡ extent_request mtype size }
+/// The request on a machine with a granule for the pages of a new extent of the type `mtype` for a block
+/// of so many bytes. `None` where no block may have so many, and where the pages that fill granules
+/// are more than a number of 64 bits tells, which those of a granule of 1 or 16 pages never are.
+pub fn extent_request(granule: u64, mtype: MemoryType, size: u64) -> Option<Request>
+    ensures { result ≡ option_and_then if_counted (extent_request granule mtype size) }
 {
     if size > MAX_SIZE {
         return None;
     }
-    Some(pool_request(mtype, pages_for(size as usize) as u64))
+    pool_request(granule, mtype, pages_for(size as usize) as u64)
 }
 
 /// The pool of a machine: its extents, in the order of their addresses, and the blocks in them.
@@ -68,7 +69,8 @@ impl<A: Allocator + Copy> Pools<A> {
 
     /// AllocatePool: a block of so many bytes, all 0, of the type `mtype`. Of the extents of the type it
     /// goes into the lowest that has room, at the lowest place there. If none has, new pages are
-    /// placed for it, and the answer has the certificate of their place beside the block's address.
+    /// placed for it, which fill granules of the type on the book's machine, and the answer has the
+    /// certificate of their place beside the block's address.
     ///
     /// INVALID_PARAMETER: a type that no request may name. OUT_OF_RESOURCES: more than 2^32 bytes; or
     /// new pages are needed, and no place is permitted or memory ran out. On an `Err` all is as it was.
@@ -156,7 +158,7 @@ impl<A: Allocator + Copy> Pools<A> {
         ensures allocates { AllocatesPool IsBestChoice book.old self.old mtype size result book.new self.new }
         ensures owns { OwnsExtents book.new.memory self.new }
     {
-        let pages = pages_for(size);
+        let pages = extent_pages(book.granule(), mtype, size);
         let Ok(region) = RawPool::new(self.alloc, pages) else {
             return Err(Status::OutOfResources);
         };
@@ -168,7 +170,7 @@ impl<A: Allocator + Copy> Pools<A> {
         };
         // That the book's memory is proper is known of its table's length.
         let _ = book.table().len();
-        let Ok(placed) = book.take_for_pool(mtype, pages as u64) else {
+        let Ok(placed) = book.take_for_pool(mtype, pages_for(size) as u64) else {
             return Err(Status::OutOfResources);
         };
         let first = placed.address / PAGE_SIZE;

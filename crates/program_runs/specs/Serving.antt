@@ -18,7 +18,7 @@ IsRead file bytes = (rest : List ℕ) × (file ≡ bytes ++ rest) × ((rest ≡ 
 -- the file is a machine's, and the run of a trace of known bytes on that machine, with its drivers, ends so
 abbrev pub RunsTrace : Bool → List ℕ → Option (List ℕ) → Option (List ℕ) → Option (List ℕ) → Result (Unit {0}) RunFault → Type 0
 RunsTrace certify file trace before after end =
-    (machine : ListedMachine) × (machine_of file ≡ Ok machine) × IfSome trace (λ bytes. (new : State) × Ends Global (map listed_meaning machine.drivers) certify bytes (first_state machine.runs) new before after end)
+    (machine : ListedMachine) × (machine_of file ≡ Ok machine) × IfSome trace (λ bytes. (new : State) × Ends Global (map listed_meaning machine.drivers) certify bytes (first_state machine.machine) new before after end)
 
 -- How the program ends on a machine file and a trace, and what it wrote. It runs the trace on the machine; where there
 -- is a fault before that, nothing is written. No such run ends on a trace that was not opened, or on a block.

@@ -36,7 +36,7 @@ pub fn small_machine(rt: &(impl AllocGlobal + Abort)) -> Machine {
         owner: Owner::Given,
     })
     .expect(rt, "memory");
-    Machine::new(runs).expect(rt, "a machine")
+    Machine::new(runs, 1).expect(rt, "a machine")
 }
 
 /// A core of that machine, without drivers.

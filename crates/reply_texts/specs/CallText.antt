@@ -1,10 +1,10 @@
 -- What is printed of a call.
 use Rattle.std.specs.Prelude.{◌≡◌, ◌⊎◌, ℕ, Bool, true, false, List, [], ◌++◌, Option, Some, None, if◌then◌else◌}
 use Rattle.page_ranges.specs.declared.ranges.Descriptor.{Descriptor}
-use Rattle.page_ranges.specs.Memory.{Page}
 use Rattle.page_ranges.specs.MemoryMap.{memory_map}
 use Rattle.placement_certificate.specs.declared.certificates.Request.{Request}
 use Rattle.placement_certificate.specs.Certificates.{CertificateValue}
+use Rattle.page_services.specs.PageRules.{Book}
 use Rattle.map_keys.specs.Records.{ReadsRecords}
 use Rattle.certificate_blocks.specs.BlockText.{block_text}
 use Rattle.boot_core.specs.declared.calls.Call.{Call}
@@ -27,18 +27,18 @@ abbrev pub certificate_text : List Descriptor → Option (Request × Certificate
 certificate_text entries (Some (r, c)) = block_text entries r c
 certificate_text entries None = []
 
--- What is printed of a call with this reply, with the memory before it: the reply's lines and, where certificates are asked for,
+-- What is printed of a call with this reply, with the book before it: the reply's lines and, where certificates are asked for,
 -- the block of the one that it carries.
-abbrev pub PrintsCall : {A : Type 0} → Bool → ℕ → List Page → Call A → Reply A → List ℕ → Type 0
+abbrev pub PrintsCall : {A : Type 0} → Bool → ℕ → Book → Call A → Reply A → List ℕ → Type 0
 PrintsCall certify number before c answer text =
-    (entries : List Descriptor) × CarriesEntries answer entries × (text ≡ reply_text number entries answer ++ (if certify then certificate_text (memory_map before) (certified c answer) else []))
+    (entries : List Descriptor) × CarriesEntries answer entries × (text ≡ reply_text number entries answer ++ (if certify then certificate_text (memory_map before.memory) (certified before.granule c answer) else []))
 
 -- ---- what is kept for a block before the call
 
--- the memory map, where certificates are asked for and the call's reply may carry one
-abbrev pub map_before : {A : Type 0} → Bool → List Descriptor → Call A → Option (List Descriptor)
-map_before true entries c = if may_be_certified c then Some entries else None
-map_before false entries c = None
+-- the memory map, where certificates are asked for and the reply to the call on a machine with a granule may carry one
+abbrev pub map_before : {A : Type 0} → Bool → ℕ → List Descriptor → Call A → Option (List Descriptor)
+map_before true granule entries c = if may_be_certified granule c then Some entries else None
+map_before false granule entries c = None
 
 -- the block, where the map was kept
 abbrev pub block_after : Option (List Descriptor) → Option (Request × CertificateValue) → List ℕ

@@ -20,9 +20,9 @@ pub fn map_before<D: Driver, A: Allocator + Copy>(
     call: &Call<A>,
     certify: bool,
 ) -> Result<Option<Vec<Descriptor, A>>, AllocError>
-    ensures { IfOk result (λ kept. option_map (λ entries. entries.items) kept ≡ map_before certify (memory_map core.now.state.parts.book.memory) call.now) }
+    ensures { IfOk result (λ kept. option_map (λ entries. entries.items) kept ≡ map_before certify core.now.state.parts.book.granule (memory_map core.now.state.parts.book.memory) call.now) }
 {
-    if certify && may_be_certified(call) {
+    if certify && may_be_certified(core.granule(), call) {
         Ok(Some(entries_of(alloc, core)?))
     } else {
         Ok(None)
@@ -44,20 +44,21 @@ fn entries_of<D: Driver, A: Allocator + Copy>(
 }
 
 /// Appends the lines of a reply and, where the memory map before the call was kept, the block of the
-/// certificate that the reply carries.
+/// certificate that the reply carries. The machine has a granule of so many pages.
 pub fn print_call<A: Allocator + Copy>(
     alloc: A,
     text: &mut String<A>,
     number: u64,
+    granule: u64,
     before: &Option<Vec<Descriptor, A>>,
     call: &Call<A>,
     reply: &Reply<A>,
 ) -> Result<(), AllocError>
-    ensures { OnOk result ((entries : List Descriptor) × CarriesEntries reply.now entries × (string_bytes text.new ≡ string_bytes text.old ++ (reply_text number entries reply.now ++ block_after (option_map (λ kept. kept.items) before.now) (certified call.now reply.now)))) }
+    ensures { OnOk result ((entries : List Descriptor) × CarriesEntries reply.now entries × (string_bytes text.new ≡ string_bytes text.old ++ (reply_text number entries reply.now ++ block_after (option_map (λ kept. kept.items) before.now) (certified granule call.now reply.now)))) }
 {
     let entries = carried_entries(alloc, reply)?;
     print_reply(alloc, text, number, entries.as_slice(), reply)?;
-    match (before, certified(call, reply)) {
+    match (before, certified(granule, call, reply)) {
         (Some(entries), Some((request, certificate))) => {
             print_block(text, entries.as_slice(), &request, certificate)
         }

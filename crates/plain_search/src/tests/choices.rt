@@ -1,13 +1,14 @@
 //! Expected values worked out by hand, and small machines on which a plain search judges.
-ghost use Rattle.std.specs.Prelude.{◌≡◌, ◌+◌, ◌<◌, ◌≤◌, false, IsTrue, IfOk, OnOk};
+ghost use Rattle.std.specs.Prelude.{◌≡◌, ◌+◌, ◌%◌, ◌<◌, ◌≤◌, true, false, IsTrue, IfOk, OnOk};
 ghost use Rattle.page_ranges.specs.declared.ranges.Owner.TheVariants.{Given};
-ghost use Rattle.page_ranges.specs.MemoryTypes.{conventional, has_runtime, is_bad_type, page_count};
+ghost use Rattle.page_ranges.specs.MemoryTypes.{conventional, has_runtime, page_count};
+ghost use Rattle.page_ranges.specs.Granules.{is_granular};
 ghost use Rattle.page_ranges.specs.Memory.{IsProperMemory};
 ghost use Rattle.page_ranges.specs.Runs.{pages_of, AreRuns};
 ghost use Rattle.placement_certificate.specs.Placement.{IsProperRequest};
 ghost use Rattle.plain_search.specs.RunsBy.{AreRunsBy};
 
-use super::{bound, run};
+use super::{bound, request, run};
 use crate::plain_certificate;
 use descriptor_table::RunTable;
 use page_ranges::{MemoryType, PAGE_COUNT, Run, has_runtime};
@@ -91,13 +92,15 @@ fn chosen(alloc: Global, runs: &[Run], request: &Request) -> Result<Option<Certi
     choose(alloc, &table, request)
 }
 
-fn request(number: u32, pages: u64, limit: u64) -> Request
-    ensures { result ≡ record { mtype = number; pages = pages; limit = limit } }
+// A request on a machine with granules of 16 pages, of a type that stands in them.
+fn in_granules(number: u32, pages: u64, limit: u64) -> Request
+    ensures { 0 < pages → pages % 16 ≡ 0 → is_granular number ≡ true → IsProperRequest result }
 {
     Request {
         mtype: MemoryType::new(number),
         pages,
         limit,
+        granule: 16,
     }
 }
 
@@ -251,14 +254,56 @@ fn no_start_is_permitted(rt: HostRuntime) -> Result<(), AllocError> {
     Ok(())
 }
 
-// A type with attributes, drawn by a number.
+// With a granule of 16: at 64 the pages end below others of their type, at 112 both ends lie inside an
+// entry, between 146 and 158 is no multiple, and from 160 on two entries follow each other.
+const IN_GRANULES: [Row; 7] = [
+    (0, 8, 4, 0xf),
+    (8, 72, 7, 0xf),
+    (80, 16, 6, 0x8000_0000_0000_000f),
+    (100, 40, 7, 0xf),
+    (146, 12, 7, 0xf),
+    (160, 10, 7, 0xf),
+    (170, 30, 7, 0x7),
+];
+
+#[test]
+fn multiples_of_the_granule(rt: HostRuntime) -> Result<(), AllocError> {
+    let bounds = [
+        bound(8, 72, 7, 64),
+        bound(100, 40, 9, 112),
+        no_start(146, 12),
+        bound(160, 10, 8, 160),
+        bound(170, 30, 9, 176),
+    ];
+    let sixteen = in_granules(6, 16, PAGE_COUNT);
+    assert_certified(&rt, &IN_GRANULES, &sixteen, &bounds, 64)?;
+    let bounds = [
+        bound(8, 72, 8, 48),
+        no_start(100, 40),
+        no_start(146, 12),
+        bound(160, 10, 8, 160),
+        no_start(170, 30),
+    ];
+    let more = in_granules(10, 32, PAGE_COUNT);
+    assert_certified(&rt, &IN_GRANULES, &more, &bounds, 160)?;
+    let bounds = [
+        bound(8, 72, 9, 48),
+        no_start(100, 40),
+        no_start(146, 12),
+        no_start(160, 10),
+        no_start(170, 30),
+    ];
+    assert_certified(&rt, &IN_GRANULES, &in_granules(0, 16, 79), &bounds, 48)
+}
+
+// A type with attributes, drawn by a number below six, or below twelve for more that are free.
 fn drawn_kind(draw: u64) -> (u32, u64)
     ensures { result.0 ≡ conventional → has_runtime result.1 ≡ false }
 {
-    match draw % 6 {
+    match draw {
         0 => (6, 0x8000_0000_0000_000f),
         1 => (5, 0x8000_0000_0000_0007),
-        2 => (7, 0x7),
+        2 | 6 | 7 => (7, 0x7),
         3 => (7, 0x4_000f),
         _ => (7, 0xf),
     }
@@ -283,8 +328,11 @@ fn next_draw(draw: u64) -> u64 {
         .wrapping_add(1_442_695_040_888_963_407)
 }
 
-// A machine of eight runs, of at most forty pages with the holes between them.
-fn drawn_machine(alloc: Global, seed: u64) -> Result<Vec<Run>, AllocError>
+// A machine of eight runs, each of up to so many pages and with a hole of a page below it or none, of
+// so many kinds.
+fn drawn_machine(alloc: Global, seed: u64, most: u64, kinds: u64) -> Result<Vec<Run>, AllocError>
+    requires most { (0 < most) × (most ≤ 11) }
+    requires kinds { 0 < kinds }
     ensures runs { IfOk result (λ v. AreRuns v.items) }
     ensures proper { IfOk result (λ v. IsProperMemory (pages_of v.items)) }
 {
@@ -294,21 +342,36 @@ fn drawn_machine(alloc: Global, seed: u64) -> Result<Vec<Run>, AllocError>
     for _turn in 0..8_u64 {
         draw = next_draw(draw);
         let first = end + (draw >> 33) % 6 / 5;
-        let pages = (draw >> 40) % 4 + 1;
-        push_run(&mut runs, first, pages, drawn_kind(draw >> 48))?;
+        let pages = (draw >> 40) % most + 1;
+        push_run(&mut runs, first, pages, drawn_kind((draw >> 48) % kinds))?;
         end = first + pages;
     }
     Ok(runs)
 }
 
-fn drawn_type(draw: u64) -> MemoryType
-    ensures { is_bad_type result ≡ false }
+// A request for up to six pages below a limit up to 40, drawn by a number below 738.
+fn drawn_request(draw: u64) -> Request
+    ensures { IsProperRequest result }
 {
-    match draw % 3 {
-        0 => MemoryType::new(4),
-        1 => MemoryType::new(5),
-        _ => MemoryType::new(6),
-    }
+    let number = match draw % 3 {
+        0 => 4,
+        1 => 5,
+        _ => 6,
+    };
+    request(number, draw / 3 % 6 + 1, draw / 18)
+}
+
+// A request for up to 48 pages in granules of 16, below a limit up to 104, drawn by a number below 168.
+fn drawn_in_granules(draw: u64) -> Request
+    ensures { IsProperRequest result }
+{
+    let number = match draw % 4 {
+        0 => 0,
+        1 => 5,
+        2 => 6,
+        _ => 10,
+    };
+    in_granules(number, (draw / 4 % 3 + 1) * 16, draw / 12 * 8)
 }
 
 // The choice is that of the plain search.
@@ -326,30 +389,54 @@ fn agrees(alloc: Global, runs: &[Run], request: &Request) -> Result<bool, AllocE
     })
 }
 
-// In how many requests for up to six pages, below limits up to 40, the choice is another.
+// In how many drawn requests the choice is another.
 fn disagreements(alloc: Global, runs: &[Run]) -> Result<usize, AllocError>
     requires runs { AreRuns runs.now }
     requires proper { IsProperMemory (pages_of runs.now) }
 {
     let mut others = 0_usize;
     for draw in 0..738 {
-        let request = Request {
-            mtype: drawn_type(draw),
-            pages: draw / 3 % 6 + 1,
-            limit: draw / 18,
-        };
-        if !agrees(alloc, runs, &request)? {
+        if !agrees(alloc, runs, &drawn_request(draw))? {
             others = others.saturating_add(1);
         }
     }
     Ok(others)
 }
 
+// The same of requests in granules of 16 pages.
+fn disagreements_in_granules(alloc: Global, runs: &[Run]) -> Result<usize, AllocError>
+    requires runs { AreRuns runs.now }
+    requires proper { IsProperMemory (pages_of runs.now) }
+{
+    let mut others = 0_usize;
+    for draw in 0..168 {
+        if !agrees(alloc, runs, &drawn_in_granules(draw))? {
+            others = others.saturating_add(1);
+        }
+    }
+    Ok(others)
+}
+
+// Machines of at most forty pages.
 #[test]
 fn agrees_with_the_plain_search(rt: HostRuntime) -> Result<(), AllocError> {
     for seed in 0..200 {
-        let runs = drawn_machine(rt.alloc(), seed)?;
+        let runs = drawn_machine(rt.alloc(), seed, 4, 6)?;
         assert_eq!(rt; disagreements(rt.alloc(), runs.as_slice())?, 0, "at {seed}");
+    }
+    Ok(())
+}
+
+// Machines of at most 96 pages.
+#[test]
+fn agrees_in_granules(rt: HostRuntime) -> Result<(), AllocError> {
+    for seed in 0..200 {
+        let runs = drawn_machine(rt.alloc(), seed, 11, 12)?;
+        assert_eq!(rt;
+            disagreements_in_granules(rt.alloc(), runs.as_slice())?,
+            0,
+            "at {seed}"
+        );
     }
     Ok(())
 }

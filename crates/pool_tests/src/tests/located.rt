@@ -3,6 +3,7 @@ ghost use Rattle.std.specs.Prelude.{◌≡◌, []};
 ghost use Rattle.page_ranges.specs.declared.ranges.Owner.TheVariants.{Given};
 ghost use Rattle.page_ranges.specs.Memory.{IsProperMemory};
 ghost use Rattle.page_ranges.specs.Runs.{pages_of, AreRuns, IsValidMachine};
+ghost use Rattle.page_services.specs.PageRules.{HasWholeGranules};
 ghost use Rattle.pool_services.specs.PoolRules.{OwnsExtents};
 
 use descriptor_table::RunTable;
@@ -116,6 +117,7 @@ fn free_machine() -> [Run; 1]
     ensures runs { AreRuns result }
     ensures proper { IsProperMemory (pages_of result) }
     ensures owns { OwnsExtents (pages_of result) [] }
+    ensures granules { HasWholeGranules 1 (pages_of result) }
 {
     given_pages_law();
     [Run {
@@ -146,7 +148,7 @@ fn filled(rt: &impl Abort, book: &mut PageBook, pools: &mut Pools, bytes: &[u8])
 /// A pool with the blocks, and their addresses.
 fn blocks_of(rt: &(impl AllocGlobal + Abort), contents: &[&[u8]]) -> (Pools, Vec<u64>) {
     let table = RunTable::from_runs(rt.alloc(), &free_machine()).expect(rt, "memory");
-    let mut book = PageBook::new(table);
+    let mut book = PageBook::new(table, 1);
     let mut pools = Pools::new(rt.alloc());
     let mut addresses = Vec::new(rt.alloc());
     for bytes in contents {

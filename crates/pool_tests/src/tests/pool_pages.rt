@@ -20,7 +20,7 @@ fn assert_book(rt: &impl Abort, book: &PageBook, key: u64, entries: usize) {
 #[test]
 fn takes_for_the_pool_and_gives_back(rt: HostRuntime) {
     let table = RunTable::from_runs(rt.alloc(), &machine_a()).expect(&rt, "memory");
-    let mut book = PageBook::new(table);
+    let mut book = PageBook::new(table, 1);
     let placed = book
         .take_for_pool(MemoryType::new(4), 10)
         .expect(&rt, "pages");

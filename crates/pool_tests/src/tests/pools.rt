@@ -1,8 +1,10 @@
 //! The worked rows of the pool: blocks, their bytes and their addresses.
-ghost use Rattle.std.specs.Prelude.{◌≡◌, []};
+ghost use Rattle.std.specs.Prelude.{◌≡◌, ℕ, []};
 ghost use Rattle.page_ranges.specs.declared.ranges.Owner.TheVariants.{Given};
+ghost use Rattle.page_ranges.specs.Granules.{IsGranule};
 ghost use Rattle.page_ranges.specs.Memory.{IsProperMemory};
 ghost use Rattle.page_ranges.specs.Runs.{pages_of, AreRuns, IsValidMachine};
+ghost use Rattle.page_services.specs.PageRules.{HasWholeGranules};
 ghost use Rattle.pool_services.specs.PoolRules.{OwnsExtents};
 
 use descriptor_table::RunTable;
@@ -39,6 +41,7 @@ pub fn machine_a() -> [Run; 4]
     ensures runs { AreRuns result }
     ensures proper { IsProperMemory (pages_of result) }
     ensures owns { OwnsExtents (pages_of result) [] }
+    ensures granules { (g : ℕ) → HasWholeGranules g (pages_of result) }
 {
     given_pages_law();
     [
@@ -126,9 +129,12 @@ fn assert_read(rt: &impl Abort, pools: &Pools, address: u64, bytes: &[u8], fits:
     }
 }
 
-fn assert_steps(rt: &(impl AllocGlobal + Abort), steps: &[Step]) {
+// Asserts the answers of calls on a machine with a granule.
+fn assert_steps(rt: &(impl AllocGlobal + Abort), granule: u64, steps: &[Step])
+    requires { IsGranule granule }
+{
     let table = RunTable::from_runs(rt.alloc(), &machine_a()).expect(rt, "memory");
-    let mut book = PageBook::new(table);
+    let mut book = PageBook::new(table, granule);
     let mut pools = Pools::new(rt.alloc());
     for step in steps {
         assert_step(rt, &mut book, &mut pools, step);
@@ -139,7 +145,7 @@ const REFUSED: Result<(), Status> = Err(Status::InvalidParameter);
 
 #[test]
 fn pool_first_fit(rt: HostRuntime) {
-    assert_steps(&rt, FIRST_FIT);
+    assert_steps(&rt, 1, FIRST_FIT);
 }
 
 const FIRST_FIT: &[Step] = &[
@@ -161,7 +167,7 @@ const FIRST_FIT: &[Step] = &[
 
 #[test]
 fn pool_empty_block(rt: HostRuntime) {
-    assert_steps(&rt, EMPTY_BLOCK);
+    assert_steps(&rt, 1, EMPTY_BLOCK);
 }
 
 const EMPTY_BLOCK: &[Step] = &[
@@ -178,7 +184,7 @@ const EMPTY_BLOCK: &[Step] = &[
 
 #[test]
 fn pool_freed_cells_again(rt: HostRuntime) {
-    assert_steps(&rt, FREED_CELLS);
+    assert_steps(&rt, 1, FREED_CELLS);
 }
 
 const FREED_CELLS: &[Step] = &[
@@ -195,4 +201,30 @@ const FREED_CELLS: &[Step] = &[
     Step::Read(0x7f_f008, b"\xa5", true),
     Step::Pool(4, 24, Ok((0x7f_ffe8, false))),
     Step::Pool(4, 24, Ok((0x7f_e008, true))),
+];
+
+#[test]
+fn pool_granules(rt: HostRuntime) {
+    assert_steps(&rt, 16, GRANULES);
+}
+
+// Extents of types 6 and 10 begin at a multiple of 16 pages and have a multiple of 16. The one of
+// type 6 follows the runtime data of the machine, those of type 10 end with its memory.
+const GRANULES: &[Step] = &[
+    Step::Pool(6, 24, Ok((0x41_0008, true))),
+    Step::Map(4),
+    Step::Pool(6, 4088, Ok((0x41_0028, false))),
+    Step::Map(4),
+    Step::Pool(10, 8, Ok((0x7f_0008, true))),
+    Step::Pool(10, 0x1_0000, Ok((0x7d_0008, true))),
+    Step::Map(5),
+    Step::Free(0x41_0028, Ok(())),
+    Step::Free(0x41_0008, Ok(())),
+    Step::Map(5),
+    Step::Free(0x7d_0008, Ok(())),
+    Step::Free(0x7f_0008, Ok(())),
+    Step::Map(4),
+    // An extent of another type has just the pages that its block needs.
+    Step::Pool(4, 24, Ok((0x7f_f008, true))),
+    Step::Pool(4, 4088, Ok((0x7f_e008, true))),
 ];

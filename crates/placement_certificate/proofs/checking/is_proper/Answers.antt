@@ -2,8 +2,8 @@
 use Rattle.std.proofs.Common.{rules}
 use Rattle.placement_certificate.proofs.checking.is_proper.Goals as goal
 
-pub returns-then-request-gt0 : goal.returns-then-request-gt0
-returns-then-request-gt0 c = search rules
+pub returns-then-is_ok : goal.returns-then-is_ok
+returns-then-is_ok c = search rules
 
-pub returns-else-request-gt0 : goal.returns-else-request-gt0
-returns-else-request-gt0 c = search rules
+pub returns-else-is_ok : goal.returns-else-is_ok
+returns-else-is_ok c = search rules

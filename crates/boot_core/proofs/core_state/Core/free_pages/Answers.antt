@@ -1,4 +1,4 @@
-use Rattle.std.proofs.Common.{[], refl}
+use Rattle.std.proofs.Common.{refl}
 use Rattle.boot_core.specs.Machines.{Parts}
 use Rattle.boot_core.proofs.Follows.{follows_now, follows_on, not_raised}
 use Rattle.boot_core.proofs.Soundness.{frees_kept}

@@ -1,11 +1,7 @@
-use Rattle.std.proofs.Common.{◌≡◌, ◌+◌, refl, ap, sym, subst, ◌∙◌, rules}
-use Rattle.page_services.specs.PageRules.{Book}
-use Rattle.pool_services.specs.Extents.{Extent}
+use Rattle.std.proofs.Common.{◌≡◌, ◌+◌, refl, ap, subst, ◌∙◌, rules}
 use Rattle.protocol_services.specs.Lists.{Lists}
 use Rattle.protocol_services.specs.Searches.{LocatesHandles}
-use Rattle.boot_core.specs.declared.calls.Reply.{Reply}
 use Rattle.boot_core.specs.Machines.{CoreValue, Parts, State}
-use Rattle.boot_core.specs.Steps.{exited_after}
 use Rattle.boot_core.proofs.Serving.{open_rule, exited_refusal}
 use Rattle.boot_core.proofs.core_state.Core.locate_handle.Goals.{in-Ok, in-Err}
 use Rattle.boot_core.proofs.core_state.Core.locate_handle.Goals as goal

@@ -1,4 +1,4 @@
-use Rattle.std.proofs.Common.{◌≡◌, ◌+◌, List, map, refl, ap, sym, subst, ◌∙◌, arith, rules}
+use Rattle.std.proofs.Common.{◌≡◌, ◌+◌, List, map, refl, ap, subst, ◌∙◌, arith, rules}
 use Rattle.protocol_services.specs.Lists.{Lists}
 use Rattle.protocol_services.specs.Removing.{Uninstalls}
 use Rattle.boot_core.specs.Machines.{CoreValue, Parts, State}

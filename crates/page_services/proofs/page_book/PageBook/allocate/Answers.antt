@@ -1,18 +1,39 @@
--- One search and no second tactic after it: a body that is wrong is then refused sooner.
-use Rattle.std.proofs.Common.{rules}
+-- Terms and searches, and no second tactic after them: a body that is wrong is then refused sooner.
+use Rattle.std.proofs.Common.{◌≡◌, false, Some, refl, sym, subst, ◌∙◌, arith}
+use Rattle.std.specs.Option.{option_and_then}
+use Rattle.page_ranges.specs.MemoryTypes.{is_bad_type}
+use Rattle.page_services.specs.PageRules.{Book, IsInGranules, IsBestChoice, AllocatesPages, if_counted, placement_request}
+use Rattle.page_services.proofs.Granules.{asked_request, asked_granule, named_type, placement_request_proper, placement_request_limit, allocates_placed}
 use Rattle.page_services.proofs.page_book.PageBook.allocate.Goals as goal
 
-pub returns-then-kind-gt-ALLOCATE_ADDRESS : goal.returns-then-kind-gt-ALLOCATE_ADDRESS
-returns-then-kind-gt-ALLOCATE_ADDRESS g c = search rules
+pub place_best-requires-clause-proper : goal.place_best-requires-clause-proper
+place_best-requires-clause-proper g c =
+    let told = subst (λ (b : Book). option_and_then if_counted (placement_request b.granule c.args.kind c.in_ok-mtype.mtype c.args.pages c.args.memory) ≡ Some c.in-Some.request) c.self.view_is (sym c.placement_request.ensures ∙ c.in-Some.is) in
+    let asked = asked_request c.args.self.now.granule c.args.kind c.in_ok-mtype.mtype c.args.pages c.args.memory c.in-Some.request told in
+    let (good, same) = named_type c.args.mtype c.in_ok-mtype.mtype (sym c.in_ok-mtype.ensures) in
+    let is = subst IsInGranules c.self.view_is c.self.invariant in
+    placement_request_proper c.args.self.now.granule c.args.kind c.in_ok-mtype.mtype c.args.pages c.args.memory c.in-Some.request is.granule (subst (λ t. is_bad_type t ≡ false) same good) (omega arith) asked
 
-pub returns-in_err-mtype : goal.returns-in_err-mtype
-returns-in_err-mtype g c = search rules
+pub place_best-requires-clause-limit : goal.place_best-requires-clause-limit
+place_best-requires-clause-limit g c =
+    let told = subst (λ (b : Book). option_and_then if_counted (placement_request b.granule c.args.kind c.in_ok-mtype.mtype c.args.pages c.args.memory) ≡ Some c.in-Some.request) c.self.view_is (sym c.placement_request.ensures ∙ c.in-Some.is) in
+    let asked = asked_request c.args.self.now.granule c.args.kind c.in_ok-mtype.mtype c.args.pages c.args.memory c.in-Some.request told in
+    placement_request_limit c.args.self.now.granule c.args.kind c.in_ok-mtype.mtype c.args.pages c.args.memory c.in-Some.request c.ranges.memory.fits asked
 
-pub returns-then-pages-eq0 : goal.returns-then-pages-eq0
-returns-then-pages-eq0 g c = search rules
+pub place_best-requires-clause-granule : goal.place_best-requires-clause-granule
+place_best-requires-clause-granule g c =
+    let told = subst (λ (b : Book). option_and_then if_counted (placement_request b.granule c.args.kind c.in_ok-mtype.mtype c.args.pages c.args.memory) ≡ Some c.in-Some.request) c.self.view_is (sym c.placement_request.ensures ∙ c.in-Some.is) in
+    let asked = asked_request c.args.self.now.granule c.args.kind c.in_ok-mtype.mtype c.args.pages c.args.memory c.in-Some.request told in
+    asked_granule c.args.self.now.granule c.args.kind c.in_ok-mtype.mtype c.args.pages c.args.memory c.in-Some.request asked
 
 pub returns-in-Some : goal.returns-in-Some
-returns-in-Some g c = search rules
+returns-in-Some g c =
+    let told = subst (λ (b : Book). option_and_then if_counted (placement_request b.granule c.args.kind c.in_ok-mtype.mtype c.args.pages c.args.memory) ≡ Some c.in-Some.request) c.self.view_is (sym c.placement_request.ensures ∙ c.in-Some.is) in
+    let asked = asked_request c.args.self.now.granule c.args.kind c.in_ok-mtype.mtype c.args.pages c.args.memory c.in-Some.request told in
+    let (good, same) = named_type c.args.mtype c.in_ok-mtype.mtype (sym c.in_ok-mtype.ensures) in
+    subst (λ t. AllocatesPages IsBestChoice c.args.self.now c.args.kind t c.args.pages c.args.memory c.place_best.result c.place_best.new.self) (sym same) (allocates_placed c.args.self.now c.place_best.new.self c.args.kind c.in_ok-mtype.mtype c.args.pages c.args.memory c.in-Some.request (omega arith, subst (λ t. is_bad_type t ≡ false) same good, omega arith) c.if-kind-eq-ALLOCATE_ADDRESS.false asked c.place_best.result c.place_best.ensures)
 
 pub returns-in-None : goal.returns-in-None
-returns-in-None g c = search rules
+returns-in-None g c =
+    let (good, same) = named_type c.args.mtype c.in_ok-mtype.mtype (sym c.in_ok-mtype.ensures) in
+    ((omega arith, good, omega arith), λ k. absurd (c.if-kind-eq-ALLOCATE_ADDRESS.false k), refl)

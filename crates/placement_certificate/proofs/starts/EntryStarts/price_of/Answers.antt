@@ -46,7 +46,7 @@ overflow_sub-result g c =
     let last = last_on m s c.requires.starts c.args.block.now p c.requires.block c.requires.last in
     omega (
       arith,
-      price_by_edges m s c.requires.starts p c.requires.in_entry c.requires.permitted,
+      price_by_edges m s c.requires.starts p c.requires.permitted,
       c.edge_adds.ensures (page_below m p) (page_at m p) below first,
       c.edge_adds-2.ensures (page_below m end) (page_at m end) last (on_page m end c.block_above-above.result c.block_above-above.ensures.above),
       c.edge_saves.ensures (page_below m p) (page_at m p) below first,
@@ -63,7 +63,7 @@ overflow_sub-result-2 g c =
     let last = last_on m s c.requires.starts c.args.block.now p c.requires.block c.requires.last in
     omega (
       arith,
-      price_by_edges m s c.requires.starts p c.requires.in_entry c.requires.permitted,
+      price_by_edges m s c.requires.starts p c.requires.permitted,
       c.edge_adds.ensures (page_below m p) (page_at m p) below first,
       c.edge_adds-2.ensures (page_below m end) (page_at m end) last (on_page m end c.block_above-above.result c.block_above-above.ensures.above),
       c.edge_saves.ensures (page_below m p) (page_at m p) below first,
@@ -81,7 +81,7 @@ returns-clause-price g c =
     let last = last_on m s c.requires.starts c.args.block.now p c.requires.block c.requires.last in
     omega (
       arith,
-      price_by_edges m s c.requires.starts p c.requires.in_entry c.requires.permitted,
+      price_by_edges m s c.requires.starts p c.requires.permitted,
       c.edge_adds.ensures (page_below m p) (page_at m p) below first,
       c.edge_adds-2.ensures (page_below m end) (page_at m end) last (on_page m end c.block_above-above.result c.block_above-above.ensures.above),
       c.edge_saves.ensures (page_below m p) (page_at m p) below first,

@@ -4,6 +4,7 @@ use Rattle.page_ranges.specs.Memory.{IsProperMemory}
 use Rattle.page_ranges.specs.Runs.{pages_of, IsValidMachine}
 use Rattle.page_ranges.proofs.RunLists.{proper_pages}
 use Rattle.placement_certificate.proofs.Machines.{run}
+use Rattle.pool_services.proofs.PoolGranules.{machine-granules}
 use Rattle.pool_tests.proofs.tests.located.free_machine.Goals as goal
 
 abbrev pub runs : List Run
@@ -25,3 +26,6 @@ returns-clause-proper c = rw c.new.ensures proper
 
 pub returns-clause-owns : goal.returns-clause-owns
 returns-clause-owns c = rw c.new.ensures (c.given_pages_law.ensures runs valid)
+
+pub returns-clause-granules : goal.returns-clause-granules
+returns-clause-granules c = rw c.new.ensures (machine-granules 1 runs valid)

@@ -1,6 +1,7 @@
 use Rattle.std.proofs.Common.{refl, arith}
 use Rattle.page_ranges.specs.Runs.{IsValidMachine}
 use Rattle.placement_certificate.proofs.Machines.{runs_a, proper_a}
+use Rattle.pool_services.proofs.PoolGranules.{machine-granules}
 use Rattle.pool_tests.proofs.tests.pools.machine_a.Goals as goal
 
 valid : IsValidMachine runs_a
@@ -16,3 +17,6 @@ returns-clause-proper c = rw (c.run.ensures, c.run-2.ensures, c.run-3.ensures, c
 
 pub returns-clause-owns : goal.returns-clause-owns
 returns-clause-owns c = rw (c.run.ensures, c.run-2.ensures, c.run-3.ensures, c.run-4.ensures) (c.given_pages_law.ensures runs_a valid)
+
+pub returns-clause-granules : goal.returns-clause-granules
+returns-clause-granules c = rw (c.run.ensures, c.run-2.ensures, c.run-3.ensures, c.run-4.ensures) (λ g. machine-granules g runs_a valid)

@@ -1,5 +1,0 @@
-use Rattle.std.proofs.Common.{append_assoc}
-use Rattle.certificate_blocks.proofs.printing.print_request.Goals as goal
-
-pub returns : goal.returns
-returns g c = simp append_assoc (rw c.number-mtype.ensures at c.writeln.ensures.bytes)
