@@ -33,7 +33,7 @@ pub fn new_core<'a>(
 ) -> Result<Core<TableDriver, &'a Refusing<Global>>, AllocError> {
     let MachineFile { machine, drivers } = machine_file(rt);
     let runs = Vec::from_slice(heap, machine.runs()).expect(rt, "memory");
-    let machine = Machine::new(runs).expect(rt, "a machine");
+    let machine = Machine::new(runs, 1).expect(rt, "a machine");
     let mut moved = Vec::new(heap);
     for driver in drivers {
         moved.push(driver).expect(rt, "memory");

@@ -45,6 +45,7 @@ fn request(number: u32, pages: u64, limit: u64) -> Request {
         mtype: MemoryType::new(number),
         pages,
         limit,
+        granule: 1,
     }
 }
 
