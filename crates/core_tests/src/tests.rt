@@ -3,6 +3,7 @@ mod call_lists;
 mod firmware;
 mod firmware_blocks;
 mod firmware_maps;
+mod granules;
 mod large_requests;
 mod pool_loads;
 mod stretches;
@@ -34,17 +35,21 @@ pub fn run_of(given: &Given) -> Run {
     }
 }
 
-/// A core of the machine that has these pages.
+/// A core of the machine that has these pages, and a granule of one page.
 pub fn core_of(rt: &(impl AllocGlobal + Abort), given: &[Given]) -> Core<TableDriver> {
     let mut runs = Vec::new(rt.alloc());
     for pages in given {
         runs.push(run_of(pages)).expect(rt, "memory");
     }
-    core_of_runs(rt, runs)
+    core_of_runs(rt, runs, 1)
 }
 
-/// A core of the machine that has these runs.
-pub fn core_of_runs(rt: &(impl AllocGlobal + Abort), runs: Vec<Run>) -> Core<TableDriver> {
-    let machine = Machine::new(runs).expect(rt, "a machine");
+/// A core of the machine that has these runs and a granule.
+pub fn core_of_runs(
+    rt: &(impl AllocGlobal + Abort),
+    runs: Vec<Run>,
+    granule: u64,
+) -> Core<TableDriver> {
+    let machine = Machine::new(runs, granule).expect(rt, "a machine");
     Core::new(rt.alloc(), machine, Vec::new(rt.alloc())).expect(rt, "memory")
 }

@@ -2,6 +2,7 @@
 //! stretches.
 use super::call_lists::{address_told, reply_of, status_told};
 use super::firmware_maps::maps;
+use super::granules::{border_above, border_below, freed_change, granule_of};
 use super::stretches::{
     Change, Stretch, Wanted, are_all, changed, entry_of, joined, stretches_of,
     with_specific_purpose,
@@ -17,19 +18,26 @@ const CALLS: u32 = 400;
 
 const CHANGES: u32 = 200;
 
-/// A request for pages, as it was drawn.
+/// How many are made on a machine with a granule of 16 pages, and how many of them at least change its map.
+const CALLS_IN_GRANULES: u32 = 1_000;
+
+const CHANGES_IN_GRANULES: u32 = 500;
+
+/// A request for pages, as it was drawn, with the granule of its type.
 #[derive(Clone, Copy)]
 struct Drawn {
     kind: u32,
     mtype: u32,
     pages: u64,
     memory: u64,
+    granule: u64,
 }
 
-/// A core of the machine that stretches describe.
+/// A core of the machine that stretches describe, with a granule.
 pub fn core_of_stretches(
     rt: &(impl AllocGlobal + Abort),
     stretches: &[Stretch],
+    granule: u64,
 ) -> Core<TableDriver> {
     let mut runs = Vec::new(rt.alloc());
     for stretch in stretches {
@@ -41,7 +49,7 @@ pub fn core_of_stretches(
         };
         runs.push(run_of(&given)).expect(rt, "memory");
     }
-    core_of_runs(rt, runs)
+    core_of_runs(rt, runs, granule)
 }
 
 fn next_draw(draw: u64) -> u64 {
@@ -58,19 +66,47 @@ fn place_of(draw: u64, place: u32) -> usize {
 const KINDS: [u32; 4] = [0, 0, 1, 2];
 
 /// The types of requests.
-const TYPES: [u32; 8] = [0, 1, 2, 3, 4, 5, 6, 0x7000_0001];
+const TYPES: [u32; 16] = [
+    0,
+    1,
+    2,
+    3,
+    4,
+    5,
+    6,
+    8,
+    9,
+    10,
+    11,
+    12,
+    13,
+    0x7000_0001,
+    0x8000_0000,
+    0xffff_ffff,
+];
 
-/// A request, whose address is up to 63 pages above the first page of a stretch.
-fn drawn_request(draw: u64, stretches: &[Stretch]) -> Drawn {
+/// A request, whose address is up to 63 pages above the first page of a stretch, and often at the border of a
+/// granule.
+fn drawn_request(draw: u64, stretches: &[Stretch], granule: u64) -> Drawn {
     let stretch = stretches.get(place_of(draw, 20));
     let first = stretch.map_or(0, |stretch| stretch.first);
     let page = first.saturating_add(draw >> 30 & 0x3f);
+    let mtype = TYPES[place_of(draw, 40) % 16];
+    let granule = granule_of(mtype, granule);
+    let is_at_border = draw >> 36 & 3 != 0;
+    let page = border_below(page, if is_at_border { granule } else { 1 });
     Drawn {
         kind: KINDS[place_of(draw, 50) % 4],
-        mtype: TYPES[place_of(draw, 40) % 8],
-        pages: (draw >> 55 & 0xf) + 1,
+        mtype,
+        pages: (draw >> 54 & 0x1f) + 1,
         memory: page.saturating_mul(PAGE_SIZE),
+        granule,
     }
+}
+
+/// How many pages a request takes: they fill granules.
+fn taken_by(drawn: &Drawn) -> u64 {
+    border_above(drawn.pages, drawn.granule)
 }
 
 /// The page number by which the pages of a request end.
@@ -82,12 +118,13 @@ fn limit_of(drawn: &Drawn) -> u64 {
     }
 }
 
-/// Whether some start is permitted: then the first page of a stretch is.
+/// Whether some start is permitted: then the first border of a granule in a stretch is.
 fn has_place(stretches: &[Stretch], drawn: &Drawn) -> bool {
     let mut has_place = false;
     for stretch in stretches {
-        let end = stretch.first.saturating_add(drawn.pages);
-        let is_free = are_all(stretches, stretch.first, end, Wanted::Available);
+        let first = border_above(stretch.first, drawn.granule);
+        let end = first.saturating_add(taken_by(drawn));
+        let is_free = are_all(stretches, first, end, Wanted::Available);
         has_place = has_place || end <= limit_of(drawn) && is_free;
     }
     has_place
@@ -102,15 +139,21 @@ fn wanted_of(drawn: &Drawn) -> Wanted {
     }
 }
 
+/// Whether a page is at the border of a granule of a request.
+fn is_border(page: u64, drawn: &Drawn) -> bool {
+    border_below(page, drawn.granule) == page
+}
+
 /// Judges that pages were placed at an address, and answers the change.
 fn placed_change(rt: &impl Abort, stretches: &[Stretch], drawn: &Drawn, address: u64) -> Change {
     let first = address / PAGE_SIZE;
-    let end = first.saturating_add(drawn.pages);
+    let end = first.saturating_add(taken_by(drawn));
     assert!(rt;
         are_all(stretches, first, end, wanted_of(drawn)),
         "not free: {first}"
     );
     assert!(rt; end <= limit_of(drawn), "above the limit: {first}");
+    assert!(rt; is_border(first, drawn), "no border: {first}");
     assert!(rt;
         drawn.kind < 2 || address == drawn.memory,
         "elsewhere: {first}"
@@ -126,8 +169,9 @@ fn placed_change(rt: &impl Abort, stretches: &[Stretch], drawn: &Drawn, address:
 /// The status of a request that is refused.
 fn refusal_of(stretches: &[Stretch], drawn: &Drawn) -> Status {
     let wanted = drawn.memory / PAGE_SIZE;
-    let wanted_end = wanted.saturating_add(drawn.pages);
-    if drawn.kind == 2 && !are_all(stretches, wanted, wanted_end, Wanted::Free) {
+    let wanted_end = wanted.saturating_add(taken_by(drawn));
+    let is_free = are_all(stretches, wanted, wanted_end, Wanted::Free);
+    if drawn.kind == 2 && !(is_free && is_border(wanted, drawn)) {
         Status::NotFound
     } else if drawn.kind == 1 && !has_place(stretches, drawn) {
         Status::OutOfResources
@@ -183,15 +227,27 @@ fn free(
         Status::NotFound
     };
     assert_eq!(rt; freed(rt, core, first, end), wanted);
-    are_placed.then_some(Change {
-        first,
-        end,
-        mtype: 7,
-        is_placed: false,
-    })
+    are_placed.then_some(freed_change(stretches, first, end, core.granule()))
 }
 
-/// Makes a call that was drawn; some frees are of one page more than was placed.
+/// The pages that a free names of those that were placed: all, one page more, or some of them.
+fn named_part(draw: u64, first: u64, end: u64) -> (u64, u64) {
+    match draw >> 45 & 3 {
+        0 => (first, end.saturating_add(1)),
+        1 => (first.saturating_add(3).min(end.saturating_sub(1)), end),
+        2 => (first, end.saturating_sub(2).max(first.saturating_add(1))),
+        _ => (first, end),
+    }
+}
+
+/// Appends pages that are placed, if there are some.
+fn push_placed(rt: &impl Abort, placed: &mut Vec<(u64, u64)>, first: u64, end: u64) {
+    if first < end {
+        placed.push((first, end)).expect(rt, "memory");
+    }
+}
+
+/// Makes a call that was drawn.
 fn make_call(
     rt: &impl Abort,
     core: &mut Core<TableDriver>,
@@ -200,13 +256,17 @@ fn make_call(
     draw: u64,
 ) -> Option<Change> {
     if draw >> 61 >= 3 || placed.is_empty() {
-        let change = place(rt, core, stretches, &drawn_request(draw, stretches))?;
-        placed.push((change.first, change.end)).expect(rt, "memory");
+        let drawn = drawn_request(draw, stretches, core.granule());
+        let change = place(rt, core, stretches, &drawn)?;
+        push_placed(rt, placed, change.first, change.end);
         return Some(change);
     }
     let (first, end) = placed.swap_remove(place_of(draw, 20) % placed.len());
-    let end = end.saturating_add(draw >> 45 & 1);
-    free(rt, core, stretches, first, end)
+    let (from, to) = named_part(draw, first, end);
+    let change = free(rt, core, stretches, from, to)?;
+    push_placed(rt, placed, first, change.first);
+    push_placed(rt, placed, change.end, end);
+    Some(change)
 }
 
 /// Asserts that the map of a core is that of the stretches.
@@ -220,15 +280,16 @@ fn assert_map(rt: &(impl AllocGlobal + Abort), core: &Core<TableDriver>, stretch
     assert_eq!(rt; core.descriptors(), joined.len());
 }
 
-/// Makes calls on a map, and answers how many of them changed it.
-fn changes_on(rt: &(impl AllocGlobal + Abort), map: Vec<Stretch>) -> u32 {
+/// Makes so many calls on a map of a machine with a granule, and answers how many of them changed it.
+fn changes_on(rt: &(impl AllocGlobal + Abort), map: Vec<Stretch>, granule: u64, calls: u32) -> u32 {
     let mut stretches = map;
-    let mut core = core_of_stretches(rt, stretches.as_slice());
+    let mut core = core_of_stretches(rt, stretches.as_slice(), granule);
+    assert_eq!(rt; core.granule(), granule);
     assert_map(rt, &core, stretches.as_slice());
     let mut placed = Vec::new(rt.alloc());
     let mut draw = 1;
     let mut changes = 0_u32;
-    for _call in 0..CALLS {
+    for _call in 0..calls {
         draw = next_draw(draw);
         let change = make_call(rt, &mut core, stretches.as_slice(), &mut placed, draw);
         if let Some(change) = change {
@@ -243,7 +304,7 @@ fn changes_on(rt: &(impl AllocGlobal + Abort), map: Vec<Stretch>) -> u32 {
 #[test]
 fn placements_on_real_maps(rt: HostRuntime) {
     for (name, text) in maps() {
-        let changes = changes_on(&rt, stretches_of(&rt, text));
+        let changes = changes_on(&rt, stretches_of(&rt, text), 1, CALLS);
         assert!(rt; changes >= CHANGES, "{changes} on {name}");
     }
 }
@@ -252,7 +313,16 @@ fn placements_on_real_maps(rt: HostRuntime) {
 fn placements_beside_specific_purpose(rt: HostRuntime) {
     for (name, text) in maps() {
         let stretches = stretches_of(&rt, text);
-        let changes = changes_on(&rt, with_specific_purpose(&rt, stretches.as_slice()));
+        let map = with_specific_purpose(&rt, stretches.as_slice());
+        let changes = changes_on(&rt, map, 1, CALLS);
         assert!(rt; changes >= CHANGES, "{changes} on {name}");
     }
+}
+
+#[test]
+fn placements_in_granules(rt: HostRuntime) {
+    // An aarch64 map: there the granule is 16 pages.
+    let (name, text) = maps().get(7).expect(&rt, "a map");
+    let changes = changes_on(&rt, stretches_of(&rt, text), 16, CALLS_IN_GRANULES);
+    assert!(rt; changes >= CHANGES_IN_GRANULES, "{changes} on {name}");
 }

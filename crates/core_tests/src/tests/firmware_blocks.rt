@@ -123,12 +123,13 @@ fn assert_exact(rt: &(impl AllocGlobal + Abort), core: &mut Core<TableDriver>, r
 fn certificates_on_real_maps(rt: HostRuntime) {
     for (_, words) in maps() {
         let stretches = stretches_of(&rt, words);
-        let mut core = core_of_stretches(&rt, stretches.as_slice());
+        let mut core = core_of_stretches(&rt, stretches.as_slice(), 1);
         for (mtype, pages, limit) in &REQUESTS {
             let request = Request {
                 mtype: MemoryType::new(*mtype),
                 pages: *pages,
                 limit: *limit,
+                granule: 1,
             };
             assert_exact(&rt, &mut core, &request);
         }

@@ -79,7 +79,7 @@ fn core_of_most(rt: &(impl AllocGlobal + Abort)) -> Core<TableDriver> {
         };
         runs.push(run_of(&given)).expect(rt, "memory");
     }
-    core_of_runs(rt, runs)
+    core_of_runs(rt, runs, 1)
 }
 
 /// The bytes of a memory map that a reply tells, if they are as many as it says.

@@ -235,7 +235,7 @@ fn assert_drawn(
 fn generated_pool_calls(rt: HostRuntime) {
     let (_, map) = maps().first().expect(&rt, "a map");
     let stretches = stretches_of(&rt, map);
-    let mut core = core_of_stretches(&rt, stretches.as_slice());
+    let mut core = core_of_stretches(&rt, stretches.as_slice(), 1);
     let entries = core.descriptors();
     let mut extents = Vec::new(rt.alloc());
     let mut blocks = Vec::new(rt.alloc());
