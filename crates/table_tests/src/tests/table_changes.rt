@@ -1,5 +1,5 @@
 //! Generated changes of small tables, against a plain list of pages.
-ghost use Rattle.std.specs.Prelude.{◌≡◌, ◌↔◌, IsTrue};
+ghost use Rattle.std.specs.Prelude.{◌≡◌, ◌≢◌, ◌↔◌, IsTrue, IfOk};
 ghost use Rattle.page_ranges.specs.declared.ranges.Owner.TheVariants.{Given};
 ghost use Rattle.page_ranges.specs.MemoryTypes.{conventional};
 ghost use Rattle.page_ranges.specs.Memory.{page_at, IsPresent, AllInRange, IsProperMemory};
@@ -329,6 +329,8 @@ fn assert_changed(
     let entries = joined(rt.alloc(), list, false)?;
     assert_eq!(rt; table.len(), runs.len());
     assert_eq!(rt; table.descriptors(), entries.len());
+    let place = range.first as usize / 2;
+    assert_eq!(rt; table.descriptor(place), entries.get(place).map(entry_of));
     let end = range.first.saturating_add(range.pages);
     assert_page(rt, table, runs.as_slice(), range.first);
     assert_page(rt, table, runs.as_slice(), end);
@@ -365,5 +367,130 @@ fn changes_of_many_runs_are_those_of_the_pages(rt: HostRuntime) -> Result<(), Al
         change_drawn(&rt, &mut table, list.as_mut_slice(), draw)?;
     }
     assert!(rt; table.len() > 500);
+    Ok(())
+}
+
+// The table made anew of its runs: its leaves have 32 runs, but for the last ones.
+fn made_anew(rt: &impl AllocGlobal, table: &RunTable) -> Result<RunTable, AllocError>
+    ensures { IfOk result (λ t. t ≡ table.now) }
+{
+    let mut runs = Vec::new(rt.alloc());
+    for index in 0..table.len() {
+        let Some(run) = table.run(index) else {
+            return Err(AllocError);
+        };
+        runs.push(run)?;
+    }
+    RunTable::from_runs(rt.alloc(), runs.as_slice())
+}
+
+// Gives a range of the table and of the list a type and the owner Pages, if all its pages are present.
+fn change_both(
+    table: &mut RunTable,
+    list: &mut [Run],
+    range: PageRange,
+    number: u32,
+) -> Result<(), AllocError>
+    requires { number ≢ conventional }
+{
+    if are_present(table, range) {
+        table.retype(range, MemoryType::new(number), Owner::Pages)?;
+        change_list(list, range, number, Owner::Pages);
+    }
+    Ok(())
+}
+
+// Makes each second pair of pages from one page up to another a run of its own.
+fn stripe(table: &mut RunTable, list: &mut [Run], first: u64, end: u64) -> Result<(), AllocError> {
+    for pair in 0..end.saturating_sub(first) / 4 {
+        let range = PageRange {
+            first: first.saturating_add(pair.saturating_mul(4)),
+            pages: 2,
+        };
+        change_both(table, list, range, 4)?;
+    }
+    Ok(())
+}
+
+// Asserts the whole lists once a range has changed in a table made anew.
+fn assert_anew(
+    rt: &(impl AllocGlobal + Abort),
+    table: &RunTable,
+    list: &[Run],
+    range: PageRange,
+) -> Result<(), AllocError> {
+    let mut changed = made_anew(rt, table)?;
+    let mut pages = Vec::from_slice(rt.alloc(), list)?;
+    change_both(&mut changed, pages.as_mut_slice(), range, 5)?;
+    let runs = joined(rt.alloc(), pages.as_slice(), true)?;
+    let entries = joined(rt.alloc(), pages.as_slice(), false)?;
+    assert_lists(rt, &changed, runs.as_slice(), entries.as_slice());
+    Ok(())
+}
+
+// Asserts what a change of few pages, or of an island's, makes of a table at each place below a page.
+fn assert_places(
+    rt: &(impl AllocGlobal + Abort),
+    table: &RunTable,
+    list: &[Run],
+    end: u64,
+) -> Result<(), AllocError> {
+    for first in 0..end {
+        for pages in [1, 2, 3, 64] {
+            assert_anew(rt, table, list, PageRange { first, pages })?;
+        }
+    }
+    Ok(())
+}
+
+// A table of one run, and of leaves of 32 runs that touch.
+#[test]
+fn changes_at_the_borders_of_leaves(rt: HostRuntime) -> Result<(), AllocError> {
+    for end in [0, 64, 132, 192] {
+        let mut table = RunTable::from_runs(rt.alloc(), &large_machine())?;
+        let mut list = listed(rt.alloc(), &large_machine())?;
+        stripe(&mut table, list.as_mut_slice(), 0, end)?;
+        assert_places(&rt, &table, list.as_slice(), end.saturating_add(3))?;
+    }
+    Ok(())
+}
+
+// Three islands of free memory, with a hole of a page between any two.
+fn islands() -> [Run; 3]
+    ensures runs { AreRuns result }
+    ensures proper { IsProperMemory (pages_of result) }
+{
+    [
+        run(0, 64, 7, 0xf),
+        run(65, 64, 7, 0xf),
+        run(130, 64, 7, 0xf),
+    ]
+}
+
+// Leaves of 32 runs with holes between them, and one of a single run.
+#[test]
+fn changes_of_leaves_beside_holes(rt: HostRuntime) -> Result<(), AllocError> {
+    let mut table = RunTable::from_runs(rt.alloc(), &islands())?;
+    let mut list = listed(rt.alloc(), &islands())?;
+    for first in [0, 65, 130] {
+        stripe(
+            &mut table,
+            list.as_mut_slice(),
+            first,
+            first.saturating_add(64),
+        )?;
+    }
+    assert_places(&rt, &table, list.as_slice(), 194)?;
+    let middle = PageRange {
+        first: 65,
+        pages: 64,
+    };
+    let mut table = made_anew(&rt, &table)?;
+    change_both(&mut table, list.as_mut_slice(), middle, 4)?;
+    for first in 62..132 {
+        let range = PageRange { first, pages: 1 };
+        change_both(&mut table, list.as_mut_slice(), range, 6)?;
+        assert_anew(&rt, &table, list.as_slice(), middle)?;
+    }
     Ok(())
 }
