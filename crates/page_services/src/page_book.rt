@@ -237,6 +237,7 @@ impl<A: Allocator + Copy> PageBook<A> {
         let low = self.granule_at(range.first);
         let high = self.granule_at(end - 1);
         let first = range.first - range.first % low;
+        // A page number is far below 64 bits, so it is always told once rounded.
         let end = rounded(end, high).unwrap_or(end);
         PageRange {
             first,
