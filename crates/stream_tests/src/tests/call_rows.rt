@@ -1,7 +1,7 @@
-//! Calls that take memory, and calls that take none.
+//! Calls that take memory, and calls that take none, on the machine of `heaps`.
 
-/// Calls that take memory: each the calls before it, the call, and what it prints.
-pub const TAKING: [(&str, &str, &str); 24] = [
+/// Calls that take memory and change the core: each the calls before it, the call, and what it prints.
+pub const CHANGING: [(&str, &str, &str); 20] = [
     ("", "pages 0 4 10 0", "1 pages SUCCESS address=0x7f6000\n"),
     (
         "",
@@ -78,12 +78,6 @@ notify 22222222-2222-2222-2222-222222222222 9",
         "1 notify SUCCESS registration=1\n",
     ),
     (
-        "install 0 11111111-1111-1111-1111-111111111111 0 0x10
-install 0 22222222-2222-2222-2222-222222222222 0 0x10",
-        "locate 0 11111111-1111-1111-1111-111111111111 0 64",
-        "1 locate SUCCESS size=16 handles=1,2\n",
-    ),
-    (
         "notify 11111111-1111-1111-1111-111111111111 7
 install 0 11111111-1111-1111-1111-111111111111 0 0x10",
         "locate 1 11111111-1111-1111-1111-111111111111 1 8",
@@ -94,11 +88,6 @@ install 0 11111111-1111-1111-1111-111111111111 0 0x10",
 install 0 11111111-1111-1111-1111-111111111111 0 0x10",
         "locate-buffer 1 11111111-1111-1111-1111-111111111111 1",
         "1 locate-buffer SUCCESS count=1 address=0x7ff008\n",
-    ),
-    (
-        "install-many 0 11111111-1111-1111-1111-111111111111 1 22222222-2222-2222-2222-222222222222 2",
-        "protocols 1",
-        "1 protocols SUCCESS guids=11111111-1111-1111-1111-111111111111,22222222-2222-2222-2222-222222222222\n",
     ),
     (
         "install 0 11111111-1111-1111-1111-111111111111 0 0x10
@@ -129,6 +118,21 @@ connect 1 0",
         "disconnect 1 0",
         "1 disconnect SUCCESS\n",
     ),
+];
+
+/// Calls that take memory for their replies alone.
+pub const ASKING: [(&str, &str, &str); 4] = [
+    (
+        "install 0 11111111-1111-1111-1111-111111111111 0 0x10
+install 0 22222222-2222-2222-2222-222222222222 0 0x10",
+        "locate 0 11111111-1111-1111-1111-111111111111 0 64",
+        "1 locate SUCCESS size=16 handles=1,2\n",
+    ),
+    (
+        "install-many 0 11111111-1111-1111-1111-111111111111 1 22222222-2222-2222-2222-222222222222 2",
+        "protocols 1",
+        "1 protocols SUCCESS guids=11111111-1111-1111-1111-111111111111,22222222-2222-2222-2222-222222222222\n",
+    ),
     (
         "",
         "map 192",
@@ -145,8 +149,14 @@ connect 1 0",
     ),
 ];
 
-/// Calls that take no memory, or are refused before they take any.
-pub const NOT_TAKING: [(&str, &str, &str); 49] = [
+/// Calls that take no memory.
+pub const NOT_TAKING: [(&str, &str, &str); 18] = [
+    ("", "map 191", "1 map BUFFER_TOO_SMALL size=192\n"),
+    (
+        "pool 4 24",
+        "read 0x7ff008 25",
+        "1 read INVALID_PARAMETER\n",
+    ),
     ("pool 4 24", "write 0x7ff008 a5", "1 write SUCCESS\n"),
     (
         "pool 4 24",
@@ -227,145 +237,6 @@ open 1 11111111-1111-1111-1111-111111111111 2 1 0x2",
         "install 0 11111111-1111-1111-1111-111111111111 0 0x10",
         "information 1 11111111-1111-1111-1111-111111111111",
         "1 information SUCCESS count=0 address=0x0\n",
-    ),
-    ("exit 1", "pages 0 4 10 0", "1 pages UNSUPPORTED\n"),
-    ("exit 1", "connect 1 1", "1 connect UNSUPPORTED\n"),
-    (
-        "install 0 11111111-1111-1111-1111-111111111111 0 0x10
-exit 1",
-        "locate-buffer 0 11111111-1111-1111-1111-111111111111 0",
-        "1 locate-buffer UNSUPPORTED\n",
-    ),
-    ("", "pages 3 4 1 0", "1 pages INVALID_PARAMETER\n"),
-    ("", "pages 2 4 2 0x9f000", "1 pages NOT_FOUND\n"),
-    ("", "free-pages 0x400000 16", "1 free-pages NOT_FOUND\n"),
-    (
-        "",
-        "free-pages 0x400001 16",
-        "1 free-pages INVALID_PARAMETER\n",
-    ),
-    ("", "pool 7 24", "1 pool INVALID_PARAMETER\n"),
-    (
-        "pool 4 24",
-        "free-pool 0x7ff009",
-        "1 free-pool INVALID_PARAMETER\n",
-    ),
-    (
-        "notify 11111111-1111-1111-1111-111111111111 7",
-        "install 0 11111111-1111-1111-1111-111111111111 1 0",
-        "1 install INVALID_PARAMETER\n",
-    ),
-    (
-        "notify 11111111-1111-1111-1111-111111111111 7
-install 0 11111111-1111-1111-1111-111111111111 0 0",
-        "install 1 11111111-1111-1111-1111-111111111111 0 0",
-        "1 install INVALID_PARAMETER\n",
-    ),
-    (
-        "notify 11111111-1111-1111-1111-111111111111 7",
-        "install 1 11111111-1111-1111-1111-111111111111 0 0",
-        "1 install INVALID_PARAMETER\n",
-    ),
-    (
-        "notify 11111111-1111-1111-1111-111111111111 7",
-        "install-many 0 11111111-1111-1111-1111-111111111111 1 11111111-1111-1111-1111-111111111111 2",
-        "1 install-many INVALID_PARAMETER\n",
-    ),
-    (
-        "pool 4 4
-pool 4 4
-write 0x7ff008 7fff0400
-write 0x7ff028 7fff0400
-install 0 09576e91-6d3f-11d2-8e39-00a0c969723b 0 0x7ff008
-notify 09576e91-6d3f-11d2-8e39-00a0c969723b 7",
-        "install-many 0 09576e91-6d3f-11d2-8e39-00a0c969723b 0x7ff028",
-        "1 install-many ALREADY_STARTED\n",
-    ),
-    (
-        "",
-        "uninstall 1 11111111-1111-1111-1111-111111111111 0",
-        "1 uninstall INVALID_PARAMETER\n",
-    ),
-    (
-        "install 0 11111111-1111-1111-1111-111111111111 0 0",
-        "uninstall 1 11111111-1111-1111-1111-111111111111 1",
-        "1 uninstall NOT_FOUND\n",
-    ),
-    (
-        "",
-        "reinstall 1 11111111-1111-1111-1111-111111111111 0 1",
-        "1 reinstall INVALID_PARAMETER\n",
-    ),
-    (
-        "install 0 11111111-1111-1111-1111-111111111111 0 0
-notify 11111111-1111-1111-1111-111111111111 7",
-        "reinstall 1 11111111-1111-1111-1111-111111111111 1 2",
-        "1 reinstall NOT_FOUND\n",
-    ),
-    (
-        "install 0 11111111-1111-1111-1111-111111111111 0 0",
-        "locate 3 11111111-1111-1111-1111-111111111111 0 64",
-        "1 locate INVALID_PARAMETER\n",
-    ),
-    (
-        "install 0 11111111-1111-1111-1111-111111111111 0 0",
-        "locate 2 22222222-2222-2222-2222-222222222222 0 64",
-        "1 locate NOT_FOUND\n",
-    ),
-    (
-        "install 0 11111111-1111-1111-1111-111111111111 0 0",
-        "locate 0 11111111-1111-1111-1111-111111111111 0 7",
-        "1 locate BUFFER_TOO_SMALL size=8\n",
-    ),
-    (
-        "install 0 11111111-1111-1111-1111-111111111111 0 0",
-        "locate-buffer 1 11111111-1111-1111-1111-111111111111 1",
-        "1 locate-buffer INVALID_PARAMETER\n",
-    ),
-    (
-        "install 0 11111111-1111-1111-1111-111111111111 0 0",
-        "locate-buffer 2 22222222-2222-2222-2222-222222222222 0",
-        "1 locate-buffer NOT_FOUND\n",
-    ),
-    ("", "protocols 1", "1 protocols INVALID_PARAMETER\n"),
-    (
-        "install 0 11111111-1111-1111-1111-111111111111 0 0",
-        "open 1 11111111-1111-1111-1111-111111111111 1 1 0x3",
-        "1 open INVALID_PARAMETER\n",
-    ),
-    (
-        "install 0 11111111-1111-1111-1111-111111111111 0 0",
-        "open 1 22222222-2222-2222-2222-222222222222 1 1 0x10",
-        "1 open UNSUPPORTED\n",
-    ),
-    (
-        "install 0 11111111-1111-1111-1111-111111111111 0 0
-open 1 11111111-1111-1111-1111-111111111111 1 1 0x10",
-        "open 1 11111111-1111-1111-1111-111111111111 1 1 0x10",
-        "1 open ALREADY_STARTED\n",
-    ),
-    (
-        "install 0 11111111-1111-1111-1111-111111111111 0 0
-open 1 11111111-1111-1111-1111-111111111111 1 0 0x20",
-        "open 1 11111111-1111-1111-1111-111111111111 1 1 0x10",
-        "1 open ACCESS_DENIED\n",
-    ),
-    (
-        "",
-        "information 1 11111111-1111-1111-1111-111111111111",
-        "1 information NOT_FOUND\n",
-    ),
-    ("", "connect 1 0", "1 connect INVALID_PARAMETER\n"),
-    (
-        "install 0 11111111-1111-1111-1111-111111111111 0 0",
-        "connect 1 0 1 1 1 1 1 1 1 1 1 1 1 1 1 1 1 1 1",
-        "1 connect INVALID_PARAMETER\n",
-    ),
-    ("", "disconnect 1 0", "1 disconnect INVALID_PARAMETER\n"),
-    (
-        "install 0 11111111-1111-1111-1111-111111111111 0 0",
-        "disconnect 1 1",
-        "1 disconnect INVALID_PARAMETER\n",
     ),
 ];
 

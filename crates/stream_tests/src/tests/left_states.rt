@@ -36,12 +36,12 @@ const NOTHING: Failing = Failing {
 
 /// How a run ended, how many bytes it wrote, and the core that it left: how many calls are left, and what the questions are
 /// answered.
-#[derive(Drop)]
+#[derive(Clone, Copy)]
 struct Left {
     end: Result<(), RunFault>,
     written: usize,
     calls: u64,
-    answers: Vec<u8>,
+    answers: u64,
 }
 
 fn left_by(rt: &(impl AllocGlobal + Abort), bytes: &[u8], failing: Failing) -> Left {
@@ -87,8 +87,8 @@ fn left_with(rt: &(impl AllocGlobal + Abort), least: usize) -> Left {
 }
 
 /// Whether both left the same state.
-fn are_alike(left: &Left, other: &Left) -> bool {
-    left.calls == other.calls && left.answers.as_slice() == other.answers.as_slice()
+fn are_alike(left: Left, other: Left) -> bool {
+    left.calls == other.calls && left.answers == other.answers
 }
 
 /// Each read: the calls of the whole lines before it were made, and no other.
@@ -102,7 +102,7 @@ fn state_after_read_fails(rt: HostRuntime) {
         let left = left_by(&rt, LINES, failing);
         let whole = left_by(&rt, front_of(reads), NOTHING);
         assert!(rt; left.end == Err(RunFault::Read) && left.written == whole.written);
-        assert!(rt; are_alike(&left, &whole));
+        assert!(rt; are_alike(left, whole));
     }
 }
 
@@ -115,7 +115,7 @@ fn can_write(rt: &(impl AllocGlobal + Abort), failing: Failing, more: usize) -> 
     }
     assert!(rt; left.end == Err(RunFault::Write));
     let least = left.written.saturating_add(more);
-    assert!(rt; are_alike(&left, &left_with(rt, least)));
+    assert!(rt; are_alike(left, left_with(rt, least)));
     false
 }
 
@@ -157,7 +157,7 @@ fn has_memory(rt: &(impl AllocGlobal + Abort), memory: u64) -> bool {
     let told = left_with(rt, left.written);
     let next = left_with(rt, left.written.saturating_add(1));
     assert!(rt; left.written == told.written);
-    assert!(rt; are_alike(&left, &told) || are_alike(&left, &next));
+    assert!(rt; are_alike(left, told) || are_alike(left, next));
     false
 }
 

@@ -1,6 +1,6 @@
 //! Calls whose memory is refused, each allocation in turn.
-use super::call_rows::{NOT_TAKING, QUESTIONS, TAKING};
-use super::heaps::{core_on, printed};
+use super::call_rows::{ASKING, CHANGING, NOT_TAKING, QUESTIONS};
+use super::heaps::{NO_TEXT, core_on, digest_of, printed};
 use refusing_memory::Refusing;
 use std::process::Abort;
 
@@ -12,11 +12,11 @@ enum Refused {
 }
 
 /// What a call printed, whether memory was refused to it, and what the lines behind it printed.
-#[derive(Drop)]
+#[derive(Clone, Copy)]
 struct Told {
-    call: Vec<u8>,
+    call: u64,
     was_refused: bool,
-    after: Vec<u8>,
+    after: u64,
 }
 
 /// Makes a call for which memory is refused, and then the lines behind it, for which none is.
@@ -47,16 +47,18 @@ fn told_of(
     }
 }
 
-/// What is printed of a call, and what the questions are answered with it and without it.
-#[derive(Drop)]
+/// What is printed of a call that is served and of one that is not, and what the questions are answered with it and
+/// without it.
+#[derive(Clone, Copy)]
 struct Plain {
-    reply: &'static str,
-    with: Vec<u8>,
-    without: Vec<u8>,
+    reply: u64,
+    refusal: u64,
+    with: u64,
+    without: u64,
 }
 
 /// What the questions are answered after some lines.
-fn answers(rt: &(impl AllocGlobal + Abort), before: &str, call: &str) -> Vec<u8> {
+fn answers(rt: &(impl AllocGlobal + Abort), before: &str, call: &str) -> u64 {
     let heap = Refusing::new(rt.alloc());
     let mut core = core_on(rt, &heap);
     printed(rt, &heap, &mut core, before);
@@ -64,93 +66,96 @@ fn answers(rt: &(impl AllocGlobal + Abort), before: &str, call: &str) -> Vec<u8>
     printed(rt, &heap, &mut core, QUESTIONS)
 }
 
-/// Whether a call was answered OUT_OF_RESOURCES and nothing beside it, where it prints this otherwise.
-fn is_out_of_resources(told: &[u8], reply: &str) -> bool {
-    match told.strip_suffix(b"OUT_OF_RESOURCES\n".as_slice()) {
-        Some(front) => front.ends_with(b" ".as_slice()) && reply.as_bytes().starts_with(front),
-        None => false,
+/// What is printed of the call that is out of memory: the number and the name of it as in this reply, and the status.
+fn refusal_of(reply: &str) -> u64 {
+    let front = match reply.find("SUCCESS") {
+        Some(end) => reply.as_bytes().get(..end).unwrap_or(b""),
+        None => b"",
+    };
+    digest_of(digest_of(NO_TEXT, front), b"OUT_OF_RESOURCES\n")
+}
+
+fn plain_of(rt: &(impl AllocGlobal + Abort), (before, call, reply): (&str, &str, &str)) -> Plain {
+    Plain {
+        reply: digest_of(NO_TEXT, reply.as_bytes()),
+        refusal: refusal_of(reply),
+        with: answers(rt, before, call),
+        without: answers(rt, before, ""),
     }
 }
 
 /// Asserts that a call was served whole, or else was out of memory and left all as it was. Answers whether it was served.
-fn is_served(rt: &impl Abort, told: &Told, plain: &Plain) -> bool {
-    let is_served = told.call.as_slice() == plain.reply.as_bytes();
-    if !is_served {
-        assert!(rt; is_out_of_resources(told.call.as_slice(), plain.reply));
+fn is_served(rt: &impl Abort, told: Told, plain: Plain) -> bool {
+    if told.call == plain.reply {
+        assert!(rt; told.after == plain.with);
+        return true;
     }
-    let answers = if is_served {
-        &plain.with
-    } else {
-        &plain.without
-    };
-    assert!(rt; told.after.as_slice() == answers.as_slice());
-    is_served
+    assert!(rt; told.call == plain.refusal && told.after == plain.without);
+    false
 }
 
-/// Makes a call to which an allocation is refused, and answers whether it came to ask for it. Where that one alone is
-/// refused, std may ask again for less; where all after it are too, a call that takes memory is refused.
+/// Makes a call to which an allocation is refused, and answers whether it asks for so many. Where that one alone is refused,
+/// std may ask again for less and the call be served; where all after it are too, it is refused, and the same call is
+/// served then.
 fn is_refused(
     rt: &(impl AllocGlobal + Abort),
     (before, call): (&str, &str),
-    plain: &Plain,
-    takes_memory: bool,
+    plain: Plain,
     number: u64,
 ) -> bool {
     let told = told_of(rt, before, call, QUESTIONS, Refused::From(number));
-    assert!(rt; is_served(rt, &told, plain) != (takes_memory && told.was_refused));
+    assert!(rt; is_served(rt, told, plain) != told.was_refused);
     let one = told_of(rt, before, call, QUESTIONS, Refused::One(number));
-    assert!(rt; is_served(rt, &one, plain) || (takes_memory && one.was_refused));
-    told.was_refused
-}
-
-/// Asserts that the same call is served once it was refused.
-fn assert_served_again(
-    rt: &(impl AllocGlobal + Abort),
-    (before, call): (&str, &str),
-    reply: &str,
-    number: u64,
-) {
-    let told = told_of(rt, before, call, call, Refused::From(number));
-    assert!(rt; told.after.as_slice() == reply.as_bytes());
-}
-
-/// Refuses each allocation of a call in turn, and answers how many there are.
-fn refusals(
-    rt: &(impl AllocGlobal + Abort),
-    row: &(&str, &str, &'static str),
-    takes_memory: bool,
-) -> u64 {
-    let (before, call, reply) = *row;
-    let plain = Plain {
-        reply,
-        with: answers(rt, before, call),
-        without: answers(rt, before, ""),
-    };
-    for number in 1..MOST {
-        if !is_refused(rt, (before, call), &plain, takes_memory, number) {
-            return number - 1;
-        }
-        if takes_memory {
-            assert_served_again(rt, (before, call), reply, number);
-        }
+    assert!(rt; is_served(rt, one, plain) || one.was_refused);
+    if told.was_refused {
+        let again = told_of(rt, before, call, call, Refused::From(number));
+        assert!(rt; again.after == plain.reply);
     }
-    MOST
+    told.was_refused
 }
 
 /// More allocations than any of the calls asks for.
 const MOST: u64 = 1000;
 
+/// Refuses each allocation of a call in turn, and answers how many there are.
+fn refusals(rt: &(impl AllocGlobal + Abort), row: &(&str, &str, &str)) -> u64 {
+    let (before, call, _) = *row;
+    let plain = plain_of(rt, *row);
+    for number in 1..MOST {
+        if !is_refused(rt, (before, call), plain, number) {
+            return number - 1;
+        }
+    }
+    MOST
+}
+
+/// Asserts that a call takes memory.
+fn assert_takes_memory(rt: &(impl AllocGlobal + Abort), row: &(&str, &str, &str)) {
+    let count = refusals(rt, row);
+    assert!(rt; count > 0 && count < MOST);
+}
+
 #[test]
 fn calls_are_refused_memory(rt: HostRuntime) {
-    for row in &TAKING {
-        let count = refusals(&rt, row, true);
-        assert!(rt; count > 0 && count < MOST);
+    for row in &CHANGING {
+        assert_takes_memory(&rt, row);
+    }
+    for row in &ASKING {
+        assert_takes_memory(&rt, row);
+    }
+}
+
+/// What a call changes shows in the answers.
+#[test]
+fn questions_tell_changes(rt: HostRuntime) {
+    for (before, call, _reply) in &CHANGING {
+        assert!(rt; answers(&rt, before, call) != answers(&rt, before, ""));
     }
 }
 
 #[test]
 fn calls_take_no_memory(rt: HostRuntime) {
     for row in &NOT_TAKING {
-        assert!(rt; refusals(&rt, row, false) < MOST);
+        assert!(rt; refusals(&rt, row) == 0);
     }
 }
