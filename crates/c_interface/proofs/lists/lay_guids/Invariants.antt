@@ -1,0 +1,6 @@
+use Rattle.std.proofs.Common.{◌≡◌, ◌≤◌, length, map, take, drop, ◌++◌}
+use Rattle.c_interface.specs.Served.{standard_guid}
+use Rattle.c_interface.proofs.lists.lay_guids.Given as goal
+
+abbrev pub invariant-loop-index : goal.invariant-loop-index
+invariant-loop-index l = l.buffer ≡ take l.index (map standard_guid l.guids) ++ drop l.index l.fn.buffer

@@ -1,0 +1,25 @@
+-- What a caller in C is told of an entry of the memory map, and of a certificate block.
+use Rattle.std.specs.Prelude.{◌≡◌, ◌⊎◌, ℕ, Bool, List, Option, Some, None, Err, if◌then◌else◌}
+use Rattle.page_ranges.specs.Statuses.{status_number}
+use Rattle.page_ranges.specs.declared.ranges.Descriptor.{Descriptor}
+use Rattle.page_ranges.specs.declared.statuses.Status.TheVariants.{Success, InvalidParameter, OutOfResources, NotFound, AccessDenied}
+use Rattle.certificate_blocks.specs.BlockChecks.{IsVerdict}
+use Rattle.certificate_blocks.specs.Blocks.{block_said}
+use Rattle.c_interface.specs.declared.checks.MapEntry.{MapEntry}
+
+-- an entry as C has it
+abbrev pub entry_in_c : Descriptor → MapEntry
+entry_in_c d = record { mtype = d.mtype; first_page = d.first; pages = d.pages; attributes = d.attributes }
+
+-- the status, and the entry in the caller's place
+abbrev pub TellsEntry : Option Descriptor → MapEntry → ℕ → MapEntry → Type 0
+TellsEntry (Some d) before status after = (status ≡ status_number Success) × (after ≡ entry_in_c d)
+TellsEntry None before status after = (status ≡ status_number NotFound) × (after ≡ before)
+
+-- The status of a check: whether the text's certificate is accepted; or the text is no block, and the caller's place has its first
+-- line that is wrong or missing; or memory ran out.
+abbrev pub ChecksBlock : List ℕ → ℕ → ℕ → ℕ → Type 0
+ChecksBlock text before status after =
+    ((accepted : Bool) × IsVerdict text accepted × (status ≡ status_number (if accepted then Success else AccessDenied)) × (after ≡ before))
+    ⊎ ((block_said text ≡ Err after) × (status ≡ status_number InvalidParameter))
+    ⊎ ((status ≡ status_number OutOfResources) × (after ≡ before))

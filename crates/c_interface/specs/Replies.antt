@@ -1,0 +1,71 @@
+-- What a reply tells a caller in C: a status, numbers in places of the caller's, events.
+use Rattle.std.specs.Prelude.{ℕ, List, [], Option, Some, None, Result, Ok, Err}
+use Rattle.page_ranges.specs.declared.statuses.Status.{Status}
+use Rattle.page_ranges.specs.declared.statuses.Status.TheVariants.{Success}
+use Rattle.boot_core.specs.declared.calls.Reply.{Reply}
+use Rattle.boot_core.specs.declared.calls.Reply.TheVariants as reply
+
+-- the status that a result is told as
+abbrev pub told_status : {R : Type 0} → Result R Status → Status
+told_status (Ok done) = Success
+told_status (Err status) = status
+
+-- the status of a reply
+abbrev pub status_in : {A : Type 0} → Reply A → Status
+status_in (reply.AllocatePages result) = told_status result
+status_in (reply.FreePages result) = told_status result
+status_in (reply.GetMemoryMap told bytes) = told.status
+status_in (reply.AllocatePool result) = told_status result
+status_in (reply.FreePool result) = told_status result
+status_in (reply.PoolRead status bytes) = status
+status_in (reply.PoolWrite result) = told_status result
+status_in (reply.InstallProtocolInterface result) = told_status result
+status_in (reply.InstallMultipleProtocolInterfaces result) = told_status result
+status_in (reply.UninstallProtocolInterface result) = told_status result
+status_in (reply.ReinstallProtocolInterface result) = told_status result
+status_in (reply.RegisterProtocolNotify result) = told_status result
+status_in (reply.LocateHandle told) = told.status
+status_in (reply.LocateHandleBuffer result) = told_status result
+status_in (reply.LocateProtocol result) = told_status result
+status_in (reply.ProtocolsPerHandle result) = told_status result
+status_in (reply.OpenProtocol result) = told_status result
+status_in (reply.CloseProtocol result) = told_status result
+status_in (reply.OpenProtocolInformation result) = told_status result
+status_in (reply.HandleProtocol result) = told_status result
+status_in (reply.ConnectController result) = told_status result
+status_in (reply.DisconnectController result) = told_status result
+status_in (reply.LocateDevicePath result) = told_status result
+status_in (reply.ExitBootServices result) = told_status result
+
+-- the number that a reply tells: an address, a handle, a registration's key or the value of an interface
+abbrev pub number_in : {A : Type 0} → Reply A → Option ℕ
+number_in (reply.AllocatePages (Ok placed)) = Some placed.address
+number_in (reply.AllocatePool (Ok block)) = Some block.0
+number_in (reply.InstallProtocolInterface (Ok done)) = Some done.handle
+number_in (reply.InstallMultipleProtocolInterfaces (Ok done)) = Some done.handle
+number_in (reply.RegisterProtocolNotify (Ok key)) = Some key
+number_in (reply.LocateProtocol (Ok value)) = Some value
+number_in (reply.OpenProtocol (Ok value)) = value
+number_in (reply.HandleProtocol (Ok value)) = Some value
+number_in answer = None
+
+-- the two numbers that a reply tells: how many items are in a block of the pool, and its address; or a handle, and the address
+-- behind the nodes that its device path matched
+abbrev pub numbers_in : {A : Type 0} → Reply A → Option (ℕ × ℕ)
+numbers_in (reply.LocateHandleBuffer (Ok told)) = Some (told.count, told.address)
+numbers_in (reply.OpenProtocolInformation (Ok told)) = Some (told.count, told.address)
+numbers_in (reply.LocateDevicePath (Ok found)) = Some found
+numbers_in answer = None
+
+-- the events that a call signals
+abbrev pub events_in : {A : Type 0} → Reply A → List ℕ
+events_in (reply.InstallProtocolInterface (Ok done)) = done.events.items
+events_in (reply.InstallMultipleProtocolInterfaces (Ok done)) = done.events.items
+events_in (reply.ReinstallProtocolInterface (Ok events)) = events.items
+events_in (reply.ConnectController (Ok events)) = events.items
+events_in answer = []
+
+-- what stands in the caller's place: the number that is told, else what stood there
+abbrev pub told_or : {T : Type 0} → T → Option T → T
+told_or old (Some told) = told
+told_or old None = old

@@ -1,0 +1,145 @@
+-- What a call through C does.
+use Rattle.std.specs.Prelude.{◌≡◌, ◌⊎◌, ℕ, ◌<◌, ◌≤◌, List, length, map, Option, Some, None, Ok, Err}
+use Rattle.std.specs.declared.alloc.Global.{Global}
+use Rattle.page_ranges.specs.MemoryMap.{memory_map}
+use Rattle.page_ranges.specs.Statuses.{status_number}
+use Rattle.page_ranges.specs.declared.statuses.Status.{Status}
+use Rattle.page_ranges.specs.declared.statuses.Status.TheVariants.{Success, BufferTooSmall, NotFound, OutOfResources}
+use Rattle.map_keys.specs.MapReplies.{descriptor_version}
+use Rattle.map_keys.specs.Records.{record_size}
+use Rattle.map_keys.specs.declared.memory_maps.MapReply.{MapReply}
+use Rattle.boot_core.specs.declared.calls.Call.{Call}
+use Rattle.boot_core.specs.declared.calls.Reply.{Reply}
+use Rattle.boot_core.specs.declared.calls.Reply.TheVariants as reply
+use Rattle.boot_core.specs.Certified.{certified}
+use Rattle.boot_core.specs.Steps.{MapStep, ReadStep, Step}
+use Rattle.reply_texts.specs.CallText.{map_before}
+use Rattle.protocol_services.specs.declared.replies.LocateReply.{LocateReply}
+use Rattle.uuid.specs.Parts.{swap_fields}
+use Rattle.c_interface.specs.declared.efi_core.LastBlock.{LastBlock}
+use Rattle.c_interface.specs.declared.efi_core.LastBlock.TheVariants as block
+use Rattle.c_interface.specs.declared.guids.Guid.{Guid}
+use Rattle.c_interface.specs.declared.guids.Interface.{Interface}
+use Rattle.c_interface.specs.Buffers.{laid}
+use Rattle.c_interface.specs.EfiCores.{EfiCoreValue, LeavesBlock, forgotten, meanings}
+use Rattle.c_interface.specs.Replies.{status_in, number_in, numbers_in, told_or}
+
+-- the status of a call that is one too many: EFI_ABORTED
+abbrev pub aborted : ℕ
+aborted = 0x8000000000000015
+
+-- A call is a step of the core with this reply, and leaves the reply and its block to be asked for.
+pub record Serves (old : EfiCoreValue) (c : Call Global) (answer : Reply Global) (new : EfiCoreValue) : Type 0 where
+  pub step : Step (meanings old) old.core.state c answer new.core.state
+  pub drivers : new.core.drivers ≡ old.core.drivers
+  pub certifies : new.certifies ≡ old.certifies
+  pub block : LeavesBlock old.certifies (map_before old.certifies old.core.state.parts.book.granule (memory_map old.core.state.parts.book.memory) c) (certified old.core.state.parts.book.granule c answer) new.block
+  pub last : new.last ≡ Some answer
+
+-- No call can be made any more: the core is as it was, with nothing left of the call before.
+pub record IsSpent (old new : EfiCoreValue) : Type 0 where
+  pub spent : old.core.state.calls_left ≡ 0
+  pub core : new ≡ forgotten old
+
+-- The status of a call, what it tells in the caller's places, and how it leaves the core: it is a step of the core and the status
+-- is that of the reply; or no call could be made, and the places are as they were.
+abbrev pub Answers : EfiCoreValue → Call Global → ℕ → (Reply Global → Type 0) → Type 0 → EfiCoreValue → Type 0
+Answers old c status Tells Keeps new =
+    ((answer : Reply Global) × Serves old c answer new × (status ≡ status_number (status_in answer)) × Tells answer) ⊎ (IsSpent old new × (status ≡ aborted) × Keeps)
+
+-- a call that tells its status alone
+abbrev pub AnswersStatus : EfiCoreValue → Call Global → ℕ → EfiCoreValue → Type 0
+AnswersStatus old c status new = Answers old c status (λ answer. Unit {0}) (Unit {0}) new
+
+-- a call that tells a number in the caller's place, where it succeeds with one
+abbrev pub AnswersNumber : EfiCoreValue → Call Global → ℕ → ℕ → ℕ → EfiCoreValue → Type 0
+AnswersNumber old c before status after new = Answers old c status (λ answer. after ≡ told_or before (number_in answer)) (after ≡ before) new
+
+-- a call that tells two numbers in the caller's places, where it succeeds
+abbrev pub AnswersNumbers : EfiCoreValue → Call Global → ℕ × ℕ → ℕ → ℕ × ℕ → EfiCoreValue → Type 0
+AnswersNumbers old c before status after new = Answers old c status (λ answer. after ≡ told_or before (numbers_in answer)) (after ≡ before) new
+
+-- ---- lists in the caller's buffers
+
+-- the bytes that a status says a list takes
+abbrev pub told_size : Status → ℕ → Option ℕ
+told_size Success size = Some size
+told_size BufferTooSmall size = Some size
+told_size status size = None
+
+-- LocateHandle tells the bytes that the handles take in the caller's place, and the handles in the caller's buffer.
+abbrev pub TellsHandles : ℕ → List ℕ → ℕ → List ℕ → Reply Global → Type 0
+TellsHandles size buffer new_size new_buffer (reply.LocateHandle told) = (new_size ≡ told_or size (told_size told.status told.size)) × (new_buffer ≡ laid told.handles.items buffer)
+TellsHandles size buffer new_size new_buffer answer = ⊥
+
+-- LocateHandle through C
+abbrev pub AnswersHandles : EfiCoreValue → Call Global → ℕ → List ℕ → ℕ → ℕ → List ℕ → EfiCoreValue → Type 0
+AnswersHandles old c size buffer status new_size new_buffer new = Answers old c status (TellsHandles size buffer new_size new_buffer) ((new_size ≡ size) × (new_buffer ≡ buffer)) new
+
+-- a GUID as the standard's sixteen bytes
+abbrev pub standard_guid : List ℕ → Guid
+standard_guid guid = record { bytes = swap_fields guid }
+
+-- ProtocolsPerHandle tells how many GUIDs there are in the caller's place, and the GUIDs in the caller's buffer.
+abbrev pub TellsGuids : ℕ → List Guid → ℕ → List Guid → Reply Global → Type 0
+TellsGuids count buffer new_count new_buffer (reply.ProtocolsPerHandle (Ok guids)) = (new_count ≡ length guids.items) × (new_buffer ≡ laid (map standard_guid guids.items) buffer)
+TellsGuids count buffer new_count new_buffer (reply.ProtocolsPerHandle (Err status)) = (new_count ≡ count) × (new_buffer ≡ buffer)
+TellsGuids count buffer new_count new_buffer answer = ⊥
+
+-- ProtocolsPerHandle through C
+abbrev pub AnswersGuids : EfiCoreValue → Call Global → ℕ → List Guid → ℕ → ℕ → List Guid → EfiCoreValue → Type 0
+AnswersGuids old c count buffer status new_count new_buffer new = Answers old c status (TellsGuids count buffer new_count new_buffer) ((new_count ≡ count) × (new_buffer ≡ buffer)) new
+
+-- an interface as a call carries it
+abbrev pub pair_of : Interface → List ℕ × ℕ
+pair_of i = (swap_fields i.guid.bytes, i.value)
+
+-- a call with a list that is copied first, for which memory may run out: then no call is made
+abbrev pub AnswersPairs : EfiCoreValue → Call Global → ℕ → ℕ → ℕ → EfiCoreValue → Type 0
+AnswersPairs old c before status after new =
+    AnswersNumber old c before status after new ⊎ ((status ≡ status_number OutOfResources) × (after ≡ before) × (new ≡ forgotten old))
+
+-- ---- bytes in the caller's buffers
+
+-- the places of the caller's that GetMemoryMap fills beside the buffer
+pub record MapPlaces : Type 0 where
+  pub size : ℕ
+  pub key : ℕ
+  pub descriptor_size : ℕ
+  pub version : ℕ
+
+-- What GetMemoryMap tells in these places: where the buffer is too small all but the key, so that a caller can make a larger one.
+abbrev pub told_places : MapReply → Status → MapPlaces → MapPlaces
+told_places told Success before = record { size = told.size; key = told.key; descriptor_size = record_size; version = descriptor_version }
+told_places told BufferTooSmall before = record { size = told.size; key = before.key; descriptor_size = record_size; version = descriptor_version }
+told_places told status before = before
+
+-- what a call leaves that fills a buffer of the caller's: neither a reply nor a block to be asked for
+pub record LeavesNothing (old new : EfiCoreValue) : Type 0 where
+  pub drivers : new.core.drivers ≡ old.core.drivers
+  pub certifies : new.certifies ≡ old.certifies
+  pub last : new.last ≡ None
+  pub block : new.block ≡ block.Nothing
+
+-- GetMemoryMap with a buffer of the caller's
+abbrev pub AnswersMap : EfiCoreValue → List ℕ → MapPlaces → ℕ → List ℕ → MapPlaces → EfiCoreValue → Type 0
+AnswersMap old buffer before status after_buffer after new =
+    ((told : MapReply) × MapStep old.core.state buffer told after_buffer new.core.state × LeavesNothing old new × (status ≡ status_number told.status) × (after ≡ told_places told told.status before))
+    ⊎ (IsSpent old new × (status ≡ aborted) × (after_buffer ≡ buffer) × (after ≡ before))
+
+-- a read of the pool's bytes into a buffer of the caller's
+abbrev pub AnswersRead : EfiCoreValue → ℕ → List ℕ → ℕ → List ℕ → EfiCoreValue → Type 0
+AnswersRead old address buffer status after new =
+    ((told : Status) × ReadStep old.core.state address buffer told after new.core.state × LeavesNothing old new × (status ≡ status_number told))
+    ⊎ (IsSpent old new × (status ≡ aborted) × (after ≡ buffer))
+
+-- ---- what is asked for after a call
+
+-- The block of the last call in the caller's buffer, its bytes in the caller's place; where the buffer is too small the bytes
+-- that are needed, and where there is no block neither.
+abbrev pub TellsBlock : LastBlock → List ℕ → ℕ → ℕ → List ℕ → ℕ → Type 0
+TellsBlock block.Nothing buffer size status new_buffer new_size = (status ≡ status_number NotFound) × (new_buffer ≡ buffer) × (new_size ≡ size)
+TellsBlock block.OutOfMemory buffer size status new_buffer new_size = (status ≡ status_number OutOfResources) × (new_buffer ≡ buffer) × (new_size ≡ size)
+TellsBlock (block.Text text) buffer size status new_buffer new_size =
+    (new_size ≡ length text.items)
+    × (((length text.items ≤ length buffer) × (status ≡ status_number Success) × (new_buffer ≡ laid text.items buffer)) ⊎ ((length buffer < length text.items) × (status ≡ status_number BufferTooSmall) × (new_buffer ≡ buffer)))

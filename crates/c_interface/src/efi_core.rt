@@ -1,0 +1,243 @@
+//! A core that answers a caller in C.
+ghost use Rattle.std.specs.Prelude.{◌≡◌, false, length, None, Some, true, option_map, IfOk, MatchResult};
+ghost use Rattle.page_ranges.specs.MemoryMap.{memory_map};
+ghost use Rattle.page_ranges.specs.Statuses.{status_number};
+ghost use Rattle.boot_core.specs.Certified.{certified};
+ghost use Rattle.reply_texts.specs.CallText.{map_before};
+ghost use Rattle.c_interface.specs.Buffers.{laid};
+ghost use Rattle.c_interface.specs.EfiCores.{LeavesBlock, forgotten, last_events};
+ghost use Rattle.c_interface.specs.Replies.{status_in};
+ghost use Rattle.c_interface.specs.Served.{AnswersStatus, AnswersNumber, AnswersNumbers, TellsBlock};
+
+use crate::buffers::lay;
+use crate::replies::{events_in, number_in, numbers_in, status_in};
+use boot_core::{Call, Core, Reply, certified};
+use certificate_blocks::print_block;
+use driver_connect::TableDriver;
+use page_ranges::{Descriptor, Status};
+use reply_texts::map_before;
+use std::alloc::{AllocError, Global};
+use std::marker::Model;
+
+/// The status of a call that is one too many (EFI_ABORTED).
+pub const ABORTED: u64 = 0x8000_0000_0000_0015;
+
+/// The block of the certificate of the last call.
+#[derive(Debug, Drop)]
+pub enum LastBlock {
+    /// The call placed nothing, or certificates are not kept.
+    Nothing,
+    Text(Vec<u8>),
+    OutOfMemory,
+}
+
+/// A core, and what its last call left to be asked for.
+#[derive(Drop)]
+pub struct EfiCore {
+    pub(crate) alloc: Global,
+    pub(crate) core: Core<TableDriver>,
+    certifies: bool,
+    last: Option<Reply>,
+    block: LastBlock,
+}
+
+impl Model for EfiCore {
+    ghost use Rattle.c_interface.specs.EfiCores.{EfiCoreValue};
+
+    ghost Value = { EfiCoreValue };
+
+    ghost view = { λ c. record { core = c.core; certifies = c.certifies; last = c.last; block = c.block } };
+}
+
+impl EfiCore {
+    /// A core before any call; it keeps no certificates.
+    pub fn new(alloc: Global, core: Core<TableDriver>) -> EfiCore
+        ensures { result ≡ record { core = core; certifies = false; last = None; block = LastBlock.Nothing } }
+    {
+        EfiCore {
+            alloc,
+            core,
+            certifies: false,
+            last: None,
+            block: LastBlock::Nothing,
+        }
+    }
+
+    /// Keeps the blocks of the certificates of placements from now on, for which the memory map is copied
+    /// before each, or keeps none.
+    pub fn certify(&mut self, certifies: bool)
+        ensures { self.new ≡ record { core = self.old.core; certifies = certifies; last = self.old.last; block = self.old.block } }
+    {
+        self.certifies = certifies;
+    }
+
+    /// Leaves nothing of the call before.
+    pub(crate) fn forget(&mut self)
+        ensures { self.new ≡ forgotten self.old }
+    {
+        self.last = None;
+        self.block = LastBlock::Nothing;
+    }
+
+    // The memory map before a call, where the block of its certificate is kept.
+    fn map_before(&self, call: &Call) -> Result<Option<Vec<Descriptor>>, AllocError>
+        ensures { IfOk result (λ kept. option_map (λ entries. entries.items) kept ≡ map_before self.now.certifies self.now.core.state.parts.book.granule (memory_map self.now.core.state.parts.book.memory) call.now) }
+    {
+        map_before(self.alloc, &self.core, call, self.certifies)
+    }
+
+    // What is left of a call, where blocks are kept.
+    fn block_after(
+        &self,
+        granule: u64,
+        before: &Result<Option<Vec<Descriptor>>, AllocError>,
+        call: &Call,
+        reply: &Reply,
+    ) -> LastBlock
+        ensures kept { self.now.certifies ≡ true → MatchResult before.now (λ kept. LeavesBlock true (option_map (λ entries. entries.items) kept) (certified granule call.now reply.now) result) (λ e. result ≡ LastBlock.OutOfMemory) }
+        ensures none { self.now.certifies ≡ false → result ≡ LastBlock.Nothing }
+    {
+        if self.certifies {
+            block_of(self.alloc, granule, before, call, reply)
+        } else {
+            LastBlock::Nothing
+        }
+    }
+
+    // Keeps what is left of a call.
+    fn keep(&mut self, reply: Reply, block: LastBlock)
+        ensures { self.new ≡ record { core = self.old.core; certifies = self.old.certifies; last = Some reply; block = block } }
+    {
+        self.last = Some(reply);
+        self.block = block;
+    }
+
+    /// Keeps the reply to a call that carries no certificate, and answers its status.
+    pub(crate) fn tell(&mut self, reply: Reply) -> u64
+        ensures status { result ≡ status_number (status_in reply) }
+        ensures core { self.new ≡ record { core = self.old.core; certifies = self.old.certifies; last = Some reply; block = LastBlock.Nothing } }
+    {
+        let status = status_in(&reply).number();
+        self.keep(reply, LastBlock::Nothing);
+        status
+    }
+
+    /// The reply of the last call.
+    pub(crate) fn last_reply(&self) -> Option<&Reply>
+        ensures { option_map (λ reply. reply.now) result ≡ self.now.last }
+    {
+        self.last.as_ref()
+    }
+
+    /// Makes a call, and answers its status as a number of EFI_STATUS.
+    pub(crate) fn answer(&mut self, call: &Call) -> u64
+        ensures { AnswersStatus self.old call.now result self.new }
+    {
+        self.forget();
+        if self.core.calls_left() == 0 {
+            return ABORTED;
+        }
+        let granule = self.core.granule();
+        let before = self.map_before(call);
+        let reply = self.core.call(call);
+        let status = status_in(&reply).number();
+        let block = self.block_after(granule, &before, call, &reply);
+        self.keep(reply, block);
+        status
+    }
+
+    /// The same for a call that tells a number: where it succeeds with one it is put in the place.
+    pub(crate) fn answer_number(&mut self, call: &Call, place: &mut u64) -> u64
+        ensures { AnswersNumber self.old call.now place.old result place.new self.new }
+    {
+        let status = self.answer(call);
+        if let Some(number) = self.last.as_ref().and_then(number_in) {
+            *place = number;
+        }
+        status
+    }
+
+    /// The same for a call that tells two numbers.
+    pub(crate) fn answer_numbers(
+        &mut self,
+        call: &Call,
+        first: &mut u64,
+        second: &mut u64,
+    ) -> u64
+        ensures { AnswersNumbers self.old call.now (first.old, second.old) result (first.new, second.new) self.new }
+    {
+        let status = self.answer(call);
+        if let Some(numbers) = self.last.as_ref().and_then(numbers_in) {
+            *first = numbers.0;
+            *second = numbers.1;
+        }
+        status
+    }
+
+    /// How many events the last call signals; the first of them are laid into a buffer, as many as it has
+    /// room for.
+    pub fn events(&self, buffer: &mut [u64]) -> usize
+        ensures count { result ≡ length (last_events self.now) }
+        ensures events { buffer.new ≡ laid (last_events self.now) buffer.old }
+    {
+        let events = match &self.last {
+            Some(reply) => events_in(reply),
+            None => &[],
+        };
+        lay(buffer, events);
+        events.len()
+    }
+
+    /// The block of the certificate of the last call, in the front of a buffer; its bytes are told in
+    /// a place.
+    ///
+    /// NOT_FOUND: the last call left no block. OUT_OF_RESOURCES: memory ran out for it.
+    /// BUFFER_TOO_SMALL: the place tells the bytes that are needed.
+    pub fn block(&self, buffer: &mut [u8], size: &mut u64) -> u64
+        ensures { TellsBlock self.now.block buffer.old size.old result buffer.new size.new }
+    {
+        let text = match &self.block {
+            LastBlock::Text(text) => text,
+            LastBlock::Nothing => return Status::NotFound.number(),
+            LastBlock::OutOfMemory => return Status::OutOfResources.number(),
+        };
+        *size = text.len() as u64;
+        if buffer.len() < text.len() {
+            return Status::BufferTooSmall.number();
+        }
+        lay(buffer, text.as_slice());
+        Status::Success.number()
+    }
+
+    /// How many calls may still be made: 2^31 at first.
+    pub fn calls_left(&self) -> u64
+        ensures { result ≡ self.now.core.state.calls_left }
+    {
+        self.core.calls_left()
+    }
+}
+
+/// The block of the certificate that a reply carries, with the memory map before the call.
+fn block_of(
+    alloc: Global,
+    granule: u64,
+    before: &Result<Option<Vec<Descriptor>>, AllocError>,
+    call: &Call,
+    reply: &Reply,
+) -> LastBlock
+    ensures { MatchResult before.now (λ kept. LeavesBlock true (option_map (λ entries. entries.items) kept) (certified granule call.now reply.now) result) (λ e. result ≡ LastBlock.OutOfMemory) }
+{
+    let Ok(before) = before else {
+        return LastBlock::OutOfMemory;
+    };
+    match (before, certified(granule, call, reply)) {
+        (Some(entries), Some((request, certificate))) => {
+            let mut text = String::new(alloc);
+            match print_block(&mut text, entries.as_slice(), &request, certificate) {
+                Ok(()) => LastBlock::Text(text.into_bytes()),
+                Err(_) => LastBlock::OutOfMemory,
+            }
+        }
+        _ => LastBlock::Nothing,
+    }
+}

@@ -1,0 +1,126 @@
+//! The services that take or tell a list.
+ghost use Rattle.std.specs.Prelude.{◌≡◌, map, IfOk};
+ghost use Rattle.uuid.specs.Parts.{swap_fields};
+ghost use Rattle.boot_core.specs.declared.calls.Call.TheVariants as call;
+ghost use Rattle.c_interface.specs.Buffers.{laid};
+ghost use Rattle.c_interface.specs.Served.{AnswersStatus, AnswersHandles, AnswersGuids, AnswersPairs, pair_of, standard_guid, told_size};
+
+use crate::buffers::lay;
+use crate::efi_core::{ABORTED, EfiCore};
+use crate::guids::{Guid, Interface};
+use crate::replies::number_in;
+use boot_core::{Call, Reply};
+use page_ranges::Status;
+use std::alloc::{AllocError, Global};
+use uuid::Uuid;
+
+impl EfiCore {
+    /// LocateHandle with a buffer of `size` bytes, of which `buffer` is what the caller lets the handles be laid
+    /// into. The place `needed` is told the bytes that they take, on SUCCESS and on BUFFER_TOO_SMALL.
+    pub fn locate_handle(
+        &mut self,
+        search: u32,
+        guid: &Guid,
+        key: u64,
+        size: u64,
+        needed: &mut u64,
+        buffer: &mut [u64],
+    ) -> u64
+        ensures { AnswersHandles self.old (call.LocateHandle search (swap_fields guid.now.bytes) key size) needed.old buffer.old result needed.new buffer.new self.new }
+    {
+        let guid = guid.uuid();
+        let status = self.answer(&Call::LocateHandle {
+            search,
+            guid,
+            key,
+            size,
+        });
+        if let Some(Reply::LocateHandle(told)) = self.last_reply() {
+            lay(buffer, told.handles.as_slice());
+            if let Some(size) = told_size(told.status, told.size) {
+                *needed = size;
+            }
+        }
+        status
+    }
+
+    /// ProtocolsPerHandle. The place `count` is told how many GUIDs there are; they are laid into the buffer,
+    /// as many as it has room for.
+    pub fn protocols_per_handle(
+        &mut self,
+        handle: u64,
+        buffer: &mut [Guid],
+        count: &mut u64,
+    ) -> u64
+        ensures { AnswersGuids self.old (call.ProtocolsPerHandle handle) count.old buffer.old result count.new buffer.new self.new }
+    {
+        let status = self.answer(&Call::ProtocolsPerHandle { handle });
+        if let Some(Reply::ProtocolsPerHandle(Ok(guids))) = self.last_reply() {
+            *count = guids.len() as u64;
+            lay_guids(buffer, guids.as_slice());
+        }
+        status
+    }
+
+    /// InstallMultipleProtocolInterfaces. The place `handle` has the handle, 0 for a new one, and is told it.
+    /// OUT_OF_RESOURCES also where memory runs out for the list of interfaces, and then no call is made.
+    pub fn install_multiple(&mut self, handle: &mut u64, interfaces: &[Interface]) -> u64
+        ensures { AnswersPairs self.old (call.InstallMultipleProtocolInterfaces handle.old (map pair_of interfaces.now)) handle.old result handle.new self.new }
+    {
+        self.forget();
+        let Ok(pairs) = pairs_of(self.alloc, interfaces) else {
+            return Status::OutOfResources.number();
+        };
+        if self.core.calls_left() == 0 {
+            return ABORTED;
+        }
+        let reply = self.core.install_multiple(*handle, pairs.as_slice());
+        if let Some(number) = number_in(&reply) {
+            *handle = number;
+        }
+        self.tell(reply)
+    }
+
+    /// ConnectController, with the drivers that are tried first.
+    pub fn connect_controller(&mut self, handle: u64, drivers: &[u64], recursive: bool) -> u64
+        ensures { AnswersStatus self.old (call.ConnectController handle drivers.now recursive) result self.new }
+    {
+        self.forget();
+        if self.core.calls_left() == 0 {
+            return ABORTED;
+        }
+        let reply = self.core.connect_controller(handle, drivers, recursive);
+        self.tell(reply)
+    }
+}
+
+/// The bytes that a status says a list takes.
+fn told_size(status: Status, size: u64) -> Option<u64>
+    ensures { result ≡ told_size status size }
+{
+    match status {
+        Status::Success | Status::BufferTooSmall => Some(size),
+        _ => None,
+    }
+}
+
+/// The interfaces as pairs of GUID and value.
+fn pairs_of(alloc: Global, interfaces: &[Interface]) -> Result<Vec<(Uuid, u64)>, AllocError>
+    ensures { IfOk result (λ pairs. pairs.items ≡ map pair_of interfaces.now) }
+{
+    let mut pairs = Vec::with_capacity(alloc, interfaces.len())?;
+    for interface in interfaces {
+        pairs.push(interface.pair())?;
+    }
+    Ok(pairs)
+}
+
+/// Lays GUIDs into the front of a buffer, as many as it has room for.
+fn lay_guids(buffer: &mut [Guid], guids: &[Uuid])
+    ensures { buffer.new ≡ laid (map standard_guid guids.now) buffer.old }
+{
+    let count = guids.len().min(buffer.len());
+    for index in 0..count {
+        buffer[index] = Guid::new(&guids[index]);
+    }
+}

@@ -1,0 +1,115 @@
+//! The memory services, and the exit.
+ghost use Rattle.std.specs.Prelude.{◌≡◌};
+ghost use Rattle.boot_core.specs.declared.calls.Call.TheVariants as call;
+ghost use Rattle.c_interface.specs.Served.{AnswersStatus, AnswersNumber, AnswersMap, AnswersRead};
+
+use crate::efi_core::{ABORTED, EfiCore};
+use boot_core::Call;
+use page_ranges::Status;
+
+/// The bytes of a record of the memory map.
+const RECORD_SIZE: u64 = 48;
+
+/// The version of the records (EFI_MEMORY_DESCRIPTOR_VERSION).
+const VERSION: u32 = 1;
+
+impl EfiCore {
+    /// AllocatePages. The place `memory` has the highest address that is asked for, or the very address,
+    /// and is told the address of the pages.
+    pub fn allocate_pages(&mut self, kind: u32, mtype: u32, pages: u64, memory: &mut u64) -> u64
+        ensures { AnswersNumber self.old (call.AllocatePages kind mtype pages memory.old) memory.old result memory.new self.new }
+    {
+        let call = Call::AllocatePages {
+            kind,
+            mtype,
+            pages,
+            memory: *memory,
+        };
+        self.answer_number(&call, memory)
+    }
+
+    /// FreePages.
+    pub fn free_pages(&mut self, memory: u64, pages: u64) -> u64
+        ensures { AnswersStatus self.old (call.FreePages memory pages) result self.new }
+    {
+        self.answer(&Call::FreePages { memory, pages })
+    }
+
+    /// GetMemoryMap. The places are told the bytes that the map takes, its key, the bytes of a record and
+    /// their version; where the buffer is too small all but the key.
+    pub fn get_memory_map(
+        &mut self,
+        buffer: &mut [u8],
+        size: &mut u64,
+        key: &mut u64,
+        record_size: &mut u64,
+        version: &mut u32,
+    ) -> u64
+        ensures { AnswersMap self.old buffer.old (record { size = size.old; key = key.old; descriptor_size = record_size.old; version = version.old }) result buffer.new (record { size = size.new; key = key.new; descriptor_size = record_size.new; version = version.new }) self.new }
+    {
+        self.forget();
+        if self.core.calls_left() == 0 {
+            return ABORTED;
+        }
+        let told = self.core.get_memory_map(buffer);
+        match told.status {
+            Status::Success => {
+                *size = told.size;
+                *key = told.key;
+                *record_size = RECORD_SIZE;
+                *version = VERSION;
+            }
+            Status::BufferTooSmall => {
+                *size = told.size;
+                *record_size = RECORD_SIZE;
+                *version = VERSION;
+            }
+            _ => {}
+        }
+        told.status.number()
+    }
+
+    /// Reads bytes of one pool block into a buffer, from an address on.
+    pub fn pool_read(&mut self, address: u64, buffer: &mut [u8]) -> u64
+        ensures { AnswersRead self.old address buffer.old result buffer.new self.new }
+    {
+        self.forget();
+        if self.core.calls_left() == 0 {
+            return ABORTED;
+        }
+        self.core.pool_read(address, buffer).number()
+    }
+
+    /// Writes bytes into one pool block, from an address on.
+    pub fn pool_write(&mut self, address: u64, bytes: &[u8]) -> u64
+        ensures { AnswersStatus self.old (call.PoolWrite address bytes.now) result self.new }
+    {
+        self.forget();
+        if self.core.calls_left() == 0 {
+            return ABORTED;
+        }
+        let reply = self.core.pool_write(address, bytes);
+        self.tell(reply)
+    }
+
+    /// AllocatePool. The place `buffer` is told the block's address.
+    pub fn allocate_pool(&mut self, mtype: u32, size: u64, buffer: &mut u64) -> u64
+        ensures { AnswersNumber self.old (call.AllocatePool mtype size) buffer.old result buffer.new self.new }
+    {
+        self.answer_number(&Call::AllocatePool { mtype, size }, buffer)
+    }
+
+    /// FreePool.
+    pub fn free_pool(&mut self, address: u64) -> u64
+        ensures { AnswersStatus self.old (call.FreePool address) result self.new }
+    {
+        self.answer(&Call::FreePool { address })
+    }
+
+    /// ExitBootServices.
+    pub fn exit_boot_services(&mut self, key: u64) -> u64
+        ensures { AnswersStatus self.old (call.ExitBootServices key) result self.new }
+    {
+        self.answer(&Call::ExitBootServices { key })
+    }
+}

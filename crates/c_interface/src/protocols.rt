@@ -1,0 +1,181 @@
+//! The services on handles, interfaces and drivers.
+ghost use Rattle.std.specs.Prelude.{◌≡◌};
+ghost use Rattle.uuid.specs.Parts.{swap_fields};
+ghost use Rattle.boot_core.specs.declared.calls.Call.TheVariants as call;
+ghost use Rattle.c_interface.specs.Served.{AnswersStatus, AnswersNumber, AnswersNumbers};
+
+use crate::efi_core::EfiCore;
+use crate::guids::Guid;
+use boot_core::Call;
+
+impl EfiCore {
+    /// InstallProtocolInterface. The place `handle` has the handle, 0 for a new one, and is told it.
+    pub fn install_protocol_interface(
+        &mut self,
+        handle: &mut u64,
+        guid: &Guid,
+        kind: u32,
+        value: u64,
+    ) -> u64
+        ensures { AnswersNumber self.old (call.InstallProtocolInterface handle.old (swap_fields guid.now.bytes) kind value) handle.old result handle.new self.new }
+    {
+        let call = Call::InstallProtocolInterface {
+            handle: *handle,
+            guid: guid.uuid(),
+            kind,
+            value,
+        };
+        self.answer_number(&call, handle)
+    }
+
+    /// UninstallProtocolInterface.
+    pub fn uninstall_protocol_interface(&mut self, handle: u64, guid: &Guid, value: u64) -> u64
+        ensures { AnswersStatus self.old (call.UninstallProtocolInterface handle (swap_fields guid.now.bytes) value) result self.new }
+    {
+        let guid = guid.uuid();
+        self.answer(&Call::UninstallProtocolInterface {
+            handle,
+            guid,
+            value,
+        })
+    }
+
+    /// ReinstallProtocolInterface.
+    pub fn reinstall_protocol_interface(
+        &mut self,
+        handle: u64,
+        guid: &Guid,
+        old_value: u64,
+        new_value: u64,
+    ) -> u64
+        ensures { AnswersStatus self.old (call.ReinstallProtocolInterface handle (swap_fields guid.now.bytes) old_value new_value) result self.new }
+    {
+        let guid = guid.uuid();
+        self.answer(&Call::ReinstallProtocolInterface {
+            handle,
+            guid,
+            old_value,
+            new_value,
+        })
+    }
+
+    /// RegisterProtocolNotify. The place `registration` is told the registration's key.
+    pub fn register_protocol_notify(
+        &mut self,
+        guid: &Guid,
+        event: u64,
+        registration: &mut u64,
+    ) -> u64
+        ensures { AnswersNumber self.old (call.RegisterProtocolNotify (swap_fields guid.now.bytes) event) registration.old result registration.new self.new }
+    {
+        let guid = guid.uuid();
+        self.answer_number(&Call::RegisterProtocolNotify { guid, event }, registration)
+    }
+
+    /// LocateHandleBuffer. The places are told how many handles there are, and the address of their block
+    /// of the pool.
+    pub fn locate_handle_buffer(
+        &mut self,
+        search: u32,
+        guid: &Guid,
+        key: u64,
+        count: &mut u64,
+        buffer: &mut u64,
+    ) -> u64
+        ensures { AnswersNumbers self.old (call.LocateHandleBuffer search (swap_fields guid.now.bytes) key) (count.old, buffer.old) result (count.new, buffer.new) self.new }
+    {
+        let guid = guid.uuid();
+        self.answer_numbers(&Call::LocateHandleBuffer { search, guid, key }, count, buffer)
+    }
+
+    /// LocateProtocol. The place `interface` is told the interface's value.
+    pub fn locate_protocol(&mut self, guid: &Guid, key: u64, interface: &mut u64) -> u64
+        ensures { AnswersNumber self.old (call.LocateProtocol (swap_fields guid.now.bytes) key) interface.old result interface.new self.new }
+    {
+        let guid = guid.uuid();
+        self.answer_number(&Call::LocateProtocol { guid, key }, interface)
+    }
+
+    /// OpenProtocol. The place `interface` is told the interface's value, but by TEST_PROTOCOL.
+    pub fn open_protocol(
+        &mut self,
+        handle: u64,
+        guid: &Guid,
+        interface: &mut u64,
+        agent: u64,
+        controller: u64,
+        attributes: u32,
+    ) -> u64
+        ensures { AnswersNumber self.old (call.OpenProtocol handle (swap_fields guid.now.bytes) agent controller attributes) interface.old result interface.new self.new }
+    {
+        let call = Call::OpenProtocol {
+            handle,
+            guid: guid.uuid(),
+            agent,
+            controller,
+            attributes,
+        };
+        self.answer_number(&call, interface)
+    }
+
+    /// CloseProtocol.
+    pub fn close_protocol(
+        &mut self,
+        handle: u64,
+        guid: &Guid,
+        agent: u64,
+        controller: u64,
+    ) -> u64
+        ensures { AnswersStatus self.old (call.CloseProtocol handle (swap_fields guid.now.bytes) agent controller) result self.new }
+    {
+        let guid = guid.uuid();
+        self.answer(&Call::CloseProtocol {
+            handle,
+            guid,
+            agent,
+            controller,
+        })
+    }
+
+    /// OpenProtocolInformation. The places are told how many open items there are, and the address of
+    /// their block of the pool.
+    pub fn open_protocol_information(
+        &mut self,
+        handle: u64,
+        guid: &Guid,
+        count: &mut u64,
+        entries: &mut u64,
+    ) -> u64
+        ensures { AnswersNumbers self.old (call.OpenProtocolInformation handle (swap_fields guid.now.bytes)) (count.old, entries.old) result (count.new, entries.new) self.new }
+    {
+        let guid = guid.uuid();
+        self.answer_numbers(&Call::OpenProtocolInformation { handle, guid }, count, entries)
+    }
+
+    /// HandleProtocol. The place `interface` is told the interface's value.
+    pub fn handle_protocol(&mut self, handle: u64, guid: &Guid, interface: &mut u64) -> u64
+        ensures { AnswersNumber self.old (call.HandleProtocol handle (swap_fields guid.now.bytes)) interface.old result interface.new self.new }
+    {
+        let guid = guid.uuid();
+        self.answer_number(&Call::HandleProtocol { handle, guid }, interface)
+    }
+
+    /// DisconnectController.
+    pub fn disconnect_controller(&mut self, handle: u64, driver: u64) -> u64
+        ensures { AnswersStatus self.old (call.DisconnectController handle driver) result self.new }
+    {
+        self.answer(&Call::DisconnectController { handle, driver })
+    }
+
+    /// LocateDevicePath. The place `path` has the path's address in the pool, and is told the address behind
+    /// the nodes that matched; the place `device` is told the handle.
+    pub fn locate_device_path(&mut self, guid: &Guid, path: &mut u64, device: &mut u64) -> u64
+        ensures { AnswersNumbers self.old (call.LocateDevicePath (swap_fields guid.now.bytes) path.old) (device.old, path.old) result (device.new, path.new) self.new }
+    {
+        let call = Call::LocateDevicePath {
+            guid: guid.uuid(),
+            address: *path,
+        };
+        self.answer_numbers(&call, device, path)
+    }
+}
