@@ -1,0 +1,53 @@
+-- What the tables of drivers mean.
+use Rattle.std.specs.Prelude.{◌≡◌, ℕ, Bool, true, false, ◌&&◌, nat_le, List, length, map, take, Result, Ok, Err}
+use Rattle.std.specs.List.{list_all}
+use Rattle.std.specs.declared.alloc.Global.{Global}
+use Rattle.std.specs.declared.vec.Vec.{Vec}
+use Rattle.driver_connect.specs.declared.table.TableDriver.{TableDriver}
+use Rattle.c_machines.specs.declared.drivers.Child.{Child}
+use Rattle.c_machines.specs.declared.drivers.DriverTable.{DriverTable}
+use Rattle.c_machines.specs.declared.faults.MachineFault.{MachineFault}
+use Rattle.c_machines.specs.declared.faults.MachineFault.TheVariants.{Invalid, OutOfMemory}
+use Rattle.c_machines.specs.Guids.{guid_in, interface_in}
+
+-- a driver as C tells it
+pub record ToldDriver : Type 0 where
+  pub version : ℕ
+  pub needs : List (List ℕ)
+  pub opens : List (List ℕ)
+  pub children : List (List (List ℕ × ℕ))
+  pub stops : Bool
+
+-- what C tells of a driver
+abbrev pub told : TableDriver → ToldDriver
+told d = record { version = d.version; needs = d.needs.items; opens = d.plan.opens; children = d.plan.children; stops = d.stops }
+
+-- the first interfaces of the child's array, as many as its count says
+abbrev pub child_in : Child → List (List ℕ × ℕ)
+child_in c = map interface_in (take c.count c.interfaces)
+
+-- the first elements of each of the table's arrays, as many as its count says
+abbrev pub driver_in : DriverTable → ToldDriver
+driver_in t = record { version = t.version; needs = map guid_in (take t.needs_count t.needs); opens = map guid_in (take t.opens_count t.opens); children = map child_in (take t.children_count t.children); stops = t.stops }
+
+-- the count of the child is not above the length of its array
+abbrev pub fits_child : Child → Bool
+fits_child c = nat_le c.count 4
+
+-- no count of the table is above the length of its array, and none of its children's is
+abbrev pub fits : DriverTable → Bool
+fits t = nat_le t.needs_count 8 && nat_le t.opens_count 8 && nat_le t.children_count 8 && list_all fits_child (take t.children_count t.children)
+
+-- the most drivers of a core
+abbrev pub most_drivers : ℕ
+most_drivers = 64
+
+-- The tables are at most so many, and no count in them is above the length of its array.
+abbrev pub are_tables : List DriverTable → Bool
+are_tables ts = nat_le (length ts) most_drivers && list_all fits ts
+
+-- What is read of tables: their drivers, in their order. Where they are none, Invalid or out of memory.
+abbrev pub ReadsDrivers : List DriverTable → Result (Vec TableDriver Global) MachineFault → Type 0
+ReadsDrivers ts (Ok drivers) = (are_tables ts ≡ true) × (map told drivers.items ≡ map driver_in ts)
+ReadsDrivers ts (Err Invalid) = are_tables ts ≡ false
+ReadsDrivers ts (Err OutOfMemory) = Unit {0}

@@ -1,0 +1,3 @@
+pub mod Guids
+pub mod DriverTables
+pub mod MachineRecords

@@ -1,0 +1,128 @@
+//! Drivers as C has them, in tables.
+ghost use Rattle.std.specs.Prelude.{◌≡◌, ◌&&◌, nat_le, map, take, Some, None, if◌then◌else◌};
+ghost use Rattle.std.specs.Option.{option_map};
+ghost use Rattle.std.specs.List.{list_all};
+ghost use Rattle.c_machines.specs.Guids.{guid_in, interface_in};
+ghost use Rattle.c_machines.specs.DriverTables.{ReadsDrivers, fits_child, child_in, fits, driver_in, told};
+
+use crate::faults::MachineFault;
+use crate::guids::{Guid, Interface};
+use arrayvec::ArrayVec;
+use driver_connect::{StartPlan, TableDriver};
+use std::alloc::Global;
+use uuid::Uuid;
+
+/// The most drivers of a core.
+pub const MOST_DRIVERS: usize = 64;
+
+/// The most GUIDs that a driver needs, and the most that it opens.
+const MOST_GUIDS: usize = 8;
+
+/// The most children of a driver.
+const MOST_CHILDREN: usize = 8;
+
+/// The most interfaces of a child.
+const MOST_INTERFACES: usize = 4;
+
+/// A child of a driver: the first interfaces of an array, so many.
+#[repr(C)]
+#[derive(Clone, Copy, Debug, PartialEq, Eq)]
+pub struct Child {
+    pub interfaces: [Interface; 4],
+    pub count: u64,
+}
+
+/// A driver with fixed answers: the first elements of each array, as many as its count says.
+#[repr(C)]
+#[derive(Clone, Copy, Debug, PartialEq, Eq)]
+pub struct DriverTable {
+    pub version: u32,
+    /// Whether the driver lets itself be stopped.
+    pub stops: bool,
+    pub needs: [Guid; 8],
+    pub needs_count: u64,
+    pub opens: [Guid; 8],
+    pub opens_count: u64,
+    pub children: [Child; 8],
+    pub children_count: u64,
+}
+
+/// The drivers of some tables, in their order.
+///
+/// Invalid where there are more than 64 tables, or a count is above the length of its array.
+pub fn table_drivers(
+    alloc: Global,
+    drivers: &[DriverTable],
+) -> Result<Vec<TableDriver>, MachineFault>
+    ensures { ReadsDrivers drivers.now result }
+{
+    if drivers.len() > MOST_DRIVERS {
+        return Err(MachineFault::Invalid);
+    }
+    let mut tables = Vec::with_capacity(alloc, drivers.len())?;
+    for driver in drivers {
+        let table = driver_in(driver).ok_or(MachineFault::Invalid)?;
+        tables.push(table)?;
+    }
+    Ok(tables)
+}
+
+/// The driver of a table, None where a count is above the length of its array.
+fn driver_in(table: &DriverTable) -> Option<TableDriver>
+    ensures { option_map told result ≡ (if fits table.now then Some (driver_in table.now) else None) }
+{
+    let needs = guids_in(&table.needs, table.needs_count)?;
+    let opens = guids_in(&table.opens, table.opens_count)?;
+    let children = children_in(&table.children, table.children_count)?;
+    Some(TableDriver {
+        version: table.version,
+        needs,
+        plan: StartPlan { opens, children },
+        stops: table.stops,
+    })
+}
+
+/// The first GUIDs, so many; None where there are fewer.
+fn guids_in(guids: &[Guid; 8], count: u64) -> Option<ArrayVec<Uuid, MOST_GUIDS>>
+    ensures { option_map (λ list. list.items) result ≡ (if nat_le count 8 then Some (map guid_in (take count guids.now)) else None) }
+{
+    if count > MOST_GUIDS as u64 {
+        return None;
+    }
+    let mut list = ArrayVec::new();
+    for guid in &guids[..count as usize] {
+        list.push(guid.uuid());
+    }
+    Some(list)
+}
+
+/// The interfaces of a child, None where its count is above the length of the array.
+fn child_in(child: &Child) -> Option<ArrayVec<(Uuid, u64), MOST_INTERFACES>>
+    ensures { option_map (λ list. list.items) result ≡ (if fits_child child.now then Some (child_in child.now) else None) }
+{
+    if child.count > MOST_INTERFACES as u64 {
+        return None;
+    }
+    let mut list = ArrayVec::new();
+    for interface in &child.interfaces[..child.count as usize] {
+        list.push((interface.guid.uuid(), interface.value));
+    }
+    Some(list)
+}
+
+/// The first children, so many; None where there are fewer, or one of them is none.
+fn children_in(
+    children: &[Child; 8],
+    count: u64,
+) -> Option<ArrayVec<ArrayVec<(Uuid, u64), MOST_INTERFACES>, MOST_CHILDREN>>
+    ensures { option_map (λ list. map (λ child. child.items) list.items) result ≡ (if nat_le count 8 && list_all fits_child (take count children.now) then Some (map child_in (take count children.now)) else None) }
+{
+    if count > MOST_CHILDREN as u64 {
+        return None;
+    }
+    let mut list = ArrayVec::new();
+    for child in &children[..count as usize] {
+        list.push(child_in(child)?);
+    }
+    Some(list)
+}

@@ -1,0 +1,12 @@
+//! What a caller in C hands in to make a core, and what it means.
+#![tactic(auto)]
+
+mod drivers;
+mod faults;
+mod guids;
+mod machines;
+
+pub use drivers::{Child, DriverTable, MOST_DRIVERS, table_drivers};
+pub use faults::MachineFault;
+pub use guids::{Guid, Interface};
+pub use machines::{LEAST_SIZE, MOST_RECORDS, machine_of};
