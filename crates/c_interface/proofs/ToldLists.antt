@@ -10,11 +10,12 @@ use Rattle.protocol_services.specs.declared.replies.LocateReply.{LocateReply}
 use Rattle.c_interface.specs.Buffers.{laid}
 use Rattle.c_interface.specs.EfiCores.{EfiCoreValue}
 use Rattle.c_interface.specs.Replies.{told_or}
-use Rattle.c_interface.specs.declared.guids.Guid.{Guid}
-use Rattle.c_interface.specs.declared.guids.Interface.{Interface}
+use Rattle.c_machines.specs.declared.guids.Guid.{Guid}
+use Rattle.c_machines.specs.declared.guids.Interface.{Interface}
 use Rattle.std.proofs.lemmas.List.{get_or-map, length-map, map-append, take_all}
 use Rattle.std.proofs.Math.Seq.{take-suc}
-use Rattle.c_interface.specs.Served.{standard_guid, pair_of, AnswersStatus, AnswersHandles, TellsHandles, told_size}
+use Rattle.c_machines.specs.Guids.{standard_guid, interface_in}
+use Rattle.c_interface.specs.Served.{AnswersStatus, AnswersHandles, TellsHandles, told_size}
 
 some_is : {A : Type 0} (x y : A) → Some x ≡ Some y → x ≡ y
 some_is x y e = cc
@@ -39,10 +40,10 @@ guid_laid i gs old buffer g v a b is e k =
     let there : get_or (map standard_guid gs) i (standard_guid g) ≡ standard_guid g = get_or-map standard_guid gs i g (standard_guid g) a ∙ ap standard_guid (sym is) in
     rw (k, e, next) (laid_more i (map standard_guid gs) old (standard_guid g) (subst (λ n. i < n) (sym (length-map gs standard_guid)) a) b there)
 
-pub pairs_more : (i : ℕ) (xs : List Interface) (d : Interface) → i < length xs → map pair_of (take i xs) ++ pair_of (get_or xs i d) ∷ [] ≡ map pair_of (take (i + 1) xs)
+pub pairs_more : (i : ℕ) (xs : List Interface) (d : Interface) → i < length xs → map interface_in (take i xs) ++ interface_in (get_or xs i d) ∷ [] ≡ map interface_in (take (i + 1) xs)
 pairs_more i xs d a =
     let next : i + 1 ≡ suc i = omega arith in
-    sym (map-append pair_of (take i xs) (get_or xs i d ∷ [])) ∙ ap (map pair_of) (sym (take-suc xs i d a) ∙ ap (λ n. take n xs) (sym next))
+    sym (map-append interface_in (take i xs) (get_or xs i d ∷ [])) ∙ ap (map interface_in) (sym (take-suc xs i d a) ∙ ap (λ n. take n xs) (sym next))
 
 pub laid_whole : {T : Type 0} (i : ℕ) (xs ys : List T) → i ≡ min (length xs) (length ys) → take i xs ++ drop i ys ≡ laid xs ys
 laid_whole i xs ys e =

@@ -1,5 +1,5 @@
 pub mod Buffers
+pub mod Checks
 pub mod EfiCores
-pub mod Machines
 pub mod Replies
 pub mod Served

@@ -15,11 +15,10 @@ use Rattle.boot_core.specs.Certified.{certified}
 use Rattle.boot_core.specs.Steps.{MapStep, ReadStep, Step}
 use Rattle.reply_texts.specs.CallText.{map_before}
 use Rattle.protocol_services.specs.declared.replies.LocateReply.{LocateReply}
-use Rattle.uuid.specs.Parts.{swap_fields}
 use Rattle.c_interface.specs.declared.efi_core.LastBlock.{LastBlock}
 use Rattle.c_interface.specs.declared.efi_core.LastBlock.TheVariants as block
-use Rattle.c_interface.specs.declared.guids.Guid.{Guid}
-use Rattle.c_interface.specs.declared.guids.Interface.{Interface}
+use Rattle.c_machines.specs.declared.guids.Guid.{Guid}
+use Rattle.c_machines.specs.Guids.{standard_guid}
 use Rattle.c_interface.specs.Buffers.{laid}
 use Rattle.c_interface.specs.EfiCores.{EfiCoreValue, LeavesBlock, forgotten, meanings}
 use Rattle.c_interface.specs.Replies.{status_in, number_in, numbers_in, told_or}
@@ -76,10 +75,6 @@ TellsHandles size buffer new_size new_buffer answer = ⊥
 abbrev pub AnswersHandles : EfiCoreValue → Call Global → ℕ → List ℕ → ℕ → ℕ → List ℕ → EfiCoreValue → Type 0
 AnswersHandles old c size buffer status new_size new_buffer new = Answers old c status (TellsHandles size buffer new_size new_buffer) ((new_size ≡ size) × (new_buffer ≡ buffer)) new
 
--- a GUID as the standard's sixteen bytes
-abbrev pub standard_guid : List ℕ → Guid
-standard_guid guid = record { bytes = swap_fields guid }
-
 -- ProtocolsPerHandle tells how many GUIDs there are in the caller's place, and the GUIDs in the caller's buffer.
 abbrev pub TellsGuids : ℕ → List Guid → ℕ → List Guid → Reply Global → Type 0
 TellsGuids count buffer new_count new_buffer (reply.ProtocolsPerHandle (Ok guids)) = (new_count ≡ length guids.items) × (new_buffer ≡ laid (map standard_guid guids.items) buffer)
@@ -89,10 +84,6 @@ TellsGuids count buffer new_count new_buffer answer = ⊥
 -- ProtocolsPerHandle through C
 abbrev pub AnswersGuids : EfiCoreValue → Call Global → ℕ → List Guid → ℕ → ℕ → List Guid → EfiCoreValue → Type 0
 AnswersGuids old c count buffer status new_count new_buffer new = Answers old c status (TellsGuids count buffer new_count new_buffer) ((new_count ≡ count) × (new_buffer ≡ buffer)) new
-
--- an interface as a call carries it
-abbrev pub pair_of : Interface → List ℕ × ℕ
-pair_of i = (swap_fields i.guid.bytes, i.value)
 
 -- a call with a list that is copied first, for which memory may run out: then no call is made
 abbrev pub AnswersPairs : EfiCoreValue → Call Global → ℕ → ℕ → ℕ → EfiCoreValue → Type 0

@@ -3,12 +3,12 @@
 #![tactic(auto)]
 
 mod buffers;
+mod checks;
 mod efi_core;
-mod guids;
 mod lists;
 mod memory;
 mod protocols;
 mod replies;
 
-pub use efi_core::{EfiCore, LastBlock};
-pub use guids::{Guid, Interface};
+pub use checks::{MapEntry, check_block};
+pub use efi_core::{ABORTED, EfiCore, LastBlock};

@@ -1,13 +1,13 @@
 //! The services that take or tell a list.
 ghost use Rattle.std.specs.Prelude.{◌≡◌, map, IfOk};
-ghost use Rattle.uuid.specs.Parts.{swap_fields};
 ghost use Rattle.boot_core.specs.declared.calls.Call.TheVariants as call;
 ghost use Rattle.c_interface.specs.Buffers.{laid};
-ghost use Rattle.c_interface.specs.Served.{AnswersStatus, AnswersHandles, AnswersGuids, AnswersPairs, pair_of, standard_guid, told_size};
+ghost use Rattle.c_interface.specs.Served.{AnswersStatus, AnswersHandles, AnswersGuids, AnswersPairs, told_size};
+ghost use Rattle.c_machines.specs.Guids.{guid_in, interface_in, standard_guid};
 
 use crate::buffers::lay;
 use crate::efi_core::{ABORTED, EfiCore};
-use crate::guids::{Guid, Interface};
+use c_machines::{Guid, Interface};
 use crate::replies::number_in;
 use boot_core::{Call, Reply};
 use page_ranges::Status;
@@ -26,7 +26,7 @@ impl EfiCore {
         needed: &mut u64,
         buffer: &mut [u64],
     ) -> u64
-        ensures { AnswersHandles self.old (call.LocateHandle search (swap_fields guid.now.bytes) key size) needed.old buffer.old result needed.new buffer.new self.new }
+        ensures { AnswersHandles self.old (call.LocateHandle search (guid_in guid.now) key size) needed.old buffer.old result needed.new buffer.new self.new }
     {
         let guid = guid.uuid();
         let status = self.answer(&Call::LocateHandle {
@@ -65,7 +65,7 @@ impl EfiCore {
     /// InstallMultipleProtocolInterfaces. The place `handle` has the handle, 0 for a new one, and is told it.
     /// OUT_OF_RESOURCES also where memory runs out for the list of interfaces, and then no call is made.
     pub fn install_multiple(&mut self, handle: &mut u64, interfaces: &[Interface]) -> u64
-        ensures { AnswersPairs self.old (call.InstallMultipleProtocolInterfaces handle.old (map pair_of interfaces.now)) handle.old result handle.new self.new }
+        ensures { AnswersPairs self.old (call.InstallMultipleProtocolInterfaces handle.old (map interface_in interfaces.now)) handle.old result handle.new self.new }
     {
         self.forget();
         let Ok(pairs) = pairs_of(self.alloc, interfaces) else {
@@ -106,11 +106,11 @@ fn told_size(status: Status, size: u64) -> Option<u64>
 
 /// The interfaces as pairs of GUID and value.
 fn pairs_of(alloc: Global, interfaces: &[Interface]) -> Result<Vec<(Uuid, u64)>, AllocError>
-    ensures { IfOk result (λ pairs. pairs.items ≡ map pair_of interfaces.now) }
+    ensures { IfOk result (λ pairs. pairs.items ≡ map interface_in interfaces.now) }
 {
     let mut pairs = Vec::with_capacity(alloc, interfaces.len())?;
     for interface in interfaces {
-        pairs.push(interface.pair())?;
+        pairs.push((interface.guid.uuid(), interface.value))?;
     }
     Ok(pairs)
 }

@@ -1,11 +1,11 @@
 //! The services on handles, interfaces and drivers.
 ghost use Rattle.std.specs.Prelude.{◌≡◌};
-ghost use Rattle.uuid.specs.Parts.{swap_fields};
 ghost use Rattle.boot_core.specs.declared.calls.Call.TheVariants as call;
+ghost use Rattle.c_machines.specs.Guids.{guid_in};
 ghost use Rattle.c_interface.specs.Served.{AnswersStatus, AnswersNumber, AnswersNumbers};
 
 use crate::efi_core::EfiCore;
-use crate::guids::Guid;
+use c_machines::Guid;
 use boot_core::Call;
 
 impl EfiCore {
@@ -17,7 +17,7 @@ impl EfiCore {
         kind: u32,
         value: u64,
     ) -> u64
-        ensures { AnswersNumber self.old (call.InstallProtocolInterface handle.old (swap_fields guid.now.bytes) kind value) handle.old result handle.new self.new }
+        ensures { AnswersNumber self.old (call.InstallProtocolInterface handle.old (guid_in guid.now) kind value) handle.old result handle.new self.new }
     {
         let call = Call::InstallProtocolInterface {
             handle: *handle,
@@ -30,7 +30,7 @@ impl EfiCore {
 
     /// UninstallProtocolInterface.
     pub fn uninstall_protocol_interface(&mut self, handle: u64, guid: &Guid, value: u64) -> u64
-        ensures { AnswersStatus self.old (call.UninstallProtocolInterface handle (swap_fields guid.now.bytes) value) result self.new }
+        ensures { AnswersStatus self.old (call.UninstallProtocolInterface handle (guid_in guid.now) value) result self.new }
     {
         let guid = guid.uuid();
         self.answer(&Call::UninstallProtocolInterface {
@@ -48,7 +48,7 @@ impl EfiCore {
         old_value: u64,
         new_value: u64,
     ) -> u64
-        ensures { AnswersStatus self.old (call.ReinstallProtocolInterface handle (swap_fields guid.now.bytes) old_value new_value) result self.new }
+        ensures { AnswersStatus self.old (call.ReinstallProtocolInterface handle (guid_in guid.now) old_value new_value) result self.new }
     {
         let guid = guid.uuid();
         self.answer(&Call::ReinstallProtocolInterface {
@@ -66,7 +66,7 @@ impl EfiCore {
         event: u64,
         registration: &mut u64,
     ) -> u64
-        ensures { AnswersNumber self.old (call.RegisterProtocolNotify (swap_fields guid.now.bytes) event) registration.old result registration.new self.new }
+        ensures { AnswersNumber self.old (call.RegisterProtocolNotify (guid_in guid.now) event) registration.old result registration.new self.new }
     {
         let guid = guid.uuid();
         self.answer_number(&Call::RegisterProtocolNotify { guid, event }, registration)
@@ -82,7 +82,7 @@ impl EfiCore {
         count: &mut u64,
         buffer: &mut u64,
     ) -> u64
-        ensures { AnswersNumbers self.old (call.LocateHandleBuffer search (swap_fields guid.now.bytes) key) (count.old, buffer.old) result (count.new, buffer.new) self.new }
+        ensures { AnswersNumbers self.old (call.LocateHandleBuffer search (guid_in guid.now) key) (count.old, buffer.old) result (count.new, buffer.new) self.new }
     {
         let guid = guid.uuid();
         self.answer_numbers(&Call::LocateHandleBuffer { search, guid, key }, count, buffer)
@@ -90,7 +90,7 @@ impl EfiCore {
 
     /// LocateProtocol. The place `interface` is told the interface's value.
     pub fn locate_protocol(&mut self, guid: &Guid, key: u64, interface: &mut u64) -> u64
-        ensures { AnswersNumber self.old (call.LocateProtocol (swap_fields guid.now.bytes) key) interface.old result interface.new self.new }
+        ensures { AnswersNumber self.old (call.LocateProtocol (guid_in guid.now) key) interface.old result interface.new self.new }
     {
         let guid = guid.uuid();
         self.answer_number(&Call::LocateProtocol { guid, key }, interface)
@@ -106,7 +106,7 @@ impl EfiCore {
         controller: u64,
         attributes: u32,
     ) -> u64
-        ensures { AnswersNumber self.old (call.OpenProtocol handle (swap_fields guid.now.bytes) agent controller attributes) interface.old result interface.new self.new }
+        ensures { AnswersNumber self.old (call.OpenProtocol handle (guid_in guid.now) agent controller attributes) interface.old result interface.new self.new }
     {
         let call = Call::OpenProtocol {
             handle,
@@ -126,7 +126,7 @@ impl EfiCore {
         agent: u64,
         controller: u64,
     ) -> u64
-        ensures { AnswersStatus self.old (call.CloseProtocol handle (swap_fields guid.now.bytes) agent controller) result self.new }
+        ensures { AnswersStatus self.old (call.CloseProtocol handle (guid_in guid.now) agent controller) result self.new }
     {
         let guid = guid.uuid();
         self.answer(&Call::CloseProtocol {
@@ -146,7 +146,7 @@ impl EfiCore {
         count: &mut u64,
         entries: &mut u64,
     ) -> u64
-        ensures { AnswersNumbers self.old (call.OpenProtocolInformation handle (swap_fields guid.now.bytes)) (count.old, entries.old) result (count.new, entries.new) self.new }
+        ensures { AnswersNumbers self.old (call.OpenProtocolInformation handle (guid_in guid.now)) (count.old, entries.old) result (count.new, entries.new) self.new }
     {
         let guid = guid.uuid();
         self.answer_numbers(&Call::OpenProtocolInformation { handle, guid }, count, entries)
@@ -154,7 +154,7 @@ impl EfiCore {
 
     /// HandleProtocol. The place `interface` is told the interface's value.
     pub fn handle_protocol(&mut self, handle: u64, guid: &Guid, interface: &mut u64) -> u64
-        ensures { AnswersNumber self.old (call.HandleProtocol handle (swap_fields guid.now.bytes)) interface.old result interface.new self.new }
+        ensures { AnswersNumber self.old (call.HandleProtocol handle (guid_in guid.now)) interface.old result interface.new self.new }
     {
         let guid = guid.uuid();
         self.answer_number(&Call::HandleProtocol { handle, guid }, interface)
@@ -170,7 +170,7 @@ impl EfiCore {
     /// LocateDevicePath. The place `path` has the path's address in the pool, and is told the address behind
     /// the nodes that matched; the place `device` is told the handle.
     pub fn locate_device_path(&mut self, guid: &Guid, path: &mut u64, device: &mut u64) -> u64
-        ensures { AnswersNumbers self.old (call.LocateDevicePath (swap_fields guid.now.bytes) path.old) (device.old, path.old) result (device.new, path.new) self.new }
+        ensures { AnswersNumbers self.old (call.LocateDevicePath (guid_in guid.now) path.old) (device.old, path.old) result (device.new, path.new) self.new }
     {
         let call = Call::LocateDevicePath {
             guid: guid.uuid(),

@@ -1,5 +1,5 @@
 use Rattle.std.proofs.Common.{◌≡◌, ◌≤◌, length, map, take, drop, ◌++◌}
-use Rattle.c_interface.specs.Served.{standard_guid}
+use Rattle.c_machines.specs.Guids.{standard_guid}
 use Rattle.c_interface.proofs.lists.lay_guids.Given as goal
 
 abbrev pub invariant-loop-index : goal.invariant-loop-index
