@@ -1,5 +1,6 @@
 pub mod Buffers
 pub mod Checks
 pub mod EfiCores
+pub mod Making
 pub mod Replies
 pub mod Served

@@ -14,7 +14,6 @@ use Rattle.boot_core.specs.declared.calls.Reply.TheVariants as reply
 use Rattle.boot_core.specs.Certified.{certified}
 use Rattle.boot_core.specs.Steps.{MapStep, ReadStep, Step}
 use Rattle.reply_texts.specs.CallText.{map_before}
-use Rattle.protocol_services.specs.declared.replies.LocateReply.{LocateReply}
 use Rattle.c_interface.specs.declared.efi_core.LastBlock.{LastBlock}
 use Rattle.c_interface.specs.declared.efi_core.LastBlock.TheVariants as block
 use Rattle.c_machines.specs.declared.guids.Guid.{Guid}

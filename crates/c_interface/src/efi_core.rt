@@ -158,12 +158,7 @@ impl EfiCore {
     }
 
     /// The same for a call that tells two numbers.
-    pub(crate) fn answer_numbers(
-        &mut self,
-        call: &Call,
-        first: &mut u64,
-        second: &mut u64,
-    ) -> u64
+    pub(crate) fn answer_numbers(&mut self, call: &Call, first: &mut u64, second: &mut u64) -> u64
         ensures { AnswersNumbers self.old call.now (first.old, second.old) result (first.new, second.new) self.new }
     {
         let status = self.answer(call);
@@ -180,12 +175,19 @@ impl EfiCore {
         ensures count { result ≡ length (last_events self.now) }
         ensures events { buffer.new ≡ laid (last_events self.now) buffer.old }
     {
-        let events = match &self.last {
-            Some(reply) => events_in(reply),
-            None => &[],
-        };
+        let events = self.signaled();
         lay(buffer, events);
         events.len()
+    }
+
+    // The events that the last call signals.
+    fn signaled(&self) -> &[u64]
+        ensures { result.now ≡ last_events self.now }
+    {
+        match &self.last {
+            Some(reply) => events_in(reply),
+            None => &[],
+        }
     }
 
     /// The block of the certificate of the last call, in the front of a buffer; its bytes are told in

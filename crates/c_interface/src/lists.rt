@@ -7,9 +7,9 @@ ghost use Rattle.c_machines.specs.Guids.{guid_in, interface_in, standard_guid};
 
 use crate::buffers::lay;
 use crate::efi_core::{ABORTED, EfiCore};
-use c_machines::{Guid, Interface};
 use crate::replies::number_in;
 use boot_core::{Call, Reply};
+use c_machines::{Guid, Interface};
 use page_ranges::Status;
 use std::alloc::{AllocError, Global};
 use uuid::Uuid;
@@ -46,12 +46,7 @@ impl EfiCore {
 
     /// ProtocolsPerHandle. The place `count` is told how many GUIDs there are; they are laid into the buffer,
     /// as many as it has room for.
-    pub fn protocols_per_handle(
-        &mut self,
-        handle: u64,
-        buffer: &mut [Guid],
-        count: &mut u64,
-    ) -> u64
+    pub fn protocols_per_handle(&mut self, handle: u64, buffer: &mut [Guid], count: &mut u64) -> u64
         ensures { AnswersGuids self.old (call.ProtocolsPerHandle handle) count.old buffer.old result count.new buffer.new self.new }
     {
         let status = self.answer(&Call::ProtocolsPerHandle { handle });

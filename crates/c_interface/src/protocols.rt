@@ -5,8 +5,8 @@ ghost use Rattle.c_machines.specs.Guids.{guid_in};
 ghost use Rattle.c_interface.specs.Served.{AnswersStatus, AnswersNumber, AnswersNumbers};
 
 use crate::efi_core::EfiCore;
-use c_machines::Guid;
 use boot_core::Call;
+use c_machines::Guid;
 
 impl EfiCore {
     /// InstallProtocolInterface. The place `handle` has the handle, 0 for a new one, and is told it.
@@ -85,7 +85,11 @@ impl EfiCore {
         ensures { AnswersNumbers self.old (call.LocateHandleBuffer search (guid_in guid.now) key) (count.old, buffer.old) result (count.new, buffer.new) self.new }
     {
         let guid = guid.uuid();
-        self.answer_numbers(&Call::LocateHandleBuffer { search, guid, key }, count, buffer)
+        self.answer_numbers(
+            &Call::LocateHandleBuffer { search, guid, key },
+            count,
+            buffer,
+        )
     }
 
     /// LocateProtocol. The place `interface` is told the interface's value.
@@ -119,13 +123,7 @@ impl EfiCore {
     }
 
     /// CloseProtocol.
-    pub fn close_protocol(
-        &mut self,
-        handle: u64,
-        guid: &Guid,
-        agent: u64,
-        controller: u64,
-    ) -> u64
+    pub fn close_protocol(&mut self, handle: u64, guid: &Guid, agent: u64, controller: u64) -> u64
         ensures { AnswersStatus self.old (call.CloseProtocol handle (guid_in guid.now) agent controller) result self.new }
     {
         let guid = guid.uuid();
@@ -149,7 +147,11 @@ impl EfiCore {
         ensures { AnswersNumbers self.old (call.OpenProtocolInformation handle (guid_in guid.now)) (count.old, entries.old) result (count.new, entries.new) self.new }
     {
         let guid = guid.uuid();
-        self.answer_numbers(&Call::OpenProtocolInformation { handle, guid }, count, entries)
+        self.answer_numbers(
+            &Call::OpenProtocolInformation { handle, guid },
+            count,
+            entries,
+        )
     }
 
     /// HandleProtocol. The place `interface` is told the interface's value.

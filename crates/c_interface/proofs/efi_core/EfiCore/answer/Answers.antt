@@ -20,11 +20,16 @@ returns c =
     let left = c.block_after-block.result in
     let kept = subst (λ (x : EfiCoreValue). IfOk c.map_before-before.result (λ kept. entries_of kept ≡ map_before x.certifies x.core.state.parts.book.granule (memory_map x.core.state.parts.book.memory) asked)) (sym c.self.view_is) c.map_before-before.ensures in
     let block = subst (λ granule. LeavesBlock kept_by (map_before kept_by book.granule entries asked) (certified granule asked answer) left) c.granule-granule.ensures
-        (block_left kept_by book.granule entries asked (certified c.granule-granule.result asked answer) c.map_before-before.result left c.block_after-block.ensures.kept c.block_after-block.ensures.none kept) in
-    rw (c.keep.ensures, sym core, sym certifies) (inl (answer, record {
-      step = c.call-reply.ensures.step;
-      drivers = c.call-reply.ensures.drivers;
-      certifies = refl;
-      last = refl;
-      block = block;
-    }, c.number-status.ensures ∙ ap status_number c.status_in.ensures, tt))
+    (block_left kept_by book.granule entries asked (certified c.granule-granule.result asked answer) c.map_before-before.result left c.block_after-block.ensures.kept c.block_after-block.ensures.none kept) in
+    rw (c.keep.ensures, sym core, sym certifies) (inl (
+      answer,
+      record {
+        step = c.call-reply.ensures.step;
+        drivers = c.call-reply.ensures.drivers;
+        certifies = refl;
+        last = refl;
+        block = block;
+      },
+      c.number-status.ensures ∙ ap status_number c.status_in.ensures,
+      tt,
+    ))

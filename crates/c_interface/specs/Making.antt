@@ -1,0 +1,36 @@
+-- What a core is made of that a caller in C asks for.
+use Rattle.std.specs.Prelude.{◌≡◌, ◌⊎◌, ℕ, true, false, List, map, None, Result, Ok, Err}
+use Rattle.page_ranges.specs.Statuses.{status_number}
+use Rattle.page_ranges.specs.declared.statuses.Status.TheVariants.{InvalidParameter, OutOfResources}
+use Rattle.boot_core.specs.Machines.{MachineValue, IsMachine, first_state}
+use Rattle.c_machines.specs.declared.drivers.DriverTable.{DriverTable}
+use Rattle.c_machines.specs.declared.faults.MachineFault.{MachineFault}
+use Rattle.c_machines.specs.declared.faults.MachineFault.TheVariants.{Invalid, OutOfMemory}
+use Rattle.c_machines.specs.DriverTables.{are_tables, driver_in, told}
+use Rattle.c_machines.specs.MachineRecords.{IsTold}
+use Rattle.c_interface.specs.declared.efi_core.LastBlock.TheVariants as block
+use Rattle.c_interface.specs.EfiCores.{EfiCoreValue}
+
+-- the status that a fault is told as
+abbrev pub fault_status : MachineFault → ℕ
+fault_status Invalid = status_number InvalidParameter
+fault_status OutOfMemory = status_number OutOfResources
+
+-- The core is that of the machine that the records tell, with the drivers of the tables, before any call. It keeps no certificates.
+pub record IsToldCore (size : ℕ) (records : List ℕ) (granule : ℕ) (tables : List DriverTable) (c : EfiCoreValue) : Type 0 where
+  pub machine : MachineValue
+  pub is_told : IsTold size records granule machine
+  pub state : c.core.state ≡ first_state machine
+  pub are_tables : are_tables tables ≡ true
+  pub drivers : map told c.core.drivers ≡ map driver_in tables
+  pub certifies : c.certifies ≡ false
+  pub last : c.last ≡ None
+  pub block : c.block ≡ block.Nothing
+
+-- What is made: the core that is told. INVALID_PARAMETER says that the records tell no machine, or that the tables are none of
+-- drivers; else memory ran out.
+abbrev pub MakesCore : ℕ → List ℕ → ℕ → List DriverTable → Result EfiCoreValue ℕ → Type 0
+MakesCore size records granule tables (Ok c) = IsToldCore size records granule tables c
+MakesCore size records granule tables (Err status) =
+    ((status ≡ status_number InvalidParameter) × (((m : MachineValue) → IsMachine m → ¬ IsTold size records granule m) ⊎ (are_tables tables ≡ false)))
+    ⊎ (status ≡ status_number OutOfResources)
