@@ -3,17 +3,18 @@
  * A core is the boot services of one machine. Each service has its name and its parameters of the
  * UEFI Specification 2.10, with the core in front; what has no name there begins with Rafkudin.
  * docs/RULES.md states what each service does, point by point, and docs/FORMATS.md the bytes of
- * maps, lists, device paths and certificates. No hardware is touched: addresses are those of the
- * machine that RafkudinMake was told of, never pointers of this program.
+ * maps, lists, device paths and certificates; the end of RULES.md says what of the standard is left
+ * out. No hardware is touched: addresses are those of the machine that RafkudinMake was told of,
+ * never pointers of this program.
  *
  * NUMBERS. A page has 4,096 bytes. Addresses and sizes are in bytes, numbers of pages in pages. A
  * handle is a number, from 1 up; 0 stands for the null handle. An event is any number of the
  * caller's.
  *
  * STATUSES. Services answer an EFI_STATUS. SUCCESS is 0. Any other is a refusal, which leaves the
- * core as it was, and what the call's pointers lead to as well; only BUFFER_TOO_SMALL tells a size.
- * Where several refusals apply, the one that is named first is answered. These hold for every
- * service, and are not repeated below:
+ * core as it was, and what the call's pointers lead to as well, but for what BUFFER_TOO_SMALL
+ * tells. Where several refusals apply, the one that is named first is answered. These hold for
+ * every service, and are not repeated below:
  * - First of all, ABORTED: the core has served its 2^31 calls. Refused ones count too. Of what
  *   begins with Rafkudin, RafkudinGetMemoryMap, RafkudinLocateHandle and RafkudinProtocolsPerHandle
  *   count, as they stand for services.
@@ -250,7 +251,8 @@ uint64_t FreePages(struct rafkudin *core, uint64_t Memory, uint64_t Pages);
  * ExitBootServices asks for, *DescriptorSize and *DescriptorVersion tell the descriptors' size and
  * version.
  *
- * BUFFER_TOO_SMALL: *MemoryMapSize are the bytes needed. */
+ * BUFFER_TOO_SMALL: *MemoryMapSize are the bytes needed; the descriptors' size and version are told
+ * too, the key is not. */
 uint64_t RafkudinGetMemoryMap(struct rafkudin *core, uint8_t *MemoryMap, size_t room,
                               uint64_t *MemoryMapSize, uint64_t *MapKey, uint64_t *DescriptorSize,
                               uint32_t *DescriptorVersion);
@@ -420,7 +422,7 @@ uint64_t ExitBootServices(struct rafkudin *core, uint64_t ImageHandle, uint64_t 
  * `DescriptorSize` and `DescriptorVersion` may be null too.
  *
  * INVALID_PARAMETER: `MemoryMapSize` is null, or `MemoryMap` is null and the size is not 0: this is
- * answered first, and uses up no call. BUFFER_TOO_SMALL: *MemoryMapSize are the bytes needed; the
+ * answered first, and uses up no call. BUFFER_TOO_SMALL: *MemoryMapSize are the bytes needed. The
  * descriptors' size and version are told too, so that a loader can add room for the entries that
  * its own allocation of the buffer makes. */
 static inline uint64_t GetMemoryMap(struct rafkudin *core, uint64_t *MemoryMapSize, void *MemoryMap,
@@ -435,15 +437,11 @@ static inline uint64_t GetMemoryMap(struct rafkudin *core, uint64_t *MemoryMapSi
         return RAFKUDIN_INVALID_PARAMETER;
     status = RafkudinGetMemoryMap(core, MemoryMap == NULL ? &none : (uint8_t *)MemoryMap,
                                   *MemoryMapSize, &size, &key, &descriptor_size, &version);
-    if (status == RAFKUDIN_BUFFER_TOO_SMALL) {
-        descriptor_size = RAFKUDIN_DESCRIPTOR_SIZE;
-        version = RAFKUDIN_DESCRIPTOR_VERSION;
-    } else if (status != RAFKUDIN_SUCCESS) {
+    if (status != RAFKUDIN_SUCCESS && status != RAFKUDIN_BUFFER_TOO_SMALL)
         return status;
-    } else if (MapKey != NULL) {
-        *MapKey = key;
-    }
     *MemoryMapSize = size;
+    if (status == RAFKUDIN_SUCCESS && MapKey != NULL)
+        *MapKey = key;
     if (DescriptorSize != NULL)
         *DescriptorSize = descriptor_size;
     if (DescriptorVersion != NULL)
