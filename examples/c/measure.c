@@ -24,6 +24,9 @@
 
 #define REFUSED_CALLS 10000
 
+/* How often the memory map is got at a time. */
+#define MAPS 5
+
 /* The kinds of protocols of the handles, how many agents open them, and how many searches there
  * are. */
 #define KINDS 64
@@ -55,6 +58,8 @@ struct load {
     struct held *given;                          /* what is freed, call by call */
     uint64_t handles[2 * RAFKUDIN_MOST_HANDLES]; /* what is looked for, call by call */
     struct rafkudin_guid kinds[KINDS + 1];
+    uint8_t *map;
+    size_t map_size;
 };
 
 /* Makes the call of a number, from 0 on, and answers whether it succeeds. */
@@ -191,18 +196,23 @@ static void give(struct load *load, const struct services *services, const char 
     time_calls(load, phase, services->freeing, count, services->give);
 }
 
-/* Gets the memory map, into a buffer that was sized before. */
-static void get_map(struct load *load, const char *phase)
+/* Gets the memory map. */
+static bool get_map(struct load *load, size_t number)
 {
-    uint64_t size = RafkudinDescriptors(load->core) * RAFKUDIN_DESCRIPTOR_SIZE, key, step, status;
-    uint8_t *map = grow(NULL, size);
+    uint64_t size = load->map_size, key, step;
     uint32_t version;
 
-    memset(map, 0, size);
-    meter_start(load->meter);
-    status = GetMemoryMap(load->core, &size, map, &key, &step, &version);
-    meter_stop(load->meter, phase, "GetMemoryMap", 1, status != RAFKUDIN_SUCCESS);
-    free(map);
+    (void)number;
+    return GetMemoryMap(load->core, &size, load->map, &key, &step, &version) == RAFKUDIN_SUCCESS;
+}
+
+/* Gets the memory map some times, into a buffer of its size that was written before. */
+static void get_maps(struct load *load, const char *phase)
+{
+    load->map_size = RafkudinDescriptors(load->core) * RAFKUDIN_DESCRIPTOR_SIZE;
+    load->map = grow(load->map, load->map_size);
+    memset(load->map, 0, load->map_size);
+    time_calls(load, phase, "GetMemoryMap", MAPS, get_map);
 }
 
 static size_t least_of(size_t one, size_t other)
@@ -217,14 +227,14 @@ static void run_memory(struct load *load, const struct services *services, size_
     size_t round = least_of(live / 4, LONGEST_ROUND);
 
     place(load, services, "fill", live);
-    get_map(load, "fill");
+    get_maps(load, "fill");
     for (int done = 0; done < ROUNDS; done++) {
         give(load, services, "churn", round);
         place(load, services, "churn", round);
     }
-    get_map(load, "churn");
+    get_maps(load, "churn");
     give(load, services, "thin", live / 2);
-    get_map(load, "thin");
+    get_maps(load, "thin");
     place(load, services, "refill", least_of(live / 2, LONGEST_REFILL));
     time_calls(load, "refused", "FreePages", REFUSED_CALLS, refused_call);
     if (services == &pool)
@@ -434,6 +444,8 @@ static void repeat(size_t index, int repetitions, bool certify)
     free(load.held);
     free(load.requests);
     free(load.given);
+    free(load.map);
+    load.map = NULL;
 }
 
 /* Runs the loads of a name, or all where there is none; so many times, or as often as each says. */
