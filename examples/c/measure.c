@@ -1,0 +1,485 @@
+/* What a call of the library costs:
+ *
+ *     measure [--reps COUNT] [--certify] [LOAD ..]
+ *
+ * LOAD is pages-100, pages-1000, pages-10000 or pages-100000 (so many live allocations of mixed
+ * types and sizes), pool-10000 (so many blocks) or handles-4096; without any all are run. Told are
+ * nanoseconds a call, the least of COUNT repetitions, each on a new core; what a call asks for is
+ * drawn before the clock starts. `refused` is a call that is refused at once: what any call costs
+ * at least. With --certify the core keeps the certificates of placements. */
+#include "fault.h"
+#include "machine.h"
+#include "meter.h"
+
+#include <stdio.h>
+#include <stdlib.h>
+#include <string.h>
+
+#define PAGE 4096
+#define ROUNDS 8
+
+/* The most calls of a round of the churn, and the most of the refill. */
+#define LONGEST_ROUND 2500
+#define LONGEST_REFILL 5000
+
+#define REFUSED_CALLS 10000
+
+/* How often the memory map is got at a time. */
+#define MAPS 5
+
+/* The kinds of protocols of the handles, how many agents open them, and how many searches there
+ * are. */
+#define KINDS 64
+#define AGENTS 16
+#define SEARCHES 256
+
+/* What is asked for: pages (`below` is 0 for any place), or a block of a pool. */
+struct request {
+    uint32_t type;
+    uint64_t size;
+    uint64_t below;
+};
+
+/* What is held: the address and the size that was asked for. */
+struct held {
+    uint64_t address;
+    uint64_t size;
+};
+
+/* A load that runs. */
+struct load {
+    struct meter *meter;
+    struct rafkudin *core;
+    uint64_t drawn;  /* the state of the draws */
+    uint64_t middle; /* the address behind the low half of the memory */
+    struct held *held;
+    size_t count;                                /* of those held */
+    struct request *requests;                    /* what is asked for, call by call */
+    struct held *given;                          /* what is freed, call by call */
+    uint64_t handles[2 * RAFKUDIN_MOST_HANDLES]; /* what is looked for, call by call */
+    struct rafkudin_guid kinds[KINDS + 1];
+    uint8_t *map;
+    size_t map_size;
+};
+
+/* Makes the call of a number, from 0 on, and answers whether it succeeds. */
+typedef bool one_call(struct load *load, size_t number);
+
+/* A number that is drawn, below a limit. */
+static uint64_t draw(struct load *load, uint64_t limit)
+{
+    load->drawn ^= load->drawn << 13;
+    load->drawn ^= load->drawn >> 7;
+    load->drawn ^= load->drawn << 17;
+    return load->drawn % limit;
+}
+
+static uint64_t draw_between(struct load *load, uint64_t least, uint64_t most)
+{
+    return least + draw(load, most - least + 1);
+}
+
+static struct request draw_pages(struct load *load)
+{
+    uint64_t kind = draw(load, 100);
+    uint64_t pages = kind < 35   ? 1
+                     : kind < 65 ? draw_between(load, 2, 4)
+                     : kind < 85 ? draw_between(load, 5, 16)
+                     : kind < 96 ? draw_between(load, 17, 40)
+                                 : draw_between(load, 41, 120);
+    uint64_t below = draw(load, 5) != 0 ? 0 : load->middle - 1 - draw(load, 8) * PAGE;
+
+    return (struct request){(uint32_t)draw_between(load, 1, 6), pages, below};
+}
+
+static struct request draw_block(struct load *load)
+{
+    uint64_t kind = draw(load, 100);
+    uint64_t size = kind < 50   ? draw_between(load, 1, 64)
+                    : kind < 80 ? draw_between(load, 65, 300)
+                    : kind < 93 ? draw_between(load, 301, 1200)
+                    : kind < 99 ? draw_between(load, 1201, 4000)
+                                : draw_between(load, 4001, 20000);
+    uint64_t type = draw(load, 10);
+
+    return (struct request){
+        type < 6 ? RAFKUDIN_BOOT_SERVICES_DATA : (uint32_t)draw_between(load, 1, 6), size, 0};
+}
+
+/* Makes so many calls of a service, and adds their time to the row of a phase. */
+static void time_calls(struct load *load, const char *phase, const char *service, size_t count,
+                       one_call *call)
+{
+    uint64_t refused = 0;
+
+    meter_start(load->meter);
+    for (size_t number = 0; number < count; number++)
+        refused += !call(load, number);
+    meter_stop(load->meter, phase, service, count, refused);
+}
+
+static bool place_pages(struct load *load, size_t number)
+{
+    const struct request *request = &load->requests[number];
+    struct held held = {request->below, request->size};
+    uint32_t type = request->below != 0 ? RAFKUDIN_MAX_ADDRESS : RAFKUDIN_ANY_PAGES;
+
+    if (AllocatePages(load->core, type, request->type, request->size, &held.address) !=
+        RAFKUDIN_SUCCESS)
+        return false;
+    load->held[load->count++] = held;
+    return true;
+}
+
+static bool place_block(struct load *load, size_t number)
+{
+    const struct request *request = &load->requests[number];
+    struct held held = {0, request->size};
+
+    if (AllocatePool(load->core, request->type, request->size, &held.address) != RAFKUDIN_SUCCESS)
+        return false;
+    load->held[load->count++] = held;
+    return true;
+}
+
+static bool free_pages(struct load *load, size_t number)
+{
+    return FreePages(load->core, load->given[number].address, load->given[number].size) ==
+           RAFKUDIN_SUCCESS;
+}
+
+static bool free_block(struct load *load, size_t number)
+{
+    return FreePool(load->core, load->given[number].address) == RAFKUDIN_SUCCESS;
+}
+
+static bool refused_call(struct load *load, size_t number)
+{
+    (void)number;
+    return FreePages(load->core, 1, 1) == RAFKUDIN_SUCCESS;
+}
+
+/* A kind of memory: its two services. */
+struct services {
+    const char *placing;
+    const char *freeing;
+    struct request (*draw)(struct load *load);
+    one_call *place;
+    one_call *give;
+};
+
+static const struct services pages = {"AllocatePages", "FreePages", draw_pages, place_pages,
+                                      free_pages};
+static const struct services pool = {"AllocatePool", "FreePool", draw_block, place_block,
+                                     free_block};
+
+static void place(struct load *load, const struct services *services, const char *phase,
+                  size_t count)
+{
+    for (size_t at = 0; at < count; at++)
+        load->requests[at] = services->draw(load);
+    time_calls(load, phase, services->placing, count, services->place);
+}
+
+/* Frees so many of those held. */
+static void give(struct load *load, const struct services *services, const char *phase,
+                 size_t count)
+{
+    if (count > load->count)
+        count = load->count;
+    for (size_t at = 0; at < count; at++) {
+        size_t chosen = draw(load, load->count);
+
+        load->given[at] = load->held[chosen];
+        load->held[chosen] = load->held[--load->count];
+    }
+    time_calls(load, phase, services->freeing, count, services->give);
+}
+
+/* Gets the memory map. */
+static bool get_map(struct load *load, size_t number)
+{
+    uint64_t size = load->map_size, key, step;
+    uint32_t version;
+
+    (void)number;
+    return GetMemoryMap(load->core, &size, load->map, &key, &step, &version) == RAFKUDIN_SUCCESS;
+}
+
+/* Gets the memory map some times, into a buffer of its size that was written before. */
+static void get_maps(struct load *load, const char *phase)
+{
+    load->map_size = RafkudinDescriptors(load->core) * RAFKUDIN_DESCRIPTOR_SIZE;
+    load->map = grow(load->map, load->map_size);
+    memset(load->map, 0, load->map_size);
+    time_calls(load, phase, "GetMemoryMap", MAPS, get_map);
+}
+
+static size_t least_of(size_t one, size_t other)
+{
+    return one < other ? one : other;
+}
+
+/* Fills up to so many live ones, churns them, frees half, fills up again, and for a pool frees all.
+ */
+static void run_memory(struct load *load, const struct services *services, size_t live)
+{
+    size_t round = least_of(live / 4, LONGEST_ROUND);
+
+    place(load, services, "fill", live);
+    get_maps(load, "fill");
+    for (int done = 0; done < ROUNDS; done++) {
+        give(load, services, "churn", round);
+        place(load, services, "churn", round);
+    }
+    get_maps(load, "churn");
+    give(load, services, "thin", live / 2);
+    get_maps(load, "thin");
+    place(load, services, "refill", least_of(live / 2, LONGEST_REFILL));
+    time_calls(load, "refused", "FreePages", REFUSED_CALLS, refused_call);
+    if (services == &pool)
+        give(load, services, "drain", load->count);
+}
+
+static void run_pages(struct load *load, size_t live)
+{
+    run_memory(load, &pages, live);
+}
+
+static void run_pool(struct load *load, size_t live)
+{
+    run_memory(load, &pool, live);
+}
+
+/* The kind of a handle's first interface, whose value is the handle. */
+static const struct rafkudin_guid *kind_of(const struct load *load, uint64_t handle)
+{
+    return &load->kinds[handle % KINDS];
+}
+
+/* Installs an interface on a new handle. */
+static bool install_first(struct load *load, size_t number)
+{
+    uint64_t handle = 0;
+
+    return InstallProtocolInterface(load->core, &handle, kind_of(load, number + 1), 0,
+                                    number + 1) == RAFKUDIN_SUCCESS &&
+           handle == number + 1;
+}
+
+/* Installs another interface on a handle. */
+static bool install_second(struct load *load, size_t number)
+{
+    uint64_t handle = 4 * (number + 1);
+
+    return InstallProtocolInterface(load->core, &handle, &load->kinds[KINDS], 0, handle) ==
+           RAFKUDIN_SUCCESS;
+}
+
+/* A driver opens the first interface of a handle. */
+static bool open_by_driver(struct load *load, size_t number)
+{
+    uint64_t handle = number + 1, value;
+
+    return OpenProtocol(load->core, handle, kind_of(load, handle), &value, 1 + handle % AGENTS,
+                        handle, RAFKUDIN_BY_DRIVER) == RAFKUDIN_SUCCESS;
+}
+
+static bool close_by_driver(struct load *load, size_t number)
+{
+    uint64_t handle = number + 1;
+
+    return CloseProtocol(load->core, handle, kind_of(load, handle), 1 + handle % AGENTS, handle) ==
+           RAFKUDIN_SUCCESS;
+}
+
+/* An agent opens the first interface of a drawn handle, which makes an item or raises the count of
+ * one. */
+static bool open_to_get(struct load *load, size_t number)
+{
+    uint64_t handle = load->handles[number], value;
+
+    return OpenProtocol(load->core, handle, kind_of(load, handle), &value, 1 + number % AGENTS, 0,
+                        RAFKUDIN_GET_PROTOCOL) == RAFKUDIN_SUCCESS;
+}
+
+static bool look_up_handle(struct load *load, size_t number)
+{
+    uint64_t handle = load->handles[number], value;
+
+    return HandleProtocol(load->core, handle, kind_of(load, handle), &value) == RAFKUDIN_SUCCESS &&
+           value == handle;
+}
+
+static bool look_up_kind(struct load *load, size_t number)
+{
+    uint64_t value;
+
+    return LocateProtocol(load->core, kind_of(load, load->handles[number]), 0, &value) ==
+           RAFKUDIN_SUCCESS;
+}
+
+static bool search_kind(struct load *load, size_t number)
+{
+    static uint64_t found[RAFKUDIN_MOST_HANDLES];
+    uint64_t size = sizeof found;
+
+    return LocateHandle(load->core, RAFKUDIN_BY_PROTOCOL, kind_of(load, number), 0, &size, found) ==
+           RAFKUDIN_SUCCESS;
+}
+
+static bool search_all(struct load *load, size_t number)
+{
+    static uint64_t found[RAFKUDIN_MOST_HANDLES];
+    uint64_t size = sizeof found;
+
+    (void)number;
+    return LocateHandle(load->core, RAFKUDIN_ALL_HANDLES, NULL, 0, &size, found) ==
+           RAFKUDIN_SUCCESS;
+}
+
+/* Takes the first interface of a handle out, which ends the handle if it has no second one. */
+static bool take_out(struct load *load, size_t number)
+{
+    uint64_t handle = 2 * (number + 1);
+
+    return UninstallProtocolInterface(load->core, handle, kind_of(load, handle), handle) ==
+           RAFKUDIN_SUCCESS;
+}
+
+static void run_handles(struct load *load, size_t handles)
+{
+    for (size_t at = 0; at < 2 * handles; at++)
+        load->handles[at] = draw_between(load, 1, handles);
+    time_calls(load, "install", "InstallProtocolInterface", handles, install_first);
+    time_calls(load, "second", "InstallProtocolInterface", handles / 4, install_second);
+    time_calls(load, "open", "OpenProtocol", handles, open_by_driver);
+    time_calls(load, "get", "OpenProtocol", 2 * handles, open_to_get);
+    time_calls(load, "look up", "HandleProtocol", 2 * handles, look_up_handle);
+    time_calls(load, "look up", "LocateProtocol", 2 * handles, look_up_kind);
+    time_calls(load, "search", "LocateHandle", SEARCHES, search_kind);
+    time_calls(load, "all", "LocateHandle", SEARCHES, search_all);
+    time_calls(load, "refused", "FreePages", REFUSED_CALLS, refused_call);
+    time_calls(load, "close", "CloseProtocol", handles, close_by_driver);
+    time_calls(load, "take out", "UninstallProtocolInterface", handles / 2, take_out);
+}
+
+/* The loads, and how often each is repeated. */
+static const struct {
+    const char *name;
+    void (*run)(struct load *load, size_t live);
+    size_t live;
+    int repetitions;
+} loads[] = {
+    {"pages-100", run_pages, 100, 15},    {"pages-1000", run_pages, 1000, 9},
+    {"pages-10000", run_pages, 10000, 3}, {"pages-100000", run_pages, 100000, 1},
+    {"pool-10000", run_pool, 10000, 5},   {"handles-4096", run_handles, 4096, 5},
+};
+
+/* Adds a range of pages to a machine; the answer is the page behind it. */
+static uint64_t add_range(struct machine *machine, uint32_t type, uint64_t first, uint64_t count)
+{
+    uint8_t *record;
+
+    machine->records = grow(machine->records, machine->size + RAFKUDIN_DESCRIPTOR_SIZE);
+    record = machine->records + machine->size;
+    machine->size += RAFKUDIN_DESCRIPTOR_SIZE;
+    memset(record, 0, RAFKUDIN_DESCRIPTOR_SIZE);
+    put_number(record, 4, type);
+    put_number(record + 8, 8, first * PAGE);
+    put_number(record + 24, 8, count);
+    put_number(record + 32, 8,
+               type == RAFKUDIN_RUNTIME_SERVICES_DATA ? 0xf | RAFKUDIN_MEMORY_RUNTIME : 0xf);
+    return first + count;
+}
+
+/* A machine for so many live allocations, its memory in five pieces; the answer is the address
+ * behind the low half. */
+static uint64_t make_machine(struct machine *machine, size_t live)
+{
+    uint64_t half = live * 12 + 4096;
+    uint64_t page, middle;
+
+    add_range(machine, RAFKUDIN_CONVENTIONAL, 1, 159);
+    add_range(machine, RAFKUDIN_CONVENTIONAL, 256, 1792);
+    page = add_range(machine, RAFKUDIN_ACPI_MEMORY_NVS, 2048, 16);
+    middle = page = add_range(machine, RAFKUDIN_CONVENTIONAL, page, half);
+    page = add_range(machine, RAFKUDIN_RUNTIME_SERVICES_DATA, page, 16);
+    page = add_range(machine, RAFKUDIN_ACPI_RECLAIM, page, 32);
+    add_range(machine, RAFKUDIN_CONVENTIONAL, page + 1024, half);
+    machine->granule = 1;
+    machine->drivers = grow(NULL, sizeof *machine->drivers);
+    return middle * PAGE;
+}
+
+/* Runs a load so many times, each on a new core. */
+static void repeat(size_t index, int repetitions, bool certify)
+{
+    static struct load load;
+    size_t live = loads[index].live, room = live * 2 + LONGEST_REFILL;
+    struct machine machine = {0};
+    struct meter meter = {0};
+
+    load.meter = &meter;
+    load.middle = make_machine(&machine, live);
+    load.held = grow(NULL, room * sizeof *load.held);
+    load.requests = grow(NULL, room * sizeof *load.requests);
+    load.given = grow(NULL, room * sizeof *load.given);
+    for (size_t kind = 0; kind <= KINDS; kind++)
+        put_number(load.kinds[kind].bytes, sizeof load.kinds[kind].bytes,
+                   0x6b66615200000000 + kind);
+    for (int done = 0; done < repetitions; done++) {
+        load.drawn = 0x9e3779b97f4a7c15;
+        load.count = 0;
+        load.core = machine_core(&machine);
+        RafkudinCertify(load.core, certify);
+        meter_begin(&meter);
+        loads[index].run(&load, live);
+        meter_end(&meter);
+        RafkudinFree(load.core);
+    }
+    printf("%s\n", loads[index].name);
+    meter_print(&meter);
+    machine_free(&machine);
+    free(load.held);
+    free(load.requests);
+    free(load.given);
+    free(load.map);
+    load.map = NULL;
+}
+
+/* Runs the loads of a name, or all where there is none; so many times, or as often as each says. */
+static void run_loads(const char *name, int repetitions, bool certify)
+{
+    size_t ran = 0;
+
+    for (size_t index = 0; index < sizeof loads / sizeof *loads; index++) {
+        if (name != NULL && strcmp(name, loads[index].name) != 0)
+            continue;
+        repeat(index, repetitions != 0 ? repetitions : loads[index].repetitions, certify);
+        ran++;
+    }
+    if (ran == 0)
+        fail("there is no load %s", name);
+}
+
+int main(int count, char **words)
+{
+    int repetitions = 0, at = 1;
+    bool certify = false;
+
+    fault_program = "measure";
+    for (; at < count && strncmp(words[at], "--", 2) == 0; at++) {
+        if (strcmp(words[at], "--certify") == 0)
+            certify = true;
+        else if (strcmp(words[at], "--reps") == 0 && at + 1 < count && atoi(words[at + 1]) > 0)
+            repetitions = atoi(words[++at]);
+        else
+            fail("usage: measure [--reps COUNT] [--certify] [LOAD ..]");
+    }
+    if (at == count)
+        run_loads(NULL, repetitions, certify);
+    for (; at < count; at++)
+        run_loads(words[at], repetitions, certify);
+    return 0;
+}

@@ -1,0 +1,82 @@
+/* The lines of a trace, their words, and numbers as words. */
+#include "words.h"
+
+#include "fault.h"
+#include "guids.h"
+
+#include <string.h>
+
+bool line_read(struct line *line, FILE *file)
+{
+    int byte = 0;
+
+    line->length = 0;
+    while (line->length <= LONGEST_LINE && (byte = getc(file)) != '\n' && byte != EOF)
+        line->bytes[line->length++] = (char)byte;
+    if (byte == EOF && ferror(file))
+        fail("cannot read trace");
+    return byte != EOF || line->length != 0;
+}
+
+static bool is_blank(char byte)
+{
+    return byte == ' ' || byte == '\t';
+}
+
+size_t line_words(const struct line *line, struct word words[MOST_WORDS])
+{
+    const char *at = line->bytes;
+    const char *end = line->bytes + line->length;
+    size_t count = 0;
+
+    if (line->length != 0 && end[-1] == '\r')
+        end--;
+    while (at != end) {
+        const char *from = at;
+
+        while (at != end && !is_blank(*at))
+            at++;
+        if (at != from)
+            words[count++] = (struct word){from, (size_t)(at - from)};
+        if (at != end)
+            at++;
+    }
+    return count;
+}
+
+bool word_is(struct word word, const char *text)
+{
+    return word.length == strlen(text) && memcmp(word.bytes, text, word.length) == 0;
+}
+
+/* The number that digits write, where it is below 2^64. */
+static bool read_digits(const char *bytes, size_t length, unsigned base, uint64_t *number)
+{
+    *number = 0;
+    for (; length != 0; length--, bytes++) {
+        unsigned digit = digit_of(*bytes);
+
+        if (digit >= base || *number > (UINT64_MAX - digit) / base)
+            return false;
+        *number = *number * base + digit;
+    }
+    return true;
+}
+
+bool hexadecimal_number(const char *bytes, size_t length, uint64_t *number)
+{
+    if (length < 3 || length > 18 || bytes[0] != '0' || bytes[1] != 'x')
+        return false;
+    return read_digits(bytes + 2, length - 2, 16, number);
+}
+
+bool word_number(struct word word, uint64_t most, uint64_t *number)
+{
+    bool is_number;
+
+    if (word.length >= 2 && word.bytes[0] == '0' && word.bytes[1] == 'x')
+        is_number = hexadecimal_number(word.bytes, word.length, number);
+    else
+        is_number = word.length <= 20 && read_digits(word.bytes, word.length, 10, number);
+    return is_number && *number <= most;
+}

@@ -1,0 +1,43 @@
+/* The lines of a trace, their words, and numbers as words. */
+#ifndef WORDS_H
+#define WORDS_H
+
+#include <stdbool.h>
+#include <stddef.h>
+#include <stdint.h>
+#include <stdio.h>
+
+/* The most bytes of a line, without its line feed, and the most words that these make. */
+#define LONGEST_LINE 65536
+#define MOST_WORDS (LONGEST_LINE / 2)
+
+/* A line. One that is too long is cut one byte past the limit. */
+struct line {
+    char bytes[LONGEST_LINE + 1];
+    size_t length;
+};
+
+/* A word of a line, where it stands there. */
+struct word {
+    const char *bytes;
+    size_t length;
+};
+
+/* Reads the next line, without its line feed, and answers whether there is one. Where the file
+ * can't be read the program ends. */
+bool line_read(struct line *line, FILE *file);
+
+/* The words of a line, which may have a carriage return at its end, from left to right; the answer
+ * is how many. */
+size_t line_words(const struct line *line, struct word words[MOST_WORDS]);
+
+/* Whether a word is the text. */
+bool word_is(struct word word, const char *text);
+
+/* The number of a word, `0x` and 1 to 16 hexadecimal digits or 1 to 20 decimal digits, where it is
+ * `most` or less. */
+bool word_number(struct word word, uint64_t most, uint64_t *number);
+
+/* The number of `0x` and 1 to 16 hexadecimal digits. */
+bool hexadecimal_number(const char *bytes, size_t length, uint64_t *number);
+#endif

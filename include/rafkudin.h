@@ -1,0 +1,484 @@
+/* Rafkudin: the memory and protocol services of a UEFI firmware, proved, as a library for C.
+ *
+ * A core is the boot services of one machine. Each service has its name and its parameters of the
+ * UEFI Specification 2.10, with the core in front; what has no name there begins with Rafkudin.
+ * docs/RULES.md states what each service does, point by point, and docs/FORMATS.md the bytes of
+ * maps, lists, device paths and certificates; the end of RULES.md says what of the standard is left
+ * out. No hardware is touched: addresses are those of the machine that RafkudinMake was told of,
+ * never pointers of this program.
+ *
+ * NUMBERS. A page has 4,096 bytes. Addresses and sizes are in bytes, numbers of pages in pages. A
+ * handle is a number, from 1 up; 0 stands for the null handle. An event is any number of the
+ * caller's.
+ *
+ * STATUSES. Services answer an EFI_STATUS. SUCCESS is 0. Any other is a refusal, which leaves the
+ * core as it was, and what the call's pointers lead to as well, but for what BUFFER_TOO_SMALL
+ * tells. Where several refusals apply, the one that is named first is answered. These hold for
+ * every service, and are not repeated below:
+ * - First of all, ABORTED: the core has served its 2^31 calls. Refused ones count too. Of what
+ *   begins with Rafkudin, RafkudinGetMemoryMap, RafkudinLocateHandle and RafkudinProtocolsPerHandle
+ *   count, as they stand for services.
+ * - Then UNSUPPORTED: the boot services were exited. All services answer it from then on.
+ * - Last of all, OUT_OF_RESOURCES: malloc or realloc refused the core memory for its own tables.
+ *   GetMemoryMap, ExitBootServices, PoolRead, PoolWrite, CloseProtocol, HandleProtocol,
+ *   LocateDevicePath and LocateProtocol never ask for any.
+ *
+ * WHAT THE CALLER OWES. Nothing checks it, and the proofs hold only where it holds:
+ * - `core` is a pointer that RafkudinMake gave and that was not yet handed to RafkudinFree.
+ * - No pointer is null, also where the count beside it is 0, unless it is said that it may be. Each
+ *   is aligned for its type.
+ * - A buffer has the room, and an array the entries, that are said. What is read was set before,
+ *   all of it: every field of a structure, entries beyond its counts too. A bool is 0 or 1.
+ * - What one pointer of a call leads to is no part of the core or of what another leads to; two
+ *   that are only read may meet. So each result has a variable of its own.
+ * - A core is in one call at a time, on the thread that made it. Two cores may be in calls at once,
+ *   also in two threads.
+ * - malloc, realloc and free are of one allocator, and malloc and realloc align their blocks to 16
+ *   bytes.
+ * - No call is made from a signal handler, or in the forked child of a process with threads. */
+#ifndef RAFKUDIN_H
+#define RAFKUDIN_H
+
+#include <stdbool.h>
+#include <stddef.h>
+#include <stdint.h>
+
+#if SIZE_MAX != UINT64_MAX
+#error "rafkudin.h is for 64-bit processors"
+#endif
+
+#ifdef __cplusplus
+extern "C" {
+#endif
+
+/* The statuses that are answered. */
+#define RAFKUDIN_SUCCESS 0ULL
+#define RAFKUDIN_INVALID_PARAMETER 0x8000000000000002ULL
+#define RAFKUDIN_UNSUPPORTED 0x8000000000000003ULL
+#define RAFKUDIN_BUFFER_TOO_SMALL 0x8000000000000005ULL
+#define RAFKUDIN_DEVICE_ERROR 0x8000000000000007ULL
+#define RAFKUDIN_OUT_OF_RESOURCES 0x8000000000000009ULL
+#define RAFKUDIN_NOT_FOUND 0x800000000000000eULL
+#define RAFKUDIN_ACCESS_DENIED 0x800000000000000fULL
+#define RAFKUDIN_ALREADY_STARTED 0x8000000000000014ULL
+#define RAFKUDIN_ABORTED 0x8000000000000015ULL
+
+/* Type of AllocatePages: AllocateAnyPages, AllocateMaxAddress, AllocateAddress. */
+#define RAFKUDIN_ANY_PAGES 0U
+#define RAFKUDIN_MAX_ADDRESS 1U
+#define RAFKUDIN_AT_ADDRESS 2U
+
+/* EFI_MEMORY_TYPE. Those from 0x70000000 on belong to OEMs, those from 0x80000000 on to loaders of
+ * operating systems. No request may name CONVENTIONAL, PERSISTENT, UNACCEPTED or a number from 16
+ * to 0x6fffffff. */
+#define RAFKUDIN_RESERVED 0U
+#define RAFKUDIN_LOADER_CODE 1U
+#define RAFKUDIN_LOADER_DATA 2U
+#define RAFKUDIN_BOOT_SERVICES_CODE 3U
+#define RAFKUDIN_BOOT_SERVICES_DATA 4U
+#define RAFKUDIN_RUNTIME_SERVICES_CODE 5U
+#define RAFKUDIN_RUNTIME_SERVICES_DATA 6U
+#define RAFKUDIN_CONVENTIONAL 7U
+#define RAFKUDIN_UNUSABLE 8U
+#define RAFKUDIN_ACPI_RECLAIM 9U
+#define RAFKUDIN_ACPI_MEMORY_NVS 10U
+#define RAFKUDIN_MEMORY_MAPPED_IO 11U
+#define RAFKUDIN_MEMORY_MAPPED_IO_PORT_SPACE 12U
+#define RAFKUDIN_PAL_CODE 13U
+#define RAFKUDIN_PERSISTENT 14U
+#define RAFKUDIN_UNACCEPTED 15U
+
+/* The two attribute bits that the core acts on, EFI_MEMORY_SP and EFI_MEMORY_RUNTIME. */
+#define RAFKUDIN_MEMORY_SP 0x40000ULL
+#define RAFKUDIN_MEMORY_RUNTIME 0x8000000000000000ULL
+
+/* SearchType of LocateHandle and LocateHandleBuffer. */
+#define RAFKUDIN_ALL_HANDLES 0U
+#define RAFKUDIN_BY_REGISTER_NOTIFY 1U
+#define RAFKUDIN_BY_PROTOCOL 2U
+
+/* Attributes of OpenProtocol: one of these, or BY_DRIVER and EXCLUSIVE together. */
+#define RAFKUDIN_BY_HANDLE_PROTOCOL 0x1U
+#define RAFKUDIN_GET_PROTOCOL 0x2U
+#define RAFKUDIN_TEST_PROTOCOL 0x4U
+#define RAFKUDIN_BY_CHILD_CONTROLLER 0x8U
+#define RAFKUDIN_BY_DRIVER 0x10U
+#define RAFKUDIN_EXCLUSIVE 0x20U
+
+/* The bytes of a descriptor that GetMemoryMap writes, and the descriptors' version. */
+#define RAFKUDIN_DESCRIPTOR_SIZE 48U
+#define RAFKUDIN_DESCRIPTOR_VERSION 1U
+
+/* The most handles that are live at a time, and the most bytes of a memory pool block. */
+#define RAFKUDIN_MOST_HANDLES 4096U
+#define RAFKUDIN_LARGEST_BLOCK 0x100000000ULL
+
+/* A core: the boot services of one machine. */
+struct rafkudin;
+
+/* EFI_GUID: its sixteen bytes as they lie in memory, the first three fields (4, 2 and 2 bytes)
+ * little endian. */
+struct rafkudin_guid {
+    uint8_t bytes[16];
+};
+
+/* A protocol interface: its GUID and its value, which in a firmware is a pointer. The core follows
+ * two values alone: that of a device path (09576e91-6d3f-11d2-8e39-00a0c969723b) is an address in
+ * the pool, that of a driver binding (18a031ab-b443-4d1a-a5c0-0c09261e9f71) a driver's place among
+ * those of RafkudinMake, from 0 on. */
+struct rafkudin_interface {
+    struct rafkudin_guid guid;
+    uint64_t value;
+};
+
+/* A child that a driver makes: up to 4 interfaces, of which the first `count` are its own. */
+struct rafkudin_child {
+    struct rafkudin_interface interfaces[4];
+    uint64_t count;
+};
+
+/* A driver with fixed answers: it supports a controller that carries all of `needs`, none of them
+ * held by a driver; it opens `opens` there and makes `children`, and it lets itself be stopped or
+ * not. Of several drivers for a controller the one of the highest version is started first. Of each
+ * array as many entries count as the number behind it says, up to 8. */
+struct rafkudin_driver {
+    uint32_t version;
+    bool stops;
+    struct rafkudin_guid needs[8];
+    uint64_t needs_count;
+    struct rafkudin_guid opens[8];
+    uint64_t opens_count;
+    struct rafkudin_child children[8];
+    uint64_t children_count;
+};
+
+/* An entry of the memory map: the fields of EFI_MEMORY_DESCRIPTOR without VirtualStart, which is
+ * always 0. */
+struct rafkudin_descriptor {
+    uint32_t type;
+    uint64_t physical_start;  /* an address, a multiple of 4,096 */
+    uint64_t number_of_pages; /* at least 1 */
+    uint64_t attribute;
+};
+
+/* ---- The core itself. None of these is a service, and none uses up a call. ---- */
+
+/* Makes a core, and puts its pointer into *core.
+ *
+ * `records` are `size` bytes of EFI_MEMORY_DESCRIPTORs as GetMemoryMap of any firmware writes them:
+ * each takes `descriptor_size` bytes, 40 or more, of which the first 40 are the standard's fields.
+ * They may come in any order, and may touch. `granule` is in pages, 1 or 16: runtime, reserved and
+ * ACPI NVS memory is placed in whole granules of it. `drivers` are `driver_count` drivers, up to
+ * 64.
+ *
+ * INVALID_PARAMETER: a descriptor size below 40, or one that does not divide `size`; over 65,536
+ * descriptors; a descriptor that has no pages, starts at no multiple of 4,096, goes past the last
+ * page (2^52 - 1), is of a type from 16 to 0x6fffffff, or is conventional with RUNTIME; two that
+ * overlap; another granule; more than 64 drivers; a count of a driver or a child above what its
+ * array holds. OUT_OF_RESOURCES: memory was refused. *core is set on SUCCESS alone. */
+uint64_t RafkudinMake(const uint8_t *records, size_t size, size_t descriptor_size, uint64_t granule,
+                      const struct rafkudin_driver *drivers, size_t driver_count,
+                      struct rafkudin **core);
+
+/* Gives back all memory of a core, also after the exit of the boot services. */
+void RafkudinFree(struct rafkudin *core);
+
+/* Whether calls keep the certificates of their placements from now on. At first they don't: it
+ * costs a copy of the memory map for each call that may place something. */
+void RafkudinCertify(struct rafkudin *core, bool certify);
+
+/* The certificate of the last service that was called, as the text of a certificate block
+ * (docs/FORMATS.md), without a zero byte at its end. There is one where that call succeeded while
+ * certificates are kept, and was AllocatePages of the types RAFKUDIN_ANY_PAGES or
+ * RAFKUDIN_MAX_ADDRESS, or AllocatePool, LocateHandleBuffer or OpenProtocolInformation and placed
+ * new pages for the pool. `text` has room for `room` bytes; the text is written where all of it
+ * fits.
+ *
+ * SUCCESS: *length are the bytes written. BUFFER_TOO_SMALL: *length are the bytes needed, and none
+ * is written. NOT_FOUND: there is no certificate. OUT_OF_RESOURCES: memory was refused. */
+uint64_t RafkudinCertificate(const struct rafkudin *core, uint8_t *text, size_t room,
+                             uint64_t *length);
+
+/* Judges the `length` bytes of a certificate block, wherever it comes from.
+ *
+ * SUCCESS: it is accepted: for that map and that request the answer is the best, and each bound is
+ * true. ACCESS_DENIED: it is refused. INVALID_PARAMETER: it is no block, and *line is the first
+ * line, from 1 on, that is wrong or missing. OUT_OF_RESOURCES: memory was refused. */
+uint64_t RafkudinCheck(const uint8_t *text, size_t length, uint64_t *line);
+
+/* How many events the last service that was called signals, and the first `room` of them in
+ * `events`, in their order. Only InstallProtocolInterface, InstallMultipleProtocolInterfaces,
+ * ReinstallProtocolInterface and ConnectController signal any, on SUCCESS: the events registered
+ * for the GUIDs that they install. An event may stand there more than once. */
+size_t RafkudinEvents(const struct rafkudin *core, uint64_t *events, size_t room);
+
+/* How many entries the memory map has. This and the next work after the exit of the boot services
+ * too. */
+size_t RafkudinDescriptors(const struct rafkudin *core);
+
+/* The entry at an index, from 0 on, by ascending address. NOT_FOUND: there are not so many. */
+uint64_t RafkudinDescriptor(const struct rafkudin *core, size_t index,
+                            struct rafkudin_descriptor *entry);
+
+/* How many calls of services the core will still serve: 2^31 at first. */
+uint64_t RafkudinCallsLeft(const struct rafkudin *core);
+
+/* ---- Memory services, sections 7.2.1 to 7.2.5 ---- */
+
+/* 7.2.1. Places `Pages` pages of the type `MemoryType`, and puts the address of the first into
+ * *Memory: anywhere, below an address (*Memory is the last byte that may belong to them), or at an
+ * address (*Memory itself). Where the place is free to choose, it is the highest of those after
+ * which the memory map has the fewest entries, and none with SP.
+ *
+ * INVALID_PARAMETER: another type of allocation, a memory type that no request may name, or 0
+ * pages. NOT_FOUND: the pages are not all there and free at the address, or the address is no
+ * multiple of 4,096 (or of the granule, where one is asked for). OUT_OF_RESOURCES: no permitted
+ * place. */
+uint64_t AllocatePages(struct rafkudin *core, uint32_t Type, uint32_t MemoryType, uint64_t Pages,
+                       uint64_t *Memory);
+
+/* 7.2.2. Frees pages that AllocatePages placed: a whole allocation, a part of one, or several that
+ * touch.
+ *
+ * INVALID_PARAMETER: `Memory` is no multiple of 4,096, `Pages` is 0, or the range goes past the
+ * last page. NOT_FOUND: a page of it was not placed by AllocatePages. */
+uint64_t FreePages(struct rafkudin *core, uint64_t Memory, uint64_t Pages);
+
+/* 7.2.3, GetMemoryMap with the buffer's room beside it; the function GetMemoryMap below has the
+ * standard's order. The map is written to the front of `MemoryMap`, which has `room` bytes:
+ * RAFKUDIN_DESCRIPTOR_SIZE bytes for each entry, by ascending address, of which the first 40 are an
+ * EFI_MEMORY_DESCRIPTOR. *MemoryMapSize are the bytes written, *MapKey is the key that
+ * ExitBootServices asks for, *DescriptorSize and *DescriptorVersion tell the descriptors' size and
+ * version.
+ *
+ * BUFFER_TOO_SMALL: *MemoryMapSize are the bytes needed; the descriptors' size and version are told
+ * too, the key is not. */
+uint64_t RafkudinGetMemoryMap(struct rafkudin *core, uint8_t *MemoryMap, size_t room,
+                              uint64_t *MemoryMapSize, uint64_t *MapKey, uint64_t *DescriptorSize,
+                              uint32_t *DescriptorVersion);
+
+/* 7.2.4. Makes a block of `Size` bytes, all 0, in memory of the type `PoolType`, and puts its
+ * address into *Buffer. Its address is 8 more than a multiple of 32. A size of 0 is allowed.
+ *
+ * INVALID_PARAMETER: a memory type that no request may name. OUT_OF_RESOURCES: a size above
+ * RAFKUDIN_LARGEST_BLOCK, or no permitted place for new pages where they are needed. */
+uint64_t AllocatePool(struct rafkudin *core, uint32_t PoolType, uint64_t Size, uint64_t *Buffer);
+
+/* 7.2.5. Gives the block at an address back. INVALID_PARAMETER: no live block has this address. */
+uint64_t FreePool(struct rafkudin *core, uint64_t Buffer);
+
+/* The bytes of the pool, which a program of a firmware reaches by a pointer: `count` bytes from the
+ * address on are copied to `bytes`, or from there. INVALID_PARAMETER: they do not all belong to one
+ * live block. */
+uint64_t PoolRead(struct rafkudin *core, uint64_t Address, uint8_t *bytes, size_t count);
+uint64_t PoolWrite(struct rafkudin *core, uint64_t Address, const uint8_t *bytes, size_t count);
+
+/* ---- Protocol services, section 7.3, each by its name there ---- */
+
+/* Installs an interface on *Handle; where that is 0 on a new handle, which *Handle then is.
+ * `InterfaceType` is 0, native.
+ *
+ * INVALID_PARAMETER: another interface type; a handle that is neither 0 nor live, or that carries
+ * the GUID already. OUT_OF_RESOURCES: RAFKUDIN_MOST_HANDLES are live already. */
+uint64_t InstallProtocolInterface(struct rafkudin *core, uint64_t *Handle,
+                                  const struct rafkudin_guid *Protocol, uint32_t InterfaceType,
+                                  uint64_t Interface);
+
+/* The same with `count` interfaces, of which all are installed or none.
+ *
+ * INVALID_PARAMETER: no interfaces or over 16; a handle that is neither 0 nor live; a GUID that
+ * stands twice among them or is on the handle. ALREADY_STARTED: one of them is a device path that a
+ * live handle has already. OUT_OF_RESOURCES as above. */
+uint64_t InstallMultipleProtocolInterfaces(struct rafkudin *core, uint64_t *Handle,
+                                           const struct rafkudin_interface *interfaces,
+                                           size_t count);
+
+/* Stops the driver that has the interface open, and takes the interface out; with the last one its
+ * handle goes.
+ *
+ * INVALID_PARAMETER: the handle is not live. NOT_FOUND: it lacks the GUID, or has it with another
+ * value. ACCESS_DENIED: the driver can't be stopped, or someone has the interface open exclusively
+ * or for a child. */
+uint64_t UninstallProtocolInterface(struct rafkudin *core, uint64_t Handle,
+                                    const struct rafkudin_guid *Protocol, uint64_t Interface);
+
+/* Stops the driver that has the interface open, gives it the value `NewInterface`, signals the
+ * events of its GUID, and connects the handle recursively. Refusals as of
+ * UninstallProtocolInterface, for `OldInterface`. */
+uint64_t ReinstallProtocolInterface(struct rafkudin *core, uint64_t Handle,
+                                    const struct rafkudin_guid *Protocol, uint64_t OldInterface,
+                                    uint64_t NewInterface);
+
+/* Registers an event for all later installations of a GUID, and puts the registration's key, from 1
+ * up, into *Registration. There are no refusals of its own. */
+uint64_t RegisterProtocolNotify(struct rafkudin *core, const struct rafkudin_guid *Protocol,
+                                uint64_t Event, uint64_t *Registration);
+
+/* LocateHandle with the buffer's room beside it; the function LocateHandle below has the standard's
+ * order. The handles that match are written to `Buffer`, by ascending numbers: all live ones, the
+ * next one of the registration `SearchKey`, or those that carry the GUID. `BufferSize` is in bytes,
+ * 8 for each handle, and `room` in handles: `BufferSize` / 8, or 4,096 where that is less. *needed
+ * are the bytes of all that match, on SUCCESS and BUFFER_TOO_SMALL. The GUID counts only for
+ * RAFKUDIN_BY_PROTOCOL, the key only for RAFKUDIN_BY_REGISTER_NOTIFY.
+ *
+ * INVALID_PARAMETER: another search type, or a key that RegisterProtocolNotify never gave.
+ * NOT_FOUND: nothing matches. BUFFER_TOO_SMALL: `BufferSize` is not 8 bytes for each. */
+uint64_t RafkudinLocateHandle(struct rafkudin *core, uint32_t SearchType,
+                              const struct rafkudin_guid *Protocol, uint64_t SearchKey,
+                              uint64_t BufferSize, uint64_t *needed, uint64_t *Buffer, size_t room);
+
+/* The same search. The handles are put into a new pool block, 8 bytes each, whose address is
+ * *Buffer and which the caller frees by FreePool; *NoHandles are how many. Refusals as above
+ * without BUFFER_TOO_SMALL, and OUT_OF_RESOURCES: no permitted place for new pages of the pool. */
+uint64_t LocateHandleBuffer(struct rafkudin *core, uint32_t SearchType,
+                            const struct rafkudin_guid *Protocol, uint64_t SearchKey,
+                            uint64_t *NoHandles, uint64_t *Buffer);
+
+/* Puts the value of an interface into *Interface: with `Registration` 0 that of the lowest handle
+ * that carries the GUID, else that of the next handle of this registration.
+ *
+ * INVALID_PARAMETER: a registration other than 0 that was never given, or is of another GUID.
+ * NOT_FOUND: there is no such handle. */
+uint64_t LocateProtocol(struct rafkudin *core, const struct rafkudin_guid *Protocol,
+                        uint64_t Registration, uint64_t *Interface);
+
+/* ProtocolsPerHandle: *count is how many GUIDs are on the handle, and the first `room` of them are
+ * written to `guids`, in order of installation. INVALID_PARAMETER: the handle is not live. */
+uint64_t RafkudinProtocolsPerHandle(struct rafkudin *core, uint64_t Handle,
+                                    struct rafkudin_guid *guids, size_t room, uint64_t *count);
+
+/* Puts the value of an interface into *Interface (RAFKUDIN_TEST_PROTOCOL leaves that as it is), and
+ * remembers who has it open for which controller, and how. An exclusive open stops the driver that
+ * has the interface open.
+ *
+ * By the table of docs/RULES.md, whose topmost line that fits decides: INVALID_PARAMETER: other
+ * attributes; a handle, or an agent or controller other than 0, that is not live; an agent or
+ * controller of 0 where the attributes need one; a child controller that is the handle itself.
+ * UNSUPPORTED: the handle lacks the GUID. ALREADY_STARTED: this agent has it open by driver
+ * already. ACCESS_DENIED: it is open by a driver or exclusively, and that can't be ended. */
+uint64_t OpenProtocol(struct rafkudin *core, uint64_t Handle, const struct rafkudin_guid *Protocol,
+                      uint64_t *Interface, uint64_t AgentHandle, uint64_t ControllerHandle,
+                      uint32_t Attributes);
+
+/* Takes out all that an agent has open for a controller on an interface.
+ *
+ * INVALID_PARAMETER: the handle or the agent is not live, or the controller is neither 0 nor live.
+ * NOT_FOUND: the handle lacks the GUID, or nothing is open so. */
+uint64_t CloseProtocol(struct rafkudin *core, uint64_t Handle, const struct rafkudin_guid *Protocol,
+                       uint64_t AgentHandle, uint64_t ControllerHandle);
+
+/* Puts what is open on an interface into a new pool block, oldest first, in 24 bytes each: agent (8
+ * bytes), controller (8), attributes (4), open count (4). *EntryBuffer is its address, and the
+ * caller frees it by FreePool; *EntryCount is how many. Where nothing is open both are 0, and there
+ * is no block.
+ *
+ * NOT_FOUND: the handle is not live or lacks the GUID. OUT_OF_RESOURCES: no permitted place for new
+ * pages of the pool. */
+uint64_t OpenProtocolInformation(struct rafkudin *core, uint64_t Handle,
+                                 const struct rafkudin_guid *Protocol, uint64_t *EntryBuffer,
+                                 uint64_t *EntryCount);
+
+/* OpenProtocol by RAFKUDIN_BY_HANDLE_PROTOCOL, with no agent and no controller. INVALID_PARAMETER:
+ * the handle is not live. UNSUPPORTED: it lacks the GUID. */
+uint64_t HandleProtocol(struct rafkudin *core, uint64_t Handle,
+                        const struct rafkudin_guid *Protocol, uint64_t *Interface);
+
+/* Starts drivers on a controller: first the `count` driver handles of the caller, up to 16, then
+ * all others, the highest version first; with `Recursive` also on the children that this makes,
+ * down to depth 8. There is no RemainingDevicePath.
+ *
+ * INVALID_PARAMETER: the handle is not live, or over 16 drivers are named. NOT_FOUND: no driver was
+ * started on it. */
+uint64_t ConnectController(struct rafkudin *core, uint64_t ControllerHandle,
+                           const uint64_t *DriverImageHandle, size_t count, bool Recursive);
+
+/* Stops the drivers that manage a controller, or one of them where `DriverImageHandle` is not 0,
+ * with all that they made. There is no ChildHandle.
+ *
+ * INVALID_PARAMETER: the controller is not live; a driver is given that is not live or is no driver
+ * handle. DEVICE_ERROR: they can't be stopped. */
+uint64_t DisconnectController(struct rafkudin *core, uint64_t ControllerHandle,
+                              uint64_t DriverImageHandle);
+
+/* Of the handles that carry the GUID, puts the one into *Device whose device path is the longest
+ * front of the path at the pool's address *DevicePath, and sets *DevicePath to the address behind
+ * the nodes that matched.
+ *
+ * INVALID_PARAMETER: no device path stands at the address. NOT_FOUND: no handle matches. */
+uint64_t LocateDevicePath(struct rafkudin *core, const struct rafkudin_guid *Protocol,
+                          uint64_t *DevicePath, uint64_t *Device);
+
+/* ---- The end of the boot services, section 7.4.6 ---- */
+
+/* Ends the boot services where `MapKey` is the key that GetMemoryMap tells now: each call that
+ * changed the type of a page since has made another. `ImageHandle` plays no part.
+ * INVALID_PARAMETER: another key. */
+uint64_t ExitBootServices(struct rafkudin *core, uint64_t ImageHandle, uint64_t MapKey);
+
+/* ---- GetMemoryMap and LocateHandle with the standard's parameters, over the two above ---- */
+
+/* 7.2.3. *MemoryMapSize is the buffer's size in bytes, and afterwards the bytes written, or those
+ * needed. To learn the size alone it is 0, and then `MemoryMap` may be null. `MapKey`,
+ * `DescriptorSize` and `DescriptorVersion` may be null too.
+ *
+ * INVALID_PARAMETER: `MemoryMapSize` is null, or `MemoryMap` is null and the size is not 0: this is
+ * answered first, and uses up no call. BUFFER_TOO_SMALL: *MemoryMapSize are the bytes needed. The
+ * descriptors' size and version are told too, so that a loader can add room for the entries that
+ * its own allocation of the buffer makes. */
+static inline uint64_t GetMemoryMap(struct rafkudin *core, uint64_t *MemoryMapSize, void *MemoryMap,
+                                    uint64_t *MapKey, uint64_t *DescriptorSize,
+                                    uint32_t *DescriptorVersion)
+{
+    uint8_t none = 0;
+    uint64_t status, size = 0, key = 0, descriptor_size = 0;
+    uint32_t version = 0;
+
+    if (MemoryMapSize == NULL || (MemoryMap == NULL && *MemoryMapSize != 0))
+        return RAFKUDIN_INVALID_PARAMETER;
+    status = RafkudinGetMemoryMap(core, MemoryMap == NULL ? &none : (uint8_t *)MemoryMap,
+                                  *MemoryMapSize, &size, &key, &descriptor_size, &version);
+    if (status != RAFKUDIN_SUCCESS && status != RAFKUDIN_BUFFER_TOO_SMALL)
+        return status;
+    *MemoryMapSize = size;
+    if (status == RAFKUDIN_SUCCESS && MapKey != NULL)
+        *MapKey = key;
+    if (DescriptorSize != NULL)
+        *DescriptorSize = descriptor_size;
+    if (DescriptorVersion != NULL)
+        *DescriptorVersion = version;
+    return status;
+}
+
+/* 7.3. *BufferSize is the buffer's size in bytes, and afterwards the bytes written, or those
+ * needed. No more than 8 bytes for each of RAFKUDIN_MOST_HANDLES are ever written. To learn the
+ * size alone it is 0, and then `Buffer` may be null. `Protocol` may be null for a search that names
+ * no protocol.
+ *
+ * INVALID_PARAMETER: `BufferSize` is null; `Buffer` is null and the size is not 0; `Protocol` is
+ * null in a search by protocol: this is answered first, and uses up no call. */
+static inline uint64_t LocateHandle(struct rafkudin *core, uint32_t SearchType,
+                                    const struct rafkudin_guid *Protocol, uint64_t SearchKey,
+                                    uint64_t *BufferSize, uint64_t *Buffer)
+{
+    const struct rafkudin_guid no_guid = {{0}};
+    uint64_t status, room, needed = 0, no_handle = 0;
+
+    if (BufferSize == NULL || (Buffer == NULL && *BufferSize != 0))
+        return RAFKUDIN_INVALID_PARAMETER;
+    if (Protocol == NULL && SearchType == RAFKUDIN_BY_PROTOCOL)
+        return RAFKUDIN_INVALID_PARAMETER;
+    room = *BufferSize / sizeof(uint64_t);
+    if (room > RAFKUDIN_MOST_HANDLES)
+        room = RAFKUDIN_MOST_HANDLES;
+    status =
+        RafkudinLocateHandle(core, SearchType, Protocol == NULL ? &no_guid : Protocol, SearchKey,
+                             *BufferSize, &needed, Buffer == NULL ? &no_handle : Buffer, room);
+    if (status == RAFKUDIN_SUCCESS || status == RAFKUDIN_BUFFER_TOO_SMALL)
+        *BufferSize = needed;
+    return status;
+}
+
+#ifdef __cplusplus
+}
+#endif
+#endif
