@@ -1,2 +1,3 @@
 mod Blocks
+mod FoundEntries
 mod ToldLists

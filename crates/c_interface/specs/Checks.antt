@@ -1,5 +1,6 @@
 -- What a caller in C is told of an entry of the memory map, and of a certificate block.
-use Rattle.std.specs.Prelude.{◌≡◌, ◌⊎◌, ℕ, Bool, List, Option, Some, None, Err, if◌then◌else◌}
+use Rattle.std.specs.Prelude.{◌≡◌, ◌⊎◌, ℕ, ◌*◌, Bool, List, Option, Some, None, Err, if◌then◌else◌}
+use Rattle.page_ranges.specs.MemoryTypes.{page_size}
 use Rattle.page_ranges.specs.Statuses.{status_number}
 use Rattle.page_ranges.specs.declared.ranges.Descriptor.{Descriptor}
 use Rattle.page_ranges.specs.declared.statuses.Status.TheVariants.{Success, InvalidParameter, OutOfResources, NotFound, AccessDenied}
@@ -9,7 +10,7 @@ use Rattle.c_interface.specs.declared.checks.MapEntry.{MapEntry}
 
 -- an entry as C has it
 abbrev pub entry_in_c : Descriptor → MapEntry
-entry_in_c d = record { mtype = d.mtype; first_page = d.first; pages = d.pages; attributes = d.attributes }
+entry_in_c d = record { mtype = d.mtype; physical_start = d.first * page_size; number_of_pages = d.pages; attribute = d.attributes }
 
 -- the status, and the entry in the caller's place
 abbrev pub TellsEntry : Option Descriptor → MapEntry → ℕ → MapEntry → Type 0

@@ -5,18 +5,18 @@ ghost use Rattle.c_interface.specs.Checks.{ChecksBlock, TellsEntry};
 
 use crate::efi_core::EfiCore;
 use certificate_blocks::{BlockFault, judge_block};
-use page_ranges::Status;
+use page_ranges::{PAGE_SIZE, Status};
 use std::alloc::Global;
 
-/// An entry of the memory map.
+/// What says something of an entry of the memory map, as EFI_MEMORY_DESCRIPTOR has it.
 #[repr(C)]
 #[derive(Clone, Copy, Debug, PartialEq, Eq)]
 pub struct MapEntry {
     pub mtype: u32,
-    /// The page that it begins with.
-    pub first_page: u64,
-    pub pages: u64,
-    pub attributes: u64,
+    /// The address of its first byte.
+    pub physical_start: u64,
+    pub number_of_pages: u64,
+    pub attribute: u64,
 }
 
 impl EfiCore {
@@ -33,13 +33,15 @@ impl EfiCore {
     pub fn descriptor(&self, index: usize, entry: &mut MapEntry) -> u64
         ensures { TellsEntry (slice_get (memory_map self.now.core.state.parts.book.memory) index) entry.old result entry.new }
     {
+        // This contract says that the memory is proper, and so that an entry's address is one of 64 bits.
+        let _count = self.core.descriptors();
         match self.core.descriptor(index) {
             Some(found) => {
                 *entry = MapEntry {
                     mtype: found.mtype.number(),
-                    first_page: found.first,
-                    pages: found.pages,
-                    attributes: found.attributes,
+                    physical_start: found.first * PAGE_SIZE,
+                    number_of_pages: found.pages,
+                    attribute: found.attributes,
                 };
                 Status::Success.number()
             }
