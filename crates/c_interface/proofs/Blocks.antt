@@ -1,5 +1,5 @@
 -- What is left of a call, whether blocks are kept or not.
-use Rattle.std.proofs.Common.{◌≡◌, ℕ, Bool, true, false, List, Option, Some, None, Result, Ok, Err, Vec, refl, sym, subst, MatchResult, IfOk}
+use Rattle.std.proofs.Common.{◌≡◌, ℕ, Bool, true, false, List, Option, None, Result, Ok, Err, Vec, refl, sym, subst, MatchResult, IfOk}
 use Rattle.std.specs.Option.{option_map}
 use Rattle.std.specs.declared.alloc.Global.{Global}
 use Rattle.page_ranges.specs.declared.ranges.Descriptor.{Descriptor}

@@ -1,10 +1,9 @@
 -- Values that are laid into a buffer one after another, and what is told of handles.
-use Rattle.std.proofs.Common.{◌≡◌, ℕ, zero, suc, ◌<◌, ◌≤◌, ◌+◌, List, [], ◌∷◌, ◌++◌, length, take, drop, map, get_or, slice_index_or, slice_set, Option, Some, None, refl, sym, ap, subst, ◌∙◌, arith, inl, inr, Bool, true, false, nat_le, leb-true, leb-false, min}
+use Rattle.std.proofs.Common.{◌≡◌, ℕ, zero, suc, ◌<◌, ◌+◌, List, [], ◌∷◌, ◌++◌, length, take, drop, map, get_or, slice_index_or, slice_set, Some, None, refl, sym, ap, subst, ◌∙◌, arith, inl, inr, Bool, true, false, nat_le, leb-true, leb-false, min}
 use Rattle.std.proofs.Math.Nat.{min-eq_left, min-eq_right}
 use Rattle.std.proofs.Math.ListN.{drop_of_length-le}
 use Rattle.std.specs.declared.alloc.Global.{Global}
 use Rattle.boot_core.specs.declared.calls.Call.{Call}
-use Rattle.boot_core.specs.declared.calls.Reply.{Reply}
 use Rattle.boot_core.specs.declared.calls.Reply.TheVariants as reply
 use Rattle.protocol_services.specs.declared.replies.LocateReply.{LocateReply}
 use Rattle.c_interface.specs.Buffers.{laid}

@@ -19,9 +19,10 @@ impl EfiCore {
     ) -> u64
         ensures { AnswersNumber self.old (call.InstallProtocolInterface handle.old (guid_in guid.now) kind value) handle.old result handle.new self.new }
     {
+        let guid = guid.uuid();
         let call = Call::InstallProtocolInterface {
             handle: *handle,
-            guid: guid.uuid(),
+            guid,
             kind,
             value,
         };
@@ -112,9 +113,10 @@ impl EfiCore {
     ) -> u64
         ensures { AnswersNumber self.old (call.OpenProtocol handle (guid_in guid.now) agent controller attributes) interface.old result interface.new self.new }
     {
+        let guid = guid.uuid();
         let call = Call::OpenProtocol {
             handle,
-            guid: guid.uuid(),
+            guid,
             agent,
             controller,
             attributes,
@@ -174,8 +176,9 @@ impl EfiCore {
     pub fn locate_device_path(&mut self, guid: &Guid, path: &mut u64, device: &mut u64) -> u64
         ensures { AnswersNumbers self.old (call.LocateDevicePath (guid_in guid.now) path.old) (device.old, path.old) result (device.new, path.new) self.new }
     {
+        let guid = guid.uuid();
         let call = Call::LocateDevicePath {
-            guid: guid.uuid(),
+            guid,
             address: *path,
         };
         self.answer_numbers(&call, device, path)

@@ -1,4 +1,4 @@
-use Rattle.std.proofs.Common.{◌≡◌, ◌≤◌, length, map, take, drop, ◌++◌}
+use Rattle.std.proofs.Common.{◌≡◌, map, take, drop, ◌++◌}
 use Rattle.c_machines.specs.Guids.{standard_guid}
 use Rattle.c_interface.proofs.lists.lay_guids.Given as goal
 

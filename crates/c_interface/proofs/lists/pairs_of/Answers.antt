@@ -1,4 +1,4 @@
-use Rattle.std.proofs.Common.{◌≡◌, ◌∙◌, [], ◌∷◌, ◌++◌, sym, ap}
+use Rattle.std.proofs.Common.{◌∙◌}
 use Rattle.c_interface.proofs.ToldLists.{pairs_more}
 use Rattle.c_interface.proofs.lists.pairs_of.Goals as goal
 

@@ -1,4 +1,4 @@
-use Rattle.std.proofs.Common.{◌≡◌, ◌≤◌, length, sym, ap, subst, inl, arith, ◌∙◌}
+use Rattle.std.proofs.Common.{◌≤◌, length, sym, ap, subst, inl, arith, ◌∙◌}
 use Rattle.c_interface.specs.Buffers.{laid}
 use Rattle.c_interface.specs.EfiCores.{EfiCoreValue}
 use Rattle.c_interface.specs.Served.{TellsBlock}

@@ -1,4 +1,4 @@
-use Rattle.std.proofs.Common.{◌≡◌, ◌∙◌, sym, arith}
+use Rattle.std.proofs.Common.{◌∙◌, sym, arith}
 use Rattle.c_interface.proofs.FoundEntries.{found_within}
 use Rattle.c_interface.proofs.efi_core.EfiCore.descriptor.Goals as goal
 
