@@ -288,7 +288,8 @@ uint64_t InstallProtocolInterface(struct rafkudin *core, uint64_t *Handle,
  *
  * INVALID_PARAMETER: no interfaces or over 16; a handle that is neither 0 nor live; a GUID that
  * stands twice among them or is on the handle. ALREADY_STARTED: one of them is a device path that a
- * live handle has already. OUT_OF_RESOURCES as above. */
+ * live handle has already. OUT_OF_RESOURCES as above; also where memory for a copy of the list is
+ * refused, and then alone no call is used up. */
 uint64_t InstallMultipleProtocolInterfaces(struct rafkudin *core, uint64_t *Handle,
                                            const struct rafkudin_interface *interfaces,
                                            size_t count);
