@@ -4,7 +4,7 @@ use Rattle.page_ranges.specs.declared.ranges.Run.{Run}
 use Rattle.page_ranges.specs.Runs.{AreRuns}
 use Rattle.page_ranges.specs.MemoryTypes.{page_count}
 use Rattle.page_ranges.proofs.RunLists.{runs-left, runs-right}
-use Rattle.page_ranges.proofs.RunMaps.{runs_join, length_of_last, length_of_runs}
+use Rattle.page_ranges.proofs.RunMaps.{runs_join, length_of_last, length_of_runs, entries_at_most}
 use Rattle.descriptor_table.specs.Leaves.{runs_in, entry_count, AreLast, BeginIn, GrowsBy}
 use Rattle.descriptor_table.specs.Tallies.{total}
 use Rattle.std.proofs.Math.ListN.{set}
@@ -220,6 +220,12 @@ grown_up xs (y ∷ ys) a =
     let here = runs-right xs (y ∷ ys) a in
     omega (arith, count-append xs (y ∷ ys) (runs-left xs (y ∷ ys) a) here, no_fewer (meet runs_join xs (y ∷ ys)) (entry_count (y ∷ ys)) (some_entry y ys here))
 
+-- and at most as many more as there are more runs
+pub grown_by : (xs ys : List Run) → AreRuns (xs ++ ys) → entry_count (xs ++ ys) ≤ entry_count xs + length ys
+grown_by xs ys a =
+    let here = runs-right xs ys a in
+    omega (arith, count-append xs ys (runs-left xs ys a) here, entries_at_most ys here)
+
 -- a leaf that changes, and its number with it
 module _ (ls : List (List Run)) (ns : List ℕ) (i to d less more : ℕ) (l : List Run) (b : BeginIn [] ls ns) (h : i < length ls) (next : suc i ≡ to) (a : AreRuns (runs_in (take i ls) ++ (l ++ runs_in (drop to ls)))) (g : GrowsBy (runs_in (take to ls)) (runs_in (take i ls) ++ l) (runs_in (drop to ls)) less more) where
   leaf_grows : entry_count (runs_in (take i ls) ++ l) + less ≡ total (take i ns) + get_or ns i d + more
@@ -240,6 +246,9 @@ module _ (ls : List (List Run)) (ns : List ℕ) (i to d less more : ℕ) (l : Li
 
   pub leaf_no_fewer : less ≤ get_or ns i d + more
   leaf_no_fewer = omega (arith, leaf_grows, begin_total [] ls ns i b, grown_up (runs_in (take i ls)) l runs_here)
+
+  pub leaf_small : get_or ns i d + more - less ≤ length l
+  leaf_small = omega (arith, leaf_grows, leaf_no_fewer, begin_total [] ls ns i b, grown_by (runs_in (take i ls)) l runs_here)
 
   pub begin_set : (n : ℕ) → n ≡ get_or ns i d + more - less → BeginIn [] (set ls i l) (set ns i n)
   begin_set n e =

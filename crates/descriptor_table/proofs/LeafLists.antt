@@ -1,6 +1,6 @@
 -- Leaves of runs, and the runs in them.
-use Rattle.std.proofs.Common.{◌≡◌, ℕ, zero, suc, ◌+◌, ◌-◌, ◌<◌, ◌≤◌, List, [], ◌∷◌, ◌++◌, length, length-append, get_or, take, drop, Option, Some, None, Contains, refl, sym, ap, subst, ◌∙◌, append-nil, arith}
-use Rattle.std.specs.Prelude.{slice_get, IfSome}
+use Rattle.std.proofs.Common.{◌≡◌, ℕ, zero, suc, ◌+◌, ◌<◌, ◌≤◌, List, [], ◌∷◌, ◌++◌, length, length-append, get_or, take, drop, Option, Some, None, Contains, refl, sym, ap, subst, ◌∙◌, append-nil, arith}
+use Rattle.std.specs.Prelude.{IfSome}
 use Rattle.std.specs.List.{AllByRecursion}
 use Rattle.std.specs.List.Sorted.{IsNonDecreasingBy}
 use Rattle.std.proofs.lemmas.List.Concat.{flat_map-append}
@@ -141,33 +141,6 @@ page_at_no_leaf ls k b above = page_at-below_runs (runs_in ls) k (leaves_begin_a
 pub found_in_leaf : (ls : List (List Run)) (i k : ℕ) (d l : List Run) (o : Option Run) → i < length ls → l ≡ get_or ls i d → IfSome o (λ r. Contains l r × IsInRun r k) → IfSome o (λ r. Contains (runs_in ls) r × IsInRun r k)
 found_in_leaf ls i k d l None h e m = m
 found_in_leaf ls i k d l (Some r) h e m = (leaf_member ls i d r h (subst (λ x. Contains x r) e m.0), m.1)
-
--- ---- runs by index
-
-get_left : (xs ys : List Run) (k : ℕ) → k < length xs → slice_get (xs ++ ys) k ≡ slice_get xs k
-get_left [] ys k h = absurd (omega arith)
-get_left (x ∷ xs) ys zero h = refl
-get_left (x ∷ xs) ys (suc k) h = get_left xs ys k (omega arith)
-
-get_right : (xs ys : List Run) (k : ℕ) → length xs ≤ k → slice_get (xs ++ ys) k ≡ slice_get ys (k - length xs)
-get_right [] ys k h = let e : k ≡ k - 0 = omega arith in ap (slice_get ys) e
-get_right (x ∷ xs) ys zero h = absurd (omega arith)
-get_right (x ∷ xs) ys (suc k) h = let e : k - length xs ≡ suc k - length (x ∷ xs) = omega arith in get_right xs ys k (omega arith) ∙ ap (slice_get ys) e
-
-pub run_in_this : (ls : List (List Run)) (i k : ℕ) (d : List Run) → i < length ls → k < length (get_or ls i d) → slice_get (runs_in (drop i ls)) k ≡ slice_get (get_or ls i d) k
-run_in_this [] i k d h l = absurd (omega arith)
-run_in_this (x ∷ ls) zero k d h l = get_left x (runs_in ls) k l
-run_in_this (x ∷ ls) (suc i) k d h l = run_in_this ls i k d (omega arith) l
-
-pub run_behind_this : (ls : List (List Run)) (i k : ℕ) (d : List Run) → i < length ls → length (get_or ls i d) ≤ k → slice_get (runs_in (drop i ls)) k ≡ slice_get (runs_in (drop (suc i) ls)) (k - length (get_or ls i d))
-run_behind_this [] i k d h l = absurd (omega arith)
-run_behind_this (x ∷ ls) zero k d h l = get_right x (runs_in ls) k l
-run_behind_this (x ∷ ls) (suc i) k d h l = run_behind_this ls i k d (omega arith) l
-
-pub runs_so_far : (ls : List (List Run)) (i : ℕ) (d : List Run) → i < length ls → length (runs_in (take i ls)) + length (get_or ls i d) ≤ length (runs_in ls)
-runs_so_far [] i d h = absurd (omega arith)
-runs_so_far (x ∷ ls) zero d h = omega (arith, length-append x (runs_in ls))
-runs_so_far (x ∷ ls) (suc i) d h = omega (arith, length-append x (runs_in ls), length-append x (runs_in (take i ls)), runs_so_far ls i d (omega arith))
 
 -- ---- parts of leaves
 

@@ -11,6 +11,7 @@ pub mod Replaced
 pub mod EntryRuns
 pub mod FreeRuns
 pub mod LeafLists
+pub mod LeafSizes
 pub mod Places
 pub mod LeafSplices
 pub mod Tallied

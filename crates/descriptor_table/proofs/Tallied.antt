@@ -1,7 +1,8 @@
 -- Sums of numbers, and of groups of them.
-use Rattle.std.proofs.Common.{◌≡◌, ℕ, zero, suc, ◌+◌, ◌-◌, ◌*◌, ◌<◌, ◌≤◌, ◌^◌, List, [], ◌∷◌, ◌++◌, length, length-append, get_or, take, drop, inl, inr, refl, ap, ◌∙◌, arith}
+use Rattle.std.proofs.Common.{◌≡◌, ℕ, zero, suc, ◌+◌, ◌-◌, ◌*◌, ◌<◌, ◌≤◌, ◌^◌, List, [], ◌∷◌, ◌++◌, length, length-append, get_or, take, drop, inl, inr, refl, sym, ap, ◌∙◌, arith}
 use Rattle.std.proofs.Math.ListN.{set}
 use Rattle.std.proofs.lemmas.Bool.{cases_lt}
+use Rattle.std.proofs.lemmas.List.{take-append-drop, length-take-le}
 use Rattle.descriptor_table.specs.Tallies.{total, AreGroupSums}
 
 pub total-append : (ms ns : List ℕ) → total (ms ++ ns) ≡ total ms + total ns
@@ -76,6 +77,30 @@ take_whole (m ∷ ms) (suc k) h = ap (λ ks. m ∷ ks) (take_whole ms k (omega a
 
 pub no_sums : (ns : List ℕ) → total ns < 2 ^ 63 → AreGroupSums ns []
 no_sums ns h = record { within = h; bound = omega arith; sums_up = λ g l. let e : g ≡ 0 = omega arith in rw e refl }
+
+-- the sums and the numbers that are in none
+pub sums_and_rest : (ns sums : List ℕ) (k n : ℕ) → AreGroupSums ns sums → k ≡ 64 * length sums → k + n ≡ length ns → total sums + total (take n (drop k ns)) ≡ total ns
+sums_and_rest ns sums k n a e f = omega (
+  arith,
+  ap total (take_whole sums (length sums) (omega arith)),
+  a.sums_up (length sums) (omega arith),
+  ap (λ j. total (take j ns)) e,
+  total_between ns k n,
+  ap total (take_whole ns (k + n) (omega arith)),
+)
+
+-- the sums of the groups before a place, once what is behind it changes
+pub kept_sums : (ns sums more : List ℕ) (from k : ℕ) → AreGroupSums ns sums → from ≤ length ns → 64 * k ≤ from → k ≤ length sums → total (take from ns ++ more) < 2 ^ 63 → AreGroupSums (take from ns ++ more) (take k sums)
+kept_sums ns sums more from k a h low some within =
+    let n : length (take k sums) ≡ k = length-take-le k sums some in
+    let m : length (take from ns) ≡ from = length-take-le from ns h in
+    record {
+      within = within;
+      bound = omega (arith, n, m, length-append (take from ns) more);
+      sums_up = λ g l.
+          sym (ap total (take_front (take k sums) (drop k sums) g l)) ∙ ap (λ xs. total (take g xs)) (take-append-drop k sums) ∙ a.sums_up g (omega arith)
+          ∙ ap (λ xs. total (take (64 * g) xs)) (sym (take-append-drop from ns)) ∙ ap total (take_front (take from ns) (drop from ns) (64 * g) (omega arith) ∙ sym (take_front (take from ns) more (64 * g) (omega arith)));
+    }
 
 -- the sum of the next group
 pub next_sum : (ns sums more : List ℕ) (s : ℕ) → AreGroupSums ns sums → more ≡ sums ++ s ∷ [] → s ≡ total (take 64 (drop (64 * length sums) ns)) → 64 * length sums + 64 ≤ length ns → AreGroupSums ns more

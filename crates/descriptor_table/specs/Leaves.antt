@@ -1,5 +1,5 @@
 -- Runs in leaves.
-use Rattle.std.specs.Prelude.{◌≡◌, ℕ, ◌+◌, ◌<◌, ◌≤◌, zero, suc, List, [], ◌∷◌, ◌++◌, Option, Some, None, length, take, drop, slice_get, flat_map}
+use Rattle.std.specs.Prelude.{◌≡◌, ℕ, ◌+◌, ◌<◌, ◌≤◌, zero, suc, List, [], ◌∷◌, ◌++◌, Option, Some, None, length, map, take, drop, slice_get, flat_map}
 use Rattle.std.specs.List.{AllByRecursion}
 use Rattle.page_ranges.specs.declared.ranges.PageRange.{PageRange}
 use Rattle.page_ranges.specs.declared.ranges.Run.{Run}
@@ -38,11 +38,12 @@ BeginIn rs (l ∷ ls) (n ∷ ns) = (entry_count (rs ++ l) ≡ entry_count rs + n
 abbrev pub GrowsBy : List Run → List Run → List Run → ℕ → ℕ → Type 0
 GrowsBy old new behind less more = (m n : List Run) → behind ≡ m ++ n → entry_count (new ++ m) + less ≡ entry_count (old ++ m) + more
 
--- A table in leaves, the number of entries of its map, and how many of them begin in each leaf.
-pub record IsLeafTable (ls : List (List Run)) (count : ℕ) (ns : List ℕ) : Type 0 where
+-- A table in leaves, the number of entries of its map, how many of them begin in each leaf, and how many runs each leaf has.
+pub record IsLeafTable (ls : List (List Run)) (count : ℕ) (ns ms : List ℕ) : Type 0 where
   pub table : IsTable (runs_in ls) count
   pub leaves : AreLeaves ls
   pub begun : BeginIn [] ls ns
+  pub sizes : ms ≡ map length ls
 
 -- The last of some runs. They are none only where there are no runs at all.
 pub record AreLast (rs last : List Run) : Type 0 where

@@ -26,7 +26,8 @@ pub(crate) fn runs_before<A: Allocator + Copy>(leaves: &[Leaf<A>], index: usize)
 fn count_begun(before: &[Run], runs: &[Run]) -> usize
     requires runs { AreRuns (before.now ++ runs.now) }
     requires ends { EndBy page_count (before.now ++ runs.now) }
-    ensures { entry_count (before.now ++ runs.now) ≡ entry_count before.now + result }
+    ensures count { entry_count (before.now ++ runs.now) ≡ entry_count before.now + result }
+    ensures bound { result ≤ length runs.now }
 {
     let entries = count_entries(runs);
     if before.len() == 0 || runs.len() == 0 {
@@ -44,7 +45,7 @@ pub(crate) fn begun_in<A: Allocator + Copy>(
     alloc: A,
     before: &[Run],
     leaves: &[Leaf<A>],
-) -> Result<Vec<usize, A>, AllocError>
+) -> Result<Vec<u8, A>, AllocError>
     requires leaves { AreLeaves leaves.now }
     requires runs { AreRuns (before.now ++ runs_in leaves.now) }
     requires ends { EndBy page_count (before.now ++ runs_in leaves.now) }
@@ -53,7 +54,7 @@ pub(crate) fn begun_in<A: Allocator + Copy>(
     let mut begun = Vec::new(alloc);
     let mut last = before;
     for leaf in leaves {
-        begun.push(count_begun(last, leaf.runs()))?;
+        begun.push(count_begun(last, leaf.runs()) as u8)?;
         last = leaf.runs();
     }
     Ok(begun)

@@ -1,5 +1,5 @@
-//! Finding a leaf by a page.
-ghost use Rattle.std.specs.Prelude.{◌≡◌, ◌↔◌, ◌+◌, ◌<◌, ◌≤◌, length, nat_lt, nat_le, Contains, IfSome, IsTrue, slice_get};
+//! Finding a leaf by a page or by an index.
+ghost use Rattle.std.specs.Prelude.{◌≡◌, ◌↔◌, ◌+◌, ◌<◌, ◌≤◌, length, map, nat_lt, nat_le, Contains, IfSome, IsTrue, slice_get};
 ghost use Rattle.std.specs.List.{AllWithin};
 ghost use Rattle.std.specs.Option.{option_map};
 ghost use Rattle.page_ranges.specs.MemoryTypes.{page_count};
@@ -11,6 +11,7 @@ ghost use Rattle.descriptor_table.specs.Tables.{EndBy};
 
 use crate::leaves::Leaf;
 use crate::searches::{PageTest, run_holding};
+use crate::tallies::Tally;
 use page_ranges::{PageRange, Run};
 use std::alloc::Allocator;
 
@@ -89,30 +90,18 @@ pub(crate) fn all_in_range<A: Allocator + Copy>(
     }
 }
 
-/// How many runs there are.
-pub(crate) fn count_runs<A: Allocator + Copy>(leaves: &[Leaf<A>]) -> usize
-    requires runs { AreRuns (runs_in leaves.now) }
-    requires ends { EndBy page_count (runs_in leaves.now) }
-    ensures { result ≡ length (runs_in leaves.now) }
-{
-    let mut count = 0;
-    for leaf in leaves {
-        count += leaf.runs().len();
-    }
-    count
-}
-
-/// The run at an index.
-pub(crate) fn run_at_index<A: Allocator + Copy>(leaves: &[Leaf<A>], index: usize) -> Option<Run>
+/// The run at an index, by how many runs each leaf has.
+pub(crate) fn run_at_index<A: Allocator + Copy>(
+    leaves: &[Leaf<A>],
+    sizes: &Tally<A>,
+    index: usize,
+) -> Option<Run>
+    requires { sizes.now ≡ map length leaves.now }
     ensures { result ≡ slice_get (runs_in leaves.now) index }
 {
-    let mut left = index;
-    for leaf in leaves {
-        let runs = leaf.runs();
-        if left < runs.len() {
-            return Some(runs[left]);
-        }
-        left -= runs.len();
+    let (count, left) = sizes.find(index);
+    if count == leaves.len() {
+        return None;
     }
-    None
+    Some(leaves[count].runs()[left])
 }

@@ -1,5 +1,5 @@
 //! Runs in leaves.
-ghost use Rattle.std.specs.Prelude.{◌≡◌, ◌<◌, ◌≤◌, ◌++◌, length, take, drop, IfOk, OnOk, OnErr};
+ghost use Rattle.std.specs.Prelude.{◌≡◌, ◌<◌, ◌≤◌, ◌++◌, length, map, take, drop, IfOk, OnOk, OnErr};
 ghost use Rattle.descriptor_table.specs.Leaves.{first_page, runs_in, AreLeaves};
 
 use page_ranges::Run;
@@ -106,6 +106,21 @@ pub(crate) fn leaves_of<A: Allocator + Copy>(
         rest = &rest[count..];
     }
     Ok(leaves)
+}
+
+/// How many runs each of some leaves has.
+pub(crate) fn sizes_of<A: Allocator + Copy>(
+    alloc: A,
+    leaves: &[Leaf<A>],
+) -> Result<Vec<u8, A>, AllocError>
+    requires { AreLeaves leaves.now }
+    ensures { IfOk result (λ v. v.items ≡ map length leaves.now) }
+{
+    let mut sizes = Vec::with_capacity(alloc, leaves.len())?;
+    for leaf in leaves {
+        sizes.push(leaf.runs().len() as u8)?;
+    }
+    Ok(sizes)
 }
 
 /// The runs of leaves, one leaf after the other.

@@ -1,5 +1,5 @@
 //! A range of a table that gets a type and an owner.
-ghost use Rattle.std.specs.Prelude.{◌≡◌, ◌+◌, ◌-◌, ◌<◌, ◌≤◌, ◌^◌, ◌++◌, [], length, take, drop, IfOk, OnErr};
+ghost use Rattle.std.specs.Prelude.{◌≡◌, ◌+◌, ◌-◌, ◌<◌, ◌≤◌, ◌^◌, ◌++◌, [], length, map, take, drop, IfOk, OnErr};
 ghost use Rattle.page_ranges.specs.declared.ranges.Owner.TheVariants.{Given};
 ghost use Rattle.page_ranges.specs.MemoryTypes.{conventional, page_count};
 ghost use Rattle.page_ranges.specs.Memory.{IsPresent, AllInRange, retyped};
@@ -11,7 +11,7 @@ use crate::beginnings::{begun_in, runs_before};
 use crate::cuts::retyped_runs;
 use crate::entries::count_entries;
 use crate::leaf_searches::{count_leaves_below, count_leaves_by};
-use crate::leaves::{LEAF_SIZE, Leaf, leaves_of, runs_of_leaves};
+use crate::leaves::{LEAF_SIZE, Leaf, leaves_of, runs_of_leaves, sizes_of};
 use crate::searches::{count_beginning_by, count_ending_below};
 use crate::tallies::Tally;
 use page_ranges::{MemoryType, Owner, PageRange, Run};
@@ -72,6 +72,7 @@ fn leaves_near<A: Allocator + Copy>(leaves: &[Leaf<A>], range: PageRange) -> (us
 fn put_parts<A: Allocator + Copy>(
     leaves: &mut Vec<Leaf<A>, A>,
     begun: &mut Tally<A>,
+    sizes: &mut Tally<A>,
     near: (usize, usize),
     mut runs: Vec<Run, A>,
     window: (usize, usize),
@@ -83,6 +84,7 @@ fn put_parts<A: Allocator + Copy>(
     requires runs { runs.items ≡ runs_in (take (near.1 - near.0) (drop near.0 leaves.old.items)) }
     requires window { (window.0 ≤ window.1) × (window.1 ≤ length runs.items) }
     requires begun { BeginIn [] leaves.old.items begun.old }
+    requires sizes { sizes.old ≡ map length leaves.old.items }
     requires grows { GrowsBy (runs_in (take near.1 leaves.old.items)) (runs_in (take near.0 leaves.old.items) ++ (take window.0 runs.items ++ (parts.items ++ drop window.1 runs.items))) (runs_in (drop near.1 leaves.old.items)) entries.0 entries.1 }
     requires few { entries.1 < 2 ^ 63 }
     requires order { AreRuns (runs_in (take near.0 leaves.old.items) ++ ((take window.0 runs.items ++ (parts.items ++ drop window.1 runs.items)) ++ runs_in (drop near.1 leaves.old.items))) }
@@ -90,7 +92,8 @@ fn put_parts<A: Allocator + Copy>(
     ensures leaves { IfOk result (λ _. AreLeaves leaves.new.items) }
     ensures runs { IfOk result (λ _. runs_in leaves.new.items ≡ runs_in (take near.0 leaves.old.items) ++ ((take window.0 runs.items ++ (parts.items ++ drop window.1 runs.items)) ++ runs_in (drop near.1 leaves.old.items))) }
     ensures begun { IfOk result (λ _. BeginIn [] leaves.new.items begun.new) }
-    ensures err { OnErr result ((leaves.new.items ≡ leaves.old.items) × (begun.new ≡ begun.old)) }
+    ensures sizes { IfOk result (λ _. sizes.new ≡ map length leaves.new.items) }
+    ensures err { OnErr result ((leaves.new.items ≡ leaves.old.items) × (begun.new ≡ begun.old) × (sizes.new ≡ sizes.old)) }
 {
     let (from, to) = near;
     let (low, high) = window;
@@ -98,6 +101,7 @@ fn put_parts<A: Allocator + Copy>(
     if to - from == 1 && !parts.is_empty() && count <= LEAF_SIZE {
         leaves[from].replace(low, high, parts)?;
         begun.change(from, entries.0, entries.1);
+        sizes.set(from, count as u8);
         return Ok(());
     }
     let alloc = *leaves.allocator();
@@ -109,8 +113,11 @@ fn put_parts<A: Allocator + Copy>(
         new_leaves.as_slice(),
     )?;
     let new_begun = begun.with_part(alloc, from, to, part.as_slice())?;
+    let part = sizes_of(alloc, new_leaves.as_slice())?;
+    let new_sizes = sizes.with_part(alloc, from, to, part.as_slice())?;
     let _given_up = leaves.splice(from..to, new_leaves)?;
     *begun = new_begun;
+    *sizes = new_sizes;
     Ok(())
 }
 
@@ -119,18 +126,19 @@ fn put_parts<A: Allocator + Copy>(
 pub(crate) fn retype_runs<A: Allocator + Copy>(
     leaves: &mut Vec<Leaf<A>, A>,
     begun: &mut Tally<A>,
+    sizes: &mut Tally<A>,
     entries: usize,
     range: PageRange,
     mtype: MemoryType,
     owner: Owner,
 ) -> Result<usize, AllocError>
-    requires table { IsLeafTable leaves.old.items entries begun.old }
+    requires table { IsLeafTable leaves.old.items entries begun.old sizes.old }
     requires some { 0 < range.pages }
     requires present { AllInRange (pages_of (runs_in leaves.old.items)) range IsPresent }
     requires owner { mtype ≡ conventional → owner ≡ Given }
-    ensures table { IfOk result (λ n. IsLeafTable leaves.new.items n begun.new) }
+    ensures table { IfOk result (λ n. IsLeafTable leaves.new.items n begun.new sizes.new) }
     ensures pages { IfOk result (λ n. pages_of (runs_in leaves.new.items) ≡ retyped range mtype owner (pages_of (runs_in leaves.old.items))) }
-    ensures err { OnErr result ((leaves.new.items ≡ leaves.old.items) × (begun.new ≡ begun.old)) }
+    ensures err { OnErr result ((leaves.new.items ≡ leaves.old.items) × (begun.new ≡ begun.old) × (sizes.new ≡ sizes.old)) }
 {
     let alloc = *leaves.allocator();
     let near = leaves_near(leaves.as_slice(), range);
@@ -143,6 +151,7 @@ pub(crate) fn retype_runs<A: Allocator + Copy>(
     put_parts(
         leaves,
         begun,
+        sizes,
         near,
         runs,
         window,

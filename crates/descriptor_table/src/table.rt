@@ -13,8 +13,8 @@ use crate::cursors::RunCursor;
 use crate::cuts::push_joined;
 use crate::entries::{MapEntries, count_entries};
 use crate::free_entries::FreeEntries;
-use crate::leaf_searches::{all_in_range, count_runs, run_at_index, run_in_leaves};
-use crate::leaves::{Leaf, leaves_of};
+use crate::leaf_searches::{all_in_range, run_at_index, run_in_leaves};
+use crate::leaves::{Leaf, leaves_of, sizes_of};
 use crate::retyping::retype_runs;
 use crate::searches::PageTest;
 use crate::tallies::Tally;
@@ -30,6 +30,8 @@ pub struct RunTable<A: Allocator = Global> {
     // How many entries of the memory map begin in each leaf, and how many it has.
     begun: Tally<A>,
     entries: usize,
+    // How many runs each leaf has.
+    sizes: Tally<A>,
 }
 
 impl<A: Allocator> Model for RunTable<A> {
@@ -42,7 +44,7 @@ impl<A: Allocator> Model for RunTable<A> {
 
     ghost view = { λ t. pages_of (runs_in t.leaves.items) };
 
-    ghost invariant = { λ t. IsLeafTable t.leaves.items t.entries t.begun };
+    ghost invariant = { λ t. IsLeafTable t.leaves.items t.entries t.begun t.sizes };
 }
 
 impl<A: Allocator + Copy> RunTable<A> {
@@ -59,10 +61,12 @@ impl<A: Allocator + Copy> RunTable<A> {
         let entries = count_entries(joined.as_slice());
         let leaves = leaves_of(alloc, joined.as_slice())?;
         let begun = Tally::new(alloc, begun_in(alloc, &[], leaves.as_slice())?)?;
+        let sizes = Tally::new(alloc, sizes_of(alloc, leaves.as_slice())?)?;
         Ok(RunTable {
             leaves,
             begun,
             entries,
+            sizes,
         })
     }
 
@@ -88,6 +92,7 @@ impl<A: Allocator + Copy> RunTable<A> {
             self.entries = retype_runs(
                 &mut self.leaves,
                 &mut self.begun,
+                &mut self.sizes,
                 self.entries,
                 range,
                 mtype,
@@ -102,7 +107,7 @@ impl<A: Allocator + Copy> RunTable<A> {
         ensures len { result ≡ length (runs_of self.now) }
         ensures proper { IsProperMemory self.now }
     {
-        count_runs(self.leaves.as_slice())
+        self.sizes.sum()
     }
 
     /// Whether no page is present.
@@ -116,7 +121,7 @@ impl<A: Allocator + Copy> RunTable<A> {
     pub fn run(&self, index: usize) -> Option<Run>
         ensures { result ≡ slice_get (runs_of self.now) index }
     {
-        run_at_index(self.leaves.as_slice(), index)
+        run_at_index(self.leaves.as_slice(), &self.sizes, index)
     }
 
     /// The run that holds a page.

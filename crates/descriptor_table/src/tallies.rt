@@ -1,4 +1,4 @@
-//! Numbers in a row, and where their sum passes an index.
+//! Small numbers in a row, and where their sum passes an index.
 ghost use Rattle.std.specs.Prelude.{◌≡◌, ◌+◌, ◌-◌, ◌<◌, ◌≤◌, ◌^◌, ◌++◌, length, set, take, drop, slice_index_or, IfOk};
 ghost use Rattle.descriptor_table.specs.Tallies.{total, AreGroupSums};
 
@@ -8,36 +8,56 @@ use std::marker::Model;
 /// So many numbers share a sum.
 const GROUP_SIZE: usize = 64;
 
-/// The sum of numbers.
-fn sum_of(numbers: &[usize]) -> usize
+/// The sum of small numbers.
+// Of its own, so that its loop is not unrolled whole but goes over several numbers at a time.
+#[inline(never)]
+fn sum_of(numbers: &[u8]) -> usize
     requires { total numbers.now < 2 ^ 63 }
     ensures { result ≡ total numbers.now }
 {
     let mut sum = 0;
     for number in numbers {
-        sum += *number;
+        sum += *number as usize;
     }
     sum
 }
 
-/// The sums of groups of numbers; those that are left at the end have none.
-fn group_sums<A: Allocator + Copy>(alloc: A, numbers: &[usize]) -> Result<Vec<usize, A>, AllocError>
-    requires { total numbers.now < 2 ^ 63 }
+/// The sum of sums.
+fn sum_of_sums(sums: &[usize]) -> usize
+    requires { total sums.now < 2 ^ 63 }
+    ensures { result ≡ total sums.now }
+{
+    let mut sum = 0;
+    for each in sums {
+        sum += *each;
+    }
+    sum
+}
+
+/// The sums of groups of numbers, of which the first are known; the numbers that are left at the end
+/// have none.
+fn group_sums<A: Allocator + Copy>(
+    alloc: A,
+    numbers: &[u8],
+    known: &[usize],
+) -> Result<Vec<usize, A>, AllocError>
+    requires { AreGroupSums numbers.now known.now }
     ensures { IfOk result (λ v. AreGroupSums numbers.now v.items) }
 {
     let count = numbers.len() / GROUP_SIZE;
     let mut sums = Vec::with_capacity(alloc, count)?;
-    for group in 0..count {
+    sums.extend_from_slice(known)?;
+    for group in known.len()..count {
         let first = group * GROUP_SIZE;
         sums.push(sum_of(&numbers[first..first + GROUP_SIZE]))?;
     }
     Ok(sums)
 }
 
-/// Numbers in a row, with the sums of groups of them.
+/// Small numbers in a row, with the sums of groups of them.
 #[derive(Drop)]
 pub(crate) struct Tally<A: Allocator = Global> {
-    numbers: Vec<usize, A>,
+    numbers: Vec<u8, A>,
     sums: Vec<usize, A>,
 }
 
@@ -54,21 +74,22 @@ impl<A: Allocator> Model for Tally<A> {
 
 impl<A: Allocator + Copy> Tally<A> {
     /// Numbers with the sums of their groups.
-    pub(crate) fn new(alloc: A, numbers: Vec<usize, A>) -> Result<Tally<A>, AllocError>
+    pub(crate) fn new(alloc: A, numbers: Vec<u8, A>) -> Result<Tally<A>, AllocError>
         requires { total numbers.items < 2 ^ 63 }
         ensures { IfOk result (λ t. t ≡ numbers.items) }
     {
-        let sums = group_sums(alloc, numbers.as_slice())?;
+        let sums = group_sums(alloc, numbers.as_slice(), &[])?;
         Ok(Tally { numbers, sums })
     }
 
     /// The numbers once others stand in the place of those between two indices.
+    #[tactic(auto, using(crate::proofs::Tallied::kept_sums))]
     pub(crate) fn with_part(
         &self,
         alloc: A,
         from: usize,
         to: usize,
-        part: &[usize],
+        part: &[u8],
     ) -> Result<Tally<A>, AllocError>
         requires order { (from ≤ to) × (to ≤ length self.now) }
         requires within { total (take from self.now ++ (part.now ++ drop to self.now)) < 2 ^ 63 }
@@ -79,7 +100,9 @@ impl<A: Allocator + Copy> Tally<A> {
         all.extend_from_slice(&numbers[..from])?;
         all.extend_from_slice(part)?;
         all.extend_from_slice(&numbers[to..])?;
-        Tally::new(alloc, all)
+        let kept = (from / GROUP_SIZE).min(self.sums.len());
+        let sums = group_sums(alloc, all.as_slice(), &self.sums[..kept])?;
+        Ok(Tally { numbers: all, sums })
     }
 
     /// Makes a number so much less and so much more.
@@ -87,15 +110,16 @@ impl<A: Allocator + Copy> Tally<A> {
         requires bound { index < length self.old }
         requires few { more < 2 ^ 63 }
         requires enough { less ≤ slice_index_or self.old index 0 + more }
+        requires fits { slice_index_or self.old index 0 + more - less < 2 ^ 8 }
         requires within { total (set self.old index (slice_index_or self.old index 0 + more - less)) < 2 ^ 63 }
         ensures { self.new ≡ set self.old index (slice_index_or self.old index 0 + more - less) }
     {
-        let number = self.numbers[index] + more - less;
-        self.set(index, number);
+        let number = self.numbers[index] as usize + more - less;
+        self.set(index, number as u8);
     }
 
     /// Puts a number in the place of another.
-    fn set(&mut self, index: usize, number: usize)
+    pub(crate) fn set(&mut self, index: usize, number: u8)
         requires bound { index < length self.old }
         requires within { total (set self.old index number) < 2 ^ 63 }
         ensures { self.new ≡ set self.old index number }
@@ -105,14 +129,23 @@ impl<A: Allocator + Copy> Tally<A> {
             self.numbers[index] = number;
             return;
         }
-        self.sums[group] = self.sums[group] - self.numbers[index] + number;
+        self.sums[group] = self.sums[group] - self.numbers[index] as usize + number as usize;
         self.numbers[index] = number;
+    }
+
+    /// The sum of all numbers.
+    pub(crate) fn sum(&self) -> usize
+        ensures { result ≡ total self.now }
+    {
+        let first = self.sums.len() * GROUP_SIZE;
+        sum_of_sums(self.sums.as_slice()) + sum_of(&self.numbers[first..])
     }
 
     /// So many numbers come before an index, and what the index is above their sum.
     pub(crate) fn find(&self, index: usize) -> (usize, usize)
         ensures bound { result.0 ≤ length self.now }
         ensures place { total (take result.0 self.now) + result.1 ≡ index }
+        ensures stop { result.0 < length self.now → result.1 < slice_index_or self.now result.0 0 }
     {
         let mut left = index;
         let mut group = 0;
@@ -121,8 +154,8 @@ impl<A: Allocator + Copy> Tally<A> {
             group += 1;
         }
         let mut count = group * GROUP_SIZE;
-        while count < self.numbers.len() && self.numbers[count] <= left {
-            left -= self.numbers[count];
+        while count < self.numbers.len() && self.numbers[count] as usize <= left {
+            left -= self.numbers[count] as usize;
             count += 1;
         }
         (count, left)

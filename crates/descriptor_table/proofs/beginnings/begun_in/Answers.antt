@@ -32,7 +32,7 @@ loop-leaf-preserved g c =
     let next : suc i ≡ i + 1 = omega arith in
     let same = c.runs.ensures ∙ c.leaf-item.is in
     let up = runs-left ((before ++ runs_in (take i ls)) ++ _) _ (subst AreRuns (all_with_leaf before ls i leaf (omega arith)) c.requires.runs) in
-    let grown = behind_all (before ++ runs_in (take i ls)) c.loop-leaf.last.now runs n c.loop-leaf.invariant.last (subst (λ l. AreRuns ((before ++ runs_in (take i ls)) ++ l)) (sym same) up) c.count_begun.ensures in
+    let grown = behind_all (before ++ runs_in (take i ls)) c.loop-leaf.last.now runs n c.loop-leaf.invariant.last (subst (λ l. AreRuns ((before ++ runs_in (take i ls)) ++ l)) (sym same) up) c.count_begun.ensures.count in
     let leaves = ap (λ l. take i ls ++ l ∷ []) same ∙ sym (with_leaf ls i leaf (omega arith)) ∙ ap (λ k. take k ls) next in
     let all = ap (λ l. (before ++ runs_in (take i ls)) ++ l) (c.runs-last.ensures ∙ c.leaf-item.is) ∙ sym (runs_with_leaf before ls i leaf (omega arith)) ∙ ap (λ k. before ++ runs_in (take k ls)) next in
     record {

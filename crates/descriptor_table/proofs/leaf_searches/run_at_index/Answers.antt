@@ -1,19 +1,27 @@
-use Rattle.std.proofs.Common.{◌+◌, ◌-◌, suc, length, drop, sym, ap, ap₂, ◌≡◌, ◌∙◌, arith}
+use Rattle.std.proofs.Common.{◌+◌, ◌<◌, length, take, get_or, sym, ap, ◌∙◌, arith}
+use Rattle.std.proofs.lemmas.List.{length-map, get_or-map}
 use Rattle.std.specs.Prelude.{slice_get}
 use Rattle.std.proofs.lemmas.Option.{slice_get_read}
-use Rattle.descriptor_table.specs.Leaves.{runs_in}
-use Rattle.descriptor_table.proofs.LeafLists.{run_in_this, run_behind_this}
+use Rattle.descriptor_table.specs.Tallies.{total}
+use Rattle.descriptor_table.proofs.LeafSizes.{run_of_leaf, run_of_none}
 use Rattle.descriptor_table.proofs.leaf_searches.run_at_index.Goals as goal
 
-pub returns-then-left-runs : goal.returns-then-left-runs
-returns-then-left-runs g c =
-    let same = c.runs-runs.ensures ∙ c.leaf-item.is in
-    let found = slice_get_read c.runs-runs.result.now (length c.runs-runs.result.now) c.loop-leaf.left c.index-runs-left.result (omega arith) (omega arith) c.index-runs-left.is in
-    sym (c.loop-leaf.invariant ∙ run_in_this c.args.leaves.now c.loop-leaf.leaf-index c.loop-leaf.left c.leaf-item.result (omega arith) (omega (arith, ap length same)) ∙ sym (ap (λ rs. slice_get rs c.loop-leaf.left) same) ∙ found)
+pub returns-then-count-leaves : goal.returns-then-count-leaves
+returns-then-count-leaves g c =
+    let count = c.find-count.result.0 in
+    let place = ap (λ ns. total (take count ns) + c.find-count.result.1) (sym c.requires) ∙ c.find-count.ensures.place in
+    sym (run_of_none c.args.leaves.now count c.find-count.result.1 c.args.index place (omega arith))
 
-pub loop-leaf-preserved : goal.loop-leaf-preserved
-loop-leaf-preserved g c =
-    let same = c.runs-runs.ensures ∙ c.leaf-item.is in
-    let k : suc c.loop-leaf.leaf-index ≡ c.loop-leaf.leaf-index + 1 = omega arith in
-    c.loop-leaf.invariant ∙ run_behind_this c.args.leaves.now c.loop-leaf.leaf-index c.loop-leaf.left c.leaf-item.result (omega arith) (omega (arith, ap length same))
-    ∙ ap₂ (λ i rs. slice_get (runs_in (drop i c.args.leaves.now)) (c.loop-leaf.left - length rs)) k (sym same)
+pub returns : goal.returns
+returns g c =
+    let ls = c.args.leaves.now in
+    let count = c.find-count.result.0 in
+    let left = c.find-count.result.1 in
+    let leaf = c.index-leaves-count.result in
+    let place = ap (λ ns. total (take count ns) + left) (sym c.requires) ∙ c.find-count.ensures.place in
+    let some : count < length ls = omega (arith, c.find-count.ensures.bound, ap length c.requires, length-map ls length) in
+    let size = ap (λ ns. get_or ns count 0) c.requires ∙ get_or-map length ls count leaf 0 some in
+    let low : left < length (get_or ls count leaf) = omega (arith, size, c.find-count.ensures.stop (omega (arith, some, ap length c.requires, length-map ls length))) in
+    let same = c.runs.ensures ∙ c.index-leaves-count.is in
+    let found = slice_get_read c.runs.result.now (length c.runs.result.now) left c.index-runs-left.result (omega arith) (omega (arith, low, ap length same)) c.index-runs-left.is in
+    sym (run_of_leaf ls count left c.args.index leaf place some low ∙ sym (ap (λ rs. slice_get rs left) same) ∙ found)

@@ -235,6 +235,7 @@ returns-clause-table g c =
       table = rw all (new_table (runs_in ls) n range t o table before old behind cut c.requires.some c.requires.present parts order pages c.requires.owner (n + c.count_entries-new_entries.result - c.count_entries-old_entries.result) (omega (arith, old_count, parts_count)));
       leaves = c.in_ok-put_parts.ensures.leaves;
       begun = c.in_ok-put_parts.ensures.begun;
+      sizes = c.in_ok-put_parts.ensures.sizes;
     }
 
 pub returns-clause-pages : goal.returns-clause-pages

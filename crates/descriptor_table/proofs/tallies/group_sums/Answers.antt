@@ -1,15 +1,17 @@
-use Rattle.std.proofs.Common.{◌≡◌, ◌+◌, ◌-◌, ◌*◌, length, take, drop, ap, ap₂, ◌∙◌, arith}
+use Rattle.std.proofs.Common.{◌≡◌, ◌+◌, ◌-◌, ◌*◌, ◌++◌, length, take, drop, ap, ap₂, ◌∙◌, arith}
 use Rattle.descriptor_table.specs.Tallies.{total}
-use Rattle.descriptor_table.proofs.Tallied.{total_part, no_sums, next_sum}
+use Rattle.descriptor_table.proofs.Tallied.{total_part, next_sum}
 use Rattle.descriptor_table.proofs.tallies.group_sums.Goals as goal
 
 pub sum_of-requires : goal.sum_of-requires
 sum_of-requires g c =
     let k = c.loop-group.group * 64 in
-    omega (arith, c.requires, total_part c.args.numbers.now k (k + 64 - k))
+    omega (arith, c.requires.within, total_part c.args.numbers.now k (k + 64 - k))
 
 pub loop-group-init : goal.loop-group-init
-loop-group-init g c = record { sums = rw c.in_ok-sums.ensures.items (no_sums c.args.numbers.now c.requires); count = omega (arith, ap length c.in_ok-sums.ensures.items) }
+loop-group-init g c =
+    let same = c.in_ok-extend_from_slice.ensures.items ∙ ap (λ xs. xs ++ c.args.known.now) c.in_ok-sums.ensures.items in
+    record { sums = rw same c.requires; count = ap length same }
 
 pub loop-group-preserved : goal.loop-group-preserved
 loop-group-preserved g c =

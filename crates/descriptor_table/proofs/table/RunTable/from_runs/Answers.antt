@@ -4,6 +4,7 @@ use Rattle.page_ranges.specs.Memory.{IsProperMemory}
 use Rattle.page_ranges.specs.Runs.{pages_of}
 use Rattle.page_ranges.proofs.RunLists.{some_pages_at}
 use Rattle.descriptor_table.proofs.Begun.{begin_within}
+use Rattle.descriptor_table.proofs.LeafSizes.{sizes_within}
 use Rattle.descriptor_table.proofs.CutRuns.{run_put_behind, up_to_next}
 use Rattle.descriptor_table.proofs.TableFacts.{proper_end_at, proper_ends}
 use Rattle.page_ranges.proofs.MaximalRuns.{maximal_are_runs}
@@ -45,6 +46,7 @@ invariant_of-result g c =
       });
       leaves = c.in_ok-leaves.ensures.leaves;
       begun = rw c.in_ok-begun.ensures (rw c.as_slice-3.ensures.value at c.in_ok-begun_in.ensures);
+      sizes = rw c.as_slice-4.ensures.value at (c.in_ok-sizes.ensures ∙ c.in_ok-sizes_of.ensures);
     }
 
 pub returns : goal.returns
@@ -76,3 +78,13 @@ new-requires g c =
     let all = take_all c.loop-run.run-index c.args.runs.now (omega arith) in
     let ends = proper_ends joined runs (subst IsProperMemory (sym (c.loop-run.invariant.pages ∙ ap pages_of all)) c.requires.proper) in
     begin_within c.in_ok-leaves.leaves.items c.in_ok-begun_in.field-0.items (rw same runs) (rw same ends) (rw c.as_slice-3.ensures.value at c.in_ok-begun_in.ensures)
+
+pub new-requires-2 : goal.new-requires-2
+new-requires-2 g c =
+    let joined = c.loop-run.joined.items in
+    let same = rw c.as_slice-2.ensures.value at c.in_ok-leaves.ensures.runs in
+    let runs = maximal_are_runs joined c.loop-run.invariant.order in
+    let all = take_all c.loop-run.run-index c.args.runs.now (omega arith) in
+    let ends = proper_ends joined runs (subst IsProperMemory (sym (c.loop-run.invariant.pages ∙ ap pages_of all)) c.requires.proper) in
+    let sizes = rw c.as_slice-4.ensures.value at c.in_ok-sizes_of.ensures in
+    rw sizes (sizes_within c.in_ok-leaves.leaves.items (rw same runs) (rw same ends))

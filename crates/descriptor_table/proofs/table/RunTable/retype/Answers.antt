@@ -18,4 +18,4 @@ pub invariant_of-self-then-range-gt0 : goal.invariant_of-self-then-range-gt0
 invariant_of-self-then-range-gt0 g c = c.in_ok-self-inside.ensures.table
 
 pub invariant_of-self : goal.invariant_of-self
-invariant_of-self g c = rw (c.in_err-self-inside.ensures.err.0, c.in_err-self-inside.ensures.err.1) c.self.invariant
+invariant_of-self g c = rw (c.in_err-self-inside.ensures.err.0, c.in_err-self-inside.ensures.err.1, c.in_err-self-inside.ensures.err.2) c.self.invariant

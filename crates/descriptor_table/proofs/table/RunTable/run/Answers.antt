@@ -2,6 +2,9 @@ use Rattle.descriptor_table.specs.Leaves.{runs_in}
 use Rattle.descriptor_table.proofs.TableFacts.{table_runs_of}
 use Rattle.descriptor_table.proofs.table.RunTable.run.Goals as goal
 
+pub run_at_index-requires : goal.run_at_index-requires
+run_at_index-requires g c = rw c.as_slice.ensures.value c.self.invariant.sizes
+
 pub returns : goal.returns
 returns g c =
     let e = table_runs_of (runs_in c.self.inside.leaves.items) c.self.inside.entries c.self.invariant.table in
