@@ -1,0 +1,3 @@
+pub mod Blocks
+pub mod Lending
+pub mod Places

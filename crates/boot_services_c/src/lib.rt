@@ -1,0 +1,11 @@
+//! The boot services as a library for C: each function of include/rafkudin.h is an export here. It calls the
+//! function of `c_interface` for it, and is proved to do what that is proved to do.
+#![tactic(auto)]
+
+mod blocks;
+mod handle;
+mod making;
+mod memory;
+mod place;
+mod protocols;
+mod told;

@@ -1,0 +1,80 @@
+//! Cores made and given back.
+ghost use Rattle.std.specs.Prelude.{◌≡◌, ◌<◌, Ok, Err, IfSome, MatchOption, MatchResult};
+ghost use Rattle.std.specs.Borrow.{sem};
+ghost use Rattle.c_interface.specs.Making.{MakesCore};
+ghost use Rattle.boot_services_c.specs.Places.{freed_at};
+
+use crate::blocks::Block;
+use crate::handle::Rafkudin;
+use crate::place::Place;
+use c_interface::EfiCore;
+use c_machines::DriverTable;
+use page_ranges::Status;
+use std::alloc::Global;
+
+/// Makes a core of EFI_MEMORY_DESCRIPTORs, a granule of 1 or 16 pages and up to 64 drivers, and puts its
+/// pointer into the place `core`, which a refusal leaves as it is.
+///
+/// INVALID_PARAMETER: the records tell no machine, or the tables are none of drivers. OUT_OF_RESOURCES:
+/// memory ran out.
+#[unsafe(no_mangle)]
+pub extern "C" fn RafkudinMake(
+    alloc: Global,
+    records: &[u8],
+    descriptor_size: usize,
+    granule: u64,
+    drivers: &[DriverTable],
+    core: &mut Place,
+) -> u64
+    ensures made { result ≡ 0 → MatchOption core.new.held ⊥ (λ handle. MakesCore descriptor_size records.now granule drivers.now (Ok handle.core)) }
+    ensures refused { 0 < result → MakesCore descriptor_size records.now granule drivers.now (Err result) × (core.new ≡ core.old) }
+{
+    match made(alloc, records, descriptor_size, granule, drivers) {
+        Ok(place) => {
+            *core = place;
+            Status::Success.number()
+        }
+        Err(status) => status,
+    }
+}
+
+/// Gives back all memory of a core. A null pointer is allowed, and then nothing is done.
+#[unsafe(no_mangle)]
+pub unsafe extern "C" fn RafkudinFree(alloc: Global, core: *mut Rafkudin)
+    requires* { sem 𝓛 (freed_at alloc core) }
+{
+    if !core.is_null() {
+        free(Block {
+            start: core,
+            heap: alloc,
+        });
+    }
+}
+
+/// The pointer to a core that is made.
+fn made(
+    alloc: Global,
+    records: &[u8],
+    descriptor_size: usize,
+    granule: u64,
+    drivers: &[DriverTable],
+) -> Result<Place, u64>
+    ensures { MatchResult result (λ place. MatchOption place.held ⊥ (λ handle. MakesCore descriptor_size records.now granule drivers.now (Ok handle.core))) (λ status. MakesCore descriptor_size records.now granule drivers.now (Err status)) }
+{
+    let core = EfiCore::make(alloc, records, descriptor_size, granule, drivers)?;
+    pointer_to(alloc, core).ok_or(Status::OutOfResources.number())
+}
+
+/// The pointer to a core that is moved to the heap; none where memory runs out.
+fn pointer_to(alloc: Global, core: EfiCore) -> Option<Place>
+    ensures { IfSome result (λ place. MatchOption place.held ⊥ (λ handle. handle.core ≡ core)) }
+{
+    let core = Box::new(alloc, core).ok()?;
+    let handle = Box::new(alloc, Rafkudin::new(Block::new(core))).ok()?;
+    Some(Place::new(Block::new(handle)))
+}
+
+/// Gives back what the core in a block takes.
+fn free(core: Block<Rafkudin, Global>) {
+    drop(core.boxed());
+}

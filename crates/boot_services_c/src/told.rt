@@ -1,0 +1,83 @@
+//! What is told of a core without a call of a service.
+ghost use Rattle.std.specs.Prelude.{◌≡◌, length, slice_get};
+ghost use Rattle.page_ranges.specs.MemoryMap.{memory_map};
+ghost use Rattle.c_interface.specs.Buffers.{laid};
+ghost use Rattle.c_interface.specs.Checks.{ChecksBlock, TellsEntry};
+ghost use Rattle.c_interface.specs.EfiCores.{last_events};
+ghost use Rattle.c_interface.specs.Served.{TellsBlock};
+
+use crate::handle::Rafkudin;
+use c_interface::MapEntry;
+use std::alloc::Global;
+
+/// Keeps the certificates of placements from now on, or keeps none.
+#[unsafe(no_mangle)]
+pub extern "C" fn RafkudinCertify(core: &mut Rafkudin, certify: bool)
+    ensures { core.new.core ≡ record { core = core.old.core.core; certifies = certify; last = core.old.core.last; block = core.old.core.block } }
+{
+    core.held().certify(certify);
+}
+
+/// The block of the certificate of the last service that was called, in the front of `text`; the place
+/// `length` is told its bytes.
+///
+/// NOT_FOUND: there is none. BUFFER_TOO_SMALL: the place is told the bytes that are needed.
+/// OUT_OF_RESOURCES: memory ran out for it.
+#[unsafe(no_mangle)]
+pub extern "C" fn RafkudinCertificate(core: &mut Rafkudin, text: &mut [u8], length: &mut u64) -> u64
+    ensures told { TellsBlock core.old.core.block text.old length.old result text.new length.new }
+    ensures kept { core.new.core ≡ core.old.core }
+{
+    core.held().block(text, length)
+}
+
+/// Judges a certificate block: SUCCESS if it is accepted.
+///
+/// ACCESS_DENIED: it is refused. INVALID_PARAMETER: it is no block; the place `line` is told its first line
+/// that is wrong or missing. OUT_OF_RESOURCES: memory ran out.
+#[unsafe(no_mangle)]
+pub extern "C" fn RafkudinCheck(alloc: Global, text: &[u8], line: &mut u64) -> u64
+    ensures { ChecksBlock text.now line.old result line.new }
+{
+    c_interface::check_block(alloc, text, line)
+}
+
+/// How many events the last service that was called signals; the first of them are laid into `events`, as
+/// many as it has room for.
+#[unsafe(no_mangle)]
+pub extern "C" fn RafkudinEvents(core: &mut Rafkudin, events: &mut [u64]) -> usize
+    ensures count { result ≡ length (last_events core.old.core) }
+    ensures events { events.new ≡ laid (last_events core.old.core) events.old }
+    ensures kept { core.new.core ≡ core.old.core }
+{
+    core.held().events(events)
+}
+
+/// How many entries the memory map has.
+#[unsafe(no_mangle)]
+pub extern "C" fn RafkudinDescriptors(core: &mut Rafkudin) -> usize
+    ensures count { result ≡ length (memory_map core.old.core.core.state.parts.book.memory) }
+    ensures kept { core.new.core ≡ core.old.core }
+{
+    core.held().descriptors()
+}
+
+/// The entry of the memory map at an index, by ascending address.
+///
+/// NOT_FOUND: there is none.
+#[unsafe(no_mangle)]
+pub extern "C" fn RafkudinDescriptor(core: &mut Rafkudin, index: usize, entry: &mut MapEntry) -> u64
+    ensures told { TellsEntry (slice_get (memory_map core.old.core.core.state.parts.book.memory) index) entry.old result entry.new }
+    ensures kept { core.new.core ≡ core.old.core }
+{
+    core.held().descriptor(index, entry)
+}
+
+/// How many calls of services may still be made: 2^31 at first.
+#[unsafe(no_mangle)]
+pub extern "C" fn RafkudinCallsLeft(core: &mut Rafkudin) -> u64
+    ensures count { result ≡ core.old.core.core.state.calls_left }
+    ensures kept { core.new.core ≡ core.old.core }
+{
+    core.held().calls_left()
+}
