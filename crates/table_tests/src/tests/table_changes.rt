@@ -1,4 +1,4 @@
-//! Generated changes of small tables, against a plain list of pages.
+//! Generated changes of tables, against a plain list of pages.
 ghost use Rattle.std.specs.Prelude.{◌≡◌, ◌≢◌, ◌↔◌, IsTrue, IfOk};
 ghost use Rattle.page_ranges.specs.declared.ranges.Owner.TheVariants.{Given};
 ghost use Rattle.page_ranges.specs.MemoryTypes.{conventional};
@@ -222,6 +222,37 @@ fn assert_cursor(rt: &impl Abort, table: &RunTable, runs: &[Run]) {
     }
 }
 
+// Whether a block is one of a run's kind that holds a page; both may be none.
+fn is_block_of(block: Option<Descriptor>, run: Option<Run>, page: u64) -> bool {
+    match (block, run) {
+        (Some(block), Some(run)) => {
+            let range = PageRange {
+                first: block.first,
+                pages: block.pages,
+            };
+            block.mtype == run.mtype && block.attributes == run.attributes && is_in(range, page)
+        }
+        (None, None) => true,
+        _ => false,
+    }
+}
+
+// Asserts that the free entries are those of the plain list, and what is told of the pages beside each.
+fn assert_free(rt: &impl Abort, table: &RunTable, entries: &[Run]) {
+    let mut found = table.free_entries();
+    for entry in entries {
+        if entry.mtype.number() == 7 {
+            let free = found.next_entry().expect(rt, "a free entry");
+            let below = entry.range.first.wrapping_sub(1);
+            let above = entry.range.first.saturating_add(entry.range.pages);
+            assert!(rt; free.entry == entry_of(entry));
+            assert!(rt; is_block_of(free.below, holding(entries, below), below));
+            assert!(rt; is_block_of(free.above, holding(entries, above), above));
+        }
+    }
+    assert!(rt; found.next_entry().is_none());
+}
+
 // Asserts that the runs and the map are those of the plain list.
 fn assert_lists(rt: &impl Abort, table: &RunTable, runs: &[Run], entries: &[Run]) {
     assert_eq!(rt; table.len(), runs.len());
@@ -229,12 +260,15 @@ fn assert_lists(rt: &impl Abort, table: &RunTable, runs: &[Run], entries: &[Run]
     for (index, run) in runs.iter().enumerate() {
         assert_eq!(rt; table.run(index), Some(*run));
     }
+    assert!(rt; table.run(runs.len()).is_none());
     let mut found = table.map_entries();
     for (index, entry) in entries.iter().enumerate() {
         assert_eq!(rt; found.next(), Some(entry_of(entry)));
         assert_eq!(rt; table.descriptor(index), Some(entry_of(entry)));
     }
     assert_eq!(rt; found.next(), None);
+    assert!(rt; table.descriptor(entries.len()).is_none());
+    assert_free(rt, table, entries);
 }
 
 // Asserts what is answered of ranges that begin at a page.
@@ -290,13 +324,13 @@ fn large_machine() -> [Run; 1]
     ensures runs { AreRuns result }
     ensures proper { IsProperMemory (pages_of result) }
 {
-    [run(0, 4_096, 7, 0xf)]
+    [run(0, 8_192, 7, 0xf)]
 }
 
 // A drawn range, mostly of few pages.
 fn drawn_range(draw: u64) -> PageRange {
     PageRange {
-        first: draw >> 30 & 4_095,
+        first: draw >> 30 & 8_191,
         pages: match draw >> 44 & 1_023 {
             0 => 300,
             pages => pages % 4,
@@ -318,19 +352,31 @@ fn assert_page(rt: &impl Abort, table: &RunTable, runs: &[Run], page: u64) {
     assert_eq!(rt; cursor.run_at(page), found);
 }
 
-// Asserts what is answered at the ends of a range, and now and then the whole lists.
+// Asserts how many runs and entries there are, and what is answered of drawn indices.
+fn assert_indices(rt: &impl Abort, table: &RunTable, runs: &[Run], entries: &[Run], draw: u64) {
+    assert!(rt; table.len() == runs.len());
+    assert!(rt; table.descriptors() == entries.len());
+    assert!(rt; !table.is_empty());
+    for shift in [4, 20, 36] {
+        let place = (draw >> shift & 4_095) as usize;
+        assert!(rt; table.run(place) == runs.get(place).copied());
+        assert!(rt; table.descriptor(place) == entries.get(place).map(entry_of));
+    }
+}
+
+// Asserts what is answered of drawn indices, at the ends of a range and of ranges that begin there, and
+// now and then the whole lists.
 fn assert_changed(
     rt: &(impl AllocGlobal + Abort),
     table: &RunTable,
     list: &[Run],
     range: PageRange,
+    draw: u64,
 ) -> Result<(), AllocError> {
     let runs = joined(rt.alloc(), list, true)?;
     let entries = joined(rt.alloc(), list, false)?;
-    assert_eq!(rt; table.len(), runs.len());
-    assert_eq!(rt; table.descriptors(), entries.len());
-    let place = range.first as usize / 2;
-    assert_eq!(rt; table.descriptor(place), entries.get(place).map(entry_of));
+    assert_indices(rt, table, runs.as_slice(), entries.as_slice(), draw);
+    assert_ranges(rt, table, list, range.first);
     let end = range.first.saturating_add(range.pages);
     assert_page(rt, table, runs.as_slice(), range.first);
     assert_page(rt, table, runs.as_slice(), end);
@@ -352,7 +398,7 @@ fn change_drawn(
     if are_present(table, range) {
         table.retype(range, MemoryType::new(number), owner)?;
         change_list(list, range, number, owner);
-        assert_changed(rt, table, list, range)?;
+        assert_changed(rt, table, list, range, draw)?;
     }
     Ok(())
 }
@@ -362,11 +408,12 @@ fn changes_of_many_runs_are_those_of_the_pages(rt: HostRuntime) -> Result<(), Al
     let mut draw = 2;
     let mut table = RunTable::from_runs(rt.alloc(), &large_machine())?;
     let mut list = listed(rt.alloc(), &large_machine())?;
+    stripe(&mut table, list.as_mut_slice(), 0, 8_192)?;
     for _change in 0..20_000 {
         draw = next_draw(draw);
         change_drawn(&rt, &mut table, list.as_mut_slice(), draw)?;
+        assert!(rt; table.len() > 3_000);
     }
-    assert!(rt; table.len() > 500);
     Ok(())
 }
 

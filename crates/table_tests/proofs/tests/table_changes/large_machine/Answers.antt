@@ -7,7 +7,7 @@ use Rattle.page_ranges.proofs.RunLists.{proper_pages}
 use Rattle.table_tests.proofs.tests.table_changes.large_machine.Goals as goal
 
 abbrev runs : List Run
-runs = record { range = record { first = 0; pages = 4096 }; mtype = 7; attributes = 0xf; owner = Given } ∷ []
+runs = record { range = record { first = 0; pages = 8192 }; mtype = 7; attributes = 0xf; owner = Given } ∷ []
 
 proper : IsProperMemory (pages_of runs)
 proper = proper_pages runs (omega arith, tt, tt) (record { within = omega arith; given = λ e. refl; no_runtime = λ e. refl }, tt)
