@@ -1,0 +1,51 @@
+/* What the library wants of a program that it is linked to: a heap, here that of the C library.
+ *
+ * The proofs take for granted that a block of `size` bytes begins at a multiple of `align`, a power
+ * of two up to 16 that divides `size`, as blocks of malloc and realloc do; and that nothing else of
+ * the program uses it until it is given back. */
+#include <stdbool.h>
+#include <stddef.h>
+#include <stdlib.h>
+
+/* Where a block begins, if it was not refused. */
+struct block {
+    bool given;
+    void *start;
+};
+
+struct block rattle_alloc(size_t size, size_t align);
+struct block rattle_realloc(void *start, size_t kept, size_t size, size_t align);
+void rattle_dealloc(void *start);
+
+/* malloc and realloc may answer NULL for no bytes, which is no refusal. */
+static size_t some_bytes(size_t size, size_t align)
+{
+    return size == 0 ? align : size;
+}
+
+/* A refused block begins somewhere too. */
+static struct block block_at(void *start)
+{
+    static char nowhere;
+
+    if (start == NULL)
+        return (struct block){false, &nowhere};
+    return (struct block){true, start};
+}
+
+struct block rattle_alloc(size_t size, size_t align)
+{
+    return block_at(malloc(some_bytes(size, align)));
+}
+
+/* The first `kept` bytes stay. Where it is refused, the old block stays. */
+struct block rattle_realloc(void *start, size_t kept, size_t size, size_t align)
+{
+    (void)kept;
+    return block_at(realloc(start, some_bytes(size, align)));
+}
+
+void rattle_dealloc(void *start)
+{
+    free(start);
+}
