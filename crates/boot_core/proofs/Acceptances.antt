@@ -29,17 +29,20 @@ use Rattle.open_agents.specs.OpenItems.{items_on}
 use Rattle.protocol_services.specs.ListBytes.{handle_bytes, item_bytes}
 use Rattle.protocol_services.proofs.ListSizes.{handle_bytes-length, item_bytes-length}
 use Rattle.driver_connect.specs.Drivers.{Meaning}
-use Rattle.boot_core.specs.declared.calls.PoolList.{PoolList}
-use Rattle.boot_core.specs.declared.calls.Call.{Call}
-use Rattle.boot_core.specs.declared.calls.Call.TheVariants as call
-use Rattle.boot_core.specs.declared.calls.Reply.{Reply}
-use Rattle.boot_core.specs.declared.calls.Reply.TheVariants as reply
-use Rattle.boot_core.specs.MachineRuns.{HasRecordNumbers}
-use Rattle.boot_core.specs.Machines.{IsMachine, MachineValue, Parts, State, AreSound, first_state}
-use Rattle.boot_core.specs.Certified.{certificate_in, left_request}
-use Rattle.boot_core.specs.PoolLists.{LocatesBuffer, ListsOpens, PutsItems, list_type}
+use Rattle.boot_replies.specs.declared.replies.PoolList.{PoolList}
+use Rattle.boot_calls.specs.declared.calls.Call.{Call}
+use Rattle.boot_calls.specs.declared.calls.Call.TheVariants as call
+use Rattle.boot_replies.specs.declared.replies.Reply.{Reply}
+use Rattle.boot_replies.specs.declared.replies.Reply.TheVariants as reply
+use Rattle.boot_machines.specs.MachineRuns.{HasRecordNumbers}
+use Rattle.boot_machines.specs.Machines.{IsMachine, MachineValue}
+use Rattle.boot_core.specs.Machines.{Parts, State, AreSound, first_state}
+use Rattle.boot_replies.specs.Certified.{certificate_in, left_request}
+use Rattle.boot_core.specs.PoolLists.{LocatesBuffer, ListsOpens, PutsItems}
+use Rattle.boot_replies.specs.Certified.{list_type}
 use Rattle.boot_core.specs.Steps.{best_starts, Answers, CallRun}
-use Rattle.boot_core.specs.Laws.{IsAcceptedReply, AllAccepted, NamesTypes}
+use Rattle.boot_core.specs.Laws.{IsAcceptedReply, AllAccepted}
+use Rattle.boot_calls.specs.CallNumbers.{NamesTypes}
 use Rattle.boot_core.proofs.Outcomes.{stays_typed, stays_fitting, outcome, proper_request}
 use Rattle.boot_core.proofs.RecordPages.{HaveFields, first_fields, record_entries}
 use Rattle.boot_core.proofs.Soundness.{first_sound, stays_sound}

@@ -5,7 +5,8 @@ use Rattle.open_agents.specs.declared.items.OpenRecord.{OpenRecord}
 use Rattle.protocol_services.specs.Lists.{Lists, HasRoom, IsRaised}
 use Rattle.protocol_services.specs.Driving.{HasRoomToConnect}
 use Rattle.protocol_services.specs.Removing.{HasRoomToReinstall}
-use Rattle.boot_core.specs.Machines.{MachineValue, Parts, CoreValue, FollowsCalls, all_calls, first_state}
+use Rattle.boot_machines.specs.Machines.{MachineValue}
+use Rattle.boot_core.specs.Machines.{Parts, CoreValue, FollowsCalls, all_calls, first_state}
 
 weaken : (P Q : OpenRecord → Type 0) → ((o : OpenRecord) → P o → Q o) → (opens : List OpenRecord) → AllByRecursion P opens → AllByRecursion Q opens
 weaken P Q f [] a = tt

@@ -3,11 +3,12 @@ use Rattle.std.proofs.Common.{◌+◌, ◌*◌, ◌≤◌, List, [], ◌∷◌, 
 use Rattle.page_ranges.specs.MemoryMap.{memory_map}
 use Rattle.page_ranges.proofs.RunMaps.{entries_at_most}
 use Rattle.page_services.proofs.Choices.{Permits}
-use Rattle.boot_core.specs.declared.calls.Call.{Call}
-use Rattle.boot_core.specs.declared.calls.Reply.{Reply}
-use Rattle.boot_core.specs.Machines.{IsMachine, MachineValue, State, AreSound, first_state}
+use Rattle.boot_calls.specs.declared.calls.Call.{Call}
+use Rattle.boot_replies.specs.declared.replies.Reply.{Reply}
+use Rattle.boot_machines.specs.Machines.{IsMachine, MachineValue}
+use Rattle.boot_core.specs.Machines.{State, AreSound, first_state}
 use Rattle.boot_core.specs.Steps.{Setting, CallRunBy}
-use Rattle.boot_core.specs.Laws.{NamesTypes}
+use Rattle.boot_calls.specs.CallNumbers.{NamesTypes}
 use Rattle.boot_core.proofs.Outcomes.{outcome, map_grows}
 use Rattle.boot_core.proofs.Soundness.{first_sound, stays_sound}
 

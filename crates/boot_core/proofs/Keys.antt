@@ -3,14 +3,15 @@ use Rattle.std.proofs.Common.{◌≡◌, ◌↔◌, ℕ, ◌+◌, ◌-◌, ◌�
 use Rattle.page_ranges.specs.declared.statuses.Status.{Status}
 use Rattle.page_ranges.specs.declared.statuses.Status.TheVariants as status
 use Rattle.page_services.proofs.Choices.{Permits}
-use Rattle.boot_core.specs.declared.calls.Call.{Call}
-use Rattle.boot_core.specs.declared.calls.Call.TheVariants as call
-use Rattle.boot_core.specs.declared.calls.Reply.{Reply}
-use Rattle.boot_core.specs.declared.calls.Reply.TheVariants as reply
+use Rattle.boot_calls.specs.declared.calls.Call.{Call}
+use Rattle.boot_calls.specs.declared.calls.Call.TheVariants as call
+use Rattle.boot_replies.specs.declared.replies.Reply.{Reply}
+use Rattle.boot_replies.specs.declared.replies.Reply.TheVariants as reply
 use Rattle.map_keys.specs.declared.memory_maps.MapReply.{MapReply}
 use Rattle.boot_core.specs.Machines.{Parts, State, AreSound}
 use Rattle.boot_core.specs.Steps.{Setting, Answers, Exits, StepBy, CallRunBy}
-use Rattle.boot_core.specs.Laws.{ChangesNoType, ChangesTypes, TellsKey, GivesKey, NamesTypes}
+use Rattle.boot_core.specs.Laws.{ChangesNoType, ChangesTypes, TellsKey, GivesKey}
+use Rattle.boot_calls.specs.CallNumbers.{NamesTypes}
 use Rattle.boot_core.proofs.MapReplies.{told_key, told_directly}
 use Rattle.boot_core.proofs.Outcomes.{key_rises, type_or_not, outcome}
 use Rattle.boot_core.proofs.Soundness.{stays_sound}

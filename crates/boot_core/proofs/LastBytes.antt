@@ -6,10 +6,10 @@ use Rattle.page_services.proofs.Choices.{best_is_permitted}
 use Rattle.pool_services.specs.Laws.{byte_at, first_of, laid}
 use Rattle.pool_services.proofs.PoolBytes.{laid-in}
 use Rattle.driver_connect.specs.Drivers.{Meaning}
-use Rattle.boot_core.specs.declared.calls.Call.{Call}
-use Rattle.boot_core.specs.declared.calls.Call.TheVariants as call
-use Rattle.boot_core.specs.declared.calls.Reply.{Reply}
-use Rattle.boot_core.specs.declared.calls.Reply.TheVariants as reply
+use Rattle.boot_calls.specs.declared.calls.Call.{Call}
+use Rattle.boot_calls.specs.declared.calls.Call.TheVariants as call
+use Rattle.boot_replies.specs.declared.replies.Reply.{Reply}
+use Rattle.boot_replies.specs.declared.replies.Reply.TheVariants as reply
 use Rattle.boot_core.specs.Machines.{State, AreSound}
 use Rattle.boot_core.specs.Steps.{best_starts, Step, CallRun}
 use Rattle.boot_core.specs.Laws.{gives_back, laid_over, lays, left_by, LeavesByte}

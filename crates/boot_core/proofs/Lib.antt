@@ -1,4 +1,3 @@
-pub mod MachineRunLists
 pub mod RecordPages
 pub mod Serving
 pub mod AnySteps

@@ -10,8 +10,8 @@ use Rattle.map_keys.specs.MapReplies.{descriptor_version, map_size, map_reply, b
 use Rattle.map_keys.specs.Records.{record_size, records}
 use Rattle.map_keys.proofs.RecordLists.{length_records}
 use Rattle.driver_connect.specs.Drivers.{Meaning}
-use Rattle.boot_core.specs.declared.calls.Call.TheVariants.{GetMemoryMap}
-use Rattle.boot_core.specs.declared.calls.Reply.TheVariants as reply
+use Rattle.boot_calls.specs.declared.calls.Call.TheVariants.{GetMemoryMap}
+use Rattle.boot_replies.specs.declared.replies.Reply.TheVariants as reply
 use Rattle.boot_core.specs.Machines.{Parts, State}
 use Rattle.boot_core.specs.MapCalls.{refused_map, map_bytes, room_for_map, AnswersMap}
 use Rattle.boot_core.specs.Steps.{WhileOpen, MapStep, Step}

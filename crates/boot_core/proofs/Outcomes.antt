@@ -23,18 +23,20 @@ use Rattle.page_services.proofs.Granules.{freed_names, freed_owned, placement_re
 use Rattle.pool_services.specs.Extents.{Extent, Place, AreExtents, ended, extent_pages, first_fit, pages_for}
 use Rattle.pool_services.specs.PoolRules.{Answer, AllocatesPool, FillsPool, FreesPool, IsPut, OwnsExtents, WritesPool, given_if}
 use Rattle.pool_services.proofs.KeptPools.{ended-owned}
-use Rattle.boot_core.specs.declared.calls.Call.{Call}
-use Rattle.boot_core.specs.declared.calls.Call.TheVariants as call
-use Rattle.boot_core.specs.declared.calls.Reply.{Reply}
+use Rattle.boot_calls.specs.declared.calls.Call.{Call}
+use Rattle.boot_calls.specs.declared.calls.Call.TheVariants as call
+use Rattle.boot_replies.specs.declared.replies.Reply.{Reply}
 use Rattle.boot_core.specs.Machines.{Parts, AreSound}
 use Rattle.open_agents.specs.declared.items.OpenItem.{OpenItem}
 use Rattle.open_agents.specs.OpenItems.{items_on}
 use Rattle.protocol_services.specs.ListBytes.{handle_bytes, item_bytes}
-use Rattle.boot_core.specs.declared.calls.PoolList.{PoolList}
-use Rattle.boot_core.specs.PoolLists.{LocatesBuffer, ListsOpens, PutsItems, list_type}
+use Rattle.boot_replies.specs.declared.replies.PoolList.{PoolList}
+use Rattle.boot_core.specs.PoolLists.{LocatesBuffer, ListsOpens, PutsItems}
+use Rattle.boot_replies.specs.Certified.{list_type}
 use Rattle.boot_core.specs.Steps.{Setting, OnBook, OnBookAndPools, OnPools, Serves, Answers}
 use Rattle.boot_core.proofs.Quiet.{quiet}
-use Rattle.boot_core.specs.Laws.{type_at, HaveSameTypes, NamesTypes}
+use Rattle.boot_core.specs.Laws.{type_at, HaveSameTypes}
+use Rattle.boot_calls.specs.CallNumbers.{NamesTypes}
 use Rattle.boot_core.proofs.RecordPages.{HaveFields, retyped-fields}
 
 -- ---- one page, before and after it gets a type

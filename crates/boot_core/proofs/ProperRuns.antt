@@ -10,11 +10,12 @@ use Rattle.protocol_services.specs.ProperLists.{AreProperLists}
 use Rattle.protocol_services.proofs.ProperRules.{found_proper, installs_many, installs_one, locates_handles, locates_protocol, registers, same}
 use Rattle.protocol_services.proofs.ProperOpens.{closes, handles_protocol, opens_protocol}
 use Rattle.protocol_services.proofs.ProperRemovals.{connects_controller, disconnects_controller, reinstalls, uninstalls}
-use Rattle.boot_core.specs.declared.calls.Call.{Call}
-use Rattle.boot_core.specs.declared.calls.Call.TheVariants as call
-use Rattle.boot_core.specs.declared.calls.PoolList.{PoolList}
-use Rattle.boot_core.specs.declared.calls.Reply.{Reply}
-use Rattle.boot_core.specs.Machines.{MachineValue, Parts, State, first_state}
+use Rattle.boot_calls.specs.declared.calls.Call.{Call}
+use Rattle.boot_calls.specs.declared.calls.Call.TheVariants as call
+use Rattle.boot_replies.specs.declared.replies.PoolList.{PoolList}
+use Rattle.boot_replies.specs.declared.replies.Reply.{Reply}
+use Rattle.boot_machines.specs.Machines.{MachineValue}
+use Rattle.boot_core.specs.Machines.{Parts, State, first_state}
 use Rattle.boot_core.specs.PoolLists.{ListsOpens, LocatesBuffer, PutsItems}
 use Rattle.boot_core.specs.Steps.{Setting, WhileOpen, Serves, Answers, CallRunBy}
 

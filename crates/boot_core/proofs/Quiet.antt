@@ -1,9 +1,9 @@
 -- Which calls leave the book and the pool as they are.
 use Rattle.std.proofs.Common.{◌≡◌, Bool, true, false, Result, ap}
 use Rattle.page_ranges.specs.declared.statuses.Status.{Status}
-use Rattle.boot_core.specs.declared.calls.Call.{Call}
-use Rattle.boot_core.specs.declared.calls.Call.TheVariants as call
-use Rattle.boot_core.specs.declared.calls.Reply.{Reply}
+use Rattle.boot_calls.specs.declared.calls.Call.{Call}
+use Rattle.boot_calls.specs.declared.calls.Call.TheVariants as call
+use Rattle.boot_replies.specs.declared.replies.Reply.{Reply}
 use Rattle.boot_core.specs.Machines.{Parts}
 use Rattle.boot_core.specs.Steps.{Setting, WhileOpen, Serves, Answers}
 

@@ -6,10 +6,11 @@ use Rattle.page_ranges.specs.declared.statuses.Status.TheVariants.{Success, Inva
 use Rattle.pool_services.specs.Extents.{Extent}
 use Rattle.pool_services.specs.PoolRules.{ReadsPool}
 use Rattle.driver_connect.specs.Drivers.{Meaning}
-use Rattle.boot_core.specs.declared.calls.Call.TheVariants.{PoolRead}
-use Rattle.boot_core.specs.declared.calls.Reply.TheVariants as reply
+use Rattle.boot_calls.specs.declared.calls.Call.TheVariants.{PoolRead}
+use Rattle.boot_replies.specs.declared.replies.Reply.TheVariants as reply
 use Rattle.boot_core.specs.Machines.{Parts, State}
-use Rattle.boot_core.specs.PoolCalls.{AnswersRead, told_status}
+use Rattle.boot_core.specs.PoolCalls.{AnswersRead}
+use Rattle.boot_replies.specs.Told.{told_status}
 use Rattle.boot_core.specs.Steps.{WhileOpen, ReadStep, Step}
 use Rattle.boot_core.specs.Laws.{read_size}
 

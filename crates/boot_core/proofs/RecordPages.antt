@@ -16,7 +16,7 @@ use Rattle.page_ranges.proofs.Lookups.{page_at-all}
 use Rattle.page_ranges.proofs.Members.{member_first, member_later}
 use Rattle.page_ranges.proofs.Rows.{all-row}
 use Rattle.map_keys.specs.Records.{IsRecordEntry}
-use Rattle.boot_core.specs.MachineRuns.{HasRecordNumbers}
+use Rattle.boot_machines.specs.MachineRuns.{HasRecordNumbers}
 
 pub record FitsFields (x : Page) : Type 0 where
   pub mtype : x.mtype < 2 ^ 32

@@ -1,8 +1,8 @@
 -- Runs, call after call.
 use Rattle.std.proofs.Common.{◌≡◌, ℕ, ◌+◌, ◌<◌, List, [], ◌∷◌, ◌++◌, length, take, get_or, refl, subst}
 use Rattle.std.proofs.lemmas.List.{take_more}
-use Rattle.boot_core.specs.declared.calls.Call.{Call}
-use Rattle.boot_core.specs.declared.calls.Reply.{Reply}
+use Rattle.boot_calls.specs.declared.calls.Call.{Call}
+use Rattle.boot_replies.specs.declared.replies.Reply.{Reply}
 use Rattle.boot_core.specs.Machines.{State}
 use Rattle.boot_core.specs.Steps.{Setting, StepBy, CallRunBy}
 

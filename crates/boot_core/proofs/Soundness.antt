@@ -11,16 +11,18 @@ use Rattle.pool_services.specs.PoolRules.{Answer, AllocatesPool, FillsPool, Free
 use Rattle.pool_services.proofs.FilledBlocks.{filled-keeps}
 use Rattle.pool_services.proofs.KeptPools.{placed-keeps, freed-keeps, given-keeps, allocated-keeps, freed-block-keeps, written-keeps}
 use Rattle.pool_services.proofs.PoolGranules.{allocated-granules, filled-granules, freed-block-granules, machine-granules}
-use Rattle.boot_core.specs.declared.calls.Call.{Call}
-use Rattle.boot_core.specs.declared.calls.Call.TheVariants as call
-use Rattle.boot_core.specs.declared.calls.Reply.{Reply}
-use Rattle.boot_core.specs.Machines.{IsMachine, MachineValue, Parts, State, AreSound, first_state}
+use Rattle.boot_calls.specs.declared.calls.Call.{Call}
+use Rattle.boot_calls.specs.declared.calls.Call.TheVariants as call
+use Rattle.boot_replies.specs.declared.replies.Reply.{Reply}
+use Rattle.boot_machines.specs.Machines.{IsMachine, MachineValue}
+use Rattle.boot_core.specs.Machines.{Parts, State, AreSound, first_state}
 use Rattle.open_agents.specs.declared.items.OpenItem.{OpenItem}
 use Rattle.open_agents.specs.OpenItems.{items_on}
 use Rattle.protocol_services.specs.ListBytes.{handle_bytes, item_bytes}
 use Rattle.protocol_services.specs.Lists.{Lists}
-use Rattle.boot_core.specs.declared.calls.PoolList.{PoolList}
-use Rattle.boot_core.specs.PoolLists.{LocatesBuffer, ListsOpens, PutsItems, list_type}
+use Rattle.boot_replies.specs.declared.replies.PoolList.{PoolList}
+use Rattle.boot_core.specs.PoolLists.{LocatesBuffer, ListsOpens, PutsItems}
+use Rattle.boot_replies.specs.Certified.{list_type}
 use Rattle.boot_core.specs.Steps.{Setting, OnBook, OnBookAndPools, OnPools, Serves, Answers, CallRunBy}
 use Rattle.boot_core.proofs.Quiet.{IsQuiet, quiet}
 use Rattle.boot_core.proofs.Outcomes.{Outcome, allocates, fills_pool, frees, allocates_pool, frees_pool, key_at_most, stays_proper}

@@ -16,13 +16,15 @@ use Rattle.driver_connect.specs.Drivers.{Meaning}
 use Rattle.protocol_services.specs.ListBytes.{handle_bytes, item_bytes}
 use Rattle.protocol_services.specs.ProperLists.{AreProperLists}
 use Rattle.protocol_services.specs.Searches.{found_handles}
-use Rattle.boot_core.specs.declared.calls.Call.{Call}
-use Rattle.boot_core.specs.declared.calls.Call.TheVariants as call
-use Rattle.boot_core.specs.declared.calls.Reply.{Reply}
-use Rattle.boot_core.specs.declared.calls.Reply.TheVariants as reply
-use Rattle.boot_core.specs.MachineRuns.{HasRecordNumbers}
-use Rattle.boot_core.specs.Machines.{IsMachine, MachineValue, Parts, State, AreSound, first_state}
-use Rattle.boot_core.specs.Certified.{certified}
+use Rattle.boot_calls.specs.declared.calls.Call.{Call}
+use Rattle.boot_calls.specs.declared.calls.Call.TheVariants as call
+use Rattle.boot_replies.specs.declared.replies.Reply.{Reply}
+use Rattle.boot_replies.specs.declared.replies.Reply.TheVariants as reply
+use Rattle.boot_calls.specs.CallNumbers.{NamesTypes}
+use Rattle.boot_machines.specs.MachineRuns.{HasRecordNumbers}
+use Rattle.boot_machines.specs.Machines.{IsMachine, MachineValue}
+use Rattle.boot_core.specs.Machines.{Parts, State, AreSound, first_state}
+use Rattle.boot_replies.specs.Certified.{certified}
 use Rattle.boot_core.specs.Steps.{Setting, any_starts, MapStep, ReadStep, Step, StepAny, StepBy, CallRun, CallRunBy}
 
 -- A step with the best start is a step with any permitted start.
@@ -108,12 +110,6 @@ abbrev pub ReadStepLaw : Type 0 → Type 0
 ReadStepLaw A = (ds : List Meaning) (old : State) (address : ℕ) (buffer : List ℕ) (status : Status) (after : List ℕ) (new : State) (used : Vec ℕ A) →
     ReadStep old address buffer status after new → used.items ≡ take (read_size status (length buffer)) after →
     Step ds old (call.PoolRead address (length buffer)) (reply.PoolRead status used) new × (after ≡ used.items ++ drop (length used.items) buffer)
-
--- a call that names no type of more than 32 bits
-abbrev pub NamesTypes : {A : Type 0} → Call A → Type 0
-NamesTypes (call.AllocatePages kind t pages memory) = t < 2 ^ 32
-NamesTypes (call.AllocatePool t size) = t < 2 ^ 32
-NamesTypes c = Unit {0}
 
 -- After calls on a valid machine whose numbers fit their fields, each entry of the memory map is one that a record can spell.
 abbrev pub RecordEntriesLaw : Type 0 → Type 0

@@ -1,24 +1,13 @@
 -- The state of the machine that serves the calls.
 use Rattle.std.specs.Prelude.{ℕ, ◌+◌, ◌*◌, ◌≤◌, Bool, false, List, [], length}
 use Rattle.std.specs.List.{AllByRecursion}
-use Rattle.page_ranges.specs.declared.ranges.Run.{Run}
-use Rattle.page_ranges.specs.Granules.{IsGranule}
 use Rattle.page_ranges.specs.Memory.{IsProperMemory}
-use Rattle.page_ranges.specs.Runs.{pages_of, IsValidMachine}
+use Rattle.page_ranges.specs.Runs.{pages_of}
+use Rattle.boot_machines.specs.Machines.{MachineValue}
 use Rattle.page_services.specs.PageRules.{Book, IsInGranules, new_book}
 use Rattle.pool_services.specs.Extents.{Extent, AreExtents}
 use Rattle.pool_services.specs.PoolRules.{OwnsExtents}
 use Rattle.protocol_services.specs.Lists.{Lists, most_given, no_lists}
-
--- what a machine is before any call: the runs of its memory, and its granule
-pub record MachineValue : Type 0 where
-  pub runs : List Run
-  pub granule : ℕ
-
--- The runs and the granule are such as a machine may have.
-pub record IsMachine (m : MachineValue) : Type 0 where
-  pub runs : IsValidMachine m.runs
-  pub granule : IsGranule m.granule
 
 -- what the services work on: the memory with its key, the extents of the pool, and the lists of the protocol services
 pub record Parts : Type 0 where

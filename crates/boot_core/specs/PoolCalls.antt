@@ -5,11 +5,6 @@ use Rattle.page_ranges.specs.declared.statuses.Status.TheVariants.{Success, Inva
 use Rattle.pool_services.specs.Extents.{Extent, tail_at}
 use Rattle.pool_services.specs.PoolRules.{IsInBlock}
 
--- the status that a result is told as
-abbrev pub told_status : Result (Unit {0}) Status → Status
-told_status (Ok done) = Success
-told_status (Err status) = status
-
 -- What is answered of a read of so many bytes from an address on, with the bytes. Memory for the core's own buffer may run out
 -- where there are bytes to be read, and nowhere else.
 abbrev pub AnswersRead : List Extent → ℕ → ℕ → Status → List ℕ → Type 0

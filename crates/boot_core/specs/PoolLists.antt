@@ -9,12 +9,9 @@ use Rattle.open_agents.specs.declared.items.OpenItem.{OpenItem}
 use Rattle.open_agents.specs.OpenItems.{items_on}
 use Rattle.protocol_services.specs.ListBytes.{handle_bytes, item_bytes}
 use Rattle.protocol_services.specs.Searches.{found_handles, once_found}
-use Rattle.boot_core.specs.declared.calls.PoolList.{PoolList}
+use Rattle.boot_replies.specs.declared.replies.PoolList.{PoolList}
+use Rattle.boot_replies.specs.Certified.{list_type}
 use Rattle.boot_core.specs.Machines.{Parts}
-
--- such a block is of the type EfiBootServicesData
-abbrev pub list_type : ℕ
-list_type = 4
 
 -- Some bytes are put into a pool block, whose address and certificate are told; the lists of the protocol services stay.
 abbrev pub PutsBytes : {A : Type 0} → Choice → Parts → List ℕ → PoolList A → Parts → Type 0

@@ -7,7 +7,7 @@ use Rattle.pool_services.specs.Extents.{Extent}
 use Rattle.pool_services.specs.PoolRules.{AllocatesPool, FreesPool, ReadsPool, WritesPool}
 use Rattle.device_path_locate.specs.Locating.{has_path_installed, located}
 use Rattle.guid_handles.specs.HandleChanges.{install_refusal}
-use Rattle.protocol_services.specs.declared.replies.LocateReply.{LocateReply}
+use Rattle.boot_calls.specs.declared.replies.LocateReply.{LocateReply}
 use Rattle.driver_connect.specs.Drivers.{Meaning}
 use Rattle.protocol_services.specs.Lists.{Lists}
 use Rattle.protocol_services.specs.Installing.{InstallsPairs, Registers, many_refusal}
@@ -17,14 +17,15 @@ use Rattle.protocol_services.specs.Removing.{Reinstalls, Uninstalls}
 use Rattle.protocol_services.specs.Driving.{ConnectsController, DisconnectsController}
 use Rattle.map_keys.specs.declared.memory_maps.MapReply.{MapReply}
 use Rattle.map_keys.specs.MapReplies.{map_reply, buffer_with_map}
-use Rattle.boot_core.specs.declared.calls.Call.{Call}
-use Rattle.boot_core.specs.declared.calls.Call.TheVariants as call
-use Rattle.boot_core.specs.declared.calls.Reply.{Reply}
-use Rattle.boot_core.specs.declared.calls.Reply.TheVariants as reply
+use Rattle.boot_calls.specs.declared.calls.Call.{Call}
+use Rattle.boot_calls.specs.declared.calls.Call.TheVariants as call
+use Rattle.boot_replies.specs.declared.replies.Reply.{Reply}
+use Rattle.boot_replies.specs.declared.replies.Reply.TheVariants as reply
 use Rattle.boot_core.specs.Machines.{Parts, State}
 use Rattle.boot_core.specs.PoolLists.{LocatesBuffer, ListsOpens}
 use Rattle.boot_core.specs.MapCalls.{refused_map, AnswersMap}
-use Rattle.boot_core.specs.PoolCalls.{AnswersRead, told_status}
+use Rattle.boot_core.specs.PoolCalls.{AnswersRead}
+use Rattle.boot_replies.specs.Told.{told_status}
 
 -- ---- what a step goes by beside the state
 

@@ -1,6 +1,7 @@
 //! A read of the pool's bytes with a buffer of its own.
 ghost use Rattle.std.specs.Prelude.{◌≡◌};
-ghost use Rattle.boot_core.specs.PoolCalls.{AnswersRead, told_status};
+ghost use Rattle.boot_core.specs.PoolCalls.{AnswersRead};
+ghost use Rattle.boot_replies.specs.Told.{told_status};
 
 use page_ranges::Status;
 use pool_services::Pools;

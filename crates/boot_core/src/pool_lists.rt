@@ -5,22 +5,13 @@ ghost use Rattle.pool_services.specs.PoolRules.{OwnsExtents};
 ghost use Rattle.protocol_services.specs.Lists.{IsRaised};
 ghost use Rattle.boot_core.specs.PoolLists.{ListsOpens, LocatesBuffer};
 
-use crate::calls::PoolList;
+use boot_replies::{LIST_TYPE, PoolList};
 use page_ranges::Status;
 use page_services::PageBook;
 use pool_services::Pools;
 use protocol_services::{Protocols, handle_bytes, item_bytes};
 use std::alloc::Allocator;
 use uuid::Uuid;
-
-/// The memory type of such a block (EfiBootServicesData).
-pub(crate) const LIST_TYPE: u32 = 4;
-
-/// The bytes of a handle.
-pub(crate) const HANDLE_SIZE: u64 = 8;
-
-/// The bytes of an open item (EFI_OPEN_PROTOCOL_INFORMATION_ENTRY).
-pub(crate) const ENTRY_SIZE: u64 = 24;
 
 /// LocateHandleBuffer: puts the handles that a search is for into a pool block, 8 bytes each. A search by
 /// a key takes its handle, but where it is refused.

@@ -3,7 +3,7 @@
 //! Of each service: ABORTED, after 2^31 calls, UNSUPPORTED, once the boot services have exited, and
 //! OUT_OF_RESOURCES, where memory runs out, are not named again. A refusal leaves the places of the caller's.
 ghost use Rattle.std.specs.Prelude.{◌≡◌};
-ghost use Rattle.boot_core.specs.declared.calls.Call.TheVariants as call;
+ghost use Rattle.boot_calls.specs.declared.calls.Call.TheVariants as call;
 ghost use Rattle.c_interface.specs.Served.{AnswersStatus, AnswersNumber, AnswersMap, AnswersRead};
 
 use crate::handle::Rafkudin;

@@ -27,13 +27,13 @@ use Rattle.pool_services.specs.PoolRules.{extent_request}
 use Rattle.certificate_blocks.specs.BlockLaws.{HasEntryNumbers, HasRequestNumbers, IsAcceptedBlock}
 use Rattle.certificate_blocks.proofs.AcceptedBlocks.{accepted_block}
 use Rattle.driver_connect.specs.Drivers.{Meaning}
-use Rattle.boot_core.specs.declared.calls.Call.{Call}
-use Rattle.boot_core.specs.declared.calls.Call.TheVariants as call
-use Rattle.boot_core.specs.declared.calls.Reply.{Reply}
-use Rattle.boot_core.specs.declared.calls.Reply.TheVariants as reply
-use Rattle.boot_core.specs.Certified.{left_request, list_request, request_for, certificate_in, certified, told_count}
-use Rattle.boot_core.specs.PoolLists.{list_type}
-use Rattle.boot_core.specs.Laws.{NamesTypes}
+use Rattle.boot_calls.specs.declared.calls.Call.{Call}
+use Rattle.boot_calls.specs.declared.calls.Call.TheVariants as call
+use Rattle.boot_replies.specs.declared.replies.Reply.{Reply}
+use Rattle.boot_replies.specs.declared.replies.Reply.TheVariants as reply
+use Rattle.boot_replies.specs.Certified.{left_request, list_request, request_for, certificate_in, certified, told_count}
+use Rattle.boot_replies.specs.Certified.{list_type}
+use Rattle.boot_calls.specs.CallNumbers.{NamesTypes}
 use Rattle.boot_core.specs.Machines.{State, AreSound, first_state}
 use Rattle.boot_core.specs.Steps.{best_starts, Step}
 use Rattle.boot_core.proofs.Acceptances.{first_types, accepted_reply}
@@ -51,7 +51,7 @@ use Rattle.trace_lines.specs.TraceLine.{line_of}
 use Rattle.trace_lines.proofs.LineCalls.{call_numbers, named_types}
 use Rattle.reply_texts.specs.CallText.{PrintsCall}
 use Rattle.reply_texts.specs.PrintedText.{reply_text}
-use Rattle.reply_texts.proofs.MapEntries.{told_bytes, carried}
+use Rattle.boot_trace.proofs.MapEntries.{told_bytes, carried}
 use Rattle.boot_trace.specs.Laws.{OfLine, OfEachLine, PrintsAcceptedBlock, PrintsReadMap}
 use Rattle.boot_trace.specs.TraceRuns.{Prints, PrintsAll, Wrote, most_lines}
 

@@ -1,16 +1,17 @@
 -- The laws of what a run prints. Each is the contract of a public function.
 use Rattle.std.specs.Prelude.{◌≡◌, ◌≤◌, ℕ, ◌+◌, Bool, true, List, [], ◌∷◌, ◌++◌, take, Option, Some, IfSome, Result, Ok, Vec}
+use Rattle.std.specs.List.{AllByRecursion}
 use Rattle.page_ranges.specs.declared.ranges.Descriptor.{Descriptor}
 use Rattle.page_ranges.specs.declared.statuses.Status.TheVariants.{Success}
 use Rattle.page_ranges.specs.MemoryMap.{memory_map}
 use Rattle.certificate_blocks.specs.BlockLaws.{IsAcceptedBlock}
 use Rattle.map_keys.specs.declared.memory_maps.MapReply.{MapReply}
-use Rattle.map_keys.specs.Records.{ReadsRecords}
+use Rattle.map_keys.specs.Records.{IsRecordEntry, ReadsRecords}
 use Rattle.driver_connect.specs.Drivers.{Meaning}
-use Rattle.boot_core.specs.declared.calls.Call.TheVariants as call
-use Rattle.boot_core.specs.declared.calls.Reply.{Reply}
-use Rattle.boot_core.specs.declared.calls.Reply.TheVariants as reply
-use Rattle.boot_core.specs.Certified.{certified}
+use Rattle.boot_calls.specs.declared.calls.Call.TheVariants as call
+use Rattle.boot_replies.specs.declared.replies.Reply.{Reply}
+use Rattle.boot_replies.specs.declared.replies.Reply.TheVariants as reply
+use Rattle.boot_replies.specs.Certified.{certified}
 use Rattle.boot_core.specs.Machines.{State, first_state}
 use Rattle.boot_core.specs.Steps.{Step}
 use Rattle.machine_files.specs.MachineText.{ListedMachine, machine_of}
@@ -19,7 +20,7 @@ use Rattle.trace_lines.specs.declared.lines.TraceCall.{TraceCall}
 use Rattle.trace_lines.specs.declared.lines.TraceCall.TheVariants as trace_call
 use Rattle.trace_lines.specs.TraceLine.{line_of}
 use Rattle.text_lines.specs.Lines.{lines_of}
-use Rattle.reply_texts.specs.CallText.{certificate_text}
+use Rattle.reply_texts.specs.CallText.{CarriesEntries, certificate_text}
 use Rattle.reply_texts.specs.PrintedText.{reply_text}
 use Rattle.boot_trace.specs.TraceRuns.{PrintsAll, Wrote, most_lines}
 
@@ -63,3 +64,9 @@ PrintsReadMap A ds number asks old text new = Unit {0}
 -- So it is of each call of a run.
 abbrev pub PrintedMapsLaw : Type 0 → Type 0
 PrintedMapsLaw A = (ds : List Meaning) (certify : Bool) → OfRun A ds certify (PrintsReadMap A ds)
+
+-- The entries that a successful GetMemoryMap carries are those of the memory map, where records can spell them.
+abbrev pub MapEntriesLaw : Type 0 → Type 0
+MapEntriesLaw A = (ds : List Meaning) (old : State) (size : ℕ) (told : MapReply) (bytes : Vec ℕ A) (new : State) (entries : List Descriptor) →
+    AllByRecursion IsRecordEntry (memory_map old.parts.book.memory) → Step ds old (call.GetMemoryMap size) (reply.GetMemoryMap told bytes) new → told.status ≡ Success →
+    CarriesEntries (reply.GetMemoryMap told bytes) entries → entries ≡ memory_map old.parts.book.memory

@@ -3,7 +3,7 @@ use Rattle.std.specs.Prelude.{◌≡◌, ◌⊎◌, ℕ, ◌+◌, ◌<◌, ◌�
 use Rattle.std.specs.Io.KnownBytes.{Appends}
 use Rattle.page_ranges.specs.MemoryMap.{memory_map}
 use Rattle.driver_connect.specs.Drivers.{Meaning}
-use Rattle.boot_core.specs.declared.calls.Reply.{Reply}
+use Rattle.boot_replies.specs.declared.replies.Reply.{Reply}
 use Rattle.boot_core.specs.Machines.{State}
 use Rattle.boot_core.specs.Steps.{Step}
 use Rattle.trace_lines.specs.declared.lines.TraceCall.{TraceCall}

@@ -1,5 +1,5 @@
 //! The laws of what a run prints, each the contract of a function that does nothing.
-ghost use Rattle.boot_trace.specs.Laws.{PrintedBlocksLaw, PrintedMapsLaw};
+ghost use Rattle.boot_trace.specs.Laws.{MapEntriesLaw, PrintedBlocksLaw, PrintedMapsLaw};
 
 use std::alloc::Allocator;
 
@@ -12,4 +12,10 @@ pub fn printed_blocks_law<A: Allocator>()
 /// The bytes that a GetMemoryMap of a run wrote are read as the memory map, whose entries are printed.
 pub fn printed_maps_law<A: Allocator>()
     ensures { PrintedMapsLaw A }
+{}
+
+/// The entries that are printed of a successful GetMemoryMap are those of the memory map, where
+/// records can spell them.
+pub fn map_entries_law<A: Allocator>()
+    ensures { MapEntriesLaw A }
 {}

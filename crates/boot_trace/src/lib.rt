@@ -3,11 +3,12 @@
 
 mod faults;
 mod laws;
+mod listings;
 mod runner;
 
 pub use certificate_blocks::{BlockFault, check_block};
 pub use faults::RunFault;
-pub use laws::{printed_blocks_law, printed_maps_law};
+pub use laws::{map_entries_law, printed_blocks_law, printed_maps_law};
 pub use machine_files::{DriverField, MachineFault, MachineFile, MemberField, read_machine};
 pub use runner::run;
 pub use trace_lines::{TraceCall, TraceFault, read_call};

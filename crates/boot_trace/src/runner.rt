@@ -4,9 +4,10 @@ ghost use Rattle.trace_lines.specs.TraceLine.{line_of};
 ghost use Rattle.boot_trace.specs.TraceRuns.{Prints, StopsAt, Ends};
 
 use crate::faults::RunFault;
-use boot_core::{Call, Core};
+use crate::listings::print_list;
+use boot_core::{Call, Core, map_before};
 use driver_connect::Driver;
-use reply_texts::{map_before, print_call, print_list};
+use reply_texts::print_call;
 use std::alloc::Allocator;
 use std::io::{BufReader, Read, Write};
 use text_lines::{LineFault, next_byte, next_line, write_text};

@@ -5,8 +5,8 @@ use Rattle.std.specs.declared.alloc.Global.{Global}
 use Rattle.page_ranges.specs.declared.ranges.Descriptor.{Descriptor}
 use Rattle.placement_certificate.specs.declared.certificates.Request.{Request}
 use Rattle.placement_certificate.specs.Certificates.{CertificateValue}
-use Rattle.boot_core.specs.declared.calls.Call.{Call}
-use Rattle.reply_texts.specs.CallText.{map_before}
+use Rattle.boot_calls.specs.declared.calls.Call.{Call}
+use Rattle.boot_replies.specs.Certified.{map_before}
 use Rattle.c_interface.specs.declared.efi_core.LastBlock.{LastBlock}
 use Rattle.c_interface.specs.declared.efi_core.LastBlock.TheVariants as block
 use Rattle.c_interface.specs.EfiCores.{LeavesBlock}

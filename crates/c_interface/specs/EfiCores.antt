@@ -8,7 +8,7 @@ use Rattle.placement_certificate.specs.Certificates.{CertificateValue}
 use Rattle.certificate_blocks.specs.BlockText.{block_text}
 use Rattle.driver_connect.specs.Drivers.{Meaning, is_free}
 use Rattle.driver_connect.specs.declared.table.TableDriver.{TableDriver}
-use Rattle.boot_core.specs.declared.calls.Reply.{Reply}
+use Rattle.boot_replies.specs.declared.replies.Reply.{Reply}
 use Rattle.boot_core.specs.Machines.{CoreValue}
 use Rattle.c_interface.specs.declared.efi_core.LastBlock.{LastBlock}
 use Rattle.c_interface.specs.declared.efi_core.LastBlock.TheVariants as block

@@ -2,7 +2,8 @@
 use Rattle.std.specs.Prelude.{◌≡◌, ◌⊎◌, ℕ, true, false, List, map, None, Result, Ok, Err}
 use Rattle.page_ranges.specs.Statuses.{status_number}
 use Rattle.page_ranges.specs.declared.statuses.Status.TheVariants.{InvalidParameter, OutOfResources}
-use Rattle.boot_core.specs.Machines.{MachineValue, IsMachine, first_state}
+use Rattle.boot_machines.specs.Machines.{MachineValue, IsMachine}
+use Rattle.boot_core.specs.Machines.{first_state}
 use Rattle.c_machines.specs.declared.drivers.DriverTable.{DriverTable}
 use Rattle.c_machines.specs.declared.faults.MachineFault.{MachineFault}
 use Rattle.c_machines.specs.declared.faults.MachineFault.TheVariants.{Invalid, OutOfMemory}

@@ -8,12 +8,12 @@ use Rattle.page_ranges.specs.declared.statuses.Status.TheVariants.{Success, Buff
 use Rattle.map_keys.specs.MapReplies.{descriptor_version}
 use Rattle.map_keys.specs.Records.{record_size}
 use Rattle.map_keys.specs.declared.memory_maps.MapReply.{MapReply}
-use Rattle.boot_core.specs.declared.calls.Call.{Call}
-use Rattle.boot_core.specs.declared.calls.Reply.{Reply}
-use Rattle.boot_core.specs.declared.calls.Reply.TheVariants as reply
-use Rattle.boot_core.specs.Certified.{certified}
+use Rattle.boot_calls.specs.declared.calls.Call.{Call}
+use Rattle.boot_replies.specs.declared.replies.Reply.{Reply}
+use Rattle.boot_replies.specs.declared.replies.Reply.TheVariants as reply
+use Rattle.boot_replies.specs.Certified.{certified}
 use Rattle.boot_core.specs.Steps.{MapStep, ReadStep, Step}
-use Rattle.reply_texts.specs.CallText.{map_before}
+use Rattle.boot_replies.specs.Certified.{map_before}
 use Rattle.c_interface.specs.declared.efi_core.LastBlock.{LastBlock}
 use Rattle.c_interface.specs.declared.efi_core.LastBlock.TheVariants as block
 use Rattle.c_machines.specs.declared.guids.Guid.{Guid}

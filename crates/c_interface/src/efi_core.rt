@@ -2,8 +2,8 @@
 ghost use Rattle.std.specs.Prelude.{◌≡◌, false, length, None, Some, true, option_map, IfOk, MatchResult};
 ghost use Rattle.page_ranges.specs.MemoryMap.{memory_map};
 ghost use Rattle.page_ranges.specs.Statuses.{status_number};
-ghost use Rattle.boot_core.specs.Certified.{certified};
-ghost use Rattle.reply_texts.specs.CallText.{map_before};
+ghost use Rattle.boot_replies.specs.Certified.{certified};
+ghost use Rattle.boot_replies.specs.Certified.{map_before};
 ghost use Rattle.c_interface.specs.Buffers.{laid};
 ghost use Rattle.c_interface.specs.EfiCores.{LeavesBlock, forgotten, last_events};
 ghost use Rattle.c_interface.specs.Replies.{status_in};

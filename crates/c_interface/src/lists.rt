@@ -1,6 +1,6 @@
 //! The services that take or tell a list.
 ghost use Rattle.std.specs.Prelude.{◌≡◌, map, IfOk};
-ghost use Rattle.boot_core.specs.declared.calls.Call.TheVariants as call;
+ghost use Rattle.boot_calls.specs.declared.calls.Call.TheVariants as call;
 ghost use Rattle.c_interface.specs.Buffers.{laid};
 ghost use Rattle.c_interface.specs.Served.{AnswersStatus, AnswersHandles, AnswersGuids, AnswersPairs, told_size};
 ghost use Rattle.c_machines.specs.Guids.{guid_in, interface_in, standard_guid};

@@ -1,6 +1,6 @@
 //! The memory services, and the exit.
 ghost use Rattle.std.specs.Prelude.{◌≡◌};
-ghost use Rattle.boot_core.specs.declared.calls.Call.TheVariants as call;
+ghost use Rattle.boot_calls.specs.declared.calls.Call.TheVariants as call;
 ghost use Rattle.c_interface.specs.Served.{AnswersStatus, AnswersNumber, AnswersMap, AnswersRead};
 
 use crate::efi_core::{ABORTED, EfiCore};

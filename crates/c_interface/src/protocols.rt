@@ -1,6 +1,6 @@
 //! The services on handles, interfaces and drivers.
 ghost use Rattle.std.specs.Prelude.{◌≡◌};
-ghost use Rattle.boot_core.specs.declared.calls.Call.TheVariants as call;
+ghost use Rattle.boot_calls.specs.declared.calls.Call.TheVariants as call;
 ghost use Rattle.c_machines.specs.Guids.{guid_in};
 ghost use Rattle.c_interface.specs.Served.{AnswersStatus, AnswersNumber, AnswersNumbers};
 

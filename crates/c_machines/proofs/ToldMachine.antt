@@ -4,7 +4,7 @@ use Rattle.std.specs.List.Sorted.{IsNonDecreasingBy}
 use Rattle.std.specs.Option.{ok_or}
 use Rattle.std.proofs.lemmas.List.Sorted.{IsPermutation-sym, IsPermutation-trans}
 use Rattle.page_ranges.specs.declared.ranges.Run.{Run}
-use Rattle.boot_core.specs.Machines.{MachineValue, IsMachine}
+use Rattle.boot_machines.specs.Machines.{MachineValue, IsMachine}
 use Rattle.c_machines.specs.declared.faults.MachineFault.TheVariants.{Invalid}
 use Rattle.c_machines.specs.MachineRecords.{MakesMachine, IsTold, are_records, runs_in}
 use Rattle.c_machines.proofs.RunOrder.{rising, permuted, one_order}

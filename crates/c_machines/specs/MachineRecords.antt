@@ -9,7 +9,7 @@ use Rattle.byteorder.specs.Endian.{little_number}
 use Rattle.page_ranges.specs.declared.ranges.Owner.TheVariants.{Given}
 use Rattle.page_ranges.specs.declared.ranges.Run.{Run}
 use Rattle.page_ranges.specs.MemoryTypes.{page_size}
-use Rattle.boot_core.specs.Machines.{MachineValue, IsMachine}
+use Rattle.boot_machines.specs.Machines.{MachineValue, IsMachine}
 use Rattle.c_machines.specs.declared.faults.MachineFault.{MachineFault}
 use Rattle.c_machines.specs.declared.faults.MachineFault.TheVariants.{Invalid, OutOfMemory}
 

@@ -3,7 +3,7 @@ ghost use Rattle.std.specs.Prelude.{◌≡◌, ◌≤◌, length, Some, None, if
 ghost use Rattle.c_machines.specs.MachineRecords.{MakesMachine, ReadsRuns, least_size, is_aligned, run_in};
 
 use crate::faults::MachineFault;
-use boot_core::Machine;
+use boot_machines::Machine;
 use byteorder::{ByteOrder, LittleEndian};
 use page_ranges::{MemoryType, Owner, PAGE_SIZE, PageRange, Run};
 use std::alloc::Global;

@@ -11,7 +11,7 @@ use Rattle.page_ranges.proofs.Members.{all_implied}
 use Rattle.text_lines.specs.FirstFault.{◌>>=◌, or_fault}
 use Rattle.text_lines.specs.Numbers.{value_of_digits, within_64_bits, hexadecimal_of}
 use Rattle.text_lines.proofs.FirstFaults.{bind_ok, found, chosen_right}
-use Rattle.boot_core.specs.MachineRuns.{HasRecordNumbers, IsMachineRun}
+use Rattle.boot_machines.specs.MachineRuns.{HasRecordNumbers, IsMachineRun}
 use Rattle.machine_files.specs.declared.faults.MachineFault.TheVariants as fault
 use Rattle.machine_files.specs.declared.faults.MemberField.{MemberField}
 use Rattle.machine_files.specs.declared.faults.MemberField.TheVariants as field

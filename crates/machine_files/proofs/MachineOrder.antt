@@ -8,9 +8,9 @@ use Rattle.page_ranges.specs.declared.ranges.Run.{Run}
 use Rattle.page_ranges.specs.Granules.{IsGranule}
 use Rattle.page_ranges.specs.Runs.{AreRuns, IsValidMachine}
 use Rattle.page_ranges.proofs.Members.{member_first, member_later, member_all, all_implied}
-use Rattle.boot_core.specs.MachineRuns.{HasRecordNumbers, IsMachineRun}
-use Rattle.boot_core.specs.Machines.{MachineValue, IsMachine}
-use Rattle.boot_core.proofs.MachineRunLists.{valid_machine}
+use Rattle.boot_machines.specs.MachineRuns.{HasRecordNumbers, IsMachineRun}
+use Rattle.boot_machines.specs.Machines.{MachineValue, IsMachine}
+use Rattle.boot_machines.proofs.MachineRunLists.{valid_machine}
 use Rattle.serde_json.specs.Data.{Data, Items}
 use Rattle.serde_json.specs.Find.{get, as_array, as_number, as_u64}
 use Rattle.machine_files.specs.declared.faults.MachineFault.TheVariants.{NoDriverList, TooManyDrivers, Overlap, Granule}

@@ -1,8 +1,8 @@
 -- The laws of machine files. Each is the contract of a public function.
 use Rattle.std.specs.Prelude.{◌≡◌, ℕ, ◌≤◌, List, length, Ok}
 use Rattle.std.specs.List.{AllByRecursion}
-use Rattle.boot_core.specs.MachineRuns.{HasRecordNumbers}
-use Rattle.boot_core.specs.Machines.{IsMachine}
+use Rattle.boot_machines.specs.MachineRuns.{HasRecordNumbers}
+use Rattle.boot_machines.specs.Machines.{IsMachine}
 use Rattle.machine_files.specs.DriverText.{most_drivers}
 use Rattle.machine_files.specs.MachineText.{ListedMachine, most_descriptors, machine_of}
 

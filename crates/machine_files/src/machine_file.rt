@@ -2,7 +2,7 @@
 ghost use Rattle.std.specs.Prelude.{◌≡◌, map, IfSome, Some, None, if◌then◌else◌};
 ghost use Rattle.std.specs.List.{AllByRecursion};
 ghost use Rattle.page_ranges.specs.Granules.{IsGranule};
-ghost use Rattle.boot_core.specs.MachineRuns.{IsMachineRun};
+ghost use Rattle.boot_machines.specs.MachineRuns.{IsMachineRun};
 ghost use Rattle.serde_json.specs.Read.{read};
 ghost use Rattle.serde_json.specs.View.{view, items_view};
 ghost use Rattle.text_lines.specs.FirstFault.{or_fault};
@@ -12,7 +12,7 @@ ghost use Rattle.machine_files.specs.MachineText.{Gives, json_of, runs_from, roo
 use crate::drivers::member_driver;
 use crate::faults::MachineFault;
 use crate::members::member_run;
-use boot_core::Machine;
+use boot_machines::Machine;
 use driver_connect::TableDriver;
 use page_ranges::Run;
 use serde_json::Value;

@@ -10,8 +10,8 @@ use Rattle.guid_handles.specs.HandleChanges.{Installs, has_guid_twice, install_m
 use Rattle.open_agents.specs.declared.items.OpenRecord.{OpenRecord}
 use Rattle.driver_connect.specs.Drivers.{Meaning}
 use Rattle.driver_connect.specs.Stopping.{can_be_stopped, has_agent, is_made_by, is_one_of, is_unobstructed, made_by, may_stop, spares_opener, stop_set, without_handles}
-use Rattle.protocol_services.specs.declared.replies.Installed.{Installed}
-use Rattle.protocol_services.specs.declared.replies.LocateReply.{LocateReply}
+use Rattle.boot_calls.specs.declared.replies.Installed.{Installed}
+use Rattle.boot_calls.specs.declared.replies.LocateReply.{LocateReply}
 use Rattle.protocol_services.specs.Lists.{Lists, OnHandles}
 use Rattle.protocol_services.specs.Installing.{InstallsPairs, Registers, many_refusal, unless_path}
 use Rattle.protocol_services.specs.Searches.{LocatesHandles, LocatesProtocol, after_search, by_register_notify, once_found, once_taken}

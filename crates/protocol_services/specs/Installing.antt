@@ -5,7 +5,7 @@ use Rattle.page_ranges.specs.declared.statuses.Status.TheVariants.{InvalidParame
 use Rattle.guid_handles.specs.HandleChanges.{Installs, install_many_refusal}
 use Rattle.protocol_notify.specs.declared.notify.Registration.{Registration}
 use Rattle.protocol_notify.specs.Registrations.{events_for, with_registration}
-use Rattle.protocol_services.specs.declared.replies.Installed.{Installed}
+use Rattle.boot_calls.specs.declared.replies.Installed.{Installed}
 use Rattle.protocol_services.specs.Lists.{Lists, OnHandles}
 
 -- the events of pairs of GUID and value that are installed: for each in turn, those of the registrations for its GUID

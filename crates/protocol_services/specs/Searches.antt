@@ -5,7 +5,7 @@ use Rattle.page_ranges.specs.declared.statuses.Status.{Status}
 use Rattle.page_ranges.specs.declared.statuses.Status.TheVariants.{Success, InvalidParameter, NotFound, BufferTooSmall, OutOfResources}
 use Rattle.guid_handles.specs.HandleTables.{numbers, holders_of, guids_on, is_live, value_at}
 use Rattle.protocol_notify.specs.Registrations.{is_for, registration_of, next_handle, taken}
-use Rattle.protocol_services.specs.declared.replies.LocateReply.{LocateReply}
+use Rattle.boot_calls.specs.declared.replies.LocateReply.{LocateReply}
 use Rattle.protocol_services.specs.Lists.{Lists}
 
 -- ---- LocateHandle

@@ -7,9 +7,7 @@ mod list_bytes;
 mod opening;
 mod protocols;
 mod removing;
-mod replies;
 mod searches;
 
 pub use list_bytes::{handle_bytes, item_bytes};
 pub use protocols::Protocols;
-pub use replies::{Installed, LocateReply};

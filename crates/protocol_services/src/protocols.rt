@@ -4,7 +4,7 @@ ghost use Rattle.guid_handles.specs.HandleChanges.{install_refusal};
 ghost use Rattle.protocol_services.specs.Installing.{InstallsPairs, Registers, many_refusal, or_out_of_memory, signaled, unless_path};
 ghost use Rattle.protocol_services.specs.Lists.{HasRoom, IsRaised, no_lists};
 
-use crate::replies::Installed;
+use boot_calls::Installed;
 use guid_handles::Handles;
 use open_agents::Opens;
 use page_ranges::Status;

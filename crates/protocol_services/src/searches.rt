@@ -6,7 +6,7 @@ ghost use Rattle.protocol_services.specs.Lists.{IsRaised};
 ghost use Rattle.protocol_services.specs.Searches.{FindsHandles, LocatesHandles, LocatesProtocol, TellsHandles, TellsProtocols, by_register_notify, next_listed, next_of_guid, once_found};
 
 use crate::protocols::Protocols;
-use crate::replies::LocateReply;
+use boot_calls::LocateReply;
 use page_ranges::Status;
 use std::alloc::{AllocError, Allocator};
 use uuid::Uuid;

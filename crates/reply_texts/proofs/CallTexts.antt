@@ -6,12 +6,13 @@ use Rattle.page_ranges.specs.MemoryMap.{memory_map}
 use Rattle.placement_certificate.specs.declared.certificates.Request.{Request}
 use Rattle.placement_certificate.specs.Certificates.{CertificateValue}
 use Rattle.page_services.specs.PageRules.{Book}
-use Rattle.boot_core.specs.declared.calls.Call.{Call}
-use Rattle.boot_core.specs.declared.calls.Call.TheVariants as call
-use Rattle.boot_core.specs.declared.calls.Reply.{Reply}
-use Rattle.boot_core.specs.Certified.{request_for, certificate_in, certified}
+use Rattle.boot_calls.specs.declared.calls.Call.{Call}
+use Rattle.boot_calls.specs.declared.calls.Call.TheVariants as call
+use Rattle.boot_replies.specs.declared.replies.Reply.{Reply}
+use Rattle.boot_replies.specs.Certified.{request_for, certificate_in, certified}
 use Rattle.reply_texts.specs.PrintedText.{reply_text}
-use Rattle.reply_texts.specs.CallText.{CarriesEntries, PrintsCall, certificate_text, map_before, block_after}
+use Rattle.reply_texts.specs.CallText.{CarriesEntries, PrintsCall, certificate_text, block_after}
+use Rattle.boot_replies.specs.Certified.{map_before}
 
 -- a reply to a call without a request carries no certificate for one
 kept : (r : Option Request) (c : Option CertificateValue) (entries : List Descriptor) → block_after (cond (is_some r) (Some entries) None) (option_and_then (λ r. option_map (λ c. (r, c)) c) r) ≡ certificate_text entries (option_and_then (λ r. option_map (λ c. (r, c)) c) r)

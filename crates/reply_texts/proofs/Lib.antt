@@ -1,3 +1,2 @@
 pub mod CallTexts
-pub mod MapEntries
 pub mod JoinedTexts

@@ -7,10 +7,10 @@ use Rattle.placement_certificate.specs.Certificates.{CertificateValue}
 use Rattle.page_services.specs.PageRules.{Book}
 use Rattle.map_keys.specs.Records.{ReadsRecords}
 use Rattle.certificate_blocks.specs.BlockText.{block_text}
-use Rattle.boot_core.specs.declared.calls.Call.{Call}
-use Rattle.boot_core.specs.declared.calls.Reply.{Reply}
-use Rattle.boot_core.specs.declared.calls.Reply.TheVariants as reply
-use Rattle.boot_core.specs.Certified.{certified, may_be_certified}
+use Rattle.boot_calls.specs.declared.calls.Call.{Call}
+use Rattle.boot_replies.specs.declared.replies.Reply.{Reply}
+use Rattle.boot_replies.specs.declared.replies.Reply.TheVariants as reply
+use Rattle.boot_replies.specs.Certified.{certified, may_be_certified}
 use Rattle.reply_texts.specs.PrintedText.{reply_text}
 
 -- the entries whose records the bytes are, none where they are no records
@@ -33,14 +33,7 @@ abbrev pub PrintsCall : {A : Type 0} → Bool → ℕ → Book → Call A → Re
 PrintsCall certify number before c answer text =
     (entries : List Descriptor) × CarriesEntries answer entries × (text ≡ reply_text number entries answer ++ (if certify then certificate_text (memory_map before.memory) (certified before.granule c answer) else []))
 
--- ---- what is kept for a block before the call
-
--- the memory map, where certificates are asked for and the reply to the call on a machine with a granule may carry one
-abbrev pub map_before : {A : Type 0} → Bool → ℕ → List Descriptor → Call A → Option (List Descriptor)
-map_before true granule entries c = if may_be_certified granule c then Some entries else None
-map_before false granule entries c = None
-
--- the block, where the map was kept
+-- the block, where the map before the call was kept
 abbrev pub block_after : Option (List Descriptor) → Option (Request × CertificateValue) → List ℕ
 block_after (Some entries) told = certificate_text entries told
 block_after None told = []

@@ -1,4 +1,3 @@
 pub mod ListTexts
 pub mod PrintedText
 pub mod CallText
-pub mod Laws

@@ -7,12 +7,12 @@ use Rattle.page_ranges.specs.declared.statuses.Status.TheVariants.{Success, Buff
 use Rattle.page_ranges.specs.declared.statuses.Status.{Status}
 use Rattle.page_ranges.specs.Statuses.{name_of as status_of}
 use Rattle.map_keys.specs.declared.memory_maps.MapReply.{MapReply}
-use Rattle.boot_core.specs.declared.calls.Reply.{Reply}
-use Rattle.boot_core.specs.declared.calls.Reply.TheVariants as reply
-use Rattle.boot_core.specs.declared.calls.PoolList.{PoolList}
-use Rattle.boot_core.specs.PoolCalls.{told_status}
-use Rattle.protocol_services.specs.declared.replies.Installed.{Installed}
-use Rattle.protocol_services.specs.declared.replies.LocateReply.{LocateReply}
+use Rattle.boot_replies.specs.declared.replies.Reply.{Reply}
+use Rattle.boot_replies.specs.declared.replies.Reply.TheVariants as reply
+use Rattle.boot_replies.specs.declared.replies.PoolList.{PoolList}
+use Rattle.boot_replies.specs.Told.{told_status}
+use Rattle.boot_calls.specs.declared.replies.Installed.{Installed}
+use Rattle.boot_calls.specs.declared.replies.LocateReply.{LocateReply}
 use Rattle.reply_texts.specs.ListTexts.{events_text, guids_text, numbers_text}
 use Rattle.trace_verbs.specs.declared.verbs.Verb.{Verb}
 use Rattle.trace_verbs.specs.declared.verbs.Verb.TheVariants as verb

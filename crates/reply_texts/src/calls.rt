@@ -1,47 +1,17 @@
 //! The lines of calls, printed with the certificates of their replies.
-ghost use Rattle.std.specs.Prelude.{◌≡◌, ◌++◌, IfOk, OnOk, List, option_map, string_bytes};
-ghost use Rattle.page_ranges.specs.MemoryMap.{memory_map};
+ghost use Rattle.std.specs.Prelude.{◌≡◌, ◌++◌, OnOk, List, option_map, string_bytes};
 ghost use Rattle.page_ranges.specs.declared.ranges.Descriptor.{Descriptor};
-ghost use Rattle.boot_core.specs.Certified.{certified};
+ghost use Rattle.boot_replies.specs.Certified.{certified};
 ghost use Rattle.reply_texts.specs.PrintedText.{reply_text};
-ghost use Rattle.reply_texts.specs.CallText.{CarriesEntries, block_after, map_before};
+ghost use Rattle.reply_texts.specs.CallText.{CarriesEntries, block_after};
+ghost use Rattle.boot_replies.specs.Certified.{map_before};
 
 use crate::replies::{carried_entries, print_reply};
-use boot_core::{Call, Core, Reply, certified, may_be_certified};
+use boot_calls::Call;
+use boot_replies::{Reply, certified};
 use certificate_blocks::print_block;
-use driver_connect::Driver;
 use page_ranges::Descriptor;
 use std::alloc::{AllocError, Allocator};
-
-/// The memory map before a call, where certificates are asked for and the call's reply may carry one.
-pub fn map_before<D: Driver, A: Allocator + Copy>(
-    alloc: A,
-    core: &Core<D, A>,
-    call: &Call<A>,
-    certify: bool,
-) -> Result<Option<Vec<Descriptor, A>>, AllocError>
-    ensures { IfOk result (λ kept. option_map (λ entries. entries.items) kept ≡ map_before certify core.now.state.parts.book.granule (memory_map core.now.state.parts.book.memory) call.now) }
-{
-    if certify && may_be_certified(core.granule(), call) {
-        Ok(Some(entries_of(alloc, core)?))
-    } else {
-        Ok(None)
-    }
-}
-
-/// The entries of the memory map.
-fn entries_of<D: Driver, A: Allocator + Copy>(
-    alloc: A,
-    core: &Core<D, A>,
-) -> Result<Vec<Descriptor, A>, AllocError>
-    ensures { IfOk result (λ entries. entries.items ≡ memory_map core.now.state.parts.book.memory) }
-{
-    let mut entries = Vec::new(alloc);
-    for entry in core.map_entries() {
-        entries.push(entry)?;
-    }
-    Ok(entries)
-}
 
 /// Appends the lines of a reply and, where the memory map before the call was kept, the block of the
 /// certificate that the reply carries. The machine has a granule of so many pages.

@@ -4,9 +4,9 @@ ghost use Rattle.reply_texts.specs.PrintedText.{events_field, guids_field, handl
 
 use crate::list_texts::{print_events, print_guids, print_numbers};
 use crate::replies::{print_result, print_size, print_status};
-use boot_core::{PoolList, Reply};
+use boot_calls::{Installed, LocateReply};
+use boot_replies::{PoolList, Reply};
 use page_ranges::Status;
-use protocol_services::{Installed, LocateReply};
 use std::alloc::{AllocError, Allocator};
 use trace_verbs::Verb;
 use uuid::Uuid;

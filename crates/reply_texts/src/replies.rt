@@ -8,7 +8,7 @@ ghost use Rattle.map_keys.specs.Records.{IsRecordEntry};
 ghost use Rattle.page_ranges.specs.Statuses.{name_of};
 
 use crate::protocol_replies::print_protocols;
-use boot_core::Reply;
+use boot_replies::Reply;
 use map_keys::{MapReply, read_descriptors};
 use page_ranges::{Descriptor, PAGE_SIZE, Status};
 use std::alloc::{AllocError, Allocator};

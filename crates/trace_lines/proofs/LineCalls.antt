@@ -7,9 +7,9 @@ use Rattle.std.specs.Str.{bytes_eq}
 use Rattle.hex.specs.Hex.{IsBytes, decode_of}
 use Rattle.hex.specs.declared.error.FromHexError.{FromHexError}
 use Rattle.hex.proofs.HexLemmas.{decode_of-ok}
-use Rattle.boot_core.specs.declared.calls.Call.{Call}
-use Rattle.boot_core.specs.declared.calls.Call.TheVariants as call
-use Rattle.boot_core.specs.Laws.{NamesTypes}
+use Rattle.boot_calls.specs.declared.calls.Call.{Call}
+use Rattle.boot_calls.specs.declared.calls.Call.TheVariants as call
+use Rattle.boot_calls.specs.CallNumbers.{NamesTypes}
 use Rattle.text_lines.specs.FirstFault.{◌>>=◌, or_fault}
 use Rattle.text_lines.specs.Numbers.{number_of}
 use Rattle.text_lines.proofs.NumberBounds.{number_fits}

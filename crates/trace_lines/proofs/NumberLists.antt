@@ -4,7 +4,7 @@ use Rattle.std.proofs.lemmas.List.{take_rest}
 use Rattle.text_lines.specs.FirstFault.{◌>>=◌}
 use Rattle.trace_lines.specs.declared.faults.TraceFault.{TraceFault}
 use Rattle.trace_lines.specs.Parameters.{u64_of, u64s_of, flag_of}
-use Rattle.boot_core.specs.declared.calls.Call.TheVariants.{ConnectController}
+use Rattle.boot_calls.specs.declared.calls.Call.TheVariants.{ConnectController}
 use Rattle.trace_verbs.specs.declared.verbs.Verb.TheVariants as verb
 use Rattle.trace_lines.specs.declared.lines.TraceCall.TheVariants as trace_call
 use Rattle.trace_lines.specs.TraceLine.{call_of}

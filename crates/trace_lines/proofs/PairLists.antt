@@ -4,7 +4,7 @@ use Rattle.std.proofs.lemmas.List.{take_rest, length-map}
 use Rattle.text_lines.specs.FirstFault.{◌>>=◌}
 use Rattle.trace_lines.specs.declared.faults.TraceFault.{TraceFault}
 use Rattle.trace_lines.specs.Parameters.{guid_of, u64_of, pairs_of}
-use Rattle.boot_core.specs.declared.calls.Call.TheVariants.{InstallMultipleProtocolInterfaces}
+use Rattle.boot_calls.specs.declared.calls.Call.TheVariants.{InstallMultipleProtocolInterfaces}
 use Rattle.trace_verbs.specs.declared.verbs.Verb.TheVariants as verb
 use Rattle.trace_lines.specs.declared.lines.TraceCall.{TraceCall}
 use Rattle.trace_lines.specs.declared.lines.TraceCall.TheVariants as trace_call

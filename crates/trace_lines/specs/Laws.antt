@@ -1,9 +1,9 @@
 -- The laws of trace lines. Each is the contract of a public function.
 use Rattle.std.specs.Prelude.{◌≡◌, ℕ, ◌^◌, ◌<◌, List, length, Some, Ok}
 use Rattle.std.specs.List.{AllByRecursion}
-use Rattle.boot_core.specs.declared.calls.Call.{Call}
-use Rattle.boot_core.specs.declared.calls.Call.TheVariants as call
-use Rattle.boot_core.specs.Laws.{NamesTypes}
+use Rattle.boot_calls.specs.declared.calls.Call.{Call}
+use Rattle.boot_calls.specs.declared.calls.Call.TheVariants as call
+use Rattle.boot_calls.specs.CallNumbers.{NamesTypes}
 use Rattle.trace_lines.specs.declared.lines.TraceCall.TheVariants.{Service}
 use Rattle.trace_lines.specs.TraceLine.{line_of}
 

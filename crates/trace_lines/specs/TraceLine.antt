@@ -2,7 +2,7 @@
 use Rattle.std.specs.Prelude.{ℕ, ◌%◌, ◌==◌, nat_lt, nat_eq, List, [], ◌∷◌, length, codes, Option, Some, None, Result, Ok, Err, if◌then◌else◌}
 use Rattle.std.specs.List.{starts_with}
 use Rattle.std.specs.Io.BufRead.{strip_last}
-use Rattle.boot_core.specs.declared.calls.Call.TheVariants.{AllocatePages, FreePages, GetMemoryMap, AllocatePool, FreePool, PoolRead, PoolWrite, InstallProtocolInterface, InstallMultipleProtocolInterfaces, UninstallProtocolInterface, ReinstallProtocolInterface, OpenProtocol, CloseProtocol, OpenProtocolInformation, HandleProtocol, RegisterProtocolNotify, LocateHandle, LocateHandleBuffer, LocateProtocol, ProtocolsPerHandle, ConnectController, DisconnectController, LocateDevicePath, ExitBootServices}
+use Rattle.boot_calls.specs.declared.calls.Call.TheVariants.{AllocatePages, FreePages, GetMemoryMap, AllocatePool, FreePool, PoolRead, PoolWrite, InstallProtocolInterface, InstallMultipleProtocolInterfaces, UninstallProtocolInterface, ReinstallProtocolInterface, OpenProtocol, CloseProtocol, OpenProtocolInformation, HandleProtocol, RegisterProtocolNotify, LocateHandle, LocateHandleBuffer, LocateProtocol, ProtocolsPerHandle, ConnectController, DisconnectController, LocateDevicePath, ExitBootServices}
 use Rattle.trace_lines.specs.declared.lines.TraceCall.{TraceCall}
 use Rattle.trace_lines.specs.declared.lines.TraceCall.TheVariants as trace_call
 use Rattle.trace_lines.specs.declared.faults.TraceFault.{TraceFault}

@@ -5,7 +5,7 @@ ghost use Rattle.trace_lines.specs.TraceLine.{call_of, call_of_words, line_of};
 use crate::faults::TraceFault;
 use crate::parameters::{read_bytes, read_u32, read_u64, read_u64_up_to};
 use crate::protocols;
-use boot_core::Call;
+use boot_calls::Call;
 use std::alloc::{Allocator, Global};
 use text_lines::{LONGEST_LINE, without_carriage_return, words_of};
 use trace_verbs::{Verb, verb_named};
@@ -17,7 +17,7 @@ const LARGEST_BUFFER: u64 = 16_777_216;
 const LONGEST_READ: u64 = 65_536;
 
 /// What a trace line asks for.
-#[derive(Debug, Drop)]
+#[derive(Drop)]
 pub enum TraceCall<A: Allocator = Global> {
     /// To print the memory map, which is no call.
     List,

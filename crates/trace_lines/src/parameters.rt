@@ -3,7 +3,7 @@ ghost use Rattle.std.specs.Prelude.{◌≡◌, ◌⊎◌, Err, map};
 ghost use Rattle.trace_lines.specs.Parameters.{bytes_of, flag_of, guid_of, pairs_of, u32_of, u64_of, u64_up_to, u64s_of};
 
 use crate::faults::TraceFault;
-use boot_core::{CallBytes, CallHandles, CallPairs};
+use boot_calls::{CallBytes, CallHandles, CallPairs};
 use std::alloc::Allocator;
 use text_lines::number_of;
 use uuid::Uuid;

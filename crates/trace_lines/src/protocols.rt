@@ -5,7 +5,7 @@ ghost use Rattle.trace_lines.specs.TraceLine.{call_of};
 use crate::faults::TraceFault;
 use crate::lines::TraceCall;
 use crate::parameters::{read_flag, read_guid, read_handles, read_pairs, read_u32, read_u64};
-use boot_core::Call;
+use boot_calls::Call;
 use std::alloc::Allocator;
 use trace_verbs::Verb;
 

@@ -1,5 +1,5 @@
 use Rattle.std.proofs.Common.{subst}
-use Rattle.boot_core.specs.declared.calls.Call.TheVariants as call
+use Rattle.boot_calls.specs.declared.calls.Call.TheVariants as call
 use Rattle.c_machines.specs.Guids.{guid_in}
 use Rattle.c_interface.specs.EfiCores.{EfiCoreValue}
 use Rattle.c_interface.specs.Served.{AnswersNumbers}

@@ -1,5 +1,5 @@
 use Rattle.std.proofs.Common.{map, sym, subst}
-use Rattle.boot_core.specs.declared.calls.Call.{Call}
+use Rattle.boot_calls.specs.declared.calls.Call.{Call}
 use Rattle.boot_core.specs.Steps.{Step}
 use Rattle.boot_core.proofs.core_state.Core.call.Goals as goal
 

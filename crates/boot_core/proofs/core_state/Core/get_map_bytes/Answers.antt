@@ -1,6 +1,6 @@
 use Rattle.std.proofs.Common.{◌≡◌, ap, sym, subst, ◌∙◌, rules}
 use Rattle.page_services.specs.PageRules.{Book}
-use Rattle.boot_core.specs.declared.calls.Reply.{Reply}
+use Rattle.boot_replies.specs.declared.replies.Reply.{Reply}
 use Rattle.boot_core.specs.Machines.{CoreValue, Parts}
 use Rattle.boot_core.specs.MapCalls.{AnswersMap, refused_map}
 use Rattle.boot_core.specs.Steps.{exited_after}

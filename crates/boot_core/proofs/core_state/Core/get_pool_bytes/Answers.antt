@@ -1,6 +1,6 @@
 use Rattle.std.proofs.Common.{◌≡◌, List, ap, sym, subst, ◌∙◌, rules}
 use Rattle.pool_services.specs.Extents.{Extent}
-use Rattle.boot_core.specs.declared.calls.Reply.{Reply}
+use Rattle.boot_replies.specs.declared.replies.Reply.{Reply}
 use Rattle.boot_core.specs.Machines.{CoreValue, Parts}
 use Rattle.boot_core.specs.PoolCalls.{AnswersRead}
 use Rattle.boot_core.specs.Steps.{exited_after}

@@ -6,7 +6,8 @@ use Rattle.page_ranges.specs.Memory.{Page}
 use Rattle.page_services.specs.PageRules.{Book, HasWholeGranules, new_book}
 use Rattle.pool_services.proofs.PoolGranules.{machine-granules}
 use Rattle.pool_services.specs.Extents.{Extent}
-use Rattle.boot_core.specs.Machines.{IsMachine, MachineValue, Parts, AreSound, FollowsCalls, all_calls, first_state}
+use Rattle.boot_machines.specs.Machines.{IsMachine, MachineValue}
+use Rattle.boot_core.specs.Machines.{Parts, AreSound, FollowsCalls, all_calls, first_state}
 use Rattle.boot_core.proofs.Follows.{first_follows}
 use Rattle.boot_core.proofs.Soundness.{first_sound, parts_of}
 use Rattle.boot_core.proofs.core_state.Core.new.Goals as goal

@@ -1,5 +1,5 @@
 use Rattle.std.proofs.Common.{List, map, rules, arith, subst, ◌∙◌, take_all}
-use Rattle.boot_core.specs.declared.calls.Call.{Call}
+use Rattle.boot_calls.specs.declared.calls.Call.{Call}
 use Rattle.boot_core.specs.Steps.{best_starts, CallRun, Step}
 use Rattle.boot_core.proofs.Running.{run_more}
 use Rattle.boot_core.proofs.core_state.Core.run.Goals as goal

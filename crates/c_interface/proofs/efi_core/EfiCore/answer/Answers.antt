@@ -1,8 +1,8 @@
 use Rattle.std.proofs.Common.{◌≡◌, ◌∙◌, refl, sym, ap, subst, inl, IfOk}
 use Rattle.page_ranges.specs.MemoryMap.{memory_map}
 use Rattle.page_ranges.specs.Statuses.{status_number}
-use Rattle.boot_core.specs.Certified.{certified}
-use Rattle.reply_texts.specs.CallText.{map_before}
+use Rattle.boot_replies.specs.Certified.{certified}
+use Rattle.boot_replies.specs.Certified.{map_before}
 use Rattle.c_interface.specs.EfiCores.{EfiCoreValue, LeavesBlock}
 use Rattle.c_interface.proofs.Blocks.{block_left, entries_of}
 use Rattle.c_interface.proofs.efi_core.EfiCore.answer.Goals as goal

@@ -1,6 +1,6 @@
 use Rattle.std.proofs.Common.{Some, sym, ap, subst, ◌∙◌}
 use Rattle.std.specs.Option.{option_map}
-use Rattle.boot_core.specs.declared.calls.Call.TheVariants as call
+use Rattle.boot_calls.specs.declared.calls.Call.TheVariants as call
 use Rattle.c_interface.specs.Buffers.{laid}
 use Rattle.c_interface.specs.Replies.{told_or}
 use Rattle.c_interface.specs.Served.{AnswersHandles}

@@ -1,5 +1,5 @@
 use Rattle.std.proofs.Common.{subst}
-use Rattle.boot_core.specs.declared.calls.Call.TheVariants as call
+use Rattle.boot_calls.specs.declared.calls.Call.TheVariants as call
 use Rattle.c_interface.specs.Served.{AnswersStatus}
 use Rattle.c_interface.proofs.efi_core.EfiCore.reinstall_protocol_interface.Goals as goal
 

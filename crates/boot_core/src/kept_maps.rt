@@ -1,0 +1,41 @@
+//! The memory map before a call, for the certificate that the reply may carry.
+ghost use Rattle.std.specs.Prelude.{◌≡◌, IfOk, option_map};
+ghost use Rattle.page_ranges.specs.MemoryMap.{memory_map};
+ghost use Rattle.boot_replies.specs.Certified.{map_before};
+
+use crate::core_state::Core;
+use boot_calls::Call;
+use boot_replies::may_be_certified;
+use driver_connect::Driver;
+use page_ranges::Descriptor;
+use std::alloc::{AllocError, Allocator};
+
+/// The memory map before a call, where certificates are asked for and the call's reply may carry one.
+pub fn map_before<D: Driver, A: Allocator + Copy>(
+    alloc: A,
+    core: &Core<D, A>,
+    call: &Call<A>,
+    certify: bool,
+) -> Result<Option<Vec<Descriptor, A>>, AllocError>
+    ensures { IfOk result (λ kept. option_map (λ entries. entries.items) kept ≡ map_before certify core.now.state.parts.book.granule (memory_map core.now.state.parts.book.memory) call.now) }
+{
+    if certify && may_be_certified(core.granule(), call) {
+        Ok(Some(entries_of(alloc, core)?))
+    } else {
+        Ok(None)
+    }
+}
+
+/// The entries of the memory map.
+fn entries_of<D: Driver, A: Allocator + Copy>(
+    alloc: A,
+    core: &Core<D, A>,
+) -> Result<Vec<Descriptor, A>, AllocError>
+    ensures { IfOk result (λ entries. entries.items ≡ memory_map core.now.state.parts.book.memory) }
+{
+    let mut entries = Vec::new(alloc);
+    for entry in core.map_entries() {
+        entries.push(entry)?;
+    }
+    Ok(entries)
+}

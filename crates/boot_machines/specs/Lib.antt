@@ -1,0 +1,2 @@
+pub mod MachineRuns
+pub mod Machines

@@ -1,0 +1,9 @@
+-- How results are replied.
+use Rattle.std.specs.Prelude.{Result, Ok, Err}
+use Rattle.page_ranges.specs.declared.statuses.Status.{Status}
+use Rattle.page_ranges.specs.declared.statuses.Status.TheVariants.{Success}
+
+-- the status of a result
+abbrev pub told_status : Result (Unit {0}) Status → Status
+told_status (Ok done) = Success
+told_status (Err status) = status

@@ -1,0 +1,37 @@
+//! The lines of a listing of the memory map.
+ghost use Rattle.std.specs.Prelude.{◌≡◌, ◌++◌, OnOk, flat_map, string_bytes};
+ghost use Rattle.page_ranges.specs.MemoryMap.{memory_map};
+ghost use Rattle.reply_texts.specs.PrintedText.{list_text, descriptor_line};
+
+use boot_core::Core;
+use driver_connect::Driver;
+use reply_texts::print_descriptor;
+use std::alloc::{AllocError, Allocator};
+use trace_verbs::Verb;
+
+/// Appends the lines of a listing: the memory map's length, and its entries.
+pub(crate) fn print_list<D: Driver, A: Allocator + Copy>(
+    text: &mut String<A>,
+    number: u64,
+    core: &Core<D, A>,
+) -> Result<(), AllocError>
+    ensures { OnOk result (string_bytes text.new ≡ string_bytes text.old ++ list_text number (memory_map core.now.state.parts.book.memory)) }
+{
+    let verb = Verb::List.name();
+    let descriptors = core.descriptors();
+    writeln!(text, "{number} {verb} descriptors={descriptors}")?;
+    print_map_entries(text, core)
+}
+
+/// Appends the lines of the memory map's entries.
+fn print_map_entries<D: Driver, A: Allocator + Copy>(
+    text: &mut String<A>,
+    core: &Core<D, A>,
+) -> Result<(), AllocError>
+    ensures { OnOk result (string_bytes text.new ≡ string_bytes text.old ++ flat_map descriptor_line (memory_map core.now.state.parts.book.memory)) }
+{
+    for entry in core.map_entries() {
+        print_descriptor(text, &entry)?;
+    }
+    Ok(())
+}

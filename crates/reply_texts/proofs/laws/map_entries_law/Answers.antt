@@ -1,5 +1,0 @@
-use Rattle.reply_texts.proofs.MapEntries.{carried}
-use Rattle.reply_texts.proofs.laws.map_entries_law.Goals as goal
-
-pub returns : goal.returns
-returns g c = λ ds old size told bytes new entries fit step success carries. carried ds old size told bytes new entries fit step success carries
