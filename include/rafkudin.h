@@ -1,27 +1,36 @@
 /* Rafkudin: the memory and protocol services of a UEFI firmware, proved, as a library for C.
  *
- * A core is the boot services of one machine. Each service has its name and its parameters of the
- * UEFI Specification 2.10, with the core in front; what has no name there begins with Rafkudin.
- * docs/RULES.md states what each service does, point by point, and docs/FORMATS.md the bytes of
- * maps, lists, device paths and certificates; the end of RULES.md says what of the standard is left
- * out. No hardware is touched: addresses are those of the machine that RafkudinMake was told of,
- * never pointers of this program.
+ * A core is the boot services of one machine. docs/RULES.md states what each service does, point by
+ * point, and docs/FORMATS.md the bytes of maps, lists, device paths and certificates; the end of
+ * RULES.md says what of the standard is left out. No hardware is touched: addresses are those of
+ * the machine that RafkudinMake is given, never pointers of this program.
+ *
+ * NAMES. There are 24 services. 21 of them have their names in the UEFI Specification 2.10, and its
+ * parameters in its order, with the core in front; where one is left out or added, the comment at
+ * the function says so. RafkudinProtocolsPerHandle is ProtocolsPerHandle with a buffer of the
+ * caller's. PoolRead and PoolWrite are in no standard: by them a caller reaches the bytes of the
+ * pool. GetMemoryMap and LocateHandle are inline functions over RafkudinGetMemoryMap and
+ * RafkudinLocateHandle, which make the call. All other functions that begin with Rafkudin are no
+ * services.
  *
  * NUMBERS. A page has 4,096 bytes. Addresses and sizes are in bytes, numbers of pages in pages. A
- * handle is a number, from 1 up; 0 stands for the null handle. An event is any number of the
- * caller's.
+ * handle is a number, from 1 up; 0 is the null handle. An event is any number of the caller's.
  *
  * STATUSES. Services answer an EFI_STATUS. SUCCESS is 0. Any other is a refusal, which leaves the
- * core as it was, and what the call's pointers lead to as well, but for what BUFFER_TOO_SMALL
- * tells. Where several refusals apply, the one that is named first is answered. These hold for
- * every service, and are not repeated below:
- * - First of all, ABORTED: the core has served its 2^31 calls. Refused ones count too. Of what
- *   begins with Rafkudin, RafkudinGetMemoryMap, RafkudinLocateHandle and RafkudinProtocolsPerHandle
- *   count, as they stand for services.
+ * core as it was, but for the calls left and what RafkudinEvents and RafkudinCertificate answer of
+ * the call before. It leaves what the call's pointers lead to as well, but for what is said of
+ * BUFFER_TOO_SMALL. Where several refusals apply, the one that is named first is answered. These
+ * hold for every service, and are not repeated below:
+ * - First of all, ABORTED: the core has served its 2^31 calls. Refused ones count too.
  * - Then UNSUPPORTED: the boot services were exited. All services answer it from then on.
- * - Last of all, OUT_OF_RESOURCES: malloc or realloc refused the core memory for its own tables.
+ * - Last of all, OUT_OF_RESOURCES: the heap refused the core memory for its own tables.
  *   GetMemoryMap, ExitBootServices, PoolRead, PoolWrite, CloseProtocol, HandleProtocol,
  *   LocateDevicePath and LocateProtocol never ask for any.
+ * OUT_OF_RESOURCES may take the place of five refusals that are named before it, as the core needs
+ * memory to decide them: ACCESS_DENIED of UninstallProtocolInterface, of
+ * ReinstallProtocolInterface, and of an exclusive OpenProtocol for which a driver must be stopped;
+ * NOT_FOUND of ConnectController; DEVICE_ERROR of DisconnectController. And
+ * InstallMultipleProtocolInterfaces asks for memory before it looks at anything else.
  *
  * WHAT THE CALLER OWES. Nothing checks it, and the proofs hold only where it holds:
  * - `core` is a pointer that RafkudinMake gave and that was not yet handed to RafkudinFree.
@@ -33,9 +42,32 @@
  *   that are only read may meet. So each result has a variable of its own.
  * - A core is in one call at a time, on the thread that made it. Two cores may be in calls at once,
  *   also in two threads.
- * - malloc, realloc and free are of one allocator, and malloc and realloc align their blocks to 16
- *   bytes.
- * - No call is made from a signal handler, or in the forked child of a process with threads. */
+ * - No call is made from a signal handler, or in the forked child of a process with threads.
+ *
+ * WHAT THE LIBRARY NEEDS. The program defines six functions that the library calls. Three are those
+ * of the C library, or do the same:
+ *
+ *     void *memcpy(void *to, const void *from, size_t size);
+ *     void *memmove(void *to, const void *from, size_t size);
+ *     void *memset(void *to, int byte, size_t size);
+ *
+ * Three are its heap. examples/c/heap.c makes them of malloc, realloc and free; a program without a
+ * C library has its own.
+ *
+ *     struct block { bool given; void *start; };
+ *     struct block rattle_alloc(size_t size, size_t align);
+ *     struct block rattle_realloc(void *start, size_t kept, size_t size, size_t align);
+ *     void rattle_dealloc(void *start);
+ *
+ * - A block of `size` bytes begins at a multiple of `align`, which is a power of two up to 16 and
+ *   divides `size`. A `size` of 0 is no reason to refuse.
+ * - A block belongs to the library alone until rattle_dealloc, or rattle_realloc with success,
+ *   gets its `start`.
+ * - rattle_realloc keeps the first `kept` bytes of the block. Where it refuses, the old block stays
+ *   as it was.
+ * - Where memory is refused, `given` is false and `start` is still no null pointer.
+ * - All three are of one heap, and may be called in two threads at once where these have a core
+ *   each. */
 #ifndef RAFKUDIN_H
 #define RAFKUDIN_H
 
@@ -180,7 +212,8 @@ uint64_t RafkudinMake(const uint8_t *records, size_t size, size_t descriptor_siz
                       const struct rafkudin_driver *drivers, size_t driver_count,
                       struct rafkudin **core);
 
-/* Gives back all memory of a core, also after the exit of the boot services. */
+/* Gives back all memory of a core, also after the exit of the boot services. `core` may be null;
+ * then nothing is done. */
 void RafkudinFree(struct rafkudin *core);
 
 /* Whether calls keep the certificates of their placements from now on. At first they don't: it
@@ -209,14 +242,14 @@ uint64_t RafkudinCheck(const uint8_t *text, size_t length, uint64_t *line);
 /* How many events the last service that was called signals, and the first `room` of them in
  * `events`, in their order. Only InstallProtocolInterface, InstallMultipleProtocolInterfaces,
  * ReinstallProtocolInterface and ConnectController signal any, on SUCCESS: the events registered
- * for the GUIDs that they install. An event may stand there more than once. */
+ * for the GUIDs that they install. An event may be there more than once. */
 size_t RafkudinEvents(const struct rafkudin *core, uint64_t *events, size_t room);
 
 /* How many entries the memory map has. This and the next work after the exit of the boot services
  * too. */
 size_t RafkudinDescriptors(const struct rafkudin *core);
 
-/* The entry at an index, from 0 on, by ascending address. NOT_FOUND: there are not so many. */
+/* The entry at an index, from 0 on, by ascending address. NOT_FOUND: there is none. */
 uint64_t RafkudinDescriptor(const struct rafkudin *core, size_t index,
                             struct rafkudin_descriptor *entry);
 
@@ -228,30 +261,34 @@ uint64_t RafkudinCallsLeft(const struct rafkudin *core);
 /* 7.2.1. Places `Pages` pages of the type `MemoryType`, and puts the address of the first into
  * *Memory: anywhere, below an address (*Memory is the last byte that may belong to them), or at an
  * address (*Memory itself). Where the place is free to choose, it is the highest of those after
- * which the memory map has the fewest entries, and none with SP.
+ * which the memory map has the fewest entries, and none with SP. On a machine with the granule 16,
+ * pages of the types RESERVED, RUNTIME_SERVICES_CODE, RUNTIME_SERVICES_DATA and ACPI_MEMORY_NVS
+ * begin at a multiple of 16 pages, and their number is rounded up to one.
  *
  * INVALID_PARAMETER: another type of allocation, a memory type that no request may name, or 0
  * pages. NOT_FOUND: the pages are not all there and free at the address, or the address is no
- * multiple of 4,096 (or of the granule, where one is asked for). OUT_OF_RESOURCES: no permitted
- * place. */
+ * multiple of 4,096, or of 65,536 for these four types with the granule 16. OUT_OF_RESOURCES: no
+ * permitted place. */
 uint64_t AllocatePages(struct rafkudin *core, uint32_t Type, uint32_t MemoryType, uint64_t Pages,
                        uint64_t *Memory);
 
 /* 7.2.2. Frees pages that AllocatePages placed: a whole allocation, a part of one, or several that
- * touch.
+ * touch. On a machine with the granule 16, each end of the range then grows outward to the next
+ * multiple of 16 pages, where the page at that end has one of the four types that AllocatePages
+ * names; what it grows by was always placed too, and is freed with the rest.
  *
  * INVALID_PARAMETER: `Memory` is no multiple of 4,096, `Pages` is 0, or the range goes past the
- * last page. NOT_FOUND: a page of it was not placed by AllocatePages. */
+ * last page. NOT_FOUND: a page of the range, as it is named, was not placed by AllocatePages. */
 uint64_t FreePages(struct rafkudin *core, uint64_t Memory, uint64_t Pages);
 
 /* 7.2.3, GetMemoryMap with the buffer's room beside it; the function GetMemoryMap below has the
  * standard's order. The map is written to the front of `MemoryMap`, which has `room` bytes:
  * RAFKUDIN_DESCRIPTOR_SIZE bytes for each entry, by ascending address, of which the first 40 are an
  * EFI_MEMORY_DESCRIPTOR. *MemoryMapSize are the bytes written, *MapKey is the key that
- * ExitBootServices asks for, *DescriptorSize and *DescriptorVersion tell the descriptors' size and
+ * ExitBootServices asks for, *DescriptorSize and *DescriptorVersion are the descriptors' size and
  * version.
  *
- * BUFFER_TOO_SMALL: *MemoryMapSize are the bytes needed; the descriptors' size and version are told
+ * BUFFER_TOO_SMALL: *MemoryMapSize are the bytes needed; the descriptors' size and version are set
  * too, the key is not. */
 uint64_t RafkudinGetMemoryMap(struct rafkudin *core, uint8_t *MemoryMap, size_t room,
                               uint64_t *MemoryMapSize, uint64_t *MapKey, uint64_t *DescriptorSize,
@@ -284,12 +321,14 @@ uint64_t InstallProtocolInterface(struct rafkudin *core, uint64_t *Handle,
                                   const struct rafkudin_guid *Protocol, uint32_t InterfaceType,
                                   uint64_t Interface);
 
-/* The same with `count` interfaces, of which all are installed or none.
+/* The same with `count` interfaces in place of the standard's list of arguments. All are installed
+ * or none.
  *
- * INVALID_PARAMETER: no interfaces or over 16; a handle that is neither 0 nor live; a GUID that
- * stands twice among them or is on the handle. ALREADY_STARTED: one of them is a device path that a
- * live handle has already. OUT_OF_RESOURCES as above; also where memory for a copy of the list is
- * refused, and then alone no call is used up. */
+ * OUT_OF_RESOURCES comes first, before ABORTED too: memory for a copy of the whole list was
+ * refused, and then alone no call is used up. Then those that hold for every service; then
+ * INVALID_PARAMETER: no interfaces or over 16; a handle that is neither 0 nor live; a GUID that is
+ * twice among them or is on the handle; ALREADY_STARTED: one of them is a device path that a live
+ * handle has already; OUT_OF_RESOURCES: RAFKUDIN_MOST_HANDLES are live already. */
 uint64_t InstallMultipleProtocolInterfaces(struct rafkudin *core, uint64_t *Handle,
                                            const struct rafkudin_interface *interfaces,
                                            size_t count);
@@ -298,8 +337,8 @@ uint64_t InstallMultipleProtocolInterfaces(struct rafkudin *core, uint64_t *Hand
  * handle goes.
  *
  * INVALID_PARAMETER: the handle is not live. NOT_FOUND: it lacks the GUID, or has it with another
- * value. ACCESS_DENIED: the driver can't be stopped, or someone has the interface open exclusively
- * or for a child. */
+ * value. ACCESS_DENIED: the driver can't be stopped, or the interface would still be open
+ * exclusively or for a child. */
 uint64_t UninstallProtocolInterface(struct rafkudin *core, uint64_t Handle,
                                     const struct rafkudin_guid *Protocol, uint64_t Interface);
 
@@ -349,8 +388,8 @@ uint64_t RafkudinProtocolsPerHandle(struct rafkudin *core, uint64_t Handle,
                                     struct rafkudin_guid *guids, size_t room, uint64_t *count);
 
 /* Puts the value of an interface into *Interface (RAFKUDIN_TEST_PROTOCOL leaves that as it is), and
- * remembers who has it open for which controller, and how. An exclusive open stops the driver that
- * has the interface open.
+ * remembers which agent has it open for which controller, and how. An exclusive open stops the
+ * driver that has the interface open.
  *
  * By the table of docs/RULES.md, whose topmost line that fits decides: INVALID_PARAMETER: other
  * attributes; a handle, or an agent or controller other than 0, that is not live; an agent or
@@ -405,14 +444,14 @@ uint64_t DisconnectController(struct rafkudin *core, uint64_t ControllerHandle,
  * front of the path at the pool's address *DevicePath, and sets *DevicePath to the address behind
  * the nodes that matched.
  *
- * INVALID_PARAMETER: no device path stands at the address. NOT_FOUND: no handle matches. */
+ * INVALID_PARAMETER: no device path is at the address. NOT_FOUND: no handle matches. */
 uint64_t LocateDevicePath(struct rafkudin *core, const struct rafkudin_guid *Protocol,
                           uint64_t *DevicePath, uint64_t *Device);
 
 /* ---- The end of the boot services, section 7.4.6 ---- */
 
-/* Ends the boot services where `MapKey` is the key that GetMemoryMap tells now: each call that
- * changed the type of a page since has made another. `ImageHandle` plays no part.
+/* Ends the boot services where `MapKey` is the key that GetMemoryMap gives now: each call that
+ * changes the type of a page makes another. `ImageHandle` plays no part.
  * INVALID_PARAMETER: another key. */
 uint64_t ExitBootServices(struct rafkudin *core, uint64_t ImageHandle, uint64_t MapKey);
 
@@ -424,7 +463,7 @@ uint64_t ExitBootServices(struct rafkudin *core, uint64_t ImageHandle, uint64_t 
  *
  * INVALID_PARAMETER: `MemoryMapSize` is null, or `MemoryMap` is null and the size is not 0: this is
  * answered first, and uses up no call. BUFFER_TOO_SMALL: *MemoryMapSize are the bytes needed. The
- * descriptors' size and version are told too, so that a loader can add room for the entries that
+ * descriptors' size and version are set too, so that a loader can add room for the entries that
  * its own allocation of the buffer makes. */
 static inline uint64_t GetMemoryMap(struct rafkudin *core, uint64_t *MemoryMapSize, void *MemoryMap,
                                     uint64_t *MapKey, uint64_t *DescriptorSize,
