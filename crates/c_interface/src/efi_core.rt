@@ -11,11 +11,10 @@ ghost use Rattle.c_interface.specs.Served.{AnswersStatus, AnswersNumber, Answers
 
 use crate::buffers::lay;
 use crate::replies::{events_in, number_in, numbers_in, status_in};
-use boot_core::{Call, Core, Reply, certified};
+use boot_core::{Call, Core, Reply, certified, map_before};
 use certificate_blocks::print_block;
 use driver_connect::TableDriver;
 use page_ranges::{Descriptor, Status};
-use reply_texts::map_before;
 use std::alloc::{AllocError, Global};
 use std::marker::Model;
 
