@@ -6,7 +6,7 @@ mod program;
 mod serve;
 
 pub use files::{OpenFiles, SystemFiles};
-pub use program::{run_program, serve_arguments, serve_texts};
+pub use program::{serve_arguments, serve_texts};
 pub use serve::{
     FAULT, Fault, REFUSED, SUCCESS, USAGE, serve_check, serve_fault, serve_run, serve_usage,
 };

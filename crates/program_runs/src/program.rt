@@ -2,36 +2,17 @@
 ghost use Rattle.std.specs.Prelude.{◌≡◌, ◌≤◌, List, [], IfOk, MatchResult, map, string_bytes};
 ghost use Rattle.std.specs.IoError.{error_kind};
 ghost use Rattle.std.specs.Vec.Iter.{into_iter_items};
-ghost use Rattle.std.specs.Process.{exit_status};
 ghost use Rattle.program_runs.specs.Programs.{Opening, Opens, RunsPaths, Does, DoesAsAsked, IsLostStatus};
 
-use crate::files::{OpenFiles, SystemFiles};
+use crate::files::OpenFiles;
 use crate::serve::{Fault, run_files, serve_check, serve_end, serve_fault, serve_usage};
 use command_line::{Command, CommandFault, command_of};
 use std::alloc::Global;
-use std::env::{Args, args};
+use std::env::Args;
 use std::io::{self, Error, ErrorKind, Read, Write};
-use std::process::ExitCode;
 
 /// What is told of arguments that are not UTF-8.
 const NOT_UTF8: &str = "error: arguments that are not UTF-8\n";
-
-/// Runs the program, and answers its exit status.
-pub fn run_program(rt: &HostRuntime) -> ExitCode
-    ensures { exit_status result ≤ 3 }
-{
-    let mut files = SystemFiles::new(rt);
-    let mut out = rt.stdout();
-    let mut err = rt.stderr();
-    ExitCode::from(serve_arguments(
-        rt.alloc(),
-        args(rt),
-        &mut files,
-        rt.stdin(),
-        &mut out,
-        &mut err,
-    ))
-}
 
 /// Does what the arguments ask for, if they could be read, and answers the exit status.
 pub fn serve_arguments<O: OpenFiles, I: Read + Drop, W: Write, E: Write>(

@@ -1,13 +1,12 @@
 //! Runs and checks over streams.
 mod call_rows;
+mod fault_lines;
 mod heaps;
 mod left_states;
 mod openings;
 mod reads;
 mod refused_calls;
 mod refused_inputs;
-mod sizes;
-mod statuses;
 mod writes;
 
 use program_runs::{serve_check, serve_run};

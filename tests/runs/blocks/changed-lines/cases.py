@@ -1,0 +1,66 @@
+"""Blocks that differ from the accepted one in some lines."""
+from blocks import answered, block_with
+
+# Each a name, the first line that differs and how many are left out, what stands there, and what is answered: the
+# verdict, or the number of the line that is told.
+ROWS = [
+    ("words in other places", 12, 1, " answer\t 0x7F6 \r\n", "accepted"),
+    ("another answer", 12, 1, "answer 150\n", "refused"),
+    ("a bound less", 8, 4, "bounds 2\n0 160 5 150\n256 768 5 1014\n", "refused"),
+    ("a count too low", 10, 1, "256 768 4 1014\n", "refused"),
+    ("a top too low", 9, 1, "0 160 5 149\n", "refused"),
+    ("conventional runtime", 3, 1, "7 0 160 0x800000000000000f\n", "refused"),
+    ("not joined", 2, 2, "map 5\n7 0 100 0xf\n7 100 60 0xf\n", "refused"),
+    ("a type that is none", 3, 1, "16 0 160 0xf\n", "refused"),
+    ("overlaps", 3, 1, "7 0 300 0xf\n", "refused"),
+    ("past all numbers", 6, 1, "7 18446744073709551615 18446744073709551615 0xf\n", "refused"),
+    ("past the last page", 6, 1, "7 4503599627370495 2 0xf\n", "refused"),
+    ("no pages", 3, 1, "7 0 0 0xf\n", "refused"),
+    ("no memory", 2, 11, "map 0\nrequest 4 1 4503599627370496\nbounds 0\nanswer 0\n", "refused"),
+    ("a huge map", 2, 12, "map 18446744073709551615\n", 3),
+    ("a type past 32 bits", 3, 1, "4294967296 0 160 0xf\n", 3),
+    ("a line after the end", 14, 0, "end\n", 14),
+    ("an empty line after the end", 14, 0, "\n", 14),
+    ("an empty line before the end", 13, 0, "\n", 13),
+    ("a comment", 2, 0, "# map\n", 2),
+    ("another name", 1, 1, "certificates\n", 1),
+    ("a name in capitals", 1, 1, "Certificate\n", 1),
+    ("a word after the name", 1, 1, "certificate 1\n", 1),
+    ("a map without its number", 2, 1, "map\n", 2),
+    ("a map of two numbers", 2, 1, "map 4 4\n", 2),
+    ("a map by another name", 2, 1, "maps 4\n", 2),
+    ("an entry of three words", 3, 1, "7 0 160\n", 3),
+    ("an entry of five words", 4, 1, "7 256 768 0xf 0\n", 4),
+    ("an entry with a sign", 5, 1, "6 +1024 16 0xf\n", 5),
+    ("an entry with a digit too many", 6, 1, "7 1040 1008 0x0000000000000000f\n", 6),
+    ("a request by another name", 7, 1, "requests 4 10 4503599627370496\n", 7),
+    ("a request without its limit", 7, 1, "request 4 10\n", 7),
+    ("a request with a word more", 7, 1, "request 4 10 4503599627370496 0\n", 7),
+    ("a request for a type past 32 bits", 7, 1, "request 4294967296 10 1\n", 7),
+    ("a request for pages past 64 bits", 7, 1, "request 4 18446744073709551616 1\n", 7),
+    ("a request with a limit that is no number", 7, 1, "request 4 10 none\n", 7),
+    ("no request", 7, 1, "", 7),
+    ("bounds without their number", 8, 1, "bounds\n", 8),
+    ("bounds of two numbers", 8, 1, "bounds 3 3\n", 8),
+    ("bounds by another name", 8, 1, "bound 3\n", 8),
+    ("bounds that are no number", 8, 1, "bounds three\n", 8),
+    ("a bound more than it says", 8, 1, "bounds 2\n", 11),
+    ("a bound less than it says", 8, 1, "bounds 4\n", 12),
+    ("a bound of two words", 9, 1, "0 160\n", 9),
+    ("a bound of three numbers", 10, 1, "256 768 5\n", 10),
+    ("a bound of five words", 10, 1, "256 768 5 1014 0\n", 10),
+    ("a bound with none and a number", 11, 1, "1040 1008 none 2038\n", 11),
+    ("a bound with none by another name", 11, 1, "1040 1008 None\n", 11),
+    ("a bound that is no number", 11, 1, "1040 1008 5 x\n", 11),
+    ("an answer without its number", 12, 1, "answer\n", 12),
+    ("an answer of two numbers", 12, 1, "answer 2038 2038\n", 12),
+    ("an answer by another name", 12, 1, "answers 2038\n", 12),
+    ("an answer that is no number", 12, 1, "answer none\n", 12),
+    ("an answer past 64 bits", 12, 1, "answer 0x10000000000000000\n", 12),
+    ("another end", 13, 1, "ends\n", 13),
+]
+
+
+def cases():
+    for name, first, count, lines, verdict in ROWS:
+        yield name, answered(block_with(first, count, lines), verdict)
