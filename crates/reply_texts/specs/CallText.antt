@@ -1,5 +1,5 @@
 -- What is printed of a call.
-use Rattle.std.specs.Prelude.{◌≡◌, ◌⊎◌, ℕ, Bool, true, false, List, [], ◌++◌, Option, Some, None, if◌then◌else◌}
+use Rattle.std.specs.Prelude.{◌≡◌, ◌⊎◌, ℕ, Bool, List, [], ◌++◌, Option, Some, None, if◌then◌else◌}
 use Rattle.page_ranges.specs.declared.ranges.Descriptor.{Descriptor}
 use Rattle.page_ranges.specs.MemoryMap.{memory_map}
 use Rattle.placement_certificate.specs.declared.certificates.Request.{Request}
@@ -10,7 +10,7 @@ use Rattle.certificate_blocks.specs.BlockText.{block_text}
 use Rattle.boot_calls.specs.declared.calls.Call.{Call}
 use Rattle.boot_replies.specs.declared.replies.Reply.{Reply}
 use Rattle.boot_replies.specs.declared.replies.Reply.TheVariants as reply
-use Rattle.boot_replies.specs.Certified.{certified, may_be_certified}
+use Rattle.boot_replies.specs.Certified.{certified}
 use Rattle.reply_texts.specs.PrintedText.{reply_text}
 
 -- the entries whose records the bytes are, none where they are no records

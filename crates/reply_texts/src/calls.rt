@@ -4,7 +4,6 @@ ghost use Rattle.page_ranges.specs.declared.ranges.Descriptor.{Descriptor};
 ghost use Rattle.boot_replies.specs.Certified.{certified};
 ghost use Rattle.reply_texts.specs.PrintedText.{reply_text};
 ghost use Rattle.reply_texts.specs.CallText.{CarriesEntries, block_after};
-ghost use Rattle.boot_replies.specs.Certified.{map_before};
 
 use crate::replies::{carried_entries, print_reply};
 use boot_calls::Call;
