@@ -418,7 +418,7 @@ freed_is b first pages low high end low_is high_is some end_is =
     let ends : end ≡ end_freed b (first + pages) = end_is ∙ ap (rounded (first + pages)) (high_is ∙ ap (granule_of b.granule) below) in
     ap (λ n. span n end) begins ∙ ap (span (first_freed b first)) ends ∙ ap (λ n. span (first_freed b n) (end_freed b (n + pages))) named
 
-no_such_page : (m : List Page) (k : ℕ) (p : Option Page) → IsProperMemory m → page_count ≤ k → page_at m k ≡ p → ¬ IsConventional p
+pub no_such_page : (m : List Page) (k : ℕ) (p : Option Page) → IsProperMemory m → page_count ≤ k → page_at m k ≡ p → ¬ IsConventional p
 no_such_page m k None proper high at free = free
 no_such_page m k (Some x) proper high at free = omega (arith, page_at-number m k x at, (page_at-all IsProperPage m k x proper.each at).number)
 

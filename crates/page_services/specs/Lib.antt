@@ -1,1 +1,2 @@
 pub mod PageRules
+pub mod Laws
