@@ -11,3 +11,5 @@ pub mod Takes
 pub mod Gives
 pub mod Writes
 pub mod Regions
+pub mod RawSteps
+pub mod Leases

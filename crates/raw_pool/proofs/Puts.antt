@@ -1,11 +1,11 @@
 -- Bytes written into a region, and what is read of it afterwards.
-use Rattle.std.proofs.Common.{Vec, ◌≡◌, ℕ, suc, ◌+◌, ◌-◌, ◌^◌, ◌<◌, ◌≤◌, List, [], ◌∷◌, ◌++◌, length, take, drop, set, replicate, refl, sym, ap, ◌∙◌, append_assoc, arith}
+use Rattle.std.proofs.Common.{inl, inr, ◌≡◌, ℕ, suc, ◌+◌, ◌-◌, ◌^◌, ◌<◌, ◌≤◌, List, [], ◌∷◌, ◌++◌, length, take, drop, set, replicate, refl, sym, ap, ◌∙◌, append_assoc, arith}
 use Rattle.byteorder.specs.Endian.{little_bytes, little_number}
 use Rattle.byteorder.specs.Numbers.{little_number-reads_back}
-use Rattle.std.specs.Vec.{with_items_from}
-use Rattle.std.proofs.lemmas.List.{with_items_is, take-append-drop, set_split, take_all, drop_all, append-nil, length-append, length-take-le, length-drop, length-replicate, drop-drop, take_at, drop-append-le, take-append-le, drop-take, take-take, drop-replicate, take-replicate}
+use Rattle.std.proofs.lemmas.Bool.{cases_lt}
+use Rattle.std.proofs.lemmas.List.{take-append-drop, set_split, take_all, drop_all, append-nil, length-append, length-take-le, length-drop, length-replicate, drop-drop, take_at, drop-append-le, take-append-le, drop-take, take-take, drop-replicate, take-replicate}
 use Rattle.std.proofs.Math.Seq.{drop-append-add, take-append-add}
-use Rattle.raw_pool.specs.Bytes.{part, put, word}
+use Rattle.raw_pool.specs.Bytes.{extended, part, put, word}
 
 -- what lies behind the place of the bytes that were written
 drop-put : (bytes new : List ℕ) (at i : ℕ) → at ≤ length bytes → drop (at + i) (put bytes at new) ≡ drop i (new ++ drop (at + length new) bytes)
@@ -130,15 +130,36 @@ put-more bytes new more at next h e =
 
 -- ---- bytes written over those that are set, and behind them
 
-pub put-within : {Z : Type 0} (v : Vec ℕ Z) (new : List ℕ) (at : ℕ) → at + length new ≤ length v.items → (with_items_from v at new).items ≡ put v.items at new
-put-within v new at h =
-    let rest : List ℕ = drop (length new) (drop at v.items) in
-    let long : length (take at v.items ++ (new ++ rest)) ≡ v.len =
-    omega (arith, length-append (take at v.items) (new ++ rest), length-append new rest, length-take-le at v.items, length-drop at v.items, length-drop (length new) (drop at v.items), v.ok.0) in
-    with_items_is v (take at v.items ++ (new ++ rest)) long
-    ∙ sym (append_assoc (take at v.items) new rest)
-    ∙ ap (λ (xs : List ℕ). take at v.items ++ new ++ xs) (drop-drop (length new) at v.items)
-    ∙ sym (put-is v.items at new)
+-- a row of bytes in the middle of which others were written through a slice
+pub lent-put : (len at k : ℕ) (all rest new : List ℕ) → len ≡ length all → at + length new ≤ length all → k ≡ length new →
+    take len (take at all ++ (new ++ drop k (drop at all)) ++ drop (length (take at all ++ (new ++ drop k (drop at all)))) rest) ≡ put all at new
+lent-put len at k all rest new e h q =
+    let back : List ℕ = drop k (drop at all) in
+    let mid : List ℕ = take at all ++ (new ++ back) in
+    let long : length mid ≡ len = omega (arith, length-append (take at all) (new ++ back), length-append new back, length-take-le at all, length-drop at all, length-drop k (drop at all), e, q) in
+    let end : at + k ≡ at + length new = omega (arith, q) in
+    take_at mid (drop (length mid) rest) len long
+    ∙ sym (append_assoc (take at all) new back)
+    ∙ ap (λ (xs : List ℕ). take at all ++ new ++ xs) (drop-drop k at all ∙ ap (λ (n : ℕ). drop n all) end)
+    ∙ sym (put-is all at new)
+
+pub length-extended : (bytes : List ℕ) (end : ℕ) → length (extended bytes end) ≡ length bytes + (end - length bytes)
+length-extended bytes end = length-append bytes (replicate (end - length bytes) 0) ∙ ap (λ (n : ℕ). length bytes + n) (length-replicate {A = ℕ} (end - length bytes) 0)
+
+-- bytes that are set to 0 first and written over then
+pub put-extended : (bytes new : List ℕ) (at end : ℕ) → at ≤ length bytes → end ≡ at + length new → put (extended bytes end) at new ≡ put bytes at new
+put-extended bytes new at end h e =
+    let zeros : List ℕ = replicate (end - length bytes) 0 in
+    let n : length (bytes ++ zeros) ≡ length bytes + (end - length bytes) = length-extended bytes end in
+    let back : drop (at + length new) (bytes ++ zeros) ≡ drop (at + length new) bytes =
+    elim (cases_lt (length bytes) (at + length new)) [
+      | inl l ↦ drop_all (at + length new) (bytes ++ zeros) (omega (arith, n, e)) ∙ sym (drop_all (at + length new) bytes (omega arith))
+      | inr g ↦ ap (λ (k : ℕ). drop (at + length new) (bytes ++ replicate k 0)) (let none : end - length bytes ≡ 0 = omega arith in none) ∙ ap (drop (at + length new)) (append-nil bytes)
+    ] in
+    put-is (bytes ++ zeros) at new
+    ∙ ap (λ (xs : List ℕ). xs ++ new ++ drop (at + length new) (bytes ++ zeros)) (take-append-le at bytes zeros h)
+    ∙ ap (λ (xs : List ℕ). take at bytes ++ new ++ xs) back
+    ∙ sym (put-is bytes at new)
 
 pub put-behind : (bytes over behind : List ℕ) (at : ℕ) → length bytes ≤ at + length over → put bytes at over ++ behind ≡ put bytes at (over ++ behind)
 put-behind bytes over behind at h =

@@ -1,11 +1,20 @@
 -- The bytes of a region: those that were set are its front.
-use Rattle.std.specs.Prelude.{ℕ, ◌+◌, List, ◌++◌, length, take, drop}
+use Rattle.std.specs.Prelude.{ℕ, ◌+◌, ◌-◌, List, ◌++◌, length, replicate, take, drop}
 use Rattle.byteorder.specs.Endian.{little_number}
 
--- a region: its bytes that were set, and how many it has room for
+-- bytes in a row: those that were set, and how many there is room for
 pub record Bytes : Type 0 where
   pub set : List ℕ
   pub room : ℕ
+
+-- a region: the bytes of its cells, and their marks
+pub record Parts : Type 0 where
+  pub bytes : Bytes
+  pub marks : Bytes
+
+-- the bytes once those up to a place are set, to 0 where they were not
+abbrev pub extended : List ℕ → ℕ → List ℕ
+extended bytes end = bytes ++ replicate (end - length bytes) 0
 
 -- so many bytes from a place on
 abbrev pub part : List ℕ → ℕ → ℕ → List ℕ

@@ -2,3 +2,5 @@ pub mod Bytes
 pub mod Blocks
 pub mod FreeList
 pub mod Searches
+pub mod Ownership
+pub mod RawRows

@@ -2,6 +2,7 @@
 #![tactic(auto)]
 
 mod pool;
+mod raw_bytes;
 mod region;
 mod store;
 

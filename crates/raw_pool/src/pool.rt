@@ -27,9 +27,9 @@ impl<A: Allocator> Model for RawPool<A> {
 
     ghost Value = { Pool };
 
-    ghost view = { λ p. pool_of p.store.bytes p.store.marks p.store.cells };
+    ghost view = { λ p. pool_of p.store.region.bytes p.store.region.marks p.store.cells };
 
-    ghost invariant = { λ p. IsRegion p.store.bytes p.store.marks p.store.cells p.store.head };
+    ghost invariant = { λ p. IsRegion p.store.region.bytes p.store.region.marks p.store.cells p.store.head };
 }
 
 impl<A: Allocator + Copy> RawPool<A> {
@@ -40,12 +40,10 @@ impl<A: Allocator + Copy> RawPool<A> {
         ensures { IfOk result (λ p. p ≡ record { cells = 128 * pages; blocks = [] }) }
     {
         let cells = PAGE_CELLS * pages;
-        let bytes = Region::new(alloc, CELL_SIZE * cells)?;
-        let marks = Region::new(alloc, cells)?;
+        let region = Region::new(alloc, CELL_SIZE * cells, cells)?;
         Ok(RawPool {
             store: Store {
-                bytes,
-                marks,
+                region,
                 cells,
                 head: 0,
             },

@@ -38,8 +38,7 @@ fn larger(a: usize, b: usize) -> usize
 /// it has, and the first cell of the next run. The list ends with the number of cells.
 #[derive(Drop)]
 pub(crate) struct Store<A: Allocator = Global> {
-    pub(crate) bytes: Region<A>,
-    pub(crate) marks: Region<A>,
+    pub(crate) region: Region<A>,
     pub(crate) cells: usize,
     // The first free run.
     pub(crate) head: usize,
@@ -50,58 +49,58 @@ impl<A: Allocator + Copy> Store<A> {
     /// which stands as the number of cells.
     fn link(&self, run: usize) -> usize
         requires few { self.now.cells ≤ 2 ^ 28 }
-        requires set { run < self.now.cells → 32 * run + 16 ≤ length self.now.bytes.set }
+        requires set { run < self.now.cells → 32 * run + 16 ≤ length self.now.region.bytes.set }
         requires within { run ≤ self.now.cells }
-        ensures { result ≡ link self.now.bytes.set self.now.cells self.now.head run }
+        ensures { result ≡ link self.now.region.bytes.set self.now.cells self.now.head run }
     {
         if run == self.cells {
             self.head
         } else {
-            self.bytes.word(CELL_SIZE * run + 8) as usize
+            self.region.word(CELL_SIZE * run + 8) as usize
         }
     }
 
     /// How many cells a free run has.
     fn run_cells(&self, run: usize) -> usize
         requires few { (self.now.cells ≤ 2 ^ 28) × (run < self.now.cells) }
-        requires set { 32 * run + 16 ≤ length self.now.bytes.set }
-        ensures { result ≡ word self.now.bytes.set (32 * run) }
+        requires set { 32 * run + 16 ≤ length self.now.region.bytes.set }
+        ensures { result ≡ word self.now.region.bytes.set (32 * run) }
     {
-        self.bytes.word(CELL_SIZE * run) as usize
+        self.region.word(CELL_SIZE * run) as usize
     }
 
     /// Sets which run is behind a free run, or behind the list's head.
     fn set_link(&mut self, run: usize, next: usize)
         requires few { (self.old.cells ≤ 2 ^ 28) × (run ≤ self.old.cells) }
-        requires room { self.old.bytes.room ≡ 32 * self.old.cells }
-        requires set { run < self.old.cells → 32 * run + 16 ≤ length self.old.bytes.set }
-        ensures bytes { self.new.bytes ≡ record { set = cond (run == self.old.cells) self.old.bytes.set (put self.old.bytes.set (32 * run + 8) (little_bytes 8 next)); room = self.old.bytes.room } }
+        requires room { self.old.region.bytes.room ≡ 32 * self.old.cells }
+        requires set { run < self.old.cells → 32 * run + 16 ≤ length self.old.region.bytes.set }
+        ensures bytes { self.new.region.bytes ≡ record { set = cond (run == self.old.cells) self.old.region.bytes.set (put self.old.region.bytes.set (32 * run + 8) (little_bytes 8 next)); room = self.old.region.bytes.room } }
         ensures head { self.new.head ≡ cond (run == self.old.cells) next self.old.head }
-        ensures others { (self.new.marks ≡ self.old.marks) × (self.new.cells ≡ self.old.cells) }
+        ensures others { (self.new.region.marks ≡ self.old.region.marks) × (self.new.cells ≡ self.old.cells) }
     {
         if run == self.cells {
             self.head = next;
         } else {
-            self.bytes.write_word(CELL_SIZE * run + 8, next as u64);
+            self.region.write_word(CELL_SIZE * run + 8, next as u64);
         }
     }
 
     /// Writes the header of a free run.
     fn set_run(&mut self, run: usize, cells: usize, next: usize)
         requires few { (self.old.cells ≤ 2 ^ 28) × (run < self.old.cells) }
-        requires room { self.old.bytes.room ≡ 32 * self.old.cells }
-        requires set { 32 * run ≤ length self.old.bytes.set }
-        ensures bytes { self.new.bytes ≡ record { set = put (put self.old.bytes.set (32 * run) (little_bytes 8 cells)) (32 * run + 8) (little_bytes 8 next); room = self.old.bytes.room } }
-        ensures others { (self.new.head ≡ self.old.head) × (self.new.marks ≡ self.old.marks) × (self.new.cells ≡ self.old.cells) }
+        requires room { self.old.region.bytes.room ≡ 32 * self.old.cells }
+        requires set { 32 * run ≤ length self.old.region.bytes.set }
+        ensures bytes { self.new.region.bytes ≡ record { set = put (put self.old.region.bytes.set (32 * run) (little_bytes 8 cells)) (32 * run + 8) (little_bytes 8 next); room = self.old.region.bytes.room } }
+        ensures others { (self.new.head ≡ self.old.head) × (self.new.region.marks ≡ self.old.region.marks) × (self.new.cells ≡ self.old.cells) }
     {
-        self.bytes.write_word(CELL_SIZE * run, cells as u64);
-        self.bytes.write_word(CELL_SIZE * run + 8, next as u64);
+        self.region.write_word(CELL_SIZE * run, cells as u64);
+        self.region.write_word(CELL_SIZE * run + 8, next as u64);
     }
 
     /// The first free run of at least so many cells, and the place in the list before it.
     fn find_fit(&self, need: usize) -> Option<(usize, usize)>
-        requires { IsStore self.now.bytes self.now.marks self.now.cells self.now.head }
-        ensures { MatchOption result (AllByRecursion (λ r. r.cells < need) (runs_of self.now.bytes self.now.marks self.now.cells)) (λ p. Scan (λ r. r.cells < need) self.now.bytes.set self.now.cells self.now.head (runs_of self.now.bytes self.now.marks self.now.cells) p.0 p.1 × (p.1 < self.now.cells) × (need ≤ word self.now.bytes.set (32 * p.1))) }
+        requires { IsStore self.now.region.bytes self.now.region.marks self.now.cells self.now.head }
+        ensures { MatchOption result (AllByRecursion (λ r. r.cells < need) (runs_of self.now.region.bytes self.now.region.marks self.now.cells)) (λ p. Scan (λ r. r.cells < need) self.now.region.bytes.set self.now.cells self.now.head (runs_of self.now.region.bytes self.now.region.marks self.now.cells) p.0 p.1 × (p.1 < self.now.cells) × (need ≤ word self.now.region.bytes.set (32 * p.1))) }
     {
         let mut last = self.cells;
         let mut next = self.head;
@@ -117,9 +116,9 @@ impl<A: Allocator + Copy> Store<A> {
 
     /// The place in the list behind which a run at a cell belongs, and the run that is there.
     fn find_place(&self, cell: usize) -> (usize, usize)
-        requires store { IsStore self.now.bytes self.now.marks self.now.cells self.now.head }
+        requires store { IsStore self.now.region.bytes self.now.region.marks self.now.cells self.now.head }
         requires within { cell < self.now.cells }
-        ensures { Scan (λ r. r.first < cell) self.now.bytes.set self.now.cells self.now.head (runs_of self.now.bytes self.now.marks self.now.cells) result.0 result.1 × (cell ≤ result.1) }
+        ensures { Scan (λ r. r.first < cell) self.now.region.bytes.set self.now.cells self.now.head (runs_of self.now.region.bytes self.now.region.marks self.now.cells) result.0 result.1 × (cell ≤ result.1) }
     {
         let mut last = self.cells;
         let mut next = self.head;
@@ -134,16 +133,16 @@ impl<A: Allocator + Copy> Store<A> {
     /// the list goes on with: the rest of the run, or the run behind it.
     fn cut(&mut self, at: usize, need: usize) -> usize
         requires few { (self.old.cells ≤ 2 ^ 28) × (at < self.old.cells) }
-        requires room { self.old.bytes.room ≡ 32 * self.old.cells }
-        requires set { 32 * at + 16 ≤ length self.old.bytes.set }
-        requires fits { need ≤ word self.old.bytes.set (32 * at) }
-        requires within { at + word self.old.bytes.set (32 * at) ≤ self.old.cells }
-        ensures cut { IsCut self.old.bytes.set self.new.bytes.set self.old.cells self.old.head at need result }
-        ensures others { (self.new.bytes.room ≡ self.old.bytes.room) × (self.new.head ≡ self.old.head) × (self.new.marks ≡ self.old.marks) × (self.new.cells ≡ self.old.cells) }
+        requires room { self.old.region.bytes.room ≡ 32 * self.old.cells }
+        requires set { 32 * at + 16 ≤ length self.old.region.bytes.set }
+        requires fits { need ≤ word self.old.region.bytes.set (32 * at) }
+        requires within { at + word self.old.region.bytes.set (32 * at) ≤ self.old.cells }
+        ensures cut { IsCut self.old.region.bytes.set self.new.region.bytes.set self.old.cells self.old.head at need result }
+        ensures others { (self.new.region.bytes.room ≡ self.old.region.bytes.room) × (self.new.head ≡ self.old.head) × (self.new.region.marks ≡ self.old.region.marks) × (self.new.cells ≡ self.old.cells) }
     {
         let free = self.run_cells(at);
         let next = self.link(at);
-        self.bytes.clear(CELL_SIZE * at, CELL_SIZE * need);
+        self.region.clear(CELL_SIZE * at, CELL_SIZE * need);
         if need < free {
             self.set_run(at + need, free - need, next);
             at + need
@@ -154,37 +153,37 @@ impl<A: Allocator + Copy> Store<A> {
 
     /// Marks a cell as the first of a block.
     fn mark(&mut self, cell: usize)
-        requires { (self.old.marks.room ≡ self.old.cells) × (cell < self.old.cells) }
-        ensures marks { self.new.marks ≡ record { set = put (grown self.old.marks.set cell) cell (1 ∷ []); room = self.old.marks.room } }
-        ensures others { (self.new.bytes ≡ self.old.bytes) × (self.new.head ≡ self.old.head) × (self.new.cells ≡ self.old.cells) }
+        requires { (self.old.region.marks.room ≡ self.old.cells) × (cell < self.old.cells) }
+        ensures marks { self.new.region.marks ≡ record { set = put (grown self.old.region.marks.set cell) cell (1 ∷ []); room = self.old.region.marks.room } }
+        ensures others { (self.new.region.bytes ≡ self.old.region.bytes) × (self.new.head ≡ self.old.head) × (self.new.cells ≡ self.old.cells) }
     {
-        let set = self.marks.len();
-        self.marks.clear(set, cell.saturating_sub(set));
-        self.marks.put(cell, 1);
+        let set = self.region.marks_len();
+        self.region.clear_marks(set, cell.saturating_sub(set));
+        self.region.put_mark(cell, 1);
     }
 
     /// Makes the front of a free run a block, all of whose bytes are 0.
     fn place(&mut self, last: usize, at: usize, size: usize, need: usize)
-        requires store { IsStore self.old.bytes self.old.marks self.old.cells self.old.head }
-        requires scan { Scan (λ r. r.cells < need) self.old.bytes.set self.old.cells self.old.head (runs_of self.old.bytes self.old.marks self.old.cells) last at }
+        requires store { IsStore self.old.region.bytes self.old.region.marks self.old.cells self.old.head }
+        requires scan { Scan (λ r. r.cells < need) self.old.region.bytes.set self.old.cells self.old.head (runs_of self.old.region.bytes self.old.region.marks self.old.cells) last at }
         requires within { at < self.old.cells }
         requires need { need ≡ cells_for size }
-        requires fits { need ≤ word self.old.bytes.set (32 * at) }
-        ensures pool { pool_of self.new.bytes self.new.marks self.new.cells ≡ taken (pool_of self.old.bytes self.old.marks self.old.cells) size (Some at) }
-        ensures store { IsStore self.new.bytes self.new.marks self.new.cells self.new.head }
+        requires fits { need ≤ word self.old.region.bytes.set (32 * at) }
+        ensures pool { pool_of self.new.region.bytes self.new.region.marks self.new.cells ≡ taken (pool_of self.old.region.bytes self.old.region.marks self.old.cells) size (Some at) }
+        ensures store { IsStore self.new.region.bytes self.new.region.marks self.new.cells self.new.head }
     {
         let rest = self.cut(at, need);
         self.set_link(last, rest);
-        self.bytes.write_word(CELL_SIZE * at, size as u64);
+        self.region.write_word(CELL_SIZE * at, size as u64);
         self.mark(at);
     }
 
     /// Takes the lowest run of free cells that has room for a block.
     fn take_prepared(&mut self, size: usize) -> Option<usize>
-        requires { IsStore self.old.bytes self.old.marks self.old.cells self.old.head }
-        ensures cell { result ≡ lowest_fit self.old.cells (cells_for size) 0 (blocks_in self.old.bytes.set self.old.marks.set) }
-        ensures pool { pool_of self.new.bytes self.new.marks self.new.cells ≡ taken (pool_of self.old.bytes self.old.marks self.old.cells) size result }
-        ensures store { IsStore self.new.bytes self.new.marks self.new.cells self.new.head }
+        requires { IsStore self.old.region.bytes self.old.region.marks self.old.cells self.old.head }
+        ensures cell { result ≡ lowest_fit self.old.cells (cells_for size) 0 (blocks_in self.old.region.bytes.set self.old.region.marks.set) }
+        ensures pool { pool_of self.new.region.bytes self.new.region.marks self.new.cells ≡ taken (pool_of self.old.region.bytes self.old.region.marks self.old.cells) size result }
+        ensures store { IsStore self.new.region.bytes self.new.region.marks self.new.cells self.new.head }
     {
         if size > CELL_SIZE * self.cells {
             return None;
@@ -197,10 +196,10 @@ impl<A: Allocator + Copy> Store<A> {
 
     /// Whether a block begins at a cell.
     fn is_block(&self, cell: usize) -> bool
-        ensures block { block_at cell (blocks_in self.now.bytes.set self.now.marks.set) ≡ (if result then Some (block_in self.now.bytes.set cell) else None) }
-        ensures marked { result ≡ true → (cell < length self.now.marks.set) × (slice_index self.now.marks.set cell ≢ 0) }
+        ensures block { block_at cell (blocks_in self.now.region.bytes.set self.now.region.marks.set) ≡ (if result then Some (block_in self.now.region.bytes.set cell) else None) }
+        ensures marked { result ≡ true → (cell < length self.now.region.marks.set) × (slice_index self.now.region.marks.set cell ≢ 0) }
     {
-        let marks = self.marks.bytes();
+        let marks = self.region.marks();
         cell < marks.len() && marks[cell] != 0
     }
 
@@ -208,9 +207,9 @@ impl<A: Allocator + Copy> Store<A> {
     /// the list goes on there. The first free run from that cell on is `next`.
     fn run_behind(&self, cell: usize, next: usize) -> (usize, usize)
         requires few { self.now.cells ≤ 2 ^ 28 }
-        requires set { next < self.now.cells → (32 * next + 16 ≤ length self.now.bytes.set) × (next + word self.now.bytes.set (32 * next) ≤ self.now.cells) }
+        requires set { next < self.now.cells → (32 * next + 16 ≤ length self.now.region.bytes.set) × (next + word self.now.region.bytes.set (32 * next) ≤ self.now.cells) }
         requires within { next ≤ self.now.cells }
-        ensures run { next ≡ cell → next < self.now.cells → (result.0 ≡ next + word self.now.bytes.set (32 * next)) × (result.1 ≡ link self.now.bytes.set self.now.cells self.now.head next) }
+        ensures run { next ≡ cell → next < self.now.cells → (result.0 ≡ next + word self.now.region.bytes.set (32 * next)) × (result.1 ≡ link self.now.region.bytes.set self.now.cells self.now.head next) }
         ensures none { (next ≡ cell → next < self.now.cells → ⊥) → (result.0 ≡ cell) × (result.1 ≡ next) }
     {
         if next == cell && next < self.cells {
@@ -224,12 +223,12 @@ impl<A: Allocator + Copy> Store<A> {
     /// touches them; the list goes on with `after`.
     fn join(&mut self, last: usize, cell: usize, end: usize, after: usize)
         requires few { (self.old.cells ≤ 2 ^ 28) × (cell < end) × (end ≤ self.old.cells) × (last ≤ self.old.cells) }
-        requires room { self.old.bytes.room ≡ 32 * self.old.cells }
-        requires last { last < self.old.cells → (32 * last + 16 ≤ length self.old.bytes.set) × (last + word self.old.bytes.set (32 * last) ≤ self.old.cells) × (last < cell) }
-        requires set { 32 * cell + 32 ≤ length self.old.bytes.set }
-        ensures touching { last < self.old.cells → last + word self.old.bytes.set (32 * last) ≡ cell → (self.new.bytes ≡ record { set = put (put self.old.bytes.set (32 * last) (little_bytes 8 (end - last))) (32 * last + 8) (little_bytes 8 after); room = self.old.bytes.room }) × (self.new.head ≡ self.old.head) }
-        ensures apart { (last < self.old.cells → last + word self.old.bytes.set (32 * last) ≡ cell → ⊥) → (self.new.bytes ≡ record { set = with_link (put (put self.old.bytes.set (32 * cell) (little_bytes 8 (end - cell))) (32 * cell + 8) (little_bytes 8 after)) self.old.cells last cell; room = self.old.bytes.room }) × (self.new.head ≡ cond (last == self.old.cells) cell self.old.head) }
-        ensures others { (self.new.marks ≡ self.old.marks) × (self.new.cells ≡ self.old.cells) }
+        requires room { self.old.region.bytes.room ≡ 32 * self.old.cells }
+        requires last { last < self.old.cells → (32 * last + 16 ≤ length self.old.region.bytes.set) × (last + word self.old.region.bytes.set (32 * last) ≤ self.old.cells) × (last < cell) }
+        requires set { 32 * cell + 32 ≤ length self.old.region.bytes.set }
+        ensures touching { last < self.old.cells → last + word self.old.region.bytes.set (32 * last) ≡ cell → (self.new.region.bytes ≡ record { set = put (put self.old.region.bytes.set (32 * last) (little_bytes 8 (end - last))) (32 * last + 8) (little_bytes 8 after); room = self.old.region.bytes.room }) × (self.new.head ≡ self.old.head) }
+        ensures apart { (last < self.old.cells → last + word self.old.region.bytes.set (32 * last) ≡ cell → ⊥) → (self.new.region.bytes ≡ record { set = with_link (put (put self.old.region.bytes.set (32 * cell) (little_bytes 8 (end - cell))) (32 * cell + 8) (little_bytes 8 after)) self.old.cells last cell; room = self.old.region.bytes.room }) × (self.new.head ≡ cond (last == self.old.cells) cell self.old.head) }
+        ensures others { (self.new.region.marks ≡ self.old.region.marks) × (self.new.cells ≡ self.old.cells) }
     {
         if last < self.cells && last + self.run_cells(last) == cell {
             self.set_run(last, end - last, after);
@@ -241,25 +240,25 @@ impl<A: Allocator + Copy> Store<A> {
 
     /// Makes the cells of a block free.
     fn free(&mut self, cell: usize)
-        requires store { IsStore self.old.bytes self.old.marks self.old.cells self.old.head }
-        requires block { (cell < length self.old.marks.set) × (slice_index self.old.marks.set cell ≢ 0) }
-        ensures pool { pool_of self.new.bytes self.new.marks self.new.cells ≡ record { cells = self.old.cells; blocks = without_block cell (blocks_in self.old.bytes.set self.old.marks.set) } }
-        ensures store { IsStore self.new.bytes self.new.marks self.new.cells self.new.head }
+        requires store { IsStore self.old.region.bytes self.old.region.marks self.old.cells self.old.head }
+        requires block { (cell < length self.old.region.marks.set) × (slice_index self.old.region.marks.set cell ≢ 0) }
+        ensures pool { pool_of self.new.region.bytes self.new.region.marks self.new.cells ≡ record { cells = self.old.cells; blocks = without_block cell (blocks_in self.old.region.bytes.set self.old.region.marks.set) } }
+        ensures store { IsStore self.new.region.bytes self.new.region.marks self.new.cells self.new.head }
     {
-        let block_end = cell + cells_of(self.bytes.word(CELL_SIZE * cell) as usize);
+        let block_end = cell + cells_of(self.region.word(CELL_SIZE * cell) as usize);
         let (last, next) = self.find_place(cell);
         let (end, after) = self.run_behind(block_end, next);
         self.join(last, cell, end, after);
-        self.marks.put(cell, 0);
+        self.region.put_mark(cell, 0);
     }
 
     /// Writes the header of the one free run, if no byte of the region is set yet.
     fn prepare(&mut self)
-        requires { IsRegion self.old.bytes self.old.marks self.old.cells self.old.head }
-        ensures pool { pool_of self.new.bytes self.new.marks self.new.cells ≡ pool_of self.old.bytes self.old.marks self.old.cells }
-        ensures store { IsStore self.new.bytes self.new.marks self.new.cells self.new.head }
+        requires { IsRegion self.old.region.bytes self.old.region.marks self.old.cells self.old.head }
+        ensures pool { pool_of self.new.region.bytes self.new.region.marks self.new.cells ≡ pool_of self.old.region.bytes self.old.region.marks self.old.cells }
+        ensures store { IsStore self.new.region.bytes self.new.region.marks self.new.cells self.new.head }
     {
-        if self.bytes.len() == 0 {
+        if self.region.len() == 0 {
             self.set_run(0, self.cells, self.cells);
             self.head = 0;
         }
@@ -268,10 +267,10 @@ impl<A: Allocator + Copy> Store<A> {
     /// Takes the lowest run of free cells that has room for a block of so many bytes, all of which
     /// become 0, and answers the first of its cells.
     pub(crate) fn take(&mut self, size: usize) -> Option<usize>
-        requires { IsRegion self.old.bytes self.old.marks self.old.cells self.old.head }
-        ensures cell { result ≡ lowest_fit self.old.cells (cells_for size) 0 (blocks_in self.old.bytes.set self.old.marks.set) }
-        ensures pool { pool_of self.new.bytes self.new.marks self.new.cells ≡ taken (pool_of self.old.bytes self.old.marks self.old.cells) size result }
-        ensures region { IsRegion self.new.bytes self.new.marks self.new.cells self.new.head }
+        requires { IsRegion self.old.region.bytes self.old.region.marks self.old.cells self.old.head }
+        ensures cell { result ≡ lowest_fit self.old.cells (cells_for size) 0 (blocks_in self.old.region.bytes.set self.old.region.marks.set) }
+        ensures pool { pool_of self.new.region.bytes self.new.region.marks self.new.cells ≡ taken (pool_of self.old.region.bytes self.old.region.marks self.old.cells) size result }
+        ensures region { IsRegion self.new.region.bytes self.new.region.marks self.new.cells self.new.head }
     {
         self.prepare();
         self.take_prepared(size)
@@ -279,10 +278,10 @@ impl<A: Allocator + Copy> Store<A> {
 
     /// Gives a block back, if one begins at the cell.
     pub(crate) fn give(&mut self, cell: usize) -> bool
-        requires { IsRegion self.old.bytes self.old.marks self.old.cells self.old.head }
-        ensures given { result ≡ is_some (block_at cell (blocks_in self.old.bytes.set self.old.marks.set)) }
-        ensures pool { pool_of self.new.bytes self.new.marks self.new.cells ≡ record { cells = self.old.cells; blocks = without_block cell (blocks_in self.old.bytes.set self.old.marks.set) } }
-        ensures region { IsRegion self.new.bytes self.new.marks self.new.cells self.new.head }
+        requires { IsRegion self.old.region.bytes self.old.region.marks self.old.cells self.old.head }
+        ensures given { result ≡ is_some (block_at cell (blocks_in self.old.region.bytes.set self.old.region.marks.set)) }
+        ensures pool { pool_of self.new.region.bytes self.new.region.marks self.new.cells ≡ record { cells = self.old.cells; blocks = without_block cell (blocks_in self.old.region.bytes.set self.old.region.marks.set) } }
+        ensures region { IsRegion self.new.region.bytes self.new.region.marks self.new.cells self.new.head }
     {
         let is_block = self.is_block(cell);
         if is_block {
@@ -293,11 +292,11 @@ impl<A: Allocator + Copy> Store<A> {
 
     /// The size of the block at a cell.
     pub(crate) fn size_of(&self, cell: usize) -> Option<usize>
-        requires { IsRegion self.now.bytes self.now.marks self.now.cells self.now.head }
-        ensures { result ≡ option_map (λ b. b.size) (block_at cell (blocks_in self.now.bytes.set self.now.marks.set)) }
+        requires { IsRegion self.now.region.bytes self.now.region.marks self.now.cells self.now.head }
+        ensures { result ≡ option_map (λ b. b.size) (block_at cell (blocks_in self.now.region.bytes.set self.now.region.marks.set)) }
     {
         if self.is_block(cell) {
-            Some(self.bytes.word(CELL_SIZE * cell) as usize)
+            Some(self.region.word(CELL_SIZE * cell) as usize)
         } else {
             None
         }
@@ -305,20 +304,20 @@ impl<A: Allocator + Copy> Store<A> {
 
     /// The bytes of the block at a cell.
     pub(crate) fn bytes_of(&self, cell: usize) -> Option<&[u8]>
-        requires { IsRegion self.now.bytes self.now.marks self.now.cells self.now.head }
-        ensures { option_map (λ s. s.now) result ≡ option_map (λ b. b.bytes) (block_at cell (blocks_in self.now.bytes.set self.now.marks.set)) }
+        requires { IsRegion self.now.region.bytes self.now.region.marks self.now.cells self.now.head }
+        ensures { option_map (λ s. s.now) result ≡ option_map (λ b. b.bytes) (block_at cell (blocks_in self.now.region.bytes.set self.now.region.marks.set)) }
     {
         let size = self.size_of(cell)?;
         let start = CELL_SIZE * cell + HEADER_SIZE;
-        Some(&self.bytes.bytes()[start..start + size])
+        Some(&self.region.bytes()[start..start + size])
     }
 
     /// Writes bytes into the block at a cell, from one of its bytes on, if they fit.
     pub(crate) fn write(&mut self, cell: usize, at: usize, bytes: &[u8]) -> bool
-        requires { IsRegion self.old.bytes self.old.marks self.old.cells self.old.head }
-        ensures written { result ≡ holds_range at (length bytes.now) (block_at cell (blocks_in self.old.bytes.set self.old.marks.set)) }
-        ensures pool { pool_of self.new.bytes self.new.marks self.new.cells ≡ written result cell at bytes.now (pool_of self.old.bytes self.old.marks self.old.cells) }
-        ensures region { IsRegion self.new.bytes self.new.marks self.new.cells self.new.head }
+        requires { IsRegion self.old.region.bytes self.old.region.marks self.old.cells self.old.head }
+        ensures written { result ≡ holds_range at (length bytes.now) (block_at cell (blocks_in self.old.region.bytes.set self.old.region.marks.set)) }
+        ensures pool { pool_of self.new.region.bytes self.new.region.marks self.new.cells ≡ written result cell at bytes.now (pool_of self.old.region.bytes self.old.region.marks self.old.cells) }
+        ensures region { IsRegion self.new.region.bytes self.new.region.marks self.new.cells self.new.head }
     {
         let Some(size) = self.size_of(cell) else {
             return false;
@@ -326,16 +325,17 @@ impl<A: Allocator + Copy> Store<A> {
         if at > size || bytes.len() > size - at {
             return false;
         }
-        self.bytes.write(CELL_SIZE * cell + HEADER_SIZE + at, bytes);
+        self.region
+            .write(CELL_SIZE * cell + HEADER_SIZE + at, bytes);
         true
     }
 
     /// How many cells the longest free run has. It goes along the whole free list.
     pub(crate) fn longest_free(&self) -> usize
-        requires { IsRegion self.now.bytes self.now.marks self.now.cells self.now.head }
-        ensures { result ≡ longest_run self.now.cells 0 (blocks_in self.now.bytes.set self.now.marks.set) }
+        requires { IsRegion self.now.region.bytes self.now.region.marks self.now.cells self.now.head }
+        ensures { result ≡ longest_run self.now.cells 0 (blocks_in self.now.region.bytes.set self.now.region.marks.set) }
     {
-        if self.bytes.len() == 0 {
+        if self.region.len() == 0 {
             return self.cells;
         }
         let mut longest = 0;
@@ -349,10 +349,10 @@ impl<A: Allocator + Copy> Store<A> {
 
     /// Whether there is no block: the first free run has all cells then.
     pub(crate) fn is_empty(&self) -> bool
-        requires { IsRegion self.now.bytes self.now.marks self.now.cells self.now.head }
-        ensures { IsTrue result ↔ (blocks_in self.now.bytes.set self.now.marks.set ≡ []) }
+        requires { IsRegion self.now.region.bytes self.now.region.marks self.now.cells self.now.head }
+        ensures { IsTrue result ↔ (blocks_in self.now.region.bytes.set self.now.region.marks.set ≡ []) }
     {
-        if self.bytes.len() == 0 {
+        if self.region.len() == 0 {
             return true;
         }
         self.head == 0 && self.run_cells(0) == self.cells

@@ -3,18 +3,18 @@ use Rattle.raw_pool.proofs.Scans.{store_scan, store_here, store_step}
 use Rattle.raw_pool.proofs.store.Store.find_place.Goals as goal
 
 pub loop-next-init : goal.loop-next-init
-loop-next-init g c = store_scan (λ r. r.first < c.args.cell) c.args.self.now.bytes c.args.self.now.marks c.args.self.now.cells c.args.self.now.head c.requires.store
+loop-next-init g c = store_scan (λ r. r.first < c.args.cell) c.args.self.now.region.bytes c.args.self.now.region.marks c.args.self.now.cells c.args.self.now.head c.requires.store
 
 pub link-next-requires-clause-set : goal.link-next-requires-clause-set
 link-next-requires-clause-set g c = λ h.
-    (store_here (λ r. r.first < c.args.cell) c.args.self.now.bytes c.args.self.now.marks c.args.self.now.cells c.args.self.now.head c.loop-next.last c.loop-next.next c.requires.store c.loop-next.invariant h).set
+    (store_here (λ r. r.first < c.args.cell) c.args.self.now.region.bytes c.args.self.now.region.marks c.args.self.now.cells c.args.self.now.head c.loop-next.last c.loop-next.next c.requires.store c.loop-next.invariant h).set
 
 pub loop-next-smaller : goal.loop-next-smaller
 loop-next-smaller g c =
-    let h = store_here (λ r. r.first < c.args.cell) c.args.self.now.bytes c.args.self.now.marks c.args.self.now.cells c.args.self.now.head c.loop-next.last c.loop-next.next c.requires.store c.loop-next.invariant (omega arith) in
+    let h = store_here (λ r. r.first < c.args.cell) c.args.self.now.region.bytes c.args.self.now.region.marks c.args.self.now.cells c.args.self.now.head c.loop-next.last c.loop-next.next c.requires.store c.loop-next.invariant (omega arith) in
     omega (arith, h.rises, h.within, c.link-next.ensures)
 
 pub loop-next-preserved : goal.loop-next-preserved
 loop-next-preserved g c =
-    store_step (λ r. r.first < c.args.cell) c.args.self.now.bytes c.args.self.now.marks c.args.self.now.cells c.args.self.now.head c.loop-next.last c.loop-next.next c.link-next.result c.loop-next.invariant (omega arith)
+    store_step (λ r. r.first < c.args.cell) c.args.self.now.region.bytes c.args.self.now.region.marks c.args.self.now.cells c.args.self.now.head c.loop-next.last c.loop-next.next c.link-next.result c.loop-next.invariant (omega arith)
     (λ r e i. omega arith) c.link-next.ensures

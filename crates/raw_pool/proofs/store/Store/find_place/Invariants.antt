@@ -3,7 +3,7 @@ use Rattle.raw_pool.specs.Searches.{Scan, runs_of}
 use Rattle.raw_pool.proofs.store.Store.find_place.Given as goal
 
 abbrev pub invariant-loop-next : goal.invariant-loop-next
-invariant-loop-next g l = Scan (λ r. r.first < l.cell) l.self.bytes.set l.self.cells l.self.head (runs_of l.self.bytes l.self.marks l.self.cells) l.last l.next
+invariant-loop-next g l = Scan (λ r. r.first < l.cell) l.self.region.bytes.set l.self.cells l.self.head (runs_of l.self.region.bytes l.self.region.marks l.self.cells) l.last l.next
 
 abbrev pub decreases-loop-next : goal.decreases-loop-next
 decreases-loop-next g l = l.cell - l.next

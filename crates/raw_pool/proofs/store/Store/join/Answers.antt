@@ -6,7 +6,7 @@ use Rattle.raw_pool.proofs.store.Store.join.Goals as goal
 
 pub set_link-requires-clause-set : goal.set_link-requires-clause-set
 set_link-requires-clause-set g c = λ h.
-    let old : List ℕ = c.args.self.now.bytes.set in
+    let old : List ℕ = c.args.self.now.region.bytes.set in
     let one : List ℕ = put old (32 * c.args.cell) (little_bytes 8 (c.args.end - c.args.cell)) in
     let n0 : 32 * c.args.cell ≤ length old = omega (arith, c.requires.set) in
     let l1 = length-put old (little_bytes 8 (c.args.end - c.args.cell)) (32 * c.args.cell) n0 in

@@ -6,40 +6,40 @@ use Rattle.raw_pool.proofs.Regions.{Left, fresh_of, store_of, fresh_longest, lef
 use Rattle.raw_pool.proofs.store.Store.longest_free.Goals as goal
 
 pub returns-then-len-eq0 : goal.returns-then-len-eq0
-returns-then-len-eq0 g c = fresh_longest c.args.self.now.bytes c.args.self.now.marks c.args.self.now.cells (fresh_of c.args.self.now.bytes c.args.self.now.marks c.args.self.now.cells c.args.self.now.head c.requires (sym c.len.ensures.len ∙ c.if-len-eq0.true))
+returns-then-len-eq0 g c = fresh_longest c.args.self.now.region.bytes c.args.self.now.region.marks c.args.self.now.cells (fresh_of c.args.self.now.region.bytes c.args.self.now.region.marks c.args.self.now.cells c.args.self.now.head c.requires (sym c.len.ensures.len ∙ c.if-len-eq0.true))
 
 pub loop-next-init : goal.loop-next-init
 loop-next-init g c =
-    let s : IsStore c.args.self.now.bytes c.args.self.now.marks c.args.self.now.cells c.args.self.now.head = store_of c.args.self.now.bytes c.args.self.now.marks c.args.self.now.cells c.args.self.now.head c.requires (λ e. c.if-len-eq0.false (c.len.ensures.len ∙ e)) in
-    left_start c.args.self.now.bytes c.args.self.now.marks c.args.self.now.cells c.args.self.now.head s
+    let s : IsStore c.args.self.now.region.bytes c.args.self.now.region.marks c.args.self.now.cells c.args.self.now.head = store_of c.args.self.now.region.bytes c.args.self.now.region.marks c.args.self.now.cells c.args.self.now.head c.requires (λ e. c.if-len-eq0.false (c.len.ensures.len ∙ e)) in
+    left_start c.args.self.now.region.bytes c.args.self.now.region.marks c.args.self.now.cells c.args.self.now.head s
 
 pub run_cells-requires-clause-few : goal.run_cells-requires-clause-few
 run_cells-requires-clause-few g c =
-    let s : IsStore c.args.self.now.bytes c.args.self.now.marks c.args.self.now.cells c.args.self.now.head = store_of c.args.self.now.bytes c.args.self.now.marks c.args.self.now.cells c.args.self.now.head c.requires (λ e. c.if-len-eq0.false (c.len.ensures.len ∙ e)) in
+    let s : IsStore c.args.self.now.region.bytes c.args.self.now.region.marks c.args.self.now.cells c.args.self.now.head = store_of c.args.self.now.region.bytes c.args.self.now.region.marks c.args.self.now.cells c.args.self.now.head c.requires (λ e. c.if-len-eq0.false (c.len.ensures.len ∙ e)) in
     (s.few, c.loop-next-test.true)
 
 pub run_cells-requires-clause-set : goal.run_cells-requires-clause-set
-run_cells-requires-clause-set g c = (left_here c.args.self.now.bytes.set c.args.self.now.cells c.args.self.now.head c.loop-next.next c.loop-next.longest (longest_run c.args.self.now.cells 0 (blocks_in c.args.self.now.bytes.set c.args.self.now.marks.set)) c.loop-next.invariant c.loop-next-test.true).set
+run_cells-requires-clause-set g c = (left_here c.args.self.now.region.bytes.set c.args.self.now.cells c.args.self.now.head c.loop-next.next c.loop-next.longest (longest_run c.args.self.now.cells 0 (blocks_in c.args.self.now.region.bytes.set c.args.self.now.region.marks.set)) c.loop-next.invariant c.loop-next-test.true).set
 
 pub link-next-requires-clause-few : goal.link-next-requires-clause-few
 link-next-requires-clause-few g c =
-    let s : IsStore c.args.self.now.bytes c.args.self.now.marks c.args.self.now.cells c.args.self.now.head = store_of c.args.self.now.bytes c.args.self.now.marks c.args.self.now.cells c.args.self.now.head c.requires (λ e. c.if-len-eq0.false (c.len.ensures.len ∙ e)) in
+    let s : IsStore c.args.self.now.region.bytes c.args.self.now.region.marks c.args.self.now.cells c.args.self.now.head = store_of c.args.self.now.region.bytes c.args.self.now.region.marks c.args.self.now.cells c.args.self.now.head c.requires (λ e. c.if-len-eq0.false (c.len.ensures.len ∙ e)) in
     s.few
 
 pub link-next-requires-clause-set : goal.link-next-requires-clause-set
-link-next-requires-clause-set g c = λ h. (left_here c.args.self.now.bytes.set c.args.self.now.cells c.args.self.now.head c.loop-next.next c.loop-next.longest (longest_run c.args.self.now.cells 0 (blocks_in c.args.self.now.bytes.set c.args.self.now.marks.set)) c.loop-next.invariant c.loop-next-test.true).set
+link-next-requires-clause-set g c = λ h. (left_here c.args.self.now.region.bytes.set c.args.self.now.cells c.args.self.now.head c.loop-next.next c.loop-next.longest (longest_run c.args.self.now.cells 0 (blocks_in c.args.self.now.region.bytes.set c.args.self.now.region.marks.set)) c.loop-next.invariant c.loop-next-test.true).set
 
 pub loop-next-smaller : goal.loop-next-smaller
 loop-next-smaller g c =
-    let h = left_here c.args.self.now.bytes.set c.args.self.now.cells c.args.self.now.head c.loop-next.next c.loop-next.longest (longest_run c.args.self.now.cells 0 (blocks_in c.args.self.now.bytes.set c.args.self.now.marks.set)) c.loop-next.invariant c.loop-next-test.true in
+    let h = left_here c.args.self.now.region.bytes.set c.args.self.now.cells c.args.self.now.head c.loop-next.next c.loop-next.longest (longest_run c.args.self.now.cells 0 (blocks_in c.args.self.now.region.bytes.set c.args.self.now.region.marks.set)) c.loop-next.invariant c.loop-next-test.true in
     omega (arith, h.rises, h.within, c.link-next.ensures)
 
 pub loop-next-preserved : goal.loop-next-preserved
 loop-next-preserved g c =
     let b = c.args.self.now in
-    let total : ℕ = longest_run b.cells 0 (blocks_in b.bytes.set b.marks.set) in
-    subst (λ (k : ℕ). Left b.bytes.set b.cells b.head c.link-next.result k total) (sym c.larger-longest.ensures)
-    (left_next b.bytes.set b.cells b.head c.loop-next.next c.loop-next.longest total c.run_cells.result c.link-next.result c.loop-next.invariant c.loop-next-test.true c.run_cells.ensures c.link-next.ensures)
+    let total : ℕ = longest_run b.cells 0 (blocks_in b.region.bytes.set b.region.marks.set) in
+    subst (λ (k : ℕ). Left b.region.bytes.set b.cells b.head c.link-next.result k total) (sym c.larger-longest.ensures)
+    (left_next b.region.bytes.set b.cells b.head c.loop-next.next c.loop-next.longest total c.run_cells.result c.link-next.result c.loop-next.invariant c.loop-next-test.true c.run_cells.ensures c.link-next.ensures)
 
 pub returns : goal.returns
-returns g c = left_done c.args.self.now.bytes.set c.args.self.now.cells c.args.self.now.head c.loop-next.next c.loop-next.longest (longest_run c.args.self.now.cells 0 (blocks_in c.args.self.now.bytes.set c.args.self.now.marks.set)) c.loop-next.invariant c.loop-next-test.false
+returns g c = left_done c.args.self.now.region.bytes.set c.args.self.now.cells c.args.self.now.head c.loop-next.next c.loop-next.longest (longest_run c.args.self.now.cells 0 (blocks_in c.args.self.now.region.bytes.set c.args.self.now.region.marks.set)) c.loop-next.invariant c.loop-next-test.false

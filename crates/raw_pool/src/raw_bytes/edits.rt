@@ -1,0 +1,88 @@
+//! Bytes of a row are read and written by their places.
+ghost use Rattle.std.specs.Prelude.{◌≡◌, ◌≤◌, ◌<◌, ◌+◌, [], ◌∷◌, length, replicate};
+ghost use Rattle.byteorder.specs.Endian.{little_bytes};
+ghost use Rattle.raw_pool.specs.Bytes.{extended, put, word};
+
+use super::RawBytes;
+use byteorder::{ByteOrder, LittleEndian};
+
+impl RawBytes {
+    /// How many bytes are set.
+    pub(crate) fn len(&self) -> usize
+        ensures { result ≡ length self.now.set }
+    {
+        self.bytes().len()
+    }
+
+    /// Sets the bytes up to a place that are not set yet to 0.
+    fn extend_to(&mut self, end: usize)
+        requires { end ≤ self.old.room }
+        ensures set { self.new.set ≡ extended self.old.set end }
+        ensures place { (self.new.room ≡ self.old.room) × (self.new.ptr ≡ self.old.ptr) }
+    {
+        let len = self.len();
+        self.extend(end.saturating_sub(len));
+    }
+
+    /// Writes bytes from a place on, at most behind those that are set.
+    pub(crate) fn write(&mut self, at: usize, bytes: &[u8])
+        requires { (at ≤ length self.old.set) × (at + length bytes.now ≤ self.old.room) }
+        ensures set { self.new.set ≡ put self.old.set at bytes.now }
+        ensures place { (self.new.room ≡ self.old.room) × (self.new.ptr ≡ self.old.ptr) }
+    {
+        self.extend_to(at + bytes.len());
+        self.bytes_mut()[at..at + bytes.len()].copy_from_slice(bytes);
+    }
+
+    /// Sets the byte at a place, which may be the first that is not set yet.
+    pub(crate) fn put(&mut self, at: usize, byte: u8)
+        requires { (at ≤ length self.old.set) × (at < self.old.room) }
+        ensures set { self.new.set ≡ put self.old.set at (byte ∷ []) }
+        ensures place { (self.new.room ≡ self.old.room) × (self.new.ptr ≡ self.old.ptr) }
+    {
+        self.extend_to(at + 1);
+        self.bytes_mut()[at] = byte;
+    }
+
+    /// Sets so many bytes that are set to 0.
+    fn overwrite_zeros(&mut self, at: usize, count: usize)
+        requires { at + count ≤ length self.old.set }
+        ensures set { self.new.set ≡ put self.old.set at (replicate count 0) }
+        ensures place { (self.new.room ≡ self.old.room) × (self.new.ptr ≡ self.old.ptr) }
+    {
+        self.bytes_mut()[at..at + count].fill(0);
+    }
+
+    /// Sets so many bytes from a place on to 0.
+    pub(crate) fn clear(&mut self, at: usize, count: usize)
+        requires { (at ≤ length self.old.set) × (at + count ≤ self.old.room) }
+        ensures set { self.new.set ≡ put self.old.set at (replicate count 0) }
+        ensures place { (self.new.room ≡ self.old.room) × (self.new.ptr ≡ self.old.ptr) }
+    {
+        let over = self.len() - at;
+        if count <= over {
+            self.overwrite_zeros(at, count);
+        } else {
+            self.overwrite_zeros(at, over);
+            self.extend(count - over);
+        }
+    }
+
+    /// The number in the 8 bytes from a place on.
+    pub(crate) fn word(&self, at: usize) -> u64
+        requires { at + 8 ≤ length self.now.set }
+        ensures { result ≡ word self.now.set at }
+    {
+        LittleEndian::read_u64(&self.bytes()[at..at + 8])
+    }
+
+    /// Writes a number into the 8 bytes from a place on.
+    pub(crate) fn write_word(&mut self, at: usize, number: u64)
+        requires { (at ≤ length self.old.set) × (at + 8 ≤ self.old.room) }
+        ensures set { self.new.set ≡ put self.old.set at (little_bytes 8 number) }
+        ensures place { (self.new.room ≡ self.old.room) × (self.new.ptr ≡ self.old.ptr) }
+    {
+        self.extend_to(at + 8);
+        LittleEndian::write_u64(&mut self.bytes_mut()[at..at + 8], number);
+    }
+}
