@@ -10,15 +10,15 @@ use Rattle.driver_connect.specs.Turns.{after_starts, starts_in_turn, AreSupporte
 
 -- ---- starts, and more behind them
 
-after_more : (c : Site) (xs ys : List Agent) (p : Progress) → after_starts c (xs ++ ys) p ≡ after_starts c ys (after_starts c xs p)
+pub after_more : (c : Site) (xs ys : List Agent) (p : Progress) → after_starts c (xs ++ ys) p ≡ after_starts c ys (after_starts c xs p)
 after_more c [] ys p = refl
 after_more c (x ∷ xs) ys p = after_more c xs ys (started c p x)
 
-starts_more : (c : Site) (xs ys : List Agent) (p : Progress) → starts_in_turn c (xs ++ ys) p ≡ starts_in_turn c xs p ++ starts_in_turn c ys (after_starts c xs p)
+pub starts_more : (c : Site) (xs ys : List Agent) (p : Progress) → starts_in_turn c (xs ++ ys) p ≡ starts_in_turn c xs p ++ starts_in_turn c ys (after_starts c xs p)
 starts_more c [] ys p = refl
 starts_more c (x ∷ xs) ys p = ap (λ l. record { agent = x.handle; is_carried_out = is_carried_out c p x } ∷ l) (starts_more c xs ys (started c p x))
 
-supported_more : (c : Site) (xs ys : List Agent) (p : Progress) → AreSupported c xs p → AreSupported c ys (after_starts c xs p) → AreSupported c (xs ++ ys) p
+pub supported_more : (c : Site) (xs ys : List Agent) (p : Progress) → AreSupported c xs p → AreSupported c ys (after_starts c xs p) → AreSupported c (xs ++ ys) p
 supported_more c [] ys p h k = k
 supported_more c (x ∷ xs) ys p h k = (h.0, supported_more c xs ys (started c p x) h.1 k)
 
@@ -83,7 +83,7 @@ idle c (a ∷ agents) p h = elim (cases_Bool (is_supported c p a)) [
 ]
 
 -- so many drivers are started or left
-fewer : (c : Site) (agents : List Agent) (p : Progress) → length (pass c agents p).starts + length (pass c agents p).left ≡ length agents
+pub fewer : (c : Site) (agents : List Agent) (p : Progress) → length (pass c agents p).starts + length (pass c agents p).left ≡ length agents
 fewer c [] p = refl
 fewer c (a ∷ agents) p = elim (cases_Bool (is_supported c p a)) [
   | inl e ↦ rw e (omega (arith, fewer c agents (started c p a)))

@@ -5,6 +5,7 @@ pub mod Opened
 pub mod Passes
 pub mod Levels
 pub mod InTurn
+pub mod StartPasses
 pub mod TriedOnce
 pub mod Whole
 pub mod StopSets

@@ -6,3 +6,4 @@ pub mod Readiness
 pub mod Connecting
 pub mod Laws
 pub mod Turns
+pub mod StartOrder

@@ -1,5 +1,6 @@
 //! The laws of stopping and connecting, each the contract of a function that does nothing.
 ghost use Rattle.driver_connect.specs.Laws.{GoneLaw, MakersItemLaw, NothingCarriedOutLaw, ReadyLaw, RoundsLaw, StaysLaw, StopSetLaw, VersionsLaw};
+ghost use Rattle.driver_connect.specs.StartOrder.{StartOrderLaw};
 ghost use Rattle.driver_connect.specs.Turns.{StartsLaw, TriedOnceLaw};
 
 /// The stop set of some pairs holds them and the managers of all handles that its pairs made, and it
@@ -54,4 +55,10 @@ pub fn nothing_carried_out_law()
 /// that made it has the controller open.
 pub fn makers_item_law()
     ensures { MakersItemLaw }
+{}
+
+/// On a handle drivers are started in passes over the list of drivers: in each pass in the order of the
+/// list, and a pass follows only one that started a driver.
+pub fn start_order_law()
+    ensures { StartOrderLaw }
 {}
