@@ -29,8 +29,7 @@
  * OUT_OF_RESOURCES may take the place of five refusals that are named before it, as the core needs
  * memory to decide them: ACCESS_DENIED of UninstallProtocolInterface, of
  * ReinstallProtocolInterface, and of an exclusive OpenProtocol for which a driver must be stopped;
- * NOT_FOUND of ConnectController; DEVICE_ERROR of DisconnectController. And
- * InstallMultipleProtocolInterfaces asks for memory before it looks at anything else.
+ * NOT_FOUND of ConnectController; DEVICE_ERROR of DisconnectController.
  *
  * WHAT THE CALLER OWES. Nothing checks it, and the proofs hold only where it holds:
  * - `core` is a pointer that RafkudinMake gave and that was not yet handed to RafkudinFree.
@@ -207,7 +206,8 @@ struct rafkudin_descriptor {
  * descriptors; a descriptor that has no pages, starts at no multiple of 4,096, goes past the last
  * page (2^52 - 1), is of a type from 16 to 0x6fffffff, or is conventional with RUNTIME; two that
  * overlap; another granule; more than 64 drivers; a count of a driver or a child above what its
- * array holds. OUT_OF_RESOURCES: memory was refused. *core is set on SUCCESS alone. */
+ * array holds. The drivers are looked at before any memory is asked for. OUT_OF_RESOURCES: memory
+ * was refused. *core is set on SUCCESS alone. */
 uint64_t RafkudinMake(const uint8_t *records, size_t size, size_t descriptor_size, uint64_t granule,
                       const struct rafkudin_driver *drivers, size_t driver_count,
                       struct rafkudin **core);
@@ -324,11 +324,10 @@ uint64_t InstallProtocolInterface(struct rafkudin *core, uint64_t *Handle,
 /* The same with `count` interfaces in place of the standard's list of arguments. All are installed
  * or none.
  *
- * OUT_OF_RESOURCES comes first, before ABORTED too: memory for a copy of the whole list was
- * refused, and then alone no call is used up. Then those that hold for every service; then
- * INVALID_PARAMETER: no interfaces or over 16; a handle that is neither 0 nor live; a GUID that is
- * twice among them or is on the handle; ALREADY_STARTED: one of them is a device path that a live
- * handle has already; OUT_OF_RESOURCES: RAFKUDIN_MOST_HANDLES are live already. */
+ * INVALID_PARAMETER: no interfaces or over 16, of which no more than the first 17 are read; a handle
+ * that is neither 0 nor live; a GUID that is twice among them or is on the handle; ALREADY_STARTED:
+ * one of them is a device path that a live handle has already; OUT_OF_RESOURCES:
+ * RAFKUDIN_MOST_HANDLES are live already. */
 uint64_t InstallMultipleProtocolInterfaces(struct rafkudin *core, uint64_t *Handle,
                                            const struct rafkudin_interface *interfaces,
                                            size_t count);

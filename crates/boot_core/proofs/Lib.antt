@@ -14,3 +14,4 @@ pub mod MapReplies
 pub mod Keys
 pub mod Acceptances
 pub mod Growth
+pub mod LongLists

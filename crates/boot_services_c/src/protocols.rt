@@ -4,7 +4,7 @@
 //! where memory runs out, are not named again. A refusal leaves the places of the caller's.
 ghost use Rattle.std.specs.Prelude.{◌≡◌, map};
 ghost use Rattle.boot_calls.specs.declared.calls.Call.TheVariants as call;
-ghost use Rattle.c_interface.specs.Served.{AnswersStatus, AnswersNumber, AnswersNumbers, AnswersHandles, AnswersGuids, AnswersPairs};
+ghost use Rattle.c_interface.specs.Served.{AnswersStatus, AnswersNumber, AnswersNumbers, AnswersHandles, AnswersGuids};
 ghost use Rattle.c_machines.specs.Guids.{guid_in, interface_in};
 
 use crate::handle::Rafkudin;
@@ -272,7 +272,7 @@ pub extern "C" fn InstallMultipleProtocolInterfaces(
     handle: &mut u64,
     interfaces: &[Interface],
 ) -> u64
-    ensures { AnswersPairs core.old.core (call.InstallMultipleProtocolInterfaces handle.old (map interface_in interfaces.now)) handle.old result handle.new core.new.core }
+    ensures { AnswersNumber core.old.core (call.InstallMultipleProtocolInterfaces handle.old (map interface_in interfaces.now)) handle.old result handle.new core.new.core }
 {
     core.held().install_multiple(handle, interfaces)
 }

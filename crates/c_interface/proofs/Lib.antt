@@ -1,3 +1,4 @@
 mod Blocks
 mod FoundEntries
+mod LongLists
 mod ToldLists

@@ -29,9 +29,9 @@ pub record IsToldCore (size : ℕ) (records : List ℕ) (granule : ℕ) (tables 
   pub block : c.block ≡ block.Nothing
 
 -- What is made: the core that is told. INVALID_PARAMETER says that the records tell no machine, or that the tables are none of
--- drivers; else memory ran out.
+-- drivers; else memory ran out, which it may only where the tables are those of drivers.
 abbrev pub MakesCore : ℕ → List ℕ → ℕ → List DriverTable → Result EfiCoreValue ℕ → Type 0
 MakesCore size records granule tables (Ok c) = IsToldCore size records granule tables c
 MakesCore size records granule tables (Err status) =
     ((status ≡ status_number InvalidParameter) × (((m : MachineValue) → IsMachine m → ¬ IsTold size records granule m) ⊎ (are_tables tables ≡ false)))
-    ⊎ (status ≡ status_number OutOfResources)
+    ⊎ ((status ≡ status_number OutOfResources) × (are_tables tables ≡ true))

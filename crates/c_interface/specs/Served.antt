@@ -84,10 +84,9 @@ TellsGuids count buffer new_count new_buffer answer = ⊥
 abbrev pub AnswersGuids : EfiCoreValue → Call Global → ℕ → List Guid → ℕ → ℕ → List Guid → EfiCoreValue → Type 0
 AnswersGuids old c count buffer status new_count new_buffer new = Answers old c status (TellsGuids count buffer new_count new_buffer) ((new_count ≡ count) × (new_buffer ≡ buffer)) new
 
--- a call with a list that is copied first, for which memory may run out: then no call is made
-abbrev pub AnswersPairs : EfiCoreValue → Call Global → ℕ → ℕ → ℕ → EfiCoreValue → Type 0
-AnswersPairs old c before status after new =
-    AnswersNumber old c before status after new ⊎ ((status ≡ status_number OutOfResources) × (after ≡ before) × (new ≡ forgotten old))
+-- so many interfaces are too many to be installed at once
+abbrev pub too_many : ℕ
+too_many = 17
 
 -- ---- bytes in the caller's buffers
 

@@ -1,18 +1,21 @@
 //! The services that take or tell a list.
-ghost use Rattle.std.specs.Prelude.{◌≡◌, map, IfOk};
+ghost use Rattle.std.specs.Prelude.{◌≡◌, map, take};
 ghost use Rattle.boot_calls.specs.declared.calls.Call.TheVariants as call;
 ghost use Rattle.c_interface.specs.Buffers.{laid};
-ghost use Rattle.c_interface.specs.Served.{AnswersStatus, AnswersHandles, AnswersGuids, AnswersPairs, told_size};
+ghost use Rattle.c_interface.specs.Served.{AnswersStatus, AnswersNumber, AnswersHandles, AnswersGuids, told_size, too_many};
 ghost use Rattle.c_machines.specs.Guids.{guid_in, interface_in, standard_guid};
 
 use crate::buffers::lay;
 use crate::efi_core::{ABORTED, EfiCore};
 use crate::replies::number_in;
+use arrayvec::ArrayVec;
 use boot_core::{Call, Reply};
 use c_machines::{Guid, Interface};
 use page_ranges::Status;
-use std::alloc::{AllocError, Global};
 use uuid::Uuid;
+
+/// So many interfaces are too many to be installed at once, whatever they are.
+const TOO_MANY: usize = 17;
 
 impl EfiCore {
     /// LocateHandle with a buffer of `size` bytes, of which `buffer` is what the caller lets the handles be laid
@@ -58,18 +61,23 @@ impl EfiCore {
     }
 
     /// InstallMultipleProtocolInterfaces. The place `handle` has the handle, 0 for a new one, and is told it.
-    /// OUT_OF_RESOURCES also where memory runs out for the list of interfaces, and then no call is made.
+    /// This takes no memory but the core's: a list that is too long is refused by its first interfaces.
     pub fn install_multiple(&mut self, handle: &mut u64, interfaces: &[Interface]) -> u64
-        ensures { AnswersPairs self.old (call.InstallMultipleProtocolInterfaces handle.old (map interface_in interfaces.now)) handle.old result handle.new self.new }
+        ensures { AnswersNumber self.old (call.InstallMultipleProtocolInterfaces handle.old (map interface_in interfaces.now)) handle.old result handle.new self.new }
+    {
+        let pairs = first_pairs(interfaces);
+        self.install_pairs(handle, pairs.as_slice())
+    }
+
+    // InstallMultipleProtocolInterfaces of pairs of GUID and value.
+    fn install_pairs(&mut self, handle: &mut u64, pairs: &[(Uuid, u64)]) -> u64
+        ensures { AnswersNumber self.old (call.InstallMultipleProtocolInterfaces handle.old pairs.now) handle.old result handle.new self.new }
     {
         self.forget();
-        let Ok(pairs) = pairs_of(self.alloc, interfaces) else {
-            return Status::OutOfResources.number();
-        };
         if self.core.calls_left() == 0 {
             return ABORTED;
         }
-        let reply = self.core.install_multiple(*handle, pairs.as_slice());
+        let reply = self.core.install_multiple(*handle, pairs);
         if let Some(number) = number_in(&reply) {
             *handle = number;
         }
@@ -99,15 +107,16 @@ fn told_size(status: Status, size: u64) -> Option<u64>
     }
 }
 
-/// The interfaces as pairs of GUID and value.
-fn pairs_of(alloc: Global, interfaces: &[Interface]) -> Result<Vec<(Uuid, u64)>, AllocError>
-    ensures { IfOk result (λ pairs. pairs.items ≡ map interface_in interfaces.now) }
+/// The first interfaces as pairs of GUID and value, at most one more than may be installed at once.
+fn first_pairs(interfaces: &[Interface]) -> ArrayVec<(Uuid, u64), TOO_MANY>
+    ensures { result.items ≡ map interface_in (take too_many interfaces.now) }
 {
-    let mut pairs = Vec::with_capacity(alloc, interfaces.len())?;
-    for interface in interfaces {
-        pairs.push((interface.guid.uuid(), interface.value))?;
+    let count = interfaces.len().min(TOO_MANY);
+    let mut pairs = ArrayVec::new();
+    for interface in &interfaces[..count] {
+        pairs.push((interface.guid.uuid(), interface.value));
     }
-    Ok(pairs)
+    pairs
 }
 
 /// Lays GUIDs into the front of a buffer, as many as it has room for.

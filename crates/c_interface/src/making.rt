@@ -5,7 +5,7 @@ ghost use Rattle.c_interface.specs.Making.{MakesCore, fault_status};
 
 use crate::efi_core::EfiCore;
 use boot_core::Core;
-use c_machines::{DriverTable, MachineFault, machine_of, table_drivers};
+use c_machines::{DriverTable, MachineFault, are_tables, machine_of, table_drivers};
 use page_ranges::Status;
 use std::alloc::Global;
 
@@ -15,7 +15,7 @@ impl EfiCore {
     /// interface is the place of its driver among the tables.
     ///
     /// The error is a number of EFI_STATUS. INVALID_PARAMETER: the records tell no machine, or the tables
-    /// are none of drivers. OUT_OF_RESOURCES: memory ran out.
+    /// are none of drivers, which is found before memory is taken. OUT_OF_RESOURCES: memory ran out.
     pub fn make(
         alloc: Global,
         records: &[u8],
@@ -25,6 +25,9 @@ impl EfiCore {
     ) -> Result<EfiCore, u64>
         ensures { MakesCore descriptor_size records.now granule tables.now result }
     {
+        if !are_tables(tables) {
+            return Err(Status::InvalidParameter.number());
+        }
         let machine = match machine_of(alloc, records, descriptor_size, granule) {
             Ok(machine) => machine,
             Err(fault) => return Err(fault_status(fault)),

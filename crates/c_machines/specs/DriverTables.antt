@@ -46,8 +46,8 @@ most_drivers = 64
 abbrev pub are_tables : List DriverTable → Bool
 are_tables ts = nat_le (length ts) most_drivers && list_all fits ts
 
--- What is read of tables: their drivers, in their order. Where they are none, Invalid or out of memory.
+-- What is read of tables: their drivers, in their order. Where they are none, Invalid; only where they are some may memory run out.
 abbrev pub ReadsDrivers : List DriverTable → Result (Vec TableDriver Global) MachineFault → Type 0
 ReadsDrivers ts (Ok drivers) = (are_tables ts ≡ true) × (map told drivers.items ≡ map driver_in ts)
 ReadsDrivers ts (Err Invalid) = are_tables ts ≡ false
-ReadsDrivers ts (Err OutOfMemory) = Unit {0}
+ReadsDrivers ts (Err OutOfMemory) = are_tables ts ≡ true

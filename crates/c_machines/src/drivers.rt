@@ -3,7 +3,7 @@ ghost use Rattle.std.specs.Prelude.{◌≡◌, ◌&&◌, nat_le, map, take, Some
 ghost use Rattle.std.specs.Option.{option_map};
 ghost use Rattle.std.specs.List.{list_all};
 ghost use Rattle.c_machines.specs.Guids.{guid_in, interface_in};
-ghost use Rattle.c_machines.specs.DriverTables.{ReadsDrivers, fits_child, child_in, fits, driver_in, told};
+ghost use Rattle.c_machines.specs.DriverTables.{ReadsDrivers, are_tables, fits_child, child_in, fits, driver_in, told};
 
 use crate::faults::MachineFault;
 use crate::guids::{Guid, Interface};
@@ -47,16 +47,50 @@ pub struct DriverTable {
     pub children_count: u64,
 }
 
+/// Whether tables are those of drivers: there are at most 64, and no count is above the length of its
+/// array. This takes no memory.
+pub fn are_tables(drivers: &[DriverTable]) -> bool
+    ensures { result ≡ are_tables drivers.now }
+{
+    drivers.len() <= MOST_DRIVERS && all_fit(drivers)
+}
+
+/// Whether no count in some tables is above the length of its array.
+fn all_fit(drivers: &[DriverTable]) -> bool
+    ensures { result ≡ list_all fits drivers.now }
+{
+    drivers.iter().all(|table| fits(table))
+}
+
+/// Whether no count of a table is above the length of its array, and none of its children's is.
+fn fits(table: &DriverTable) -> bool
+    ensures { result ≡ fits table.now }
+{
+    table.needs_count <= MOST_GUIDS as u64
+        && table.opens_count <= MOST_GUIDS as u64
+        && table.children_count <= MOST_CHILDREN as u64
+        && do_fit(&table.children[..table.children_count as usize])
+}
+
+/// Whether no count of some children is above the length of its array.
+fn do_fit(children: &[Child]) -> bool
+    ensures { result ≡ list_all fits_child children.now }
+{
+    children
+        .iter()
+        .all(|child| child.count <= MOST_INTERFACES as u64)
+}
+
 /// The drivers of some tables, in their order.
 ///
-/// Invalid where there are more than 64 tables, or a count is above the length of its array.
+/// Invalid where they are not those of drivers ([`are_tables`]), which is found before memory is taken.
 pub fn table_drivers(
     alloc: Global,
     drivers: &[DriverTable],
 ) -> Result<Vec<TableDriver>, MachineFault>
     ensures { ReadsDrivers drivers.now result }
 {
-    if drivers.len() > MOST_DRIVERS {
+    if !are_tables(drivers) {
         return Err(MachineFault::Invalid);
     }
     let mut tables = Vec::with_capacity(alloc, drivers.len())?;

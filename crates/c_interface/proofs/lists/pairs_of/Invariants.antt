@@ -1,6 +1,0 @@
-use Rattle.std.proofs.Common.{◌≡◌, map, take}
-use Rattle.c_machines.specs.Guids.{interface_in}
-use Rattle.c_interface.proofs.lists.pairs_of.Given as goal
-
-abbrev pub invariant-loop-interface : goal.invariant-loop-interface
-invariant-loop-interface l = l.pairs.items ≡ map interface_in (take l.interface-index l.interfaces)
