@@ -18,7 +18,7 @@ pub starts_more : (c : Site) (xs ys : List Agent) (p : Progress) → starts_in_t
 starts_more c [] ys p = refl
 starts_more c (x ∷ xs) ys p = ap (λ l. record { agent = x.handle; is_carried_out = is_carried_out c p x } ∷ l) (starts_more c xs ys (started c p x))
 
-pub supported_more : (c : Site) (xs ys : List Agent) (p : Progress) → AreSupported c xs p → AreSupported c ys (after_starts c xs p) → AreSupported c (xs ++ ys) p
+supported_more : (c : Site) (xs ys : List Agent) (p : Progress) → AreSupported c xs p → AreSupported c ys (after_starts c xs p) → AreSupported c (xs ++ ys) p
 supported_more c [] ys p h k = k
 supported_more c (x ∷ xs) ys p h k = (h.0, supported_more c xs ys (started c p x) h.1 k)
 
@@ -67,14 +67,14 @@ in_pass c (a ∷ agents) p = elim (cases_Bool (is_supported c p a)) [
       })
 ]
 
-not_none : (s : Start) (starts : List Start) → (length (s ∷ starts) == 0) ≡ true → ⊥
+pub not_none : (s : Start) (starts : List Start) → (length (s ∷ starts) == 0) ≡ true → ⊥
 not_none s starts h = elim (eqb_tells (length (s ∷ starts)) 0) [
   | inl e ↦ omega (arith, e.1)
   | inr e ↦ let k : true ≡ false = sym h ∙ e.0 in cc
 ]
 
 -- a pass that starts none changes nothing, and none that it leaves is supported
-idle : (c : Site) (agents : List Agent) (p : Progress) → (length (pass c agents p).starts == 0) ≡ true
+pub idle : (c : Site) (agents : List Agent) (p : Progress) → (length (pass c agents p).starts == 0) ≡ true
     → ((pass c agents p).progress ≡ p) × AllByRecursion (λ a. is_supported c p a ≡ false) (pass c agents p).left
 idle c [] p h = (refl, tt)
 idle c (a ∷ agents) p h = elim (cases_Bool (is_supported c p a)) [
@@ -92,11 +92,11 @@ fewer c (a ∷ agents) p = elim (cases_Bool (is_supported c p a)) [
 
 -- ---- passes
 
-no_agents : (c : Site) (agents : List Agent) (p : Progress) → length agents ≤ 0 → AllByRecursion (λ a. is_supported c p a ≡ false) agents
+pub no_agents : (c : Site) (agents : List Agent) (p : Progress) → length agents ≤ 0 → AllByRecursion (λ a. is_supported c p a ≡ false) agents
 no_agents c [] p l = tt
 no_agents c (a ∷ agents) p l = absurd (omega arith)
 
-some_started : (starts : List Start) → (length starts == 0) ≡ false → 0 < length starts
+pub some_started : (starts : List Start) → (length starts == 0) ≡ false → 0 < length starts
 some_started [] h = cc
 some_started (s ∷ starts) h = omega arith
 

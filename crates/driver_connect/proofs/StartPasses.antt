@@ -1,63 +1,59 @@
--- Passes start drivers in the order of the list that they go over, and go on while one starts a driver.
-use Rattle.std.proofs.Common.{◌≡◌, ℕ, zero, suc, ◌<◌, ◌≤◌, ◌==◌, true, false, List, [], ◌∷◌, length, inl, inr, refl, sym, ◌∙◌, ap, arith}
+-- Each driver that a pass goes over is started exactly where it is supported at its turn, and passes go on while one starts a driver.
+use Rattle.std.proofs.Common.{◌≡◌, ℕ, zero, suc, ◌<◌, ◌≤◌, ◌==◌, true, false, List, [], ◌∷◌, ◌++◌, length, flat_map, inl, inr, refl, sym, ◌∙◌, ap, subst, arith}
 use Rattle.std.specs.List.{AllByRecursion}
 use Rattle.std.proofs.lemmas.Bool.{cases_Bool}
-use Rattle.std.proofs.lemmas.Bool.Decides.{eqb_tells}
 use Rattle.driver_connect.specs.declared.agents.Agent.{Agent}
 use Rattle.driver_connect.specs.declared.starting.Start.{Start}
 use Rattle.driver_connect.specs.Starting.{Site, Progress, Passed, is_supported, is_carried_out, started, pass, passes, agents_for, starts_on}
-use Rattle.driver_connect.specs.Turns.{after_starts, starts_in_turn, AreSupported}
-use Rattle.driver_connect.specs.StartOrder.{AreInOrder, StartsInPasses, in_passes}
-use Rattle.driver_connect.proofs.InTurn.{after_more, fewer, starts_more, supported_more}
-
--- ---- items in order
-
-also_behind : {X : Type 0} (xs all : List X) (y : X) → AreInOrder xs all → AreInOrder xs (y ∷ all)
-also_behind [] all y h = tt
-also_behind (x ∷ xs) all y h = inr h
-
-of_those : {X : Type 0} (xs ys all : List X) → AreInOrder xs ys → AreInOrder ys all → AreInOrder xs all
-of_those [] ys all h k = tt
-of_those (x ∷ xs) [] all h k = absurd h
-of_those (x ∷ xs) (y ∷ ys) [] h k = absurd k
-of_those (x ∷ xs) (y ∷ ys) (z ∷ all) h (inr k) = inr (of_those (x ∷ xs) (y ∷ ys) all h k)
-of_those (x ∷ xs) (y ∷ ys) (z ∷ all) (inl h) (inl k) = inl (h.0 ∙ k.0, of_those xs ys all h.1 k.1)
-of_those (x ∷ xs) (y ∷ ys) (z ∷ all) (inr h) (inl k) = inr (of_those (x ∷ xs) ys all h k.1)
-
-all_of_those : (groups : List (List Agent)) (left agents : List Agent) → AllByRecursion (λ g. AreInOrder g left) groups → AreInOrder left agents → AllByRecursion (λ g. AreInOrder g agents) groups
-all_of_those [] left agents h k = tt
-all_of_those (g ∷ groups) left agents h k = (of_those g left agents h.0 k, all_of_those groups left agents h.1 k)
+use Rattle.driver_connect.specs.Turns.{after_starts, starts_in_turn}
+use Rattle.driver_connect.specs.StartOrder.{Turn, IsPass, StartsInPasses, started_in, left_in}
+use Rattle.driver_connect.proofs.InTurn.{after_more, fewer, idle, no_agents, not_none, some_started, starts_more}
 
 -- ---- one pass
 
+-- each turn's driver is started exactly where it is supported on the lists as the starts before it left them
+abbrev AreExact : Site → Progress → List Turn → Type 0
+AreExact c p turns = (before : List Turn) (t : Turn) (behind : List Turn) → turns ≡ before ++ t ∷ behind → t.is_started ≡ is_supported c (after_starts c (started_in before) p) t.agent
+
+-- one turn more, before the others, which go on from where it leads
+exact_more : (c : Site) (p q : Progress) (first : Turn) (turns : List Turn) → first.is_started ≡ is_supported c p first.agent → ((before : List Turn) → after_starts c (started_in (first ∷ before)) p ≡ after_starts c (started_in before) q) → AreExact c q turns → AreExact c p (first ∷ turns)
+exact_more c p q first turns here on rest [] t behind e = let same : first ≡ t = cc in subst (λ (u : Turn). u.is_started ≡ is_supported c p u.agent) same here
+exact_more c p q first turns here on rest (b ∷ before) t behind e =
+    let same : first ≡ b = cc in
+    let others : turns ≡ before ++ t ∷ behind = cc in
+    rest before t behind others ∙ ap (λ (s : Progress). is_supported c s t.agent) (sym (on before) ∙ ap (λ (u : Turn). after_starts c (started_in (u ∷ before)) p) same)
+
 record InOnePass (c : Site) (agents : List Agent) (p : Progress) (r : Passed) : Type 0 where
-  order : List Agent
-  in_order : AreInOrder order agents
-  left_in_order : AreInOrder r.left agents
-  supported : AreSupported c order p
-  starts : r.starts ≡ starts_in_turn c order p
-  progress : r.progress ≡ after_starts c order p
+  turns : List Turn
+  is_pass : IsPass c agents p turns
+  left : left_in turns ≡ r.left
+  starts : r.starts ≡ starts_in_turn c (started_in turns) p
+  progress : r.progress ≡ after_starts c (started_in turns) p
+
+no_turn : (before : List Turn) (t : Turn) (behind : List Turn) → [] ≡ before ++ t ∷ behind → ⊥
+no_turn [] t behind e = cc
+no_turn (b ∷ before) t behind e = cc
 
 one_pass : (c : Site) (agents : List Agent) (p : Progress) → InOnePass c agents p (pass c agents p)
-one_pass c [] p = record { order = []; in_order = tt; left_in_order = tt; supported = tt; starts = refl; progress = refl }
+one_pass c [] p = record { turns = []; is_pass = record { all = refl; exact = λ before t behind e. absurd (no_turn before t behind e) }; left = refl; starts = refl; progress = refl }
 one_pass c (a ∷ agents) p = elim (cases_Bool (is_supported c p a)) [
   | inl e ↦
       let r = one_pass c agents (started c p a) in
+      let first : Turn = record { agent = a; is_started = true } in
       rw e (record {
-        order = a ∷ r.order;
-        in_order = inl (refl, r.in_order);
-        left_in_order = also_behind (pass c agents (started c p a)).left agents a r.left_in_order;
-        supported = (e, r.supported);
+        turns = first ∷ r.turns;
+        is_pass = record { all = ap (λ l. a ∷ l) r.is_pass.all; exact = exact_more c p (started c p a) first r.turns (sym e) (λ before. refl) r.is_pass.exact };
+        left = r.left;
         starts = ap (λ l. record { agent = a.handle; is_carried_out = is_carried_out c p a } ∷ l) r.starts;
         progress = r.progress;
       })
   | inr e ↦
       let r = one_pass c agents p in
+      let first : Turn = record { agent = a; is_started = false } in
       rw e (record {
-        order = r.order;
-        in_order = also_behind r.order agents a r.in_order;
-        left_in_order = inl (refl, r.left_in_order);
-        supported = r.supported;
+        turns = first ∷ r.turns;
+        is_pass = record { all = ap (λ l. a ∷ l) r.is_pass.all; exact = exact_more c p p first r.turns (sym e) (λ before. refl) r.is_pass.exact };
+        left = ap (λ l. a ∷ l) r.left;
         starts = r.starts;
         progress = r.progress;
       })
@@ -65,49 +61,39 @@ one_pass c (a ∷ agents) p = elim (cases_Bool (is_supported c p a)) [
 
 -- ---- passes
 
-nothing : {X : Type 0} (xs : List X) → (length xs == 0) ≡ true → xs ≡ []
-nothing [] h = refl
-nothing (x ∷ xs) h = absurd (elim (eqb_tells (length (x ∷ xs)) 0) [
-  | inl e ↦ omega (arith, e.1)
-  | inr e ↦ let k : true ≡ false = sym h ∙ e.0 in cc
-])
+none_started : (starts : List Start) → (length starts == 0) ≡ true → starts ≡ []
+none_started [] h = refl
+none_started (s ∷ starts) h = absurd (not_none s starts h)
 
-something : (c : Site) (order : List Agent) (p : Progress) (starts : List Start) → starts ≡ starts_in_turn c order p → (length starts == 0) ≡ false → 0 < length order
-something c [] p starts e h = absurd (let k : (length starts == 0) ≡ true = rw e refl in let bad : true ≡ false = sym k ∙ h in cc)
-something c (a ∷ order) p starts e h = omega arith
+-- a pass that starts a driver has a turn at which one is started
+some_turn : (c : Site) (order : List Agent) (p : Progress) (starts : List Start) → starts ≡ starts_in_turn c order p → 0 < length starts → 0 < length order
+some_turn c [] p starts e some = absurd (let none : length starts ≡ 0 = ap (λ (l : List Start). length l) e in omega (arith, some, none))
+some_turn c (a ∷ order) p starts e some = omega arith
 
-some_start : (starts : List Start) → (length starts == 0) ≡ false → 0 < length starts
-some_start [] h = cc
-some_start (s ∷ starts) h = omega arith
-
-started_some : (c : Site) (order : List Agent) (p : Progress) (starts : List Start) → starts ≡ starts_in_turn c order p → (length order == 0) ≡ false → (length starts == 0) ≡ true → ⊥
-started_some c [] p starts e h k = let bad : true ≡ false = h in cc
-started_some c (a ∷ order) p starts e h k = let none : starts ≡ [] = nothing starts k in let bad : starts_in_turn c (a ∷ order) p ≡ [] = sym e ∙ none in cc
-
--- a pass that starts none leaves all as it was
-idle_pass : (c : Site) (agents : List Agent) (p : Progress) (r : Passed) → InOnePass c agents p r → (length r.starts == 0) ≡ true → r.progress ≡ p
-idle_pass c agents p r h e = elim (cases_Bool (length h.order == 0)) [
-  | inl k ↦ h.progress ∙ ap (λ order. after_starts c order p) (nothing h.order k)
-  | inr k ↦ absurd (started_some c h.order p r.starts h.starts k e)
+-- a pass that starts none leaves each driver, and none is supported
+idle_agents : (c : Site) (agents : List Agent) (p : Progress) → (length (pass c agents p).starts == 0) ≡ true → AllByRecursion (λ a. is_supported c p a ≡ false) agents
+idle_agents c [] p h = tt
+idle_agents c (a ∷ agents) p h = elim (cases_Bool (is_supported c p a)) [
+  | inl e ↦ absurd (not_none (record { agent = a.handle; is_carried_out = is_carried_out c p a }) (pass c agents (started c p a)).starts (rw e at h))
+  | inr e ↦ (e, idle_agents c agents p (rw e at h))
 ]
 
 in_all_passes : (k : ℕ) (c : Site) (agents : List Agent) (p : Progress) → length agents ≤ k → StartsInPasses c agents p (passes k c agents p)
-in_all_passes zero c agents p l = record { passes = []; order = tt; follows = tt; supported = tt; starts = refl; progress = refl }
+in_all_passes zero c agents p l = record { passes = []; are_passes = no_agents c agents p l; starts = refl; progress = refl }
 in_all_passes (suc k) c agents p l =
     let r = one_pass c agents p in
     elim (cases_Bool (length (pass c agents p).starts == 0)) [
-      | inl e ↦
-          rw e (record { passes = []; order = tt; follows = tt; supported = tt; starts = nothing (pass c agents p).starts e; progress = idle_pass c agents p (pass c agents p) r e })
+      | inl e ↦ rw e (record { passes = []; are_passes = idle_agents c agents p e; starts = none_started (pass c agents p).starts e; progress = (idle c agents p e).0 })
       | inr e ↦
-          let less : length (pass c agents p).left ≤ k = omega (arith, l, fewer c agents p, some_start (pass c agents p).starts e) in
+          let some : 0 < length (pass c agents p).starts = some_started (pass c agents p).starts e in
+          let less : length (pass c agents p).left ≤ k = omega (arith, l, fewer c agents p, some) in
           let m = in_all_passes k c (pass c agents p).left (pass c agents p).progress less in
+          let later : List Agent = flat_map started_in m.passes in
           rw e (record {
-            passes = r.order ∷ m.passes;
-            order = (r.in_order, all_of_those m.passes (pass c agents p).left agents m.order r.left_in_order);
-            follows = (something c r.order p (pass c agents p).starts r.starts e, m.follows);
-            supported = supported_more c r.order (in_passes m.passes) p r.supported (rw (← r.progress) m.supported);
-            starts = rw (starts_more c r.order (in_passes m.passes) p) (rw (← r.progress) (rw (← m.starts) (rw (← r.starts) refl)));
-            progress = rw (after_more c r.order (in_passes m.passes) p) (rw (← r.progress) m.progress);
+            passes = r.turns ∷ m.passes;
+            are_passes = (r.is_pass, some_turn c (started_in r.turns) p (pass c agents p).starts r.starts some, rw r.left (rw (← r.progress) m.are_passes));
+            starts = rw (starts_more c (started_in r.turns) later p) (rw (← r.progress) (rw (← m.starts) (rw (← r.starts) refl)));
+            progress = rw (after_more c (started_in r.turns) later p) (rw (← r.progress) m.progress);
           })
     ]
 

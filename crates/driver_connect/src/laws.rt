@@ -57,8 +57,9 @@ pub fn makers_item_law()
     ensures { MakersItemLaw }
 {}
 
-/// On a handle drivers are started in passes over the list of drivers: in each pass in the order of the
-/// list, and a pass follows only one that started a driver.
+/// On a handle drivers are started in passes: the first over the list of drivers, each other over those
+/// that the one before it left, in the order of the list. A driver is started exactly where it is
+/// supported at its turn, and a pass follows only one that started a driver.
 pub fn start_order_law()
     ensures { StartOrderLaw }
 {}
