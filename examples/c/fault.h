@@ -4,7 +4,7 @@
 
 #include <stddef.h>
 
-/* The name that stands before what a program says of its end. */
+/* The name before what a program says of its end. */
 extern const char *fault_program;
 
 /* Writes a line to standard error and ends the program with status 1. */

@@ -19,7 +19,7 @@ unsigned digit_of(char byte)
     return 16;
 }
 
-/* Whether a hyphen stands before these two digits in the form with hyphens. */
+/* Whether a hyphen is before these two digits in the form with hyphens. */
 static bool has_hyphen(unsigned pair)
 {
     return pair == 4 || pair == 6 || pair == 8 || pair == 10;

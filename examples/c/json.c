@@ -1,4 +1,4 @@
-/* JSON in memory: judged once, and then read where it stands. */
+/* JSON in memory: judged once, and then read in place. */
 #include "json.h"
 
 #include <math.h>
@@ -55,7 +55,7 @@ static void pass_blanks(const char **at)
     *at += strspn(*at, " \t\r\n");
 }
 
-/* Passes a byte where it stands next. */
+/* Passes a byte where it is next. */
 static bool pass_byte(const char **at, char byte)
 {
     if (**at != byte)
@@ -193,7 +193,7 @@ static bool pass_name(const char **at)
     return pass_byte(at, ':');
 }
 
-/* What stands between the brackets of a list or an object, and the closing one. */
+/* What is between the brackets of a list or an object, and the closing one. */
 static bool pass_inside(const char **at, char close, unsigned levels)
 {
     pass_blanks(at);

@@ -1,4 +1,4 @@
-/* JSON in memory: judged once, and then read where it stands.
+/* JSON in memory: judged once, and then read in place.
  *
  * A text here ends with a zero byte. A value is the place in a valid text where it begins. */
 #ifndef JSON_H
@@ -13,7 +13,7 @@
  * refused too. */
 const char *json_root(const char *text, size_t length);
 
-/* The value of a name in an object, the last one where the name stands twice. Null where there is
+/* The value of a name in an object, the last one where the name is there twice. Null where there is
  * none, and where the value is no object. */
 const char *json_member(const char *value, const char *name);
 

@@ -17,7 +17,7 @@ struct line {
     size_t length;
 };
 
-/* A word of a line, where it stands there. */
+/* A word of a line, in place. */
 struct word {
     const char *bytes;
     size_t length;
