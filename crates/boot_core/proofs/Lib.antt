@@ -13,5 +13,6 @@ pub mod LastBytes
 pub mod MapReplies
 pub mod Keys
 pub mod Acceptances
+pub mod CertifiedChoices
 pub mod Growth
 pub mod LongLists

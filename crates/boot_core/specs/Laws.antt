@@ -1,5 +1,5 @@
 -- The laws of the machine. Each is the contract of a public function.
-use Rattle.std.specs.Prelude.{◌≡◌, ◌⊎◌, ◌↔◌, ℕ, ◌+◌, ◌*◌, ◌<◌, ◌≤◌, false, cond, List, [], ◌∷◌, ◌++◌, length, take, drop, replicate, Option, Some, None, Ok, IfSome, Vec, Bool, true}
+use Rattle.std.specs.Prelude.{◌≡◌, ◌⊎◌, ◌↔◌, ℕ, ◌+◌, ◌*◌, ◌<◌, ◌≤◌, false, cond, List, [], ◌∷◌, ◌++◌, length, take, drop, replicate, Option, Some, None, Ok, IfSome, Vec, Bool, true, is_some}
 use Rattle.std.specs.Option.{option_map}
 use Rattle.std.specs.List.{AllByRecursion}
 use Rattle.page_ranges.specs.declared.statuses.Status.{Status}
@@ -9,6 +9,7 @@ use Rattle.page_ranges.specs.MemoryMap.{memory_map}
 use Rattle.placement_certificate.specs.Acceptance.{IsAccepted}
 use Rattle.map_keys.specs.declared.memory_maps.MapReply.{MapReply}
 use Rattle.map_keys.specs.Records.{IsRecordEntry}
+use Rattle.page_services.specs.PageRules.{fixed_address}
 use Rattle.pool_services.specs.Extents.{Extent, tail_at}
 use Rattle.pool_services.specs.Laws.{byte_at, first_of, is_among, laid}
 use Rattle.open_agents.specs.OpenItems.{items_on}
@@ -24,7 +25,7 @@ use Rattle.boot_calls.specs.CallNumbers.{NamesTypes}
 use Rattle.boot_machines.specs.MachineRuns.{HasRecordNumbers}
 use Rattle.boot_machines.specs.Machines.{IsMachine, MachineValue}
 use Rattle.boot_core.specs.Machines.{Parts, State, AreSound, first_state}
-use Rattle.boot_replies.specs.Certified.{certified}
+use Rattle.boot_replies.specs.Certified.{certificate_in, certified}
 use Rattle.boot_core.specs.Steps.{Setting, any_starts, MapStep, ReadStep, Step, StepAny, StepBy, CallRun, CallRunBy}
 
 -- A step with the best start is a step with any permitted start.
@@ -207,3 +208,30 @@ AllAccepted ds old calls replies new run = Unit {0}
 -- On a valid machine the checker accepts each certificate of a run.
 abbrev pub AcceptanceLaw : Type 0 → Type 0
 AcceptanceLaw A = (ds : List Meaning) (machine : MachineValue) (calls : List (Call A)) (replies : List (Reply A)) (new : State) (run : CallRun ds (first_state machine) calls replies new) → IsMachine machine → AllAccepted ds (first_state machine) calls replies new run
+
+-- the pool has one extent more
+abbrev pub HasNewExtent : Parts → Parts → Type 0
+HasNewExtent old new = length new.pools ≡ length old.pools + 1
+
+-- A call places pages by choice: AllocatePages that names no address, where it succeeds, and each call for a block of the pool,
+-- where the block is in a new extent.
+abbrev pub PlacesByChoice : {A : Type 0} → Parts → Call A → Reply A → Parts → Type 0
+PlacesByChoice old (call.AllocatePages kind t pages memory) (reply.AllocatePages (Ok placed)) new = kind < fixed_address
+PlacesByChoice old (call.AllocatePool t size) answer new = HasNewExtent old new
+PlacesByChoice old (call.LocateHandleBuffer search guid key) answer new = HasNewExtent old new
+PlacesByChoice old (call.OpenProtocolInformation handle guid) answer new = HasNewExtent old new
+PlacesByChoice old c answer new = ⊥
+
+-- The reply carries a certificate exactly where the call placed pages by choice, and then it tells which request that is for.
+pub record CertifiesChoice {A : Type 0} (old : State) (c : Call A) (answer : Reply A) (new : State) : Type 0 where
+  pub carried : (is_some (certificate_in answer) ≡ true) ↔ PlacesByChoice old.parts c answer new.parts
+  pub requested : is_some (certified old.parts.book.granule c answer) ≡ is_some (certificate_in answer)
+
+-- so does each call of the run
+abbrev pub AllCertifyChoices : {A : Type 0} (ds : List Meaning) (old : State) (calls : List (Call A)) (replies : List (Reply A)) (new : State) → CallRun ds old calls replies new → Type 0
+AllCertifyChoices ds old (c ∷ calls) (answer ∷ replies) new (next, step, run) = CertifiesChoice old c answer next × AllCertifyChoices ds next calls replies new run
+AllCertifyChoices ds old calls replies new run = Unit {0}
+
+-- On a valid machine the calls of a run that place pages by choice are exactly those whose replies carry certificates.
+abbrev pub CertificateLaw : Type 0 → Type 0
+CertificateLaw A = (ds : List Meaning) (machine : MachineValue) (calls : List (Call A)) (replies : List (Reply A)) (new : State) (run : CallRun ds (first_state machine) calls replies new) → IsMachine machine → AllCertifyChoices ds (first_state machine) calls replies new run

@@ -1,7 +1,7 @@
 //! The laws of the machine, each the contract of a function that does nothing.
 ghost use Rattle.std.specs.Prelude.{List};
 ghost use Rattle.driver_connect.specs.Drivers.{Meaning};
-ghost use Rattle.boot_core.specs.Laws.{AcceptanceLaw, AnyRunLaw, AnyStepLaw, KeyCountLaw, KeyLaw, LastBytesLaw, MapGrowthLaw, MapStepLaw, PoolBytesLaw, ProperListsLaw, ReadBytesLaw, ReadStepLaw, RecordEntriesLaw, SoundLaw};
+ghost use Rattle.boot_core.specs.Laws.{AcceptanceLaw, AnyRunLaw, AnyStepLaw, CertificateLaw, KeyCountLaw, KeyLaw, LastBytesLaw, MapGrowthLaw, MapStepLaw, PoolBytesLaw, ProperListsLaw, ReadBytesLaw, ReadStepLaw, RecordEntriesLaw, SoundLaw};
 ghost use Rattle.boot_core.specs.Steps.{any_starts, best_starts};
 
 use std::alloc::Allocator;
@@ -91,4 +91,10 @@ pub fn map_growth_law<A: Allocator>()
 /// memory map before the call.
 pub fn acceptance_law<A: Allocator>()
     ensures { AcceptanceLaw A }
+{}
+
+/// On a valid machine a reply carries a certificate exactly where its call placed pages by choice: where
+/// AllocatePages that names no address succeeds, and where a block of the pool is in a new extent.
+pub fn certificate_law<A: Allocator>()
+    ensures { CertificateLaw A }
 {}
