@@ -67,6 +67,17 @@ impl<D: Driver, A: Allocator + Copy> Core<D, A> {
         })
     }
 
+    /// Leaves so many calls and no more. It is for tests alone, of what comes after the last call.
+    pub fn leave_calls(&mut self, calls: u64)
+        requires { calls ≤ self.old.state.calls_left }
+        ensures parts { self.new.state.parts ≡ self.old.state.parts }
+        ensures exited { self.new.state.exited ≡ self.old.state.exited }
+        ensures calls_left { self.new.state.calls_left ≡ calls }
+        ensures drivers { self.new.drivers ≡ self.old.drivers }
+    {
+        self.calls_left = calls;
+    }
+
     // Counts a call; an `Err` is the refusal of all services once the boot services have ended.
     fn begin(&mut self) -> Result<(), Status>
         requires { 0 < self.old.state.calls_left }
