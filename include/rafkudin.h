@@ -5,16 +5,23 @@
  * RULES.md says what of the standard is left out. No hardware is touched: addresses are those of
  * the machine that RafkudinMake is given, never pointers of this program.
  *
- * NAMES. There are 24 services. 21 of them have their names in the UEFI Specification 2.10, and its
- * parameters in its order, with the core in front; where one is left out or added, the comment at
- * the function says so. RafkudinProtocolsPerHandle is ProtocolsPerHandle with a buffer of the
- * caller's. PoolRead and PoolWrite are in no standard: by them a caller reaches the bytes of the
- * pool. GetMemoryMap and LocateHandle are inline functions over RafkudinGetMemoryMap and
- * RafkudinLocateHandle, which make the call. All other functions that begin with Rafkudin are no
- * services.
+ * NAMES. There are 24 services. 22 of them have their names in the UEFI Specification 2.10 with
+ * Rafkudin in front, and its parameters in its order, with the core in front; where one is left out
+ * or added, the comment at the function says so. RafkudinPoolRead and RafkudinPoolWrite are in no
+ * standard: by them a caller reaches the bytes of the pool. All other functions are no services.
+ * rafkudin_efi_names.h has the standard's names without a prefix, as macros. Every symbol of the
+ * library begins with Rafkudin.
  *
  * NUMBERS. A page has 4,096 bytes. Addresses and sizes are in bytes, numbers of pages in pages. A
- * handle is a number, from 1 up; 0 is the null handle. An event is any number of the caller's.
+ * handle is a number, from 1 up; 0 is the null handle. An event is any number of the caller's. So
+ * handles, events, interfaces and the addresses of the pool go through as 64-bit numbers, where the
+ * standard has pointers.
+ *
+ * NULL. A null pointer in the place of the core, of a GUID or of a result is INVALID_PARAMETER, and
+ * uses up no call, unless it is said that it may be null. Beside a count or a size of 0 the pointer
+ * may be null. rafkudin_null.h, which this header includes, looks for null pointers in inline
+ * functions and then calls the library; with RAFKUDIN_NO_NULL_CHECKS it does not, and then no
+ * pointer may be null.
  *
  * STATUSES. Services answer an EFI_STATUS. SUCCESS is 0. Any other is a refusal, which leaves the
  * core as it was, but for the calls left and what RafkudinEvents and RafkudinCertificate answer of
@@ -33,8 +40,7 @@
  *
  * WHAT THE CALLER OWES. Nothing checks it, and the proofs hold only where it holds:
  * - `core` is a pointer that RafkudinMake gave and that was not yet handed to RafkudinFree.
- * - No pointer is null, also where the count beside it is 0, unless it is said that it may be. Each
- *   is aligned for its type.
+ * - Each pointer is null or aligned for its type.
  * - A buffer has the room, and an array the entries, that are said. What is read was set before,
  *   all of it: every field of a structure, entries beyond its counts too. A bool is 0 or 1.
  * - What one pointer of a call leads to is no part of the core or of what another leads to; two
@@ -43,40 +49,50 @@
  *   also in two threads.
  * - No call is made from a signal handler, or in the forked child of a process with threads.
  *
- * WHAT THE LIBRARY NEEDS. The program defines six functions that the library calls. Three are those
- * of the C library, or do the same:
- *
- *     void *memcpy(void *to, const void *from, size_t size);
- *     void *memmove(void *to, const void *from, size_t size);
- *     void *memset(void *to, int byte, size_t size);
- *
- * Three are its heap. examples/c/heap.c makes them of malloc, realloc and free; a program without a
- * C library has its own.
+ * WHAT THE LIBRARY NEEDS. The program defines memcpy, memmove and memset, as the C library does,
+ * and malloc, realloc and free; or, in the place of these three, a heap of its own:
  *
  *     struct block { bool given; void *start; };
  *     struct block rattle_alloc(size_t size, size_t align);
  *     struct block rattle_realloc(void *start, size_t kept, size_t size, size_t align);
  *     void rattle_dealloc(void *start);
  *
- * - A block of `size` bytes begins at a multiple of `align`, which is a power of two up to 16 and
- *   divides `size`. A `size` of 0 is no reason to refuse.
- * - A block belongs to the library alone until rattle_dealloc, or rattle_realloc with success,
- *   gets its `start`.
- * - rattle_realloc keeps the first `kept` bytes of the block. Where it refuses, the old block stays
- *   as it was.
- * - Where memory is refused, `given` is false and `start` is still no null pointer.
- * - All three are of one heap, and may be called in two threads at once where these have a core
- *   each. */
+ * docs/C.md says what these owe, how to link, how much stack calls take, and how a firmware builds
+ * the library. It may be interrupted anywhere: it uses no byte below the stack pointer. */
 #ifndef RAFKUDIN_H
 #define RAFKUDIN_H
 
+/* With RAFKUDIN_NO_STD_INCLUDES nothing is included here, and the includer has declared bool, NULL,
+ * size_t, uint8_t, uint32_t and, unless it defines RAFKUDIN_UINT64, uint64_t. */
+#ifndef RAFKUDIN_NO_STD_INCLUDES
 #include <stdbool.h>
 #include <stddef.h>
 #include <stdint.h>
+#endif
 
-#if SIZE_MAX != UINT64_MAX
+#if defined(__SIZEOF_POINTER__) && __SIZEOF_POINTER__ != 8
 #error "rafkudin.h is for 64-bit processors"
 #endif
+
+/* The unsigned type of 64 bits: that of EDK2 is `unsigned long long`, to which no pointer of a
+ * `uint64_t` may go on Linux. */
+#ifndef RAFKUDIN_UINT64
+#define RAFKUDIN_UINT64 uint64_t
+#endif
+typedef RAFKUDIN_UINT64 rafkudin_uint64;
+
+/* The library's calling convention: that of the System V ABI, also where the compiler's own is
+ * another, as with EDK2 or `-target x86_64-unknown-windows`. */
+#ifndef RAFKUDIN_API
+#if defined(__x86_64__) || defined(_M_X64)
+#define RAFKUDIN_API __attribute__((sysv_abi))
+#else
+#define RAFKUDIN_API
+#endif
+#endif
+
+/* The version of this header: a byte for each of its numbers, major, minor and patch. */
+#define RAFKUDIN_VERSION 0x000100U
 
 #ifdef __cplusplus
 extern "C" {
@@ -140,8 +156,10 @@ extern "C" {
 #define RAFKUDIN_DESCRIPTOR_SIZE 48U
 #define RAFKUDIN_DESCRIPTOR_VERSION 1U
 
-/* The most handles that are live at a time, and the most bytes of a memory pool block. */
+/* The most handles that are live at a time, the most driver handles that ConnectController is
+ * given, and the most bytes of a memory pool block. */
 #define RAFKUDIN_MOST_HANDLES 4096U
+#define RAFKUDIN_MOST_DRIVERS_TO_TRY 16U
 #define RAFKUDIN_LARGEST_BLOCK 0x100000000ULL
 
 /* A core: the boot services of one machine. */
@@ -159,13 +177,13 @@ struct rafkudin_guid {
  * those of RafkudinMake, from 0 on. */
 struct rafkudin_interface {
     struct rafkudin_guid guid;
-    uint64_t value;
+    rafkudin_uint64 value;
 };
 
 /* A child that a driver makes: up to 4 interfaces, of which the first `count` are its own. */
 struct rafkudin_child {
     struct rafkudin_interface interfaces[4];
-    uint64_t count;
+    rafkudin_uint64 count;
 };
 
 /* A driver with fixed answers: it supports a controller that carries all of `needs`, none of them
@@ -176,20 +194,20 @@ struct rafkudin_driver {
     uint32_t version;
     bool stops;
     struct rafkudin_guid needs[8];
-    uint64_t needs_count;
+    rafkudin_uint64 needs_count;
     struct rafkudin_guid opens[8];
-    uint64_t opens_count;
+    rafkudin_uint64 opens_count;
     struct rafkudin_child children[8];
-    uint64_t children_count;
+    rafkudin_uint64 children_count;
 };
 
 /* An entry of the memory map: the fields of EFI_MEMORY_DESCRIPTOR without VirtualStart, which is
  * always 0. */
 struct rafkudin_descriptor {
     uint32_t type;
-    uint64_t physical_start;  /* an address, a multiple of 4,096 */
-    uint64_t number_of_pages; /* at least 1 */
-    uint64_t attribute;
+    rafkudin_uint64 physical_start;  /* an address, a multiple of 4,096 */
+    rafkudin_uint64 number_of_pages; /* at least 1 */
+    rafkudin_uint64 attribute;
 };
 
 /* ---- The core itself. None of these is a service, and none uses up a call. ---- */
@@ -202,23 +220,24 @@ struct rafkudin_descriptor {
  * ACPI NVS memory is placed in whole granules of it. `drivers` are `driver_count` drivers, up to
  * 64.
  *
- * INVALID_PARAMETER: a descriptor size below 40, or one that does not divide `size`; over 65,536
- * descriptors; a descriptor that has no pages, starts at no multiple of 4,096, goes past the last
- * page (2^52 - 1), is of a type from 16 to 0x6fffffff, or is conventional with RUNTIME; two that
- * overlap; another granule; more than 64 drivers; a count of a driver or a child above what its
- * array holds. The drivers are looked at before any memory is asked for. OUT_OF_RESOURCES: memory
- * was refused. *core is set on SUCCESS alone. */
-uint64_t RafkudinMake(const uint8_t *records, size_t size, size_t descriptor_size, uint64_t granule,
-                      const struct rafkudin_driver *drivers, size_t driver_count,
-                      struct rafkudin **core);
+ * INVALID_PARAMETER: `core` is null; a descriptor size below 40, or one that does not divide
+ * `size`; over 65,536 descriptors; a descriptor that has no pages, starts at no multiple of 4,096,
+ * goes past the last page (2^52 - 1), is of a type from 16 to 0x6fffffff, or is conventional with
+ * RUNTIME; two that overlap; another granule; more than 64 drivers; a count of a driver or a child
+ * above what its array holds. The drivers are looked at before any memory is asked for.
+ * OUT_OF_RESOURCES: memory was refused. *core is set on SUCCESS alone. */
+RAFKUDIN_API rafkudin_uint64 RafkudinMake(const uint8_t *records, size_t size,
+                                          size_t descriptor_size, rafkudin_uint64 granule,
+                                          const struct rafkudin_driver *drivers,
+                                          size_t driver_count, struct rafkudin **core);
 
-/* Gives back all memory of a core, also after the exit of the boot services. `core` may be null;
- * then nothing is done. */
-void RafkudinFree(struct rafkudin *core);
+/* Gives back all memory of a core, also after the exit of the boot services. With null it does
+ * nothing. */
+RAFKUDIN_API void RafkudinFree(struct rafkudin *core);
 
 /* Whether calls keep the certificates of their placements from now on. At first they don't: it
  * costs a copy of the memory map for each call that may place something. */
-void RafkudinCertify(struct rafkudin *core, bool certify);
+RAFKUDIN_API void RafkudinCertify(struct rafkudin *core, bool certify);
 
 /* The certificate of the last service that was called, as the text of a certificate block
  * (docs/FORMATS.md), without a zero byte at its end. There is one where that call succeeded while
@@ -229,32 +248,51 @@ void RafkudinCertify(struct rafkudin *core, bool certify);
  *
  * SUCCESS: *length are the bytes written. BUFFER_TOO_SMALL: *length are the bytes needed, and none
  * is written. NOT_FOUND: there is no certificate. OUT_OF_RESOURCES: memory was refused. */
-uint64_t RafkudinCertificate(const struct rafkudin *core, uint8_t *text, size_t room,
-                             uint64_t *length);
+RAFKUDIN_API rafkudin_uint64 RafkudinCertificate(const struct rafkudin *core, uint8_t *text,
+                                                 size_t room, rafkudin_uint64 *length);
+
+/* How many events the last service that was called signals, and the first `room` of them in
+ * `events`, in their order. Only InstallProtocolInterface, InstallMultipleProtocolInterfaces,
+ * ReinstallProtocolInterface and ConnectController signal any, on SUCCESS: the events registered
+ * for the GUIDs that they install. An event may be there more than once. */
+RAFKUDIN_API size_t RafkudinEvents(const struct rafkudin *core, rafkudin_uint64 *events,
+                                   size_t room);
+
+/* How many entries the memory map has. This and the next work after the exit of the boot services
+ * too. */
+RAFKUDIN_API size_t RafkudinDescriptors(const struct rafkudin *core);
+
+/* The entry at an index, from 0 on, by ascending address. NOT_FOUND: there is none. */
+RAFKUDIN_API rafkudin_uint64 RafkudinDescriptor(const struct rafkudin *core, size_t index,
+                                                struct rafkudin_descriptor *entry);
+
+/* How many calls of services the core will still serve: 2^31 at first. */
+RAFKUDIN_API rafkudin_uint64 RafkudinCallsLeft(const struct rafkudin *core);
+
+/* The version of the library, as RAFKUDIN_VERSION: it equals that of the header that fits it. */
+RAFKUDIN_API uint32_t RafkudinVersion(void);
+
+/* ---- A placement with no core, and the check of one ---- */
+
+/* Finds the best place for `Pages` pages of the type `MemoryType` on a memory map, of which nothing
+ * is kept: `records`, `size`, `descriptor_size` and `granule` as of RafkudinMake. `limit` is the
+ * last byte that may belong to them, UINT64_MAX where they may lie anywhere. *address is what
+ * AllocatePages would answer on a core that is made of the map.
+ *
+ * INVALID_PARAMETER: `address` is null; the map, as of RafkudinMake; a memory type that no request
+ * may name; 0 pages. OUT_OF_RESOURCES: no permitted place, or memory was refused. */
+RAFKUDIN_API rafkudin_uint64 RafkudinPlace(const uint8_t *records, size_t size,
+                                           size_t descriptor_size, rafkudin_uint64 granule,
+                                           uint32_t MemoryType, rafkudin_uint64 Pages,
+                                           rafkudin_uint64 limit, rafkudin_uint64 *address);
 
 /* Judges the `length` bytes of a certificate block, wherever it comes from.
  *
  * SUCCESS: it is accepted: for that map and that request the answer is the best, and each bound is
  * true. ACCESS_DENIED: it is refused. INVALID_PARAMETER: it is no block, and *line is the first
  * line, from 1 on, that is wrong or missing. OUT_OF_RESOURCES: memory was refused. */
-uint64_t RafkudinCheck(const uint8_t *text, size_t length, uint64_t *line);
-
-/* How many events the last service that was called signals, and the first `room` of them in
- * `events`, in their order. Only InstallProtocolInterface, InstallMultipleProtocolInterfaces,
- * ReinstallProtocolInterface and ConnectController signal any, on SUCCESS: the events registered
- * for the GUIDs that they install. An event may be there more than once. */
-size_t RafkudinEvents(const struct rafkudin *core, uint64_t *events, size_t room);
-
-/* How many entries the memory map has. This and the next work after the exit of the boot services
- * too. */
-size_t RafkudinDescriptors(const struct rafkudin *core);
-
-/* The entry at an index, from 0 on, by ascending address. NOT_FOUND: there is none. */
-uint64_t RafkudinDescriptor(const struct rafkudin *core, size_t index,
-                            struct rafkudin_descriptor *entry);
-
-/* How many calls of services the core will still serve: 2^31 at first. */
-uint64_t RafkudinCallsLeft(const struct rafkudin *core);
+RAFKUDIN_API rafkudin_uint64 RafkudinCheck(const uint8_t *text, size_t length,
+                                           rafkudin_uint64 *line);
 
 /* ---- Memory services, sections 7.2.1 to 7.2.5 ---- */
 
@@ -269,8 +307,9 @@ uint64_t RafkudinCallsLeft(const struct rafkudin *core);
  * pages. NOT_FOUND: the pages are not all there and free at the address, or the address is no
  * multiple of 4,096, or of 65,536 for these four types with the granule 16. OUT_OF_RESOURCES: no
  * permitted place. */
-uint64_t AllocatePages(struct rafkudin *core, uint32_t Type, uint32_t MemoryType, uint64_t Pages,
-                       uint64_t *Memory);
+RAFKUDIN_API rafkudin_uint64 RafkudinAllocatePages(struct rafkudin *core, uint32_t Type,
+                                                   uint32_t MemoryType, rafkudin_uint64 Pages,
+                                                   rafkudin_uint64 *Memory);
 
 /* 7.2.2. Frees pages that AllocatePages placed: a whole allocation, a part of one, or several that
  * touch. On a machine with the granule 16, each end of the range then grows outward to the next
@@ -279,10 +318,11 @@ uint64_t AllocatePages(struct rafkudin *core, uint32_t Type, uint32_t MemoryType
  *
  * INVALID_PARAMETER: `Memory` is no multiple of 4,096, `Pages` is 0, or the range goes past the
  * last page. NOT_FOUND: a page of the range, as it is named, was not placed by AllocatePages. */
-uint64_t FreePages(struct rafkudin *core, uint64_t Memory, uint64_t Pages);
+RAFKUDIN_API rafkudin_uint64 RafkudinFreePages(struct rafkudin *core, rafkudin_uint64 Memory,
+                                               rafkudin_uint64 Pages);
 
-/* 7.2.3, GetMemoryMap with the buffer's room beside it; the function GetMemoryMap below has the
- * standard's order. The map is written to the front of `MemoryMap`, which has `room` bytes:
+/* 7.2.3, GetMemoryMap with the buffer's room beside it; RafkudinGetMemoryMap below has the
+ * standard's parameters. The map is written to the front of `MemoryMap`, which has `room` bytes:
  * RAFKUDIN_DESCRIPTOR_SIZE bytes for each entry, by ascending address, of which the first 40 are an
  * EFI_MEMORY_DESCRIPTOR. *MemoryMapSize are the bytes written, *MapKey is the key that
  * ExitBootServices asks for, *DescriptorSize and *DescriptorVersion are the descriptors' size and
@@ -290,25 +330,30 @@ uint64_t FreePages(struct rafkudin *core, uint64_t Memory, uint64_t Pages);
  *
  * BUFFER_TOO_SMALL: *MemoryMapSize are the bytes needed; the descriptors' size and version are set
  * too, the key is not. */
-uint64_t RafkudinGetMemoryMap(struct rafkudin *core, uint8_t *MemoryMap, size_t room,
-                              uint64_t *MemoryMapSize, uint64_t *MapKey, uint64_t *DescriptorSize,
-                              uint32_t *DescriptorVersion);
+RAFKUDIN_API rafkudin_uint64 RafkudinGetMemoryMapInto(struct rafkudin *core, uint8_t *MemoryMap,
+                                                      size_t room, rafkudin_uint64 *MemoryMapSize,
+                                                      rafkudin_uint64 *MapKey,
+                                                      rafkudin_uint64 *DescriptorSize,
+                                                      uint32_t *DescriptorVersion);
 
 /* 7.2.4. Makes a block of `Size` bytes, all 0, in memory of the type `PoolType`, and puts its
  * address into *Buffer. Its address is 8 more than a multiple of 32. A size of 0 is allowed.
  *
  * INVALID_PARAMETER: a memory type that no request may name. OUT_OF_RESOURCES: a size above
  * RAFKUDIN_LARGEST_BLOCK, or no permitted place for new pages where they are needed. */
-uint64_t AllocatePool(struct rafkudin *core, uint32_t PoolType, uint64_t Size, uint64_t *Buffer);
+RAFKUDIN_API rafkudin_uint64 RafkudinAllocatePool(struct rafkudin *core, uint32_t PoolType,
+                                                  rafkudin_uint64 Size, rafkudin_uint64 *Buffer);
 
 /* 7.2.5. Gives the block at an address back. INVALID_PARAMETER: no live block has this address. */
-uint64_t FreePool(struct rafkudin *core, uint64_t Buffer);
+RAFKUDIN_API rafkudin_uint64 RafkudinFreePool(struct rafkudin *core, rafkudin_uint64 Buffer);
 
 /* The bytes of the pool, which a program of a firmware reaches by a pointer: `count` bytes from the
  * address on are copied to `bytes`, or from there. INVALID_PARAMETER: they do not all belong to one
  * live block. */
-uint64_t PoolRead(struct rafkudin *core, uint64_t Address, uint8_t *bytes, size_t count);
-uint64_t PoolWrite(struct rafkudin *core, uint64_t Address, const uint8_t *bytes, size_t count);
+RAFKUDIN_API rafkudin_uint64 RafkudinPoolRead(struct rafkudin *core, rafkudin_uint64 Address,
+                                              uint8_t *bytes, size_t count);
+RAFKUDIN_API rafkudin_uint64 RafkudinPoolWrite(struct rafkudin *core, rafkudin_uint64 Address,
+                                               const uint8_t *bytes, size_t count);
 
 /* ---- Protocol services, section 7.3, each by its name there ---- */
 
@@ -317,20 +362,22 @@ uint64_t PoolWrite(struct rafkudin *core, uint64_t Address, const uint8_t *bytes
  *
  * INVALID_PARAMETER: another interface type; a handle that is neither 0 nor live, or that carries
  * the GUID already. OUT_OF_RESOURCES: RAFKUDIN_MOST_HANDLES are live already. */
-uint64_t InstallProtocolInterface(struct rafkudin *core, uint64_t *Handle,
-                                  const struct rafkudin_guid *Protocol, uint32_t InterfaceType,
-                                  uint64_t Interface);
+RAFKUDIN_API rafkudin_uint64 RafkudinInstallProtocolInterface(struct rafkudin *core,
+                                                              rafkudin_uint64 *Handle,
+                                                              const struct rafkudin_guid *Protocol,
+                                                              uint32_t InterfaceType,
+                                                              rafkudin_uint64 Interface);
 
 /* The same with `count` interfaces in place of the standard's list of arguments. All are installed
  * or none.
  *
- * INVALID_PARAMETER: no interfaces or over 16, of which no more than the first 17 are read; a handle
- * that is neither 0 nor live; a GUID that is twice among them or is on the handle; ALREADY_STARTED:
- * one of them is a device path that a live handle has already; OUT_OF_RESOURCES:
+ * INVALID_PARAMETER: no interfaces or over 16, of which no more than the first 17 are read; a
+ * handle that is neither 0 nor live; a GUID that is twice among them or is on the handle;
+ * ALREADY_STARTED: one of them is a device path that a live handle has already; OUT_OF_RESOURCES:
  * RAFKUDIN_MOST_HANDLES are live already. */
-uint64_t InstallMultipleProtocolInterfaces(struct rafkudin *core, uint64_t *Handle,
-                                           const struct rafkudin_interface *interfaces,
-                                           size_t count);
+RAFKUDIN_API rafkudin_uint64 RafkudinInstallMultipleProtocolInterfaces(
+    struct rafkudin *core, rafkudin_uint64 *Handle, const struct rafkudin_interface *interfaces,
+    size_t count);
 
 /* Stops the driver that has the interface open, and takes the interface out; with the last one its
  * handle goes.
@@ -338,73 +385,93 @@ uint64_t InstallMultipleProtocolInterfaces(struct rafkudin *core, uint64_t *Hand
  * INVALID_PARAMETER: the handle is not live. NOT_FOUND: it lacks the GUID, or has it with another
  * value. ACCESS_DENIED: the driver can't be stopped, or the interface would still be open
  * exclusively or for a child. */
-uint64_t UninstallProtocolInterface(struct rafkudin *core, uint64_t Handle,
-                                    const struct rafkudin_guid *Protocol, uint64_t Interface);
+RAFKUDIN_API rafkudin_uint64
+RafkudinUninstallProtocolInterface(struct rafkudin *core, rafkudin_uint64 Handle,
+                                   const struct rafkudin_guid *Protocol, rafkudin_uint64 Interface);
 
 /* Stops the driver that has the interface open, gives it the value `NewInterface`, signals the
  * events of its GUID, and connects the handle recursively. Refusals as of
  * UninstallProtocolInterface, for `OldInterface`. */
-uint64_t ReinstallProtocolInterface(struct rafkudin *core, uint64_t Handle,
-                                    const struct rafkudin_guid *Protocol, uint64_t OldInterface,
-                                    uint64_t NewInterface);
+RAFKUDIN_API rafkudin_uint64 RafkudinReinstallProtocolInterface(
+    struct rafkudin *core, rafkudin_uint64 Handle, const struct rafkudin_guid *Protocol,
+    rafkudin_uint64 OldInterface, rafkudin_uint64 NewInterface);
 
 /* Registers an event for all later installations of a GUID, and puts the registration's key, from 1
  * up, into *Registration. There are no refusals of its own. */
-uint64_t RegisterProtocolNotify(struct rafkudin *core, const struct rafkudin_guid *Protocol,
-                                uint64_t Event, uint64_t *Registration);
+RAFKUDIN_API rafkudin_uint64 RafkudinRegisterProtocolNotify(struct rafkudin *core,
+                                                            const struct rafkudin_guid *Protocol,
+                                                            rafkudin_uint64 Event,
+                                                            rafkudin_uint64 *Registration);
 
-/* LocateHandle with the buffer's room beside it; the function LocateHandle below has the standard's
- * order. The handles that match are written to `Buffer`, by ascending numbers: all live ones, the
- * next one of the registration `SearchKey`, or those that carry the GUID. `BufferSize` is in bytes,
- * 8 for each handle, and `room` in handles: `BufferSize` / 8, or 4,096 where that is less. *needed
- * are the bytes of all that match, on SUCCESS and BUFFER_TOO_SMALL. The GUID counts only for
- * RAFKUDIN_BY_PROTOCOL, the key only for RAFKUDIN_BY_REGISTER_NOTIFY.
+/* LocateHandle with the buffer's room beside it; RafkudinLocateHandle below has the standard's
+ * parameters. The handles that match are written to `Buffer`, which has room for `room` handles, by
+ * ascending numbers: all live ones, the next one of the registration `SearchKey`, or those that
+ * carry the GUID. *needed are the bytes of all that match, 8 for each, on SUCCESS and
+ * BUFFER_TOO_SMALL. The GUID counts only for RAFKUDIN_BY_PROTOCOL, and may be null for other
+ * searches; the key counts only for RAFKUDIN_BY_REGISTER_NOTIFY.
  *
  * INVALID_PARAMETER: another search type, or a key that RegisterProtocolNotify never gave.
- * NOT_FOUND: nothing matches. BUFFER_TOO_SMALL: `BufferSize` is not 8 bytes for each. */
-uint64_t RafkudinLocateHandle(struct rafkudin *core, uint32_t SearchType,
-                              const struct rafkudin_guid *Protocol, uint64_t SearchKey,
-                              uint64_t BufferSize, uint64_t *needed, uint64_t *Buffer, size_t room);
+ * NOT_FOUND: nothing matches. BUFFER_TOO_SMALL: there is no room for all of them, and none is
+ * written. */
+RAFKUDIN_API rafkudin_uint64 RafkudinLocateHandleInto(struct rafkudin *core, uint32_t SearchType,
+                                                      const struct rafkudin_guid *Protocol,
+                                                      rafkudin_uint64 SearchKey,
+                                                      rafkudin_uint64 *needed,
+                                                      rafkudin_uint64 *Buffer, size_t room);
 
 /* The same search. The handles are put into a new pool block, 8 bytes each, whose address is
  * *Buffer and which the caller frees by FreePool; *NoHandles are how many. Refusals as above
  * without BUFFER_TOO_SMALL, and OUT_OF_RESOURCES: no permitted place for new pages of the pool. */
-uint64_t LocateHandleBuffer(struct rafkudin *core, uint32_t SearchType,
-                            const struct rafkudin_guid *Protocol, uint64_t SearchKey,
-                            uint64_t *NoHandles, uint64_t *Buffer);
+RAFKUDIN_API rafkudin_uint64 RafkudinLocateHandleBuffer(struct rafkudin *core, uint32_t SearchType,
+                                                        const struct rafkudin_guid *Protocol,
+                                                        rafkudin_uint64 SearchKey,
+                                                        rafkudin_uint64 *NoHandles,
+                                                        rafkudin_uint64 *Buffer);
 
 /* Puts the value of an interface into *Interface: with `Registration` 0 that of the lowest handle
  * that carries the GUID, else that of the next handle of this registration.
  *
  * INVALID_PARAMETER: a registration other than 0 that was never given, or is of another GUID.
  * NOT_FOUND: there is no such handle. */
-uint64_t LocateProtocol(struct rafkudin *core, const struct rafkudin_guid *Protocol,
-                        uint64_t Registration, uint64_t *Interface);
+RAFKUDIN_API rafkudin_uint64 RafkudinLocateProtocol(struct rafkudin *core,
+                                                    const struct rafkudin_guid *Protocol,
+                                                    rafkudin_uint64 Registration,
+                                                    rafkudin_uint64 *Interface);
 
-/* ProtocolsPerHandle: *count is how many GUIDs are on the handle, and the first `room` of them are
- * written to `guids`, in order of installation. INVALID_PARAMETER: the handle is not live. */
-uint64_t RafkudinProtocolsPerHandle(struct rafkudin *core, uint64_t Handle,
-                                    struct rafkudin_guid *guids, size_t room, uint64_t *count);
+/* ProtocolsPerHandle with a buffer of the caller's, which has room for `room` GUIDs: the GUIDs on
+ * the handle are written to it, in order of installation, and *count is how many they are.
+ *
+ * INVALID_PARAMETER: the handle is not live. BUFFER_TOO_SMALL: there is no room for all of them,
+ * and none is written; *count is set too. */
+RAFKUDIN_API rafkudin_uint64 RafkudinProtocolsPerHandle(struct rafkudin *core,
+                                                        rafkudin_uint64 Handle,
+                                                        struct rafkudin_guid *guids, size_t room,
+                                                        rafkudin_uint64 *count);
 
-/* Puts the value of an interface into *Interface (RAFKUDIN_TEST_PROTOCOL leaves that as it is), and
- * remembers which agent has it open for which controller, and how. An exclusive open stops the
- * driver that has the interface open.
+/* Puts the value of an interface into *Interface (RAFKUDIN_TEST_PROTOCOL leaves that as it is, and
+ * `Interface` may be null then), and remembers which agent has it open for which controller, and
+ * how. An exclusive open stops the driver that has the interface open.
  *
  * By the table of docs/RULES.md, whose topmost line that fits decides: INVALID_PARAMETER: other
  * attributes; a handle, or an agent or controller other than 0, that is not live; an agent or
  * controller of 0 where the attributes need one; a child controller that is the handle itself.
  * UNSUPPORTED: the handle lacks the GUID. ALREADY_STARTED: this agent has it open by driver
  * already. ACCESS_DENIED: it is open by a driver or exclusively, and that can't be ended. */
-uint64_t OpenProtocol(struct rafkudin *core, uint64_t Handle, const struct rafkudin_guid *Protocol,
-                      uint64_t *Interface, uint64_t AgentHandle, uint64_t ControllerHandle,
-                      uint32_t Attributes);
+RAFKUDIN_API rafkudin_uint64 RafkudinOpenProtocol(struct rafkudin *core, rafkudin_uint64 Handle,
+                                                  const struct rafkudin_guid *Protocol,
+                                                  rafkudin_uint64 *Interface,
+                                                  rafkudin_uint64 AgentHandle,
+                                                  rafkudin_uint64 ControllerHandle,
+                                                  uint32_t Attributes);
 
 /* Takes out all that an agent has open for a controller on an interface.
  *
  * INVALID_PARAMETER: the handle or the agent is not live, or the controller is neither 0 nor live.
  * NOT_FOUND: the handle lacks the GUID, or nothing is open so. */
-uint64_t CloseProtocol(struct rafkudin *core, uint64_t Handle, const struct rafkudin_guid *Protocol,
-                       uint64_t AgentHandle, uint64_t ControllerHandle);
+RAFKUDIN_API rafkudin_uint64 RafkudinCloseProtocol(struct rafkudin *core, rafkudin_uint64 Handle,
+                                                   const struct rafkudin_guid *Protocol,
+                                                   rafkudin_uint64 AgentHandle,
+                                                   rafkudin_uint64 ControllerHandle);
 
 /* Puts what is open on an interface into a new pool block, oldest first, in 24 bytes each: agent (8
  * bytes), controller (8), attributes (4), open count (4). *EntryBuffer is its address, and the
@@ -413,69 +480,87 @@ uint64_t CloseProtocol(struct rafkudin *core, uint64_t Handle, const struct rafk
  *
  * NOT_FOUND: the handle is not live or lacks the GUID. OUT_OF_RESOURCES: no permitted place for new
  * pages of the pool. */
-uint64_t OpenProtocolInformation(struct rafkudin *core, uint64_t Handle,
-                                 const struct rafkudin_guid *Protocol, uint64_t *EntryBuffer,
-                                 uint64_t *EntryCount);
+RAFKUDIN_API rafkudin_uint64 RafkudinOpenProtocolInformation(struct rafkudin *core,
+                                                             rafkudin_uint64 Handle,
+                                                             const struct rafkudin_guid *Protocol,
+                                                             rafkudin_uint64 *EntryBuffer,
+                                                             rafkudin_uint64 *EntryCount);
 
 /* OpenProtocol by RAFKUDIN_BY_HANDLE_PROTOCOL, with no agent and no controller. INVALID_PARAMETER:
  * the handle is not live. UNSUPPORTED: it lacks the GUID. */
-uint64_t HandleProtocol(struct rafkudin *core, uint64_t Handle,
-                        const struct rafkudin_guid *Protocol, uint64_t *Interface);
+RAFKUDIN_API rafkudin_uint64 RafkudinHandleProtocol(struct rafkudin *core, rafkudin_uint64 Handle,
+                                                    const struct rafkudin_guid *Protocol,
+                                                    rafkudin_uint64 *Interface);
 
-/* Starts drivers on a controller: first the `count` driver handles of the caller, up to 16, then
- * all others, the highest version first; with `Recursive` also on the children that this makes,
- * down to depth 8. There is no RemainingDevicePath.
+/* ConnectController with the number of driver handles beside them; RafkudinConnectController below
+ * has the standard's parameters. Starts drivers on a controller: first the `count` driver handles
+ * of the caller, up to 16, then all others, the highest version first; with `Recursive` also on the
+ * children that this makes, down to depth 8.
  *
  * INVALID_PARAMETER: the handle is not live, or over 16 drivers are named. NOT_FOUND: no driver was
  * started on it. */
-uint64_t ConnectController(struct rafkudin *core, uint64_t ControllerHandle,
-                           const uint64_t *DriverImageHandle, size_t count, bool Recursive);
+RAFKUDIN_API rafkudin_uint64 RafkudinConnectDrivers(struct rafkudin *core,
+                                                    rafkudin_uint64 ControllerHandle,
+                                                    const rafkudin_uint64 *drivers, size_t count,
+                                                    bool Recursive);
 
-/* Stops the drivers that manage a controller, or one of them where `DriverImageHandle` is not 0,
- * with all that they made. There is no ChildHandle.
+/* DisconnectController without a ChildHandle; RafkudinDisconnectController below has the standard's
+ * parameters. Stops the drivers that manage a controller, or one of them where `DriverImageHandle`
+ * is not 0, with all that they made.
  *
  * INVALID_PARAMETER: the controller is not live; a driver is given that is not live or is no driver
  * handle. DEVICE_ERROR: they can't be stopped. */
-uint64_t DisconnectController(struct rafkudin *core, uint64_t ControllerHandle,
-                              uint64_t DriverImageHandle);
+RAFKUDIN_API rafkudin_uint64 RafkudinDisconnectDrivers(struct rafkudin *core,
+                                                       rafkudin_uint64 ControllerHandle,
+                                                       rafkudin_uint64 DriverImageHandle);
 
 /* Of the handles that carry the GUID, puts the one into *Device whose device path is the longest
  * front of the path at the pool's address *DevicePath, and sets *DevicePath to the address behind
  * the nodes that matched.
  *
  * INVALID_PARAMETER: no device path is at the address. NOT_FOUND: no handle matches. */
-uint64_t LocateDevicePath(struct rafkudin *core, const struct rafkudin_guid *Protocol,
-                          uint64_t *DevicePath, uint64_t *Device);
+RAFKUDIN_API rafkudin_uint64 RafkudinLocateDevicePath(struct rafkudin *core,
+                                                      const struct rafkudin_guid *Protocol,
+                                                      rafkudin_uint64 *DevicePath,
+                                                      rafkudin_uint64 *Device);
 
 /* ---- The end of the boot services, section 7.4.6 ---- */
 
 /* Ends the boot services where `MapKey` is the key that GetMemoryMap gives now: each call that
  * changes the type of a page makes another. `ImageHandle` plays no part.
  * INVALID_PARAMETER: another key. */
-uint64_t ExitBootServices(struct rafkudin *core, uint64_t ImageHandle, uint64_t MapKey);
+RAFKUDIN_API rafkudin_uint64 RafkudinExitBootServices(struct rafkudin *core,
+                                                      rafkudin_uint64 ImageHandle,
+                                                      rafkudin_uint64 MapKey);
 
-/* ---- GetMemoryMap and LocateHandle with the standard's parameters, over the two above ---- */
+#ifndef RAFKUDIN_NO_NULL_CHECKS
+#include "rafkudin_null.h"
+#endif
+
+/* ---- Services with the standard's parameters, over those above ---- */
 
 /* 7.2.3. *MemoryMapSize is the buffer's size in bytes, and afterwards the bytes written, or those
  * needed. To learn the size alone it is 0, and then `MemoryMap` may be null. `MapKey`,
  * `DescriptorSize` and `DescriptorVersion` may be null too.
  *
- * INVALID_PARAMETER: `MemoryMapSize` is null, or `MemoryMap` is null and the size is not 0: this is
- * answered first, and uses up no call. BUFFER_TOO_SMALL: *MemoryMapSize are the bytes needed. The
- * descriptors' size and version are set too, so that a loader can add room for the entries that
- * its own allocation of the buffer makes. */
-static inline uint64_t GetMemoryMap(struct rafkudin *core, uint64_t *MemoryMapSize, void *MemoryMap,
-                                    uint64_t *MapKey, uint64_t *DescriptorSize,
-                                    uint32_t *DescriptorVersion)
+ * INVALID_PARAMETER: `MemoryMapSize` is null, or `MemoryMap` is null and the size is not 0.
+ * BUFFER_TOO_SMALL: *MemoryMapSize are the bytes needed. The descriptors' size and version are set
+ * too, so that a loader can add room for the entries that its own allocation of the buffer makes.
+ * */
+static inline rafkudin_uint64 RafkudinGetMemoryMap(struct rafkudin *core,
+                                                   rafkudin_uint64 *MemoryMapSize, void *MemoryMap,
+                                                   rafkudin_uint64 *MapKey,
+                                                   rafkudin_uint64 *DescriptorSize,
+                                                   uint32_t *DescriptorVersion)
 {
     uint8_t none = 0;
-    uint64_t status, size = 0, key = 0, descriptor_size = 0;
+    rafkudin_uint64 status, size = 0, key = 0, descriptor_size = 0;
     uint32_t version = 0;
 
     if (MemoryMapSize == NULL || (MemoryMap == NULL && *MemoryMapSize != 0))
         return RAFKUDIN_INVALID_PARAMETER;
-    status = RafkudinGetMemoryMap(core, MemoryMap == NULL ? &none : (uint8_t *)MemoryMap,
-                                  *MemoryMapSize, &size, &key, &descriptor_size, &version);
+    status = RafkudinGetMemoryMapInto(core, MemoryMap == NULL ? &none : (uint8_t *)MemoryMap,
+                                      *MemoryMapSize, &size, &key, &descriptor_size, &version);
     if (status != RAFKUDIN_SUCCESS && status != RAFKUDIN_BUFFER_TOO_SMALL)
         return status;
     *MemoryMapSize = size;
@@ -494,27 +579,95 @@ static inline uint64_t GetMemoryMap(struct rafkudin *core, uint64_t *MemoryMapSi
  * no protocol.
  *
  * INVALID_PARAMETER: `BufferSize` is null; `Buffer` is null and the size is not 0; `Protocol` is
- * null in a search by protocol: this is answered first, and uses up no call. */
-static inline uint64_t LocateHandle(struct rafkudin *core, uint32_t SearchType,
-                                    const struct rafkudin_guid *Protocol, uint64_t SearchKey,
-                                    uint64_t *BufferSize, uint64_t *Buffer)
+ * null in a search by protocol. */
+static inline rafkudin_uint64 RafkudinLocateHandle(struct rafkudin *core, uint32_t SearchType,
+                                                   const struct rafkudin_guid *Protocol,
+                                                   rafkudin_uint64 SearchKey,
+                                                   rafkudin_uint64 *BufferSize,
+                                                   rafkudin_uint64 *Buffer)
 {
     const struct rafkudin_guid no_guid = {{0}};
-    uint64_t status, room, needed = 0, no_handle = 0;
+    rafkudin_uint64 status, room, needed = 0, no_handle = 0;
 
     if (BufferSize == NULL || (Buffer == NULL && *BufferSize != 0))
         return RAFKUDIN_INVALID_PARAMETER;
     if (Protocol == NULL && SearchType == RAFKUDIN_BY_PROTOCOL)
         return RAFKUDIN_INVALID_PARAMETER;
-    room = *BufferSize / sizeof(uint64_t);
+    room = *BufferSize / 8;
     if (room > RAFKUDIN_MOST_HANDLES)
         room = RAFKUDIN_MOST_HANDLES;
     status =
-        RafkudinLocateHandle(core, SearchType, Protocol == NULL ? &no_guid : Protocol, SearchKey,
-                             *BufferSize, &needed, Buffer == NULL ? &no_handle : Buffer, room);
+        RafkudinLocateHandleInto(core, SearchType, Protocol == NULL ? &no_guid : Protocol,
+                                 SearchKey, &needed, Buffer == NULL ? &no_handle : Buffer, room);
     if (status == RAFKUDIN_SUCCESS || status == RAFKUDIN_BUFFER_TOO_SMALL)
         *BufferSize = needed;
     return status;
+}
+
+/* 7.3. `DriverImageHandle` is an array of driver handles that ends with a 0, or null: these are
+ * tried first. `RemainingDevicePath` is 0.
+ *
+ * UNSUPPORTED: it is not; this is answered first, and uses up no call. The other refusals are those
+ * of RafkudinConnectDrivers. */
+static inline rafkudin_uint64 RafkudinConnectController(struct rafkudin *core,
+                                                        rafkudin_uint64 ControllerHandle,
+                                                        const rafkudin_uint64 *DriverImageHandle,
+                                                        rafkudin_uint64 RemainingDevicePath,
+                                                        bool Recursive)
+{
+    const rafkudin_uint64 none = 0;
+    const rafkudin_uint64 *drivers = DriverImageHandle == NULL ? &none : DriverImageHandle;
+    size_t count = 0;
+
+    if (RemainingDevicePath != 0)
+        return RAFKUDIN_UNSUPPORTED;
+    while (count <= RAFKUDIN_MOST_DRIVERS_TO_TRY && drivers[count] != 0)
+        count++;
+    return RafkudinConnectDrivers(core, ControllerHandle, drivers, count, Recursive);
+}
+
+/* 7.3. `ChildHandle` is 0.
+ *
+ * UNSUPPORTED: it is not; this is answered first, and uses up no call. The other refusals are those
+ * of RafkudinDisconnectDrivers. */
+static inline rafkudin_uint64 RafkudinDisconnectController(struct rafkudin *core,
+                                                           rafkudin_uint64 ControllerHandle,
+                                                           rafkudin_uint64 DriverImageHandle,
+                                                           rafkudin_uint64 ChildHandle)
+{
+    if (ChildHandle != 0)
+        return RAFKUDIN_UNSUPPORTED;
+    return RafkudinDisconnectDrivers(core, ControllerHandle, DriverImageHandle);
+}
+
+/* The standard's name of a status, without EFI_; "another status" for one that no service answers.
+ * */
+static inline const char *RafkudinStatusName(rafkudin_uint64 status)
+{
+    switch (status) {
+    case RAFKUDIN_SUCCESS:
+        return "SUCCESS";
+    case RAFKUDIN_INVALID_PARAMETER:
+        return "INVALID_PARAMETER";
+    case RAFKUDIN_UNSUPPORTED:
+        return "UNSUPPORTED";
+    case RAFKUDIN_BUFFER_TOO_SMALL:
+        return "BUFFER_TOO_SMALL";
+    case RAFKUDIN_DEVICE_ERROR:
+        return "DEVICE_ERROR";
+    case RAFKUDIN_OUT_OF_RESOURCES:
+        return "OUT_OF_RESOURCES";
+    case RAFKUDIN_NOT_FOUND:
+        return "NOT_FOUND";
+    case RAFKUDIN_ACCESS_DENIED:
+        return "ACCESS_DENIED";
+    case RAFKUDIN_ALREADY_STARTED:
+        return "ALREADY_STARTED";
+    case RAFKUDIN_ABORTED:
+        return "ABORTED";
+    default:
+        return "another status";
+    }
 }
 
 #ifdef __cplusplus

@@ -1,9 +1,9 @@
-/* Tries what rafkudin.h says of the library's borders and a replay of traces does not show: null
- * pointers, sizes, refused cores, what refusals leave, certificates, and two threads. Each point
- * that is not as said is told on standard error, and then the status is 1. */
+/* Tries what rafkudin.h says of the library's borders and a replay of traces does not show: sizes,
+ * refused cores, what refusals leave, certificates, and two threads. Each point that is not as said
+ * is told on standard error, and then the status is 1. */
 #include "machine.h"
+#include "points.h"
 
-#include <stdatomic.h>
 #include <stdlib.h>
 #include <string.h>
 #include <threads.h>
@@ -12,20 +12,6 @@
 #define LEFT 0x5a5a5a5a5a5a5a5aU
 
 #define ALL_CALLS 0x80000000U
-
-static atomic_int points, failed;
-
-/* A point: whether it holds, and what it says. */
-static void point(bool holds, int line, const char *what)
-{
-    points++;
-    if (holds)
-        return;
-    failed++;
-    fprintf(stderr, "borders: line %d: %s\n", line, what);
-}
-
-#define HOLDS(what) point((what), __LINE__, #what)
 
 static const struct rafkudin_guid disk = {{1, 2, 3, 4, 5, 6, 7, 8, 9, 10, 11, 12, 13, 14, 15, 16}};
 static const struct rafkudin_guid files = {{2}};
@@ -175,23 +161,27 @@ static void try_map(struct rafkudin *core)
     uint64_t size = 0, key = LEFT, step = 0, left = RafkudinCallsLeft(core);
     uint32_t version = 0;
 
-    HOLDS(GetMemoryMap(core, NULL, map, &key, &step, &version) == RAFKUDIN_INVALID_PARAMETER);
+    HOLDS(RafkudinGetMemoryMap(core, NULL, map, &key, &step, &version) ==
+          RAFKUDIN_INVALID_PARAMETER);
     size = 48;
-    HOLDS(GetMemoryMap(core, &size, NULL, &key, &step, &version) == RAFKUDIN_INVALID_PARAMETER);
+    HOLDS(RafkudinGetMemoryMap(core, &size, NULL, &key, &step, &version) ==
+          RAFKUDIN_INVALID_PARAMETER);
     HOLDS(size == 48 && key == LEFT && step == 0 && RafkudinCallsLeft(core) == left);
     size = 0;
-    HOLDS(GetMemoryMap(core, &size, NULL, &key, &step, &version) == RAFKUDIN_BUFFER_TOO_SMALL);
+    HOLDS(RafkudinGetMemoryMap(core, &size, NULL, &key, &step, &version) ==
+          RAFKUDIN_BUFFER_TOO_SMALL);
     HOLDS(size == 48 && key == LEFT && step == 48 && version == 1);
     HOLDS(RafkudinCallsLeft(core) == left - 1);
     memset(map, 0x5a, sizeof map);
     size = 47;
-    HOLDS(GetMemoryMap(core, &size, map, NULL, NULL, NULL) == RAFKUDIN_BUFFER_TOO_SMALL);
+    HOLDS(RafkudinGetMemoryMap(core, &size, map, NULL, NULL, NULL) == RAFKUDIN_BUFFER_TOO_SMALL);
     HOLDS(size == 48 && map[0] == 0x5a && map[46] == 0x5a);
     size = sizeof map;
-    HOLDS(GetMemoryMap(core, &size, map, &key, &step, &version) == RAFKUDIN_SUCCESS);
+    HOLDS(RafkudinGetMemoryMap(core, &size, map, &key, &step, &version) == RAFKUDIN_SUCCESS);
     HOLDS(size == 48 && key == 1 && map[47] == 0 && map[48] == 0x5a && map[95] == 0x5a);
     size = 48;
-    HOLDS(GetMemoryMap(core, &size, map, NULL, NULL, NULL) == RAFKUDIN_SUCCESS && size == 48);
+    HOLDS(RafkudinGetMemoryMap(core, &size, map, NULL, NULL, NULL) == RAFKUDIN_SUCCESS &&
+          size == 48);
 }
 
 /* The memory map without a call. */
@@ -214,20 +204,21 @@ static void try_refusals(struct rafkudin *core)
     struct rafkudin_guid guid = disk;
     uint8_t byte = 0x5a;
 
-    HOLDS(AllocatePages(core, 0, 4, 1000, &one) == RAFKUDIN_OUT_OF_RESOURCES && one == LEFT);
-    HOLDS(AllocatePages(core, 3, 4, 1, &one) == RAFKUDIN_INVALID_PARAMETER && one == LEFT);
-    HOLDS(AllocatePool(core, 7, 1, &one) == RAFKUDIN_INVALID_PARAMETER && one == LEFT);
-    HOLDS(PoolRead(core, 0, &byte, 1) == RAFKUDIN_INVALID_PARAMETER && byte == 0x5a);
+    HOLDS(RafkudinAllocatePages(core, 0, 4, 1000, &one) == RAFKUDIN_OUT_OF_RESOURCES &&
+          one == LEFT);
+    HOLDS(RafkudinAllocatePages(core, 3, 4, 1, &one) == RAFKUDIN_INVALID_PARAMETER && one == LEFT);
+    HOLDS(RafkudinAllocatePool(core, 7, 1, &one) == RAFKUDIN_INVALID_PARAMETER && one == LEFT);
+    HOLDS(RafkudinPoolRead(core, 0, &byte, 1) == RAFKUDIN_INVALID_PARAMETER && byte == 0x5a);
     one = 77;
-    HOLDS(InstallProtocolInterface(core, &one, &disk, 0, 0) == RAFKUDIN_INVALID_PARAMETER);
+    HOLDS(RafkudinInstallProtocolInterface(core, &one, &disk, 0, 0) == RAFKUDIN_INVALID_PARAMETER);
     HOLDS(one == 77 && RafkudinEvents(core, &two, 1) == 0 && two == LEFT);
-    HOLDS(LocateHandleBuffer(core, 0, &disk, 0, &one, &two) == RAFKUDIN_NOT_FOUND);
-    HOLDS(LocateProtocol(core, &disk, 0, &one) == RAFKUDIN_NOT_FOUND);
+    HOLDS(RafkudinLocateHandleBuffer(core, 0, &disk, 0, &one, &two) == RAFKUDIN_NOT_FOUND);
+    HOLDS(RafkudinLocateProtocol(core, &disk, 0, &one) == RAFKUDIN_NOT_FOUND);
     HOLDS(RafkudinProtocolsPerHandle(core, 77, &guid, 1, &one) == RAFKUDIN_INVALID_PARAMETER);
-    HOLDS(OpenProtocol(core, 77, &disk, &one, 0, 0, 1) == RAFKUDIN_INVALID_PARAMETER);
-    HOLDS(OpenProtocolInformation(core, 77, &disk, &one, &two) == RAFKUDIN_NOT_FOUND);
-    HOLDS(HandleProtocol(core, 77, &disk, &one) == RAFKUDIN_INVALID_PARAMETER);
-    HOLDS(LocateDevicePath(core, &disk, &one, &two) == RAFKUDIN_INVALID_PARAMETER);
+    HOLDS(RafkudinOpenProtocol(core, 77, &disk, &one, 0, 0, 1) == RAFKUDIN_INVALID_PARAMETER);
+    HOLDS(RafkudinOpenProtocolInformation(core, 77, &disk, &one, &two) == RAFKUDIN_NOT_FOUND);
+    HOLDS(RafkudinHandleProtocol(core, 77, &disk, &one) == RAFKUDIN_INVALID_PARAMETER);
+    HOLDS(RafkudinLocateDevicePath(core, &disk, &one, &two) == RAFKUDIN_INVALID_PARAMETER);
     HOLDS(one == 77 && two == LEFT && guid.bytes[0] == 1);
     HOLDS(RafkudinCallsLeft(core) == left - 12);
 }
@@ -237,45 +228,77 @@ static void try_search(struct rafkudin *core)
 {
     uint64_t size = 8, handle = LEFT, left = RafkudinCallsLeft(core);
 
-    HOLDS(LocateHandle(core, 0, NULL, 0, NULL, &handle) == RAFKUDIN_INVALID_PARAMETER);
-    HOLDS(LocateHandle(core, 0, NULL, 0, &size, NULL) == RAFKUDIN_INVALID_PARAMETER);
-    HOLDS(LocateHandle(core, 2, NULL, 0, &size, &handle) == RAFKUDIN_INVALID_PARAMETER);
+    HOLDS(RafkudinLocateHandle(core, 0, NULL, 0, NULL, &handle) == RAFKUDIN_INVALID_PARAMETER);
+    HOLDS(RafkudinLocateHandle(core, 0, NULL, 0, &size, NULL) == RAFKUDIN_INVALID_PARAMETER);
+    HOLDS(RafkudinLocateHandle(core, 2, NULL, 0, &size, &handle) == RAFKUDIN_INVALID_PARAMETER);
     HOLDS(size == 8 && handle == LEFT && RafkudinCallsLeft(core) == left);
     size = 0;
-    HOLDS(LocateHandle(core, 0, NULL, 0, &size, NULL) == RAFKUDIN_BUFFER_TOO_SMALL && size == 8);
+    HOLDS(RafkudinLocateHandle(core, 0, NULL, 0, &size, NULL) == RAFKUDIN_BUFFER_TOO_SMALL &&
+          size == 8);
     size = 7;
-    HOLDS(LocateHandle(core, 2, &disk, 0, &size, &handle) == RAFKUDIN_BUFFER_TOO_SMALL);
+    HOLDS(RafkudinLocateHandle(core, 2, &disk, 0, &size, &handle) == RAFKUDIN_BUFFER_TOO_SMALL);
     HOLDS(size == 8 && handle == LEFT);
     size = 15;
-    HOLDS(LocateHandle(core, 2, &disk, 0, &size, &handle) == RAFKUDIN_SUCCESS);
+    HOLDS(RafkudinLocateHandle(core, 2, &disk, 0, &size, &handle) == RAFKUDIN_SUCCESS);
     HOLDS(size == 8 && handle == 1);
-    HOLDS(LocateHandle(core, 2, &files, 0, &size, &handle) == RAFKUDIN_SUCCESS);
-    HOLDS(LocateHandle(core, 3, &files, 0, &size, &handle) == RAFKUDIN_INVALID_PARAMETER);
+    HOLDS(RafkudinLocateHandle(core, 2, &files, 0, &size, &handle) == RAFKUDIN_SUCCESS);
+    HOLDS(RafkudinLocateHandle(core, 3, &files, 0, &size, &handle) == RAFKUDIN_INVALID_PARAMETER);
+}
+
+/* The GUIDs on handle 1: none where one too many would have no room. */
+static void try_protocols(struct rafkudin *core)
+{
+    struct rafkudin_guid guids[3] = {files, disk, disk};
+    uint64_t count = LEFT;
+
+    HOLDS(RafkudinProtocolsPerHandle(core, 1, NULL, 0, &count) == RAFKUDIN_BUFFER_TOO_SMALL);
+    HOLDS(count == 2 && RafkudinEvents(core, NULL, 0) == 0);
+    HOLDS(RafkudinProtocolsPerHandle(core, 1, guids, 1, &count) == RAFKUDIN_BUFFER_TOO_SMALL);
+    HOLDS(count == 2 && memcmp(&guids[0], &files, 16) == 0 && memcmp(&guids[1], &disk, 16) == 0);
+    HOLDS(RafkudinProtocolsPerHandle(core, 1, guids, 3, &count) == RAFKUDIN_SUCCESS && count == 2);
+    HOLDS(memcmp(&guids[0], &disk, 16) == 0 && memcmp(&guids[1], &files, 16) == 0);
+    HOLDS(memcmp(&guids[2], &disk, 16) == 0);
+}
+
+/* ConnectController and DisconnectController with the standard's parameters. */
+static void try_standard(struct rafkudin *core)
+{
+    uint64_t left = RafkudinCallsLeft(core);
+    uint64_t drivers[18];
+
+    for (size_t at = 0; at < 17; at++)
+        drivers[at] = 1;
+    drivers[17] = 0;
+    HOLDS(RafkudinConnectController(core, 1, NULL, 8, true) == RAFKUDIN_UNSUPPORTED);
+    HOLDS(RafkudinDisconnectController(core, 1, 0, 1) == RAFKUDIN_UNSUPPORTED);
+    HOLDS(RafkudinCallsLeft(core) == left);
+    HOLDS(RafkudinConnectController(core, 1, NULL, 0, true) == RAFKUDIN_NOT_FOUND);
+    HOLDS(RafkudinConnectController(core, 1, drivers + 1, 0, true) == RAFKUDIN_NOT_FOUND);
+    HOLDS(RafkudinConnectController(core, 1, drivers, 0, true) == RAFKUDIN_INVALID_PARAMETER);
+    HOLDS(RafkudinDisconnectController(core, 1, 0, 0) == RAFKUDIN_SUCCESS);
+    HOLDS(RafkudinCallsLeft(core) == left - 4);
 }
 
 /* A handle with two interfaces, their events, and their GUIDs in buffers of all lengths. */
 static void try_handles(struct rafkudin *core)
 {
     struct rafkudin_interface both[2] = {{disk, 0x10}, {files, 0x20}};
-    struct rafkudin_guid guids[2] = {files, disk};
-    uint64_t handle = 0, count = 0, events[3] = {LEFT, LEFT, LEFT}, value = LEFT;
+    uint64_t handle = 0, events[3] = {LEFT, LEFT, LEFT}, value = LEFT;
 
-    HOLDS(RegisterProtocolNotify(core, &disk, 7, &value) == RAFKUDIN_SUCCESS && value == 1);
-    HOLDS(RegisterProtocolNotify(core, &files, 9, &value) == RAFKUDIN_SUCCESS && value == 2);
-    HOLDS(InstallMultipleProtocolInterfaces(core, &handle, both, 2) == RAFKUDIN_SUCCESS);
+    HOLDS(RafkudinRegisterProtocolNotify(core, &disk, 7, &value) == RAFKUDIN_SUCCESS && value == 1);
+    HOLDS(RafkudinRegisterProtocolNotify(core, &files, 9, &value) == RAFKUDIN_SUCCESS &&
+          value == 2);
+    HOLDS(RafkudinInstallMultipleProtocolInterfaces(core, &handle, both, 2) == RAFKUDIN_SUCCESS);
     HOLDS(handle == 1 && RafkudinEvents(core, events, 0) == 2 && events[0] == LEFT);
     HOLDS(RafkudinEvents(core, events, 1) == 2 && events[0] == 7 && events[1] == LEFT);
     HOLDS(RafkudinEvents(core, events, 3) == 2 && events[1] == 9 && events[2] == LEFT);
-    HOLDS(RafkudinProtocolsPerHandle(core, 1, guids, 0, &count) == RAFKUDIN_SUCCESS && count == 2);
-    HOLDS(RafkudinEvents(core, events, 3) == 0 && guids[0].bytes[0] == 2);
-    HOLDS(RafkudinProtocolsPerHandle(core, 1, guids, 1, &count) == RAFKUDIN_SUCCESS && count == 2);
-    HOLDS(memcmp(&guids[0], &disk, 16) == 0 && memcmp(&guids[1], &disk, 16) == 0);
-    HOLDS(RafkudinProtocolsPerHandle(core, 1, guids, 2, &count) == RAFKUDIN_SUCCESS && count == 2);
-    HOLDS(memcmp(&guids[1], &files, 16) == 0);
+    try_protocols(core);
     value = LEFT;
-    HOLDS(OpenProtocol(core, 1, &disk, &value, 0, 0, RAFKUDIN_TEST_PROTOCOL) == RAFKUDIN_SUCCESS);
+    HOLDS(RafkudinOpenProtocol(core, 1, &disk, &value, 0, 0, RAFKUDIN_TEST_PROTOCOL) ==
+          RAFKUDIN_SUCCESS);
     HOLDS(value == LEFT);
-    HOLDS(ConnectController(core, 1, &handle, 0, true) == RAFKUDIN_NOT_FOUND);
+    HOLDS(RafkudinConnectDrivers(core, 1, NULL, 0, true) == RAFKUDIN_NOT_FOUND);
+    try_standard(core);
     try_search(core);
 }
 
@@ -285,16 +308,18 @@ static void try_pool(struct rafkudin *core)
     uint8_t bytes[24] = {1, 2, 3}, other[24];
     uint64_t block = 0;
 
-    HOLDS(AllocatePool(core, RAFKUDIN_LOADER_DATA, 24, &block) == RAFKUDIN_SUCCESS);
+    HOLDS(RafkudinAllocatePool(core, RAFKUDIN_LOADER_DATA, 24, &block) == RAFKUDIN_SUCCESS);
     HOLDS(block % 32 == 8);
-    HOLDS(PoolWrite(core, block, bytes, 24) == RAFKUDIN_SUCCESS);
-    HOLDS(PoolRead(core, block, other, 24) == RAFKUDIN_SUCCESS && memcmp(bytes, other, 24) == 0);
-    HOLDS(PoolRead(core, block + 24, other, 0) == RAFKUDIN_SUCCESS);
-    HOLDS(PoolWrite(core, block + 24, bytes, 0) == RAFKUDIN_SUCCESS);
-    HOLDS(PoolRead(core, block + 1, other, 24) == RAFKUDIN_INVALID_PARAMETER && other[0] == 1);
-    HOLDS(PoolWrite(core, block - 1, bytes, 0) == RAFKUDIN_INVALID_PARAMETER);
-    HOLDS(FreePool(core, block) == RAFKUDIN_SUCCESS);
-    HOLDS(FreePool(core, block) == RAFKUDIN_INVALID_PARAMETER);
+    HOLDS(RafkudinPoolWrite(core, block, bytes, 24) == RAFKUDIN_SUCCESS);
+    HOLDS(RafkudinPoolRead(core, block, other, 24) == RAFKUDIN_SUCCESS &&
+          memcmp(bytes, other, 24) == 0);
+    HOLDS(RafkudinPoolRead(core, block + 24, other, 0) == RAFKUDIN_SUCCESS);
+    HOLDS(RafkudinPoolWrite(core, block + 24, bytes, 0) == RAFKUDIN_SUCCESS);
+    HOLDS(RafkudinPoolRead(core, block + 1, other, 24) == RAFKUDIN_INVALID_PARAMETER &&
+          other[0] == 1);
+    HOLDS(RafkudinPoolWrite(core, block - 1, bytes, 0) == RAFKUDIN_INVALID_PARAMETER);
+    HOLDS(RafkudinFreePool(core, block) == RAFKUDIN_SUCCESS);
+    HOLDS(RafkudinFreePool(core, block) == RAFKUDIN_INVALID_PARAMETER);
 }
 
 /* A certificate: when there is one, room that is a byte too short, and its check. */
@@ -303,11 +328,11 @@ static void try_certificates(struct rafkudin *core)
     uint8_t text[4096];
     uint64_t address = 0, length = LEFT, line = LEFT;
 
-    HOLDS(AllocatePages(core, 0, 4, 1, &address) == RAFKUDIN_SUCCESS);
+    HOLDS(RafkudinAllocatePages(core, 0, 4, 1, &address) == RAFKUDIN_SUCCESS);
     HOLDS(RafkudinCertificate(core, text, sizeof text, &length) == RAFKUDIN_NOT_FOUND);
     RafkudinCertify(core, true);
     HOLDS(RafkudinCertificate(core, text, sizeof text, &length) == RAFKUDIN_NOT_FOUND);
-    HOLDS(AllocatePages(core, 0, 4, 1, &address) == RAFKUDIN_SUCCESS && length == LEFT);
+    HOLDS(RafkudinAllocatePages(core, 0, 4, 1, &address) == RAFKUDIN_SUCCESS && length == LEFT);
     HOLDS(RafkudinCertificate(core, text, 0, &length) == RAFKUDIN_BUFFER_TOO_SMALL);
     HOLDS(length < sizeof text);
     if (length >= sizeof text)
@@ -321,10 +346,10 @@ static void try_certificates(struct rafkudin *core)
     text[length - 6] = text[length - 6] == '1' ? '2' : '1'; /* the last digit of the answer */
     HOLDS(RafkudinCheck(text, length, &line) == RAFKUDIN_ACCESS_DENIED && line == LEFT);
     HOLDS(RafkudinCheck(text, 0, &line) == RAFKUDIN_INVALID_PARAMETER && line == 1);
-    HOLDS(AllocatePages(core, 2, 4, 1, &address) == RAFKUDIN_NOT_FOUND);
+    HOLDS(RafkudinAllocatePages(core, 2, 4, 1, &address) == RAFKUDIN_NOT_FOUND);
     HOLDS(RafkudinCertificate(core, text, sizeof text, &length) == RAFKUDIN_NOT_FOUND);
     RafkudinCertify(core, false);
-    HOLDS(AllocatePages(core, 0, 4, 1, &address) == RAFKUDIN_SUCCESS);
+    HOLDS(RafkudinAllocatePages(core, 0, 4, 1, &address) == RAFKUDIN_SUCCESS);
     HOLDS(RafkudinCertificate(core, text, sizeof text, &length) == RAFKUDIN_NOT_FOUND);
 }
 
@@ -335,12 +360,13 @@ static void try_exit(struct rafkudin *core)
     uint8_t map[16 * RAFKUDIN_DESCRIPTOR_SIZE];
 
     size = sizeof map;
-    HOLDS(GetMemoryMap(core, &size, map, &key, NULL, NULL) == RAFKUDIN_SUCCESS);
-    HOLDS(ExitBootServices(core, 1, key + 1) == RAFKUDIN_INVALID_PARAMETER);
-    HOLDS(ExitBootServices(core, 1, key) == RAFKUDIN_SUCCESS);
-    HOLDS(ExitBootServices(core, 1, key) == RAFKUDIN_UNSUPPORTED);
-    HOLDS(FreePages(core, 1, 0) == RAFKUDIN_UNSUPPORTED);
-    HOLDS(LocateHandle(core, 9, NULL, 0, &handle, NULL) == RAFKUDIN_UNSUPPORTED && handle == 0);
+    HOLDS(RafkudinGetMemoryMap(core, &size, map, &key, NULL, NULL) == RAFKUDIN_SUCCESS);
+    HOLDS(RafkudinExitBootServices(core, 1, key + 1) == RAFKUDIN_INVALID_PARAMETER);
+    HOLDS(RafkudinExitBootServices(core, 1, key) == RAFKUDIN_SUCCESS);
+    HOLDS(RafkudinExitBootServices(core, 1, key) == RAFKUDIN_UNSUPPORTED);
+    HOLDS(RafkudinFreePages(core, 1, 0) == RAFKUDIN_UNSUPPORTED);
+    HOLDS(RafkudinLocateHandle(core, 9, NULL, 0, &handle, NULL) == RAFKUDIN_UNSUPPORTED &&
+          handle == 0);
     HOLDS(RafkudinDescriptors(core) == size / RAFKUDIN_DESCRIPTOR_SIZE);
 }
 
@@ -354,11 +380,11 @@ static int run_thread(void *unused)
     for (int round = 0; round < 20; round++) {
         for (int at = 0; at < 200; at++) {
             address[at] = 0;
-            HOLDS(AllocatePages(core, 0, 1 + (uint32_t)at % 6, 1, &address[at]) ==
+            HOLDS(RafkudinAllocatePages(core, 0, 1 + (uint32_t)at % 6, 1, &address[at]) ==
                   RAFKUDIN_SUCCESS);
         }
         for (int at = 0; at < 200; at++)
-            HOLDS(FreePages(core, address[at], 1) == RAFKUDIN_SUCCESS);
+            HOLDS(RafkudinFreePages(core, address[at], 1) == RAFKUDIN_SUCCESS);
     }
     HOLDS(RafkudinDescriptors(core) == 1);
     RafkudinFree(core);
@@ -392,6 +418,5 @@ int main(void)
     try_exit(core);
     RafkudinFree(core);
     try_threads();
-    printf("%d of %d points as said\n", points - failed, points);
-    return failed != 0;
+    return points_end("borders");
 }

@@ -48,7 +48,7 @@ static void size_map(struct rafkudin *core, struct map *map)
 
     map->size = 0;
     expect("GetMemoryMap without a buffer",
-           GetMemoryMap(core, &map->size, NULL, NULL, &map->step, &version),
+           RafkudinGetMemoryMap(core, &map->size, NULL, NULL, &map->step, &version),
            RAFKUDIN_BUFFER_TOO_SMALL);
     if (version != RAFKUDIN_DESCRIPTOR_VERSION)
         fail("descriptors of version %" PRIu32, version);
@@ -60,7 +60,8 @@ static void make_room(struct rafkudin *core, struct map *map)
 {
     map->pages = (map->size + SLACK * map->step + PAGE - 1) / PAGE;
     expect("AllocatePages",
-           AllocatePages(core, RAFKUDIN_ANY_PAGES, RAFKUDIN_LOADER_DATA, map->pages, &map->address),
+           RafkudinAllocatePages(core, RAFKUDIN_ANY_PAGES, RAFKUDIN_LOADER_DATA, map->pages,
+                                 &map->address),
            RAFKUDIN_SUCCESS);
     map->bytes = grow(NULL, map->pages * PAGE);
     printf("%" PRIu64 " pages for it at 0x%" PRIx64 ".\n", map->pages, map->address);
@@ -73,7 +74,7 @@ static void get_map(struct rafkudin *core, struct map *map)
 
     map->size = map->pages * PAGE;
     expect("GetMemoryMap",
-           GetMemoryMap(core, &map->size, map->bytes, &map->key, &map->step, &version),
+           RafkudinGetMemoryMap(core, &map->size, map->bytes, &map->key, &map->step, &version),
            RAFKUDIN_SUCCESS);
     printf("The map has %" PRIu64 " descriptors and the key %" PRIu64 ".\n", map->size / map->step,
            map->key);
@@ -107,7 +108,7 @@ static void spoil_key(struct rafkudin *core)
     uint64_t address = 0;
 
     expect("AllocatePages",
-           AllocatePages(core, RAFKUDIN_ANY_PAGES, RAFKUDIN_LOADER_CODE, 1, &address),
+           RafkudinAllocatePages(core, RAFKUDIN_ANY_PAGES, RAFKUDIN_LOADER_CODE, 1, &address),
            RAFKUDIN_SUCCESS);
     printf("One page more, at 0x%" PRIx64 ".\n", address);
 }
@@ -115,13 +116,13 @@ static void spoil_key(struct rafkudin *core)
 /* Tries to end the boot services. Where the key is stale it gets the map anew, and tries again. */
 static void exit_boot_services(struct rafkudin *core, struct map *map)
 {
-    uint64_t status = ExitBootServices(core, 0, map->key);
+    uint64_t status = RafkudinExitBootServices(core, 0, map->key);
 
     if (status == RAFKUDIN_INVALID_PARAMETER) {
         printf("The key %" PRIu64 " is stale.\n", map->key);
         get_map(core, map);
         look_at_map(map);
-        status = ExitBootServices(core, 0, map->key);
+        status = RafkudinExitBootServices(core, 0, map->key);
     }
     expect("ExitBootServices", status, RAFKUDIN_SUCCESS);
     printf("The boot services have ended with the key %" PRIu64 ".\n", map->key);
@@ -133,10 +134,11 @@ static void see_the_end(struct rafkudin *core, const struct map *map)
     uint64_t size = 0, address = 0;
 
     expect("AllocatePool after the end",
-           AllocatePool(core, RAFKUDIN_LOADER_DATA, COMMAND_LINE, &address), RAFKUDIN_UNSUPPORTED);
-    expect("GetMemoryMap after the end", GetMemoryMap(core, &size, NULL, NULL, NULL, NULL),
+           RafkudinAllocatePool(core, RAFKUDIN_LOADER_DATA, COMMAND_LINE, &address),
            RAFKUDIN_UNSUPPORTED);
-    expect("ExitBootServices after the end", ExitBootServices(core, 0, map->key),
+    expect("GetMemoryMap after the end", RafkudinGetMemoryMap(core, &size, NULL, NULL, NULL, NULL),
+           RAFKUDIN_UNSUPPORTED);
+    expect("ExitBootServices after the end", RafkudinExitBootServices(core, 0, map->key),
            RAFKUDIN_UNSUPPORTED);
     if (RafkudinDescriptors(core) != map->size / map->step)
         fail("the map has changed after the end");

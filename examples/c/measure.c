@@ -124,7 +124,7 @@ static bool place_pages(struct load *load, size_t number)
     struct held held = {request->below, request->size};
     uint32_t type = request->below != 0 ? RAFKUDIN_MAX_ADDRESS : RAFKUDIN_ANY_PAGES;
 
-    if (AllocatePages(load->core, type, request->type, request->size, &held.address) !=
+    if (RafkudinAllocatePages(load->core, type, request->type, request->size, &held.address) !=
         RAFKUDIN_SUCCESS)
         return false;
     load->held[load->count++] = held;
@@ -136,7 +136,8 @@ static bool place_block(struct load *load, size_t number)
     const struct request *request = &load->requests[number];
     struct held held = {0, request->size};
 
-    if (AllocatePool(load->core, request->type, request->size, &held.address) != RAFKUDIN_SUCCESS)
+    if (RafkudinAllocatePool(load->core, request->type, request->size, &held.address) !=
+        RAFKUDIN_SUCCESS)
         return false;
     load->held[load->count++] = held;
     return true;
@@ -144,19 +145,19 @@ static bool place_block(struct load *load, size_t number)
 
 static bool free_pages(struct load *load, size_t number)
 {
-    return FreePages(load->core, load->given[number].address, load->given[number].size) ==
+    return RafkudinFreePages(load->core, load->given[number].address, load->given[number].size) ==
            RAFKUDIN_SUCCESS;
 }
 
 static bool free_block(struct load *load, size_t number)
 {
-    return FreePool(load->core, load->given[number].address) == RAFKUDIN_SUCCESS;
+    return RafkudinFreePool(load->core, load->given[number].address) == RAFKUDIN_SUCCESS;
 }
 
 static bool refused_call(struct load *load, size_t number)
 {
     (void)number;
-    return FreePages(load->core, 1, 1) == RAFKUDIN_SUCCESS;
+    return RafkudinFreePages(load->core, 1, 1) == RAFKUDIN_SUCCESS;
 }
 
 /* A kind of memory: its two services. */
@@ -203,7 +204,8 @@ static bool get_map(struct load *load, size_t number)
     uint32_t version;
 
     (void)number;
-    return GetMemoryMap(load->core, &size, load->map, &key, &step, &version) == RAFKUDIN_SUCCESS;
+    return RafkudinGetMemoryMap(load->core, &size, load->map, &key, &step, &version) ==
+           RAFKUDIN_SUCCESS;
 }
 
 /* Gets the memory map some times, into a buffer of its size that was written before. */
@@ -262,8 +264,8 @@ static bool install_first(struct load *load, size_t number)
 {
     uint64_t handle = 0;
 
-    return InstallProtocolInterface(load->core, &handle, kind_of(load, number + 1), 0,
-                                    number + 1) == RAFKUDIN_SUCCESS &&
+    return RafkudinInstallProtocolInterface(load->core, &handle, kind_of(load, number + 1), 0,
+                                            number + 1) == RAFKUDIN_SUCCESS &&
            handle == number + 1;
 }
 
@@ -272,7 +274,7 @@ static bool install_second(struct load *load, size_t number)
 {
     uint64_t handle = 4 * (number + 1);
 
-    return InstallProtocolInterface(load->core, &handle, &load->kinds[KINDS], 0, handle) ==
+    return RafkudinInstallProtocolInterface(load->core, &handle, &load->kinds[KINDS], 0, handle) ==
            RAFKUDIN_SUCCESS;
 }
 
@@ -281,16 +283,17 @@ static bool open_by_driver(struct load *load, size_t number)
 {
     uint64_t handle = number + 1, value;
 
-    return OpenProtocol(load->core, handle, kind_of(load, handle), &value, 1 + handle % AGENTS,
-                        handle, RAFKUDIN_BY_DRIVER) == RAFKUDIN_SUCCESS;
+    return RafkudinOpenProtocol(load->core, handle, kind_of(load, handle), &value,
+                                1 + handle % AGENTS, handle,
+                                RAFKUDIN_BY_DRIVER) == RAFKUDIN_SUCCESS;
 }
 
 static bool close_by_driver(struct load *load, size_t number)
 {
     uint64_t handle = number + 1;
 
-    return CloseProtocol(load->core, handle, kind_of(load, handle), 1 + handle % AGENTS, handle) ==
-           RAFKUDIN_SUCCESS;
+    return RafkudinCloseProtocol(load->core, handle, kind_of(load, handle), 1 + handle % AGENTS,
+                                 handle) == RAFKUDIN_SUCCESS;
 }
 
 /* An agent opens the first interface of a drawn handle, which makes an item or raises the count of
@@ -299,15 +302,16 @@ static bool open_to_get(struct load *load, size_t number)
 {
     uint64_t handle = load->handles[number], value;
 
-    return OpenProtocol(load->core, handle, kind_of(load, handle), &value, 1 + number % AGENTS, 0,
-                        RAFKUDIN_GET_PROTOCOL) == RAFKUDIN_SUCCESS;
+    return RafkudinOpenProtocol(load->core, handle, kind_of(load, handle), &value,
+                                1 + number % AGENTS, 0, RAFKUDIN_GET_PROTOCOL) == RAFKUDIN_SUCCESS;
 }
 
 static bool look_up_handle(struct load *load, size_t number)
 {
     uint64_t handle = load->handles[number], value;
 
-    return HandleProtocol(load->core, handle, kind_of(load, handle), &value) == RAFKUDIN_SUCCESS &&
+    return RafkudinHandleProtocol(load->core, handle, kind_of(load, handle), &value) ==
+               RAFKUDIN_SUCCESS &&
            value == handle;
 }
 
@@ -315,7 +319,7 @@ static bool look_up_kind(struct load *load, size_t number)
 {
     uint64_t value;
 
-    return LocateProtocol(load->core, kind_of(load, load->handles[number]), 0, &value) ==
+    return RafkudinLocateProtocol(load->core, kind_of(load, load->handles[number]), 0, &value) ==
            RAFKUDIN_SUCCESS;
 }
 
@@ -324,8 +328,8 @@ static bool search_kind(struct load *load, size_t number)
     static uint64_t found[RAFKUDIN_MOST_HANDLES];
     uint64_t size = sizeof found;
 
-    return LocateHandle(load->core, RAFKUDIN_BY_PROTOCOL, kind_of(load, number), 0, &size, found) ==
-           RAFKUDIN_SUCCESS;
+    return RafkudinLocateHandle(load->core, RAFKUDIN_BY_PROTOCOL, kind_of(load, number), 0, &size,
+                                found) == RAFKUDIN_SUCCESS;
 }
 
 static bool search_all(struct load *load, size_t number)
@@ -334,7 +338,7 @@ static bool search_all(struct load *load, size_t number)
     uint64_t size = sizeof found;
 
     (void)number;
-    return LocateHandle(load->core, RAFKUDIN_ALL_HANDLES, NULL, 0, &size, found) ==
+    return RafkudinLocateHandle(load->core, RAFKUDIN_ALL_HANDLES, NULL, 0, &size, found) ==
            RAFKUDIN_SUCCESS;
 }
 
@@ -343,7 +347,7 @@ static bool take_out(struct load *load, size_t number)
 {
     uint64_t handle = 2 * (number + 1);
 
-    return UninstallProtocolInterface(load->core, handle, kind_of(load, handle), handle) ==
+    return RafkudinUninstallProtocolInterface(load->core, handle, kind_of(load, handle), handle) ==
            RAFKUDIN_SUCCESS;
 }
 

@@ -80,15 +80,15 @@ static void print_events(struct run *run)
 static void reply_pages(struct run *run, const struct call *call)
 {
     uint64_t memory = call->numbers[3];
-    uint64_t status = AllocatePages(run->core, (uint32_t)call->numbers[0],
-                                    (uint32_t)call->numbers[1], call->numbers[2], &memory);
+    uint64_t status = RafkudinAllocatePages(run->core, (uint32_t)call->numbers[0],
+                                            (uint32_t)call->numbers[1], call->numbers[2], &memory);
 
     print_address(run, status, "address", memory);
 }
 
 static void reply_free_pages(struct run *run, const struct call *call)
 {
-    print_status(run, FreePages(run->core, call->numbers[0], call->numbers[1]));
+    print_status(run, RafkudinFreePages(run->core, call->numbers[0], call->numbers[1]));
 }
 
 static void reply_map(struct run *run, const struct call *call)
@@ -96,7 +96,7 @@ static void reply_map(struct run *run, const struct call *call)
     uint64_t size = call->numbers[0], key = 0, step = 0;
     uint32_t version = 0;
     uint8_t *map = grow(NULL, size);
-    uint64_t status = GetMemoryMap(run->core, &size, map, &key, &step, &version);
+    uint64_t status = RafkudinGetMemoryMap(run->core, &size, map, &key, &step, &version);
 
     if (print_status(run, status)) {
         text_print(&run->text,
@@ -115,21 +115,21 @@ static void reply_map(struct run *run, const struct call *call)
 
 static void reply_exit(struct run *run, const struct call *call)
 {
-    print_status(run, ExitBootServices(run->core, 0, call->numbers[0]));
+    print_status(run, RafkudinExitBootServices(run->core, 0, call->numbers[0]));
 }
 
 static void reply_pool(struct run *run, const struct call *call)
 {
     uint64_t address = 0;
     uint64_t status =
-        AllocatePool(run->core, (uint32_t)call->numbers[0], call->numbers[1], &address);
+        RafkudinAllocatePool(run->core, (uint32_t)call->numbers[0], call->numbers[1], &address);
 
     print_address(run, status, "address", address);
 }
 
 static void reply_free_pool(struct run *run, const struct call *call)
 {
-    print_status(run, FreePool(run->core, call->numbers[0]));
+    print_status(run, RafkudinFreePool(run->core, call->numbers[0]));
 }
 
 static void reply_read(struct run *run, const struct call *call)
@@ -137,7 +137,7 @@ static void reply_read(struct run *run, const struct call *call)
     size_t count = call->numbers[1];
     uint8_t *bytes = grow(NULL, count);
 
-    if (print_status(run, PoolRead(run->core, call->numbers[0], bytes, count))) {
+    if (print_status(run, RafkudinPoolRead(run->core, call->numbers[0], bytes, count))) {
         text_print(&run->text, " bytes=");
         for (size_t at = 0; at < count; at++)
             text_print(&run->text, "%02x", bytes[at]);
@@ -147,7 +147,8 @@ static void reply_read(struct run *run, const struct call *call)
 
 static void reply_write(struct run *run, const struct call *call)
 {
-    print_status(run, PoolWrite(run->core, call->numbers[0], call->bytes, call->byte_count));
+    print_status(run,
+                 RafkudinPoolWrite(run->core, call->numbers[0], call->bytes, call->byte_count));
 }
 
 /* The fields of an installation. */
@@ -162,8 +163,8 @@ static void print_installed(struct run *run, uint64_t status, uint64_t handle)
 static void reply_install(struct run *run, const struct call *call)
 {
     uint64_t handle = call->numbers[0];
-    uint64_t status = InstallProtocolInterface(run->core, &handle, &call->guid,
-                                               (uint32_t)call->numbers[1], call->numbers[2]);
+    uint64_t status = RafkudinInstallProtocolInterface(
+        run->core, &handle, &call->guid, (uint32_t)call->numbers[1], call->numbers[2]);
 
     print_installed(run, status, handle);
 }
@@ -171,22 +172,22 @@ static void reply_install(struct run *run, const struct call *call)
 static void reply_install_many(struct run *run, const struct call *call)
 {
     uint64_t handle = call->numbers[0];
-    uint64_t status =
-        InstallMultipleProtocolInterfaces(run->core, &handle, call->interfaces, call->count);
+    uint64_t status = RafkudinInstallMultipleProtocolInterfaces(run->core, &handle,
+                                                                call->interfaces, call->count);
 
     print_installed(run, status, handle);
 }
 
 static void reply_uninstall(struct run *run, const struct call *call)
 {
-    print_status(run, UninstallProtocolInterface(run->core, call->numbers[0], &call->guid,
-                                                 call->numbers[1]));
+    print_status(run, RafkudinUninstallProtocolInterface(run->core, call->numbers[0], &call->guid,
+                                                         call->numbers[1]));
 }
 
 static void reply_reinstall(struct run *run, const struct call *call)
 {
-    uint64_t status = ReinstallProtocolInterface(run->core, call->numbers[0], &call->guid,
-                                                 call->numbers[1], call->numbers[2]);
+    uint64_t status = RafkudinReinstallProtocolInterface(run->core, call->numbers[0], &call->guid,
+                                                         call->numbers[1], call->numbers[2]);
 
     if (print_status(run, status))
         print_events(run);
@@ -196,8 +197,8 @@ static void reply_open(struct run *run, const struct call *call)
 {
     uint64_t interface = 0;
     uint32_t attributes = (uint32_t)call->numbers[3];
-    uint64_t status = OpenProtocol(run->core, call->numbers[0], &call->guid, &interface,
-                                   call->numbers[1], call->numbers[2], attributes);
+    uint64_t status = RafkudinOpenProtocol(run->core, call->numbers[0], &call->guid, &interface,
+                                           call->numbers[1], call->numbers[2], attributes);
 
     if (attributes == RAFKUDIN_TEST_PROTOCOL)
         print_status(run, status);
@@ -207,8 +208,8 @@ static void reply_open(struct run *run, const struct call *call)
 
 static void reply_close(struct run *run, const struct call *call)
 {
-    print_status(run, CloseProtocol(run->core, call->numbers[0], &call->guid, call->numbers[1],
-                                    call->numbers[2]));
+    print_status(run, RafkudinCloseProtocol(run->core, call->numbers[0], &call->guid,
+                                            call->numbers[1], call->numbers[2]));
 }
 
 /* The fields of a list in a pool block. */
@@ -222,7 +223,7 @@ static void reply_information(struct run *run, const struct call *call)
 {
     uint64_t address = 0, count = 0;
     uint64_t status =
-        OpenProtocolInformation(run->core, call->numbers[0], &call->guid, &address, &count);
+        RafkudinOpenProtocolInformation(run->core, call->numbers[0], &call->guid, &address, &count);
 
     print_block(run, status, count, address);
 }
@@ -230,7 +231,7 @@ static void reply_information(struct run *run, const struct call *call)
 static void reply_handle_protocol(struct run *run, const struct call *call)
 {
     uint64_t interface = 0;
-    uint64_t status = HandleProtocol(run->core, call->numbers[0], &call->guid, &interface);
+    uint64_t status = RafkudinHandleProtocol(run->core, call->numbers[0], &call->guid, &interface);
 
     print_address(run, status, "interface", interface);
 }
@@ -239,8 +240,8 @@ static void reply_notify(struct run *run, const struct call *call)
 {
     uint64_t registration = 0;
 
-    if (print_status(
-            run, RegisterProtocolNotify(run->core, &call->guid, call->numbers[0], &registration)))
+    if (print_status(run, RafkudinRegisterProtocolNotify(run->core, &call->guid, call->numbers[0],
+                                                         &registration)))
         text_print(&run->text, " registration=%" PRIu64, registration);
 }
 
@@ -250,8 +251,8 @@ static void reply_locate(struct run *run, const struct call *call)
     uint64_t room = size / sizeof(uint64_t) < RAFKUDIN_MOST_HANDLES ? size / sizeof(uint64_t)
                                                                     : RAFKUDIN_MOST_HANDLES;
     uint64_t *handles = grow(NULL, room * sizeof *handles);
-    uint64_t status = LocateHandle(run->core, (uint32_t)call->numbers[0], &call->guid,
-                                   call->numbers[1], &size, handles);
+    uint64_t status = RafkudinLocateHandle(run->core, (uint32_t)call->numbers[0], &call->guid,
+                                           call->numbers[1], &size, handles);
 
     if (print_status(run, status)) {
         text_print(&run->text, " size=%" PRIu64 " handles=", size);
@@ -265,8 +266,8 @@ static void reply_locate(struct run *run, const struct call *call)
 static void reply_locate_buffer(struct run *run, const struct call *call)
 {
     uint64_t count = 0, address = 0;
-    uint64_t status = LocateHandleBuffer(run->core, (uint32_t)call->numbers[0], &call->guid,
-                                         call->numbers[1], &count, &address);
+    uint64_t status = RafkudinLocateHandleBuffer(run->core, (uint32_t)call->numbers[0], &call->guid,
+                                                 call->numbers[1], &count, &address);
 
     print_block(run, status, count, address);
 }
@@ -274,23 +275,23 @@ static void reply_locate_buffer(struct run *run, const struct call *call)
 static void reply_locate_protocol(struct run *run, const struct call *call)
 {
     uint64_t interface = 0;
-    uint64_t status = LocateProtocol(run->core, &call->guid, call->numbers[0], &interface);
+    uint64_t status = RafkudinLocateProtocol(run->core, &call->guid, call->numbers[0], &interface);
 
     print_address(run, status, "interface", interface);
 }
 
 static void reply_protocols(struct run *run, const struct call *call)
 {
-    struct rafkudin_guid none, *guids;
+    struct rafkudin_guid *guids = NULL;
     uint64_t count = 0;
+    uint64_t status = RafkudinProtocolsPerHandle(run->core, call->numbers[0], NULL, 0, &count);
 
-    if (!print_status(run,
-                      RafkudinProtocolsPerHandle(run->core, call->numbers[0], &none, 0, &count)))
+    if (status == RAFKUDIN_BUFFER_TOO_SMALL) {
+        guids = grow(NULL, count * sizeof *guids);
+        status = RafkudinProtocolsPerHandle(run->core, call->numbers[0], guids, count, &count);
+    }
+    if (!print_status(run, status))
         return;
-    guids = grow(NULL, count * sizeof *guids);
-    if (RafkudinProtocolsPerHandle(run->core, call->numbers[0], guids, count, &count) !=
-        RAFKUDIN_SUCCESS)
-        fail("the library refuses a call that it has just served");
     text_print(&run->text, " guids=");
     for (uint64_t at = 0; at < count; at++) {
         text_print(&run->text, "%s", at == 0 ? "" : ",");
@@ -301,8 +302,8 @@ static void reply_protocols(struct run *run, const struct call *call)
 
 static void reply_connect(struct run *run, const struct call *call)
 {
-    uint64_t status = ConnectController(run->core, call->numbers[0], call->drivers, call->count,
-                                        call->numbers[1] != 0);
+    uint64_t status = RafkudinConnectDrivers(run->core, call->numbers[0], call->drivers,
+                                             call->count, call->numbers[1] != 0);
 
     if (print_status(run, status))
         print_events(run);
@@ -310,14 +311,14 @@ static void reply_connect(struct run *run, const struct call *call)
 
 static void reply_disconnect(struct run *run, const struct call *call)
 {
-    print_status(run, DisconnectController(run->core, call->numbers[0], call->numbers[1]));
+    print_status(run, RafkudinDisconnectDrivers(run->core, call->numbers[0], call->numbers[1]));
 }
 
 static void reply_path(struct run *run, const struct call *call)
 {
     uint64_t address = call->numbers[0], handle = 0;
 
-    if (print_status(run, LocateDevicePath(run->core, &call->guid, &address, &handle)))
+    if (print_status(run, RafkudinLocateDevicePath(run->core, &call->guid, &address, &handle)))
         text_print(&run->text, " handle=%" PRIu64 " address=0x%" PRIx64, handle, address);
 }
 

@@ -1,4 +1,4 @@
-#include "../../include/rafkudin.h"
+#include <rafkudin.h>
 
 #include <inttypes.h>
 #include <stdio.h>
@@ -7,14 +7,13 @@ int main(void)
 {
     /* An EFI_MEMORY_DESCRIPTOR: 1,024 conventional pages from address 0x100000 on. */
     static const uint64_t record[5] = {RAFKUDIN_CONVENTIONAL, 0x100000, 0, 1024, 0xf};
-    static const struct rafkudin_driver no_drivers[1];
     struct rafkudin *core = NULL;
     uint64_t memory = 0;
 
-    if (RafkudinMake((const uint8_t *)record, sizeof record, sizeof record, 1, no_drivers, 0,
-                     &core) != RAFKUDIN_SUCCESS)
+    if (RafkudinMake((const uint8_t *)record, sizeof record, sizeof record, 1, NULL, 0, &core) !=
+        RAFKUDIN_SUCCESS)
         return 1;
-    if (AllocatePages(core, RAFKUDIN_ANY_PAGES, RAFKUDIN_LOADER_DATA, 10, &memory) ==
+    if (RafkudinAllocatePages(core, RAFKUDIN_ANY_PAGES, RAFKUDIN_LOADER_DATA, 10, &memory) ==
         RAFKUDIN_SUCCESS)
         printf("ten pages at 0x%" PRIx64 "\n", memory);
     RafkudinFree(core);

@@ -1,3 +1,4 @@
 pub mod Blocks
 pub mod Lending
 pub mod Places
+pub mod Versions

@@ -7,5 +7,6 @@ mod handle;
 mod making;
 mod memory;
 mod place;
+mod placing;
 mod protocols;
 mod told;

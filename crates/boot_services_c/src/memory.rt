@@ -14,7 +14,7 @@ use crate::handle::Rafkudin;
 /// INVALID_PARAMETER: another kind, a memory type that may not be asked for, or no pages. NOT_FOUND: the
 /// pages at the address are not free. OUT_OF_RESOURCES: there is no place.
 #[unsafe(no_mangle)]
-pub extern "C" fn AllocatePages(
+pub extern "C" fn RafkudinAllocatePages(
     core: &mut Rafkudin,
     kind: u32,
     mtype: u32,
@@ -31,7 +31,7 @@ pub extern "C" fn AllocatePages(
 /// INVALID_PARAMETER: the address lies within a page, there are no pages, or they go past the last one.
 /// NOT_FOUND: AllocatePages did not place all of them.
 #[unsafe(no_mangle)]
-pub extern "C" fn FreePages(core: &mut Rafkudin, memory: u64, pages: u64) -> u64
+pub extern "C" fn RafkudinFreePages(core: &mut Rafkudin, memory: u64, pages: u64) -> u64
     ensures { AnswersStatus core.old.core (call.FreePages memory pages) result core.new.core }
 {
     core.held().free_pages(memory, pages)
@@ -42,7 +42,7 @@ pub extern "C" fn FreePages(core: &mut Rafkudin, memory: u64, pages: u64) -> u64
 ///
 /// BUFFER_TOO_SMALL: the places are told too, but for the key.
 #[unsafe(no_mangle)]
-pub extern "C" fn RafkudinGetMemoryMap(
+pub extern "C" fn RafkudinGetMemoryMapInto(
     core: &mut Rafkudin,
     buffer: &mut [u8],
     size: &mut u64,
@@ -61,7 +61,12 @@ pub extern "C" fn RafkudinGetMemoryMap(
 /// INVALID_PARAMETER: a memory type that may not be asked for. OUT_OF_RESOURCES: the size is above
 /// 4 GiB, or there is no place.
 #[unsafe(no_mangle)]
-pub extern "C" fn AllocatePool(core: &mut Rafkudin, mtype: u32, size: u64, buffer: &mut u64) -> u64
+pub extern "C" fn RafkudinAllocatePool(
+    core: &mut Rafkudin,
+    mtype: u32,
+    size: u64,
+    buffer: &mut u64,
+) -> u64
     ensures { AnswersNumber core.old.core (call.AllocatePool mtype size) buffer.old result buffer.new core.new.core }
 {
     core.held().allocate_pool(mtype, size, buffer)
@@ -71,7 +76,7 @@ pub extern "C" fn AllocatePool(core: &mut Rafkudin, mtype: u32, size: u64, buffe
 ///
 /// INVALID_PARAMETER: no block has this address.
 #[unsafe(no_mangle)]
-pub extern "C" fn FreePool(core: &mut Rafkudin, address: u64) -> u64
+pub extern "C" fn RafkudinFreePool(core: &mut Rafkudin, address: u64) -> u64
     ensures { AnswersStatus core.old.core (call.FreePool address) result core.new.core }
 {
     core.held().free_pool(address)
@@ -81,7 +86,7 @@ pub extern "C" fn FreePool(core: &mut Rafkudin, address: u64) -> u64
 ///
 /// INVALID_PARAMETER: they do not all belong to one block.
 #[unsafe(no_mangle)]
-pub extern "C" fn PoolRead(core: &mut Rafkudin, address: u64, buffer: &mut [u8]) -> u64
+pub extern "C" fn RafkudinPoolRead(core: &mut Rafkudin, address: u64, buffer: &mut [u8]) -> u64
     ensures { AnswersRead core.old.core address buffer.old result buffer.new core.new.core }
 {
     core.held().pool_read(address, buffer)
@@ -91,7 +96,7 @@ pub extern "C" fn PoolRead(core: &mut Rafkudin, address: u64, buffer: &mut [u8])
 ///
 /// INVALID_PARAMETER: they do not all belong to one block.
 #[unsafe(no_mangle)]
-pub extern "C" fn PoolWrite(core: &mut Rafkudin, address: u64, bytes: &[u8]) -> u64
+pub extern "C" fn RafkudinPoolWrite(core: &mut Rafkudin, address: u64, bytes: &[u8]) -> u64
     ensures { AnswersStatus core.old.core (call.PoolWrite address bytes.now) result core.new.core }
 {
     core.held().pool_write(address, bytes)
@@ -101,7 +106,7 @@ pub extern "C" fn PoolWrite(core: &mut Rafkudin, address: u64, bytes: &[u8]) -> 
 ///
 /// INVALID_PARAMETER: the key is not that of the memory map.
 #[unsafe(no_mangle)]
-pub extern "C" fn ExitBootServices(core: &mut Rafkudin, _image: u64, key: u64) -> u64
+pub extern "C" fn RafkudinExitBootServices(core: &mut Rafkudin, _image: u64, key: u64) -> u64
     ensures { AnswersStatus core.old.core (call.ExitBootServices key) result core.new.core }
 {
     core.held().exit_boot_services(key)

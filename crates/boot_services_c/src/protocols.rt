@@ -2,9 +2,9 @@
 //!
 //! Of each: ABORTED, after 2^31 calls, UNSUPPORTED, once the boot services have exited, and OUT_OF_RESOURCES,
 //! where memory runs out, are not named again. A refusal leaves the places of the caller's.
-ghost use Rattle.std.specs.Prelude.{◌≡◌, map};
+ghost use Rattle.std.specs.Prelude.{◌≡◌, length, map};
 ghost use Rattle.boot_calls.specs.declared.calls.Call.TheVariants as call;
-ghost use Rattle.c_interface.specs.Served.{AnswersStatus, AnswersNumber, AnswersNumbers, AnswersHandles, AnswersGuids};
+ghost use Rattle.c_interface.specs.Served.{AnswersStatus, AnswersNumber, AnswersNumbers, AnswersHandles, AnswersGuids, handle_bytes};
 ghost use Rattle.c_machines.specs.Guids.{guid_in, interface_in};
 
 use crate::handle::Rafkudin;
@@ -15,7 +15,7 @@ use c_machines::{Guid, Interface};
 /// INVALID_PARAMETER: another kind than 0, a handle that is not live, or the GUID is on it already.
 /// OUT_OF_RESOURCES: 4,096 handles are live.
 #[unsafe(no_mangle)]
-pub extern "C" fn InstallProtocolInterface(
+pub extern "C" fn RafkudinInstallProtocolInterface(
     core: &mut Rafkudin,
     handle: &mut u64,
     guid: &Guid,
@@ -33,7 +33,7 @@ pub extern "C" fn InstallProtocolInterface(
 /// INVALID_PARAMETER: the handle is not live. NOT_FOUND: the GUID is not on it with this value.
 /// ACCESS_DENIED: it is open in a way that can't be ended.
 #[unsafe(no_mangle)]
-pub extern "C" fn UninstallProtocolInterface(
+pub extern "C" fn RafkudinUninstallProtocolInterface(
     core: &mut Rafkudin,
     handle: u64,
     guid: &Guid,
@@ -50,7 +50,7 @@ pub extern "C" fn UninstallProtocolInterface(
 /// INVALID_PARAMETER: the handle is not live. NOT_FOUND: the GUID is not on it with the old value.
 /// ACCESS_DENIED: it is open in a way that can't be ended.
 #[unsafe(no_mangle)]
-pub extern "C" fn ReinstallProtocolInterface(
+pub extern "C" fn RafkudinReinstallProtocolInterface(
     core: &mut Rafkudin,
     handle: u64,
     guid: &Guid,
@@ -65,7 +65,7 @@ pub extern "C" fn ReinstallProtocolInterface(
 
 /// RegisterProtocolNotify, 7.3.5. The place `registration` is told the registration's key.
 #[unsafe(no_mangle)]
-pub extern "C" fn RegisterProtocolNotify(
+pub extern "C" fn RafkudinRegisterProtocolNotify(
     core: &mut Rafkudin,
     guid: &Guid,
     event: u64,
@@ -77,32 +77,30 @@ pub extern "C" fn RegisterProtocolNotify(
         .register_protocol_notify(guid, event, registration)
 }
 
-/// LocateHandle, 7.3.6, with a buffer of `size` bytes, of which `buffer` is what the handles may be laid into.
-/// The place `needed` is told the bytes that they take.
+/// LocateHandle, 7.3.6, with a buffer for handles. The place `needed` is given the bytes that all that match
+/// take.
 ///
 /// INVALID_PARAMETER: another search, or a key that was never given. NOT_FOUND: nothing matches.
 /// BUFFER_TOO_SMALL: the place is told too.
 #[unsafe(no_mangle)]
-pub extern "C" fn RafkudinLocateHandle(
+pub extern "C" fn RafkudinLocateHandleInto(
     core: &mut Rafkudin,
     search: u32,
     guid: &Guid,
     key: u64,
-    size: u64,
     needed: &mut u64,
     buffer: &mut [u64],
 ) -> u64
-    ensures { AnswersHandles core.old.core (call.LocateHandle search (guid_in guid.now) key size) needed.old buffer.old result needed.new buffer.new core.new.core }
+    ensures { AnswersHandles core.old.core (call.LocateHandle search (guid_in guid.now) key (handle_bytes (length buffer.old))) needed.old buffer.old result needed.new buffer.new core.new.core }
 {
-    core.held()
-        .locate_handle(search, guid, key, size, needed, buffer)
+    core.held().locate_handle(search, guid, key, needed, buffer)
 }
 
 /// HandleProtocol, 7.3.7. The place `interface` is told the interface's value.
 ///
 /// INVALID_PARAMETER: the handle is not live. UNSUPPORTED: the GUID is not on it.
 #[unsafe(no_mangle)]
-pub extern "C" fn HandleProtocol(
+pub extern "C" fn RafkudinHandleProtocol(
     core: &mut Rafkudin,
     handle: u64,
     guid: &Guid,
@@ -118,7 +116,7 @@ pub extern "C" fn HandleProtocol(
 ///
 /// INVALID_PARAMETER: no device path is at the address. NOT_FOUND: no handle matches.
 #[unsafe(no_mangle)]
-pub extern "C" fn LocateDevicePath(
+pub extern "C" fn RafkudinLocateDevicePath(
     core: &mut Rafkudin,
     guid: &Guid,
     path: &mut u64,
@@ -135,7 +133,7 @@ pub extern "C" fn LocateDevicePath(
 /// handle. ALREADY_STARTED: the agent has it open by driver. ACCESS_DENIED: it is open in a
 /// way that can't be ended.
 #[unsafe(no_mangle)]
-pub extern "C" fn OpenProtocol(
+pub extern "C" fn RafkudinOpenProtocol(
     core: &mut Rafkudin,
     handle: u64,
     guid: &Guid,
@@ -155,7 +153,7 @@ pub extern "C" fn OpenProtocol(
 /// INVALID_PARAMETER: a handle that is not live. NOT_FOUND: the GUID is not on the handle, or nothing is
 /// open so.
 #[unsafe(no_mangle)]
-pub extern "C" fn CloseProtocol(
+pub extern "C" fn RafkudinCloseProtocol(
     core: &mut Rafkudin,
     handle: u64,
     guid: &Guid,
@@ -172,7 +170,7 @@ pub extern "C" fn CloseProtocol(
 ///
 /// NOT_FOUND: the handle is not live, or the GUID is not on it. OUT_OF_RESOURCES: there is no place.
 #[unsafe(no_mangle)]
-pub extern "C" fn OpenProtocolInformation(
+pub extern "C" fn RafkudinOpenProtocolInformation(
     core: &mut Rafkudin,
     handle: u64,
     guid: &Guid,
@@ -189,7 +187,7 @@ pub extern "C" fn OpenProtocolInformation(
 ///
 /// INVALID_PARAMETER: the handle is not live, or more than 16 drivers. NOT_FOUND: no driver was started.
 #[unsafe(no_mangle)]
-pub extern "C" fn ConnectController(
+pub extern "C" fn RafkudinConnectDrivers(
     core: &mut Rafkudin,
     handle: u64,
     drivers: &[u64],
@@ -204,16 +202,16 @@ pub extern "C" fn ConnectController(
 ///
 /// INVALID_PARAMETER: the handle is not live, or the driver is none. DEVICE_ERROR: they can't be stopped.
 #[unsafe(no_mangle)]
-pub extern "C" fn DisconnectController(core: &mut Rafkudin, handle: u64, driver: u64) -> u64
+pub extern "C" fn RafkudinDisconnectDrivers(core: &mut Rafkudin, handle: u64, driver: u64) -> u64
     ensures { AnswersStatus core.old.core (call.DisconnectController handle driver) result core.new.core }
 {
     core.held().disconnect_controller(handle, driver)
 }
 
-/// ProtocolsPerHandle, 7.3.14, with a buffer for the GUIDs, into which the first are laid, as many as it has
-/// room for. The place `count` is told how many there are.
+/// ProtocolsPerHandle, 7.3.14, with a buffer for the GUIDs. The place `count` is given how many there are.
 ///
-/// INVALID_PARAMETER: the handle is not live.
+/// INVALID_PARAMETER: the handle is not live. BUFFER_TOO_SMALL: there are more than the buffer has room for; the
+/// place is given how many, and the buffer is left.
 #[unsafe(no_mangle)]
 pub extern "C" fn RafkudinProtocolsPerHandle(
     core: &mut Rafkudin,
@@ -231,7 +229,7 @@ pub extern "C" fn RafkudinProtocolsPerHandle(
 ///
 /// As LocateHandle, without BUFFER_TOO_SMALL. OUT_OF_RESOURCES: there is no place.
 #[unsafe(no_mangle)]
-pub extern "C" fn LocateHandleBuffer(
+pub extern "C" fn RafkudinLocateHandleBuffer(
     core: &mut Rafkudin,
     search: u32,
     guid: &Guid,
@@ -249,7 +247,7 @@ pub extern "C" fn LocateHandleBuffer(
 ///
 /// INVALID_PARAMETER: a key that was never given, or for another GUID. NOT_FOUND: nothing matches.
 #[unsafe(no_mangle)]
-pub extern "C" fn LocateProtocol(
+pub extern "C" fn RafkudinLocateProtocol(
     core: &mut Rafkudin,
     guid: &Guid,
     key: u64,
@@ -267,7 +265,7 @@ pub extern "C" fn LocateProtocol(
 /// already or stands twice. ALREADY_STARTED: a live handle has this device path. OUT_OF_RESOURCES: 4,096
 /// handles are live.
 #[unsafe(no_mangle)]
-pub extern "C" fn InstallMultipleProtocolInterfaces(
+pub extern "C" fn RafkudinInstallMultipleProtocolInterfaces(
     core: &mut Rafkudin,
     handle: &mut u64,
     interfaces: &[Interface],

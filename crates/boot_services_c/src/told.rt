@@ -5,10 +5,22 @@ ghost use Rattle.c_interface.specs.Buffers.{laid};
 ghost use Rattle.c_interface.specs.Checks.{ChecksBlock, TellsEntry};
 ghost use Rattle.c_interface.specs.EfiCores.{last_events};
 ghost use Rattle.c_interface.specs.Served.{TellsBlock};
+ghost use Rattle.boot_services_c.specs.Versions.{version};
 
 use crate::handle::Rafkudin;
 use c_interface::MapEntry;
 use std::alloc::Global;
+
+/// The version of the library, 0.1.0.
+const VERSION: u32 = 0x100;
+
+/// The version of the library: the major number in the bits from 16 on, the minor one in those from 8 on.
+#[unsafe(no_mangle)]
+pub extern "C" fn RafkudinVersion() -> u32
+    ensures { result ≡ version }
+{
+    VERSION
+}
 
 /// Keeps the certificates of placements from now on, or keeps none.
 #[unsafe(no_mangle)]

@@ -4,6 +4,7 @@ use Rattle.std.proofs.Math.Nat.{min-eq_left, min-eq_right}
 use Rattle.std.proofs.Math.ListN.{drop_of_length-le}
 use Rattle.std.specs.declared.alloc.Global.{Global}
 use Rattle.boot_calls.specs.declared.calls.Call.{Call}
+use Rattle.boot_replies.specs.declared.replies.Reply.{Reply}
 use Rattle.boot_replies.specs.declared.replies.Reply.TheVariants as reply
 use Rattle.boot_calls.specs.declared.replies.LocateReply.{LocateReply}
 use Rattle.c_interface.specs.Buffers.{laid}
@@ -14,7 +15,7 @@ use Rattle.c_machines.specs.declared.guids.Interface.{Interface}
 use Rattle.std.proofs.lemmas.List.{get_or-map, length-map, map-append, take_all}
 use Rattle.std.proofs.Math.Seq.{take-suc}
 use Rattle.c_machines.specs.Guids.{standard_guid, interface_in}
-use Rattle.c_interface.specs.Served.{AnswersStatus, AnswersHandles, TellsHandles, told_size}
+use Rattle.c_interface.specs.Served.{AnswersStatus, AnswersGuids, AnswersHandles, TellsGuids, TellsHandles, told_size}
 
 some_is : {A : Type 0} (x y : A) → Some x ≡ Some y → x ≡ y
 some_is x y e = cc
@@ -25,6 +26,11 @@ handles_told old new c status told size new_size buffer new_buffer (inl (answer,
     inl (answer, s, e, subst (TellsHandles size buffer new_size new_buffer) (some_is _ _ (sym l ∙ s.last)) (is_size, is_buffer))
 handles_told old new c status told size new_size buffer new_buffer (inr (spent, e, u)) l is_size is_buffer =
     absurd (let bad : None ≡ Some (reply.LocateHandle told) = sym (ap (λ (x : EfiCoreValue). x.last) spent.core) ∙ l in cc)
+
+pub guids_told : (old new : EfiCoreValue) (c : Call Global) (before : ℕ) (told : Reply Global) (count : ℕ) (buffer : List Guid) (status new_count : ℕ) (new_buffer : List Guid) → AnswersStatus old c before new → new.last ≡ Some told →
+    TellsGuids count buffer status new_count new_buffer told → AnswersGuids old c count buffer status new_count new_buffer new
+guids_told old new c before told count buffer status new_count new_buffer (inl (answer, s, e, u)) l is = inl (answer, s, subst (TellsGuids count buffer status new_count new_buffer) (some_is _ _ (sym l ∙ s.last)) is)
+guids_told old new c before told count buffer status new_count new_buffer (inr (spent, e, u)) l is = absurd (let bad : None ≡ Some told = sym (ap (λ (x : EfiCoreValue). x.last) spent.core) ∙ l in cc)
 
 pub laid_more : {T : Type 0} (i : ℕ) (xs ys : List T) (x : T) → i < length xs → i < length ys → slice_index_or xs i x ≡ x → slice_set (take i xs ++ drop i ys) i x ≡ take (suc i) xs ++ drop (suc i) ys
 laid_more i [] ys x a b e = absurd (omega arith)

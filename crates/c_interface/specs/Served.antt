@@ -1,5 +1,5 @@
 -- What a call through C does.
-use Rattle.std.specs.Prelude.{◌≡◌, ◌⊎◌, ℕ, ◌<◌, ◌≤◌, List, length, map, Option, Some, None, Ok, Err}
+use Rattle.std.specs.Prelude.{◌≡◌, ◌⊎◌, ℕ, ◌*◌, ◌<◌, ◌≤◌, min, List, length, map, Option, Some, None, Ok, Err}
 use Rattle.std.specs.declared.alloc.Global.{Global}
 use Rattle.page_ranges.specs.MemoryMap.{memory_map}
 use Rattle.page_ranges.specs.Statuses.{status_number}
@@ -59,6 +59,14 @@ AnswersNumbers old c before status after new = Answers old c status (λ answer. 
 
 -- ---- lists in the caller's buffers
 
+-- the most handles that are live at a time
+abbrev pub most_handles : ℕ
+most_handles = 4096
+
+-- the bytes of a buffer for so many handles, 8 for each, as far as so many can be live
+abbrev pub handle_bytes : ℕ → ℕ
+handle_bytes room = min room most_handles * 8
+
 -- the bytes that a status says a list takes
 abbrev pub told_size : Status → ℕ → Option ℕ
 told_size Success size = Some size
@@ -74,15 +82,19 @@ TellsHandles size buffer new_size new_buffer answer = ⊥
 abbrev pub AnswersHandles : EfiCoreValue → Call Global → ℕ → List ℕ → ℕ → ℕ → List ℕ → EfiCoreValue → Type 0
 AnswersHandles old c size buffer status new_size new_buffer new = Answers old c status (TellsHandles size buffer new_size new_buffer) ((new_size ≡ size) × (new_buffer ≡ buffer)) new
 
--- ProtocolsPerHandle tells how many GUIDs there are in the caller's place, and the GUIDs in the caller's buffer.
-abbrev pub TellsGuids : ℕ → List Guid → ℕ → List Guid → Reply Global → Type 0
-TellsGuids count buffer new_count new_buffer (reply.ProtocolsPerHandle (Ok guids)) = (new_count ≡ length guids.items) × (new_buffer ≡ laid (map standard_guid guids.items) buffer)
-TellsGuids count buffer new_count new_buffer (reply.ProtocolsPerHandle (Err status)) = (new_count ≡ count) × (new_buffer ≡ buffer)
-TellsGuids count buffer new_count new_buffer answer = ⊥
+-- ProtocolsPerHandle: its status, how many GUIDs there are in the caller's place, and the GUIDs in the caller's buffer. A buffer with
+-- no room for all of them is too small, and is left.
+abbrev pub TellsGuids : ℕ → List Guid → ℕ → ℕ → List Guid → Reply Global → Type 0
+TellsGuids count buffer status new_count new_buffer (reply.ProtocolsPerHandle (Ok guids)) =
+    (new_count ≡ length guids.items)
+    × (((length guids.items ≤ length buffer) × (status ≡ status_number Success) × (new_buffer ≡ laid (map standard_guid guids.items) buffer)) ⊎ ((length buffer < length guids.items) × (status ≡ status_number BufferTooSmall) × (new_buffer ≡ buffer)))
+TellsGuids count buffer status new_count new_buffer (reply.ProtocolsPerHandle (Err refusal)) = (status ≡ status_number refusal) × (new_count ≡ count) × (new_buffer ≡ buffer)
+TellsGuids count buffer status new_count new_buffer answer = ⊥
 
 -- ProtocolsPerHandle through C
 abbrev pub AnswersGuids : EfiCoreValue → Call Global → ℕ → List Guid → ℕ → ℕ → List Guid → EfiCoreValue → Type 0
-AnswersGuids old c count buffer status new_count new_buffer new = Answers old c status (TellsGuids count buffer new_count new_buffer) ((new_count ≡ count) × (new_buffer ≡ buffer)) new
+AnswersGuids old c count buffer status new_count new_buffer new =
+    ((answer : Reply Global) × Serves old c answer new × TellsGuids count buffer status new_count new_buffer answer) ⊎ (IsSpent old new × (status ≡ aborted) × (new_count ≡ count) × (new_buffer ≡ buffer))
 
 -- so many interfaces are too many to be installed at once
 abbrev pub too_many : ℕ

@@ -1,8 +1,8 @@
 //! The services that take or tell a list.
-ghost use Rattle.std.specs.Prelude.{◌≡◌, map, take};
+ghost use Rattle.std.specs.Prelude.{◌≡◌, length, map, take};
 ghost use Rattle.boot_calls.specs.declared.calls.Call.TheVariants as call;
 ghost use Rattle.c_interface.specs.Buffers.{laid};
-ghost use Rattle.c_interface.specs.Served.{AnswersStatus, AnswersNumber, AnswersHandles, AnswersGuids, told_size, too_many};
+ghost use Rattle.c_interface.specs.Served.{AnswersStatus, AnswersNumber, AnswersHandles, AnswersGuids, handle_bytes, told_size, too_many};
 ghost use Rattle.c_machines.specs.Guids.{guid_in, interface_in, standard_guid};
 
 use crate::buffers::lay;
@@ -17,21 +17,27 @@ use uuid::Uuid;
 /// So many interfaces are too many to be installed at once, whatever they are.
 const TOO_MANY: usize = 17;
 
+/// The most handles that are live at a time.
+const MOST_HANDLES: usize = 4096;
+
+/// The bytes of a handle.
+const HANDLE_SIZE: u64 = 8;
+
 impl EfiCore {
-    /// LocateHandle with a buffer of `size` bytes, of which `buffer` is what the caller lets the handles be laid
-    /// into. The place `needed` is told the bytes that they take, on SUCCESS and on BUFFER_TOO_SMALL.
+    /// LocateHandle with a buffer for handles. The place `needed` is given the bytes that all that match take, on
+    /// SUCCESS and on BUFFER_TOO_SMALL.
     pub fn locate_handle(
         &mut self,
         search: u32,
         guid: &Guid,
         key: u64,
-        size: u64,
         needed: &mut u64,
         buffer: &mut [u64],
     ) -> u64
-        ensures { AnswersHandles self.old (call.LocateHandle search (guid_in guid.now) key size) needed.old buffer.old result needed.new buffer.new self.new }
+        ensures { AnswersHandles self.old (call.LocateHandle search (guid_in guid.now) key (handle_bytes (length buffer.old))) needed.old buffer.old result needed.new buffer.new self.new }
     {
         let guid = guid.uuid();
+        let size = handle_bytes(buffer.len());
         let status = self.answer(&Call::LocateHandle {
             search,
             guid,
@@ -47,17 +53,22 @@ impl EfiCore {
         status
     }
 
-    /// ProtocolsPerHandle. The place `count` is told how many GUIDs there are; they are laid into the buffer,
-    /// as many as it has room for.
+    /// ProtocolsPerHandle. The place `count` is given how many GUIDs there are; they are laid into the buffer.
+    ///
+    /// BUFFER_TOO_SMALL: it has no room for all of them, and is left; the place is given how many there are.
     pub fn protocols_per_handle(&mut self, handle: u64, buffer: &mut [Guid], count: &mut u64) -> u64
         ensures { AnswersGuids self.old (call.ProtocolsPerHandle handle) count.old buffer.old result count.new buffer.new self.new }
     {
         let status = self.answer(&Call::ProtocolsPerHandle { handle });
-        if let Some(Reply::ProtocolsPerHandle(Ok(guids))) = self.last_reply() {
-            *count = guids.len() as u64;
-            lay_guids(buffer, guids.as_slice());
+        let Some(Reply::ProtocolsPerHandle(Ok(guids))) = self.last_reply() else {
+            return status;
+        };
+        *count = guids.len() as u64;
+        if buffer.len() < guids.len() {
+            return Status::BufferTooSmall.number();
         }
-        status
+        lay_guids(buffer, guids.as_slice());
+        Status::Success.number()
     }
 
     /// InstallMultipleProtocolInterfaces. The place `handle` has the handle, 0 for a new one, and is told it.
@@ -95,6 +106,13 @@ impl EfiCore {
         let reply = self.core.connect_controller(handle, drivers, recursive);
         self.tell(reply)
     }
+}
+
+/// The bytes of a buffer for so many handles, as far as so many can be live.
+fn handle_bytes(room: usize) -> u64
+    ensures { result ≡ handle_bytes room }
+{
+    room.min(MOST_HANDLES) as u64 * HANDLE_SIZE
 }
 
 /// The bytes that a status says a list takes.

@@ -1,9 +1,0 @@
-use Rattle.std.proofs.Common.{subst}
-use Rattle.boot_calls.specs.declared.calls.Call.TheVariants as call
-use Rattle.c_machines.specs.Guids.{guid_in}
-use Rattle.c_interface.specs.EfiCores.{EfiCoreValue}
-use Rattle.c_interface.specs.Served.{AnswersHandles}
-use Rattle.boot_services_c.proofs.protocols.RafkudinLocateHandle.Goals as goal
-
-pub returns : goal.returns
-returns c = subst (λ (core : EfiCoreValue). AnswersHandles core (call.LocateHandle c.args.search (guid_in c.args.guid.now) c.args.key c.args.size) c.args.needed.now c.args.buffer.now c.locate_handle.result c.locate_handle.new.needed c.locate_handle.new.buffer c.locate_handle.new.self) c.held.ensures.value c.locate_handle.ensures

@@ -1,0 +1,35 @@
+//! Placing pages with no core.
+ghost use Rattle.map_placement.specs.Places.{PlacesPages};
+
+use map_placement::place;
+use std::alloc::Global;
+
+/// Finds the best place for pages of a type on the memory that EFI_MEMORY_DESCRIPTORs state, up to the byte at
+/// the address `limit`. The place `address` is given the address of the first page; a refusal leaves it.
+///
+/// INVALID_PARAMETER: the records state no machine, a memory type that may not be asked for, or no pages.
+/// OUT_OF_RESOURCES: there is no place, or memory ran out.
+#[unsafe(no_mangle)]
+pub extern "C" fn RafkudinPlace(
+    alloc: Global,
+    records: &[u8],
+    descriptor_size: usize,
+    granule: u64,
+    mtype: u32,
+    pages: u64,
+    limit: u64,
+    address: &mut u64,
+) -> u64
+    ensures { PlacesPages descriptor_size records.now granule mtype pages limit address.old result address.new }
+{
+    place(
+        alloc,
+        records,
+        descriptor_size,
+        granule,
+        mtype,
+        pages,
+        limit,
+        address,
+    )
+}

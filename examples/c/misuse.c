@@ -1,0 +1,176 @@
+/* Hands null pointers to each function of rafkudin.h. A null pointer that may not be null is
+ * INVALID_PARAMETER, and uses up no call; beside a count of 0 it is as any other. Each point that
+ * is not as said is told on standard error, and then the status is 1. */
+#include "points.h"
+
+#include <rafkudin.h>
+
+#include <stdio.h>
+#include <stdlib.h>
+#include <string.h>
+
+static const struct rafkudin_guid disk = {{1}};
+
+/* A core with 256 free pages from page 1 on, and a disk on handle 1. */
+static struct rafkudin *make_core(void)
+{
+    uint8_t record[RAFKUDIN_DESCRIPTOR_SIZE] = {[0] = 7, [9] = 0x10, [25] = 1};
+    struct rafkudin *core = NULL;
+    uint64_t handle = 0;
+
+    if (RafkudinMake(record, sizeof record, sizeof record, 1, NULL, 0, &core) != RAFKUDIN_SUCCESS)
+        abort();
+    HOLDS(RafkudinInstallProtocolInterface(core, &handle, &disk, 0, 0) == RAFKUDIN_SUCCESS);
+    return core;
+}
+
+#define REFUSED(call) HOLDS((call) == RAFKUDIN_INVALID_PARAMETER)
+
+/* What needs no core, or has none. */
+static void try_no_core(void)
+{
+    uint8_t record[RAFKUDIN_DESCRIPTOR_SIZE] = {[0] = 7, [25] = 1};
+    struct rafkudin_driver driver;
+    struct rafkudin_descriptor entry;
+    struct rafkudin *core = NULL;
+    uint64_t number = 0;
+    uint8_t byte = 0;
+
+    memset(&driver, 0, sizeof driver);
+    REFUSED(RafkudinMake(record, 48, 48, 1, &driver, 1, NULL));
+    REFUSED(RafkudinMake(NULL, 48, 48, 1, &driver, 1, &core));
+    REFUSED(RafkudinMake(record, 48, 48, 1, NULL, 1, &core));
+    HOLDS(core == NULL);
+    HOLDS(RafkudinMake(NULL, 0, 48, 1, NULL, 0, &core) == RAFKUDIN_SUCCESS && core != NULL);
+    HOLDS(RafkudinDescriptors(core) == 0);
+    RafkudinFree(core);
+    RafkudinFree(NULL);
+    REFUSED(RafkudinPlace(NULL, 48, 48, 1, 4, 1, UINT64_MAX, &number));
+    REFUSED(RafkudinPlace(record, 48, 48, 1, 4, 1, UINT64_MAX, NULL));
+    HOLDS(RafkudinPlace(NULL, 0, 48, 1, 4, 1, UINT64_MAX, &number) == RAFKUDIN_OUT_OF_RESOURCES);
+    REFUSED(RafkudinCheck(NULL, 1, &number));
+    REFUSED(RafkudinCheck(&byte, 1, NULL));
+    REFUSED(RafkudinCheck(NULL, 0, &number));
+    HOLDS(number == 1);
+    REFUSED(RafkudinCertificate(NULL, &byte, 1, &number));
+    REFUSED(RafkudinDescriptor(NULL, 0, &entry));
+    HOLDS(RafkudinEvents(NULL, &number, 1) == 0);
+}
+
+/* Each service with no core. */
+static void try_null_core(void)
+{
+    uint64_t one = 0, two = 0, three = 0;
+    struct rafkudin_interface interface = {disk, 0};
+    struct rafkudin_guid guid = disk;
+    uint32_t version = 0;
+    uint8_t byte = 0;
+
+    REFUSED(RafkudinAllocatePages(NULL, 0, 4, 1, &one));
+    REFUSED(RafkudinFreePages(NULL, 0, 1));
+    REFUSED(RafkudinGetMemoryMap(NULL, &one, NULL, NULL, NULL, NULL));
+    REFUSED(RafkudinGetMemoryMapInto(NULL, &byte, 1, &one, &two, &three, &version));
+    REFUSED(RafkudinAllocatePool(NULL, 4, 1, &one));
+    REFUSED(RafkudinFreePool(NULL, 8));
+    REFUSED(RafkudinPoolRead(NULL, 8, &byte, 1));
+    REFUSED(RafkudinPoolWrite(NULL, 8, &byte, 1));
+    REFUSED(RafkudinInstallProtocolInterface(NULL, &one, &disk, 0, 0));
+    REFUSED(RafkudinInstallMultipleProtocolInterfaces(NULL, &one, &interface, 1));
+    REFUSED(RafkudinUninstallProtocolInterface(NULL, 1, &disk, 0));
+    REFUSED(RafkudinReinstallProtocolInterface(NULL, 1, &disk, 0, 0));
+    REFUSED(RafkudinRegisterProtocolNotify(NULL, &disk, 0, &one));
+    REFUSED(RafkudinLocateHandle(NULL, 0, NULL, 0, &one, NULL));
+    REFUSED(RafkudinLocateHandleInto(NULL, 0, &disk, 0, &one, &two, 1));
+    REFUSED(RafkudinLocateHandleBuffer(NULL, 0, &disk, 0, &one, &two));
+    REFUSED(RafkudinLocateProtocol(NULL, &disk, 0, &one));
+    REFUSED(RafkudinProtocolsPerHandle(NULL, 1, &guid, 1, &one));
+    REFUSED(RafkudinOpenProtocol(NULL, 1, &disk, &one, 0, 0, 1));
+    REFUSED(RafkudinCloseProtocol(NULL, 1, &disk, 0, 0));
+    REFUSED(RafkudinOpenProtocolInformation(NULL, 1, &disk, &one, &two));
+    REFUSED(RafkudinHandleProtocol(NULL, 1, &disk, &one));
+    REFUSED(RafkudinConnectController(NULL, 1, NULL, 0, false));
+    REFUSED(RafkudinDisconnectController(NULL, 1, 0, 0));
+    REFUSED(RafkudinLocateDevicePath(NULL, &disk, &one, &two));
+    REFUSED(RafkudinExitBootServices(NULL, 1, 1));
+}
+
+/* Each other pointer of each service, on a core. */
+static void try_null_parameters(struct rafkudin *core)
+{
+    uint64_t one = 0, two = 0, three = 0, left = RafkudinCallsLeft(core);
+    uint32_t version = 0;
+    uint8_t byte = 0;
+
+    REFUSED(RafkudinCertificate(core, NULL, 1, &one));
+    REFUSED(RafkudinCertificate(core, &byte, 1, NULL));
+    REFUSED(RafkudinDescriptor(core, 0, NULL));
+    REFUSED(RafkudinAllocatePages(core, 0, 4, 1, NULL));
+    REFUSED(RafkudinGetMemoryMap(core, NULL, &byte, NULL, NULL, NULL));
+    REFUSED(RafkudinGetMemoryMapInto(core, NULL, 1, &one, &two, &three, &version));
+    REFUSED(RafkudinGetMemoryMapInto(core, &byte, 1, NULL, &two, &three, &version));
+    REFUSED(RafkudinGetMemoryMapInto(core, &byte, 1, &one, NULL, &three, &version));
+    REFUSED(RafkudinGetMemoryMapInto(core, &byte, 1, &one, &two, NULL, &version));
+    REFUSED(RafkudinGetMemoryMapInto(core, &byte, 1, &one, &two, &three, NULL));
+    REFUSED(RafkudinAllocatePool(core, 4, 1, NULL));
+    REFUSED(RafkudinPoolRead(core, 8, NULL, 1));
+    REFUSED(RafkudinPoolWrite(core, 8, NULL, 1));
+    REFUSED(RafkudinInstallProtocolInterface(core, NULL, &disk, 0, 0));
+    REFUSED(RafkudinInstallProtocolInterface(core, &one, NULL, 0, 0));
+    REFUSED(RafkudinInstallMultipleProtocolInterfaces(core, NULL, NULL, 0));
+    REFUSED(RafkudinInstallMultipleProtocolInterfaces(core, &one, NULL, 1));
+    REFUSED(RafkudinUninstallProtocolInterface(core, 1, NULL, 0));
+    REFUSED(RafkudinReinstallProtocolInterface(core, 1, NULL, 0, 0));
+    REFUSED(RafkudinRegisterProtocolNotify(core, NULL, 0, &one));
+    REFUSED(RafkudinRegisterProtocolNotify(core, &disk, 0, NULL));
+    REFUSED(RafkudinLocateHandleInto(core, 2, NULL, 0, &one, &two, 1));
+    REFUSED(RafkudinLocateHandleInto(core, 0, &disk, 0, NULL, &two, 1));
+    REFUSED(RafkudinLocateHandleInto(core, 0, &disk, 0, &one, NULL, 1));
+    REFUSED(RafkudinLocateHandleBuffer(core, 2, NULL, 0, &one, &two));
+    REFUSED(RafkudinLocateHandleBuffer(core, 0, &disk, 0, NULL, &two));
+    REFUSED(RafkudinLocateHandleBuffer(core, 0, &disk, 0, &one, NULL));
+    REFUSED(RafkudinLocateProtocol(core, NULL, 0, &one));
+    REFUSED(RafkudinLocateProtocol(core, &disk, 0, NULL));
+    REFUSED(RafkudinProtocolsPerHandle(core, 1, NULL, 1, &one));
+    REFUSED(RafkudinProtocolsPerHandle(core, 1, NULL, 0, NULL));
+    REFUSED(RafkudinOpenProtocol(core, 1, NULL, &one, 0, 0, 2));
+    REFUSED(RafkudinOpenProtocol(core, 1, &disk, NULL, 0, 0, 2));
+    REFUSED(RafkudinCloseProtocol(core, 1, NULL, 0, 0));
+    REFUSED(RafkudinOpenProtocolInformation(core, 1, NULL, &one, &two));
+    REFUSED(RafkudinOpenProtocolInformation(core, 1, &disk, NULL, &two));
+    REFUSED(RafkudinOpenProtocolInformation(core, 1, &disk, &one, NULL));
+    REFUSED(RafkudinHandleProtocol(core, 1, NULL, &one));
+    REFUSED(RafkudinHandleProtocol(core, 1, &disk, NULL));
+    REFUSED(RafkudinConnectDrivers(core, 1, NULL, 1, false));
+    REFUSED(RafkudinLocateDevicePath(core, NULL, &one, &two));
+    REFUSED(RafkudinLocateDevicePath(core, &disk, NULL, &two));
+    REFUSED(RafkudinLocateDevicePath(core, &disk, &one, NULL));
+    HOLDS(RafkudinCallsLeft(core) == left && one == 0 && two == 0 && three == 0);
+}
+
+/* Null pointers that may be null: these calls are served. */
+static void try_allowed(struct rafkudin *core)
+{
+    uint64_t one = 0, two = 0, left = RafkudinCallsLeft(core);
+
+    HOLDS(RafkudinLocateHandleInto(core, 0, NULL, 0, &one, NULL, 0) == RAFKUDIN_BUFFER_TOO_SMALL);
+    HOLDS(one == 8);
+    HOLDS(RafkudinLocateHandleBuffer(core, 0, NULL, 0, &one, &two) == RAFKUDIN_SUCCESS);
+    HOLDS(RafkudinPoolRead(core, two + 8, NULL, 0) == RAFKUDIN_SUCCESS);
+    HOLDS(RafkudinPoolWrite(core, two + 8, NULL, 0) == RAFKUDIN_SUCCESS);
+    HOLDS(RafkudinOpenProtocol(core, 1, &disk, NULL, 0, 0, RAFKUDIN_TEST_PROTOCOL) ==
+          RAFKUDIN_SUCCESS);
+    HOLDS(RafkudinConnectController(core, 1, NULL, 0, false) == RAFKUDIN_NOT_FOUND);
+    HOLDS(RafkudinCallsLeft(core) == left - 6);
+}
+
+int main(void)
+{
+    struct rafkudin *core = make_core();
+
+    try_no_core();
+    try_null_core();
+    try_null_parameters(core);
+    try_allowed(core);
+    RafkudinFree(core);
+    return points_end("misuse");
+}
