@@ -7,7 +7,7 @@ use Rattle.std.specs.declared.cmp.Ordering.TheVariants.{Less}
 use Rattle.std.specs.Ordering.{nat_cmp, is_lt, is_eq}
 use Rattle.std.specs.Cmp.Lexicographic.{slice_cmp, texts_ties}
 use Rattle.std.proofs.lemmas.Cmp.{nat_list_cmp_total}
-use Rattle.std.proofs.lemmas.Bool.{cases_Bool, ltb-true, ltb-false}
+use Rattle.std.proofs.lemmas.Bool.{cases_Bool, ne_eqb, ltb-true, ltb-false}
 use Rattle.std.proofs.lemmas.Bool.Decides.{eqb_tells}
 use Rattle.std.proofs.lemmas.Option.{same_Some}
 use Rattle.guid_handles.specs.declared.records.Interface.{Interface}
@@ -15,7 +15,7 @@ use Rattle.guid_handles.specs.HandleTables.{same_guid, is_on}
 use Rattle.guid_handles.specs.HandleChanges.{restamped}
 use Rattle.guid_handles.specs.Sorting.{Ascending, place, kept_if}
 use Rattle.guid_handles.specs.Indexes.{Group, AreHolders, handles_of, is_group_of, is_before, AscendByGuid, IsPlaceOf, with_member, without_member, grouped_at}
-use Rattle.guid_handles.proofs.SortedLists.{all_mapped, found_none, find_split, find_map, find_filter, find_insert_other, find_insert_new, ascending_insert, ascending_filter, map_insert, map_same, place_map, numbers_split, filter_map_filter, any_found, any_map, ascending_remove, map_remove, filter_at, filter_not_at}
+use Rattle.guid_handles.proofs.SortedLists.{all_map, all_mapped, found_none, find_split, find_map, find_filter, find_insert_other, find_insert_new, ascending_insert, ascending_filter, map_insert, map_same, place_map, numbers_split, filter_map_filter, any_found, any_map, ascending_remove, map_remove, filter_at, filter_not_at}
 use Rattle.guid_handles.proofs.GuidOrder.{same_guid-true, same_guid-refl, guid_splits, is_less, less_from, greater_of, not_before_itself, and_false, and_true}
 use Rattle.guid_handles.proofs.Indexed.{restamped_handle, HasOneMore, taken, turned}
 
@@ -82,6 +82,51 @@ holders_restamped members hs n guid value stamp a = record {
   ascending = a.ascending;
   holders = a.holders ∙ sym (map_same (restamped n guid value stamp) (λ i. i.handle) (restamped_handle n guid value stamp) members);
 }
+
+-- members on higher handles stay
+higher_stay : (n : ℕ) (guid : List ℕ) (value stamp : ℕ) (members : List Interface) → AllByRecursion (λ h. n < h) (handles_of members) → map (restamped n guid value stamp) members ≡ members
+higher_stay n guid value stamp [] h = refl
+higher_stay n guid value stamp (m ∷ ms) h =
+    let f : (m.handle == n) ≡ false = ne_eqb m.handle n (λ e. omega (arith, e, h.0)) in
+    rw f (ap (λ r. m ∷ r) (higher_stay n guid value stamp ms h.1))
+
+lower_stays : (n : ℕ) (guid : List ℕ) (value stamp : ℕ) (m : Interface) → nat_lt m.handle n ≡ true → restamped n guid value stamp m ≡ m
+lower_stays n guid value stamp m l = let f : (m.handle == n) ≡ false = ne_eqb m.handle n (λ e. omega (arith, e, ltb-true m.handle n l)) in rw f refl
+
+-- the member at the place of a handle changes
+changed_at : (n : ℕ) (guid : List ℕ) (value stamp : ℕ) (members : List Interface) (x : Interface) → Ascending (λ a b. a < b) (handles_of members) → place (λ i. nat_lt i.handle n) members < length members
+    → x ≡ get_or members (place (λ i. nat_lt i.handle n) members) x
+    → set members (place (λ i. nat_lt i.handle n) members) (restamped n guid value stamp x) ≡ map (restamped n guid value stamp) members
+changed_at n guid value stamp [] x a l e = absurd (omega (arith, l))
+changed_at n guid value stamp (m ∷ ms) x a l e = elim (cases_Bool (nat_lt m.handle n)) [
+  | inl t ↦
+      let l1 = rw t at l in
+      let e1 = rw t at e in
+      rw t (rw (lower_stays n guid value stamp m t) (ap (λ r. m ∷ r) (changed_at n guid value stamp ms x a.1 (omega (arith, l1)) e1)))
+  | inr f ↦
+      let e1 : x ≡ m = rw f at e in
+      rw f (rw e1 (ap (λ r. restamped n guid value stamp m ∷ r) (sym (higher_stay n guid value stamp ms
+      (all_map (λ h. m.handle < h) (λ h. n < h) (λ h k. omega (arith, k, ltb-false m.handle n f)) (handles_of ms) a.0)))))
+]
+
+pub replaced_at : (members : List Interface) (hs : List ℕ) (n : ℕ) (guid : List ℕ) (value stamp at : ℕ) (x : Interface) → AreHolders members hs → at ≡ place (λ m. nat_lt m n) hs → at < length members → x ≡ get_or members at x
+    → set members at (restamped n guid value stamp x) ≡ map (restamped n guid value stamp) members
+replaced_at members hs n guid value stamp at x a e l g =
+    let p : at ≡ place (λ i. nat_lt i.handle n) members = place_members members hs n at a e in
+    rw p (changed_at n guid value stamp members x (subst (Ascending (λ a b. a < b)) a.holders a.ascending) (rw p at l) (rw p at g))
+
+-- where all handles are lower none changes
+all_stay : (n : ℕ) (guid : List ℕ) (value stamp : ℕ) (members : List Interface) → length members ≤ place (λ i. nat_lt i.handle n) members → map (restamped n guid value stamp) members ≡ members
+all_stay n guid value stamp [] l = refl
+all_stay n guid value stamp (m ∷ ms) l = elim (cases_Bool (nat_lt m.handle n)) [
+  | inl t ↦ rw (lower_stays n guid value stamp m t) (ap (λ r. m ∷ r) (all_stay n guid value stamp ms (let k = rw t at l in omega (arith, k))))
+  | inr f ↦ let k = rw f at l in absurd (omega (arith, k))
+]
+
+pub replaced_none : (members : List Interface) (hs : List ℕ) (n : ℕ) (guid : List ℕ) (value stamp at : ℕ) → AreHolders members hs → at ≡ place (λ m. nat_lt m n) hs → length members ≤ at → map (restamped n guid value stamp) members ≡ members
+replaced_none members hs n guid value stamp at a e l =
+    let p : at ≡ place (λ i. nat_lt i.handle n) members = place_members members hs n at a e in
+    all_stay n guid value stamp members (rw p at l)
 
 -- ---- the group of a GUID
 

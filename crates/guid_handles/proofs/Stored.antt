@@ -1,5 +1,5 @@
 -- What is asked of a handle table, by how it is kept; and what its changes keep.
-use Rattle.std.proofs.Common.{◌≡◌, ℕ, ◌+◌, ◌<◌, ◌≤◌, ◌==◌, nat_eq, not, Bool, true, false, List, [], ◌∷◌, ◌++◌, map, length, Option, Some, None, is_some, inl, inr, refl, sym, ap, ◌∙◌, arith, length-append}
+use Rattle.std.proofs.Common.{◌≡◌, ℕ, ◌+◌, ◌<◌, ◌≤◌, ◌==◌, nat_eq, not, Bool, true, false, List, [], ◌∷◌, ◌++◌, map, length, Option, Some, None, is_some, inl, inr, refl, sym, ap, ◌∙◌, arith, length-append, subst}
 use Rattle.std.specs.List.{filter, find, list_any, AllByRecursion}
 use Rattle.std.proofs.lemmas.Bool.{cases_Bool, ne_eqb, eq-eqb}
 use Rattle.guid_handles.specs.declared.records.Interface.{Interface}
@@ -65,6 +65,21 @@ store_without_handle t ns groups gs blocks bs n s filed =
       below = all_filter (λ i. i.stamp ≤ t.last_stamp) (λ i. not (is_on n i)) t.interfaces s.below;
       filed = filed;
     }
+
+-- where no interface is on a handle none goes with it
+pub none_goes : (n : ℕ) (is : List Interface) → list_any (is_on n) is ≡ false → filter (λ i. not (is_on n i)) is ≡ is
+none_goes n [] e = refl
+none_goes n (i ∷ is) e = elim (cases_Bool (is_on n i)) [
+  | inl t ↦ let w = rw t at e in cc
+  | inr f ↦ rw f (ap (λ r. i ∷ r) (none_goes n is (rw f at e)))
+]
+
+pub store_without_bare : (t : HandleTable) (ns : List ℕ) (groups : List Group) (blocks : List Block) (n : ℕ) → IsStore t ns groups blocks → list_any (is_on n) t.interfaces ≡ false
+    → IsStore (record t { handles = filter (λ h. not (has_number n h)) t.handles }) (filter (λ m. not (m == n)) ns) groups blocks
+store_without_bare t ns groups blocks n s bare =
+    let e : filter (λ i. not (is_on n i)) t.interfaces ≡ t.interfaces = none_goes n t.interfaces bare in
+    subst (λ (is : List Interface). IsStore (record t { handles = filter (λ h. not (has_number n h)) t.handles; interfaces = is }) (filter (λ m. not (m == n)) ns) groups blocks) e
+    (store_without_handle t ns groups groups blocks blocks n s (subst (λ (is : List Interface). AreFiled is groups blocks) (sym e) s.filed))
 
 -- ---- changed
 

@@ -6,7 +6,7 @@ ghost use Rattle.guid_handles.specs.HandleChanges.{restamped};
 ghost use Rattle.guid_handles.specs.Sorting.{Ascending};
 ghost use Rattle.guid_handles.specs.Indexes.{IsNextOf, handles_of, with_member, without_member};
 
-use crate::interfaces::restamp;
+use crate::interfaces::with_stamp;
 use crate::records::Interface;
 use crate::room::insert_with_room;
 use crate::searches::{count_less, find_after, member_if};
@@ -117,6 +117,9 @@ impl<A: Allocator + Copy> GuidGroup<A> {
     pub(crate) fn replace(&mut self, handle: u64, value: u64, stamp: u64)
         ensures { self.new ≡ record self.old { members = map (restamped handle self.old.guid value stamp) self.old.members } }
     {
-        restamp(&mut self.members, handle, self.guid, value, stamp);
+        let at = count_less(self.holders.as_slice(), handle);
+        if at < self.members.len() {
+            self.members[at] = with_stamp(self.members[at], handle, self.guid, value, stamp);
+        }
     }
 }

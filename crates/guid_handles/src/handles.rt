@@ -1,14 +1,14 @@
 //! The handle table.
 ghost use Rattle.std.specs.Prelude.{◌≡◌, ◌+◌, ◌<◌, ◌≤◌, ◌^◌, ◌==◌, cond, not, is_some, IsSome, IfNone, OnOk, Bool, true, false, nat_lt, [], ◌∷◌, map, length, None, Some, MatchOption, IfOk, OnErr, IsTrue};
 ghost use Rattle.std.specs.List.{find, filter, list_any};
-ghost use Rattle.guid_handles.specs.HandleTables.{numbers, same_guid, has_number, is_live, is_on, is_at, maker_of, interface_at, value_at, carries, holders_of, interfaces_on, guids_on, written_over, earliest, is_after, next_after};
+ghost use Rattle.guid_handles.specs.HandleTables.{numbers, same_guid, is_live, is_on, is_at, maker_of, interface_at, value_at, carries, holders_of, interfaces_on, guids_on, written_over, earliest, is_after, next_after};
 ghost use Rattle.guid_handles.specs.HandleChanges.{IsHandleTable, max_handles, max_installed, has_guid_twice, is_dead, is_taken, past_limit, refusal, with_interfaces, with_handle, install_refusal, install_many_refusal, Installs, without_handle, without_interface, with_value};
 ghost use Rattle.guid_handles.specs.Indexes.{AreAbsent};
 
 use crate::interfaces::Interfaces;
 use crate::records::{Interface, LiveHandle};
-use crate::room::{drop_number, push_with_room};
-use crate::searches::{find_handle, has_any_on, write_guids};
+use crate::room::push_with_room;
+use crate::searches::{drop_live, drop_number, find_handle, has_any_on, write_guids};
 use page_ranges::Status;
 use std::alloc::{AllocError, Allocator, Global};
 use std::marker::Model;
@@ -376,8 +376,17 @@ impl<A: Allocator + Copy> Handles<A> {
     {
         self.take_out(handle, guid);
         if !self.has_any(handle) {
-            self.remove_handle(handle);
+            self.remove_bare(handle);
         }
+    }
+
+    /// Takes out a handle without interfaces.
+    fn remove_bare(&mut self, handle: u64)
+        requires { list_any (is_on handle) self.old.interfaces ≡ false }
+        ensures { self.new ≡ without_handle handle self.old }
+    {
+        drop_live(&mut self.live, handle);
+        drop_number(&mut self.numbers, handle);
     }
 
     /// Takes out a handle with its interfaces.
@@ -419,15 +428,4 @@ fn has_guid(pairs: &[(Uuid, u64)], guid: Uuid) -> bool
     ensures { result ≡ list_any (λ p. same_guid guid p.0) pairs.now }
 {
     pairs.iter().any(|pair| guid == pair.0)
-}
-
-/// Takes out the handle of a number.
-fn drop_live<A: Allocator>(live: &mut Vec<LiveHandle, A>, number: u64)
-    ensures { live.new.items ≡ filter (λ h. not (has_number number h)) live.old.items }
-{
-    live.retain(
-        |h: &LiveHandle| -> bool
-            ensures { result ≡ not (has_number number h.now) }
-        { h.number != number },
-    );
 }

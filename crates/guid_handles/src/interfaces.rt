@@ -52,7 +52,7 @@ pub(crate) fn drop_all_on<A: Allocator>(interfaces: &mut Vec<Interface, A>, hand
 }
 
 /// An interface, with a value and a stamp if it is the one of a GUID on a handle.
-fn with_stamp(i: Interface, handle: u64, guid: Uuid, value: u64, stamp: u64) -> Interface
+pub(crate) fn with_stamp(i: Interface, handle: u64, guid: Uuid, value: u64, stamp: u64) -> Interface
     ensures { result ≡ restamped handle guid value stamp i }
 {
     if i.handle == handle && i.guid == guid {

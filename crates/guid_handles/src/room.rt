@@ -1,6 +1,6 @@
-//! Vectors that have room, and numbers that are taken out of one.
-ghost use Rattle.std.specs.Prelude.{◌≡◌, ◌+◌, ◌<◌, ◌≤◌, ◌==◌, not, [], ◌∷◌, ◌++◌, vec_len, vec_capacity};
-ghost use Rattle.std.specs.List.{filter, insert};
+//! Vectors that have room.
+ghost use Rattle.std.specs.Prelude.{◌≡◌, ◌+◌, ◌<◌, ◌≤◌, [], ◌∷◌, ◌++◌, vec_len, vec_capacity};
+ghost use Rattle.std.specs.List.{insert};
 
 use std::alloc::Allocator;
 
@@ -27,15 +27,4 @@ pub(crate) fn insert_with_room<T: Drop, A: Allocator>(items: &mut Vec<T, A>, at:
     if items.insert(at, item).is_err() {
         unreachable!();
     }
-}
-
-/// Takes out a number.
-pub(crate) fn drop_number<A: Allocator>(numbers: &mut Vec<u64, A>, number: u64)
-    ensures { numbers.new.items ≡ filter (λ n. not (n == number)) numbers.old.items }
-{
-    numbers.retain(
-        |n: &u64| -> bool
-            ensures { result ≡ not (n.now == number) }
-        { *n != number },
-    );
 }

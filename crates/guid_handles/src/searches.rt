@@ -1,10 +1,11 @@
 //! Finding handles and interfaces.
-ghost use Rattle.std.specs.Prelude.{◌≡◌, ◌<◌, ◌≤◌, ◌&&◌, length, nat_lt, map, slice_get, slice_set};
+ghost use Rattle.std.specs.Prelude.{◌≡◌, ◌<◌, ◌≤◌, ◌==◌, ◌&&◌, not, is_some, length, nat_lt, map, slice_get, slice_set};
 ghost use Rattle.std.specs.List.{find, filter, list_any};
 ghost use Rattle.guid_handles.specs.HandleTables.{has_number, is_of, is_on, written_over, earlier_of, earliest};
 ghost use Rattle.guid_handles.specs.Sorting.{Ascending, place, kept_if};
 
 use crate::records::{Interface, LiveHandle};
+use std::alloc::Allocator;
 use uuid::Uuid;
 
 /// How many of some ascending numbers are less than one.
@@ -52,6 +53,38 @@ pub(crate) fn find_handle(live: &[LiveHandle], number: u64) -> Option<LiveHandle
     ensures { result ≡ find (has_number number) live.now }
 {
     handle_if(live, count_lower(live, number), number)
+}
+
+/// Whether a number is at a place.
+fn is_number_at(numbers: &[u64], at: usize, number: u64) -> bool
+    ensures { result ≡ is_some (kept_if (λ n. n == number) (slice_get numbers.now at)) }
+{
+    match numbers.get(at) {
+        Some(n) => *n == number,
+        None => false,
+    }
+}
+
+/// Takes out a number.
+pub(crate) fn drop_number<A: Allocator>(numbers: &mut Vec<u64, A>, number: u64)
+    requires { Ascending (λ a b. a < b) numbers.old.items }
+    ensures { numbers.new.items ≡ filter (λ n. not (n == number)) numbers.old.items }
+{
+    let at = count_less(numbers.as_slice(), number);
+    if is_number_at(numbers.as_slice(), at, number) {
+        numbers.remove(at);
+    }
+}
+
+/// Takes out the handle of a number.
+pub(crate) fn drop_live<A: Allocator>(live: &mut Vec<LiveHandle, A>, number: u64)
+    requires { Ascending (λ a b. a < b) (map (λ h. h.number) live.old.items) }
+    ensures { live.new.items ≡ filter (λ h. not (has_number number h)) live.old.items }
+{
+    let at = count_lower(live.as_slice(), number);
+    if handle_if(live.as_slice(), at, number).is_some() {
+        live.remove(at);
+    }
 }
 
 /// Whether a handle carries an interface.
