@@ -1,5 +1,5 @@
 -- Registrations for GUIDs, and which handle is next for each.
-use Rattle.std.specs.Prelude.{ℕ, ◌+◌, ◌==◌, Bool, cond, List, [], ◌∷◌, ◌++◌, map, length, Option, Some, None}
+use Rattle.std.specs.Prelude.{◌≡◌, ℕ, suc, ◌+◌, ◌==◌, Bool, cond, List, [], ◌∷◌, ◌++◌, map, length, Option, Some, None}
 use Rattle.std.specs.List.{filter, find}
 use Rattle.std.specs.Option.{option_map, option_and_then}
 use Rattle.guid_handles.specs.HandleTables.{HandleTable, same_guid, next_after}
@@ -13,6 +13,11 @@ is_for guid r = same_guid r.guid guid
 
 abbrev pub registration_of : List Registration → ℕ → Option Registration
 registration_of rs key = find (has_key key) rs
+
+-- registrations whose keys count up from a number
+abbrev pub AreKeyedFrom : ℕ → List Registration → Type 0
+AreKeyedFrom n [] = Unit {0}
+AreKeyedFrom n (r ∷ rs) = (r.key ≡ n) × AreKeyedFrom (suc n) rs
 
 -- the events of the registrations for a GUID, by ascending key
 abbrev pub events_for : List Registration → List ℕ → List ℕ

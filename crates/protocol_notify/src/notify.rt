@@ -1,9 +1,9 @@
 //! The registrations.
-ghost use Rattle.std.specs.Prelude.{◌≡◌, ◌+◌, ◌<◌, ◌^◌, [], map, length, IfOk, IsOk, IsSome, IfErr};
+ghost use Rattle.std.specs.Prelude.{◌≡◌, ◌+◌, ◌<◌, ◌^◌, [], map, length, slice_get, IfOk, IsOk, IsSome, IfErr};
 ghost use Rattle.std.specs.Option.{option_map};
 ghost use Rattle.protocol_notify.specs.Registrations as spec;
 ghost use Rattle.page_ranges.specs.declared.statuses.Status.TheVariants.{OutOfResources};
-ghost use Rattle.protocol_notify.specs.Registrations.{registration_of, events_for, with_registration, next_of, next_handle, taken};
+ghost use Rattle.protocol_notify.specs.Registrations.{AreKeyedFrom, registration_of, events_for, with_registration, next_of, next_handle, taken};
 
 use guid_handles::Handles;
 use page_ranges::Status;
@@ -22,7 +22,7 @@ pub struct Registration {
     pub mark: u64,
 }
 
-/// The registrations, by ascending key.
+/// The registrations, with the keys from 1 on.
 #[derive(Drop)]
 pub struct Notify<A: Allocator = Global> {
     registrations: Vec<Registration, A>,
@@ -31,10 +31,13 @@ pub struct Notify<A: Allocator = Global> {
 impl<A: Allocator> Model for Notify<A> {
     ghost use Rattle.std.specs.Prelude.{List};
     ghost use Rattle.protocol_notify.specs.declared.notify.Registration.{Registration};
+    ghost use Rattle.protocol_notify.specs.Registrations.{AreKeyedFrom};
 
     ghost Value = { List Registration };
 
     ghost view = { λ n. n.registrations.items };
+
+    ghost invariant = { λ n. AreKeyedFrom 1 n.registrations.items };
 }
 
 impl<A: Allocator + Copy> Notify<A> {
@@ -114,14 +117,23 @@ impl<A: Allocator + Copy> Notify<A> {
 
 /// The registration of a key, among some.
 fn find_registration(registrations: &[Registration], key: u64) -> Option<Registration>
+    requires { AreKeyedFrom 1 registrations.now }
     ensures { result ≡ registration_of registrations.now key }
 {
-    for r in registrations {
-        if r.key == key {
-            return Some(*r);
-        }
+    if key == 0 {
+        return None;
     }
-    None
+    registration_at(registrations, key as usize - 1)
+}
+
+/// The registration at a place.
+fn registration_at(registrations: &[Registration], at: usize) -> Option<Registration>
+    ensures { result ≡ slice_get registrations.now at }
+{
+    match registrations.get(at) {
+        Some(r) => Some(*r),
+        None => None,
+    }
 }
 
 /// Whether a registration is for a GUID.
@@ -159,22 +171,18 @@ fn marked<A: Allocator + Copy>(r: Registration, handles: &Handles<A>) -> Registr
     }
 }
 
-/// A registration, marked if it is that of a key.
-fn marked_if<A: Allocator + Copy>(r: Registration, handles: &Handles<A>, key: u64) -> Registration
-    ensures { result ≡ taken handles.now key r }
-{
-    if r.key == key { marked(r, handles) } else { r }
-}
-
 /// Marks the registration of a key, among some.
 fn take_among<A: Allocator + Copy>(
     registrations: &mut Vec<Registration, A>,
     handles: &Handles<A>,
     key: u64,
 )
+    requires { AreKeyedFrom 1 registrations.old.items }
     ensures { registrations.new.items ≡ map (taken handles.now key) registrations.old.items }
 {
-    for r in registrations.iter_mut() {
-        *r = marked_if(*r, handles, key);
+    if key == 0 || key as usize > registrations.len() {
+        return;
     }
+    let at = key as usize - 1;
+    registrations[at] = marked(registrations[at], handles);
 }

@@ -1,12 +1,16 @@
-use Rattle.std.proofs.Common.{add-one}
-use Rattle.guid_handles.proofs.SortedLists.{changed_so_far}
-use Rattle.protocol_notify.specs.Registrations.{taken}
+use Rattle.std.proofs.Common.{◌-◌, arith, inl, inr}
+use Rattle.protocol_notify.proofs.Keyed.{taken_at, taken_none}
 use Rattle.protocol_notify.proofs.notify.take_among.Goals as goal
+use Rattle.protocol_notify.proofs.notify.take_among.Goals.{then-key-eq0-via-then-key-eq0, then-key-eq0-via-else-key-eq0+then-key-len}
 
-pub loop-r-preserved : goal.loop-r-preserved
-loop-r-preserved g c =
-    let f = taken c.args.handles.now c.args.key in
-    let e = rw c.loop-r.invariant at c.r-item.is in
-    let n = rw c.deref_mut-r-items.ensures.value at c.loop-r-test.true in
-    let s = changed_so_far f c.args.registrations.now.items c.loop-r.r-index c.r-item.result n e in
-    rw (add-one, c.marked_if.ensures, ← c.r-item.is, c.loop-r.invariant) s
+pub returns-then-key-eq0 : goal.returns-then-key-eq0
+returns-then-key-eq0 g c = elim c.then-key-eq0.branch [
+  | then-key-eq0-via-then-key-eq0 w ↦ taken_none c.args.handles.now _ c.args.key c.requires (inl w.if-key-eq0.true)
+  | then-key-eq0-via-else-key-eq0+then-key-len w ↦ taken_none c.args.handles.now _ c.args.key c.requires (inr (omega (arith, w.if-key-len.true, w.len.ensures)))
+]
+
+pub returns : goal.returns
+returns g c =
+    rw c.marked.ensures
+    (taken_at c.args.handles.now c.args.registrations.now.items c.args.key (c.args.key - 1) c.index.result.now c.requires (omega (arith, c.if-key-eq0.false))
+    (omega (arith, c.if-key-eq0.false, c.if-key-len.false, c.len.ensures)) c.index.ensures)
