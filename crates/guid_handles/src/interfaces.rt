@@ -4,6 +4,8 @@ ghost use Rattle.std.specs.List.{filter, AllByRecursion};
 ghost use Rattle.guid_handles.specs.declared.records.Interface.{Interface as Listed};
 ghost use Rattle.guid_handles.specs.HandleTables.{is_at, is_on};
 ghost use Rattle.guid_handles.specs.HandleChanges.{restamped, stamped, has_guid_twice};
+ghost use Rattle.guid_handles.specs.Sorting.{Ascending, place};
+ghost use Rattle.guid_handles.specs.Stores.{AreApart};
 ghost use Rattle.guid_handles.specs.Indexes.{IsIndex, AreAbsent, grouped_at};
 ghost use Rattle.guid_handles.specs.Nearby.{AreFiled};
 
@@ -37,6 +39,30 @@ pub(crate) fn drop_interface<A: Allocator>(
             ensures { result ≡ not (is_at handle guid i.now) }
         { !(i.handle == handle && i.guid == guid) },
     );
+}
+
+/// How many interfaces come before the one of a GUID on a handle; how many there are, if it is not
+/// among them.
+fn count_before(interfaces: &[Interface], handle: u64, guid: Uuid) -> usize
+    ensures { result ≡ place (λ i. not (is_at handle guid i)) interfaces.now }
+{
+    for (at, i) in interfaces.iter().enumerate() {
+        if i.handle == handle && i.guid == guid {
+            return at;
+        }
+    }
+    interfaces.len()
+}
+
+/// Takes the only interface of a GUID on a handle out of the list of all.
+fn drop_listed<A: Allocator>(listed: &mut Vec<Interface, A>, handle: u64, guid: Uuid)
+    requires { Ascending AreApart listed.old.items }
+    ensures { listed.new.items ≡ filter (λ i. not (is_at handle guid i)) listed.old.items }
+{
+    let at = count_before(listed.as_slice(), handle, guid);
+    if at < listed.len() {
+        listed.remove(at);
+    }
 }
 
 /// Takes out all interfaces on a handle.
@@ -74,6 +100,23 @@ pub(crate) fn restamp<A: Allocator>(
 {
     for i in interfaces.iter_mut() {
         *i = with_stamp(*i, handle, guid, value, stamp);
+    }
+}
+
+/// Gives the only interface of a GUID on a handle a value and a stamp, in the list of all.
+fn restamp_listed<A: Allocator>(
+    listed: &mut Vec<Interface, A>,
+    handle: u64,
+    guid: Uuid,
+    value: u64,
+    stamp: u64,
+)
+    requires { Ascending AreApart listed.old.items }
+    ensures { listed.new.items ≡ map (restamped handle guid value stamp) listed.old.items }
+{
+    let at = count_before(listed.as_slice(), handle, guid);
+    if at < listed.len() {
+        listed[at] = with_stamp(listed[at], handle, guid, value, stamp);
     }
 }
 
@@ -219,11 +262,12 @@ impl<A: Allocator + Copy> Interfaces<A> {
 
     /// Takes out the interface of a GUID on a handle.
     pub(crate) fn remove(&mut self, handle: u64, guid: Uuid)
-        requires { AreFiled self.old.listed.items self.old.groups self.old.blocks }
+        requires filed { AreFiled self.old.listed.items self.old.groups self.old.blocks }
+        requires apart { Ascending AreApart self.old.listed.items }
         ensures filed { AreFiled self.new.listed.items self.new.groups self.new.blocks }
         ensures listed { self.new.listed.items ≡ filter (λ i. not (is_at handle guid i)) self.old.listed.items }
     {
-        drop_interface(&mut self.listed, handle, guid);
+        drop_listed(&mut self.listed, handle, guid);
         self.groups.remove(handle, guid);
         self.blocks.remove(handle, guid);
     }
@@ -241,11 +285,12 @@ impl<A: Allocator + Copy> Interfaces<A> {
 
     /// Gives the interface of a GUID on a handle a value and a stamp.
     pub(crate) fn replace(&mut self, handle: u64, guid: Uuid, value: u64, stamp: u64)
-        requires { AreFiled self.old.listed.items self.old.groups self.old.blocks }
+        requires filed { AreFiled self.old.listed.items self.old.groups self.old.blocks }
+        requires apart { Ascending AreApart self.old.listed.items }
         ensures filed { AreFiled self.new.listed.items self.new.groups self.new.blocks }
         ensures listed { self.new.listed.items ≡ map (restamped handle guid value stamp) self.old.listed.items }
     {
-        restamp(&mut self.listed, handle, guid, value, stamp);
+        restamp_listed(&mut self.listed, handle, guid, value, stamp);
         self.groups.replace(handle, guid, value, stamp);
         self.blocks.replace(handle, guid, value, stamp);
     }
