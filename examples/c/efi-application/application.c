@@ -10,6 +10,7 @@
 #define REQUESTS 48
 #define RUNS 400
 #define LARGEST_MAP 32768
+#define MEMORY (16u << 20)
 
 static EFI_SYSTEM_TABLE *table;
 static EFI_BOOT_SERVICES *services;
@@ -54,25 +55,50 @@ void *memset(void *to, int byte, size_t size)
     return to;
 }
 
-/* Blocks of the firmware's pool, which begin at a multiple of 8: the 16 bytes before a block have
- * where the firmware's begins. */
+/* Blocks of powers of two, from pages that the application takes before all: so the firmware's map
+ * stays as it is while the core works. The 16 bytes before a block have its power; free blocks of
+ * each power are a list. */
+static uint8_t *unused, *unused_end;
+static void *free_blocks[64];
+
+static void take_memory(void)
+{
+    EFI_PHYSICAL_ADDRESS address = 0;
+
+    if (services->AllocatePages(AllocateAnyPages, EfiLoaderData, MEMORY / 4096, &address) !=
+        EFI_SUCCESS)
+        return;
+    unused = (uint8_t *)(uintptr_t)address;
+    unused_end = unused + MEMORY;
+}
+
 struct block rattle_alloc(size_t size, size_t align)
 {
     struct block block = {false, map};
-    void *start = NULL;
+    uint64_t power = 5;
 
     (void)align;
-    if (services->AllocatePool(EfiLoaderData, size + 32, &start) != EFI_SUCCESS)
-        return block;
-    block.given = true;
-    block.start = (void *)(((uintptr_t)start + 31) & ~(uintptr_t)15);
-    ((void **)block.start)[-1] = start;
+    while (power < 40 && ((size_t)1 << power) < size + 16)
+        power++;
+    if (free_blocks[power] != NULL) {
+        block.start = free_blocks[power];
+        free_blocks[power] = *(void **)block.start;
+        block.given = true;
+    } else if (((size_t)1 << power) <= (size_t)(unused_end - unused)) {
+        block.start = unused + 16;
+        unused += (size_t)1 << power;
+        block.given = true;
+        ((uint64_t *)block.start)[-2] = power;
+    }
     return block;
 }
 
 void rattle_dealloc(void *start)
 {
-    services->FreePool(((void **)start)[-1]);
+    uint64_t power = ((uint64_t *)start)[-2];
+
+    *(void **)start = free_blocks[power];
+    free_blocks[power] = start;
 }
 
 struct block rattle_realloc(void *start, size_t kept, size_t size, size_t align)
@@ -214,6 +240,7 @@ EFI_STATUS efi_main(EFI_HANDLE image, EFI_SYSTEM_TABLE *system)
     table = system;
     services = system->BootServices;
     services->SetWatchdogTimer(0, 0, 0, NULL);
+    take_memory();
     expect(RafkudinVersion() == RAFKUDIN_VERSION, "the header is that of the library");
     compare_places();
     run_interrupted();
