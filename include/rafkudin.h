@@ -3,19 +3,20 @@
  * A core is the boot services of one machine. docs/RULES.md states what each service does, point by
  * point, and docs/FORMATS.md the bytes of maps, lists, device paths and certificates; the end of
  * RULES.md says what of the standard is left out. No hardware is touched: addresses are those of
- * the machine that RafkudinMake is given, never pointers of this program.
+ * the machine that RafkudinMake describes, never pointers of this program.
  *
  * NAMES. There are 24 services. 22 of them have their names in the UEFI Specification 2.10 with
  * Rafkudin in front, and its parameters in its order, with the core in front; where one is left out
  * or added, the comment at the function says so. RafkudinPoolRead and RafkudinPoolWrite are in no
- * standard: by them a caller reaches the bytes of the pool. All other functions are no services.
- * rafkudin_efi_names.h has the standard's names without a prefix, as macros. Every symbol of the
- * library begins with Rafkudin.
+ * standard: by them a caller reaches the bytes of the pool. All other functions are no services. Of
+ * sections 7.2 and 7.3 only UninstallMultipleProtocolInterfaces is missing. rafkudin_efi_names.h
+ * has the standard's names without a prefix, as macros. Every symbol of the library begins with
+ * Rafkudin, but for the three of its heap.
  *
  * NUMBERS. A page has 4,096 bytes. Addresses and sizes are in bytes, numbers of pages in pages. A
- * handle is a number, from 1 up; 0 is the null handle. An event is any number of the caller's. So
- * handles, events, interfaces and the addresses of the pool go through as 64-bit numbers, where the
- * standard has pointers.
+ * handle is a number, from 1 up; 0 is the null handle. An event is any number of the caller's.
+ * Handles, events, interfaces and the addresses of the pool are 64-bit numbers, where the standard
+ * has pointers.
  *
  * NULL. A null pointer in the place of the core, of a GUID or of a result is INVALID_PARAMETER, and
  * uses up no call, unless it is said that it may be null. Beside a count or a size of 0 the pointer
@@ -23,13 +24,13 @@
  * functions and then calls the library; with RAFKUDIN_NO_NULL_CHECKS it does not, and then no
  * pointer may be null.
  *
- * STATUSES. Services answer an EFI_STATUS. SUCCESS is 0. Any other is a refusal, which leaves the
- * core as it was, but for the calls left and what RafkudinEvents and RafkudinCertificate answer of
- * the call before. It leaves what the call's pointers lead to as well, but for what is said of
- * BUFFER_TOO_SMALL. Where several refusals apply, the one that is named first is answered. These
- * hold for every service, and are not repeated below:
+ * STATUSES. Services return an EFI_STATUS. SUCCESS is 0. Any other is a refusal, which leaves the
+ * core as it was, but for the number of calls left, and for RafkudinEvents and RafkudinCertificate,
+ * which no longer report the call before. It leaves what the call's pointers lead to as well, but
+ * for what is said of BUFFER_TOO_SMALL. Where several refusals apply, the call returns the one that
+ * is named first. These hold for every service, and are not repeated below:
  * - First of all, ABORTED: the core has served its 2^31 calls. Refused ones count too.
- * - Then UNSUPPORTED: the boot services were exited. All services answer it from then on.
+ * - Then UNSUPPORTED: boot services have ended. Every service returns it from then on.
  * - Last of all, OUT_OF_RESOURCES: the heap refused the core memory for its own tables.
  *   GetMemoryMap, ExitBootServices, PoolRead, PoolWrite, CloseProtocol, HandleProtocol,
  *   LocateDevicePath and LocateProtocol never ask for any.
@@ -39,12 +40,13 @@
  * NOT_FOUND of ConnectController; DEVICE_ERROR of DisconnectController.
  *
  * WHAT THE CALLER OWES. Nothing checks it, and the proofs hold only where it holds:
- * - `core` is a pointer that RafkudinMake gave and that was not yet handed to RafkudinFree.
+ * - `core` is a pointer that RafkudinMake set, and RafkudinFree has not been called with it.
  * - Each pointer is null or aligned for its type.
- * - A buffer has the room, and an array the entries, that are said. What is read was set before,
- *   all of it: every field of a structure, entries beyond its counts too. A bool is 0 or 1.
- * - What one pointer of a call leads to is no part of the core or of what another leads to; two
- *   that are only read may meet. So each result has a variable of its own.
+ * - A buffer has the room, and an array the entries, that the parameter beside it states. What is
+ *   read is initialized, all of it: every field of a structure, entries beyond its counts too. A
+ *   bool is 0 or 1.
+ * - What the pointers of a call lead to must not overlap, nor be a part of the core; two that are
+ *   only read may overlap. So each result has a variable of its own.
  * - A core is in one call at a time, on the thread that made it. Two cores may be in calls at once,
  *   also in two threads.
  * - No call is made from a signal handler, or in the forked child of a process with threads.
@@ -98,7 +100,7 @@ typedef RAFKUDIN_UINT64 rafkudin_uint64;
 extern "C" {
 #endif
 
-/* The statuses that are answered. */
+/* The statuses that services return. */
 #define RAFKUDIN_SUCCESS 0ULL
 #define RAFKUDIN_INVALID_PARAMETER 0x8000000000000002ULL
 #define RAFKUDIN_UNSUPPORTED 0x8000000000000003ULL
@@ -156,8 +158,8 @@ extern "C" {
 #define RAFKUDIN_DESCRIPTOR_SIZE 48U
 #define RAFKUDIN_DESCRIPTOR_VERSION 1U
 
-/* The most handles that are live at a time, the most driver handles that ConnectController is
- * given, and the most bytes of a memory pool block. */
+/* The most handles that are live at a time, the most driver handles that ConnectController may
+ * name, and the most bytes of a pool block. */
 #define RAFKUDIN_MOST_HANDLES 4096U
 #define RAFKUDIN_MOST_DRIVERS_TO_TRY 16U
 #define RAFKUDIN_LARGEST_BLOCK 0x100000000ULL
@@ -231,12 +233,11 @@ RAFKUDIN_API rafkudin_uint64 RafkudinMake(const uint8_t *records, size_t size,
                                           const struct rafkudin_driver *drivers,
                                           size_t driver_count, struct rafkudin **core);
 
-/* Gives back all memory of a core, also after the exit of the boot services. With null it does
- * nothing. */
+/* Frees all memory of a core, also once boot services have ended. With null it does nothing. */
 RAFKUDIN_API void RafkudinFree(struct rafkudin *core);
 
 /* Whether calls keep the certificates of their placements from now on. At first they don't: it
- * costs a copy of the memory map for each call that may place something. */
+ * costs a copy of the memory map for each call that may place pages. */
 RAFKUDIN_API void RafkudinCertify(struct rafkudin *core, bool certify);
 
 /* The certificate of the last service that was called, as the text of a certificate block
@@ -258,7 +259,7 @@ RAFKUDIN_API rafkudin_uint64 RafkudinCertificate(const struct rafkudin *core, ui
 RAFKUDIN_API size_t RafkudinEvents(const struct rafkudin *core, rafkudin_uint64 *events,
                                    size_t room);
 
-/* How many entries the memory map has. This and the next work after the exit of the boot services
+/* How many entries the memory map has. This and the next work once boot services have ended
  * too. */
 RAFKUDIN_API size_t RafkudinDescriptors(const struct rafkudin *core);
 
@@ -277,7 +278,7 @@ RAFKUDIN_API uint32_t RafkudinVersion(void);
 /* Finds the best place for `Pages` pages of the type `MemoryType` on a memory map, of which nothing
  * is kept: `records`, `size`, `descriptor_size` and `granule` as of RafkudinMake. `limit` is the
  * last byte that may belong to them, UINT64_MAX where they may lie anywhere. *address is what
- * AllocatePages would answer on a core that is made of the map.
+ * AllocatePages would return on a core that is made of the map.
  *
  * INVALID_PARAMETER: `address` is null; the map, as of RafkudinMake; a memory type that no request
  * may name; 0 pages. OUT_OF_RESOURCES: no permitted place, or memory was refused. */
@@ -344,7 +345,7 @@ RAFKUDIN_API rafkudin_uint64 RafkudinGetMemoryMapInto(struct rafkudin *core, uin
 RAFKUDIN_API rafkudin_uint64 RafkudinAllocatePool(struct rafkudin *core, uint32_t PoolType,
                                                   rafkudin_uint64 Size, rafkudin_uint64 *Buffer);
 
-/* 7.2.5. Gives the block at an address back. INVALID_PARAMETER: no live block has this address. */
+/* 7.2.5. Frees the block at an address. INVALID_PARAMETER: no live block has this address. */
 RAFKUDIN_API rafkudin_uint64 RafkudinFreePool(struct rafkudin *core, rafkudin_uint64 Buffer);
 
 /* The bytes of the pool, which a program of a firmware reaches by a pointer: `count` bytes from the
@@ -379,7 +380,7 @@ RAFKUDIN_API rafkudin_uint64 RafkudinInstallMultipleProtocolInterfaces(
     struct rafkudin *core, rafkudin_uint64 *Handle, const struct rafkudin_interface *interfaces,
     size_t count);
 
-/* Stops the driver that has the interface open, and takes the interface out; with the last one its
+/* Stops the driver that has the interface open, and removes the interface; with the last one its
  * handle goes.
  *
  * INVALID_PARAMETER: the handle is not live. NOT_FOUND: it lacks the GUID, or has it with another
@@ -389,7 +390,7 @@ RAFKUDIN_API rafkudin_uint64
 RafkudinUninstallProtocolInterface(struct rafkudin *core, rafkudin_uint64 Handle,
                                    const struct rafkudin_guid *Protocol, rafkudin_uint64 Interface);
 
-/* Stops the driver that has the interface open, gives it the value `NewInterface`, signals the
+/* Stops the driver that has the interface open, sets its value to `NewInterface`, signals the
  * events of its GUID, and connects the handle recursively. Refusals as of
  * UninstallProtocolInterface, for `OldInterface`. */
 RAFKUDIN_API rafkudin_uint64 RafkudinReinstallProtocolInterface(
@@ -410,7 +411,7 @@ RAFKUDIN_API rafkudin_uint64 RafkudinRegisterProtocolNotify(struct rafkudin *cor
  * BUFFER_TOO_SMALL. The GUID counts only for RAFKUDIN_BY_PROTOCOL, and may be null for other
  * searches; the key counts only for RAFKUDIN_BY_REGISTER_NOTIFY.
  *
- * INVALID_PARAMETER: another search type, or a key that RegisterProtocolNotify never gave.
+ * INVALID_PARAMETER: another search type, or a key that RegisterProtocolNotify never returned.
  * NOT_FOUND: nothing matches. BUFFER_TOO_SMALL: there is no room for all of them, and none is
  * written. */
 RAFKUDIN_API rafkudin_uint64 RafkudinLocateHandleInto(struct rafkudin *core, uint32_t SearchType,
@@ -431,7 +432,7 @@ RAFKUDIN_API rafkudin_uint64 RafkudinLocateHandleBuffer(struct rafkudin *core, u
 /* Puts the value of an interface into *Interface: with `Registration` 0 that of the lowest handle
  * that carries the GUID, else that of the next handle of this registration.
  *
- * INVALID_PARAMETER: a registration other than 0 that was never given, or is of another GUID.
+ * INVALID_PARAMETER: a registration other than 0 that was never made, or is of another GUID.
  * NOT_FOUND: there is no such handle. */
 RAFKUDIN_API rafkudin_uint64 RafkudinLocateProtocol(struct rafkudin *core,
                                                     const struct rafkudin_guid *Protocol,
@@ -464,7 +465,7 @@ RAFKUDIN_API rafkudin_uint64 RafkudinOpenProtocol(struct rafkudin *core, rafkudi
                                                   rafkudin_uint64 ControllerHandle,
                                                   uint32_t Attributes);
 
-/* Takes out all that an agent has open for a controller on an interface.
+/* Closes all that an agent has open for a controller on an interface.
  *
  * INVALID_PARAMETER: the handle or the agent is not live, or the controller is neither 0 nor live.
  * NOT_FOUND: the handle lacks the GUID, or nothing is open so. */
@@ -508,8 +509,8 @@ RAFKUDIN_API rafkudin_uint64 RafkudinConnectDrivers(struct rafkudin *core,
  * parameters. Stops the drivers that manage a controller, or one of them where `DriverImageHandle`
  * is not 0, with all that they made.
  *
- * INVALID_PARAMETER: the controller is not live; a driver is given that is not live or is no driver
- * handle. DEVICE_ERROR: they can't be stopped. */
+ * INVALID_PARAMETER: the controller is not live; `DriverImageHandle` is not 0, and not live or
+ * without the driver binding GUID. DEVICE_ERROR: they can't be stopped. */
 RAFKUDIN_API rafkudin_uint64 RafkudinDisconnectDrivers(struct rafkudin *core,
                                                        rafkudin_uint64 ControllerHandle,
                                                        rafkudin_uint64 DriverImageHandle);
@@ -526,8 +527,8 @@ RAFKUDIN_API rafkudin_uint64 RafkudinLocateDevicePath(struct rafkudin *core,
 
 /* ---- The end of the boot services, section 7.4.6 ---- */
 
-/* Ends the boot services where `MapKey` is the key that GetMemoryMap gives now: each call that
- * changes the type of a page makes another. `ImageHandle` plays no part.
+/* Ends the boot services where `MapKey` is the current key, as GetMemoryMap returns it: each call
+ * that changes the type of a page makes another. `ImageHandle` plays no part.
  * INVALID_PARAMETER: another key. */
 RAFKUDIN_API rafkudin_uint64 RafkudinExitBootServices(struct rafkudin *core,
                                                       rafkudin_uint64 ImageHandle,
@@ -607,7 +608,7 @@ static inline rafkudin_uint64 RafkudinLocateHandle(struct rafkudin *core, uint32
 /* 7.3. `DriverImageHandle` is an array of driver handles that ends with a 0, or null: these are
  * tried first. `RemainingDevicePath` is 0.
  *
- * UNSUPPORTED: it is not; this is answered first, and uses up no call. The other refusals are those
+ * UNSUPPORTED: it is not; this is returned first, and uses up no call. The other refusals are those
  * of RafkudinConnectDrivers. */
 static inline rafkudin_uint64 RafkudinConnectController(struct rafkudin *core,
                                                         rafkudin_uint64 ControllerHandle,
@@ -628,7 +629,7 @@ static inline rafkudin_uint64 RafkudinConnectController(struct rafkudin *core,
 
 /* 7.3. `ChildHandle` is 0.
  *
- * UNSUPPORTED: it is not; this is answered first, and uses up no call. The other refusals are those
+ * UNSUPPORTED: it is not; this is returned first, and uses up no call. The other refusals are those
  * of RafkudinDisconnectDrivers. */
 static inline rafkudin_uint64 RafkudinDisconnectController(struct rafkudin *core,
                                                            rafkudin_uint64 ControllerHandle,
@@ -640,7 +641,7 @@ static inline rafkudin_uint64 RafkudinDisconnectController(struct rafkudin *core
     return RafkudinDisconnectDrivers(core, ControllerHandle, DriverImageHandle);
 }
 
-/* The standard's name of a status, without EFI_; "another status" for one that no service answers.
+/* The standard's name of a status, without EFI_; "another status" for one that no service returns.
  * */
 static inline const char *RafkudinStatusName(rafkudin_uint64 status)
 {
