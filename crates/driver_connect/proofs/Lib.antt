@@ -8,6 +8,9 @@ pub mod InTurn
 pub mod StartPasses
 pub mod TriedOnce
 pub mod Whole
+pub mod NoPairs
+pub mod PlannedStops
+pub mod AfterStops
 pub mod StopSets
 pub mod NewPairs
 pub mod Left

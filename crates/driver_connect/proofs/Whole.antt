@@ -2,13 +2,12 @@
 use Rattle.std.proofs.Common.{◌≡◌, ℕ, ◌-◌, ◌≤◌, Bool, true, List, [], ◌++◌, Option, refl, sym, ap, ◌∙◌, append-nil, arith}
 use Rattle.guid_handles.specs.HandleTables.{HandleTable}
 use Rattle.open_agents.specs.declared.items.OpenRecord.{OpenRecord}
-use Rattle.open_agents.specs.OpenItems.{without_items}
 use Rattle.protocol_notify.specs.declared.notify.Registration.{Registration}
 use Rattle.driver_connect.specs.declared.agents.Agent.{Agent}
 use Rattle.driver_connect.specs.declared.starting.Start.{Start}
 use Rattle.driver_connect.specs.Drivers.{Meaning, Plan}
 use Rattle.driver_connect.specs.Starting.{Site, Progress, Passed, with_driver_items, with_children, events_of_all, carried_out, joined, passes}
-use Rattle.driver_connect.specs.Stopping.{stop_set, made_by, names_any, without_handles, without_pairs, can_be_stopped, Stops}
+use Rattle.driver_connect.specs.Stopping.{PlannedStop, planned_stop, without_handles, without_opens, can_be_stopped, Stops}
 
 -- a plan was carried out by its three parts
 pub carried_whole : (rs : List Registration) (n a : ℕ) (plan : Plan) (p q : Progress) (opens : List (List ℕ)) (made signaled : List (List (List ℕ × ℕ)))
@@ -29,15 +28,13 @@ passes_done c starts agents n k p whole l h =
     let w : joined starts [] (passes 0 c agents p) ≡ whole = rw e at h in
     (sym (append-nil starts) ∙ ap (λ r. r.starts) w, ap (λ r. r.progress) w)
 
--- a stop set that could be stopped was taken out
-pub stopped_whole : (ds : List Meaning) (t : HandleTable) (opens : List OpenRecord) (pairs : List (ℕ × ℕ)) (handle : ℕ) (opener : Option (ℕ × ℕ)) (asked makers taken : List (ℕ × ℕ)) (made : List ℕ) (can : Bool) (new_t : HandleTable) (mid new_opens : List OpenRecord)
-    → asked ≡ stop_set t opens pairs → makers ≡ stop_set t opens pairs → taken ≡ stop_set t opens pairs → made ≡ made_by t makers
-    → can ≡ can_be_stopped ds t opens asked handle opener → can ≡ true
-    → new_t ≡ without_handles made t → mid ≡ without_items (names_any made) opens → new_opens ≡ without_pairs taken mid
+-- a stop that could be made was carried out
+pub stopped_whole : (ds : List Meaning) (t : HandleTable) (opens : List OpenRecord) (pairs : List (ℕ × ℕ)) (handle : ℕ) (opener : Option (ℕ × ℕ)) (plan : PlannedStop) (can : Bool) (new_t : HandleTable) (new_opens : List OpenRecord)
+    → plan ≡ planned_stop t opens pairs → can ≡ can_be_stopped ds t opens plan.pairs handle opener → can ≡ true
+    → new_t ≡ without_handles plan.handles t → new_opens ≡ without_opens plan.handles plan.pairs opens
     → Stops ds t opens pairs handle opener true new_t new_opens
-stopped_whole ds t opens pairs handle opener asked makers taken made can new_t mid new_opens a m k e c y h i o =
-    let gone : made ≡ made_by t (stop_set t opens pairs) = e ∙ ap (made_by t) m in (
-      ap (λ (s : List (ℕ × ℕ)). can_be_stopped ds t opens s handle opener) (sym a) ∙ sym c ∙ y,
-      h ∙ ap (λ (n : List ℕ). without_handles n t) gone,
-      o ∙ ap (λ (s : List (ℕ × ℕ)). without_pairs s mid) k ∙ ap (without_pairs (stop_set t opens pairs)) (i ∙ ap (λ (n : List ℕ). without_items (names_any n) opens) gone),
-    )
+stopped_whole ds t opens pairs handle opener plan can new_t new_opens p c y h o = (
+  ap (λ (q : PlannedStop). can_be_stopped ds t opens q.pairs handle opener) (sym p) ∙ sym c ∙ y,
+  h ∙ ap (λ (q : PlannedStop). without_handles q.handles t) p,
+  o ∙ ap (λ (q : PlannedStop). without_opens q.handles q.pairs opens) p,
+)

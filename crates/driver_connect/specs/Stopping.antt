@@ -119,6 +119,19 @@ without_pairs pairs opens = without_items (λ o. has_pair pairs (pair_of o)) ope
 abbrev pub without_opens : List ℕ → List (ℕ × ℕ) → List OpenRecord → List OpenRecord
 without_opens ns pairs opens = without_pairs pairs (without_items (names_any ns) opens)
 
+-- What a stop takes out: the pairs that it stops, and the handles that these made.
+pub record PlannedStop : Type 0 where
+  pub pairs : List (ℕ × ℕ)
+  pub handles : List ℕ
+
+-- the stop of some pairs takes out their stop set, with its handles
+abbrev pub planned_stop : HandleTable → List OpenRecord → List (ℕ × ℕ) → PlannedStop
+planned_stop t opens pairs = record { pairs = stop_set t opens pairs; handles = made_by t (stop_set t opens pairs) }
+
+-- a stop takes out the items of an agent and a controller on a handle
+abbrev pub takes_item : PlannedStop → ℕ → ℕ → ℕ → Bool
+takes_item plan handle agent controller = list_any (λ n. (handle == n) || ((agent == n) || (controller == n))) plan.handles || has_pair plan.pairs (controller, agent)
+
 -- What is answered about a stop of some pairs, and what it leaves: their stop set goes, or all stays.
 abbrev pub Stops : List Meaning → HandleTable → List OpenRecord → List (ℕ × ℕ) → ℕ → Option (ℕ × ℕ) → Bool → HandleTable → List OpenRecord → Type 0
 Stops ds t opens pairs handle opener true new_t new_opens =

@@ -1,5 +1,5 @@
 //! Connecting a handle, and the handles that are made.
-ghost use Rattle.std.specs.Prelude.{◌≡◌, ◌+◌, ◌<◌, ◌≤◌, ◌^◌, false, [], map, IfOk, OnOk};
+ghost use Rattle.std.specs.Prelude.{◌≡◌, ◌+◌, ◌<◌, ◌≤◌, ◌^◌, true, false, [], map, IfOk, OnOk};
 ghost use Rattle.std.specs.Result.{result_map_both};
 ghost use Rattle.driver_connect.specs.Connecting as spec;
 ghost use Rattle.driver_connect.specs.Room.{HasRoom, Grows};
@@ -165,4 +165,25 @@ pub fn connect<D: Driver, A: Allocator + Copy>(
         Ok(false) => Err(Status::NotFound),
         Err(_) => Err(Status::OutOfResources),
     }
+}
+
+/// Connects a handle and all that is made below it, with no driver named, on a copy of the lists that
+/// begins with no events. On an `Err` memory ran out, and the copy is of no use.
+pub fn connect_draft<D: Driver, A: Allocator + Copy>(
+    alloc: A,
+    draft: &mut Connecting<A>,
+    notify: &Notify<A>,
+    drivers: &[D],
+    handle: u64,
+) -> Result<(), AllocError>
+    requires numbers { draft.old.handles.last_number < 2 ^ 61 }
+    requires stamps { draft.old.handles.last_stamp < 2 ^ 61 }
+    ensures progress { OnOk result (draft.new ≡ spec.connected (spec.levels_below true) (site (map D.meaning drivers.now) notify.now handle) [] draft.old) }
+    ensures numbers { OnOk result (draft.new.handles.last_number ≤ draft.old.handles.last_number + 4096) }
+    ensures stamps { OnOk result (draft.new.handles.last_stamp ≤ draft.old.handles.last_stamp + 16384) }
+{
+    connect_levels(alloc, draft, drivers, notify, handle, &[], LEVELS_BELOW)?;
+    // The contract of this look-up says how many handles there are at most.
+    let _numbers = draft.handles.all();
+    Ok(())
 }

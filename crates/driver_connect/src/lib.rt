@@ -16,12 +16,14 @@ mod table;
 mod view;
 
 pub use agents::driver_binding;
-pub use connecting::{MAX_NAMED, connect};
+pub use connecting::{MAX_NAMED, connect, connect_draft};
 pub use driver::Driver;
 pub use laws::{
     gone_law, makers_item_law, nothing_carried_out_law, ready_law, rounds_law, start_order_law,
     starts_law, stays_law, stop_set_law, tried_once_law, versions_law,
 };
-pub use stopping::{disconnect, stop};
+pub use readiness::may_start_after;
+pub use starting::Connecting;
+pub use stopping::{StopPlan, disconnect, stop};
 pub use table::TableDriver;
 pub use view::{ProtocolView, StartPlan, View};

@@ -1,17 +1,23 @@
 //! Whether a connect would start a driver, on the lists as they are.
-ghost use Rattle.std.specs.Prelude.{◌≡◌, map, IfOk};
+ghost use Rattle.std.specs.Prelude.{◌≡◌, ◌&&◌, ◌||◌, not, [], false, map, IfOk};
 ghost use Rattle.std.specs.List.{list_any};
+ghost use Rattle.guid_handles.specs.HandleChanges.{with_value};
+ghost use Rattle.open_agents.specs.OpenItems.{is_exclusive, is_for_driver as is_driver, is_open_on, without_items};
+ghost use Rattle.open_agents.specs.OpenRule.{has_holder};
+ghost use Rattle.driver_connect.specs.Stopping.{takes_item, without_handles, without_opens};
 ghost use Rattle.driver_connect.specs.Readiness as spec;
 
-use crate::agents::{Agent, plan_at, supports_at};
+use crate::agents::{Agent, driver_binding, plan_at, supports_at};
 use crate::candidates::agents_for;
 use crate::driver::Driver;
 use crate::progress::can_start;
 use crate::protocols::protocols_on;
+use crate::stopping::StopPlan;
 use crate::view::{ProtocolView, View};
 use guid_handles::Handles;
-use open_agents::Opens;
+use open_agents::{EXCLUSIVE, OpenItem, Opens, is_for_driver};
 use std::alloc::{AllocError, Allocator};
+use uuid::Uuid;
 
 /// Whether an agent's driver is supported on a controller with some protocols, and its plan can be
 /// carried out there.
@@ -69,6 +75,124 @@ pub(crate) fn is_any_ready<D: Driver, A: Allocator + Copy>(
         handles,
         protocols.as_slice(),
         controller,
+        agents.as_slice(),
+    ))
+}
+
+/// Whether an item holds its interface: it is for a driver or exclusive.
+fn holds(attributes: u32) -> bool
+    ensures { result ≡ (is_driver attributes || is_exclusive attributes) }
+{
+    is_for_driver(attributes) || attributes == EXCLUSIVE
+}
+
+/// Whether an item of an interface holds it once a stop is carried out.
+fn has_holder_after<A: Allocator + Copy>(
+    plan: &StopPlan<A>,
+    handle: u64,
+    items: &[OpenItem],
+) -> bool
+    ensures { result ≡ list_any (λ i. (is_driver i.attributes || is_exclusive i.attributes) && not (takes_item plan.now handle i.agent i.controller)) items.now }
+{
+    items.iter().any(|i| holds(i.attributes) && !plan.takes_item(handle, i.agent, i.controller))
+}
+
+/// Whether an interface is still held once a stop is carried out.
+fn is_held_after<A: Allocator + Copy>(
+    plan: &StopPlan<A>,
+    opens: &Opens<A>,
+    handle: u64,
+    guid: Uuid,
+) -> Result<bool, AllocError>
+    ensures { IfOk result (λ b. b ≡ has_holder (without_opens plan.now.handles plan.now.pairs opens.now) handle guid) }
+{
+    let items = opens.items(handle, guid)?;
+    Ok(has_holder_after(plan, handle, items.as_slice()))
+}
+
+/// A protocol on a handle, as drivers are shown it once a stop is carried out and the interface of a
+/// GUID there has another value and no item.
+fn protocol_after<A: Allocator + Copy>(
+    plan: &StopPlan<A>,
+    opens: &Opens<A>,
+    handle: u64,
+    guid: Uuid,
+    value: u64,
+    protocol: &ProtocolView,
+) -> Result<ProtocolView, AllocError>
+    ensures { IfOk result (λ v. v ≡ spec.protocol_after (without_opens plan.now.handles plan.now.pairs opens.now) handle guid value protocol.now) }
+{
+    if protocol.guid == guid {
+        return Ok(ProtocolView {
+            guid: protocol.guid,
+            value,
+            held: false,
+        });
+    }
+    Ok(ProtocolView {
+        guid: protocol.guid,
+        value: protocol.value,
+        held: is_held_after(plan, opens, handle, protocol.guid)?,
+    })
+}
+
+/// Protocols on a handle, as drivers are shown them once a stop is carried out and the interface of a
+/// GUID there has another value and no item.
+fn protocols_after<A: Allocator + Copy>(
+    alloc: A,
+    plan: &StopPlan<A>,
+    opens: &Opens<A>,
+    handle: u64,
+    guid: Uuid,
+    value: u64,
+    protocols: &[ProtocolView],
+) -> Result<Vec<ProtocolView, A>, AllocError>
+    ensures { IfOk result (λ v. v.items ≡ map (spec.protocol_after (without_opens plan.now.handles plan.now.pairs opens.now) handle guid value) protocols.now) }
+{
+    let mut shown = Vec::new(alloc);
+    for protocol in protocols {
+        shown.push(protocol_after(plan, opens, handle, guid, value, protocol)?)?;
+    }
+    Ok(shown)
+}
+
+/// Whether a connect of a handle may start a driver once a stop is carried out, the items on one of its
+/// interfaces are gone and it has another value. The lists stay as they are. Where the interface makes
+/// a handle a driver's, or where handles go with the stop, the answer is yes.
+pub fn may_start_after<D: Driver, A: Allocator + Copy>(
+    alloc: A,
+    plan: &StopPlan<A>,
+    handles: &Handles<A>,
+    opens: &Opens<A>,
+    drivers: &[D],
+    handle: u64,
+    guid: Uuid,
+    value: u64,
+) -> Result<bool, AllocError>
+    ensures { IfOk result (λ may. may ≡ false → spec.is_any_ready (map D.meaning drivers.now) (with_value handle guid value (without_handles plan.now.handles handles.now)) (without_items (is_open_on handle guid) (without_opens plan.now.handles plan.now.pairs opens.now)) handle [] ≡ false) }
+{
+    if driver_binding() == guid {
+        return Ok(true);
+    }
+    if plan.takes_handles() {
+        return Ok(true);
+    }
+    let agents = agents_for(alloc, drivers, handles, &[])?;
+    let protocols = protocols_on(alloc, handles, opens, handle)?;
+    let protocols = protocols_after(
+        alloc,
+        plan,
+        opens,
+        handle,
+        guid,
+        value,
+        protocols.as_slice(),
+    )?;
+    Ok(has_ready(
+        drivers,
+        handles,
+        protocols.as_slice(),
+        handle,
         agents.as_slice(),
     ))
 }

@@ -27,10 +27,10 @@ pub struct Start {
 
 /// How far a connect has come: the handles, the open items, and the events signaled.
 #[derive(Drop)]
-pub(crate) struct Connecting<A: Allocator> {
-    pub(crate) handles: Handles<A>,
-    pub(crate) opens: Opens<A>,
-    pub(crate) events: Vec<u64, A>,
+pub struct Connecting<A: Allocator> {
+    pub handles: Handles<A>,
+    pub opens: Opens<A>,
+    pub events: Vec<u64, A>,
 }
 
 impl<A: Allocator> Model for Connecting<A> {
@@ -50,7 +50,7 @@ pub(crate) struct Pass<A: Allocator> {
 
 impl<A: Allocator + Copy> Connecting<A> {
     /// Copies of the handles and the open items, to be changed.
-    pub(crate) fn begin(
+    pub fn begin(
         alloc: A,
         handles: &Handles<A>,
         opens: &Opens<A>,
@@ -68,7 +68,7 @@ impl<A: Allocator + Copy> Connecting<A> {
 
     /// Puts the changed handles and open items into the place of those that were copied, and answers
     /// the events.
-    pub(crate) fn put_in_place(self, handles: &mut Handles<A>, opens: &mut Opens<A>) -> Vec<u64, A>
+    pub fn put_in_place(self, handles: &mut Handles<A>, opens: &mut Opens<A>) -> Vec<u64, A>
         ensures handles { handles.new ≡ self.handles }
         ensures opens { opens.new ≡ self.opens }
         ensures events { result.items ≡ self.events }

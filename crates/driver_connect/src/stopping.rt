@@ -1,6 +1,6 @@
 //! Stopping drivers, with the handles that they made.
-ghost use Rattle.std.specs.Prelude.{◌≡◌, IfOk, OnErr, map};
-ghost use Rattle.std.specs.List.{list_all, filter};
+ghost use Rattle.std.specs.Prelude.{◌≡◌, ◌==◌, ◌||◌, [], false, IfOk, OnErr, map};
+ghost use Rattle.std.specs.List.{list_all, list_any, filter};
 ghost use Rattle.open_agents.specs.OpenItems.{without_items};
 ghost use Rattle.driver_connect.specs.Stopping as spec;
 
@@ -14,7 +14,8 @@ use open_agents::{
     BY_CHILD_CONTROLLER, BY_HANDLE_PROTOCOL, GET_PROTOCOL, OpenRecord, Opens, TEST_PROTOCOL,
 };
 use page_ranges::Status;
-use std::alloc::{AllocError, Allocator};
+use std::alloc::{AllocError, Allocator, Global};
+use std::marker::Model;
 
 /// Whether the driver of a pair lets itself be stopped.
 fn may_stop<D: Driver, A: Allocator + Copy>(
@@ -150,6 +151,105 @@ fn take_pairs<A: Allocator + Copy>(opens: &mut Opens<A>, pairs: &[(u64, u64)])
     }
 }
 
+/// Whether an item's handle, agent or controller is one of some handles.
+fn names_any(handles: &[u64], handle: u64, agent: u64, controller: u64) -> bool
+    ensures { result ≡ list_any (λ n. (handle == n) || ((agent == n) || (controller == n))) handles.now }
+{
+    handles
+        .iter()
+        .any(|n| handle == *n || agent == *n || controller == *n)
+}
+
+/// What a stop takes out, found on the lists as they are: the pairs that it stops, and the handles
+/// that these made.
+#[derive(Drop)]
+pub struct StopPlan<A: Allocator = Global> {
+    pairs: Vec<(u64, u64), A>,
+    handles: Vec<u64, A>,
+}
+
+impl<A: Allocator> Model for StopPlan<A> {
+    ghost use Rattle.driver_connect.specs.Stopping.{PlannedStop};
+
+    ghost Value = { PlannedStop };
+
+    ghost view = { λ p. record { pairs = p.pairs.items; handles = p.handles.items } };
+}
+
+impl<A: Allocator + Copy> StopPlan<A> {
+    /// What the stop of some pairs takes out. Without pairs this takes no memory.
+    pub fn new(
+        alloc: A,
+        handles: &Handles<A>,
+        opens: &Opens<A>,
+        pairs: &[(u64, u64)],
+    ) -> Result<StopPlan<A>, AllocError>
+        ensures { IfOk result (λ plan. plan ≡ spec.planned_stop handles.now opens.now pairs.now) }
+    {
+        if pairs.is_empty() {
+            return Ok(StopPlan {
+                pairs: Vec::new(alloc),
+                handles: Vec::new(alloc),
+            });
+        }
+        let pairs = stop_set(alloc, handles, opens, pairs)?;
+        let handles = made_by(alloc, handles, pairs.as_slice())?;
+        Ok(StopPlan { pairs, handles })
+    }
+
+    /// Whether the stop takes out a handle.
+    pub(crate) fn takes_handles(&self) -> bool
+        ensures { result ≡ false → self.now.handles ≡ [] }
+    {
+        !self.handles.is_empty()
+    }
+
+    /// Whether the stop takes out the items of an agent and a controller on a handle.
+    pub fn takes_item(&self, handle: u64, agent: u64, controller: u64) -> bool
+        ensures { result ≡ spec.takes_item self.now handle agent controller }
+    {
+        names_any(self.handles.as_slice(), handle, agent, controller)
+            || has_pair(self.pairs.as_slice(), (controller, agent))
+    }
+
+    /// Whether the pairs can be stopped, for a call on a handle, and of OpenProtocol also with its agent
+    /// and controller: these and the handle must stay.
+    pub fn can_be_carried_out<D: Driver>(
+        &self,
+        alloc: A,
+        drivers: &[D],
+        handles: &Handles<A>,
+        opens: &Opens<A>,
+        handle: u64,
+        opener: Option<(u64, u64)>,
+    ) -> Result<bool, AllocError>
+        ensures { IfOk result (λ b. b ≡ spec.can_be_stopped (map D.meaning drivers.now) handles.now opens.now self.now.pairs handle opener) }
+    {
+        if self.pairs.is_empty() {
+            return Ok(true);
+        }
+        can_be_stopped(
+            alloc,
+            drivers,
+            handles,
+            opens,
+            self.pairs.as_slice(),
+            handle,
+            opener,
+        )
+    }
+
+    /// Takes out the handles with their interfaces, the items that name them, and those of the pairs.
+    /// This takes no memory.
+    pub fn carry_out(&self, handles: &mut Handles<A>, opens: &mut Opens<A>)
+        ensures handles { handles.new ≡ spec.without_handles self.now.handles handles.old }
+        ensures opens { opens.new ≡ spec.without_opens self.now.handles self.now.pairs opens.old }
+    {
+        take_handles(handles, opens, self.handles.as_slice());
+        take_pairs(opens, self.pairs.as_slice());
+    }
+}
+
 /// Stops pairs of a controller and a driver's agent, and with them the drivers on the handles that
 /// these made, where all can be stopped: those handles go, with each item of the pairs. It answers
 /// whether they were stopped. `handle` is the handle of the call, and `opener` the agent and the
@@ -168,21 +268,11 @@ pub fn stop<D: Driver, A: Allocator + Copy>(
     ensures err_handles { OnErr result (handles.new ≡ handles.old) }
     ensures err_opens { OnErr result (opens.new ≡ opens.old) }
 {
-    let set = stop_set(alloc, handles, opens, pairs)?;
-    if !can_be_stopped(
-        alloc,
-        drivers,
-        handles,
-        opens,
-        set.as_slice(),
-        handle,
-        opener,
-    )? {
+    let plan = StopPlan::new(alloc, handles, opens, pairs)?;
+    if !plan.can_be_carried_out(alloc, drivers, handles, opens, handle, opener)? {
         return Ok(false);
     }
-    let made = made_by(alloc, handles, set.as_slice())?;
-    take_handles(handles, opens, made.as_slice());
-    take_pairs(opens, set.as_slice());
+    plan.carry_out(handles, opens);
     Ok(true)
 }
 

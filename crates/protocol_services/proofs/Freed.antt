@@ -1,33 +1,35 @@
 -- An interface that is freed, and what stays of its handle.
-use Rattle.std.proofs.Common.{◌≡◌, ℕ, ◌+◌, ◌-◌, ◌<◌, ◌≤◌, ◌^◌, ◌++◌, Bool, not, true, false, List, [], ◌∷◌, Option, Some, None, is_some, Result, Ok, Err, IfOk, Vec, inl, inr, refl, sym, ap, subst, ◌∙◌, arith}
-use Rattle.std.specs.List.{filter, list_any, list_all, AllByRecursion}
+use Rattle.std.proofs.Common.{◌≡◌, ℕ, ◌+◌, ◌≤◌, ◌&&◌, ◌++◌, map, append-nil, Bool, not, true, false, List, [], ◌∷◌, Option, Some, None, is_some, Result, Ok, Err, IfOk, OnOk, OnErr, Vec, inl, inr, refl, sym, ap, subst, ◌∙◌, arith}
+use Rattle.std.specs.List.{filter, list_any, list_all}
 use Rattle.std.specs.Option.{option_map}
 use Rattle.std.proofs.lemmas.Bool.{cases_Bool, and_parts}
 use Rattle.std.proofs.lemmas.Bool.Decides.{eqb_tells}
 use Rattle.page_ranges.specs.declared.statuses.Status.{Status}
-use Rattle.page_ranges.specs.declared.statuses.Status.TheVariants.{NotFound}
 use Rattle.guid_handles.specs.declared.records.Interface.{Interface}
 use Rattle.guid_handles.specs.HandleTables.{HandleTable, numbers, is_on, is_at, is_live, interface_at, value_at, carries}
-use Rattle.guid_handles.specs.HandleChanges.{IsHandleTable, unless_bare, without_interface}
+use Rattle.guid_handles.specs.HandleChanges.{IsHandleTable, unless_bare, with_value, without_interface}
 use Rattle.guid_handles.proofs.SortedLists.{all_filter, find_filter}
 use Rattle.guid_handles.proofs.Indexed.{at_handle}
 use Rattle.open_agents.specs.declared.items.Decision.TheVariants.{StopFirst}
 use Rattle.open_agents.specs.declared.items.OpenRecord.{OpenRecord}
-use Rattle.open_agents.specs.OpenItems.{is_kept, is_open_on, names, with_item, without_items, CanCount}
-use Rattle.protocol_notify.specs.declared.notify.Registration.{Registration}
+use Rattle.open_agents.specs.declared.items.OpenItem.{OpenItem}
+use Rattle.open_agents.specs.OpenItems.{is_for_driver, is_kept, is_open_on, items_on, keeps, names, with_item, without_items}
 use Rattle.protocol_notify.specs.Registrations.{events_for}
 use Rattle.driver_connect.specs.Drivers.{Meaning}
-use Rattle.driver_connect.specs.Starting.{site}
-use Rattle.driver_connect.specs.Stopping.{Stops, can_be_stopped, is_made_by, is_one_of, is_unobstructed, made_by, may_stop, spares_opener, stop_set, without_handles}
-use Rattle.driver_connect.specs.Connecting.{Connects, first_progress, levels_below}
+use Rattle.driver_connect.specs.Starting.{Progress, Site, site}
+use Rattle.driver_connect.specs.Stopping.{PlannedStop, planned_stop, takes_item, can_be_stopped, is_made_by, is_one_of, is_unobstructed, made_by, may_stop, spares_opener, stop_set, without_handles, without_opens}
+use Rattle.driver_connect.specs.Connecting.{connected, first_progress, levels_below}
+use Rattle.driver_connect.specs.Readiness.{is_any_ready}
 use Rattle.driver_connect.proofs.Counts.{connect_counts}
 use Rattle.driver_connect.proofs.Idle.{idle_connect}
+use Rattle.driver_connect.proofs.PlannedStops.{added_first, kept_left, opener_spared}
+use Rattle.driver_connect.proofs.Ready.{ready_start}
 use Rattle.protocol_services.specs.Lists.{Lists, IsRaised}
 use Rattle.protocol_services.specs.Opening.{OpensAs, opened_value}
-use Rattle.protocol_services.specs.Stopping.{can_stop, once_stopped}
-use Rattle.protocol_services.specs.Removing.{Reinstalls, can_be_freed, drivers_on, freed, is_value, once_freed, reconnected, removal_refusal, replaced, uninstalled, with_progress, without_dead}
-use Rattle.protocol_services.proofs.OpenCounts.{CountUpTo, can_count, one_higher, opened_counts}
-use Rattle.protocol_services.proofs.Raised.{all_left}
+use Rattle.protocol_services.specs.Stopping.{can_stop}
+use Rattle.protocol_services.specs.Removing.{Reinstalls, Replaces, can_be_freed, drivers_on, freed, is_value, once_freed, reconnected, removal_refusal, replaced, uninstalled, with_progress, without_dead}
+use Rattle.protocol_services.proofs.OpenCounts.{CountUpTo, one_higher, opened_counts}
+use Rattle.protocol_services.proofs.Raised.{all_left, stays_raised}
 
 -- ---- the handle of a call stays
 
@@ -68,64 +70,57 @@ pub carried_freed : (ds : List Meaning) (l : Lists) (handle : ℕ) (guid : List 
     → carries (freed handle guid l).handles guid handle ≡ true
 carried_freed ds l handle guid h k = ap is_some (interface_kept ds l handle guid h) ∙ k
 
--- ---- a stop on lists
-
-stopped : (ds : List Meaning) (l : Lists) (pairs : List (ℕ × ℕ)) (handle : ℕ) (opener : Option (ℕ × ℕ)) (can : Bool) (t : HandleTable) (opens : List OpenRecord)
-    → Stops ds l.handles l.opens pairs handle opener can t opens → can ≡ true → record l { handles = t; opens = opens } ≡ once_stopped pairs l
-stopped ds l pairs handle opener true t opens h e = rw h.1 (rw h.2 refl)
-stopped ds l pairs handle opener false t opens h e = absurd cc
-
--- what a stop that can be made leaves of the lists
-pub stop_leaves : {E : Type 0} (ds : List Meaning) (l : Lists) (pairs : List (ℕ × ℕ)) (handle : ℕ) (opener : Option (ℕ × ℕ)) (result : Result Bool E) (t : HandleTable) (opens : List OpenRecord)
-    → IfOk result (λ can. Stops ds l.handles l.opens pairs handle opener can t opens) → IfOk result (λ can. can ≡ true → record l { handles = t; opens = opens } ≡ once_stopped pairs l)
-stop_leaves ds l pairs handle opener (Ok can) t opens h = stopped ds l pairs handle opener can t opens h
-stop_leaves ds l pairs handle opener (Err e) t opens h = tt
-
 -- ---- an open after a stop
 
--- all counts of what a stop leaves can rise
-pub left_can_count : (l draft new : Lists) (pairs : List (ℕ × ℕ)) (n : ℕ) (guid : List ℕ) (agent controller a : ℕ) → AllByRecursion (λ o. o.count < 2 ^ 32 - 1) l.opens
-    → draft ≡ record l { registrations = [] } → new ≡ once_stopped pairs draft → CanCount n guid agent controller a new.opens
-left_can_count l draft new pairs n guid agent controller a h d s = rw s (rw d (can_count n guid agent controller a _ (all_left (λ o. o.count < 2 ^ 32 - 1) _ _ l.opens h)))
+-- What an exclusive open leaves that added its item and then stopped a driver.
+pub opened_stopped : (ds : List Meaning) (l new : Lists) (plan : PlannedStop) (pair : ℕ × ℕ) (handle : ℕ) (guid : List ℕ) (opener : ℕ × ℕ) (a : ℕ) (can : Bool) (value : Option ℕ) (added : List OpenRecord)
+    → plan ≡ planned_stop l.handles l.opens (pair ∷ []) → can ≡ can_be_stopped ds l.handles l.opens plan.pairs handle (Some opener) → can ≡ true → added ≡ with_item handle guid opener.0 opener.1 a l.opens
+    → new ≡ record l { handles = without_handles plan.handles l.handles; opens = without_opens plan.handles plan.pairs added }
+    → value ≡ opened_value l handle guid a → OpensAs ds (StopFirst pair) l handle guid opener.0 opener.1 a (Ok value) new
+opened_stopped ds l new plan pair handle guid opener a can value added p asked sure o e v =
+    let made : plan.handles ≡ made_by l.handles plan.pairs = rw p refl in
+    let stays : takes_item plan handle opener.0 opener.1 ≡ false = opener_spared ds l.handles l.opens plan handle opener made (sym asked ∙ sure) in
+    let last : without_opens plan.handles plan.pairs added ≡ with_item handle guid opener.0 opener.1 a (without_opens plan.handles plan.pairs l.opens)
+    = ap (without_opens plan.handles plan.pairs) o ∙ added_first plan handle guid opener.0 opener.1 a l.opens stays in
+    let can_stop_it : can_stop ds l (pair ∷ []) handle (Some opener) ≡ true = ap (λ (q : PlannedStop). can_be_stopped ds l.handles l.opens q.pairs handle (Some opener)) (sym p) ∙ sym asked ∙ sure in
+    (can_stop_it, v, e ∙ rw last (rw p refl))
 
--- an exclusive open that stopped a driver first
-pub opened_stopped : (ds : List Meaning) (l draft stopped put : Lists) (pair : ℕ × ℕ) (handle : ℕ) (guid : List ℕ) (opener : ℕ × ℕ) (a : ℕ) (can : Bool) (value : Option ℕ) (opens : List OpenRecord)
-    → draft ≡ record l { registrations = [] } → can ≡ can_stop ds draft (pair ∷ []) handle (Some opener) → can ≡ true → stopped ≡ once_stopped (pair ∷ []) draft
-    → opens ≡ with_item handle guid opener.0 opener.1 a stopped.opens → put ≡ record { handles = stopped.handles; opens = opens; registrations = l.registrations }
-    → value ≡ opened_value l handle guid a → OpensAs ds (StopFirst pair) l handle guid opener.0 opener.1 a (Ok value) put
-opened_stopped ds l draft stopped put pair handle guid opener a can value opens d asked sure s o p v =
-    let k : can ≡ can_stop ds l (pair ∷ []) handle (Some opener) = rw d at asked in
-    (sym k ∙ sure, v, rw p (rw o (rw s (rw d refl))))
-
-pub opened_stopped_raised : (l draft stopped put : Lists) (pairs : List (ℕ × ℕ)) (handle : ℕ) (guid : List ℕ) (agent controller a : ℕ) (opens : List OpenRecord)
-    → draft ≡ record l { registrations = [] } → stopped ≡ once_stopped pairs draft → opens ≡ with_item handle guid agent controller a stopped.opens
-    → put ≡ record { handles = stopped.handles; opens = opens; registrations = l.registrations } → IsRaised l put
-opened_stopped_raised l draft stopped put pairs handle guid agent controller a opens d s o p = rw p (rw o (rw s (rw d record {
+pub opened_stopped_raised : (l new : Lists) (plan : PlannedStop) (handle : ℕ) (guid : List ℕ) (agent controller a : ℕ) (added : List OpenRecord)
+    → added ≡ with_item handle guid agent controller a l.opens → new ≡ record l { handles = without_handles plan.handles l.handles; opens = without_opens plan.handles plan.pairs added } → IsRaised l new
+opened_stopped_raised l new plan handle guid agent controller a added o e = rw e (rw o record {
   numbers = omega arith;
   stamps = omega arith;
   keys = omega arith;
-  counts = λ n h. opened_counts handle guid agent controller a _ n (all_left (λ i. i.count ≤ n) _ _ l.opens h);
-})))
+  counts = λ n h. all_left (λ i. i.count ≤ n + 1) _ _ _ (opened_counts handle guid agent controller a l.opens n h);
+})
 
 -- ---- an interface that is freed
 
--- whether an interface can be freed, once its drivers are stopped
-pub free_answer : (ds : List Meaning) (l : Lists) (handle : ℕ) (guid : List ℕ) (pairs : List (ℕ × ℕ)) (can : Bool) (t : HandleTable) (opens : List OpenRecord) (kept : Bool)
-    → pairs ≡ drivers_on l.opens handle guid → Stops ds l.handles l.opens pairs handle None can t opens → can ≡ true → kept ≡ is_kept opens handle guid → not kept ≡ can_be_freed ds l handle guid
-free_answer ds l handle guid pairs false t opens kept p s sure k = absurd cc
-free_answer ds l handle guid pairs true t opens kept p s sure k =
-    let h : Stops ds l.handles l.opens (drivers_on l.opens handle guid) handle None true t opens = rw p at s in
-    let asked : can_stop ds l (drivers_on l.opens handle guid) handle None ≡ true = h.0 in
-    let left : kept ≡ is_kept (once_freed handle guid l).opens handle guid = k ∙ ap (λ o. is_kept o handle guid) h.2 in
-    rw asked (ap not left)
+-- Where the drivers that have an interface open can be stopped, it can be freed unless an item that they leave keeps it.
+pub free_answer : (ds : List Meaning) (l : Lists) (handle : ℕ) (guid : List ℕ) (plan : PlannedStop) (items : List OpenItem) (can kept : Bool)
+    → items ≡ items_on l.opens handle guid → plan ≡ planned_stop l.handles l.opens (map (λ i. (i.controller, i.agent)) (filter (λ i. is_for_driver i.attributes) items))
+    → can ≡ can_be_stopped ds l.handles l.opens plan.pairs handle None → can ≡ true
+    → kept ≡ list_any (λ i. keeps i.attributes && not (takes_item plan handle i.agent i.controller)) items → can_be_freed ds l handle guid ≡ not kept
+free_answer ds l handle guid plan items can kept i p asked sure k =
+    let whole : plan ≡ planned_stop l.handles l.opens (drivers_on l.opens handle guid) = rw i at p in
+    let left : kept ≡ is_kept (once_freed handle guid l).opens handle guid = rw i at k ∙ kept_left plan handle guid l.opens ∙ rw whole refl in
+    let stops : can_stop ds l (drivers_on l.opens handle guid) handle None ≡ true = ap (λ (q : PlannedStop). can_be_stopped ds l.handles l.opens q.pairs handle None) (sym whole) ∙ sym asked ∙ sure in
+    rw stops (ap not (sym left))
 
-pub free_leaves : (ds : List Meaning) (l : Lists) (handle : ℕ) (guid : List ℕ) (pairs : List (ℕ × ℕ)) (can : Bool) (t : HandleTable) (opens new : List OpenRecord)
-    → pairs ≡ drivers_on l.opens handle guid → Stops ds l.handles l.opens pairs handle None can t opens → can ≡ true → new ≡ without_items (is_open_on handle guid) opens
-    → record l { handles = t; opens = new } ≡ freed handle guid l
-free_leaves ds l handle guid pairs false t opens new p s sure w = absurd cc
-free_leaves ds l handle guid pairs true t opens new p s sure w =
-    let h : Stops ds l.handles l.opens (drivers_on l.opens handle guid) handle None true t opens = rw p at s in
-    rw w (rw h.1 (rw h.2 refl))
+-- Where they can't be stopped, it can't be freed.
+pub not_freed : (ds : List Meaning) (l : Lists) (handle : ℕ) (guid : List ℕ) (plan : PlannedStop) (items : List OpenItem) (can : Bool)
+    → items ≡ items_on l.opens handle guid → plan ≡ planned_stop l.handles l.opens (map (λ i. (i.controller, i.agent)) (filter (λ i. is_for_driver i.attributes) items))
+    → can ≡ can_be_stopped ds l.handles l.opens plan.pairs handle None → can ≡ false → can_be_freed ds l handle guid ≡ false
+not_freed ds l handle guid plan items can i p asked sure =
+    let whole : plan ≡ planned_stop l.handles l.opens (drivers_on l.opens handle guid) = rw i at p in
+    let stops : can_stop ds l (drivers_on l.opens handle guid) handle None ≡ false = ap (λ (q : PlannedStop). can_be_stopped ds l.handles l.opens q.pairs handle None) (sym whole) ∙ sym asked ∙ sure in
+    rw stops refl
+
+-- what the stop leaves, without the items on the interface
+pub free_leaves : (l : Lists) (handle : ℕ) (guid : List ℕ) (plan : PlannedStop) (t : HandleTable) (opens : List OpenRecord) → plan ≡ planned_stop l.handles l.opens (drivers_on l.opens handle guid)
+    → t ≡ without_handles plan.handles l.handles → opens ≡ without_items (is_open_on handle guid) (without_opens plan.handles plan.pairs l.opens)
+    → record { handles = t; opens = opens; registrations = [] } ≡ freed handle guid (record l { registrations = [] })
+free_leaves l handle guid plan t opens p h o = rw h (rw o (rw p refl))
 
 -- ---- what is served
 
@@ -216,43 +211,86 @@ uninstalled_raised l draft left new handle guid d u e =
 
 -- ---- an interface with another value
 
--- how far a connect has come that answers events
-pub reached : (ds : List Meaning) (l : Lists) (handle : ℕ) (events : List ℕ) (t : HandleTable) (opens : List OpenRecord) → Connects (site ds l.registrations handle) [] true l.handles l.opens (Ok events) t opens
-    → record { handles = t; opens = opens; events = events } ≡ reconnected ds handle l
-reached ds l handle events t opens h = h.2
+-- where no driver is ready, a connect leaves all as it is
+pub idle : (ds : List Meaning) (l : Lists) (handle : ℕ) → IsHandleTable l.handles → is_any_ready ds l.handles l.opens handle [] ≡ false → reconnected ds handle l ≡ first_progress l.handles l.opens
+idle ds l handle proper h =
+    let c : Site = site ds l.registrations handle in
+    let p : Progress = first_progress l.handles l.opens in
+    idle_connect (levels_below true) c [] p proper (ready_start c [] p ∙ h)
 
--- where no start is carried out, all stays
-pub idle : (ds : List Meaning) (l : Lists) (handle : ℕ) (status : Status) (t : HandleTable) (opens : List OpenRecord) → IsHandleTable l.handles → status ≡ NotFound
-    → Connects (site ds l.registrations handle) [] true l.handles l.opens (Err status) t opens → first_progress t opens ≡ reconnected ds handle l
-idle ds l handle status t opens proper e h =
-    let k : Connects (site ds l.registrations handle) [] true l.handles l.opens (Err NotFound) t opens = rw e at h in
-    rw k.2 (rw k.3 (sym (idle_connect (levels_below true) (site ds l.registrations handle) [] (first_progress l.handles l.opens) proper k.1)))
+-- a value in place of another, where no driver is ready then
+pub replaced_idle : {A : Type 0} (ds : List Meaning) (l new : Lists) (plan : PlannedStop) (handle : ℕ) (guid : List ℕ) (value : ℕ) (events : Vec ℕ A) → plan ≡ planned_stop l.handles l.opens (drivers_on l.opens handle guid)
+    → is_any_ready ds (with_value handle guid value (without_handles plan.handles l.handles)) (without_items (is_open_on handle guid) (without_opens plan.handles plan.pairs l.opens)) handle [] ≡ false
+    → new ≡ replaced handle guid value (freed handle guid l) → IsHandleTable new.handles → events.items ≡ events_for l.registrations guid → Replaces ds handle guid value (freed handle guid l) events new
+replaced_idle ds l new plan handle guid value events p none n proper e =
+    let whole : Lists = replaced handle guid value (freed handle guid l) in
+    let ready : is_any_ready ds whole.handles whole.opens handle [] ≡ false = rw p at none in
+    let stays : reconnected ds handle whole ≡ first_progress whole.handles whole.opens = idle ds whole handle (rw n at proper) ready in (
+      e ∙ sym (append-nil (events_for l.registrations guid)) ∙ ap (λ (q : Progress). events_for l.registrations guid ++ q.events) (sym stays),
+      n ∙ ap (λ (q : Progress). with_progress q (freed handle guid l)) (sym stays),
+    )
 
--- a value in place of another, with all that is connected then
-pub reinstalled : {A : Type 0} (ds : List Meaning) (l draft given left new : Lists) (handle : ℕ) (guid : List ℕ) (old value : ℕ) (events : Vec ℕ A) (rs : List Registration) → rs ≡ l.registrations
-    → removal_refusal l.handles handle guid old ≡ None
-    → can_be_freed ds l handle guid ≡ true → draft ≡ freed handle guid (record l { registrations = [] }) → given ≡ replaced handle guid value draft
-    → events.items ≡ events_for rs guid ++ (reconnected ds handle (record given { registrations = rs })).events
-    → left ≡ with_progress (reconnected ds handle (record given { registrations = rs })) given
-    → new ≡ record { handles = left.handles; opens = left.opens; registrations = l.registrations } → Reinstalls ds l handle guid old value (Ok events) new
-reinstalled ds l draft given left new handle guid old value events rs same r can d g e w n = rw r (can, (rw d at (rw g at (rw same at e)), rw n (rw w (rw same (rw g (rw d refl))))))
-
-pub reinstalled_raised : (ds : List Meaning) (l draft given left new : Lists) (handle : ℕ) (guid : List ℕ) (value : ℕ) (rs : List Registration) → draft ≡ freed handle guid (record l { registrations = [] })
-    → given ≡ replaced handle guid value draft → left ≡ with_progress (reconnected ds handle (record given { registrations = rs })) given
-    → left.handles.last_number ≤ given.handles.last_number + 4096 → left.handles.last_stamp ≤ given.handles.last_stamp + 16384
-    → new ≡ record { handles = left.handles; opens = left.opens; registrations = l.registrations } → IsRaised l new
-reinstalled_raised ds l draft given left new handle guid value rs d g w numbers stamps e =
-    let start : Lists = record l { registrations = [] } in
-    let part : IsPart start draft = rw d (freed_part start handle guid) in
-    let number : given.handles.last_number ≡ draft.handles.last_number = ap (λ x. x.handles.last_number) g in
-    let stamp : given.handles.last_stamp ≡ draft.handles.last_stamp + 1 = ap (λ x. x.handles.last_stamp) g in
-    let same : given.opens ≡ draft.opens = ap (λ x. x.opens) g in
-    let opens : left.opens ≡ (reconnected ds handle (record given { registrations = rs })).opens = ap (λ x. x.opens) w in
+pub replaced_raised : (l new : Lists) (handle : ℕ) (guid : List ℕ) (value : ℕ) → new ≡ replaced handle guid value (freed handle guid l) → IsRaised l new
+replaced_raised l new handle guid value e =
+    let part : IsPart l (freed handle guid l) = freed_part l handle guid in
     rw e record {
-      numbers = omega (arith, part.numbers, number, numbers);
-      stamps = omega (arith, part.stamps, stamp, stamps);
+      numbers = omega (arith, part.numbers);
+      stamps = omega (arith, part.stamps);
       keys = omega arith;
-      counts = λ n h.
-          let c : CountUpTo (n + 1) given.opens = rw same (one_higher n draft.opens (part.counts n h)) in
-          subst (CountUpTo (n + 1)) (sym opens) (connect_counts (n + 1) (levels_below true) (site ds rs handle) [] (first_progress given.handles given.opens) (omega arith) c);
+      counts = λ n h. one_higher n (freed handle guid l).opens (part.counts n h);
     }
+
+-- a value in place of another, as it is put there
+pub replaced_in_place : (l : Lists) (plan : PlannedStop) (handle : ℕ) (guid : List ℕ) (value : ℕ) (t given : HandleTable) (opens : List OpenRecord) → plan ≡ planned_stop l.handles l.opens (drivers_on l.opens handle guid)
+    → t ≡ without_handles plan.handles l.handles → given ≡ with_value handle guid value t → opens ≡ without_items (is_open_on handle guid) (without_opens plan.handles plan.pairs l.opens)
+    → record l { handles = given; opens = opens } ≡ replaced handle guid value (freed handle guid l)
+replaced_in_place l plan handle guid value t given opens p h g o = rw g (rw h (rw o (rw p refl)))
+
+pub replaced_where_idle : {A : Type 0} {E : Type 0} (ds : List Meaning) (l new : Lists) (plan : PlannedStop) (handle : ℕ) (guid : List ℕ) (value : ℕ) (result : Result (Vec ℕ A) E) → plan ≡ planned_stop l.handles l.opens (drivers_on l.opens handle guid)
+    → is_any_ready ds (with_value handle guid value (without_handles plan.handles l.handles)) (without_items (is_open_on handle guid) (without_opens plan.handles plan.pairs l.opens)) handle [] ≡ false
+    → OnOk result (new ≡ replaced handle guid value (freed handle guid l)) → OnOk result (IsHandleTable new.handles) → IfOk result (λ events. events.items ≡ events_for l.registrations guid)
+    → IfOk result (λ events. Replaces ds handle guid value (freed handle guid l) events new)
+replaced_where_idle ds l new plan handle guid value (Ok events) p none n proper e = replaced_idle ds l new plan handle guid value events p none n proper e
+replaced_where_idle ds l new plan handle guid value (Err status) p none n proper e = tt
+
+pub replaced_or_not_raised : {R : Type 0} {E : Type 0} (l new : Lists) (handle : ℕ) (guid : List ℕ) (value : ℕ) (result : Result R E) → OnOk result (new ≡ replaced handle guid value (freed handle guid l)) → OnErr result (new ≡ l) → IsRaised l new
+replaced_or_not_raised l new handle guid value (Ok told) n same = replaced_raised l new handle guid value n
+replaced_or_not_raised l new handle guid value (Err status) n same = rw same (stays_raised l)
+
+-- a copy in which an interface was freed and has another value
+pub begun : (l : Lists) (plan : PlannedStop) (handle : ℕ) (guid : List ℕ) (value : ℕ) (copy : Progress) (t given : HandleTable) (opens : List OpenRecord) → copy ≡ first_progress l.handles l.opens
+    → t ≡ without_handles plan.handles copy.handles → given ≡ with_value handle guid value t → opens ≡ without_items (is_open_on handle guid) (without_opens plan.handles plan.pairs copy.opens)
+    → record { handles = given; opens = opens; events = copy.events }
+    ≡ first_progress (with_value handle guid value (without_handles plan.handles l.handles)) (without_items (is_open_on handle guid) (without_opens plan.handles plan.pairs l.opens))
+begun l plan handle guid value copy t given opens e h g o = rw g (rw h (rw o (rw e refl)))
+
+-- a value in place of another, with all that is connected on a draft
+pub replaced_connected : {A : Type 0} (ds : List Meaning) (l new : Lists) (plan : PlannedStop) (handle : ℕ) (guid : List ℕ) (value : ℕ) (events : Vec ℕ A) (before after : Progress) → plan ≡ planned_stop l.handles l.opens (drivers_on l.opens handle guid)
+    → before ≡ first_progress (with_value handle guid value (without_handles plan.handles l.handles)) (without_items (is_open_on handle guid) (without_opens plan.handles plan.pairs l.opens))
+    → after ≡ connected (levels_below true) (site ds l.registrations handle) [] before → events.items ≡ events_for l.registrations guid ++ after.events → new ≡ record l { handles = after.handles; opens = after.opens }
+    → Replaces ds handle guid value (freed handle guid l) events new
+replaced_connected ds l new plan handle guid value events before after p b a e n =
+    let reached : after ≡ reconnected ds handle (replaced handle guid value (freed handle guid l)) = rw b at a ∙ rw p refl in
+    (e ∙ ap (λ (q : Progress). events_for l.registrations guid ++ q.events) reached, n ∙ ap (λ (q : Progress). with_progress q (freed handle guid l)) reached)
+
+pub connected_raised : (ds : List Meaning) (l new : Lists) (plan : PlannedStop) (handle : ℕ) (guid : List ℕ) (value : ℕ) (before after : Progress) → plan ≡ planned_stop l.handles l.opens (drivers_on l.opens handle guid)
+    → before ≡ first_progress (with_value handle guid value (without_handles plan.handles l.handles)) (without_items (is_open_on handle guid) (without_opens plan.handles plan.pairs l.opens))
+    → after ≡ connected (levels_below true) (site ds l.registrations handle) [] before → after.handles.last_number ≤ before.handles.last_number + 4096 → after.handles.last_stamp ≤ before.handles.last_stamp + 16384
+    → new ≡ record l { handles = after.handles; opens = after.opens } → IsRaised l new
+connected_raised ds l new plan handle guid value before after p b a numbers stamps n =
+    let part : IsPart l (freed handle guid l) = freed_part l handle guid in
+    let number : before.handles.last_number ≡ l.handles.last_number = ap (λ (q : Progress). q.handles.last_number) b in
+    let stamp : before.handles.last_stamp ≡ l.handles.last_stamp + 1 = ap (λ (q : Progress). q.handles.last_stamp) b in
+    let opens : before.opens ≡ (freed handle guid l).opens = ap (λ (q : Progress). q.opens) b ∙ rw p refl in
+    rw n record {
+      numbers = omega (arith, number, numbers);
+      stamps = omega (arith, stamp, stamps);
+      keys = omega arith;
+      counts = λ k h.
+          let c : CountUpTo (k + 1) before.opens = rw opens (one_higher k (freed handle guid l).opens (part.counts k h)) in
+          subst (CountUpTo (k + 1)) (sym (ap (λ (q : Progress). q.opens) a)) (connect_counts (k + 1) (levels_below true) (site ds l.registrations handle) [] before (omega arith) c);
+    }
+
+pub reinstalls : {A : Type 0} (ds : List Meaning) (l new : Lists) (handle : ℕ) (guid : List ℕ) (old value : ℕ) (events : Vec ℕ A) → removal_refusal l.handles handle guid old ≡ None → can_be_freed ds l handle guid ≡ true
+    → Replaces ds handle guid value (freed handle guid l) events new → Reinstalls ds l handle guid old value (Ok events) new
+reinstalls ds l new handle guid old value events r can w = rw r (can, w)

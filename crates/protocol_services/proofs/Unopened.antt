@@ -1,53 +1,21 @@
 -- An interface that no driver has open is freed without a stop.
-use Rattle.std.proofs.Common.{◌≡◌, ℕ, zero, suc, ◌+◌, ◌&&◌, ◌||◌, not, Bool, true, false, List, [], ◌∷◌, length, Option, Some, None, Ok, Err, inl, inr, refl, sym, ap, ◌∙◌}
-use Rattle.std.specs.List.{filter, list_any, list_all}
+use Rattle.std.proofs.Common.{◌≡◌, ℕ, ◌&&◌, not, Bool, true, false, List, [], ◌∷◌, None, Ok, Err, inl, inr, refl, sym, ap, ◌∙◌}
+use Rattle.std.specs.List.{filter, list_any}
 use Rattle.std.proofs.lemmas.Bool.{cases_Bool}
 use Rattle.page_ranges.specs.declared.statuses.Status.TheVariants.{AccessDenied}
-use Rattle.guid_handles.specs.HandleTables.{HandleTable, is_live, maker_of, numbers}
+use Rattle.guid_handles.specs.HandleTables.{is_live}
 use Rattle.guid_handles.specs.HandleChanges.{without_interface}
-use Rattle.guid_handles.proofs.GuidOrder.{and_false}
-use Rattle.open_agents.specs.declared.items.OpenRecord.{OpenRecord}
 use Rattle.open_agents.specs.OpenItems.{is_driven, is_for_driver, is_kept, items_on}
 use Rattle.driver_connect.specs.Drivers.{Meaning}
-use Rattle.driver_connect.specs.Stopping.{is_maker, is_made_by, is_no_obstacle, made_by, managers_of_made, manages_made, rounds, stop_set}
 use Rattle.driver_connect.proofs.Filters.{handles_none, names_none, pairs_none}
+use Rattle.driver_connect.proofs.NoPairs.{empty_set, none_made_by, nothing_hinders}
 use Rattle.protocol_services.specs.Lists.{Lists}
 use Rattle.protocol_services.specs.Stopping.{can_stop, once_stopped}
 use Rattle.protocol_services.specs.Removing.{can_be_freed, drivers_on, freed, once_freed, removal_refusal, uninstalled, without_opens_on, Uninstalls}
 
--- no pair made a handle
-none_made : (t : HandleTable) (n : ℕ) → is_made_by t [] n ≡ false
-none_made t n = no_maker (maker_of t n)
-  where
-    no_maker : (m : Option (ℕ × ℕ)) → is_maker [] m ≡ false
-    no_maker None = refl
-    no_maker (Some m) = refl
-
-none_pass : {X : Type 0} (p : X → Bool) → ((x : X) → p x ≡ false) → (xs : List X) → filter p xs ≡ []
-none_pass p h [] = refl
-none_pass p h (x ∷ xs) = rw (h x) (none_pass p h xs)
-
-none_managed : (t : HandleTable) (opens : List OpenRecord) → managers_of_made t opens [] ≡ []
-none_managed t opens = rw (none_pass (manages_made t []) (λ o. rw (none_made t o.controller) (and_false (is_for_driver o.attributes))) opens) refl
-
-no_rounds : (k : ℕ) (t : HandleTable) (opens : List OpenRecord) → rounds k t opens [] ≡ []
-no_rounds zero t opens = refl
-no_rounds (suc k) t opens = rw (none_managed t opens) (no_rounds k t opens)
-
--- the stop set of no pairs is empty
-empty_set : (t : HandleTable) (opens : List OpenRecord) → stop_set t opens [] ≡ []
-empty_set t opens = no_rounds (length t.handles + length opens) t opens
-
-none_made_by : (t : HandleTable) → made_by t [] ≡ []
-none_made_by t = none_pass (is_made_by t []) (none_made t) (numbers t)
-
-clear : (t : HandleTable) (opens : List OpenRecord) (os : List OpenRecord) → list_all (λ o. not (is_made_by t [] o.handle) || is_no_obstacle t [] o) os ≡ true
-clear t opens [] = refl
-clear t opens (o ∷ os) = rw (none_made t o.handle) (clear t opens os)
-
--- and nothing hinders its stop
+-- nothing hinders a stop of no pairs
 idle_stop : (ds : List Meaning) (l : Lists) (handle : ℕ) → can_stop ds l [] handle None ≡ true
-idle_stop ds l handle = rw (empty_set l.handles l.opens) (rw (clear l.handles l.opens l.opens) (rw (none_made l.handles handle) refl))
+idle_stop ds l handle = rw (empty_set l.handles l.opens) (nothing_hinders ds l.handles l.opens handle None)
 
 -- which leaves all as it was
 idle_stopped : (l : Lists) → once_stopped [] l ≡ l
@@ -101,10 +69,10 @@ pub kept_in_place : (ds : List Meaning) (l : Lists) (handle : ℕ) (guid : List 
     → is_kept l.opens handle guid ≡ true → Uninstalls ds l handle guid value (Err AccessDenied) l
 kept_in_place ds l handle guid value none idle kept = rw none (idle_free ds l handle guid idle ∙ ap not kept, refl)
 
--- So is what is taken out of a draft in which the interface was freed, once the draft is put in place.
-pub uninstalled_by_draft : (ds : List Meaning) (l draft left new : Lists) (handle : ℕ) (guid : List ℕ) (value : ℕ) → removal_refusal l.handles handle guid value ≡ None → can_be_freed ds l handle guid ≡ true
+-- So is what is taken out of lists in which the interface was freed.
+pub uninstalled_once_freed : (ds : List Meaning) (l draft left new : Lists) (handle : ℕ) (guid : List ℕ) (value : ℕ) → removal_refusal l.handles handle guid value ≡ None → can_be_freed ds l handle guid ≡ true
     → draft ≡ freed handle guid (record l { registrations = [] }) → left ≡ uninstalled handle guid draft → new ≡ record l { handles = left.handles; opens = left.opens } → Uninstalls ds l handle guid value (Ok tt) new
-uninstalled_by_draft ds l draft left new handle guid value none can d u f =
+uninstalled_once_freed ds l draft left new handle guid value none can d u f =
     rw none (
       can,
       f ∙ ap (λ (m : Lists). record l { handles = m.handles; opens = m.opens }) (u ∙ ap (uninstalled handle guid) d) ∙ with_registrations (freed handle guid l) handle guid,

@@ -1,7 +1,6 @@
 //! The protocol services on their lists: handles with their interfaces, open items, registrations.
 #![tactic(auto)]
 
-mod drafts;
 mod driving;
 mod list_bytes;
 mod opening;

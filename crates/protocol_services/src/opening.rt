@@ -4,14 +4,12 @@ ghost use Rattle.guid_handles.specs.HandleTables.{carries, value_at};
 ghost use Rattle.protocol_services.specs.Lists.{HasRoom, IsRaised};
 ghost use Rattle.open_agents.specs.OpenRule.{has_equal, open_rule};
 ghost use Rattle.protocol_services.specs.Opening.{Closes, HandlesProtocol, OpensAs, OpensProtocol, TellsItems, names_none, test_protocol};
-ghost use Rattle.protocol_services.specs.Stopping.{can_stop, once_stopped};
 
-use crate::drafts::Draft;
 use crate::protocols::Protocols;
-use driver_connect::{Driver, stop};
+use driver_connect::{Driver, StopPlan};
 use open_agents::{Decision, OpenItem};
 use page_ranges::Status;
-use std::alloc::{AllocError, Allocator};
+use std::alloc::Allocator;
 use uuid::Uuid;
 
 /// EFI_OPEN_PROTOCOL_BY_HANDLE_PROTOCOL.
@@ -139,19 +137,26 @@ impl<A: Allocator + Copy> Protocols<A> {
         ensures opens { OpensAs (map D.meaning drivers.now) (Decision.StopFirst pair) self.old handle guid opener.0 opener.1 attributes result self.new }
         ensures raised { IsRaised self.old self.new }
     {
-        let Ok(mut draft) = self.draft() else {
+        let Ok(plan) = StopPlan::new(self.alloc, &self.handles, &self.opens, &[pair]) else {
             return Err(Status::OutOfResources);
         };
-        match draft.stop(self.alloc, drivers, pair, handle, opener) {
+        match plan.can_be_carried_out(
+            self.alloc,
+            drivers,
+            &self.handles,
+            &self.opens,
+            handle,
+            Some(opener),
+        ) {
             Ok(true) => {}
             Ok(false) => return Err(Status::AccessDenied),
             Err(_) => return Err(Status::OutOfResources),
         }
         let value = told_value(self.handles.interface(handle, guid), attributes);
-        let (agent, controller) = opener;
-        match draft.opens.add(handle, guid, agent, controller, attributes) {
+        // The new item is none that the stop takes out. It comes first, as it may take memory.
+        match self.opens.add(handle, guid, opener.0, opener.1, attributes) {
             Ok(()) => {
-                self.put(draft);
+                plan.carry_out(&mut self.handles, &mut self.opens);
                 Ok(value)
             }
             Err(_) => Err(Status::OutOfResources),
@@ -239,31 +244,5 @@ fn told_value(value: Option<u64>, attributes: u32) -> Option<u64>
         None
     } else {
         value
-    }
-}
-
-impl<A: Allocator + Copy> Draft<A> {
-    /// Stops the driver of a pair for an exclusive open by an opener, its agent and controller, and answers
-    /// whether it was stopped. If not, all is as it was.
-    fn stop<D: Driver>(
-        &mut self,
-        alloc: A,
-        drivers: &[D],
-        pair: (u64, u64),
-        handle: u64,
-        opener: (u64, u64),
-    ) -> Result<bool, AllocError>
-        ensures answer { IfOk result (λ can. can ≡ can_stop (map D.meaning drivers.now) self.old (pair ∷ []) handle (Some opener)) }
-        ensures stopped { IfOk result (λ can. can ≡ true → self.new ≡ once_stopped (pair ∷ []) self.old) }
-    {
-        stop(
-            alloc,
-            &mut self.handles,
-            &mut self.opens,
-            drivers,
-            &[pair],
-            handle,
-            Some(opener),
-        )
     }
 }

@@ -1,20 +1,19 @@
 //! Taking interfaces out and putting others in their places.
-ghost use Rattle.std.specs.Prelude.{◌≡◌, ◌+◌, ◌<◌, ◌≤◌, ◌^◌, ◌++◌, true, map, [], None, IfOk};
-ghost use Rattle.std.specs.List.{filter};
+ghost use Rattle.std.specs.Prelude.{◌≡◌, ◌<◌, ◌^◌, ◌&&◌, not, true, map, [], None, IfOk, OnOk, OnErr};
+ghost use Rattle.std.specs.List.{filter, list_any};
 ghost use Rattle.guid_handles.specs.HandleTables.{carries};
-ghost use Rattle.open_agents.specs.OpenItems.{is_for_driver};
+ghost use Rattle.guid_handles.specs.HandleChanges.{IsHandleTable};
+ghost use Rattle.open_agents.specs.OpenItems.{is_for_driver, is_open_on, keeps, without_items};
+ghost use Rattle.driver_connect.specs.Stopping.{planned_stop, takes_item, without_handles, without_opens};
 ghost use Rattle.protocol_notify.specs.Registrations.{events_for};
-ghost use Rattle.protocol_services.specs.Driving.{HasRoomToConnect};
 ghost use Rattle.protocol_services.specs.Lists.{IsRaised};
 ghost use Rattle.protocol_services.specs.Removing as spec;
 
-use crate::drafts::Draft;
 use crate::protocols::Protocols;
-use driver_connect::{Driver, connect, stop};
+use driver_connect::{Connecting, Driver, StopPlan, connect_draft, may_start_after};
 use guid_handles::Handles;
-use open_agents::{OpenItem, Opens, is_for_driver};
+use open_agents::{BY_CHILD_CONTROLLER, EXCLUSIVE, OpenItem, Opens, is_for_driver};
 use page_ranges::Status;
-use protocol_notify::Notify;
 use std::alloc::{AllocError, Allocator};
 use uuid::Uuid;
 
@@ -52,17 +51,35 @@ fn drivers_among<A: Allocator>(
     Ok(pairs)
 }
 
-/// The pairs of controller and agent that have an interface open for a driver.
-fn drivers_on<A: Allocator + Copy>(
-    alloc: A,
-    opens: &Opens<A>,
+/// Whether an item keeps its interface once a stop is carried out.
+fn is_kept_after<A: Allocator + Copy>(plan: &StopPlan<A>, handle: u64, items: &[OpenItem]) -> bool
+    ensures { result ≡ list_any (λ i. keeps i.attributes && not (takes_item plan.now handle i.agent i.controller)) items.now }
+{
+    items.iter().any(|i| keeps(i.attributes) && !plan.takes_item(handle, i.agent, i.controller))
+}
+
+/// Whether an open with some attributes keeps its interface: one for a child, or an exclusive one of no
+/// driver.
+fn keeps(attributes: u32) -> bool
+    ensures { result ≡ keeps attributes }
+{
+    attributes == BY_CHILD_CONTROLLER || attributes == EXCLUSIVE
+}
+
+/// Carries out the stop that frees an interface, and takes out the items that are left on it. This
+/// takes no memory.
+fn free<A: Allocator + Copy>(
+    plan: &StopPlan<A>,
+    handles: &mut Handles<A>,
+    opens: &mut Opens<A>,
     handle: u64,
     guid: Uuid,
-) -> Result<Vec<(u64, u64), A>, AllocError>
-    ensures { IfOk result (λ v. v.items ≡ spec.drivers_on opens.now handle guid) }
+)
+    ensures handles { handles.new ≡ without_handles plan.now.handles handles.old }
+    ensures opens { opens.new ≡ without_items (is_open_on handle guid) (without_opens plan.now.handles plan.now.pairs opens.old) }
 {
-    let items = opens.items(handle, guid)?;
-    drivers_among(alloc, items.as_slice())
+    plan.carry_out(handles, opens);
+    opens.drop_interface(handle, guid);
 }
 
 /// Takes an interface out, and with the last one its handle, with the items that name it.
@@ -81,126 +98,49 @@ fn take_out<A: Allocator + Copy>(
     }
 }
 
-impl<A: Allocator + Copy> Draft<A> {
-    /// Stops the drivers that have an interface open and takes the other items of it out, where it can be
-    /// freed, which is answered. Else the draft is of no use any more.
-    fn free<D: Driver>(
-        &mut self,
-        alloc: A,
-        drivers: &[D],
-        handle: u64,
-        guid: Uuid,
-    ) -> Result<bool, AllocError>
-        ensures answer { IfOk result (λ can. can ≡ spec.can_be_freed (map D.meaning drivers.now) self.old handle guid) }
-        ensures freed { IfOk result (λ can. can ≡ true → self.new ≡ spec.freed handle guid self.old) }
-    {
-        let pairs = drivers_on(alloc, &self.opens, handle, guid)?;
-        if !stop(
-            alloc,
-            &mut self.handles,
-            &mut self.opens,
-            drivers,
-            pairs.as_slice(),
-            handle,
-            None,
-        )? {
-            return Ok(false);
-        }
-        if self.opens.is_kept(handle, guid) {
-            return Ok(false);
-        }
-        self.opens.drop_interface(handle, guid);
-        Ok(true)
-    }
-
-    /// Takes an interface out, and with the last one its handle, with the items that name it.
-    fn uninstall(&mut self, handle: u64, guid: Uuid)
-        requires { carries self.old.handles guid handle ≡ true }
-        ensures { self.new ≡ spec.uninstalled handle guid self.old }
-    {
-        take_out(&mut self.handles, &mut self.opens, handle, guid);
-    }
-
-    /// Gives an interface another value, in its place and with a new stamp.
-    fn replace(&mut self, handle: u64, guid: Uuid, value: u64)
-        requires there { carries self.old.handles guid handle ≡ true }
-        requires stamps { self.old.handles.last_stamp < 2 ^ 62 }
-        ensures { self.new ≡ spec.replaced handle guid value self.old }
-    {
-        self.handles.replace(handle, guid, value);
-    }
-
-    /// Connects a handle and all that is made below it, with no driver named, and answers the events that
-    /// are signaled. Where no start is carried out there are none. On an `Err` memory ran out.
-    fn reconnect<D: Driver>(
-        &mut self,
-        alloc: A,
-        registrations: &Notify<A>,
-        drivers: &[D],
-        handle: u64,
-    ) -> Result<Vec<u64, A>, AllocError>
-        requires { HasRoomToConnect self.old }
-        ensures events { IfOk result (λ events. events.items ≡ (spec.reconnected (map D.meaning drivers.now) handle (record self.old { registrations = registrations.now })).events) }
-        ensures lists { IfOk result (λ events. self.new ≡ spec.with_progress (spec.reconnected (map D.meaning drivers.now) handle (record self.old { registrations = registrations.now })) self.old) }
-        ensures numbers { self.new.handles.last_number ≤ self.old.handles.last_number + 4096 }
-        ensures stamps { self.new.handles.last_stamp ≤ self.old.handles.last_stamp + 16384 }
-    {
-        // The contract of this look-up says that the handles are in order.
-        let _numbers = self.handles.all();
-        match connect(
-            alloc,
-            &mut self.handles,
-            &mut self.opens,
-            registrations,
-            drivers,
-            handle,
-            &[],
-            true,
-        ) {
-            Ok(events) => Ok(events),
-            Err(Status::NotFound) => Ok(Vec::new(alloc)),
-            Err(_) => Err(AllocError),
-        }
-    }
-
-    /// Signals the registrations for a GUID that has a new interface on a handle, connects the handle, and
-    /// answers the events of both, in this order. On an `Err` memory ran out.
-    fn announce<D: Driver>(
-        &mut self,
-        alloc: A,
-        registrations: &Notify<A>,
-        drivers: &[D],
-        handle: u64,
-        guid: Uuid,
-    ) -> Result<Vec<u64, A>, AllocError>
-        requires { HasRoomToConnect self.old }
-        ensures events { IfOk result (λ events. events.items ≡ events_for registrations.now guid ++ (spec.reconnected (map D.meaning drivers.now) handle (record self.old { registrations = registrations.now })).events) }
-        ensures lists { IfOk result (λ events. self.new ≡ spec.with_progress (spec.reconnected (map D.meaning drivers.now) handle (record self.old { registrations = registrations.now })) self.old) }
-        ensures numbers { IfOk result (λ events. self.new.handles.last_number ≤ self.old.handles.last_number + 4096) }
-        ensures stamps { IfOk result (λ events. self.new.handles.last_stamp ≤ self.old.handles.last_stamp + 16384) }
-    {
-        let mut events = registrations.signaled(guid)?;
-        let more = self.reconnect(alloc, registrations, drivers, handle)?;
-        events.extend_from_slice(more.as_slice())?;
-        Ok(events)
-    }
-}
-
 impl<A: Allocator + Copy> Protocols<A> {
-    /// A draft with an interface that nobody has open any more.
+    /// What is taken out to free an interface, found on the lists as they are.
     ///
     /// ACCESS_DENIED: it can't be freed. OUT_OF_RESOURCES: memory ran out.
-    fn freed<D: Driver>(&self, drivers: &[D], handle: u64, guid: Uuid) -> Result<Draft<A>, Status>
-        ensures { spec.Frees None (spec.can_be_freed (map D.meaning drivers.now) self.now handle guid) (λ d. d ≡ spec.freed handle guid (record self.now { registrations = [] })) result self.now self.now }
+    fn plan_to_free<D: Driver>(
+        &self,
+        drivers: &[D],
+        handle: u64,
+        guid: Uuid,
+    ) -> Result<StopPlan<A>, Status>
+        ensures { spec.Frees None (spec.can_be_freed (map D.meaning drivers.now) self.now handle guid) (λ plan. plan ≡ planned_stop self.now.handles self.now.opens (spec.drivers_on self.now.opens handle guid)) result self.now self.now }
     {
-        let Ok(mut draft) = self.draft() else {
+        let Ok(items) = self.opens.items(handle, guid) else {
             return Err(Status::OutOfResources);
         };
-        match draft.free(self.alloc, drivers, handle, guid) {
-            Ok(true) => Ok(draft),
-            Ok(false) => Err(Status::AccessDenied),
-            Err(_) => Err(Status::OutOfResources),
+        let Ok(plan) = self.plan_among(items.as_slice()) else {
+            return Err(Status::OutOfResources);
+        };
+        let Ok(can) = plan.can_be_carried_out(
+            self.alloc,
+            drivers,
+            &self.handles,
+            &self.opens,
+            handle,
+            None,
+        ) else {
+            return Err(Status::OutOfResources);
+        };
+        if !can {
+            return Err(Status::AccessDenied);
         }
+        if is_kept_after(&plan, handle, items.as_slice()) {
+            return Err(Status::AccessDenied);
+        }
+        Ok(plan)
+    }
+
+    /// What the stop of the drivers of some items takes out.
+    fn plan_among(&self, items: &[OpenItem]) -> Result<StopPlan<A>, AllocError>
+        ensures { IfOk result (λ plan. plan ≡ planned_stop self.now.handles self.now.opens (map (λ i. (i.controller, i.agent)) (filter (λ i. is_for_driver i.attributes) items.now))) }
+    {
+        let pairs = drivers_among(self.alloc, items)?;
+        StopPlan::new(self.alloc, &self.handles, &self.opens, pairs.as_slice())
     }
 
     /// UninstallProtocolInterface: takes out the interface of a GUID with a value, and with the last one
@@ -223,9 +163,9 @@ impl<A: Allocator + Copy> Protocols<A> {
             return Err(status);
         }
         if self.opens.is_driven(handle, guid) {
-            let mut draft = self.freed(drivers, handle, guid)?;
-            draft.uninstall(handle, guid);
-            self.put(draft);
+            let plan = self.plan_to_free(drivers, handle, guid)?;
+            free(&plan, &mut self.handles, &mut self.opens, handle, guid);
+            take_out(&mut self.handles, &mut self.opens, handle, guid);
             return Ok(());
         }
         if self.opens.is_kept(handle, guid) {
@@ -257,14 +197,96 @@ impl<A: Allocator + Copy> Protocols<A> {
         if let Some(status) = removal_refusal(&self.handles, handle, guid, old_value) {
             return Err(status);
         }
-        let mut draft = self.freed(drivers, handle, guid)?;
-        draft.replace(handle, guid, new_value);
-        match draft.announce(self.alloc, &self.registrations, drivers, handle, guid) {
-            Ok(events) => {
-                self.put(draft);
-                Ok(events)
-            }
+        let plan = self.plan_to_free(drivers, handle, guid)?;
+        match self.replace_freed(&plan, drivers, handle, guid, new_value) {
+            Ok(events) => Ok(events),
             Err(_) => Err(Status::OutOfResources),
         }
+    }
+
+    /// Frees an interface, gives it another value and connects its handle with all below it. It answers
+    /// the events of the GUID, then those of the connect. On an `Err` nothing changes.
+    fn replace_freed<D: Driver>(
+        &mut self,
+        plan: &StopPlan<A>,
+        drivers: &[D],
+        handle: u64,
+        guid: Uuid,
+        value: u64,
+    ) -> Result<Vec<u64, A>, AllocError>
+        requires plan { plan.now ≡ planned_stop self.old.handles self.old.opens (spec.drivers_on self.old.opens handle guid) }
+        requires there { carries (spec.freed handle guid self.old).handles guid handle ≡ true }
+        requires room { spec.HasRoomToReinstall self.old }
+        ensures ok { IfOk result (λ events. spec.Replaces (map D.meaning drivers.now) handle guid value (spec.freed handle guid self.old) events self.new) }
+        ensures err { OnErr result (self.new ≡ self.old) }
+        ensures raised { IsRaised self.old self.new }
+    {
+        if may_start_after(
+            self.alloc,
+            plan,
+            &self.handles,
+            &self.opens,
+            drivers,
+            handle,
+            guid,
+            value,
+        )? {
+            self.replace_on_draft(plan, drivers, handle, guid, value)
+        } else {
+            self.replace_in_place(plan, handle, guid, value)
+        }
+    }
+
+    /// Frees an interface and gives it another value. It answers the events of the GUID. On an `Err`
+    /// nothing changes.
+    fn replace_in_place(
+        &mut self,
+        plan: &StopPlan<A>,
+        handle: u64,
+        guid: Uuid,
+        value: u64,
+    ) -> Result<Vec<u64, A>, AllocError>
+        requires plan { plan.now ≡ planned_stop self.old.handles self.old.opens (spec.drivers_on self.old.opens handle guid) }
+        requires there { carries (spec.freed handle guid self.old).handles guid handle ≡ true }
+        requires stamps { self.old.handles.last_stamp < 2 ^ 62 }
+        ensures lists { OnOk result (self.new ≡ spec.replaced handle guid value (spec.freed handle guid self.old)) }
+        ensures order { OnOk result (IsHandleTable self.new.handles) }
+        ensures events { IfOk result (λ events. events.items ≡ events_for self.old.registrations guid) }
+        ensures err { OnErr result (self.new ≡ self.old) }
+    {
+        let events = self.registrations.signaled(guid)?;
+        free(plan, &mut self.handles, &mut self.opens, handle, guid);
+        self.handles.replace(handle, guid, value);
+        // The contract of this look-up says that the handles are in order.
+        let _numbers = self.handles.all();
+        Ok(events)
+    }
+
+    /// Frees an interface, gives it another value and connects its handle with all below it, on a copy of
+    /// the lists that is put in place at the end. It answers the events of the GUID, then those of the
+    /// connect. On an `Err` nothing changes.
+    fn replace_on_draft<D: Driver>(
+        &mut self,
+        plan: &StopPlan<A>,
+        drivers: &[D],
+        handle: u64,
+        guid: Uuid,
+        value: u64,
+    ) -> Result<Vec<u64, A>, AllocError>
+        requires plan { plan.now ≡ planned_stop self.old.handles self.old.opens (spec.drivers_on self.old.opens handle guid) }
+        requires there { carries (spec.freed handle guid self.old).handles guid handle ≡ true }
+        requires room { spec.HasRoomToReinstall self.old }
+        ensures ok { IfOk result (λ events. spec.Replaces (map D.meaning drivers.now) handle guid value (spec.freed handle guid self.old) events self.new) }
+        ensures err { OnErr result (self.new ≡ self.old) }
+        ensures raised { IsRaised self.old self.new }
+    {
+        let mut events = self.registrations.signaled(guid)?;
+        let mut draft = Connecting::begin(self.alloc, &self.handles, &self.opens)?;
+        free(plan, &mut draft.handles, &mut draft.opens, handle, guid);
+        draft.handles.replace(handle, guid, value);
+        connect_draft(self.alloc, &mut draft, &self.registrations, drivers, handle)?;
+        events.extend_from_slice(draft.events.as_slice())?;
+        draft.put_in_place(&mut self.handles, &mut self.opens);
+        Ok(events)
     }
 }

@@ -1,22 +1,25 @@
-use Rattle.std.proofs.Common.{map, [], ◌∷◌, ◌∙◌}
-use Rattle.protocol_services.proofs.Freed.{left_can_count, opened_stopped, opened_stopped_raised}
+use Rattle.std.proofs.Common.{map, refl}
+use Rattle.protocol_services.specs.Lists.{Lists}
+use Rattle.protocol_services.proofs.Freed.{opened_stopped, opened_stopped_raised}
 use Rattle.protocol_services.proofs.Raised.{stays_raised}
 use Rattle.protocol_services.proofs.protocols.Protocols.open_after_stop.Goals as goal
 
-pub add-requires : goal.add-requires
-add-requires g c =
-    left_can_count c.args.self.now c.in-Ok.draft _ (c.args.pair ∷ []) c.args.handle c.args.guid c.args.opener.0 c.args.opener.1 c.args.attributes c.requires.counts c.in-Ok.ensures
-    (c.draft-2.view_is ∙ c.in-Ok-true.ensures.stopped c.in-Ok-true.field-0-test)
-
 pub returns-in-Ok-add-clause-opens : goal.returns-in-Ok-add-clause-opens
 returns-in-Ok-add-clause-opens g c =
-    opened_stopped (map g.D.Driver.meaning c.args.drivers.now) c.args.self.now c.in-Ok.draft _ c.put.new.self c.args.pair c.args.handle c.args.guid c.args.opener c.args.attributes c.in-Ok-true.field-0 c.told_value-value.result
-    c.add.new.self c.in-Ok.ensures c.in-Ok-true.ensures.answer c.in-Ok-true.field-0-test (c.draft-2.view_is ∙ c.in-Ok-true.ensures.stopped c.in-Ok-true.field-0-test) c.in-Ok-add.ensures.ok c.put.ensures (rw (← c.self.view_is) (rw c.interface.ensures.value at c.told_value-value.ensures))
+    let l : Lists = record { handles = c.self.inside.handles; opens = c.self.inside.opens; registrations = c.self.inside.registrations } in
+    rw (← c.self.view_is)
+    (opened_stopped (map g.D.Driver.meaning c.args.drivers.now) l (record { handles = c.carry_out.new.handles; opens = c.carry_out.new.opens; registrations = l.registrations }) c.in-Ok.plan c.args.pair c.args.handle c.args.guid c.args.opener
+    c.args.attributes c.in-Ok-true.field-0 c.told_value-value.result c.add.new.self c.in-Ok.ensures c.in-Ok-true.ensures c.in-Ok-true.field-0-test c.in-Ok-add.ensures.ok
+    (rw c.carry_out.ensures.handles (rw c.carry_out.ensures.opens refl)) (rw c.interface.ensures.value at c.told_value-value.ensures))
 
 pub returns-in-Ok-add-clause-raised : goal.returns-in-Ok-add-clause-raised
 returns-in-Ok-add-clause-raised g c =
-    opened_stopped_raised c.args.self.now c.in-Ok.draft _ c.put.new.self (c.args.pair ∷ []) c.args.handle c.args.guid c.args.opener.0 c.args.opener.1 c.args.attributes c.add.new.self c.in-Ok.ensures
-    (c.draft-2.view_is ∙ c.in-Ok-true.ensures.stopped c.in-Ok-true.field-0-test) c.in-Ok-add.ensures.ok c.put.ensures
+    let l : Lists = record { handles = c.self.inside.handles; opens = c.self.inside.opens; registrations = c.self.inside.registrations } in
+    rw (← c.self.view_is)
+    (opened_stopped_raised l (record { handles = c.carry_out.new.handles; opens = c.carry_out.new.opens; registrations = l.registrations }) c.in-Ok.plan c.args.handle c.args.guid c.args.opener.0 c.args.opener.1 c.args.attributes c.add.new.self
+    c.in-Ok-add.ensures.ok (rw c.carry_out.ensures.handles (rw c.carry_out.ensures.opens refl)))
 
-pub returns-in-Err-add-clause-raised : goal.returns-in-Err-add-clause-raised
-returns-in-Err-add-clause-raised g c = stays_raised c.args.self.now
+pub returns-clause-raised : goal.returns-clause-raised
+returns-clause-raised g c =
+    let l : Lists = record { handles = c.self.inside.handles; opens = c.self.inside.opens; registrations = c.self.inside.registrations } in
+    rw (← c.self.view_is) (rw c.in-Err-add.ensures.err (stays_raised l))

@@ -2,26 +2,39 @@ use Rattle.std.proofs.Common.{◌≡◌, [], map, None, refl, sym, ◌∙◌}
 use Rattle.protocol_services.specs.Lists.{Lists}
 use Rattle.protocol_services.specs.Removing.{removal_refusal, without_opens_on}
 use Rattle.protocol_services.proofs.Raised.{stays_raised}
-use Rattle.protocol_services.proofs.Unopened.{idle_freed, kept_in_place, uninstalled_by_draft, uninstalled_in_place}
-use Rattle.protocol_services.proofs.Freed.{draft_carries, none_left, not_refused, uninstalled_raised}
+use Rattle.protocol_services.proofs.Unopened.{idle_freed, kept_in_place, uninstalled_once_freed, uninstalled_in_place}
+use Rattle.protocol_services.proofs.Freed.{draft_carries, free_leaves, none_left, uninstalled_raised}
 use Rattle.protocol_services.proofs.protocols.Protocols.uninstall.Goals as goal
 
-pub uninstall-requires : goal.uninstall-requires
-uninstall-requires g c =
-    draft_carries (map g.D.Driver.meaning c.args.drivers.now) c.args.self.now c.in_ok-draft.draft c.args.handle c.args.guid c.args.value
-    (not_refused c.args.self.now _ c.args.handle c.args.guid c.args.value c.removal_refusal.result c.self.view_is c.removal_refusal.ensures c.in_default.not-Some) c.in_ok-draft.ensures.0 c.in_ok-draft.ensures.1
+pub take_out-requires : goal.take_out-requires
+take_out-requires g c =
+    let l : Lists = record { handles = c.self.inside.handles; opens = c.self.inside.opens; registrations = c.self.inside.registrations } in
+    let none : removal_refusal l.handles c.args.handle c.args.guid c.args.value ≡ None = sym c.removal_refusal.ensures ∙ none_left c.removal_refusal.result c.in_default.not-Some in
+    let left : Lists = record { handles = c.free.new.handles; opens = c.free.new.opens; registrations = [] } in
+    draft_carries (map g.D.Driver.meaning c.args.drivers.now) l left c.args.handle c.args.guid c.args.value none (rw (← c.self.view_is) at c.in_ok-plan.ensures.0)
+    (free_leaves l c.args.handle c.args.guid c.in_ok-plan.plan c.free.new.handles c.free.new.opens (rw (← c.self.view_is) at c.in_ok-plan.ensures.1) c.free.ensures.handles c.free.ensures.opens)
 
 pub returns-then-is_driven-clause-uninstalls : goal.returns-then-is_driven-clause-uninstalls
 returns-then-is_driven-clause-uninstalls g c =
-    uninstalled_by_draft (map g.D.Driver.meaning c.args.drivers.now) c.args.self.now c.in_ok-draft.draft c.uninstall.new.self c.put.new.self c.args.handle c.args.guid c.args.value
-    (not_refused c.args.self.now _ c.args.handle c.args.guid c.args.value c.removal_refusal.result c.self.view_is c.removal_refusal.ensures c.in_default.not-Some) c.in_ok-draft.ensures.0 c.in_ok-draft.ensures.1 c.uninstall.ensures c.put.ensures
+    let l : Lists = record { handles = c.self.inside.handles; opens = c.self.inside.opens; registrations = c.self.inside.registrations } in
+    let none : removal_refusal l.handles c.args.handle c.args.guid c.args.value ≡ None = sym c.removal_refusal.ensures ∙ none_left c.removal_refusal.result c.in_default.not-Some in
+    let free : Lists = record { handles = c.free.new.handles; opens = c.free.new.opens; registrations = [] } in
+    let left : Lists = record { handles = c.take_out.new.handles; opens = c.take_out.new.opens; registrations = [] } in
+    rw (← c.self.view_is)
+    (uninstalled_once_freed (map g.D.Driver.meaning c.args.drivers.now) l free left (record left { registrations = l.registrations }) c.args.handle c.args.guid c.args.value none (rw (← c.self.view_is) at c.in_ok-plan.ensures.0)
+    (free_leaves l c.args.handle c.args.guid c.in_ok-plan.plan c.free.new.handles c.free.new.opens (rw (← c.self.view_is) at c.in_ok-plan.ensures.1) c.free.ensures.handles c.free.ensures.opens) c.take_out.ensures refl)
 
 pub returns-then-is_driven-clause-raised : goal.returns-then-is_driven-clause-raised
 returns-then-is_driven-clause-raised g c =
-    uninstalled_raised c.args.self.now c.in_ok-draft.draft c.uninstall.new.self c.put.new.self c.args.handle c.args.guid c.in_ok-draft.ensures.1 c.uninstall.ensures c.put.ensures
+    let l : Lists = record { handles = c.self.inside.handles; opens = c.self.inside.opens; registrations = c.self.inside.registrations } in
+    let free : Lists = record { handles = c.free.new.handles; opens = c.free.new.opens; registrations = [] } in
+    let left : Lists = record { handles = c.take_out.new.handles; opens = c.take_out.new.opens; registrations = [] } in
+    rw (← c.self.view_is)
+    (uninstalled_raised l free left (record left { registrations = l.registrations }) c.args.handle c.args.guid
+    (free_leaves l c.args.handle c.args.guid c.in_ok-plan.plan c.free.new.handles c.free.new.opens (rw (← c.self.view_is) at c.in_ok-plan.ensures.1) c.free.ensures.handles c.free.ensures.opens) c.take_out.ensures refl)
 
-pub returns-in_err-draft-clause-raised : goal.returns-in_err-draft-clause-raised
-returns-in_err-draft-clause-raised g c = stays_raised c.args.self.now
+pub returns-in_err-plan-clause-raised : goal.returns-in_err-plan-clause-raised
+returns-in_err-plan-clause-raised g c = stays_raised c.args.self.now
 
 pub returns-then-is_kept-clause-uninstalls : goal.returns-then-is_kept-clause-uninstalls
 returns-then-is_kept-clause-uninstalls g c =
@@ -36,17 +49,17 @@ returns-then-is_kept-clause-raised g c = stays_raised c.args.self.now
 pub returns-clause-uninstalls : goal.returns-clause-uninstalls
 returns-clause-uninstalls g c =
     let l : Lists = record { handles = c.self.inside.handles; opens = c.self.inside.opens; registrations = c.self.inside.registrations } in
-    let left : Lists = record { handles = c.take_out.new.handles; opens = c.take_out.new.opens; registrations = [] } in
+    let left : Lists = record { handles = c.take_out-2.new.handles; opens = c.take_out-2.new.opens; registrations = [] } in
     let none : removal_refusal l.handles c.args.handle c.args.guid c.args.value ≡ None = sym c.removal_refusal.ensures ∙ none_left c.removal_refusal.result c.in_default.not-Some in
     rw (← c.self.view_is)
     (uninstalled_in_place (map g.D.Driver.meaning c.args.drivers.now) l left (record left { registrations = l.registrations }) c.args.handle c.args.guid c.args.value none (sym c.is_driven.ensures ∙ c.if-is_driven.false)
-    (sym c.is_kept.ensures ∙ c.if-is_kept.false) (rw c.drop_interface.ensures at c.take_out.ensures) refl)
+    (sym c.is_kept.ensures ∙ c.if-is_kept.false) (rw c.drop_interface.ensures at c.take_out-2.ensures) refl)
 
 pub returns-clause-raised : goal.returns-clause-raised
 returns-clause-raised g c =
     let l : Lists = record { handles = c.self.inside.handles; opens = c.self.inside.opens; registrations = c.self.inside.registrations } in
     let start : Lists = record l { registrations = [] } in
-    let left : Lists = record { handles = c.take_out.new.handles; opens = c.take_out.new.opens; registrations = [] } in
+    let left : Lists = record { handles = c.take_out-2.new.handles; opens = c.take_out-2.new.opens; registrations = [] } in
     rw (← c.self.view_is)
     (uninstalled_raised l (without_opens_on c.args.handle c.args.guid start) left (record left { registrations = l.registrations }) c.args.handle c.args.guid
-    (sym (idle_freed start c.args.handle c.args.guid (sym c.is_driven.ensures ∙ c.if-is_driven.false))) (rw c.drop_interface.ensures at c.take_out.ensures) refl)
+    (sym (idle_freed start c.args.handle c.args.guid (sym c.is_driven.ensures ∙ c.if-is_driven.false))) (rw c.drop_interface.ensures at c.take_out-2.ensures) refl)
