@@ -59,10 +59,10 @@
  *     struct block rattle_realloc(void *start, size_t kept, size_t size, size_t align);
  *     void rattle_dealloc(void *start);
  *
- * docs/C.md says what these owe, how to link, and how a firmware builds the library. On x86-64 it runs
- * on every processor and may be interrupted anywhere, as it uses no byte below the stack pointer.
- * ReinstallProtocolInterface and ConnectController take up to 36 KB of stack, RafkudinMake 28 KB, all
- * others up to 7 KB. */
+ * docs/C.md says what these owe, how to link, and how a firmware builds the library. On x86-64 it
+ * runs on every processor and may be interrupted anywhere, as it uses no byte below the stack
+ * pointer. ReinstallProtocolInterface and ConnectController take up to 36 KB of stack, RafkudinMake
+ * 28 KB, all others up to 7 KB. */
 #ifndef RAFKUDIN_H
 #define RAFKUDIN_H
 
