@@ -18,7 +18,7 @@ filled = sed -e 's|@PREFIX@|$(abspath $(PREFIX))|' -e 's|@VERSION@|$(VERSION)|'
 library:
 	tools/c-library --target $(TARGET)
 
-$(archive):
+$(archive): $(wildcard crates/*/src/*.rt) crates.txt c/heap.c
 	tools/c-library --target $(TARGET)
 
 install: $(archive)
