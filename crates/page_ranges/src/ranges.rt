@@ -2,16 +2,17 @@
 use crate::types::MemoryType;
 
 /// So many pages in a row, from a first page number on.
-#[derive(Clone, Copy, Debug, PartialEq, Eq)]
+#[derive(Clone, Copy, Debug, Default, PartialEq, Eq)]
 pub struct PageRange {
     pub first: u64,
     pub pages: u64,
 }
 
 /// Whose pages are.
-#[derive(Clone, Copy, Debug, PartialEq, Eq)]
+#[derive(Clone, Copy, Debug, Default, PartialEq, Eq)]
 pub enum Owner {
     /// The machine's own, and every conventional page.
+    #[default]
     Given,
     /// Placed by AllocatePages.
     Pages,
@@ -20,7 +21,7 @@ pub enum Owner {
 }
 
 /// Pages in a row of one type, one set of attributes and one owner.
-#[derive(Clone, Copy, Debug, PartialEq, Eq)]
+#[derive(Clone, Copy, Debug, Default, PartialEq, Eq)]
 pub struct Run {
     pub range: PageRange,
     pub mtype: MemoryType,

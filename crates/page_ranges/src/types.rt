@@ -12,7 +12,7 @@ const RUNTIME: u64 = 0x8000_0000_0000_0000;
 const SPECIFIC_PURPOSE: u64 = 0x4_0000;
 
 /// A memory type (EFI_MEMORY_TYPE), any 32-bit number.
-#[derive(Clone, Copy, Debug, PartialEq, Eq)]
+#[derive(Clone, Copy, Debug, Default, PartialEq, Eq)]
 pub struct MemoryType {
     number: u32,
 }
