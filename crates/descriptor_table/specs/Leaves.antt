@@ -1,5 +1,5 @@
 -- Runs in leaves.
-use Rattle.std.specs.Prelude.{◌≡◌, ℕ, ◌+◌, ◌<◌, ◌≤◌, zero, suc, List, [], ◌∷◌, ◌++◌, Option, Some, None, length, map, take, drop, slice_get, flat_map}
+use Rattle.std.specs.Prelude.{◌≡◌, ℕ, ◌+◌, ◌<◌, ◌≤◌, zero, suc, List, [], ◌∷◌, ◌++◌, Option, Some, None, length, map, take, drop, slice_get, slice_index_or, flat_map}
 use Rattle.std.specs.List.{AllByRecursion}
 use Rattle.page_ranges.specs.declared.ranges.PageRange.{PageRange}
 use Rattle.page_ranges.specs.declared.ranges.Run.{Run}
@@ -15,6 +15,10 @@ first_page (r ∷ rs) = r.range.first
 -- the runs of leaves, one leaf after the other
 abbrev pub runs_in : List (List Run) → List Run
 runs_in ls = flat_map (λ l. l) ls
+
+-- the leaf at an index
+abbrev pub leaf_at : List (List Run) → ℕ → List Run
+leaf_at ls i = slice_index_or ls i []
 
 -- a leaf has at least one run, and at most 32
 abbrev pub IsLeaf : List Run → Type 0

@@ -1,7 +1,9 @@
 //! Runs in leaves.
-ghost use Rattle.std.specs.Prelude.{◌≡◌, ◌<◌, ◌≤◌, ◌++◌, length, map, take, drop, IfOk, OnOk, OnErr};
+ghost use Rattle.std.specs.Prelude.{◌≡◌, ◌+◌, ◌-◌, ◌<◌, ◌≤◌, ◌++◌, length, map, take, drop, IfOk, OnOk, OnErr};
 ghost use Rattle.descriptor_table.specs.Leaves.{first_page, runs_in, AreLeaves};
 
+use crate::run_arrays::replace_runs;
+use arrayvec::ArrayVec;
 use page_ranges::Run;
 use std::alloc::{AllocError, Allocator, Global};
 use std::marker::Model;
@@ -13,7 +15,7 @@ pub(crate) const LEAF_SIZE: usize = 32;
 #[derive(Drop)]
 pub(crate) struct Leaf<A: Allocator = Global> {
     first: u64,
-    runs: Vec<Run, A>,
+    runs: Box<ArrayVec<Run, LEAF_SIZE>, A>,
 }
 
 impl<A: Allocator> Model for Leaf<A> {
@@ -23,20 +25,22 @@ impl<A: Allocator> Model for Leaf<A> {
 
     ghost Value = { List Run };
 
-    ghost view = { λ l. l.runs.items };
+    ghost view = { λ l. l.runs.value.items };
 
-    ghost invariant = { λ l. l.first ≡ first_page l.runs.items };
+    ghost invariant = { λ l. l.first ≡ first_page l.runs.value.items };
 }
 
 impl<A: Allocator + Copy> Leaf<A> {
     /// A leaf of some runs.
     fn from_slice(alloc: A, runs: &[Run]) -> Result<Leaf<A>, AllocError>
-        requires { 0 < length runs.now }
+        requires some { 0 < length runs.now }
+        requires fits { length runs.now ≤ 32 }
         ensures { IfOk result (λ leaf. leaf ≡ runs.now) }
     {
         let first = runs[0].range.first;
-        let runs = Vec::from_slice(alloc, runs)?;
-        Ok(Leaf { first, runs })
+        let mut leaf = Box::new(alloc, ArrayVec::new())?;
+        let _filled = leaf.try_extend_from_slice(runs);
+        Ok(Leaf { first, runs: leaf })
     }
 
     /// The first page of the first run.
@@ -55,22 +59,16 @@ impl<A: Allocator + Copy> Leaf<A> {
         self.runs.as_slice()
     }
 
-    /// Puts runs in the place of some of the leaf's. On an `Err` the leaf is as it was.
-    pub(crate) fn replace(
-        &mut self,
-        low: usize,
-        high: usize,
-        parts: Vec<Run, A>,
-    ) -> Result<(), AllocError>
+    /// Puts runs in the place of some of the leaf's.
+    pub(crate) fn replace(&mut self, low: usize, high: usize, parts: &[Run])
         requires order { low ≤ high }
         requires bound { high ≤ length self.old }
-        requires some { 0 < length parts.items }
-        ensures ok { OnOk result (self.new ≡ take low self.old ++ (parts.items ++ drop high self.old)) }
-        ensures err { OnErr result (self.new ≡ self.old) }
+        requires some { 0 < length parts.now }
+        requires fits { length self.old + length parts.now ≤ 32 + (high - low) }
+        ensures { self.new ≡ take low self.old ++ (parts.now ++ drop high self.old) }
     {
-        let _replaced = self.runs.splice(low..high, parts)?;
+        replace_runs(&mut self.runs, low, high, parts);
         self.first = self.runs[0].range.first;
-        Ok(())
     }
 }
 

@@ -9,6 +9,7 @@ mod free_entries;
 mod leaf_searches;
 mod leaves;
 mod retyping;
+mod run_arrays;
 mod searches;
 mod table;
 mod tallies;

@@ -1,10 +1,11 @@
 //! A range of a table that gets a type and an owner.
-ghost use Rattle.std.specs.Prelude.{◌≡◌, ◌+◌, ◌-◌, ◌<◌, ◌≤◌, ◌^◌, ◌++◌, [], length, map, take, drop, IfOk, OnErr};
+ghost use Rattle.std.specs.Prelude.{◌≡◌, ◌+◌, ◌-◌, ◌<◌, ◌≤◌, ◌^◌, ◌++◌, [], length, map, take, drop, IfOk, OnErr, IfSome, OnSome, IfNone};
+ghost use Rattle.std.specs.List.{splice};
 ghost use Rattle.page_ranges.specs.declared.ranges.Owner.TheVariants.{Given};
 ghost use Rattle.page_ranges.specs.MemoryTypes.{conventional, page_count};
 ghost use Rattle.page_ranges.specs.Memory.{IsPresent, AllInRange, retyped};
 ghost use Rattle.page_ranges.specs.Runs.{pages_of, AreRuns};
-ghost use Rattle.descriptor_table.specs.Leaves.{runs_in, AreLeaves, AreLeavesNear, BeginIn, GrowsBy, IsLeafTable};
+ghost use Rattle.descriptor_table.specs.Leaves.{leaf_at, runs_in, AreLeaves, AreLeavesNear, BeginIn, GrowsBy, IsLeafTable};
 ghost use Rattle.descriptor_table.specs.Tables.{EndBy, IsWindow};
 
 use crate::beginnings::{begun_in, runs_before};
@@ -66,10 +67,10 @@ fn leaves_near<A: Allocator + Copy>(leaves: &[Leaf<A>], range: PageRange) -> (us
     with_neighbour(leaves, range, below.saturating_sub(1), high)
 }
 
-/// Puts runs in the place of some of those in leaves next to each other, which are `runs`: in the leaf
-/// itself where there is one and they fit it, and else in new leaves. The map of the runs that go has
-/// so many entries, and that of those that come. On an `Err` the leaves are as they were.
-fn put_parts<A: Allocator + Copy>(
+/// Puts runs in the place of some of those in leaves next to each other, which are `runs`,
+/// in new leaves. The map of the runs that go has so many entries, and that of those that come. On an
+/// `Err` the leaves are as they were.
+fn put_in_new_leaves<A: Allocator + Copy>(
     leaves: &mut Vec<Leaf<A>, A>,
     begun: &mut Tally<A>,
     sizes: &mut Tally<A>,
@@ -97,13 +98,6 @@ fn put_parts<A: Allocator + Copy>(
 {
     let (from, to) = near;
     let (low, high) = window;
-    let count = runs.len() - (high - low) + parts.len();
-    if to - from == 1 && !parts.is_empty() && count <= LEAF_SIZE {
-        leaves[from].replace(low, high, parts)?;
-        begun.change(from, entries.0, entries.1);
-        sizes.set(from, count as u8);
-        return Ok(());
-    }
     let alloc = *leaves.allocator();
     let _replaced = runs.splice(low..high, parts)?;
     let new_leaves = leaves_of(alloc, runs.as_slice())?;
@@ -121,8 +115,130 @@ fn put_parts<A: Allocator + Copy>(
     Ok(())
 }
 
-/// Gives the pages of a range a type and an owner, and answers how many entries the map then has.
-/// All room is taken before the leaves change.
+/// Puts runs in the place of some of those of a leaf, which they fit. The map of the runs that go has
+/// so many entries, and that of those that come.
+fn put_in_leaf<A: Allocator + Copy>(
+    leaves: &mut Vec<Leaf<A>, A>,
+    begun: &mut Tally<A>,
+    sizes: &mut Tally<A>,
+    index: usize,
+    window: (usize, usize),
+    parts: &[Run],
+    entries: (usize, usize),
+)
+    requires leaves { AreLeaves leaves.old.items }
+    requires index { index < length leaves.old.items }
+    requires window { (window.0 ≤ window.1) × (window.1 ≤ length (leaf_at leaves.old.items index)) }
+    requires some { 0 < length parts.now }
+    requires fits { length (leaf_at leaves.old.items index) + length parts.now ≤ 32 + (window.1 - window.0) }
+    requires begun { BeginIn [] leaves.old.items begun.old }
+    requires sizes { sizes.old ≡ map length leaves.old.items }
+    requires grows { GrowsBy (runs_in (take (index + 1) leaves.old.items)) (runs_in (take index leaves.old.items) ++ splice (leaf_at leaves.old.items index) window.0 window.1 parts.now) (runs_in (drop (index + 1) leaves.old.items)) entries.0 entries.1 }
+    requires few { entries.1 < 2 ^ 63 }
+    requires order { AreRuns (runs_in (take index leaves.old.items) ++ (splice (leaf_at leaves.old.items index) window.0 window.1 parts.now ++ runs_in (drop (index + 1) leaves.old.items))) }
+    requires ends { EndBy page_count (runs_in (take index leaves.old.items) ++ (splice (leaf_at leaves.old.items index) window.0 window.1 parts.now ++ runs_in (drop (index + 1) leaves.old.items))) }
+    ensures leaves { AreLeaves leaves.new.items }
+    ensures runs { runs_in leaves.new.items ≡ runs_in (take index leaves.old.items) ++ (splice (leaf_at leaves.old.items index) window.0 window.1 parts.now ++ runs_in (drop (index + 1) leaves.old.items)) }
+    ensures begun { BeginIn [] leaves.new.items begun.new }
+    ensures sizes { sizes.new ≡ map length leaves.new.items }
+{
+    let (low, high) = window;
+    let count = leaves[index].runs().len() - (high - low) + parts.len();
+    leaves[index].replace(low, high, parts);
+    begun.change(index, entries.0, entries.1);
+    sizes.set(index, count as u8);
+}
+
+/// Gives the pages of a range a type and an owner within the leaf that has all runs near it, and
+/// answers how many entries the map then has; `None`, and nothing changes, where the leaf can't hold
+/// what comes.
+fn retype_in_leaf<A: Allocator + Copy>(
+    leaves: &mut Vec<Leaf<A>, A>,
+    begun: &mut Tally<A>,
+    sizes: &mut Tally<A>,
+    entries: usize,
+    index: usize,
+    range: PageRange,
+    mtype: MemoryType,
+    owner: Owner,
+) -> Result<Option<usize>, AllocError>
+    requires table { IsLeafTable leaves.old.items entries begun.old sizes.old }
+    requires near { AreLeavesNear leaves.old.items range index (index + 1) }
+    requires some { 0 < range.pages }
+    requires present { AllInRange (pages_of (runs_in leaves.old.items)) range IsPresent }
+    requires owner { mtype ≡ conventional → owner ≡ Given }
+    ensures table { IfOk result (λ o. IfSome o (λ n. IsLeafTable leaves.new.items n begun.new sizes.new)) }
+    ensures pages { IfOk result (λ o. OnSome o (pages_of (runs_in leaves.new.items) ≡ retyped range mtype owner (pages_of (runs_in leaves.old.items)))) }
+    ensures none { IfOk result (λ o. IfNone o ((leaves.new.items ≡ leaves.old.items) × (begun.new ≡ begun.old) × (sizes.new ≡ sizes.old))) }
+    ensures err { OnErr result ((leaves.new.items ≡ leaves.old.items) × (begun.new ≡ begun.old) × (sizes.new ≡ sizes.old)) }
+{
+    let alloc = *leaves.allocator();
+    let runs = leaves[index].runs();
+    let window = window_of(runs, range);
+    let room = LEAF_SIZE + (window.1 - window.0) - runs.len();
+    let gone = &runs[window.0..window.1];
+    let old_entries = count_entries(gone);
+    let parts = retyped_runs(alloc, gone, range, mtype, owner)?;
+    if parts.is_empty() || parts.len() > room {
+        return Ok(None);
+    }
+    let new_entries = count_entries(parts.as_slice());
+    put_in_leaf(
+        leaves,
+        begun,
+        sizes,
+        index,
+        window,
+        parts.as_slice(),
+        (old_entries, new_entries),
+    );
+    Ok(Some(entries + new_entries - old_entries))
+}
+
+/// Gives the pages of a range a type and an owner by new leaves in the place of those that have all
+/// runs near it, and answers how many entries the map then has. All room is taken before the leaves
+/// change.
+fn retype_in_new_leaves<A: Allocator + Copy>(
+    leaves: &mut Vec<Leaf<A>, A>,
+    begun: &mut Tally<A>,
+    sizes: &mut Tally<A>,
+    entries: usize,
+    near: (usize, usize),
+    range: PageRange,
+    mtype: MemoryType,
+    owner: Owner,
+) -> Result<usize, AllocError>
+    requires table { IsLeafTable leaves.old.items entries begun.old sizes.old }
+    requires near { AreLeavesNear leaves.old.items range near.0 near.1 }
+    requires some { 0 < range.pages }
+    requires present { AllInRange (pages_of (runs_in leaves.old.items)) range IsPresent }
+    requires owner { mtype ≡ conventional → owner ≡ Given }
+    ensures table { IfOk result (λ n. IsLeafTable leaves.new.items n begun.new sizes.new) }
+    ensures pages { IfOk result (λ n. pages_of (runs_in leaves.new.items) ≡ retyped range mtype owner (pages_of (runs_in leaves.old.items))) }
+    ensures err { OnErr result ((leaves.new.items ≡ leaves.old.items) × (begun.new ≡ begun.old) × (sizes.new ≡ sizes.old)) }
+{
+    let alloc = *leaves.allocator();
+    let runs = runs_of_leaves(alloc, &leaves[near.0..near.1])?;
+    let window = window_of(runs.as_slice(), range);
+    let old = &runs[window.0..window.1];
+    let old_entries = count_entries(old);
+    let parts = retyped_runs(alloc, old, range, mtype, owner)?;
+    let new_entries = count_entries(parts.as_slice());
+    put_in_new_leaves(
+        leaves,
+        begun,
+        sizes,
+        near,
+        runs,
+        window,
+        parts,
+        (old_entries, new_entries),
+    )?;
+    Ok(entries + new_entries - old_entries)
+}
+
+/// Gives the pages of a range a type and an owner, and answers how many entries the map then has: in
+/// the leaf of the range where it can hold what comes, and else in new leaves.
 pub(crate) fn retype_runs<A: Allocator + Copy>(
     leaves: &mut Vec<Leaf<A>, A>,
     begun: &mut Tally<A>,
@@ -140,23 +256,12 @@ pub(crate) fn retype_runs<A: Allocator + Copy>(
     ensures pages { IfOk result (λ n. pages_of (runs_in leaves.new.items) ≡ retyped range mtype owner (pages_of (runs_in leaves.old.items))) }
     ensures err { OnErr result ((leaves.new.items ≡ leaves.old.items) × (begun.new ≡ begun.old) × (sizes.new ≡ sizes.old)) }
 {
-    let alloc = *leaves.allocator();
     let near = leaves_near(leaves.as_slice(), range);
-    let runs = runs_of_leaves(alloc, &leaves[near.0..near.1])?;
-    let window = window_of(runs.as_slice(), range);
-    let old = &runs[window.0..window.1];
-    let old_entries = count_entries(old);
-    let parts = retyped_runs(alloc, old, range, mtype, owner)?;
-    let new_entries = count_entries(parts.as_slice());
-    put_parts(
-        leaves,
-        begun,
-        sizes,
-        near,
-        runs,
-        window,
-        parts,
-        (old_entries, new_entries),
-    )?;
-    Ok(entries + new_entries - old_entries)
+    if near.1 - near.0 == 1 {
+        let changed = retype_in_leaf(leaves, begun, sizes, entries, near.0, range, mtype, owner)?;
+        if let Some(entries) = changed {
+            return Ok(entries);
+        }
+    }
+    retype_in_new_leaves(leaves, begun, sizes, entries, near, range, mtype, owner)
 }

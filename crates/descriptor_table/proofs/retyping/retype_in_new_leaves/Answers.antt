@@ -7,16 +7,7 @@ use Rattle.descriptor_table.proofs.LeafSplices.{middle_runs, all_before, all_beh
 use Rattle.descriptor_table.proofs.Splices.{new_pages, new_count, new_table, new_runs, new_ends, window_grows, old_runs, old_ends, parts_ends, present_within}
 use Rattle.descriptor_table.proofs.TableFacts.{table_runs, table_ends, few_entries}
 use Rattle.page_ranges.proofs.MaximalRuns.{maximal_are_runs}
-use Rattle.descriptor_table.proofs.retyping.retype_runs.Goals as goal
-
-pub leaves_near-near-requires-clause-leaves : goal.leaves_near-near-requires-clause-leaves
-leaves_near-near-requires-clause-leaves g c = rw c.as_slice.ensures.value c.requires.table.leaves
-
-pub leaves_near-near-requires-clause-runs : goal.leaves_near-near-requires-clause-runs
-leaves_near-near-requires-clause-runs g c = rw c.as_slice.ensures.value (table_runs (runs_in c.args.leaves.now.items) c.args.entries c.requires.table.table)
-
-pub leaves_near-near-requires-clause-within : goal.leaves_near-near-requires-clause-within
-leaves_near-near-requires-clause-within g c = present_within _ c.args.range c.requires.table.table.proper c.requires.some c.requires.present
+use Rattle.descriptor_table.proofs.retyping.retype_in_new_leaves.Goals as goal
 
 pub window_of-window-requires-clause-within : goal.window_of-window-requires-clause-within
 window_of-window-requires-clause-within g c = present_within _ c.args.range c.requires.table.table.proper c.requires.some c.requires.present
@@ -27,9 +18,9 @@ retyped_runs-requires-clause-within g c = present_within _ c.args.range c.requir
 pub window_of-window-requires-clause-runs : goal.window_of-window-requires-clause-runs
 window_of-window-requires-clause-runs g c =
     let ls = c.args.leaves.now.items in
-    let near = rw c.as_slice.ensures.value at c.leaves_near-near.ensures in
+    let near = c.requires.near in
     let same = rw c.deref.ensures.value at c.in_ok-runs.ensures in
-    rw c.as_slice-2.ensures.value (middle_runs ls c.leaves_near-near.result.0 c.leaves_near-near.result.1 c.args.range near c.in_ok-runs.runs.items same (table_runs (runs_in ls) c.args.entries c.requires.table.table))
+    rw c.as_slice.ensures.value (middle_runs ls c.args.near.0 c.args.near.1 c.args.range near c.in_ok-runs.runs.items same (table_runs (runs_in ls) c.args.entries c.requires.table.table))
 
 pub count_entries-old_entries-requires-clause-runs : goal.count_entries-old_entries-requires-clause-runs
 count_entries-old_entries-requires-clause-runs g c =
@@ -39,12 +30,12 @@ count_entries-old_entries-requires-clause-runs g c =
     let t = c.args.mtype in
     let o = c.args.owner in
     let table = c.requires.table.table in
-    let near = rw c.as_slice.ensures.value at c.leaves_near-near.ensures in
-    let from = c.leaves_near-near.result.0 in
-    let to = c.leaves_near-near.result.1 in
+    let near = c.requires.near in
+    let from = c.args.near.0 in
+    let to = c.args.near.1 in
     let rs = c.in_ok-runs.runs.items in
     let same = rw c.deref.ensures.value at c.in_ok-runs.ensures in
-    let w = rw c.as_slice-2.ensures.value at c.window_of-window.ensures in
+    let w = rw c.as_slice.ensures.value at c.window_of-window.ensures in
     let low = c.window_of-window.result.0 in
     let high = c.window_of-window.result.1 in
     let before = all_before ls from to range near rs same low in
@@ -61,12 +52,12 @@ count_entries-old_entries-requires-clause-ends g c =
     let t = c.args.mtype in
     let o = c.args.owner in
     let table = c.requires.table.table in
-    let near = rw c.as_slice.ensures.value at c.leaves_near-near.ensures in
-    let from = c.leaves_near-near.result.0 in
-    let to = c.leaves_near-near.result.1 in
+    let near = c.requires.near in
+    let from = c.args.near.0 in
+    let to = c.args.near.1 in
     let rs = c.in_ok-runs.runs.items in
     let same = rw c.deref.ensures.value at c.in_ok-runs.ensures in
-    let w = rw c.as_slice-2.ensures.value at c.window_of-window.ensures in
+    let w = rw c.as_slice.ensures.value at c.window_of-window.ensures in
     let low = c.window_of-window.result.0 in
     let high = c.window_of-window.result.1 in
     let before = all_before ls from to range near rs same low in
@@ -83,12 +74,12 @@ retyped_runs-requires-clause-runs g c =
     let t = c.args.mtype in
     let o = c.args.owner in
     let table = c.requires.table.table in
-    let near = rw c.as_slice.ensures.value at c.leaves_near-near.ensures in
-    let from = c.leaves_near-near.result.0 in
-    let to = c.leaves_near-near.result.1 in
+    let near = c.requires.near in
+    let from = c.args.near.0 in
+    let to = c.args.near.1 in
     let rs = c.in_ok-runs.runs.items in
     let same = rw c.deref.ensures.value at c.in_ok-runs.ensures in
-    let w = rw c.as_slice-2.ensures.value at c.window_of-window.ensures in
+    let w = rw c.as_slice.ensures.value at c.window_of-window.ensures in
     let low = c.window_of-window.result.0 in
     let high = c.window_of-window.result.1 in
     let before = all_before ls from to range near rs same low in
@@ -105,12 +96,12 @@ retyped_runs-requires-clause-ends g c =
     let t = c.args.mtype in
     let o = c.args.owner in
     let table = c.requires.table.table in
-    let near = rw c.as_slice.ensures.value at c.leaves_near-near.ensures in
-    let from = c.leaves_near-near.result.0 in
-    let to = c.leaves_near-near.result.1 in
+    let near = c.requires.near in
+    let from = c.args.near.0 in
+    let to = c.args.near.1 in
     let rs = c.in_ok-runs.runs.items in
     let same = rw c.deref.ensures.value at c.in_ok-runs.ensures in
-    let w = rw c.as_slice-2.ensures.value at c.window_of-window.ensures in
+    let w = rw c.as_slice.ensures.value at c.window_of-window.ensures in
     let low = c.window_of-window.result.0 in
     let high = c.window_of-window.result.1 in
     let before = all_before ls from to range near rs same low in
@@ -120,7 +111,7 @@ retyped_runs-requires-clause-ends g c =
     rw c.deref-2.ensures.value (old_ends (runs_in ls) n range t o table before old behind cut)
 
 pub count_entries-new_entries-requires-clause-runs : goal.count_entries-new_entries-requires-clause-runs
-count_entries-new_entries-requires-clause-runs g c = rw c.as_slice-3.ensures.value (maximal_are_runs c.in_ok-parts.parts.items c.in_ok-parts.ensures.order)
+count_entries-new_entries-requires-clause-runs g c = rw c.as_slice-2.ensures.value (maximal_are_runs c.in_ok-parts.parts.items c.in_ok-parts.ensures.order)
 
 pub count_entries-new_entries-requires-clause-ends : goal.count_entries-new_entries-requires-clause-ends
 count_entries-new_entries-requires-clause-ends g c =
@@ -130,12 +121,12 @@ count_entries-new_entries-requires-clause-ends g c =
     let t = c.args.mtype in
     let o = c.args.owner in
     let table = c.requires.table.table in
-    let near = rw c.as_slice.ensures.value at c.leaves_near-near.ensures in
-    let from = c.leaves_near-near.result.0 in
-    let to = c.leaves_near-near.result.1 in
+    let near = c.requires.near in
+    let from = c.args.near.0 in
+    let to = c.args.near.1 in
     let rs = c.in_ok-runs.runs.items in
     let same = rw c.deref.ensures.value at c.in_ok-runs.ensures in
-    let w = rw c.as_slice-2.ensures.value at c.window_of-window.ensures in
+    let w = rw c.as_slice.ensures.value at c.window_of-window.ensures in
     let low = c.window_of-window.result.0 in
     let high = c.window_of-window.result.1 in
     let before = all_before ls from to range near rs same low in
@@ -145,7 +136,7 @@ count_entries-new_entries-requires-clause-ends g c =
     let parts = c.in_ok-parts.parts.items in
     let order = c.in_ok-parts.ensures.order in
     let pages = rw c.deref-2.ensures.value at c.in_ok-parts.ensures.pages in
-    rw c.as_slice-3.ensures.value (parts_ends (runs_in ls) n range t o table before old behind cut c.requires.some c.requires.present parts order pages c.requires.owner)
+    rw c.as_slice-2.ensures.value (parts_ends (runs_in ls) n range t o table before old behind cut c.requires.some c.requires.present parts order pages c.requires.owner)
 
 pub overflow_sub-result : goal.overflow_sub-result
 overflow_sub-result g c =
@@ -155,12 +146,12 @@ overflow_sub-result g c =
     let t = c.args.mtype in
     let o = c.args.owner in
     let table = c.requires.table.table in
-    let near = rw c.as_slice.ensures.value at c.leaves_near-near.ensures in
-    let from = c.leaves_near-near.result.0 in
-    let to = c.leaves_near-near.result.1 in
+    let near = c.requires.near in
+    let from = c.args.near.0 in
+    let to = c.args.near.1 in
     let rs = c.in_ok-runs.runs.items in
     let same = rw c.deref.ensures.value at c.in_ok-runs.ensures in
-    let w = rw c.as_slice-2.ensures.value at c.window_of-window.ensures in
+    let w = rw c.as_slice.ensures.value at c.window_of-window.ensures in
     let low = c.window_of-window.result.0 in
     let high = c.window_of-window.result.1 in
     let before = all_before ls from to range near rs same low in
@@ -171,7 +162,7 @@ overflow_sub-result g c =
     let order = c.in_ok-parts.ensures.order in
     let pages = rw c.deref-2.ensures.value at c.in_ok-parts.ensures.pages in
     let old_count = rw c.deref-2.ensures.value at c.count_entries-old_entries.ensures.count in
-    let parts_count = rw c.as_slice-3.ensures.value at c.count_entries-new_entries.ensures.count in
+    let parts_count = rw c.as_slice-2.ensures.value at c.count_entries-new_entries.ensures.count in
     let count = new_count (runs_in ls) n range t o table before old behind cut c.requires.some c.requires.present parts order pages in
     omega (arith, old_count, parts_count, count)
 
@@ -183,12 +174,12 @@ overflow_add-result g c =
     let t = c.args.mtype in
     let o = c.args.owner in
     let table = c.requires.table.table in
-    let near = rw c.as_slice.ensures.value at c.leaves_near-near.ensures in
-    let from = c.leaves_near-near.result.0 in
-    let to = c.leaves_near-near.result.1 in
+    let near = c.requires.near in
+    let from = c.args.near.0 in
+    let to = c.args.near.1 in
     let rs = c.in_ok-runs.runs.items in
     let same = rw c.deref.ensures.value at c.in_ok-runs.ensures in
-    let w = rw c.as_slice-2.ensures.value at c.window_of-window.ensures in
+    let w = rw c.as_slice.ensures.value at c.window_of-window.ensures in
     let low = c.window_of-window.result.0 in
     let high = c.window_of-window.result.1 in
     let before = all_before ls from to range near rs same low in
@@ -199,7 +190,7 @@ overflow_add-result g c =
     let order = c.in_ok-parts.ensures.order in
     let pages = rw c.deref-2.ensures.value at c.in_ok-parts.ensures.pages in
     let old_count = rw c.deref-2.ensures.value at c.count_entries-old_entries.ensures.count in
-    let parts_count = rw c.as_slice-3.ensures.value at c.count_entries-new_entries.ensures.count in
+    let parts_count = rw c.as_slice-2.ensures.value at c.count_entries-new_entries.ensures.count in
     let runs = table_runs (runs_in ls) n table in
     let few = few_entries (runs_in ls) runs (table_ends (runs_in ls) n table) in
     let few_parts = few_entries parts (maximal_are_runs parts order) (parts_ends (runs_in ls) n range t o table before old behind cut c.requires.some c.requires.present parts order pages c.requires.owner) in
@@ -213,12 +204,12 @@ returns-clause-table g c =
     let t = c.args.mtype in
     let o = c.args.owner in
     let table = c.requires.table.table in
-    let near = rw c.as_slice.ensures.value at c.leaves_near-near.ensures in
-    let from = c.leaves_near-near.result.0 in
-    let to = c.leaves_near-near.result.1 in
+    let near = c.requires.near in
+    let from = c.args.near.0 in
+    let to = c.args.near.1 in
     let rs = c.in_ok-runs.runs.items in
     let same = rw c.deref.ensures.value at c.in_ok-runs.ensures in
-    let w = rw c.as_slice-2.ensures.value at c.window_of-window.ensures in
+    let w = rw c.as_slice.ensures.value at c.window_of-window.ensures in
     let low = c.window_of-window.result.0 in
     let high = c.window_of-window.result.1 in
     let before = all_before ls from to range near rs same low in
@@ -229,13 +220,13 @@ returns-clause-table g c =
     let order = c.in_ok-parts.ensures.order in
     let pages = rw c.deref-2.ensures.value at c.in_ok-parts.ensures.pages in
     let old_count = rw c.deref-2.ensures.value at c.count_entries-old_entries.ensures.count in
-    let parts_count = rw c.as_slice-3.ensures.value at c.count_entries-new_entries.ensures.count in
-    let all = put_regroup ls from to range near rs same low high parts c.put_parts.new.leaves.items c.in_ok-put_parts.ensures.runs in
+    let parts_count = rw c.as_slice-2.ensures.value at c.count_entries-new_entries.ensures.count in
+    let all = put_regroup ls from to range near rs same low high parts c.put_in_new_leaves.new.leaves.items c.in_ok-put_in_new_leaves.ensures.runs in
     record {
       table = rw all (new_table (runs_in ls) n range t o table before old behind cut c.requires.some c.requires.present parts order pages c.requires.owner (n + c.count_entries-new_entries.result - c.count_entries-old_entries.result) (omega (arith, old_count, parts_count)));
-      leaves = c.in_ok-put_parts.ensures.leaves;
-      begun = c.in_ok-put_parts.ensures.begun;
-      sizes = c.in_ok-put_parts.ensures.sizes;
+      leaves = c.in_ok-put_in_new_leaves.ensures.leaves;
+      begun = c.in_ok-put_in_new_leaves.ensures.begun;
+      sizes = c.in_ok-put_in_new_leaves.ensures.sizes;
     }
 
 pub returns-clause-pages : goal.returns-clause-pages
@@ -246,12 +237,12 @@ returns-clause-pages g c =
     let t = c.args.mtype in
     let o = c.args.owner in
     let table = c.requires.table.table in
-    let near = rw c.as_slice.ensures.value at c.leaves_near-near.ensures in
-    let from = c.leaves_near-near.result.0 in
-    let to = c.leaves_near-near.result.1 in
+    let near = c.requires.near in
+    let from = c.args.near.0 in
+    let to = c.args.near.1 in
     let rs = c.in_ok-runs.runs.items in
     let same = rw c.deref.ensures.value at c.in_ok-runs.ensures in
-    let w = rw c.as_slice-2.ensures.value at c.window_of-window.ensures in
+    let w = rw c.as_slice.ensures.value at c.window_of-window.ensures in
     let low = c.window_of-window.result.0 in
     let high = c.window_of-window.result.1 in
     let before = all_before ls from to range near rs same low in
@@ -262,27 +253,27 @@ returns-clause-pages g c =
     let order = c.in_ok-parts.ensures.order in
     let pages = rw c.deref-2.ensures.value at c.in_ok-parts.ensures.pages in
     let old_count = rw c.deref-2.ensures.value at c.count_entries-old_entries.ensures.count in
-    let parts_count = rw c.as_slice-3.ensures.value at c.count_entries-new_entries.ensures.count in
-    let all = put_regroup ls from to range near rs same low high parts c.put_parts.new.leaves.items c.in_ok-put_parts.ensures.runs in
+    let parts_count = rw c.as_slice-2.ensures.value at c.count_entries-new_entries.ensures.count in
+    let all = put_regroup ls from to range near rs same low high parts c.put_in_new_leaves.new.leaves.items c.in_ok-put_in_new_leaves.ensures.runs in
     rw all (new_pages (runs_in ls) n range t o table before old behind cut c.requires.some c.requires.present parts order pages)
 
-pub put_parts-requires-clause-runs : goal.put_parts-requires-clause-runs
-put_parts-requires-clause-runs g c = rw c.deref.ensures.value at c.in_ok-runs.ensures
+pub put_in_new_leaves-requires-clause-runs : goal.put_in_new_leaves-requires-clause-runs
+put_in_new_leaves-requires-clause-runs g c = rw c.deref.ensures.value at c.in_ok-runs.ensures
 
-pub put_parts-requires-clause-grows : goal.put_parts-requires-clause-grows
-put_parts-requires-clause-grows g c =
+pub put_in_new_leaves-requires-clause-grows : goal.put_in_new_leaves-requires-clause-grows
+put_in_new_leaves-requires-clause-grows g c =
     let ls = c.args.leaves.now.items in
     let n = c.args.entries in
     let range = c.args.range in
     let t = c.args.mtype in
     let o = c.args.owner in
     let table = c.requires.table.table in
-    let near = rw c.as_slice.ensures.value at c.leaves_near-near.ensures in
-    let from = c.leaves_near-near.result.0 in
-    let to = c.leaves_near-near.result.1 in
+    let near = c.requires.near in
+    let from = c.args.near.0 in
+    let to = c.args.near.1 in
     let rs = c.in_ok-runs.runs.items in
     let same = rw c.deref.ensures.value at c.in_ok-runs.ensures in
-    let w = rw c.as_slice-2.ensures.value at c.window_of-window.ensures in
+    let w = rw c.as_slice.ensures.value at c.window_of-window.ensures in
     let low = c.window_of-window.result.0 in
     let high = c.window_of-window.result.1 in
     let before = all_before ls from to range near rs same low in
@@ -293,24 +284,24 @@ put_parts-requires-clause-grows g c =
     let order = c.in_ok-parts.ensures.order in
     let pages = rw c.deref-2.ensures.value at c.in_ok-parts.ensures.pages in
     let old_count = rw c.deref-2.ensures.value at c.count_entries-old_entries.ensures.count in
-    let parts_count = rw c.as_slice-3.ensures.value at c.count_entries-new_entries.ensures.count in
+    let parts_count = rw c.as_slice-2.ensures.value at c.count_entries-new_entries.ensures.count in
     let grows = window_grows (runs_in ls) n range t o table before old behind cut c.requires.some c.requires.present parts order pages in
     put_grows ls from to range near rs same low high parts c.count_entries-old_entries.result c.count_entries-new_entries.result w.order (λ m k e. omega (arith, old_count, parts_count, grows m k e))
 
-pub put_parts-requires-clause-order : goal.put_parts-requires-clause-order
-put_parts-requires-clause-order g c =
+pub put_in_new_leaves-requires-clause-order : goal.put_in_new_leaves-requires-clause-order
+put_in_new_leaves-requires-clause-order g c =
     let ls = c.args.leaves.now.items in
     let n = c.args.entries in
     let range = c.args.range in
     let t = c.args.mtype in
     let o = c.args.owner in
     let table = c.requires.table.table in
-    let near = rw c.as_slice.ensures.value at c.leaves_near-near.ensures in
-    let from = c.leaves_near-near.result.0 in
-    let to = c.leaves_near-near.result.1 in
+    let near = c.requires.near in
+    let from = c.args.near.0 in
+    let to = c.args.near.1 in
     let rs = c.in_ok-runs.runs.items in
     let same = rw c.deref.ensures.value at c.in_ok-runs.ensures in
-    let w = rw c.as_slice-2.ensures.value at c.window_of-window.ensures in
+    let w = rw c.as_slice.ensures.value at c.window_of-window.ensures in
     let low = c.window_of-window.result.0 in
     let high = c.window_of-window.result.1 in
     let before = all_before ls from to range near rs same low in
@@ -321,23 +312,23 @@ put_parts-requires-clause-order g c =
     let order = c.in_ok-parts.ensures.order in
     let pages = rw c.deref-2.ensures.value at c.in_ok-parts.ensures.pages in
     let old_count = rw c.deref-2.ensures.value at c.count_entries-old_entries.ensures.count in
-    let parts_count = rw c.as_slice-3.ensures.value at c.count_entries-new_entries.ensures.count in
+    let parts_count = rw c.as_slice-2.ensures.value at c.count_entries-new_entries.ensures.count in
     subst AreRuns (sym (put_is ls from to range near rs same low high parts)) (new_runs (runs_in ls) n range t o table before old behind cut c.requires.some c.requires.present parts order pages)
 
-pub put_parts-requires-clause-ends : goal.put_parts-requires-clause-ends
-put_parts-requires-clause-ends g c =
+pub put_in_new_leaves-requires-clause-ends : goal.put_in_new_leaves-requires-clause-ends
+put_in_new_leaves-requires-clause-ends g c =
     let ls = c.args.leaves.now.items in
     let n = c.args.entries in
     let range = c.args.range in
     let t = c.args.mtype in
     let o = c.args.owner in
     let table = c.requires.table.table in
-    let near = rw c.as_slice.ensures.value at c.leaves_near-near.ensures in
-    let from = c.leaves_near-near.result.0 in
-    let to = c.leaves_near-near.result.1 in
+    let near = c.requires.near in
+    let from = c.args.near.0 in
+    let to = c.args.near.1 in
     let rs = c.in_ok-runs.runs.items in
     let same = rw c.deref.ensures.value at c.in_ok-runs.ensures in
-    let w = rw c.as_slice-2.ensures.value at c.window_of-window.ensures in
+    let w = rw c.as_slice.ensures.value at c.window_of-window.ensures in
     let low = c.window_of-window.result.0 in
     let high = c.window_of-window.result.1 in
     let before = all_before ls from to range near rs same low in
@@ -348,23 +339,23 @@ put_parts-requires-clause-ends g c =
     let order = c.in_ok-parts.ensures.order in
     let pages = rw c.deref-2.ensures.value at c.in_ok-parts.ensures.pages in
     let old_count = rw c.deref-2.ensures.value at c.count_entries-old_entries.ensures.count in
-    let parts_count = rw c.as_slice-3.ensures.value at c.count_entries-new_entries.ensures.count in
+    let parts_count = rw c.as_slice-2.ensures.value at c.count_entries-new_entries.ensures.count in
     subst (EndBy page_count) (sym (put_is ls from to range near rs same low high parts)) (new_ends (runs_in ls) n range t o table before old behind cut c.requires.some c.requires.present parts order pages c.requires.owner)
 
-pub put_parts-requires-clause-few : goal.put_parts-requires-clause-few
-put_parts-requires-clause-few g c =
+pub put_in_new_leaves-requires-clause-few : goal.put_in_new_leaves-requires-clause-few
+put_in_new_leaves-requires-clause-few g c =
     let ls = c.args.leaves.now.items in
     let n = c.args.entries in
     let range = c.args.range in
     let t = c.args.mtype in
     let o = c.args.owner in
     let table = c.requires.table.table in
-    let near = rw c.as_slice.ensures.value at c.leaves_near-near.ensures in
-    let from = c.leaves_near-near.result.0 in
-    let to = c.leaves_near-near.result.1 in
+    let near = c.requires.near in
+    let from = c.args.near.0 in
+    let to = c.args.near.1 in
     let rs = c.in_ok-runs.runs.items in
     let same = rw c.deref.ensures.value at c.in_ok-runs.ensures in
-    let w = rw c.as_slice-2.ensures.value at c.window_of-window.ensures in
+    let w = rw c.as_slice.ensures.value at c.window_of-window.ensures in
     let low = c.window_of-window.result.0 in
     let high = c.window_of-window.result.1 in
     let before = all_before ls from to range near rs same low in
@@ -375,5 +366,5 @@ put_parts-requires-clause-few g c =
     let order = c.in_ok-parts.ensures.order in
     let pages = rw c.deref-2.ensures.value at c.in_ok-parts.ensures.pages in
     let old_count = rw c.deref-2.ensures.value at c.count_entries-old_entries.ensures.count in
-    let parts_count = rw c.as_slice-3.ensures.value at c.count_entries-new_entries.ensures.count in
+    let parts_count = rw c.as_slice-2.ensures.value at c.count_entries-new_entries.ensures.count in
     omega (arith, parts_count, few_entries parts (maximal_are_runs parts order) (parts_ends (runs_in ls) n range t o table before old behind cut c.requires.some c.requires.present parts order pages c.requires.owner))

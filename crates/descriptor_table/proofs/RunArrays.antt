@@ -1,0 +1,55 @@
+-- A list of runs in an array, where others take the place of some: room behind them, the rest moved, the others written, the end cut off.
+use Rattle.std.proofs.Common.{◌≡◌, ℕ, ◌+◌, ◌-◌, ◌≤◌, List, ◌++◌, length, take, drop, ap, ap₂, sym, Result, Ok, Err, OnOk, IsOk, ◌∙◌, append_assoc, arith}
+use Rattle.std.proofs.lemmas.Bool.{false≢true}
+use Rattle.std.proofs.Math.Seq.{take_at, drop_at, length_paste_head, paste}
+use Rattle.std.proofs.lemmas.List.{take-append-le, drop-append-le, length-append, length-drop, length-take-le, take-take}
+
+pub of_ok : {T E P : Type 0} (r : Result T E) → IsOk r → OnOk r P → P
+of_ok (Ok x) is p = p
+of_ok (Err e) is p = absurd (false≢true is)
+
+module _ {X : Type 0} (old room parts : List X) (low high n : ℕ) (a : low ≤ high) (b : high ≤ length old) (f : low + length parts ≤ high + length room) (e : n ≡ low + length parts + (length old - high)) where
+  -- what is behind the runs that go, where it lies once there is room
+  abbrev pub behind : List X
+  behind = take (length old - high) (drop high (old ++ room))
+
+  behind_is : behind ≡ drop high old
+  behind_is = ap (take (length old - high)) (drop-append-le high old room b) ∙ take_at (drop high old) room (length old - high) (length-drop high old)
+
+  head_is : length (take (low + length parts) (old ++ room) ++ behind) ≡ low + length parts + (length old - high)
+  head_is = length_paste_head (old ++ room) (low + length parts) (drop high (old ++ room)) (length old - high) (omega (arith, length-append old room)) (omega (arith, length-append old room, length-drop high (old ++ room)))
+
+  end_is : length (take (low + length parts) (old ++ room)) ≡ low + length parts
+  end_is = length-take-le (low + length parts) (old ++ room) (omega (arith, length-append old room))
+
+  abbrev pub moved : List X
+  moved = paste (old ++ room) (low + length parts) (drop high (old ++ room)) (length old - high)
+
+  abbrev pub rest : List X
+  rest = drop (low + length parts + (length old - high)) (old ++ room)
+
+  moved_is : moved ≡ take (low + length parts) (old ++ room) ++ (behind ++ rest)
+  moved_is = append_assoc (take (low + length parts) (old ++ room)) behind rest
+
+  front : take low moved ≡ take low old
+  front =
+      ap (take low) moved_is ∙ take-append-le low (take (low + length parts) (old ++ room)) (behind ++ rest) (omega (arith, end_is))
+      ∙ take-take low (low + length parts) (old ++ room) (omega arith) ∙ take-append-le low old room (omega arith)
+
+  back : drop (low + length parts) moved ≡ behind ++ rest
+  back = ap (drop (low + length parts)) moved_is ∙ drop_at (take (low + length parts) (old ++ room)) (behind ++ rest) (low + length parts) end_is
+
+  behind_length : length behind ≡ length old - high
+  behind_length = ap length behind_is ∙ length-drop high old
+
+  here : take n (take low moved ++ (parts ++ drop (low + length parts) moved)) ≡ take low old ++ (parts ++ drop high old)
+  here =
+      ap₂ (λ xs ys. take n (xs ++ (parts ++ ys))) front back
+      ∙ ap (take n) (ap (λ ys. take low old ++ ys) (sym (append_assoc parts behind rest)) ∙ sym (append_assoc (take low old) (parts ++ behind) rest))
+      ∙ take_at (take low old ++ (parts ++ behind)) rest n (omega (arith, length-append (take low old) (parts ++ behind), length-append parts behind, length-take-le low old (omega arith), behind_length))
+      ∙ ap (λ ys. take low old ++ (parts ++ ys)) behind_is
+
+  pub replaced : (all new written : List X) → all ≡ old ++ room → new ≡ paste all (low + length parts) (drop high all) (length old - high) → written ≡ take low new ++ (parts ++ drop (low + length parts) new) → take n written ≡ take low old ++ (parts ++ drop high old)
+  replaced all new written p q r =
+      let is : new ≡ moved = q ∙ ap (λ xs. paste xs (low + length parts) (drop high xs) (length old - high)) p in
+      ap (take n) (r ∙ ap (λ xs. take low xs ++ (parts ++ drop (low + length parts) xs)) is) ∙ here

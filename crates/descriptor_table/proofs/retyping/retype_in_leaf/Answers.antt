@@ -1,0 +1,357 @@
+use Rattle.std.proofs.Common.{◌∙◌, [], ◌+◌, ◌-◌, take, drop, sym, subst, arith}
+use Rattle.std.proofs.lemmas.List.{get_or_default}
+use Rattle.page_ranges.specs.MemoryTypes.{page_count}
+use Rattle.page_ranges.specs.Runs.{AreRuns}
+use Rattle.descriptor_table.specs.Tables.{EndBy}
+use Rattle.descriptor_table.specs.Leaves.{leaf_at, runs_in}
+use Rattle.descriptor_table.proofs.LeafSplices.{one_leaf, middle_runs, all_before, all_behind, cut_in_leaves, put_regroup, put_is, put_grows}
+use Rattle.descriptor_table.proofs.Splices.{new_pages, new_count, new_table, new_runs, new_ends, window_grows, old_runs, old_ends, parts_ends, present_within}
+use Rattle.descriptor_table.proofs.TableFacts.{table_runs, table_ends, few_entries}
+use Rattle.page_ranges.proofs.MaximalRuns.{maximal_are_runs}
+use Rattle.descriptor_table.proofs.retyping.retype_in_leaf.Goals as goal
+
+pub window_of-window-requires-clause-within : goal.window_of-window-requires-clause-within
+window_of-window-requires-clause-within g c = present_within _ c.args.range c.requires.table.table.proper c.requires.some c.requires.present
+
+pub retyped_runs-requires-clause-within : goal.retyped_runs-requires-clause-within
+retyped_runs-requires-clause-within g c = present_within _ c.args.range c.requires.table.table.proper c.requires.some c.requires.present
+
+pub window_of-window-requires-clause-runs : goal.window_of-window-requires-clause-runs
+window_of-window-requires-clause-runs g c =
+    let ls = c.args.leaves.now.items in
+    let near = c.requires.near in
+    let from = c.args.index in
+    let to = c.args.index + 1 in
+    let rs = leaf_at ls from in
+    let same = sym (one_leaf ls from (to - from) [] (omega (arith, near.bound)) (omega arith)) in
+    let is = c.runs-runs.ensures ∙ c.index.ensures ∙ get_or_default ls from c.index.result.now [] (omega (arith, near.bound)) in
+    rw is (middle_runs ls from to c.args.range near rs same (table_runs (runs_in ls) c.args.entries c.requires.table.table))
+
+pub count_entries-old_entries-requires-clause-runs : goal.count_entries-old_entries-requires-clause-runs
+count_entries-old_entries-requires-clause-runs g c =
+    let ls = c.args.leaves.now.items in
+    let n = c.args.entries in
+    let range = c.args.range in
+    let t = c.args.mtype in
+    let o = c.args.owner in
+    let table = c.requires.table.table in
+    let near = c.requires.near in
+    let from = c.args.index in
+    let to = c.args.index + 1 in
+    let rs = leaf_at ls from in
+    let same = sym (one_leaf ls from (to - from) [] (omega (arith, near.bound)) (omega arith)) in
+    let is = c.runs-runs.ensures ∙ c.index.ensures ∙ get_or_default ls from c.index.result.now [] (omega (arith, near.bound)) in
+    let w = rw is at c.window_of-window.ensures in
+    let low = c.window_of-window.result.0 in
+    let high = c.window_of-window.result.1 in
+    let before = all_before ls from to range near rs same low in
+    let old = take (high - low) (drop low rs) in
+    let behind = all_behind ls from to range near rs same high in
+    let cut = cut_in_leaves ls from to range near rs same low high w in
+    rw is (old_runs (runs_in ls) n range t o table before old behind cut)
+
+pub count_entries-old_entries-requires-clause-ends : goal.count_entries-old_entries-requires-clause-ends
+count_entries-old_entries-requires-clause-ends g c =
+    let ls = c.args.leaves.now.items in
+    let n = c.args.entries in
+    let range = c.args.range in
+    let t = c.args.mtype in
+    let o = c.args.owner in
+    let table = c.requires.table.table in
+    let near = c.requires.near in
+    let from = c.args.index in
+    let to = c.args.index + 1 in
+    let rs = leaf_at ls from in
+    let same = sym (one_leaf ls from (to - from) [] (omega (arith, near.bound)) (omega arith)) in
+    let is = c.runs-runs.ensures ∙ c.index.ensures ∙ get_or_default ls from c.index.result.now [] (omega (arith, near.bound)) in
+    let w = rw is at c.window_of-window.ensures in
+    let low = c.window_of-window.result.0 in
+    let high = c.window_of-window.result.1 in
+    let before = all_before ls from to range near rs same low in
+    let old = take (high - low) (drop low rs) in
+    let behind = all_behind ls from to range near rs same high in
+    let cut = cut_in_leaves ls from to range near rs same low high w in
+    rw is (old_ends (runs_in ls) n range t o table before old behind cut)
+
+pub retyped_runs-requires-clause-runs : goal.retyped_runs-requires-clause-runs
+retyped_runs-requires-clause-runs g c =
+    let ls = c.args.leaves.now.items in
+    let n = c.args.entries in
+    let range = c.args.range in
+    let t = c.args.mtype in
+    let o = c.args.owner in
+    let table = c.requires.table.table in
+    let near = c.requires.near in
+    let from = c.args.index in
+    let to = c.args.index + 1 in
+    let rs = leaf_at ls from in
+    let same = sym (one_leaf ls from (to - from) [] (omega (arith, near.bound)) (omega arith)) in
+    let is = c.runs-runs.ensures ∙ c.index.ensures ∙ get_or_default ls from c.index.result.now [] (omega (arith, near.bound)) in
+    let w = rw is at c.window_of-window.ensures in
+    let low = c.window_of-window.result.0 in
+    let high = c.window_of-window.result.1 in
+    let before = all_before ls from to range near rs same low in
+    let old = take (high - low) (drop low rs) in
+    let behind = all_behind ls from to range near rs same high in
+    let cut = cut_in_leaves ls from to range near rs same low high w in
+    rw is (old_runs (runs_in ls) n range t o table before old behind cut)
+
+pub retyped_runs-requires-clause-ends : goal.retyped_runs-requires-clause-ends
+retyped_runs-requires-clause-ends g c =
+    let ls = c.args.leaves.now.items in
+    let n = c.args.entries in
+    let range = c.args.range in
+    let t = c.args.mtype in
+    let o = c.args.owner in
+    let table = c.requires.table.table in
+    let near = c.requires.near in
+    let from = c.args.index in
+    let to = c.args.index + 1 in
+    let rs = leaf_at ls from in
+    let same = sym (one_leaf ls from (to - from) [] (omega (arith, near.bound)) (omega arith)) in
+    let is = c.runs-runs.ensures ∙ c.index.ensures ∙ get_or_default ls from c.index.result.now [] (omega (arith, near.bound)) in
+    let w = rw is at c.window_of-window.ensures in
+    let low = c.window_of-window.result.0 in
+    let high = c.window_of-window.result.1 in
+    let before = all_before ls from to range near rs same low in
+    let old = take (high - low) (drop low rs) in
+    let behind = all_behind ls from to range near rs same high in
+    let cut = cut_in_leaves ls from to range near rs same low high w in
+    rw is (old_ends (runs_in ls) n range t o table before old behind cut)
+
+pub count_entries-new_entries-requires-clause-runs : goal.count_entries-new_entries-requires-clause-runs
+count_entries-new_entries-requires-clause-runs g c = rw c.as_slice.ensures.value (maximal_are_runs c.in_ok-parts.parts.items c.in_ok-parts.ensures.order)
+
+pub count_entries-new_entries-requires-clause-ends : goal.count_entries-new_entries-requires-clause-ends
+count_entries-new_entries-requires-clause-ends g c =
+    let ls = c.args.leaves.now.items in
+    let n = c.args.entries in
+    let range = c.args.range in
+    let t = c.args.mtype in
+    let o = c.args.owner in
+    let table = c.requires.table.table in
+    let near = c.requires.near in
+    let from = c.args.index in
+    let to = c.args.index + 1 in
+    let rs = leaf_at ls from in
+    let same = sym (one_leaf ls from (to - from) [] (omega (arith, near.bound)) (omega arith)) in
+    let is = c.runs-runs.ensures ∙ c.index.ensures ∙ get_or_default ls from c.index.result.now [] (omega (arith, near.bound)) in
+    let w = rw is at c.window_of-window.ensures in
+    let low = c.window_of-window.result.0 in
+    let high = c.window_of-window.result.1 in
+    let before = all_before ls from to range near rs same low in
+    let old = take (high - low) (drop low rs) in
+    let behind = all_behind ls from to range near rs same high in
+    let cut = cut_in_leaves ls from to range near rs same low high w in
+    let parts = c.in_ok-parts.parts.items in
+    let order = c.in_ok-parts.ensures.order in
+    let pages = rw is at c.in_ok-parts.ensures.pages in
+    rw c.as_slice.ensures.value (parts_ends (runs_in ls) n range t o table before old behind cut c.requires.some c.requires.present parts order pages c.requires.owner)
+
+pub overflow_sub-result : goal.overflow_sub-result
+overflow_sub-result g c =
+    let ls = c.args.leaves.now.items in
+    let n = c.args.entries in
+    let range = c.args.range in
+    let t = c.args.mtype in
+    let o = c.args.owner in
+    let table = c.requires.table.table in
+    let near = c.requires.near in
+    let from = c.args.index in
+    let to = c.args.index + 1 in
+    let rs = leaf_at ls from in
+    let same = sym (one_leaf ls from (to - from) [] (omega (arith, near.bound)) (omega arith)) in
+    let is = c.runs-runs.ensures ∙ c.index.ensures ∙ get_or_default ls from c.index.result.now [] (omega (arith, near.bound)) in
+    let w = rw is at c.window_of-window.ensures in
+    let low = c.window_of-window.result.0 in
+    let high = c.window_of-window.result.1 in
+    let before = all_before ls from to range near rs same low in
+    let old = take (high - low) (drop low rs) in
+    let behind = all_behind ls from to range near rs same high in
+    let cut = cut_in_leaves ls from to range near rs same low high w in
+    let parts = c.in_ok-parts.parts.items in
+    let order = c.in_ok-parts.ensures.order in
+    let pages = rw is at c.in_ok-parts.ensures.pages in
+    let old_count = rw is at c.count_entries-old_entries.ensures.count in
+    let parts_count = rw c.as_slice.ensures.value at c.count_entries-new_entries.ensures.count in
+    let count = new_count (runs_in ls) n range t o table before old behind cut c.requires.some c.requires.present parts order pages in
+    omega (arith, old_count, parts_count, count)
+
+pub overflow_add-result : goal.overflow_add-result
+overflow_add-result g c =
+    let ls = c.args.leaves.now.items in
+    let n = c.args.entries in
+    let range = c.args.range in
+    let t = c.args.mtype in
+    let o = c.args.owner in
+    let table = c.requires.table.table in
+    let near = c.requires.near in
+    let from = c.args.index in
+    let to = c.args.index + 1 in
+    let rs = leaf_at ls from in
+    let same = sym (one_leaf ls from (to - from) [] (omega (arith, near.bound)) (omega arith)) in
+    let is = c.runs-runs.ensures ∙ c.index.ensures ∙ get_or_default ls from c.index.result.now [] (omega (arith, near.bound)) in
+    let w = rw is at c.window_of-window.ensures in
+    let low = c.window_of-window.result.0 in
+    let high = c.window_of-window.result.1 in
+    let before = all_before ls from to range near rs same low in
+    let old = take (high - low) (drop low rs) in
+    let behind = all_behind ls from to range near rs same high in
+    let cut = cut_in_leaves ls from to range near rs same low high w in
+    let parts = c.in_ok-parts.parts.items in
+    let order = c.in_ok-parts.ensures.order in
+    let pages = rw is at c.in_ok-parts.ensures.pages in
+    let old_count = rw is at c.count_entries-old_entries.ensures.count in
+    let parts_count = rw c.as_slice.ensures.value at c.count_entries-new_entries.ensures.count in
+    let runs = table_runs (runs_in ls) n table in
+    let few = few_entries (runs_in ls) runs (table_ends (runs_in ls) n table) in
+    let few_parts = few_entries parts (maximal_are_runs parts order) (parts_ends (runs_in ls) n range t o table before old behind cut c.requires.some c.requires.present parts order pages c.requires.owner) in
+    omega (arith, table.entries, parts_count, few, few_parts)
+
+pub returns-clause-table : goal.returns-clause-table
+returns-clause-table g c =
+    let ls = c.args.leaves.now.items in
+    let n = c.args.entries in
+    let range = c.args.range in
+    let t = c.args.mtype in
+    let o = c.args.owner in
+    let table = c.requires.table.table in
+    let near = c.requires.near in
+    let from = c.args.index in
+    let to = c.args.index + 1 in
+    let rs = leaf_at ls from in
+    let same = sym (one_leaf ls from (to - from) [] (omega (arith, near.bound)) (omega arith)) in
+    let is = c.runs-runs.ensures ∙ c.index.ensures ∙ get_or_default ls from c.index.result.now [] (omega (arith, near.bound)) in
+    let w = rw is at c.window_of-window.ensures in
+    let low = c.window_of-window.result.0 in
+    let high = c.window_of-window.result.1 in
+    let before = all_before ls from to range near rs same low in
+    let old = take (high - low) (drop low rs) in
+    let behind = all_behind ls from to range near rs same high in
+    let cut = cut_in_leaves ls from to range near rs same low high w in
+    let parts = c.in_ok-parts.parts.items in
+    let order = c.in_ok-parts.ensures.order in
+    let pages = rw is at c.in_ok-parts.ensures.pages in
+    let old_count = rw is at c.count_entries-old_entries.ensures.count in
+    let parts_count = rw c.as_slice.ensures.value at c.count_entries-new_entries.ensures.count in
+    let all = put_regroup ls from to range near rs same low high parts c.put_in_leaf.new.leaves.items (rw c.as_slice-2.ensures.value at c.put_in_leaf.ensures.runs) in
+    record {
+      table = rw all (new_table (runs_in ls) n range t o table before old behind cut c.requires.some c.requires.present parts order pages c.requires.owner (n + c.count_entries-new_entries.result - c.count_entries-old_entries.result) (omega (arith, old_count, parts_count)));
+      leaves = c.put_in_leaf.ensures.leaves;
+      begun = c.put_in_leaf.ensures.begun;
+      sizes = c.put_in_leaf.ensures.sizes;
+    }
+
+pub returns-clause-pages : goal.returns-clause-pages
+returns-clause-pages g c =
+    let ls = c.args.leaves.now.items in
+    let n = c.args.entries in
+    let range = c.args.range in
+    let t = c.args.mtype in
+    let o = c.args.owner in
+    let table = c.requires.table.table in
+    let near = c.requires.near in
+    let from = c.args.index in
+    let to = c.args.index + 1 in
+    let rs = leaf_at ls from in
+    let same = sym (one_leaf ls from (to - from) [] (omega (arith, near.bound)) (omega arith)) in
+    let is = c.runs-runs.ensures ∙ c.index.ensures ∙ get_or_default ls from c.index.result.now [] (omega (arith, near.bound)) in
+    let w = rw is at c.window_of-window.ensures in
+    let low = c.window_of-window.result.0 in
+    let high = c.window_of-window.result.1 in
+    let before = all_before ls from to range near rs same low in
+    let old = take (high - low) (drop low rs) in
+    let behind = all_behind ls from to range near rs same high in
+    let cut = cut_in_leaves ls from to range near rs same low high w in
+    let parts = c.in_ok-parts.parts.items in
+    let order = c.in_ok-parts.ensures.order in
+    let pages = rw is at c.in_ok-parts.ensures.pages in
+    let old_count = rw is at c.count_entries-old_entries.ensures.count in
+    let parts_count = rw c.as_slice.ensures.value at c.count_entries-new_entries.ensures.count in
+    let all = put_regroup ls from to range near rs same low high parts c.put_in_leaf.new.leaves.items (rw c.as_slice-2.ensures.value at c.put_in_leaf.ensures.runs) in
+    rw all (new_pages (runs_in ls) n range t o table before old behind cut c.requires.some c.requires.present parts order pages)
+
+pub put_in_leaf-requires-clause-grows : goal.put_in_leaf-requires-clause-grows
+put_in_leaf-requires-clause-grows g c =
+    let ls = c.args.leaves.now.items in
+    let n = c.args.entries in
+    let range = c.args.range in
+    let t = c.args.mtype in
+    let o = c.args.owner in
+    let table = c.requires.table.table in
+    let near = c.requires.near in
+    let from = c.args.index in
+    let to = c.args.index + 1 in
+    let rs = leaf_at ls from in
+    let same = sym (one_leaf ls from (to - from) [] (omega (arith, near.bound)) (omega arith)) in
+    let is = c.runs-runs.ensures ∙ c.index.ensures ∙ get_or_default ls from c.index.result.now [] (omega (arith, near.bound)) in
+    let w = rw is at c.window_of-window.ensures in
+    let low = c.window_of-window.result.0 in
+    let high = c.window_of-window.result.1 in
+    let before = all_before ls from to range near rs same low in
+    let old = take (high - low) (drop low rs) in
+    let behind = all_behind ls from to range near rs same high in
+    let cut = cut_in_leaves ls from to range near rs same low high w in
+    let parts = c.in_ok-parts.parts.items in
+    let order = c.in_ok-parts.ensures.order in
+    let pages = rw is at c.in_ok-parts.ensures.pages in
+    let old_count = rw is at c.count_entries-old_entries.ensures.count in
+    let parts_count = rw c.as_slice.ensures.value at c.count_entries-new_entries.ensures.count in
+    let grows = window_grows (runs_in ls) n range t o table before old behind cut c.requires.some c.requires.present parts order pages in
+    rw c.as_slice-2.ensures.value (put_grows ls from to range near rs same low high parts c.count_entries-old_entries.result c.count_entries-new_entries.result w.order (λ m k e. omega (arith, old_count, parts_count, grows m k e)))
+
+pub put_in_leaf-requires-clause-order : goal.put_in_leaf-requires-clause-order
+put_in_leaf-requires-clause-order g c =
+    let ls = c.args.leaves.now.items in
+    let n = c.args.entries in
+    let range = c.args.range in
+    let t = c.args.mtype in
+    let o = c.args.owner in
+    let table = c.requires.table.table in
+    let near = c.requires.near in
+    let from = c.args.index in
+    let to = c.args.index + 1 in
+    let rs = leaf_at ls from in
+    let same = sym (one_leaf ls from (to - from) [] (omega (arith, near.bound)) (omega arith)) in
+    let is = c.runs-runs.ensures ∙ c.index.ensures ∙ get_or_default ls from c.index.result.now [] (omega (arith, near.bound)) in
+    let w = rw is at c.window_of-window.ensures in
+    let low = c.window_of-window.result.0 in
+    let high = c.window_of-window.result.1 in
+    let before = all_before ls from to range near rs same low in
+    let old = take (high - low) (drop low rs) in
+    let behind = all_behind ls from to range near rs same high in
+    let cut = cut_in_leaves ls from to range near rs same low high w in
+    let parts = c.in_ok-parts.parts.items in
+    let order = c.in_ok-parts.ensures.order in
+    let pages = rw is at c.in_ok-parts.ensures.pages in
+    let old_count = rw is at c.count_entries-old_entries.ensures.count in
+    let parts_count = rw c.as_slice.ensures.value at c.count_entries-new_entries.ensures.count in
+    rw c.as_slice-2.ensures.value (subst AreRuns (sym (put_is ls from to range near rs same low high parts)) (new_runs (runs_in ls) n range t o table before old behind cut c.requires.some c.requires.present parts order pages))
+
+pub put_in_leaf-requires-clause-ends : goal.put_in_leaf-requires-clause-ends
+put_in_leaf-requires-clause-ends g c =
+    let ls = c.args.leaves.now.items in
+    let n = c.args.entries in
+    let range = c.args.range in
+    let t = c.args.mtype in
+    let o = c.args.owner in
+    let table = c.requires.table.table in
+    let near = c.requires.near in
+    let from = c.args.index in
+    let to = c.args.index + 1 in
+    let rs = leaf_at ls from in
+    let same = sym (one_leaf ls from (to - from) [] (omega (arith, near.bound)) (omega arith)) in
+    let is = c.runs-runs.ensures ∙ c.index.ensures ∙ get_or_default ls from c.index.result.now [] (omega (arith, near.bound)) in
+    let w = rw is at c.window_of-window.ensures in
+    let low = c.window_of-window.result.0 in
+    let high = c.window_of-window.result.1 in
+    let before = all_before ls from to range near rs same low in
+    let old = take (high - low) (drop low rs) in
+    let behind = all_behind ls from to range near rs same high in
+    let cut = cut_in_leaves ls from to range near rs same low high w in
+    let parts = c.in_ok-parts.parts.items in
+    let order = c.in_ok-parts.ensures.order in
+    let pages = rw is at c.in_ok-parts.ensures.pages in
+    let old_count = rw is at c.count_entries-old_entries.ensures.count in
+    let parts_count = rw c.as_slice.ensures.value at c.count_entries-new_entries.ensures.count in
+    rw c.as_slice-2.ensures.value (subst (EndBy page_count) (sym (put_is ls from to range near rs same low high parts)) (new_ends (runs_in ls) n range t o table before old behind cut c.requires.some c.requires.present parts order pages c.requires.owner))
