@@ -92,10 +92,12 @@ fn managers_of_made<A: Allocator + Copy>(
     ensures { IfOk result (λ v. v.items ≡ spec.managers_of_made handles.now opens.now pairs.now) }
 {
     let mut found = Vec::new(alloc);
-    let items = opens.all();
-    for o in items {
-        if manages_made(handles, pairs, o) {
-            found.push((o.controller, o.agent))?;
+    let slots = opens.slots();
+    for slot in slots {
+        if let Some(o) = slot {
+            if manages_made(handles, pairs, o) {
+                found.push((o.controller, o.agent))?;
+            }
         }
     }
     Ok(found)
@@ -155,7 +157,7 @@ pub(crate) fn stop_set<A: Allocator + Copy>(
         &mut set,
         handles,
         opens,
-        handles.all().len() + opens.all().len(),
+        handles.all().len() + opens.len(),
     )?;
     Ok(set)
 }

@@ -81,9 +81,15 @@ fn is_unobstructed<A: Allocator + Copy>(
 ) -> bool
     ensures { result ≡ spec.is_unobstructed handles.now opens.now set.now }
 {
-    opens.all().iter().all(|o| {
-        !is_made_by(handles, set, o.handle) || is_no_obstacle(handles, set, o)
-    })
+    let slots = opens.slots();
+    for slot in slots {
+        if let Some(o) = slot {
+            if is_made_by(handles, set, o.handle) && !is_no_obstacle(handles, set, o) {
+                return false;
+            }
+        }
+    }
+    true
 }
 
 /// Whether an agent is that of one of some pairs.

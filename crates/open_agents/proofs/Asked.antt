@@ -9,7 +9,7 @@ use Rattle.open_agents.specs.declared.items.OpenRecord.{OpenRecord}
 use Rattle.open_agents.specs.OpenItems.{is_for_driver, is_exclusive, is_open_on, is_of_pair, is_closed_by, item_of, items_on}
 use Rattle.open_agents.specs.declared.items.Decision.TheVariants.{Add}
 use Rattle.open_agents.specs.OpenRule.{add_or_stop, has_equal, has_of_agent, has_holder, has_exclusive, is_driver_item, driver_item, names_badly, needs_agent, open_rule}
-use Rattle.open_agents.proofs.Blocked.{none_of_agent_0}
+use Rattle.open_agents.proofs.Placed.{none_of_agent_0}
 use Rattle.open_agents.specs.Blocks.{block_size, is_near}
 
 first_part : (a b : Bool) → (a && b) ≡ true → a ≡ true

@@ -1,13 +1,13 @@
 -- Blocks by number: which one is found, and what is found once one has changed.
 use Rattle.std.proofs.Math.ListN.{set}
-use Rattle.std.proofs.Common.{◌≡◌, ℕ, zero, suc, ◌<◌, ◌≤◌, ◌==◌, nat_lt, Bool, true, false, cond, List, [], ◌∷◌, map, length, Option, Some, None, is_some, inl, inr, refl, sym, ap, ◌∙◌, arith, subst}
+use Rattle.std.proofs.Common.{◌≡◌, ℕ, zero, suc, ◌<◌, ◌==◌, nat_lt, Bool, true, false, cond, List, [], ◌∷◌, map, length, Option, Some, None, is_some, inl, inr, refl, sym, ap, ◌∙◌, arith, subst}
 use Rattle.std.specs.List.{find, slice_get, insert, remove, AllByRecursion}
 use Rattle.std.specs.Option.{option_map}
-use Rattle.std.proofs.lemmas.Bool.{cases_Bool, eq-eqb, ne_eqb, ltb-true, le-ltb}
+use Rattle.std.proofs.lemmas.Bool.{cases_Bool, eq-eqb, ne_eqb, ltb-true}
 use Rattle.std.proofs.lemmas.Option.{same_Some}
 use Rattle.guid_handles.specs.Sorting.{Ascending, place, kept_if}
 use Rattle.guid_handles.proofs.SortedLists.{all_map, all_mapped, all_under, found_none, find_none, find_split, find_insert_other, find_insert_new, ascending_insert, map_insert, place_map, numbers_split}
-use Rattle.guid_handles.proofs.Grouped.{find_set_new, find_set_other, insert_there, place_insert, kept_one, one_there, none_of, some_map, is_same, above}
+use Rattle.guid_handles.proofs.Grouped.{find_set_new, find_set_other, kept_one, one_there, none_of, some_map, is_same, above}
 use Rattle.open_agents.specs.Blocks.{Block, IsPlaceOf, AscendByNumber, ChangesBlock, block_at, one_or_empty, empty_block, is_numbered}
 
 -- ---- places in lists
@@ -110,23 +110,15 @@ ascend_insert blocks new at a none e =
     (λ k. is_numbered new.number k ≡ false) (λ k. k.number) (λ k f. (λ t. ltb-true k.number new.number t, λ l. above k.number new.number f l)) blocks (found_none (is_numbered new.number) blocks none))
     a)
 
-pub placed_new : (blocks : List Block) (new : Block) (at : ℕ) → at ≤ length blocks → find (is_numbered new.number) blocks ≡ None → at ≡ place (λ k. nat_lt k.number new.number) blocks → IsPlaceOf new.number (insert blocks at new) at
-placed_new blocks new at l none e =
-    let there : (at < length (insert blocks at new)) × (slice_get (insert blocks at new) at ≡ Some new) = insert_there blocks at new l in
-    let below : nat_lt new.number new.number ≡ false = le-ltb new.number new.number (omega arith) in (
-      there.0,
-      find_insert_new (is_numbered new.number) blocks at new (eq-eqb new.number new.number refl) none ∙ sym there.1,
-      e ∙ sym (place_insert (λ k. nat_lt k.number new.number) blocks new below) ∙ ap (λ i. place (λ k. nat_lt k.number new.number) (insert blocks i new)) (sym e),
-    )
-
--- an empty block that comes changes nothing
-pub block_insert : (blocks : List Block) (n at : ℕ) → find (is_numbered n) blocks ≡ None → (m : ℕ) → block_at (insert blocks at (empty_block n)) m ≡ block_at blocks m
-block_insert blocks n at none m = elim (cases_Bool (n == m)) [
+-- a block that comes is the change of an empty one
+pub block_insert : (blocks : List Block) (n at : ℕ) (new : Block) (f : Block → Block) → find (is_numbered n) blocks ≡ None → new ≡ f (empty_block n) → new.number ≡ n → ChangesBlock n f blocks (insert blocks at new)
+block_insert blocks n at new f none e s m = elim (cases_Bool (n == m)) [
   | inl y ↦
-      let s : n ≡ m = is_same n m y in
-      let e : find (is_numbered m) blocks ≡ None = rw (← s) none in
-      ap (one_or_empty m) (find_insert_new (is_numbered m) blocks at (empty_block n) y e) ∙ ap empty_block s ∙ sym (ap (one_or_empty m) e)
-  | inr f ↦ ap (one_or_empty m) (find_insert_other (is_numbered m) blocks at (empty_block n) f)
+      let w : n ≡ m = is_same n m y in
+      let z : find (is_numbered m) blocks ≡ None = rw (← w) none in
+      let there : find (is_numbered m) (insert blocks at new) ≡ Some new = find_insert_new (is_numbered m) blocks at new (rw s y) z in
+      rw y (ap (one_or_empty m) there ∙ e ∙ ap (λ x. f (empty_block x)) w ∙ sym (ap (λ o. f (one_or_empty m o)) z))
+  | inr d ↦ rw d (ap (one_or_empty m) (find_insert_other (is_numbered m) blocks at new (rw s d)))
 ]
 
 find_remove_other : {X : Type 0} (q : X → Bool) (xs : List X) (at : ℕ) (x : X) → slice_get xs at ≡ Some x → q x ≡ false → find q (remove xs at) ≡ find q xs

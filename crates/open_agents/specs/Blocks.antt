@@ -1,9 +1,44 @@
--- The open items in blocks, by handle, beside those in the order in which they were made.
-use Rattle.std.specs.Prelude.{◌≡◌, ℕ, ◌<◌, ◌/◌, ◌==◌, ◌++◌, nat_lt, Bool, true, false, cond, List, [], ◌∷◌, map, length, take, Option, Some, None, is_some}
-use Rattle.std.specs.List.{filter, find, remove, slice_get, slice_set, AllByRecursion}
-use Rattle.guid_handles.specs.Sorting.{Ascending, place, kept_if}
+-- The open items at their places, and where those on each handle are, in blocks.
+use Rattle.std.specs.Prelude.{◌≡◌, ℕ, ◌+◌, ◌<◌, ◌/◌, ◌==◌, ◌++◌, nat_lt, not, Bool, true, false, cond, List, [], ◌∷◌, map, length, Option, Some, None, slice_index_or}
+use Rattle.std.specs.List.{filter, find, slice_get, AllByRecursion}
+use Rattle.guid_handles.specs.Sorting.{Ascending, place}
 use Rattle.open_agents.specs.declared.items.OpenRecord.{OpenRecord}
 use Rattle.open_agents.specs.OpenItems.{is_equal_item}
+
+-- ---- items at places
+
+abbrev pub with_first : Option OpenRecord → List OpenRecord → List OpenRecord
+with_first None os = os
+with_first (Some o) os = o ∷ os
+
+-- the items that are there, in the order in which they were made
+abbrev pub items_in : List (Option OpenRecord) → List OpenRecord
+items_in [] = []
+items_in (s ∷ ss) = with_first s (items_in ss)
+
+-- the item at a place, if there is one
+abbrev pub item_at : List (Option OpenRecord) → ℕ → Option OpenRecord
+item_at slots at = slice_index_or slots at None
+
+-- the items at some places
+abbrev pub items_at : List (Option OpenRecord) → List ℕ → List OpenRecord
+items_at slots [] = []
+items_at slots (k ∷ ks) = with_first (item_at slots k) (items_at slots ks)
+
+abbrev pub passes : (OpenRecord → Bool) → Option OpenRecord → Bool
+passes p None = false
+passes p (Some o) = p o
+
+-- an item that passes a test is at a place
+abbrev pub HoldsAt : (OpenRecord → Bool) → List (Option OpenRecord) → ℕ → Type 0
+HoldsAt p slots at = passes p (item_at slots at) ≡ true
+
+-- the places of the items that pass a test, where the first place has a number
+abbrev pub places_from : ℕ → (OpenRecord → Bool) → List (Option OpenRecord) → List ℕ
+places_from k p [] = []
+places_from k p (s ∷ ss) = cond (passes p s) (k ∷ places_from (k + 1) p ss) (places_from (k + 1) p ss)
+
+-- ---- blocks
 
 -- so many handles share a block
 abbrev pub block_size : ℕ
@@ -17,14 +52,13 @@ is_in b o = (o.handle / block_size) == b
 abbrev pub is_near : ℕ → OpenRecord → Bool
 is_near n o = is_in (n / block_size) o
 
--- the items on the handles of a block, and a serial number of each
+-- the places of the items on the handles of a block
 pub record Block : Type 0 where
   pub number : ℕ
-  pub items : List OpenRecord
-  pub serials : List ℕ
+  pub places : List ℕ
 
 abbrev pub empty_block : ℕ → Block
-empty_block b = record { number = b; items = []; serials = [] }
+empty_block b = record { number = b; places = [] }
 
 abbrev pub one_or_empty : ℕ → Option Block → Block
 one_or_empty b None = empty_block b
@@ -47,49 +81,28 @@ AscendByNumber blocks = Ascending (λ a b. a < b) (map (λ k. k.number) blocks)
 
 -- ---- what changes
 
-abbrev pub with_last : ℕ → OpenRecord → Block → Block
-with_last s o k = record k { items = k.items ++ o ∷ []; serials = k.serials ++ s ∷ [] }
+abbrev pub with_last : ℕ → Block → Block
+with_last at k = record k { places = k.places ++ at ∷ [] }
 
 abbrev pub without_place : ℕ → Block → Block
-without_place at k = record k { items = remove k.items at; serials = remove k.serials at }
-
-abbrev pub with_place : ℕ → OpenRecord → Block → Block
-with_place at o k = record k { items = slice_set k.items at o }
+without_place at k = record k { places = filter (λ x. not (x == at)) k.places }
 
 -- the block of one number changes, and no other
 abbrev pub ChangesBlock : ℕ → (Block → Block) → List Block → List Block → Type 0
 ChangesBlock b f old new = (m : ℕ) → block_at new m ≡ cond (b == m) (f (block_at old m)) (block_at old m)
 
--- ---- in step with the items in the order in which they were made
+-- ---- in step with the items
 
--- the serial numbers of the items in a block
-abbrev pub serials_in : ℕ → List ℕ → List OpenRecord → List ℕ
-serials_in b [] opens = []
-serials_in b (s ∷ ss) [] = []
-serials_in b (s ∷ ss) (o ∷ os) = cond (is_in b o) (s ∷ serials_in b ss os) (serials_in b ss os)
-
--- what of some items and their serial numbers is in a block
-abbrev pub block_of : List ℕ → List OpenRecord → ℕ → Block
-block_of serials opens b = record { number = b; items = filter (is_in b) opens; serials = serials_in b serials opens }
-
--- an item that passes a test stands at a place
-abbrev pub HoldsAt : (OpenRecord → Bool) → List OpenRecord → ℕ → Type 0
-HoldsAt p opens at = is_some (kept_if p (slice_get opens at)) ≡ true
-
--- where the item at a place stands in its block
-abbrev pub IsPlaceInBlock : List OpenRecord → ℕ → ℕ → Type 0
-IsPlaceInBlock opens at place = (o : OpenRecord) → slice_get opens at ≡ Some o → place ≡ length (filter (is_near o.handle) (take at opens))
+-- the block of a number, of items at their places
+abbrev pub block_of : List (Option OpenRecord) → ℕ → Block
+block_of slots b = record { number = b; places = places_from 0 (is_in b) slots }
 
 -- two items have the same interface, agent, controller and attributes
 abbrev pub are_equal : OpenRecord → OpenRecord → Bool
 are_equal o p = is_equal_item o.handle o.guid o.agent o.controller o.attributes p
 
--- Items, no two of which are equal and each of which has an agent; their serial numbers, which ascend up to the next one; and both
--- in blocks.
-pub record IsOpenStore (opens : List OpenRecord) (serials : List ℕ) (next : ℕ) (blocks : List Block) : Type 0 where
-  pub paired : length serials ≡ length opens
-  pub ascending : Ascending (λ a b. a < b) serials
-  pub below : AllByRecursion (λ s. s < next) serials
-  pub in_step : (b : ℕ) → block_at blocks b ≡ block_of serials opens b
-  pub distinct : Ascending (λ o p. are_equal p o ≡ false) opens
-  pub agents : AllByRecursion (λ o. (o.agent == 0) ≡ false) opens
+-- Items, no two of which are equal and each of which has an agent, at their places; and these places in blocks.
+pub record IsOpenStore (slots : List (Option OpenRecord)) (blocks : List Block) : Type 0 where
+  pub in_step : (b : ℕ) → block_at blocks b ≡ block_of slots b
+  pub distinct : Ascending (λ o p. are_equal p o ≡ false) (items_in slots)
+  pub agents : AllByRecursion (λ o. (o.agent == 0) ≡ false) (items_in slots)

@@ -1,11 +1,10 @@
-//! The open items by handle, in blocks.
+//! Where the open items are, by handle, in blocks.
 ghost use Rattle.std.specs.Prelude.{◌≡◌, ◌<◌, ◌≤◌, ◌==◌, ℕ, ◌/◌, [], None, length, nat_lt, option_map, map, slice_get, IfOk, OnOk, OnErr, IfSome, IfNone};
 ghost use Rattle.std.specs.List.{find};
 ghost use Rattle.guid_handles.specs.Sorting.{Ascending, kept_if, place};
-ghost use Rattle.open_agents.specs.Blocks.{AscendByNumber, ChangesBlock, IsPlaceOf, block_at, block_size, is_numbered, with_last, with_place, without_place};
+ghost use Rattle.open_agents.specs.Blocks.{AscendByNumber, ChangesBlock, IsPlaceOf, block_at, block_size, is_numbered, with_last, without_place};
 
-use crate::item_block::ItemBlock;
-use crate::items::OpenRecord;
+use crate::place_block::PlaceBlock;
 use std::alloc::{AllocError, Allocator};
 use std::marker::Model;
 
@@ -19,10 +18,10 @@ pub(crate) fn block_of(handle: u64) -> u64
     handle / BLOCK_SIZE
 }
 
-/// Blocks by ascending numbers. Those without items are not kept, but where memory was refused.
+/// Blocks by ascending numbers. Those without items are not kept.
 #[derive(Drop)]
 pub(crate) struct Blocks<A: Allocator> {
-    blocks: Vec<ItemBlock<A>, A>,
+    blocks: Vec<PlaceBlock<A>, A>,
 }
 
 impl<A: Allocator> Model for Blocks<A> {
@@ -37,37 +36,24 @@ impl<A: Allocator> Model for Blocks<A> {
 }
 
 /// How many blocks have lower numbers.
-fn count_lower<A: Allocator + Copy>(blocks: &[ItemBlock<A>], number: u64) -> usize
+fn count_lower<A: Allocator + Copy>(blocks: &[PlaceBlock<A>], number: u64) -> usize
     requires { AscendByNumber blocks.now }
     ensures place { result ≡ place (λ k. nat_lt k.number number) blocks.now }
     ensures bound { result ≤ length blocks.now }
 {
     blocks.partition_point(
-        |b: &ItemBlock<A>| -> bool
+        |b: &PlaceBlock<A>| -> bool
             ensures { result ≡ nat_lt b.now.number number }
         { b.number() < number },
     )
 }
 
-/// How many of some ascending numbers are less than one.
-pub(crate) fn count_less(numbers: &[u64], number: u64) -> usize
-    requires { Ascending (λ a b. a < b) numbers.now }
-    ensures place { result ≡ place (λ n. nat_lt n number) numbers.now }
-    ensures bound { result ≤ length numbers.now }
-{
-    numbers.partition_point(
-        |n: &u64| -> bool
-            ensures { result ≡ nat_lt n.now number }
-        { *n < number },
-    )
-}
-
 /// The block at a place, if it has a number.
 fn block_if<A: Allocator + Copy>(
-    blocks: &[ItemBlock<A>],
+    blocks: &[PlaceBlock<A>],
     at: usize,
     number: u64,
-) -> Option<&ItemBlock<A>>
+) -> Option<&PlaceBlock<A>>
     ensures { option_map (λ k. k.now) result ≡ kept_if (is_numbered number) (slice_get blocks.now at) }
 {
     let block = blocks.get(at)?;
@@ -79,7 +65,7 @@ fn block_if<A: Allocator + Copy>(
 }
 
 /// The place of the block of a number.
-fn place_of<A: Allocator + Copy>(blocks: &[ItemBlock<A>], number: u64) -> Option<usize>
+fn place_of<A: Allocator + Copy>(blocks: &[PlaceBlock<A>], number: u64) -> Option<usize>
     requires { AscendByNumber blocks.now }
     ensures there { IfSome result (IsPlaceOf number blocks.now) }
     ensures none { IfNone result (find (is_numbered number) blocks.now ≡ None) }
@@ -113,77 +99,47 @@ impl<A: Allocator + Copy> Blocks<A> {
         Ok(Blocks { blocks })
     }
 
-    /// The items in a block.
-    pub(crate) fn items(&self, number: u64) -> &[OpenRecord]
-        ensures { result.now ≡ (block_at self.now number).items }
+    /// The places of the items in a block.
+    pub(crate) fn places(&self, number: u64) -> &[usize]
+        ensures { result.now ≡ (block_at self.now number).places }
     {
         match place_of(self.blocks.as_slice(), number) {
-            Some(at) => self.blocks[at].items(),
+            Some(at) => self.blocks[at].places(),
             None => &[],
         }
     }
 
-    /// The serial numbers of the items in a block.
-    pub(crate) fn serials(&self, number: u64) -> &[u64]
-        ensures { result.now ≡ (block_at self.now number).serials }
-    {
-        match place_of(self.blocks.as_slice(), number) {
-            Some(at) => self.blocks[at].serials(),
-            None => &[],
-        }
-    }
-
-    /// Makes a block of a number that has none, and answers its place.
-    fn make(&mut self, number: u64) -> Result<usize, AllocError>
+    /// Makes a block of one item, for a number that has none. On an `Err` the blocks are as they were.
+    fn make(&mut self, number: u64, place: usize) -> Result<(), AllocError>
         requires { find (is_numbered number) self.old ≡ None }
-        ensures at { IfOk result (IsPlaceOf number self.new) }
-        ensures same { (m : ℕ) → block_at self.new m ≡ block_at self.old m }
-    {
-        let at = count_lower(self.blocks.as_slice(), number);
-        let block = ItemBlock::new(*self.blocks.allocator(), number);
-        self.blocks.insert(at, block)?;
-        Ok(at)
-    }
-
-    /// The place of the block of a number, which is made if there is none.
-    fn place_for(&mut self, number: u64) -> Result<usize, AllocError>
-        ensures at { IfOk result (IsPlaceOf number self.new) }
-        ensures same { (m : ℕ) → block_at self.new m ≡ block_at self.old m }
-    {
-        match place_of(self.blocks.as_slice(), number) {
-            Some(at) => Ok(at),
-            None => self.make(number),
-        }
-    }
-
-    /// Appends an item to the block at a place.
-    fn push_at(
-        &mut self,
-        at: usize,
-        number: u64,
-        serial: u64,
-        item: &OpenRecord,
-    ) -> Result<(), AllocError>
-        requires { IsPlaceOf number self.old at }
-        ensures ok { OnOk result (ChangesBlock number (with_last serial item.now) self.old self.new) }
+        ensures ok { OnOk result (ChangesBlock number (with_last place) self.old self.new) }
         ensures err { OnErr result (self.new ≡ self.old) }
     {
-        self.blocks[at].push(serial, item)?;
+        let at = count_lower(self.blocks.as_slice(), number);
+        let block = PlaceBlock::new(*self.blocks.allocator(), number, place)?;
+        self.blocks.insert(at, block)?;
         Ok(())
     }
 
-    /// Appends an item to a block. On an `Err` the blocks have the same items as before.
-    pub(crate) fn push(
-        &mut self,
-        number: u64,
-        serial: u64,
-        item: &OpenRecord,
-    ) -> Result<(), AllocError>
-        ensures ok { OnOk result (ChangesBlock number (with_last serial item.now) self.old self.new) }
-        ensures err { OnErr result ((m : ℕ) → block_at self.new m ≡ block_at self.old m) }
+    /// Appends the place of an item to the block at `at`. On an `Err` the blocks are as they were.
+    fn push_at(&mut self, at: usize, number: u64, place: usize) -> Result<(), AllocError>
+        requires { IsPlaceOf number self.old at }
+        ensures ok { OnOk result (ChangesBlock number (with_last place) self.old self.new) }
+        ensures err { OnErr result (self.new ≡ self.old) }
     {
-        let at = self.place_for(number)?;
-        self.push_at(at, number, serial, item)
+        self.blocks[at].push(place)?;
+        Ok(())
+    }
+
+    /// Appends the place of an item to a block. On an `Err` the blocks are as they were.
+    pub(crate) fn push(&mut self, number: u64, place: usize) -> Result<(), AllocError>
+        ensures ok { OnOk result (ChangesBlock number (with_last place) self.old self.new) }
+        ensures err { OnErr result (self.new ≡ self.old) }
+    {
+        match place_of(self.blocks.as_slice(), number) {
+            Some(at) => self.push_at(at, number, place),
+            None => self.make(number, place),
+        }
     }
 
     /// Takes a block without items out.
@@ -196,34 +152,22 @@ impl<A: Allocator + Copy> Blocks<A> {
         }
     }
 
-    /// Takes the item at a place in a block out of it.
+    /// Takes the place of an item out of the block at `at`.
     fn remove_in(&mut self, at: usize, number: u64, place: usize)
-        requires at { IsPlaceOf number self.old at }
-        requires there { place < length (block_at self.old number).items }
+        requires { IsPlaceOf number self.old at }
         ensures changes { ChangesBlock number (without_place place) self.old self.new }
         ensures at { IsPlaceOf number self.new at }
     {
         self.blocks[at].remove(place);
     }
 
-    /// Takes the item at a place in a block out of it.
+    /// Takes the place of an item out of a block.
     pub(crate) fn remove(&mut self, number: u64, place: usize)
-        requires { place < length (block_at self.old number).items }
         ensures { ChangesBlock number (without_place place) self.old self.new }
     {
         if let Some(at) = place_of(self.blocks.as_slice(), number) {
             self.remove_in(at, number, place);
             self.drop_empty(at, number);
-        }
-    }
-
-    /// Puts an item at a place in a block.
-    pub(crate) fn put(&mut self, number: u64, place: usize, item: &OpenRecord)
-        requires { place < length (block_at self.old number).items }
-        ensures { ChangesBlock number (with_place place item.now) self.old self.new }
-    {
-        if let Some(at) = place_of(self.blocks.as_slice(), number) {
-            self.blocks[at].put(place, item);
         }
     }
 }

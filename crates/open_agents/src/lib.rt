@@ -3,10 +3,12 @@
 
 mod attributes;
 mod blocks;
-mod item_block;
 mod items;
+mod near;
 mod opens;
+mod place_block;
 mod questions;
+mod store;
 
 pub use attributes::{
     BY_CHILD_CONTROLLER, BY_DRIVER, BY_HANDLE_PROTOCOL, EXCLUSIVE, GET_PROTOCOL, TEST_PROTOCOL,

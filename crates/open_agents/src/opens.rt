@@ -1,23 +1,24 @@
 //! The open items of all interfaces.
-ghost use Rattle.std.specs.Prelude.{◌≡◌, ◌<◌, ◌==◌, true, false, [], ◌∷◌, ◌++◌, length, map, slice_get, Some, vec_len, vec_capacity, IfOk, IsOk, IfSome, IfNone, OnOk, OnErr};
-ghost use Rattle.std.specs.List.{filter, list_any, remove};
+ghost use Rattle.std.specs.Prelude.{◌≡◌, ◌<◌, ◌^◌, true, false, [], length, IfOk, IsOk, OnOk, OnErr};
+ghost use Rattle.std.specs.List.{filter, list_any};
 ghost use Rattle.guid_handles.specs.HandleTables.{carries, is_live};
 ghost use Rattle.guid_handles.specs.HandleChanges.{is_dead as dead};
 ghost use Rattle.open_agents.specs.OpenItems as spec;
 ghost use Rattle.open_agents.specs.OpenItems.{is_closed_by, names, items_on, managers_of, with_item, CanCount, without_items};
 ghost use Rattle.open_agents.specs.OpenRule as rule;
-ghost use Rattle.open_agents.specs.Blocks.{HoldsAt, IsPlaceInBlock, are_equal, is_near};
+ghost use Rattle.open_agents.specs.Blocks.{is_near, items_at, items_in};
 
 use crate::attributes::{
     BY_CHILD_CONTROLLER, BY_DRIVER, EXCLUSIVE, is_exclusive, is_for_driver, is_known, needs_agent,
     needs_controller,
 };
-use crate::blocks::{Blocks, block_of, count_less};
 use crate::items::{Decision, OpenItem, OpenRecord, is_open_on, item_of};
+use crate::near::{Near, item_at};
 use crate::questions::{
-    find_closed, find_equal, find_naming, find_of_pair, find_open_on, first_driver_item,
-    has_closed, has_equal, has_exclusive, has_of_agent, is_any_driving, is_any_keeping, is_held,
+    find_closed, find_equal, find_naming, find_of_pair, find_open_on, first_driver_item, has_equal,
+    has_exclusive, has_of_agent, is_any_driving, is_any_keeping, is_held,
 };
+use crate::store::{ItemStore, count_items};
 use guid_handles::Handles;
 use page_ranges::Status;
 use std::alloc::{AllocError, Allocator, Global};
@@ -27,26 +28,17 @@ use uuid::Uuid;
 /// The open items.
 #[derive(Drop)]
 pub struct Opens<A: Allocator = Global> {
-    // In the order in which they were made.
-    items: Vec<OpenRecord, A>,
-    // A number of each item, ascending.
-    serials: Vec<u64, A>,
-    // The number of the next item.
-    next: u64,
-    // The items and their numbers by handle.
-    blocks: Blocks<A>,
+    items: ItemStore<A>,
 }
 
 impl<A: Allocator> Model for Opens<A> {
     ghost use Rattle.std.specs.Prelude.{List};
     ghost use Rattle.open_agents.specs.declared.items.OpenRecord.{OpenRecord};
-    ghost use Rattle.open_agents.specs.Blocks.{IsOpenStore};
+    ghost use Rattle.open_agents.specs.Blocks.{items_in};
 
     ghost Value = { List OpenRecord };
 
-    ghost view = { λ o. o.items.items };
-
-    ghost invariant = { λ o. IsOpenStore o.items.items o.serials.items o.next o.blocks };
+    ghost view = { λ o. items_in o.items };
 }
 
 impl<A: Allocator + Copy> Opens<A> {
@@ -55,10 +47,7 @@ impl<A: Allocator + Copy> Opens<A> {
         ensures { result ≡ [] }
     {
         Opens {
-            items: Vec::new(alloc),
-            serials: Vec::new(alloc),
-            next: 0,
-            blocks: Blocks::new(alloc),
+            items: ItemStore::new(alloc),
         }
     }
 
@@ -66,141 +55,30 @@ impl<A: Allocator + Copy> Opens<A> {
     pub fn try_copy(&self) -> Result<Opens<A>, AllocError>
         ensures { IfOk result (λ copy. copy ≡ self.now) }
     {
-        let alloc = *self.items.allocator();
-        let items = Vec::from_slice(alloc, self.items.as_slice())?;
-        let serials = Vec::from_slice(alloc, self.serials.as_slice())?;
-        let blocks = self.blocks.try_copy()?;
-        Ok(Opens {
-            items,
-            serials,
-            next: self.next,
-            blocks,
-        })
+        let items = self.items.try_copy()?;
+        Ok(Opens { items })
     }
 
-    /// All items, in the order in which they were made.
-    pub fn all(&self) -> &[OpenRecord]
-        ensures { result.now ≡ self.now }
+    /// All items, in the order in which they were made, with a `None` for some that were closed.
+    pub fn slots(&self) -> &[Option<OpenRecord>]
+        ensures { items_in result.now ≡ self.now }
     {
-        self.items.as_slice()
+        self.items.slots()
     }
 
-    /// The items in the block of a handle, in the order in which they were made.
-    fn near(&self, handle: u64) -> &[OpenRecord]
-        ensures { result.now ≡ filter (is_near handle) self.now }
+    /// How many items there are.
+    pub fn len(&self) -> usize
+        ensures count { result ≡ length self.now }
+        ensures bound { result < 2 ^ 63 }
     {
-        self.blocks.items(block_of(handle))
+        count_items(self.items.slots())
     }
 
-    /// The place among all items of the item at a place in the block of a handle.
-    fn place_among_all(&self, handle: u64, place: usize) -> usize
-        requires { place < length (filter (is_near handle) self.now) }
-        ensures { slice_get self.now result ≡ slice_get (filter (is_near handle) self.now) place }
+    /// The items in the block of a handle.
+    fn near(&self, handle: u64) -> Near<'_>
+        ensures { items_at result.slots.now result.places.now ≡ filter (is_near handle) self.now }
     {
-        let serial = serial_at(self.blocks.serials(block_of(handle)), place);
-        count_less(self.serials.as_slice(), serial)
-    }
-
-    /// The place of an item that is equal to what a call asks for.
-    fn place_of_equal(
-        &self,
-        handle: u64,
-        guid: Uuid,
-        agent: u64,
-        controller: u64,
-        attributes: u32,
-    ) -> Option<usize>
-        ensures there { IfSome result (HoldsAt (spec.is_equal_item handle guid agent controller attributes) self.now) }
-        ensures none { IfNone result (rule.has_equal self.now handle guid agent controller attributes ≡ false) }
-    {
-        let place = find_equal(
-            self.near(handle),
-            handle,
-            guid,
-            agent,
-            controller,
-            attributes,
-        )?;
-        Some(self.place_among_all(handle, place))
-    }
-
-    /// The place of an item of a controller and an agent on an interface.
-    fn place_of_closed(&self, handle: u64, guid: Uuid, agent: u64, controller: u64) -> Option<usize>
-        ensures there { IfSome result (HoldsAt (is_closed_by handle guid agent controller) self.now) }
-        ensures none { IfNone result (list_any (is_closed_by handle guid agent controller) self.now ≡ false) }
-    {
-        let place = find_closed(self.near(handle), handle, guid, agent, controller)?;
-        Some(self.place_among_all(handle, place))
-    }
-
-    /// The place of the last item of an interface.
-    fn place_of_last_on(&self, handle: u64, guid: Uuid) -> Option<usize>
-        ensures there { IfSome result (HoldsAt (spec.is_open_on handle guid) self.now) }
-        ensures none { IfNone result (list_any (spec.is_open_on handle guid) self.now ≡ false) }
-    {
-        let place = find_open_on(self.near(handle), handle, guid)?;
-        Some(self.place_among_all(handle, place))
-    }
-
-    /// The place in its block of the item at a place.
-    fn place_in_block(&self, at: usize) -> usize
-        requires { at < length self.now }
-        ensures { IsPlaceInBlock self.now at result }
-    {
-        let item = self.items[at];
-        let serial = serial_at(self.serials.as_slice(), at);
-        count_less(self.blocks.serials(block_of(item.handle)), serial)
-    }
-
-    /// Counts the item at a place once more, which is equal to what a call asks for.
-    fn count_at(
-        &mut self,
-        at: usize,
-        handle: u64,
-        guid: Uuid,
-        agent: u64,
-        controller: u64,
-        attributes: u32,
-    )
-        requires there { HoldsAt (spec.is_equal_item handle guid agent controller attributes) self.old at }
-        requires counts { CanCount handle guid agent controller attributes self.old }
-        ensures { self.new ≡ map (spec.counted (spec.is_equal_item handle guid agent controller attributes)) self.old }
-    {
-        let place = self.place_in_block(at);
-        let mut item = self.items[at];
-        item.count += 1;
-        self.items[at] = item;
-        self.blocks.put(block_of(item.handle), place, &item);
-    }
-
-    /// Takes out the item at a place.
-    fn remove_at(&mut self, at: usize)
-        requires { at < length self.old }
-        ensures { self.new ≡ remove self.old at }
-    {
-        let place = self.place_in_block(at);
-        let item = self.items.remove(at);
-        self.serials.remove(at);
-        self.blocks.remove(block_of(item.handle), place);
-    }
-
-    /// Appends an item of an agent that is equal to none. On an `Err` the items are as they were.
-    fn push(&mut self, item: &OpenRecord) -> Result<(), AllocError>
-        requires new { list_any (are_equal item.now) self.old ≡ false }
-        requires agent { (item.now.agent == 0) ≡ false }
-        ensures ok { OnOk result (self.new ≡ self.old ++ item.now ∷ []) }
-        ensures err { OnErr result (self.new ≡ self.old) }
-    {
-        if self.next == u64::MAX {
-            return Err(AllocError);
-        }
-        self.items.reserve(1)?;
-        self.serials.reserve(1)?;
-        self.blocks.push(block_of(item.handle), self.next, item)?;
-        push_with_room(&mut self.serials, self.next);
-        push_with_room(&mut self.items, *item);
-        self.next += 1;
-        Ok(())
+        self.items.near(handle)
     }
 
     /// Whether an interface is open for a driver or exclusively.
@@ -257,7 +135,7 @@ impl<A: Allocator + Copy> Opens<A> {
         ensures { result ≡ rule.open_rule handles.now self.now handle guid agent controller attributes }
     {
         // No item is of agent 0.
-        let _items = &self.items;
+        let _slots = self.items.slots();
         if agent != 0 {
             return decide_among(
                 handles,
@@ -273,7 +151,10 @@ impl<A: Allocator + Copy> Opens<A> {
         decide_among(
             handles,
             carried,
-            &[],
+            Near {
+                slots: &[],
+                places: &[],
+            },
             handle,
             guid,
             agent,
@@ -288,19 +169,27 @@ impl<A: Allocator + Copy> Opens<A> {
         ensures found { result ≡ list_any (is_closed_by handle guid agent controller) self.old }
         ensures items { self.new ≡ without_items (is_closed_by handle guid agent controller) self.old }
     {
-        if !has_closed(self.near(handle), handle, guid, agent, controller) {
+        let near = self.items.near(handle);
+        let Some(first) = find_closed(near, handle, guid, agent, controller) else {
             return false;
-        }
+        };
+        self.items.remove(first);
         self.drop_closed(handle, guid, agent, controller);
         true
     }
 
-    /// Takes out all items of a controller and an agent on an interface.
+    /// Takes out all items of an agent and a controller on an interface.
     fn drop_closed(&mut self, handle: u64, guid: Uuid, agent: u64, controller: u64)
         ensures { self.new ≡ without_items (is_closed_by handle guid agent controller) self.old }
     {
-        while let Some(at) = self.place_of_closed(handle, guid, agent, controller) {
-            self.remove_at(at);
+        while let Some(place) = find_closed(
+            self.items.near(handle),
+            handle,
+            guid,
+            agent,
+            controller,
+        ) {
+            self.items.remove(place);
         }
     }
 
@@ -308,8 +197,8 @@ impl<A: Allocator + Copy> Opens<A> {
     pub fn drop_pair(&mut self, controller: u64, agent: u64)
         ensures { self.new ≡ without_items (spec.is_of_pair controller agent) self.old }
     {
-        while let Some(at) = find_of_pair(self.items.as_slice(), controller, agent) {
-            self.remove_at(at);
+        while let Some(place) = find_of_pair(self.items.slots(), controller, agent) {
+            self.items.remove(place);
         }
     }
 
@@ -317,8 +206,8 @@ impl<A: Allocator + Copy> Opens<A> {
     pub fn drop_handle(&mut self, handle: u64)
         ensures { self.new ≡ without_items (names handle) self.old }
     {
-        while let Some(at) = find_naming(self.items.as_slice(), handle) {
-            self.remove_at(at);
+        while let Some(place) = find_naming(self.items.slots(), handle) {
+            self.items.remove(place);
         }
     }
 
@@ -326,8 +215,8 @@ impl<A: Allocator + Copy> Opens<A> {
     pub fn drop_interface(&mut self, handle: u64, guid: Uuid)
         ensures { self.new ≡ without_items (spec.is_open_on handle guid) self.old }
     {
-        while let Some(at) = self.place_of_last_on(handle, guid) {
-            self.remove_at(at);
+        while let Some(place) = find_open_on(self.items.near(handle), handle, guid) {
+            self.items.remove(place);
         }
     }
 
@@ -348,12 +237,14 @@ impl<A: Allocator + Copy> Opens<A> {
         ensures no_agent { agent ≡ 0 → IsOk result }
     {
         // No item is of agent 0.
-        let _items = &self.items;
+        let _slots = self.items.slots();
         if agent == 0 {
             return Ok(());
         }
-        if let Some(at) = self.place_of_equal(handle, guid, agent, controller, attributes) {
-            self.count_at(at, handle, guid, agent, controller, attributes);
+        let near = self.items.near(handle);
+        if let Some(place) = find_equal(near, handle, guid, agent, controller, attributes) {
+            self.items
+                .count_at(place, handle, guid, agent, controller, attributes);
             return Ok(());
         }
         self.add_new(handle, guid, agent, controller, attributes)
@@ -375,7 +266,7 @@ impl<A: Allocator + Copy> Opens<A> {
         ensures no_agent { agent ≡ 0 → IsOk result }
     {
         if agent != 0 {
-            return self.push(&OpenRecord {
+            return self.items.push(&OpenRecord {
                 handle,
                 guid,
                 agent,
@@ -393,7 +284,7 @@ impl<A: Allocator + Copy> Opens<A> {
         ensures items { IfOk result (λ v. v.items ≡ items_on self.now handle guid) }
         ensures none { items_on self.now handle guid ≡ [] → IsOk result }
     {
-        items_among(*self.items.allocator(), self.near(handle), handle, guid)
+        items_among(self.items.allocator(), self.near(handle), handle, guid)
     }
 
     /// The pairs of controller and agent that manage a handle: one for each item for a driver with
@@ -403,7 +294,7 @@ impl<A: Allocator + Copy> Opens<A> {
         ensures pairs { IfOk result (λ v. v.items ≡ managers_of self.now handle) }
         ensures none { managers_of self.now handle ≡ [] → IsOk result }
     {
-        managers_among(*self.items.allocator(), self.items.as_slice(), handle)
+        managers_among(self.items.allocator(), self.items.slots(), handle)
     }
 }
 
@@ -411,7 +302,7 @@ impl<A: Allocator + Copy> Opens<A> {
 fn decide_among<A: Allocator + Copy>(
     handles: &Handles<A>,
     carried: bool,
-    on: &[OpenRecord],
+    on: Near<'_>,
     handle: u64,
     guid: Uuid,
     agent: u64,
@@ -419,7 +310,7 @@ fn decide_among<A: Allocator + Copy>(
     attributes: u32,
 ) -> Decision
     requires { carried ≡ carries handles.now guid handle }
-    ensures { result ≡ rule.open_rule handles.now on.now handle guid agent controller attributes }
+    ensures { result ≡ rule.open_rule handles.now (items_at on.entry.slots.now on.entry.places.now) handle guid agent controller attributes }
 {
     if !is_known(attributes)
         || !is_live_if(handles, carried, handle, guid)
@@ -498,38 +389,22 @@ fn is_dead<A: Allocator + Copy>(handles: &Handles<A>, handle: u64) -> bool
     handle != 0 && !handles.is_live(handle)
 }
 
-/// The serial number at a place.
-fn serial_at(serials: &[u64], at: usize) -> u64
-    requires { at < length serials.now }
-    ensures { slice_get serials.now at ≡ Some result }
-{
-    serials[at]
-}
-
-/// Appends an item, for which there is room.
-fn push_with_room<T: Drop, A: Allocator>(items: &mut Vec<T, A>, item: T)
-    requires { vec_len items.old < vec_capacity items.old }
-    ensures { items.new.items ≡ items.old.items ++ item ∷ [] }
-{
-    if items.push(item).is_err() {
-        unreachable!();
-    }
-}
-
-/// The items of an interface among some items.
+/// The items of an interface among those near it.
 fn items_among<A: Allocator>(
     alloc: A,
-    items: &[OpenRecord],
+    near: Near<'_>,
     handle: u64,
     guid: Uuid,
 ) -> Result<Vec<OpenItem, A>, AllocError>
-    ensures items { IfOk result (λ v. v.items ≡ items_on items.now handle guid) }
-    ensures none { items_on items.now handle guid ≡ [] → IsOk result }
+    ensures items { IfOk result (λ v. v.items ≡ items_on (items_at near.entry.slots.now near.entry.places.now) handle guid) }
+    ensures none { items_on (items_at near.entry.slots.now near.entry.places.now) handle guid ≡ [] → IsOk result }
 {
     let mut found = Vec::new(alloc);
-    for o in items {
-        if is_open_on(o, handle, guid) {
-            found.push(item_of(o))?;
+    for place in near.places {
+        if let Some(o) = item_at(near.slots, *place) {
+            if is_open_on(o, handle, guid) {
+                found.push(item_of(o))?;
+            }
         }
     }
     Ok(found)
@@ -538,16 +413,18 @@ fn items_among<A: Allocator>(
 /// The pairs that manage a handle by some items.
 fn managers_among<A: Allocator>(
     alloc: A,
-    items: &[OpenRecord],
+    slots: &[Option<OpenRecord>],
     handle: u64,
 ) -> Result<Vec<(u64, u64), A>, AllocError>
-    ensures pairs { IfOk result (λ v. v.items ≡ managers_of items.now handle) }
-    ensures none { managers_of items.now handle ≡ [] → IsOk result }
+    ensures pairs { IfOk result (λ v. v.items ≡ managers_of (items_in slots.now) handle) }
+    ensures none { managers_of (items_in slots.now) handle ≡ [] → IsOk result }
 {
     let mut found = Vec::new(alloc);
-    for o in items {
-        if manages(o, handle) {
-            found.push((o.controller, o.agent))?;
+    for slot in slots {
+        if let Some(o) = slot {
+            if manages(o, handle) {
+                found.push((o.controller, o.agent))?;
+            }
         }
     }
     Ok(found)

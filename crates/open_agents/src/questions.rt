@@ -3,40 +3,53 @@ ghost use Rattle.std.specs.Prelude.{◌≡◌, ◌==◌, ◌&&◌, ◌||◌, fal
 ghost use Rattle.std.specs.List.{list_any};
 ghost use Rattle.open_agents.specs.OpenItems as spec;
 ghost use Rattle.open_agents.specs.OpenItems.{is_closed_by};
-ghost use Rattle.open_agents.specs.Blocks.{HoldsAt};
+ghost use Rattle.open_agents.specs.Blocks.{HoldsAt, items_at, items_in};
 ghost use Rattle.open_agents.specs.OpenRule as rule;
 
 use crate::attributes::{BY_CHILD_CONTROLLER, BY_DRIVER, EXCLUSIVE, is_exclusive, is_for_driver};
 use crate::items::{OpenRecord, is_equal_item, is_of_pair, is_open_on};
+use crate::near::{Near, item_at};
 use uuid::Uuid;
 
 /// Whether there is an item equal to what a call asks for.
 pub(crate) fn has_equal(
-    items: &[OpenRecord],
+    near: Near<'_>,
     handle: u64,
     guid: Uuid,
     agent: u64,
     controller: u64,
     attributes: u32,
 ) -> bool
-    ensures { result ≡ rule.has_equal items.now handle guid agent controller attributes }
+    ensures { result ≡ rule.has_equal (items_at near.entry.slots.now near.entry.places.now) handle guid agent controller attributes }
 {
-    items.iter().any(|o| is_equal_item(o, handle, guid, agent, controller, attributes))
+    for place in near.places {
+        if let Some(o) = item_at(near.slots, *place) {
+            if is_equal_item(o, handle, guid, agent, controller, attributes) {
+                return true;
+            }
+        }
+    }
+    false
 }
 
 /// Whether an agent has an interface open with some attributes.
 pub(crate) fn has_of_agent(
-    items: &[OpenRecord],
+    near: Near<'_>,
     handle: u64,
     guid: Uuid,
     agent: u64,
     attributes: u32,
 ) -> bool
-    ensures { result ≡ rule.has_of_agent items.now handle guid agent attributes }
+    ensures { result ≡ rule.has_of_agent (items_at near.entry.slots.now near.entry.places.now) handle guid agent attributes }
 {
-    items
-        .iter()
-        .any(|o| is_of_agent(o, handle, guid, agent, attributes))
+    for place in near.places {
+        if let Some(o) = item_at(near.slots, *place) {
+            if is_of_agent(o, handle, guid, agent, attributes) {
+                return true;
+            }
+        }
+    }
+    false
 }
 
 /// Whether an item is of an agent, with some attributes, on an interface.
@@ -47,10 +60,17 @@ fn is_of_agent(o: &OpenRecord, handle: u64, guid: Uuid, agent: u64, attributes: 
 }
 
 /// Whether an interface is open for a driver or exclusively.
-pub(crate) fn is_held(items: &[OpenRecord], handle: u64, guid: Uuid) -> bool
-    ensures { result ≡ rule.has_holder items.now handle guid }
+pub(crate) fn is_held(near: Near<'_>, handle: u64, guid: Uuid) -> bool
+    ensures { result ≡ rule.has_holder (items_at near.entry.slots.now near.entry.places.now) handle guid }
 {
-    items.iter().any(|o| holds(o, handle, guid))
+    for place in near.places {
+        if let Some(o) = item_at(near.slots, *place) {
+            if holds(o, handle, guid) {
+                return true;
+            }
+        }
+    }
+    false
 }
 
 /// Whether an item is for a driver or exclusive, on an interface.
@@ -61,10 +81,17 @@ fn holds(o: &OpenRecord, handle: u64, guid: Uuid) -> bool
 }
 
 /// Whether an interface is open exclusively.
-pub(crate) fn has_exclusive(items: &[OpenRecord], handle: u64, guid: Uuid) -> bool
-    ensures { result ≡ rule.has_exclusive items.now handle guid }
+pub(crate) fn has_exclusive(near: Near<'_>, handle: u64, guid: Uuid) -> bool
+    ensures { result ≡ rule.has_exclusive (items_at near.entry.slots.now near.entry.places.now) handle guid }
 {
-    items.iter().any(|o| excludes(o, handle, guid))
+    for place in near.places {
+        if let Some(o) = item_at(near.slots, *place) {
+            if excludes(o, handle, guid) {
+                return true;
+            }
+        }
+    }
+    false
 }
 
 /// Whether an item is exclusive, on an interface.
@@ -74,6 +101,20 @@ fn excludes(o: &OpenRecord, handle: u64, guid: Uuid) -> bool
     is_exclusive(o.attributes) && is_open_on(o, handle, guid)
 }
 
+/// Whether a driver has an interface open.
+pub(crate) fn is_any_driving(near: Near<'_>, handle: u64, guid: Uuid) -> bool
+    ensures { result ≡ list_any (λ o. spec.is_open_on handle guid o && spec.is_for_driver o.attributes) (items_at near.entry.slots.now near.entry.places.now) }
+{
+    for place in near.places {
+        if let Some(o) = item_at(near.slots, *place) {
+            if is_driving(o, handle, guid) {
+                return true;
+            }
+        }
+    }
+    false
+}
+
 /// Whether an item is for a driver, on an interface.
 fn is_driving(o: &OpenRecord, handle: u64, guid: Uuid) -> bool
     ensures { result ≡ (spec.is_open_on handle guid o.now && spec.is_for_driver o.now.attributes) }
@@ -81,11 +122,18 @@ fn is_driving(o: &OpenRecord, handle: u64, guid: Uuid) -> bool
     is_for_driver(o.attributes) && is_open_on(o, handle, guid)
 }
 
-/// Whether a driver has an interface open.
-pub(crate) fn is_any_driving(items: &[OpenRecord], handle: u64, guid: Uuid) -> bool
-    ensures { result ≡ list_any (λ o. spec.is_open_on handle guid o && spec.is_for_driver o.attributes) items.now }
+/// Whether an item keeps an interface.
+pub(crate) fn is_any_keeping(near: Near<'_>, handle: u64, guid: Uuid) -> bool
+    ensures { result ≡ list_any (λ o. spec.is_open_on handle guid o && spec.keeps o.attributes) (items_at near.entry.slots.now near.entry.places.now) }
 {
-    items.iter().any(|o| is_driving(o, handle, guid))
+    for place in near.places {
+        if let Some(o) = item_at(near.slots, *place) {
+            if keeps(o, handle, guid) {
+                return true;
+            }
+        }
+    }
+    false
 }
 
 /// Whether an item is for a child, or exclusive and of no driver, on an interface.
@@ -94,28 +142,6 @@ fn keeps(o: &OpenRecord, handle: u64, guid: Uuid) -> bool
 {
     (o.attributes == BY_CHILD_CONTROLLER || o.attributes == EXCLUSIVE)
         && is_open_on(o, handle, guid)
-}
-
-/// Whether an item keeps an interface.
-pub(crate) fn is_any_keeping(items: &[OpenRecord], handle: u64, guid: Uuid) -> bool
-    ensures { result ≡ list_any (λ o. spec.is_open_on handle guid o && spec.keeps o.attributes) items.now }
-{
-    items.iter().any(|o| keeps(o, handle, guid))
-}
-
-/// Whether an agent and a controller have an interface open.
-pub(crate) fn has_closed(
-    items: &[OpenRecord],
-    handle: u64,
-    guid: Uuid,
-    agent: u64,
-    controller: u64,
-) -> bool
-    ensures { result ≡ list_any (is_closed_by handle guid agent controller) items.now }
-{
-    items
-        .iter()
-        .any(|o| is_closed(o, handle, guid, agent, controller))
 }
 
 /// Whether an item is of an agent and a controller, on an interface.
@@ -132,83 +158,6 @@ fn is_driver_item(o: &OpenRecord, handle: u64, guid: Uuid) -> bool
     o.attributes == BY_DRIVER && is_open_on(o, handle, guid)
 }
 
-/// The first item for a driver on an interface that is not exclusive, among some items.
-pub(crate) fn first_driver_item(items: &[OpenRecord], handle: u64, guid: Uuid) -> Option<OpenRecord>
-    ensures { result ≡ rule.driver_item items.now handle guid }
-{
-    for o in items {
-        if is_driver_item(o, handle, guid) {
-            return Some(*o);
-        }
-    }
-    None
-}
-
-/// The place of the first item that is equal to what a call asks for.
-pub(crate) fn find_equal(
-    items: &[OpenRecord],
-    handle: u64,
-    guid: Uuid,
-    agent: u64,
-    controller: u64,
-    attributes: u32,
-) -> Option<usize>
-    ensures there { IfSome result (HoldsAt (spec.is_equal_item handle guid agent controller attributes) items.now) }
-    ensures none { IfNone result (rule.has_equal items.now handle guid agent controller attributes ≡ false) }
-{
-    for at in 0..items.len() {
-        if is_equal_item(&items[at], handle, guid, agent, controller, attributes) {
-            return Some(at);
-        }
-    }
-    None
-}
-
-/// The place of the first item of a controller and an agent on an interface.
-pub(crate) fn find_closed(
-    items: &[OpenRecord],
-    handle: u64,
-    guid: Uuid,
-    agent: u64,
-    controller: u64,
-) -> Option<usize>
-    ensures there { IfSome result (HoldsAt (is_closed_by handle guid agent controller) items.now) }
-    ensures none { IfNone result (list_any (is_closed_by handle guid agent controller) items.now ≡ false) }
-{
-    for at in 0..items.len() {
-        if is_closed(&items[at], handle, guid, agent, controller) {
-            return Some(at);
-        }
-    }
-    None
-}
-
-/// The place of the last item of a controller and an agent.
-pub(crate) fn find_of_pair(items: &[OpenRecord], controller: u64, agent: u64) -> Option<usize>
-    ensures there { IfSome result (HoldsAt (spec.is_of_pair controller agent) items.now) }
-    ensures none { IfNone result (list_any (spec.is_of_pair controller agent) items.now ≡ false) }
-{
-    for at in (0..items.len()).rev() {
-        if is_of_pair(&items[at], controller, agent) {
-            return Some(at);
-        }
-    }
-    None
-}
-
-/// The place of the last item of an interface.
-pub(crate) fn find_open_on(items: &[OpenRecord], handle: u64, guid: Uuid) -> Option<usize>
-    ensures there { IfSome result (HoldsAt (spec.is_open_on handle guid) items.now) }
-    ensures none { IfNone result (list_any (spec.is_open_on handle guid) items.now ≡ false) }
-{
-    for at in (0..items.len()).rev() {
-        if is_open_on(&items[at], handle, guid) {
-            return Some(at);
-        }
-    }
-    None
-}
-
 /// Whether an item names a handle.
 fn names_handle(o: &OpenRecord, handle: u64) -> bool
     ensures { result ≡ spec.names handle o.now }
@@ -216,14 +165,107 @@ fn names_handle(o: &OpenRecord, handle: u64) -> bool
     o.handle == handle || o.agent == handle || o.controller == handle
 }
 
-/// The place of the last item that names a handle.
-pub(crate) fn find_naming(items: &[OpenRecord], handle: u64) -> Option<usize>
-    ensures there { IfSome result (HoldsAt (spec.names handle) items.now) }
-    ensures none { IfNone result (list_any (spec.names handle) items.now ≡ false) }
+/// The first item for a driver on an interface that is not exclusive.
+pub(crate) fn first_driver_item(near: Near<'_>, handle: u64, guid: Uuid) -> Option<OpenRecord>
+    ensures { result ≡ rule.driver_item (items_at near.entry.slots.now near.entry.places.now) handle guid }
 {
-    for at in (0..items.len()).rev() {
-        if names_handle(&items[at], handle) {
-            return Some(at);
+    for place in near.places {
+        if let Some(o) = item_at(near.slots, *place) {
+            if is_driver_item(o, handle, guid) {
+                return Some(*o);
+            }
+        }
+    }
+    None
+}
+
+/// The place of an item that is equal to what a call asks for.
+pub(crate) fn find_equal(
+    near: Near<'_>,
+    handle: u64,
+    guid: Uuid,
+    agent: u64,
+    controller: u64,
+    attributes: u32,
+) -> Option<usize>
+    ensures there { IfSome result (HoldsAt (spec.is_equal_item handle guid agent controller attributes) near.entry.slots.now) }
+    ensures none { IfNone result (list_any (spec.is_equal_item handle guid agent controller attributes) (items_at near.entry.slots.now near.entry.places.now) ≡ false) }
+{
+    for place in near.places {
+        if let Some(o) = item_at(near.slots, *place) {
+            if is_equal_item(o, handle, guid, agent, controller, attributes) {
+                return Some(*place);
+            }
+        }
+    }
+    None
+}
+
+/// The place of an item of an agent and a controller on an interface.
+pub(crate) fn find_closed(
+    near: Near<'_>,
+    handle: u64,
+    guid: Uuid,
+    agent: u64,
+    controller: u64,
+) -> Option<usize>
+    ensures there { IfSome result (HoldsAt (is_closed_by handle guid agent controller) near.entry.slots.now) }
+    ensures none { IfNone result (list_any (is_closed_by handle guid agent controller) (items_at near.entry.slots.now near.entry.places.now) ≡ false) }
+{
+    for place in near.places {
+        if let Some(o) = item_at(near.slots, *place) {
+            if is_closed(o, handle, guid, agent, controller) {
+                return Some(*place);
+            }
+        }
+    }
+    None
+}
+
+/// The place of an item of an interface.
+pub(crate) fn find_open_on(near: Near<'_>, handle: u64, guid: Uuid) -> Option<usize>
+    ensures there { IfSome result (HoldsAt (spec.is_open_on handle guid) near.entry.slots.now) }
+    ensures none { IfNone result (list_any (spec.is_open_on handle guid) (items_at near.entry.slots.now near.entry.places.now) ≡ false) }
+{
+    for place in near.places {
+        if let Some(o) = item_at(near.slots, *place) {
+            if is_open_on(o, handle, guid) {
+                return Some(*place);
+            }
+        }
+    }
+    None
+}
+
+/// The place of the last item of a controller and an agent.
+pub(crate) fn find_of_pair(
+    slots: &[Option<OpenRecord>],
+    controller: u64,
+    agent: u64,
+) -> Option<usize>
+    ensures there { IfSome result (HoldsAt (spec.is_of_pair controller agent) slots.now) }
+    ensures none { IfNone result (list_any (spec.is_of_pair controller agent) (items_in slots.now) ≡ false) }
+{
+    for place in (0..slots.len()).rev() {
+        if let Some(o) = &slots[place] {
+            if is_of_pair(o, controller, agent) {
+                return Some(place);
+            }
+        }
+    }
+    None
+}
+
+/// The place of the last item that names a handle.
+pub(crate) fn find_naming(slots: &[Option<OpenRecord>], handle: u64) -> Option<usize>
+    ensures there { IfSome result (HoldsAt (spec.names handle) slots.now) }
+    ensures none { IfNone result (list_any (spec.names handle) (items_in slots.now) ≡ false) }
+{
+    for place in (0..slots.len()).rev() {
+        if let Some(o) = &slots[place] {
+            if names_handle(o, handle) {
+                return Some(place);
+            }
         }
     }
     None

@@ -1,7 +1,8 @@
 use Rattle.std.proofs.Common.{◌≡◌, ◌++◌, map, drop}
 use Rattle.std.specs.List.{filter}
 use Rattle.open_agents.specs.OpenItems.{manages, managers_of}
+use Rattle.open_agents.specs.Blocks.{items_in}
 use Rattle.open_agents.proofs.opens.managers_among.Given as goal
 
-abbrev pub invariant-loop-o : goal.invariant-loop-o
-invariant-loop-o g l = l.found.items ++ map (λ o. (o.controller, o.agent)) (filter (manages l.handle) (drop l.o-index l.items)) ≡ managers_of l.items l.handle
+abbrev pub invariant-loop-slot : goal.invariant-loop-slot
+invariant-loop-slot g l = l.found.items ++ map (λ o. (o.controller, o.agent)) (filter (manages l.handle) (items_in (drop l.slot-index l.slots))) ≡ managers_of (items_in l.slots) l.handle

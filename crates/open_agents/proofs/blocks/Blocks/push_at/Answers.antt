@@ -13,4 +13,4 @@ pub returns-clause-ok : goal.returns-clause-ok
 returns-clause-ok g c =
     let place = rw (← c.self.view_is) at c.requires in
     rw (← c.self.view_is, c.in_ok-push.ensures.ok)
-    (changes_block _ c.args.number _ _ (with_last c.args.serial c.args.item.now) place (got _ _ _ place.0 c.index_mut.ensures.value) refl)
+    (changes_block _ c.args.number _ _ (with_last c.args.place) place (got _ _ _ place.0 c.index_mut.ensures.value) refl)

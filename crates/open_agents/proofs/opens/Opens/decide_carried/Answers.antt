@@ -11,4 +11,4 @@ pub returns : goal.returns
 returns g c =
     rw (c.if-agent-ne0.false, ← c.self.view_is)
     ((rw c.if-agent-ne0.false at c.decide_among-2.ensures)
-    ∙ rule_agent_0 c.args.handles.now _ c.args.handle c.args.guid c.args.controller c.args.attributes c.self.invariant.agents)
+    ∙ rule_agent_0 c.args.handles.now _ c.args.handle c.args.guid c.args.controller c.args.attributes c.slots-slots.ensures.agents)

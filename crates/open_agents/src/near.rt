@@ -1,0 +1,22 @@
+//! The items on the handles of a block, at their places among all.
+ghost use Rattle.std.specs.Prelude.{◌≡◌, option_map};
+ghost use Rattle.open_agents.specs.Blocks.{item_at};
+
+use crate::items::OpenRecord;
+
+/// The items on the handles of a block: all items, and the places of those.
+#[derive(Clone, Copy)]
+pub(crate) struct Near<'a> {
+    pub(crate) slots: &'a [Option<OpenRecord>],
+    pub(crate) places: &'a [usize],
+}
+
+/// The item at a place, if there is one.
+pub(crate) fn item_at(slots: &[Option<OpenRecord>], place: usize) -> Option<&OpenRecord>
+    ensures { option_map (λ o. o.now) result ≡ item_at slots.now place }
+{
+    match slots.get(place) {
+        Some(Some(item)) => Some(item),
+        _ => None,
+    }
+}

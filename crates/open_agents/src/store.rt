@@ -1,0 +1,188 @@
+//! The open items at their places, and where those on each handle are.
+ghost use Rattle.std.specs.Prelude.{◌≡◌, ◌<◌, ◌^◌, ◌==◌, ◌++◌, ◌∷◌, [], None, true, false, length, map, is_some, slice_set, vec_len, vec_capacity, IfOk, OnOk, OnErr};
+ghost use Rattle.std.specs.List.{filter, list_any, AllByRecursion};
+ghost use Rattle.open_agents.specs.OpenItems as spec;
+ghost use Rattle.open_agents.specs.OpenItems.{CanCount};
+ghost use Rattle.open_agents.specs.Blocks.{HoldsAt, are_equal, is_near, item_at as there, items_at, items_in};
+
+use crate::blocks::{Blocks, block_of};
+use crate::items::OpenRecord;
+use crate::near::Near;
+use std::alloc::{AllocError, Allocator};
+use std::marker::Model;
+use uuid::Uuid;
+
+/// The open items, each once. An item that is closed leaves its place empty.
+#[derive(Drop)]
+pub(crate) struct ItemStore<A: Allocator> {
+    // In the order in which they were made.
+    slots: Vec<Option<OpenRecord>, A>,
+    // Their places, by handle.
+    blocks: Blocks<A>,
+}
+
+impl<A: Allocator> Model for ItemStore<A> {
+    ghost use Rattle.std.specs.Prelude.{List, Option};
+    ghost use Rattle.open_agents.specs.declared.items.OpenRecord.{OpenRecord};
+    ghost use Rattle.open_agents.specs.Blocks.{IsOpenStore};
+
+    ghost Value = { List (Option OpenRecord) };
+
+    ghost view = { λ s. s.slots.items };
+
+    ghost invariant = { λ s. IsOpenStore s.slots.items s.blocks };
+}
+
+impl<A: Allocator + Copy> ItemStore<A> {
+    /// No items. This takes no memory.
+    pub(crate) fn new(alloc: A) -> ItemStore<A>
+        ensures { result ≡ [] }
+    {
+        ItemStore {
+            slots: Vec::new(alloc),
+            blocks: Blocks::new(alloc),
+        }
+    }
+
+    /// The same items, in memory of their own.
+    pub(crate) fn try_copy(&self) -> Result<ItemStore<A>, AllocError>
+        ensures { IfOk result (λ copy. copy ≡ self.now) }
+    {
+        let slots = Vec::from_slice(*self.slots.allocator(), self.slots.as_slice())?;
+        let blocks = self.blocks.try_copy()?;
+        Ok(ItemStore { slots, blocks })
+    }
+
+    /// The allocator.
+    pub(crate) fn allocator(&self) -> A {
+        *self.slots.allocator()
+    }
+
+    /// All places.
+    pub(crate) fn slots(&self) -> &[Option<OpenRecord>]
+        ensures places { result.now ≡ self.now }
+        ensures agents { AllByRecursion (λ o. (o.agent == 0) ≡ false) (items_in self.now) }
+    {
+        self.slots.as_slice()
+    }
+
+    /// The items in the block of a handle.
+    pub(crate) fn near(&self, handle: u64) -> Near<'_>
+        ensures slots { result.slots.now ≡ self.now }
+        ensures items { items_at result.slots.now result.places.now ≡ filter (is_near handle) (items_in self.now) }
+    {
+        Near {
+            slots: self.slots.as_slice(),
+            places: self.blocks.places(block_of(handle)),
+        }
+    }
+
+    /// Counts the item at a place once more, which is equal to what a call asks for.
+    pub(crate) fn count_at(
+        &mut self,
+        place: usize,
+        handle: u64,
+        guid: Uuid,
+        agent: u64,
+        controller: u64,
+        attributes: u32,
+    )
+        requires there { HoldsAt (spec.is_equal_item handle guid agent controller attributes) self.old place }
+        requires counts { CanCount handle guid agent controller attributes (items_in self.old) }
+        ensures { items_in self.new ≡ map (spec.counted (spec.is_equal_item handle guid agent controller attributes)) (items_in self.old) }
+    {
+        if let Some(item) = self.slots[place] {
+            let mut counted = item;
+            counted.count += 1;
+            self.slots[place] = Some(counted);
+        }
+    }
+
+    /// Takes out the item at a place.
+    pub(crate) fn remove(&mut self, place: usize)
+        requires { is_some (there self.old place) ≡ true }
+        ensures { self.new ≡ slice_set self.old place None }
+    {
+        if let Some(item) = self.slots[place] {
+            self.slots[place] = None;
+            self.blocks.remove(block_of(item.handle), place);
+        }
+    }
+
+    /// Appends an item at a place of its own. On an `Err` the items are as they were.
+    fn append(&mut self, item: &OpenRecord) -> Result<(), AllocError>
+        requires new { list_any (are_equal item.now) (items_in self.old) ≡ false }
+        requires agent { (item.now.agent == 0) ≡ false }
+        ensures ok { OnOk result (items_in self.new ≡ items_in self.old ++ item.now ∷ []) }
+        ensures err { OnErr result (self.new ≡ self.old) }
+    {
+        self.slots.reserve(1)?;
+        let place = self.slots.as_slice().len();
+        self.blocks.push(block_of(item.handle), place)?;
+        push_with_room(&mut self.slots, Some(*item));
+        Ok(())
+    }
+
+    /// The same items at places with none empty between them, in memory of their own.
+    fn compacted(&self) -> Result<ItemStore<A>, AllocError>
+        ensures { IfOk result (λ fresh. items_in fresh ≡ items_in self.now) }
+    {
+        let mut fresh = ItemStore::new(self.allocator());
+        let slots = self.slots.as_slice();
+        for slot in slots {
+            if let Some(item) = slot {
+                fresh.append(item)?;
+            }
+        }
+        Ok(fresh)
+    }
+
+    /// Gives up the empty places where these are half of all or more, if there is memory for that.
+    fn tidy(&mut self)
+        ensures { items_in self.new ≡ items_in self.old }
+    {
+        let slots = self.slots();
+        if count_items(slots) <= slots.len() / 2 {
+            if let Ok(fresh) = self.compacted() {
+                *self = fresh;
+            }
+        }
+    }
+
+    /// Appends an item of an agent that is equal to none. On an `Err` the items are as they were.
+    pub(crate) fn push(&mut self, item: &OpenRecord) -> Result<(), AllocError>
+        requires new { list_any (are_equal item.now) (items_in self.old) ≡ false }
+        requires agent { (item.now.agent == 0) ≡ false }
+        ensures ok { OnOk result (items_in self.new ≡ items_in self.old ++ item.now ∷ []) }
+        ensures err { OnErr result (items_in self.new ≡ items_in self.old) }
+    {
+        if self.slots.len() == self.slots.capacity() {
+            self.tidy();
+        }
+        self.append(item)
+    }
+}
+
+/// Appends an item, for which there is room.
+fn push_with_room<T: Drop, A: Allocator>(items: &mut Vec<T, A>, item: T)
+    requires { vec_len items.old < vec_capacity items.old }
+    ensures { items.new.items ≡ items.old.items ++ item ∷ [] }
+{
+    if items.push(item).is_err() {
+        unreachable!();
+    }
+}
+
+/// How many items there are.
+pub(crate) fn count_items(slots: &[Option<OpenRecord>]) -> usize
+    ensures count { result ≡ length (items_in slots.now) }
+    ensures bound { result < 2 ^ 63 }
+{
+    let mut count = 0;
+    for slot in slots {
+        if slot.is_some() {
+            count += 1;
+        }
+    }
+    count
+}
