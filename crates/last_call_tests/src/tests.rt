@@ -1,4 +1,5 @@
 //! Cores that come to their last call.
+mod callers;
 mod traces;
 
 use boot_core::{Core, Machine};

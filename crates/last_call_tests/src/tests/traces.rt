@@ -15,7 +15,7 @@ const LINES: [&str; 6] = [
     "pages 0 4 1 0\n",
 ];
 
-/// How many of these lines a core runs that has so many calls left.
+/// How many of these lines a core runs that has 0, 1, 2 and 3 calls left.
 const RUN: [usize; 4] = [1, 2, 4, 5];
 
 /// The first of these lines.
@@ -38,7 +38,7 @@ fn printed(
     (out, end)
 }
 
-/// Asserts that a core with so many calls left runs so many lines. The next line asks for a call that is one too
+/// Asserts that a core with `calls` calls left runs `count` lines. The next line asks for a call that is one too
 /// many: it ends the run, prints nothing and changes nothing.
 fn assert_ends(rt: &(impl AllocGlobal + Abort), calls: u64, count: usize) {
     let mut core = core_with(rt, calls);
