@@ -78,7 +78,7 @@ int main(void)
         other += run(at, at) != wanted;
         run(at, ULONG_MAX);
     }
-    HOLDS(other > count / 2);
+    HOLDS(other > count / 3);
     HOLDS(run(count, ULONG_MAX) == wanted);
     printf("refusals: %lu allocations, %lu of them refused alone change a reply\n", count, other);
     return points_end("refusals");
