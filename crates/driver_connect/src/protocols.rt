@@ -28,10 +28,9 @@ pub(crate) fn protocols_on<A: Allocator + Copy>(
     ensures { IfOk result (λ v. v.items ≡ spec.protocols_on handles.now opens.now handle) }
 {
     let mut found = Vec::new(alloc);
-    let interfaces = handles.near(handle);
-    for i in interfaces {
-        if i.handle == handle {
-            found.push(protocol_view(i, opens))?;
+    for at in 0..handles.interface_count(handle) {
+        if let Some(interface) = handles.nth_interface(handle, at) {
+            found.push(protocol_view(&interface, opens))?;
         }
     }
     Ok(found)

@@ -1,12 +1,11 @@
 -- Interfaces each of which is one of its kind and has a stamp of its own: what keeps them so.
-use Rattle.std.proofs.Math.ListN.{set}
-use Rattle.std.proofs.Common.{◌≡◌, ℕ, zero, suc, ◌+◌, ◌<◌, ◌≤◌, ◌==◌, not, get_or, true, false, List, [], ◌∷◌, ◌++◌, map, length, None, inl, inr, refl, sym, ap, ◌∙◌, arith, subst}
-use Rattle.std.specs.List.{filter, find, remove, AllByRecursion}
+use Rattle.std.proofs.Common.{◌≡◌, ℕ, ◌+◌, ◌≤◌, ◌==◌, true, false, List, [], ◌∷◌, ◌++◌, map, length, None, inl, inr, refl, sym, ◌∙◌, arith, subst}
+use Rattle.std.specs.List.{find, AllByRecursion}
 use Rattle.std.proofs.lemmas.Bool.{cases_Bool, ne_eqb}
 use Rattle.guid_handles.specs.declared.records.Interface.{Interface}
 use Rattle.guid_handles.specs.HandleTables.{same_guid, is_at}
 use Rattle.guid_handles.specs.HandleChanges.{restamped, stamped, has_guid_twice}
-use Rattle.guid_handles.specs.Sorting.{Ascending, place}
+use Rattle.guid_handles.specs.Sorting.{Ascending}
 use Rattle.guid_handles.specs.Indexes.{AreAbsent}
 use Rattle.guid_handles.specs.Stores.{AreApart}
 use Rattle.guid_handles.proofs.SortedLists.{all_map, all_both, all_mapped, all_append, found_none}
@@ -58,64 +57,6 @@ pub below_more : (n last : ℕ) (pairs : List (List ℕ × ℕ)) (listed : List 
 below_more n last pairs listed below =
     all_append (λ i. i.stamp ≤ last + length pairs) listed (stamped n last pairs)
     (all_map (λ i. i.stamp ≤ last) (λ i. i.stamp ≤ last + length pairs) (λ i l. omega (arith, l)) listed below) (stamped_below n last (last + length pairs) pairs (omega arith))
-
--- ---- fewer
-
--- what is apart from an interface of a GUID on a handle is another one
-apart_other : (n : ℕ) (guid : List ℕ) (x y : Interface) → is_at n guid x ≡ true → AreApart x y → is_at n guid y ≡ false
-apart_other n guid x y t d = elim (cases_Bool (is_at n guid y)) [
-  | inl u ↦
-      let f : is_at n guid x ≡ false = subst (λ (g : List ℕ). is_at n g x ≡ false) (at_guid n guid y u) (subst (λ (k : ℕ). is_at k y.guid x ≡ false) (at_handle n guid y u) d.0) in
-      let w : true ≡ false = sym t ∙ f in cc
-  | inr u ↦ u
-]
-
-none_filtered : (n : ℕ) (guid : List ℕ) (xs : List Interface) → AllByRecursion (λ y. is_at n guid y ≡ false) xs → filter (λ i. not (is_at n guid i)) xs ≡ xs
-none_filtered n guid [] a = refl
-none_filtered n guid (x ∷ xs) a = rw a.0 (ap (λ r. x ∷ r) (none_filtered n guid xs a.1))
-
--- the interface of a GUID on a handle is the only one that goes
-pub one_goes : (n : ℕ) (guid : List ℕ) (xs : List Interface) → Ascending AreApart xs → filter (λ i. not (is_at n guid i)) xs ≡ remove xs (place (λ i. not (is_at n guid i)) xs)
-one_goes n guid [] a = refl
-one_goes n guid (x ∷ xs) a = elim (cases_Bool (is_at n guid x)) [
-  | inl t ↦ rw t (none_filtered n guid xs (all_map (AreApart x) (λ y. is_at n guid y ≡ false) (λ y d. apart_other n guid x y t d) xs a.0))
-  | inr f ↦ rw f (ap (λ r. x ∷ r) (one_goes n guid xs a.1))
-]
-
-remove_past : {X : Type 0} (xs : List X) (at : ℕ) → length xs ≤ at → remove xs at ≡ xs
-remove_past [] zero l = refl
-remove_past [] (suc at) l = refl
-remove_past (x ∷ xs) zero l = absurd (omega (arith, l))
-remove_past (x ∷ xs) (suc at) l = ap (λ r. x ∷ r) (remove_past xs at (omega (arith, l)))
-
-pub none_goes_past : (n : ℕ) (guid : List ℕ) (xs : List Interface) (at : ℕ) → Ascending AreApart xs → at ≡ place (λ i. not (is_at n guid i)) xs → length xs ≤ at
-    → xs ≡ filter (λ i. not (is_at n guid i)) xs
-none_goes_past n guid xs at a e l = sym (one_goes n guid xs a ∙ ap (remove xs) (sym e) ∙ remove_past xs at l)
-
-none_changed : (n : ℕ) (guid : List ℕ) (value stamp : ℕ) (xs : List Interface) → AllByRecursion (λ y. is_at n guid y ≡ false) xs → map (restamped n guid value stamp) xs ≡ xs
-none_changed n guid value stamp [] a = refl
-none_changed n guid value stamp (x ∷ xs) a = rw a.0 (ap (λ r. x ∷ r) (none_changed n guid value stamp xs a.1))
-
--- the interface of a GUID on a handle is the only one that changes
-pub one_changes : (n : ℕ) (guid : List ℕ) (value stamp : ℕ) (xs : List Interface) (x : Interface) → Ascending AreApart xs → place (λ i. not (is_at n guid i)) xs < length xs → x ≡ get_or xs (place (λ i. not (is_at n guid i)) xs) x
-    → set xs (place (λ i. not (is_at n guid i)) xs) (restamped n guid value stamp x) ≡ map (restamped n guid value stamp) xs
-one_changes n guid value stamp [] x a l e = absurd (omega (arith, l))
-one_changes n guid value stamp (y ∷ ys) x a l e = elim (cases_Bool (is_at n guid y)) [
-  | inl t ↦
-      let same : x ≡ y = rw t at e in
-      rw t (rw same (rw t (ap (λ r. record y { value = value; stamp = stamp } ∷ r) (sym (none_changed n guid value stamp ys (all_map (AreApart y) (λ z. is_at n guid z ≡ false) (λ z d. apart_other n guid y z t d) ys a.0))))))
-  | inr f ↦
-      let l1 = rw f at l in
-      let e1 = rw f at e in
-      rw f (ap (λ r. y ∷ r) (one_changes n guid value stamp ys x a.1 (omega (arith, l1)) e1))
-]
-
-pub none_changes : (n : ℕ) (guid : List ℕ) (value stamp : ℕ) (xs : List Interface) → length xs ≤ place (λ i. not (is_at n guid i)) xs → xs ≡ map (restamped n guid value stamp) xs
-none_changes n guid value stamp [] l = refl
-none_changes n guid value stamp (y ∷ ys) l = elim (cases_Bool (is_at n guid y)) [
-  | inl t ↦ let k = rw t at l in absurd (omega (arith, k))
-  | inr f ↦ let k = rw f at l in rw f (ap (λ r. y ∷ r) (none_changes n guid value stamp ys (omega (arith, k))))
-]
 
 -- ---- changed
 

@@ -1,189 +1,275 @@
--- What keeps groups and blocks in step with the interfaces listed.
-use Rattle.std.proofs.Common.{◌≡◌, ℕ, ◌+◌, ◌/◌, ◌==◌, ◌&&◌, not, Bool, true, false, cond, List, [], ◌∷◌, ◌++◌, map, length, take, None, inl, inr, refl, sym, ap, ◌∙◌, append-nil}
-use Rattle.std.specs.List.{filter, list_any}
-use Rattle.std.specs.Option.{option_map}
-use Rattle.std.proofs.lemmas.Bool.{cases_Bool, eq-eqb}
-use Rattle.std.proofs.lemmas.Bool.Decides.{eqb_tells}
+-- What keeps rows and groups in step with the interfaces in slots.
+use Rattle.std.proofs.Common.{add-one, get_or, take, ◌+◌, ◌<◌, ◌≡◌, ◌≢◌, ℕ, zero, suc, length, arith, ◌==◌, ◌&&◌, not, Bool, true, false, cond, List, [], ◌∷◌, ◌++◌, map, Option, Some, None, inl, inr, refl, sym, ap, ◌∙◌, append-nil, subst}
+use Rattle.std.specs.List.{filter, find, slice_get, AllByRecursion}
+use Rattle.std.specs.Option.{option_to_list, option_and_then}
+use Rattle.std.proofs.lemmas.Bool.{and_parts, cases_Bool, cases_eq, eq-eqb, ne_eqb}
+use Rattle.std.proofs.lemmas.Option.{same_Some}
 use Rattle.guid_handles.specs.declared.records.Interface.{Interface}
+use Rattle.guid_handles.specs.declared.records.Record.{Record}
 use Rattle.guid_handles.specs.HandleTables.{same_guid, is_on, is_at}
-use Rattle.guid_handles.specs.HandleChanges.{restamped, stamped}
-use Rattle.guid_handles.specs.Indexes.{Group, grouped_at, IsIndex}
-use Rattle.guid_handles.specs.Nearby.{Block, AreBlocks, AreFiled, ChangesBlock, block_size, is_in, members_in}
+use Rattle.guid_handles.specs.HandleChanges.{restamped}
+use Rattle.guid_handles.specs.Indexes.{Row, Group, ChangesKeys, keys_on, key_at}
+use Rattle.guid_handles.specs.Slots.{at_key, at_keys}
+use Rattle.guid_handles.specs.Stores.{HaveInterfaces, AreFiled}
+use Rattle.guid_handles.proofs.SortedLists.{all_of}
+use Rattle.guid_handles.proofs.Filters.{filter_swap, filter_inside, filter_append, filter_changed, passed}
+use Rattle.guid_handles.proofs.GuidOrder.{same_guid-refl, same_guid-true}
+use Rattle.guid_handles.proofs.Indexed.{at_handle, at_guid, turned, guid_turned, restamped_handle, restamped_guid}
 use Rattle.guid_handles.proofs.Grouped.{is_same}
-use Rattle.guid_handles.proofs.Indexed.{index_without, index_without_all, index_restamped, restamped_handle}
 
--- ---- filters
+-- ---- keys beside interfaces
 
-filter_swap : {X : Type 0} (p q : X → Bool) (xs : List X) → filter p (filter q xs) ≡ filter q (filter p xs)
-filter_swap p q [] = refl
-filter_swap p q (x ∷ xs) = elim (cases_Bool (q x)) [
-  | inl e ↦ elim (cases_Bool (p x)) [
-    | inl k ↦ rw e (rw k (rw e (ap (λ r. x ∷ r) (filter_swap p q xs))))
-    | inr k ↦ rw e (rw k (filter_swap p q xs))
-  ]
-  | inr e ↦ elim (cases_Bool (p x)) [
-    | inl k ↦ rw e (rw k (rw e (filter_swap p q xs)))
-    | inr k ↦ rw e (rw k (filter_swap p q xs))
-  ]
+-- where each key has what it had, changed
+have_changed : (old new : List (Option Record)) (P : Interface → Type 0) (f : Interface → Interface) → ((k : ℕ) (x : Interface) → at_key old k ≡ Some x → P x → at_key new k ≡ Some (f x))
+    → (ks : List ℕ) (xs : List Interface) → AllByRecursion P xs → HaveInterfaces old ks xs → HaveInterfaces new ks (map f xs)
+have_changed old new P f g [] [] a h = tt
+have_changed old new P f g [] (x ∷ xs) a h = absurd h
+have_changed old new P f g (k ∷ ks) [] a h = absurd h
+have_changed old new P f g (k ∷ ks) (x ∷ xs) a h = (g k x h.0 a.0, have_changed old new P f g ks xs a.1 h.1)
+
+have_kept : (old new : List (Option Record)) (P : Interface → Type 0) → ((k : ℕ) (x : Interface) → at_key old k ≡ Some x → P x → at_key new k ≡ Some x)
+    → (ks : List ℕ) (xs : List Interface) → AllByRecursion P xs → HaveInterfaces old ks xs → HaveInterfaces new ks xs
+have_kept old new P g [] [] a h = tt
+have_kept old new P g [] (x ∷ xs) a h = absurd h
+have_kept old new P g (k ∷ ks) [] a h = absurd h
+have_kept old new P g (k ∷ ks) (x ∷ xs) a h = (g k x h.0 a.0, have_kept old new P g ks xs a.1 h.1)
+
+have_more : (slots : List (Option Record)) (ks : List ℕ) (xs : List Interface) (k : ℕ) (x : Interface) → HaveInterfaces slots ks xs → at_key slots k ≡ Some x → HaveInterfaces slots (ks ++ k ∷ []) (xs ++ x ∷ [])
+have_more slots [] [] k x h e = (e, tt)
+have_more slots [] (y ∷ ys) k x h e = absurd h
+have_more slots (j ∷ js) [] k x h e = absurd h
+have_more slots (j ∷ js) (y ∷ ys) k x h e = (h.0, have_more slots js ys k x h.1 e)
+
+-- the one key of those that fail a test goes
+have_less : (old new : List (Option Record)) (key : ℕ) (q : Interface → Bool) → ((x : Interface) → at_key old key ≡ Some x → q x ≡ false)
+    → ((k : ℕ) (x : Interface) → k ≢ key → at_key old k ≡ Some x → (q x ≡ true) × (at_key new k ≡ Some x))
+    → (ks : List ℕ) (xs : List Interface) → HaveInterfaces old ks xs → HaveInterfaces new (filter (λ k. not (k == key)) ks) (filter q xs)
+have_less old new key q own rest [] [] h = tt
+have_less old new key q own rest [] (x ∷ xs) h = absurd h
+have_less old new key q own rest (k ∷ ks) [] h = absurd h
+have_less old new key q own rest (k ∷ ks) (x ∷ xs) h = elim (cases_eq k key) [
+  | inl e ↦
+      let f : q x ≡ false = own x (ap (at_key old) (sym e) ∙ h.0) in
+      rw (eq-eqb k key e) (rw f (have_less old new key q own rest ks xs h.1))
+  | inr d ↦
+      let r = rest k x d h.0 in
+      rw (ne_eqb k key d) (rw r.0 (r.1, have_less old new key q own rest ks xs h.1))
 ]
 
--- a filter that passes all that another passes
-filter_inside : {X : Type 0} (p q : X → Bool) → ((x : X) → q x ≡ true → p x ≡ true) → (xs : List X) → filter q (filter p xs) ≡ filter q xs
-filter_inside p q h [] = refl
-filter_inside p q h (x ∷ xs) = elim (cases_Bool (q x)) [
-  | inl e ↦ rw (h x e) (rw e (ap (λ r. x ∷ r) (filter_inside p q h xs)))
-  | inr e ↦ elim (cases_Bool (p x)) [
-    | inl k ↦ rw k (rw e (filter_inside p q h xs))
-    | inr k ↦ rw k (rw e (filter_inside p q h xs))
-  ]
+-- the interfaces at keys
+pub have_these : (slots : List (Option Record)) (ks : List ℕ) (xs : List Interface) → HaveInterfaces slots ks xs → at_keys slots ks ≡ xs
+have_these slots [] [] h = refl
+have_these slots [] (x ∷ xs) h = absurd h
+have_these slots (k ∷ ks) [] h = absurd h
+have_these slots (k ∷ ks) (x ∷ xs) h = rw h.0 (ap (λ r. x ∷ r) (have_these slots ks xs h.1))
+
+-- one key more
+pub keys_next : (slots : List (Option Record)) (ks : List ℕ) (k d : ℕ) → k < length ks → at_keys slots (take (k + 1) ks) ≡ at_keys slots (take k ks) ++ option_to_list (at_key slots (get_or ks k d))
+keys_next slots ks k d l = rw add-one (next ks k l)
+  where
+    single : (y : ℕ) (o : Option Interface) → at_key slots y ≡ o → at_keys slots (y ∷ []) ≡ option_to_list (at_key slots y)
+    single y None e = rw e refl
+    single y (Some i) e = rw e refl
+
+    behind : (y : ℕ) (js ks : List ℕ) (is : List Interface) (o : Option Interface) → at_key slots y ≡ o → at_keys slots js ≡ at_keys slots ks ++ is → at_keys slots (y ∷ js) ≡ at_keys slots (y ∷ ks) ++ is
+    behind y js ks is None e h = rw e h
+    behind y js ks is (Some i) e h = rw e (ap (λ r. i ∷ r) h)
+
+    next : (ks : List ℕ) (k : ℕ) → k < length ks → at_keys slots (take (suc k) ks) ≡ at_keys slots (take k ks) ++ option_to_list (at_key slots (get_or ks k d))
+    next [] k l = absurd (omega (arith, l))
+    next (y ∷ ys) zero l = single y (at_key slots y) refl
+    next (y ∷ ys) (suc k) l = behind y (take (suc k) ys) (take k ys) (option_to_list (at_key slots (get_or ys k d))) (at_key slots y) refl (next ys k (omega (arith, l)))
+
+pub have_long : (slots : List (Option Record)) (ks : List ℕ) (xs : List Interface) → HaveInterfaces slots ks xs → length ks ≡ length xs
+have_long slots [] [] h = refl
+have_long slots [] (x ∷ xs) h = absurd h
+have_long slots (k ∷ ks) [] h = absurd h
+have_long slots (k ∷ ks) (x ∷ xs) h = omega (arith, have_long slots ks xs h.1)
+
+pub have_nth : (slots : List (Option Record)) (ks : List ℕ) (xs : List Interface) (at : ℕ) → HaveInterfaces slots ks xs → option_and_then (at_key slots) (slice_get ks at) ≡ slice_get xs at
+have_nth slots [] [] zero h = refl
+have_nth slots [] [] (suc at) h = refl
+have_nth slots [] (x ∷ xs) at h = absurd h
+have_nth slots (k ∷ ks) [] at h = absurd h
+have_nth slots (k ∷ ks) (x ∷ xs) zero h = h.0
+have_nth slots (k ∷ ks) (x ∷ xs) (suc at) h = have_nth slots ks xs at h.1
+
+-- what a test finds is at the one key of those that pass it
+pub found_at : (slots : List (Option Record)) (p : Interface → Bool) (is : List Interface) (o : Option ℕ) → HaveInterfaces slots (option_to_list o) (filter p is) → find p is ≡ option_and_then (at_key slots) o
+found_at slots p [] None h = refl
+found_at slots p [] (Some k) h = absurd h
+found_at slots p (x ∷ xs) None h = elim (cases_Bool (p x)) [
+  | inl t ↦ absurd (rw t at h)
+  | inr f ↦ rw f (found_at slots p xs None (rw f at h))
+]
+found_at slots p (x ∷ xs) (Some k) h = elim (cases_Bool (p x)) [
+  | inl t ↦ let g = rw t at h in rw t (sym g.0)
+  | inr f ↦ rw f (found_at slots p xs (Some k) (rw f at h))
 ]
 
-filter_append : {X : Type 0} (p : X → Bool) (xs ys : List X) → filter p (xs ++ ys) ≡ filter p xs ++ filter p ys
-filter_append p [] ys = refl
-filter_append p (x ∷ xs) ys = elim (cases_Bool (p x)) [
-  | inl e ↦ rw e (ap (λ r. x ∷ r) (filter_append p xs ys))
-  | inr e ↦ rw e (filter_append p xs ys)
-]
+-- ---- one more
 
--- a change that the test does not see
-filter_changed : {X : Type 0} (f : X → X) (q : X → Bool) → ((x : X) → q (f x) ≡ q x) → (xs : List X) → filter q (map f xs) ≡ map f (filter q xs)
-filter_changed f q h [] = refl
-filter_changed f q h (x ∷ xs) = elim (cases_Bool (q x)) [
-  | inl e ↦ rw (h x) (rw e (ap (λ r. f x ∷ r) (filter_changed f q h xs)))
-  | inr e ↦ rw (h x) (rw e (filter_changed f q h xs))
-]
+all_units : (xs : List Interface) → AllByRecursion (λ x. Unit {0}) xs
+all_units xs = all_of (λ x. Unit {0}) (λ x. tt) xs
 
--- a change of none that pass
-map_filtered : {X : Type 0} (f : X → X) (q : X → Bool) → ((x : X) → q x ≡ true → f x ≡ x) → (xs : List X) → map f (filter q xs) ≡ filter q xs
-map_filtered f q h [] = refl
-map_filtered f q h (x ∷ xs) = elim (cases_Bool (q x)) [
-  | inl e ↦ rw e (rw (h x e) (ap (λ r. x ∷ r) (map_filtered f q h xs)))
-  | inr e ↦ rw e (map_filtered f q h xs)
-]
+pub filed_more : (is : List Interface) (old new : List (Option Record)) (rows rs : List Row) (groups gs : List Group) (key : ℕ) (i : Interface)
+    → at_key old key ≡ None → at_key new key ≡ Some i → ((j : ℕ) → j ≢ key → at_key new j ≡ at_key old j)
+    → ChangesKeys i.handle (λ ks. ks ++ key ∷ []) rows rs → key_at groups i.guid i.handle ≡ None
+    → ((k : List ℕ) (n : ℕ) → key_at gs k n ≡ cond ((i.handle == n) && same_guid i.guid k) (Some key) (key_at groups k n))
+    → AreFiled is old rows groups → AreFiled (is ++ i ∷ []) new rs gs
+filed_more is old new rows rs groups gs key i none there others c absent g h =
+    let still : (k : ℕ) (x : Interface) → at_key old k ≡ Some x → Unit {0} → at_key new k ≡ Some x =
+    λ k x e u. others k (λ w. let z : Some x ≡ None = sym e ∙ ap (at_key old) w ∙ none in cc) ∙ e in
+    let same : (ks : List ℕ) (p : Interface → Bool) → HaveInterfaces old ks (filter p is) → HaveInterfaces new ks (filter p is) =
+    λ ks p b. have_kept old new (λ x. Unit {0}) still ks (filter p is) (all_units (filter p is)) b in
+    record {
+      by_handle = λ n. elim (cases_Bool (i.handle == n)) [
+        | inl t ↦
+            let e : keys_on rs n ≡ keys_on rows n ++ key ∷ [] = rw t at (c.keys n) in
+            rw (e, filter_append (is_on n) is (i ∷ [])) (rw t (have_more new (keys_on rows n) (filter (is_on n) is) key i (same (keys_on rows n) (is_on n) (h.by_handle n)) there))
+        | inr f ↦
+            let e : keys_on rs n ≡ keys_on rows n = rw f at (c.keys n) in
+            rw (e, filter_append (is_on n) is (i ∷ [])) (rw f (rw append-nil (same (keys_on rows n) (is_on n) (h.by_handle n))))
+      ];
+      by_guid = λ n guid. elim (cases_Bool (is_at n guid i)) [
+        | inl t ↦
+            let e : key_at gs guid n ≡ Some key = rw t at (g guid n) in
+            let z : key_at groups guid n ≡ None = rw (← at_handle n guid i t) (rw (← at_guid n guid i t) absent) in
+            let b : HaveInterfaces new [] (filter (is_at n guid) is) = same [] (is_at n guid) (rw z at (h.by_guid n guid)) in
+            rw (e, filter_append (is_at n guid) is (i ∷ [])) (rw t (have_more new [] (filter (is_at n guid) is) key i b there))
+        | inr f ↦
+            let e : key_at gs guid n ≡ key_at groups guid n = rw f at (g guid n) in
+            rw (e, filter_append (is_at n guid) is (i ∷ [])) (rw f (rw append-nil (same (option_to_list (key_at groups guid n)) (is_at n guid) (h.by_guid n guid))))
+      ];
+      in_group = λ j x e. elim (cases_eq j key) [
+        | inl w ↦
+            let s : i ≡ x = same_Some i x (sym there ∙ ap (at_key new) (sym w) ∙ e) in
+            subst (λ (y : Interface). key_at gs y.guid y.handle ≡ Some j) s
+            (g i.guid i.handle ∙ rw (eq-eqb i.handle i.handle refl) (rw (same_guid-refl i.guid) (ap (λ k. Some k) (sym w))))
+        | inr d ↦
+            let b : key_at groups x.guid x.handle ≡ Some j = h.in_group j x (sym (others j d) ∙ e) in
+            elim (cases_Bool (is_at x.handle x.guid i)) [
+              | inl t ↦
+                  let z : key_at groups x.guid x.handle ≡ None = rw (← at_handle x.handle x.guid i t) (rw (← at_guid x.handle x.guid i t) absent) in
+                  let w : Some j ≡ None = sym b ∙ z in cc
+              | inr f ↦ g x.guid x.handle ∙ rw f b
+            ]
+      ];
+    }
 
-any_filtered : {X : Type 0} (p : X → Bool) (xs : List X) → list_any p (filter p xs) ≡ list_any p xs
-any_filtered p [] = refl
-any_filtered p (x ∷ xs) = elim (cases_Bool (p x)) [
-  | inl e ↦ rw e (rw e refl)
-  | inr e ↦ rw e (any_filtered p xs)
-]
+-- ---- one less
 
-pub any_by_filter : {X : Type 0} (p : X → Bool) (xs ys : List X) → filter p xs ≡ filter p ys → list_any p xs ≡ list_any p ys
-any_by_filter p xs ys e = sym (any_filtered p xs) ∙ ap (list_any p) e ∙ any_filtered p ys
-
-take_front : {X : Type 0} (xs ys : List X) → take (length xs) (xs ++ ys) ≡ xs
-take_front [] ys = refl
-take_front (x ∷ xs) ys = ap (λ r. x ∷ r) (take_front xs ys)
-
--- ---- blocks
-
--- a handle of one block is not of another
-other_block : (n b : ℕ) (i : Interface) → ((n / block_size) == b) ≡ false → is_in b i ≡ true → is_on n i ≡ false
-other_block n b i f t = elim (eqb_tells i.handle n) [
-  | inl e ↦ let k : ((n / block_size) == b) ≡ true = rw (← e.1) t in let w = sym k ∙ f in cc
-  | inr e ↦ e.0
-]
-
--- the interfaces near a handle, and all
-pub near_on : (listed : List Interface) (blocks : List Block) (n : ℕ) → AreBlocks listed blocks → filter (is_on n) (members_in blocks (n / block_size)) ≡ filter (is_on n) listed
-near_on listed blocks n h =
-    ap (filter (is_on n)) (h (n / block_size))
-    ∙ filter_inside (is_in (n / block_size)) (is_on n) (λ i t. rw (is_same i.handle n t) (eq-eqb (n / block_size) (n / block_size) refl)) listed
-
-stamped_in : (b n stamp : ℕ) (pairs : List (List ℕ × ℕ)) → ((n / block_size) == b) ≡ true → filter (is_in b) (stamped n stamp pairs) ≡ stamped n stamp pairs
-stamped_in b n stamp [] t = refl
-stamped_in b n stamp (p ∷ ps) t = rw t (ap (λ r. record { handle = n; guid = p.0; value = p.1; stamp = stamp + 1 } ∷ r) (stamped_in b n (stamp + 1) ps t))
-
-stamped_out : (b n stamp : ℕ) (pairs : List (List ℕ × ℕ)) → ((n / block_size) == b) ≡ false → filter (is_in b) (stamped n stamp pairs) ≡ []
-stamped_out b n stamp [] f = refl
-stamped_out b n stamp (p ∷ ps) f = rw f (stamped_out b n (stamp + 1) ps f)
-
-blocks_more : (n stamp : ℕ) (pairs : List (List ℕ × ℕ)) (listed : List Interface) (old new : List Block) → ChangesBlock (n / block_size) (λ is. is ++ stamped n stamp pairs) old new
-    → AreBlocks listed old → AreBlocks (listed ++ stamped n stamp pairs) new
-blocks_more n stamp pairs listed old new c h b = elim (cases_Bool ((n / block_size) == b)) [
-  | inl t ↦ c b ∙ rw t (rw (h b, filter_append (is_in b) listed (stamped n stamp pairs), stamped_in b n stamp pairs t) refl)
-  | inr f ↦ c b ∙ rw f (rw (h b, filter_append (is_in b) listed (stamped n stamp pairs), stamped_out b n stamp pairs f, append-nil) refl)
-]
-
-pub blocks_same : (listed : List Interface) (old new : List Block) → ((m : ℕ) → members_in new m ≡ members_in old m) → AreBlocks listed old → AreBlocks listed new
-blocks_same listed old new e h b = e b ∙ h b
-
--- what was added is taken back
-blocks_back : (b len : ℕ) (more : List Interface) (old mid new : List Block) → ChangesBlock b (λ is. is ++ more) old mid → ChangesBlock b (take len) mid new → len ≡ length (members_in old b)
-    → (m : ℕ) → members_in new m ≡ members_in old m
-blocks_back b len more old mid new c d l m = elim (cases_Bool (b == m)) [
+-- of a GUID on a handle there is no interface but the one at the key in its group
+pub only_one : (is : List Interface) (slots : List (Option Record)) (rows : List Row) (groups : List Group) (n : ℕ) (guid : List ℕ) (key : ℕ) → AreFiled is slots rows groups → key_at groups guid n ≡ Some key
+    → (k : ℕ) (x : Interface) → k ≢ key → at_key slots k ≡ Some x → is_at n guid x ≡ false
+only_one is slots rows groups n guid key h g k x d e = elim (cases_Bool (is_at n guid x)) [
   | inl t ↦
-      let s : b ≡ m = is_same b m t in
-      let k : members_in mid m ≡ members_in old m ++ more = rw t at (c m) in
-      let n : members_in new m ≡ take len (members_in mid m) = rw t at (d m) in
-      n ∙ rw (k, l, s) (take_front (members_in old m) more)
-  | inr f ↦
-      let k : members_in mid m ≡ members_in old m = rw f at (c m) in
-      let n : members_in new m ≡ members_in mid m = rw f at (d m) in n ∙ k
+      let b : key_at groups guid n ≡ Some k = rw (← at_handle n guid x t) (rw (← at_guid n guid x t) (h.in_group k x e)) in
+      absurd (d (same_Some k key (sym b ∙ g)))
+  | inr f ↦ f
 ]
 
-blocks_filtered : (n : ℕ) (p : Interface → Bool) → ((i : Interface) → is_on n i ≡ false → p i ≡ true) → (listed : List Interface) (old new : List Block)
-    → ChangesBlock (n / block_size) (filter p) old new → AreBlocks listed old → AreBlocks (filter p listed) new
-blocks_filtered n p k listed old new c h b = elim (cases_Bool ((n / block_size) == b)) [
-  | inl t ↦ c b ∙ rw t (rw (h b) (filter_swap p (is_in b) listed))
-  | inr f ↦ c b ∙ rw f (h b ∙ sym (filter_inside p (is_in b) (λ i t. k i (other_block n b i f t)) listed))
+-- the interface at the key in the group of a GUID is of it
+pub keyed_at : (is : List Interface) (slots : List (Option Record)) (rows : List Row) (groups : List Group) (n : ℕ) (guid : List ℕ) (key : ℕ) → AreFiled is slots rows groups → key_at groups guid n ≡ Some key
+    → (x : Interface) → at_key slots key ≡ Some x → is_at n guid x ≡ true
+keyed_at is slots rows groups n guid key h g x e =
+    let b : HaveInterfaces slots (key ∷ []) (filter (is_at n guid) is) = rw g at (h.by_guid n guid) in
+    first (filter (is_at n guid) is) b (passed (is_at n guid) is)
+  where
+    first : (xs : List Interface) → HaveInterfaces slots (key ∷ []) xs → AllByRecursion (λ y. is_at n guid y ≡ true) xs → is_at n guid x ≡ true
+    first [] b a = absurd b
+    first (y ∷ ys) b a = subst (λ (z : Interface). is_at n guid z ≡ true) (same_Some y x (sym b.0 ∙ e)) a.0
+
+turned_at : (n : ℕ) (guid : List ℕ) (x : Interface) → ((n == x.handle) && same_guid guid x.guid) ≡ is_at n guid x
+turned_at n guid x = rw (turned n x.handle, guid_turned guid x.guid) refl
+
+off_other : (n m : ℕ) (guid : List ℕ) (x : Interface) → (n == m) ≡ false → is_on m x ≡ true → not (is_at n guid x) ≡ true
+off_other n m guid x f t =
+    let e : (x.handle == n) ≡ false = rw (is_same x.handle m t) (turned m n ∙ f) in
+    rw e refl
+
+at_other : (n m : ℕ) (guid k : List ℕ) (x : Interface) → ((n == m) && same_guid guid k) ≡ false → is_at m k x ≡ true → not (is_at n guid x) ≡ true
+at_other n m guid k x f t =
+    let e : is_at n guid x ≡ false = rw (at_handle m k x t, at_guid m k x t, turned m n, guid_turned k guid) f in
+    rw e refl
+
+filter_against : (p : Interface → Bool) (xs : List Interface) → filter p (filter (λ x. not (p x)) xs) ≡ []
+filter_against p [] = refl
+filter_against p (x ∷ xs) = elim (cases_Bool (p x)) [
+  | inl t ↦ rw t (filter_against p xs)
+  | inr f ↦ rw f (rw f (filter_against p xs))
 ]
 
-blocks_restamped : (n : ℕ) (guid : List ℕ) (value stamp : ℕ) (listed : List Interface) (old new : List Block) → ChangesBlock (n / block_size) (map (restamped n guid value stamp)) old new
-    → AreBlocks listed old → AreBlocks (map (restamped n guid value stamp) listed) new
-blocks_restamped n guid value stamp listed old new c h b =
+none_left : (slots : List (Option Record)) (n m : ℕ) (guid k : List ℕ) → ((n == m) && same_guid guid k) ≡ true → (is : List Interface)
+    → HaveInterfaces slots [] (filter (is_at m k) (filter (λ i. not (is_at n guid i)) is))
+none_left slots n m guid k t is =
+    let b = and_parts (n == m) (same_guid guid k) t in
+    rw (← is_same n m b.0, ← same_guid-true guid k b.1) (rw (filter_against (is_at n guid) is) tt)
+
+pub filed_less : (is : List Interface) (old new : List (Option Record)) (rows rs : List Row) (groups gs : List Group) (n : ℕ) (guid : List ℕ) (key : ℕ)
+    → key_at groups guid n ≡ Some key → at_key new key ≡ None → ((j : ℕ) → j ≢ key → at_key new j ≡ at_key old j)
+    → ChangesKeys n (filter (λ k. not (k == key))) rows rs
+    → ((k : List ℕ) (m : ℕ) → key_at gs k m ≡ cond ((n == m) && same_guid guid k) None (key_at groups k m))
+    → AreFiled is old rows groups → AreFiled (filter (λ i. not (is_at n guid i)) is) new rs gs
+filed_less is old new rows rs groups gs n guid key there none others c g h =
+    let q : Interface → Bool = λ i. not (is_at n guid i) in
+    let own : (x : Interface) → at_key old key ≡ Some x → q x ≡ false = λ x e. rw (keyed_at is old rows groups n guid key h there x e) refl in
+    let rest : (k : ℕ) (x : Interface) → k ≢ key → at_key old k ≡ Some x → (q x ≡ true) × (at_key new k ≡ Some x) =
+    λ k x d e. (rw (only_one is old rows groups n guid key h there k x d e) refl, others k d ∙ e) in
+    -- interfaces that are not of the GUID on the handle keep their keys
+    let still : (k : ℕ) (x : Interface) → at_key old k ≡ Some x → q x ≡ true → at_key new k ≡ Some x =
+    λ k x e p. others k (λ w. let z : true ≡ false = sym p ∙ own x (ap (at_key old) (sym w) ∙ e) in cc) ∙ e in
+    let same : (ks : List ℕ) (p : Interface → Bool) → ((x : Interface) → p x ≡ true → q x ≡ true) → HaveInterfaces old ks (filter p is) → HaveInterfaces new ks (filter p (filter q is)) =
+    λ ks p i b. rw (filter_inside q p i is) (have_kept old new (λ x. p x ≡ true) (λ k x e t. still k x e (i x t)) ks (filter p is) (passed p is) b) in
+    record {
+      by_handle = λ m. elim (cases_Bool (n == m)) [
+        | inl t ↦
+            let e : keys_on rs m ≡ filter (λ k. not (k == key)) (keys_on rows m) = rw t at (c.keys m) in
+            rw (e, filter_swap (is_on m) q is) (have_less old new key q own rest (keys_on rows m) (filter (is_on m) is) (h.by_handle m))
+        | inr f ↦
+            let e : keys_on rs m ≡ keys_on rows m = rw f at (c.keys m) in
+            rw e (same (keys_on rows m) (is_on m) (λ x t. off_other n m guid x f t) (h.by_handle m))
+      ];
+      by_guid = λ m k. elim (cases_Bool ((n == m) && same_guid guid k)) [
+        | inl t ↦
+            let e : key_at gs k m ≡ None = rw t at (g k m) in
+            rw e (none_left new n m guid k t is)
+        | inr f ↦
+            let e : key_at gs k m ≡ key_at groups k m = rw f at (g k m) in
+            rw e (same (option_to_list (key_at groups k m)) (is_at m k) (λ x t. at_other n m guid k x f t) (h.by_guid m k))
+      ];
+      in_group = λ j x e. elim (cases_eq j key) [
+        | inl w ↦ let z : Some x ≡ None = sym e ∙ ap (at_key new) w ∙ none in cc
+        | inr d ↦
+            let o : at_key old j ≡ Some x = sym (others j d) ∙ e in
+            let f : is_at n guid x ≡ false = only_one is old rows groups n guid key h there j x d o in
+            g x.guid x.handle ∙ rw (turned_at n guid x ∙ f) (h.in_group j x o)
+      ];
+    }
+
+-- ---- one changed
+
+pub filed_changed : (is : List Interface) (old new : List (Option Record)) (rows : List Row) (groups : List Group) (n : ℕ) (guid : List ℕ) (value stamp key : ℕ)
+    → key_at groups guid n ≡ Some key → ((x : Interface) → at_key old key ≡ Some x → at_key new key ≡ Some (restamped n guid value stamp x))
+    → ((y : Interface) → at_key new key ≡ Some y → is_at n guid y ≡ true)
+    → ((j : ℕ) → j ≢ key → at_key new j ≡ at_key old j)
+    → AreFiled is old rows groups → AreFiled (map (restamped n guid value stamp) is) new rows groups
+filed_changed is old new rows groups n guid value stamp key there own at others h =
     let f : Interface → Interface = restamped n guid value stamp in
-    let e : filter (is_in b) (map f listed) ≡ map f (filter (is_in b) listed) = filter_changed f (is_in b) (λ i. ap (λ m. (m / block_size) == b) (restamped_handle n guid value stamp i)) listed in
-    elim (cases_Bool ((n / block_size) == b)) [
-      | inl t ↦ c b ∙ rw t (rw (h b) (sym e))
-      | inr g ↦ c b ∙ rw g (h b ∙ sym (e ∙ map_filtered f (is_in b) (λ i t. let o : is_on n i ≡ false = other_block n b i g t in rw o refl) listed))
-    ]
-
--- ---- both
-
-pub filed_without : (m : ℕ) (k : List ℕ) (listed : List Interface) (groups gs : List Group) (blocks bs : List Block)
-    → ((guid : List ℕ) (n : ℕ) → grouped_at gs guid n ≡ cond ((m == n) && same_guid k guid) None (grouped_at groups guid n))
-    → ChangesBlock (m / block_size) (filter (λ i. not (is_at m k i))) blocks bs
-    → AreFiled listed groups blocks → AreFiled (filter (λ i. not (is_at m k i)) listed) gs bs
-filed_without m k listed groups gs blocks bs less c h = record {
-  by_guid = index_without m k listed groups gs less h.by_guid;
-  by_handle = blocks_filtered m (λ i. not (is_at m k i)) (λ i o. rw o refl) listed blocks bs c h.by_handle;
-}
-
-pub filed_without_all : (m : ℕ) (listed : List Interface) (groups gs : List Group) (blocks bs : List Block)
-    → ((guid : List ℕ) (n : ℕ) → grouped_at gs guid n ≡ cond (m == n) None (grouped_at groups guid n))
-    → ChangesBlock (m / block_size) (filter (λ i. not (is_on m i))) blocks bs
-    → AreFiled listed groups blocks → AreFiled (filter (λ i. not (is_on m i)) listed) gs bs
-filed_without_all m listed groups gs blocks bs less c h = record {
-  by_guid = index_without_all m listed groups gs less h.by_guid;
-  by_handle = blocks_filtered m (λ i. not (is_on m i)) (λ i o. rw o refl) listed blocks bs c h.by_handle;
-}
-
-pub filed_restamped : (m : ℕ) (k : List ℕ) (value stamp : ℕ) (listed : List Interface) (groups gs : List Group) (blocks bs : List Block)
-    → ((guid : List ℕ) (n : ℕ) → grouped_at gs guid n ≡ cond (same_guid k guid) (option_map (restamped m k value stamp) (grouped_at groups guid n)) (grouped_at groups guid n))
-    → ChangesBlock (m / block_size) (map (restamped m k value stamp)) blocks bs
-    → AreFiled listed groups blocks → AreFiled (map (restamped m k value stamp) listed) gs bs
-filed_restamped m k value stamp listed groups gs blocks bs same c h = record {
-  by_guid = index_restamped m k value stamp listed groups gs same h.by_guid;
-  by_handle = blocks_restamped m k value stamp listed blocks bs c h.by_handle;
-}
-
-pub filed_more : (n stamp : ℕ) (pairs : List (List ℕ × ℕ)) (groups gs : List Group) (blocks bs : List Block)
-    → ((listed : List Interface) → IsIndex listed groups → IsIndex (listed ++ stamped n stamp pairs) gs)
-    → ChangesBlock (n / block_size) (λ is. is ++ stamped n stamp pairs) blocks bs
-    → (listed : List Interface) → AreFiled listed groups blocks → AreFiled (listed ++ stamped n stamp pairs) gs bs
-filed_more n stamp pairs groups gs blocks bs more c listed h = record {
-  by_guid = more listed h.by_guid;
-  by_handle = blocks_more n stamp pairs listed blocks bs c h.by_handle;
-}
-
-pub filed_same : (groups : List Group) (blocks bs : List Block) → ((m : ℕ) → members_in bs m ≡ members_in blocks m) → (listed : List Interface) → AreFiled listed groups blocks → AreFiled listed groups bs
-filed_same groups blocks bs e listed h = record { by_guid = h.by_guid; by_handle = blocks_same listed blocks bs e h.by_handle }
-
-pub filed_back : (b len : ℕ) (more : List Interface) (groups gs : List Group) (blocks mid bs : List Block) → ((guid : List ℕ) (n : ℕ) → grouped_at gs guid n ≡ grouped_at groups guid n)
-    → ChangesBlock b (λ is. is ++ more) blocks mid → ChangesBlock b (take len) mid bs → len ≡ length (members_in blocks b)
-    → (listed : List Interface) → AreFiled listed groups blocks → AreFiled listed gs bs
-filed_back b len more groups gs blocks mid bs same c d l listed h = record {
-  by_guid = λ n guid. same guid n ∙ h.by_guid n guid;
-  by_handle = blocks_same listed blocks bs (blocks_back b len more blocks mid bs c d l) h.by_handle;
-}
+    let each : (k : ℕ) (x : Interface) → at_key old k ≡ Some x → Unit {0} → at_key new k ≡ Some (f x) =
+    λ k x e u. elim (cases_eq k key) [
+      | inl w ↦ rw w (own x (ap (at_key old) (sym w) ∙ e))
+      | inr d ↦ let z : is_at n guid x ≡ false = only_one is old rows groups n guid key h there k x d e in others k d ∙ rw z e
+    ] in
+    let same : (ks : List ℕ) (p : Interface → Bool) → ((x : Interface) → p (f x) ≡ p x) → HaveInterfaces old ks (filter p is) → HaveInterfaces new ks (filter p (map f is)) =
+    λ ks p i b. rw (filter_changed f p i is) (have_changed old new (λ x. Unit {0}) f each ks (filter p is) (all_units (filter p is)) b) in
+    record {
+      by_handle = λ m. same (keys_on rows m) (is_on m) (λ x. ap (λ k. k == m) (restamped_handle n guid value stamp x)) (h.by_handle m);
+      by_guid = λ m k. same (option_to_list (key_at groups k m)) (is_at m k) (λ x. rw (restamped_handle n guid value stamp x, restamped_guid n guid value stamp x) refl) (h.by_guid m k);
+      in_group = λ j x e. elim (cases_eq j key) [
+        | inl w ↦
+            let t : is_at n guid x ≡ true = at x (ap (at_key new) (sym w) ∙ e) in
+            rw (at_handle n guid x t, at_guid n guid x t) (there ∙ ap (λ k. Some k) (sym w))
+        | inr d ↦ h.in_group j x (sym (others j d) ∙ e)
+      ];
+    }

@@ -1,18 +1,22 @@
 -- The interface of a GUID with the least stamp above a mark, in a group and among all.
-use Rattle.std.proofs.Common.{◌≡◌, ℕ, ◌<◌, ◌≤◌, ◌==◌, nat_lt, Bool, true, false, List, [], ◌∷◌, map, Option, Some, None, is_some, inl, inr, refl, sym, ap, ◌∙◌, arith, subst}
+use Rattle.std.proofs.Common.{◌≡◌, ℕ, ◌<◌, ◌≤◌, ◌==◌, ◌&&◌, nat_lt, Bool, true, false, List, [], ◌∷◌, length, Option, Some, None, is_some, inl, inr, refl, sym, ap, ◌∙◌, arith, subst}
 use Rattle.std.specs.List.{filter, find, AllByRecursion}
 use Rattle.std.specs.Option.{option_and_then}
 use Rattle.std.proofs.lemmas.Bool.{cases_Bool, and_parts, eq-eqb, ne_eqb, ltb-true, ltb-false}
+use Rattle.std.proofs.lemmas.Bool.Decides.{eqb_tells}
 use Rattle.std.proofs.lemmas.Option.{same_Some}
 use Rattle.guid_handles.specs.declared.records.Interface.{Interface}
-use Rattle.guid_handles.specs.HandleTables.{HandleTable, is_of, is_on, is_at, is_after, earlier_of, earliest}
-use Rattle.guid_handles.specs.Sorting.{Ascending, kept_if}
-use Rattle.guid_handles.specs.Indexes.{Group, AreHolders, IsNextOf, grouped_at, is_group_of}
-use Rattle.guid_handles.specs.Nearby.{Block}
+use Rattle.guid_handles.specs.declared.records.Record.{Record}
+use Rattle.guid_handles.specs.HandleTables.{is_of, is_on, is_at, is_after, earlier_of, earliest}
+use Rattle.guid_handles.specs.Sorting.{Ascending}
+use Rattle.guid_handles.specs.Indexes.{Row, Group, is_group_of, key_beside, key_in, key_at}
+use Rattle.guid_handles.specs.Slots.{at_key, at_keys, installed_until}
 use Rattle.guid_handles.specs.Stores.{AreApart, IsStore}
-use Rattle.guid_handles.proofs.SortedLists.{all_map, all_both, all_under, all_filtered}
+use Rattle.guid_handles.proofs.SortedLists.{all_map, all_both, all_filtered, all_of}
 use Rattle.guid_handles.proofs.GuidOrder.{same_guid-true}
+use Rattle.guid_handles.proofs.Indexed.{at_handle}
 use Rattle.guid_handles.proofs.Found.{earliest_one, found_one}
+use Rattle.guid_handles.proofs.Stored.{stored_at}
 
 -- ---- the least stamp
 
@@ -51,49 +55,10 @@ unfiltered P q (x ∷ xs) h = elim (cases_Bool (q x)) [
   | inr e ↦ (λ t. let w : false ≡ true = sym e ∙ t in cc, unfiltered P q xs (rw e at h))
 ]
 
-none_kept : {X : Type 0} (q p : X → Bool) (xs : List X) → AllByRecursion (λ x. q x ≡ true → ⊥) xs → kept_if q (find p xs) ≡ None
-none_kept q p [] h = refl
-none_kept q p (x ∷ xs) h = elim (cases_Bool (p x)) [
-  | inl e ↦ elim (cases_Bool (q x)) [
-    | inl t ↦ absurd (h.0 t)
-    | inr f ↦ rw e (rw f refl)
-  ]
-  | inr e ↦ rw e (none_kept q p xs h.1)
-]
-
--- ---- in a group
-
-handles_self : (members : List Interface) → Ascending (λ a b. a < b) (map (λ i. i.handle) members) → AllByRecursion (λ x. find (is_on x.handle) members ≡ Some x) members
-handles_self [] a = tt
-handles_self (x ∷ xs) a = (
-  rw (eq-eqb x.handle x.handle refl) refl,
-  all_both (λ y. x.handle < y.handle) (λ y. find (is_on y.handle) xs ≡ Some y) (λ y. find (is_on y.handle) (x ∷ xs) ≡ Some y)
-      (λ y l f. let n : (x.handle == y.handle) ≡ false = ne_eqb x.handle y.handle (λ e. omega (arith, l, e)) in rw n f) xs (all_under (λ y. y.handle) (λ m. x.handle < m) xs a.0) (handles_self xs a.1),
-)
-
-next_found : (q : Interface → Bool) (members : List Interface) → Ascending (λ a b. a < b) (map (λ i. i.handle) members) → (r : Option Interface) → r ≡ earliest (filter q members)
-    → IsNextOf q (λ n. find (is_on n) members) r
-next_found q members a None e = λ n. none_kept q (is_on n) members (unfiltered (λ x. ⊥) q members (earliest_none (λ x. ⊥) (filter q members) (sym e)))
-next_found q members a (Some i) e =
-    let all : AllByRecursion (λ x. (find (is_on x.handle) members ≡ Some x) × (q x ≡ true)) (filter q members) =
-    all_filtered (λ x. (find (is_on x.handle) members ≡ Some x) × (q x ≡ true)) (λ x. find (is_on x.handle) members ≡ Some x) q (λ x t f. (f, t)) members (handles_self members a) in
-    let there = earliest_one (λ x. (find (is_on x.handle) members ≡ Some x) × (q x ≡ true)) (filter q members) i all (sym e) in
-    let least = unfiltered (λ j. i.stamp ≤ j.stamp) q members (earliest_least (filter q members) i (sym e)) in
-    (there.0, there.1, λ n j f t. (found_one (λ x. q x ≡ true → i.stamp ≤ x.stamp) (is_on n) members j least f).1 t)
-
-pub next_member : (q : Interface → Bool) (members : List Interface) (hs : List ℕ) → AreHolders members hs → (r : Option Interface) → r ≡ earliest (filter q members) → IsNextOf q (λ n. find (is_on n) members) r
-next_member q members hs a r e = next_found q members (subst (Ascending (λ a b. a < b)) a.holders a.ascending) r e
-
-pub next_same : (q : Interface → Bool) (f g : ℕ → Option Interface) → ((n : ℕ) → g n ≡ f n) → (r : Option Interface) → IsNextOf q f r → IsNextOf q g r
-next_same q f g e None h = λ n. ap (kept_if q) (e n) ∙ h n
-next_same q f g e (Some i) h = (e i.handle ∙ h.0, h.1, λ n j s t. h.2 n j (sym (e n) ∙ s) t)
-
-pub next_grouped : (q : Interface → Bool) (groups : List Group) (guid : List ℕ) (g : Group) → Some g ≡ find (is_group_of guid) groups → (r : Option Interface)
-    → IsNextOf q (λ n. find (is_on n) g.members) r → IsNextOf q (grouped_at groups guid) r
-next_grouped q groups guid g e r h = next_same q (λ n. find (is_on n) g.members) (grouped_at groups guid) (λ n. ap (option_and_then (λ k. find (is_on n) k.members)) (sym e)) r h
-
-pub next_ungrouped : (q : Interface → Bool) (groups : List Group) (guid : List ℕ) → None ≡ find (is_group_of guid) groups → (n : ℕ) → kept_if q (grouped_at groups guid n) ≡ None
-next_ungrouped q groups guid e n = ap (λ o. kept_if q (option_and_then (λ k. find (is_on n) k.members) o)) (sym e)
+-- Of the interfaces on handles, at most one on each, the one with the least stamp of those that pass a test; none if none passes.
+abbrev pub IsNextOf : (Interface → Bool) → (ℕ → Option Interface) → Option Interface → Type 0
+IsNextOf q there None = (n : ℕ) (j : Interface) → there n ≡ Some j → q j ≡ true → ⊥
+IsNextOf q there (Some i) = (there i.handle ≡ Some i) × (q i ≡ true) × ((n : ℕ) (j : Interface) → there n ≡ Some j → q j ≡ true → i.stamp ≤ j.stamp)
 
 -- ---- among all
 
@@ -139,10 +104,7 @@ told_found guid mark listed k a e =
 next_is : (guid : List ℕ) (mark : ℕ) (listed : List Interface) → Ascending AreApart listed → (r o : Option Interface) → IsNextOf (is_after guid mark) (λ n. find (is_at n guid) listed) r
     → earliest (filter (is_after guid mark) listed) ≡ o → r ≡ o
 next_is guid mark listed a None None h e = refl
-next_is guid mark listed a None (Some k) h e =
-    let there = told_found guid mark listed k a e in
-    let kept : kept_if (is_after guid mark) (Some k) ≡ Some k = rw there.1 refl in
-    let w : Some k ≡ None = sym kept ∙ ap (kept_if (is_after guid mark)) (sym there.0) ∙ h k.handle in cc
+next_is guid mark listed a None (Some k) h e = let there = told_found guid mark listed k a e in absurd (h k.handle k there.0 there.1)
 next_is guid mark listed a (Some i) None h e =
     absurd ((found_one (λ x. is_after guid mark x ≡ true → ⊥) (is_at i.handle guid) listed i
     (unfiltered (λ x. ⊥) (is_after guid mark) listed (earliest_none (λ x. ⊥) (filter (is_after guid mark) listed) e)) h.0).1 h.1)
@@ -153,8 +115,95 @@ next_is guid mark listed a (Some i) (Some k) h e =
     let under : i.stamp ≤ k.stamp = h.2 k.handle k there.0 there.1 in
     ap (λ x. Some x) (one_of_stamp listed a (is_at i.handle guid) (is_at k.handle guid) i k h.0 there.0 (omega (arith, above, under)))
 
-pub next_listed : (t : HandleTable) (ns : List ℕ) (groups : List Group) (blocks : List Block) → IsStore t ns groups blocks → (guid : List ℕ) (mark : ℕ) (r : Option Interface)
-    → IsNextOf (is_after guid mark) (grouped_at groups guid) r → r ≡ earliest (filter (is_after guid mark) t.interfaces)
-next_listed t ns groups blocks s guid mark r h =
-    next_is guid mark t.interfaces s.apart r (earliest (filter (is_after guid mark) t.interfaces))
-    (next_same (is_after guid mark) (grouped_at groups guid) (λ n. find (is_at n guid) t.interfaces) (λ n. sym (s.filed.by_guid n guid)) r h) refl
+-- ---- at the keys of a group
+
+module _ (slots : List (Option Record)) where
+  beside_above : (h n k : ℕ) (hs ks : List ℕ) → AllByRecursion (λ m. h < m) hs → key_beside hs ks n ≡ Some k → h < n
+  beside_above h n k [] ks a e = absurd cc
+  beside_above h n k (m ∷ ms) [] a e = absurd cc
+  beside_above h n k (m ∷ ms) (j ∷ js) a e = elim (eqb_tells m n) [
+    | inl t ↦ omega (arith, a.0, t.1)
+    | inr f ↦ beside_above h n k ms js a.1 (rw f.0 at e)
+  ]
+
+  -- what holds of each interface at the key beside a handle
+  all_keyed : (P : Interface → Type 0) (hs ks : List ℕ) → Ascending (λ a b. a < b) hs → length hs ≡ length ks → ((n k : ℕ) (x : Interface) → key_beside hs ks n ≡ Some k → at_key slots k ≡ Some x → P x) → AllByRecursion P (at_keys slots ks)
+  all_keyed P [] [] a l f = tt
+  all_keyed P [] (k ∷ ks) a l f = absurd (omega (arith, l))
+  all_keyed P (h ∷ hs) [] a l f = absurd (omega (arith, l))
+  all_keyed P (h ∷ hs) (k ∷ ks) a l f =
+      one (at_key slots k) refl
+      (all_keyed P hs ks a.1 (omega (arith, l))
+      (λ n j x e t. let d : (h == n) ≡ false = ne_eqb h n (λ w. omega (arith, w, beside_above h n j hs ks a.0 e)) in f n j x (rw d e) t))
+    where
+      one : (o : Option Interface) → at_key slots k ≡ o → AllByRecursion P (at_keys slots ks) → AllByRecursion P (at_keys slots (k ∷ ks))
+      one None e r = rw e r
+      one (Some x) e r = rw e (f h k x (rw (eq-eqb h h refl) refl) e, r)
+
+  got_keyed : (P : Interface → Type 0) (hs ks : List ℕ) (n k : ℕ) (j : Interface) → AllByRecursion P (at_keys slots ks) → key_beside hs ks n ≡ Some k → at_key slots k ≡ Some j → P j
+  got_keyed P [] ks n k j a e t = absurd cc
+  got_keyed P (h ∷ hs) [] n k j a e t = absurd cc
+  got_keyed P (h ∷ hs) (m ∷ ms) n k j a e t = elim (cases_Bool (h == n)) [
+    | inl y ↦
+        let s : m ≡ k = same_Some m k (rw y at e) in
+        let u : at_key slots m ≡ Some j = ap (at_key slots) s ∙ t in
+        (rw u at a).0
+    | inr f ↦ got_keyed P hs ms n k j (behind (at_key slots m) refl a) (rw f at e) t
+  ]
+    where
+      behind : (o : Option Interface) → at_key slots m ≡ o → AllByRecursion P (at_keys slots (m ∷ ms)) → AllByRecursion P (at_keys slots ms)
+      behind None e b = rw e at b
+      behind (Some x) e b = (rw e at b).1
+
+module _ (rows : List Row) (slots : List (Option Record)) (groups : List Group) (number stamp : ℕ) (s : IsStore rows slots groups number stamp) where
+  next_keyed : (guid : List ℕ) (mark : ℕ) (g : Group) → Some g ≡ find (is_group_of guid) groups → Ascending (λ a b. a < b) g.holders → length g.holders ≡ length g.keys
+      → (r : Option Interface) → r ≡ earliest (filter (λ i. nat_lt mark i.stamp) (at_keys slots g.keys)) → IsNextOf (is_after guid mark) (λ n. find (is_at n guid) (installed_until stamp slots)) r
+  next_keyed guid mark g e a l r c =
+      let p : Interface → Bool = λ i. nat_lt mark i.stamp in
+      let is : List Interface = at_keys slots g.keys in
+      let key : (n : ℕ) → key_at groups guid n ≡ key_in g n = λ n. ap (option_and_then (λ k. key_in k n)) (sym e) in
+      let all : AllByRecursion (λ x. (find (is_at x.handle guid) (installed_until stamp slots) ≡ Some x) × (is_of guid x ≡ true)) is =
+      all_keyed slots (λ x. (find (is_at x.handle guid) (installed_until stamp slots) ≡ Some x) × (is_of guid x ≡ true)) g.holders g.keys a l
+      (λ n k x b t.
+      let f : find (is_at n guid) (installed_until stamp slots) ≡ Some x = stored_at rows slots groups number stamp s n guid ∙ ap (option_and_then (at_key slots)) (key n ∙ b) ∙ t in
+      let q : is_at n guid x ≡ true = (found_one (λ y. Unit {0}) (is_at n guid) (installed_until stamp slots) x (all_of (λ y. Unit {0}) (λ y. tt) (installed_until stamp slots)) f).0 in
+      (ap (λ m. find (is_at m guid) (installed_until stamp slots)) (at_handle n guid x q) ∙ f, and_right (is_on n x) (is_of guid x) q)) in
+      let each : (P : Interface → Type 0) → AllByRecursion P is → (n : ℕ) (j : Interface) → find (is_at n guid) (installed_until stamp slots) ≡ Some j → P j =
+      λ P b n j f. keyed_one P g b n j (key_in g n) refl (sym (ap (option_and_then (at_key slots)) (key n)) ∙ sym (stored_at rows slots groups number stamp s n guid) ∙ f) in
+      answer p is all each r c
+    where
+      and_right : (a b : Bool) → (a && b) ≡ true → b ≡ true
+      and_right a b t = (and_parts a b t).1
+
+      keyed_one : (P : Interface → Type 0) (g : Group) → AllByRecursion P (at_keys slots g.keys) → (n : ℕ) (j : Interface) (o : Option ℕ) → key_in g n ≡ o → option_and_then (at_key slots) (key_in g n) ≡ Some j → P j
+      keyed_one P g b n j None e f = let w = rw e at f in cc
+      keyed_one P g b n j (Some k) e f = got_keyed slots P g.holders g.keys n k j b e (rw e at f)
+
+      answer : (p : Interface → Bool) (is : List Interface) → AllByRecursion (λ x. (find (is_at x.handle guid) (installed_until stamp slots) ≡ Some x) × (is_of guid x ≡ true)) is
+          → ((P : Interface → Type 0) → AllByRecursion P is → (n : ℕ) (j : Interface) → find (is_at n guid) (installed_until stamp slots) ≡ Some j → P j)
+          → (r : Option Interface) → r ≡ earliest (filter (λ i. nat_lt mark i.stamp) is) → IsNextOf (is_after guid mark) (λ n. find (is_at n guid) (installed_until stamp slots)) r
+      answer p is all each None c = λ n j f t.
+          each (λ x. nat_lt mark x.stamp ≡ true → ⊥) (unfiltered (λ x. ⊥) (λ i. nat_lt mark i.stamp) is (earliest_none (λ x. ⊥) (filter (λ i. nat_lt mark i.stamp) is) (sym c))) n j f
+          (and_right (is_of guid j) (nat_lt mark j.stamp) t)
+      answer p is all each (Some i) c =
+          let those = all_filtered (λ x. (find (is_at x.handle guid) (installed_until stamp slots) ≡ Some x) × (is_after guid mark x ≡ true)) (λ x. (find (is_at x.handle guid) (installed_until stamp slots) ≡ Some x) × (is_of guid x ≡ true))
+          (λ i. nat_lt mark i.stamp) (λ x t h. (h.0, rw (h.1, t) refl)) is all in
+          let there = earliest_one (λ x. (find (is_at x.handle guid) (installed_until stamp slots) ≡ Some x) × (is_after guid mark x ≡ true)) (filter (λ i. nat_lt mark i.stamp) is) i those (sym c) in
+          let least = unfiltered (λ j. i.stamp ≤ j.stamp) (λ i. nat_lt mark i.stamp) is (earliest_least (filter (λ i. nat_lt mark i.stamp) is) i (sym c)) in
+          (there.0, there.1, λ n j f t. each (λ x. nat_lt mark x.stamp ≡ true → i.stamp ≤ x.stamp) least n j f (and_right (is_of guid j) (nat_lt mark j.stamp) t))
+
+  -- the interface that a group has next is the next of all
+  pub next_listed : (guid : List ℕ) (mark : ℕ) (g : Group) → Some g ≡ find (is_group_of guid) groups → Ascending (λ a b. a < b) g.holders → length g.holders ≡ length g.keys
+      → (r : Option Interface) → r ≡ earliest (filter (λ i. nat_lt mark i.stamp) (at_keys slots g.keys)) → r ≡ earliest (filter (is_after guid mark) (installed_until stamp slots))
+  next_listed guid mark g e a l r c =
+      next_is guid mark (installed_until stamp slots) s.table.apart r (earliest (filter (is_after guid mark) (installed_until stamp slots))) (next_keyed guid mark g e a l r c) refl
+
+  pub none_listed : (guid : List ℕ) (mark : ℕ) → None ≡ find (is_group_of guid) groups → None ≡ earliest (filter (is_after guid mark) (installed_until stamp slots))
+  none_listed guid mark e =
+      next_is guid mark (installed_until stamp slots) s.table.apart None (earliest (filter (is_after guid mark) (installed_until stamp slots)))
+      (λ n j f t.
+      let z : None ≡ Some j = ap (option_and_then (λ (g : Group). option_and_then (at_key slots) (key_in g n))) e ∙ inside (find (is_group_of guid) groups) n ∙ sym (stored_at rows slots groups number stamp s n guid) ∙ f in cc) refl
+    where
+      inside : (o : Option Group) (n : ℕ) → option_and_then (λ (g : Group). option_and_then (at_key slots) (key_in g n)) o ≡ option_and_then (at_key slots) (option_and_then (λ g. key_in g n) o)
+      inside None n = refl
+      inside (Some g) n = refl

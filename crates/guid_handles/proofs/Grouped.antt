@@ -1,23 +1,20 @@
--- What is found in a group, and what is found in groups once one of them has changed.
+-- Groups by GUID: which one is found, and which keys are once one of them has changed.
 use Rattle.std.proofs.Math.ListN.{set}
-use Rattle.std.proofs.Common.{get_or, take, ◌&&◌, ◌≡◌, ℕ, zero, suc, ◌<◌, ◌≤◌, ◌==◌, nat_lt, not, Bool, true, false, cond, List, [], ◌∷◌, map, length, Option, Some, None, is_some, inl, inr, refl, sym, ap, ◌∙◌, arith, subst}
-use Rattle.std.specs.List.{filter, find, list_any, AllByRecursion, slice_get, insert, remove}
+use Rattle.std.proofs.Common.{get_or, take, ◌&&◌, ◌≡◌, ℕ, zero, suc, ◌<◌, ◌≤◌, ◌==◌, nat_lt, Bool, true, false, cond, List, [], ◌∷◌, map, length, Option, Some, None, is_some, inl, inr, refl, sym, ap, ◌∙◌, arith, subst}
+use Rattle.std.specs.List.{find, list_any, slice_get, insert, remove}
 use Rattle.std.specs.Option.{option_map, option_and_then}
 use Rattle.std.specs.declared.cmp.Ordering.TheVariants.{Less}
 use Rattle.std.specs.Ordering.{nat_cmp, is_lt, is_eq}
 use Rattle.std.specs.Cmp.Lexicographic.{slice_cmp, texts_ties}
 use Rattle.std.proofs.lemmas.Cmp.{nat_list_cmp_total}
-use Rattle.std.proofs.lemmas.Bool.{cases_Bool, ne_eqb, ltb-true, ltb-false}
+use Rattle.std.proofs.lemmas.Bool.{cases_Bool, ltb-false}
 use Rattle.std.proofs.lemmas.Bool.Decides.{eqb_tells}
 use Rattle.std.proofs.lemmas.Option.{same_Some}
-use Rattle.guid_handles.specs.declared.records.Interface.{Interface}
-use Rattle.guid_handles.specs.HandleTables.{same_guid, is_on}
-use Rattle.guid_handles.specs.HandleChanges.{restamped}
+use Rattle.guid_handles.specs.HandleTables.{same_guid}
 use Rattle.guid_handles.specs.Sorting.{Ascending, place, kept_if}
-use Rattle.guid_handles.specs.Indexes.{Group, AreHolders, handles_of, is_group_of, is_before, AscendByGuid, IsPlaceOf, with_member, without_member, grouped_at}
-use Rattle.guid_handles.proofs.SortedLists.{all_map, all_mapped, found_none, find_split, find_map, find_filter, find_insert_other, find_insert_new, ascending_insert, ascending_filter, map_insert, map_same, place_map, numbers_split, filter_map_filter, any_found, any_map, ascending_remove, map_remove, filter_at, filter_not_at}
-use Rattle.guid_handles.proofs.GuidOrder.{same_guid-true, same_guid-refl, guid_splits, is_less, less_from, greater_of, not_before_itself, and_false, and_true}
-use Rattle.guid_handles.proofs.Indexed.{restamped_handle, HasOneMore, taken, turned}
+use Rattle.guid_handles.specs.Indexes.{Group, AreGroups, is_group_of, is_before, AscendByGuid, IsPlaceOf, key_beside, key_in, key_at}
+use Rattle.guid_handles.proofs.SortedLists.{IsSplit, all_insert, all_mapped, all_remove, all_set, set_same, find_none, found_none, find_split, find_insert_other, find_insert_new, ascending_insert, ascending_remove, map_insert, map_remove, place_map}
+use Rattle.guid_handles.proofs.GuidOrder.{same_guid-true, guid_splits, is_less, less_from, greater_of, and_false, and_true}
 
 pub is_same : (m n : ℕ) → (m == n) ≡ true → m ≡ n
 is_same m n e = elim (eqb_tells m n) [
@@ -25,108 +22,11 @@ is_same m n e = elim (eqb_tells m n) [
   | inr f ↦ let k = rw e at f.0 in cc
 ]
 
--- ---- one group
-
-pub place_members : (members : List Interface) (hs : List ℕ) (n at : ℕ) → AreHolders members hs → at ≡ place (λ m. nat_lt m n) hs → at ≡ place (λ i. nat_lt i.handle n) members
-place_members members hs n at a e = e ∙ ap (place (λ m. nat_lt m n)) a.holders ∙ place_map (λ i. i.handle) (λ m. nat_lt m n) members
-
-pub found_member : (members : List Interface) (hs : List ℕ) (n at : ℕ) → AreHolders members hs → at ≡ place (λ m. nat_lt m n) hs → kept_if (is_on n) (slice_get members at) ≡ find (is_on n) members
-found_member members hs n at a e =
-    ap (λ k. kept_if (is_on n) (slice_get members k)) (place_members members hs n at a e)
-    ∙ sym (find_split (λ i. nat_lt i.handle n) (is_on n) members (numbers_split (λ i. i.handle) n members (subst (Ascending (λ a b. a < b)) a.holders a.ascending)))
-
 pub above : (m n : ℕ) → (m == n) ≡ false → nat_lt m n ≡ false → n < m
 above m n e l = elim (eqb_tells m n) [
   | inl t ↦ let k = rw e at t.0 in cc
   | inr f ↦ omega (arith, f.1, ltb-false m n l)
 ]
-
-pub holders_insert : (members : List Interface) (hs : List ℕ) (i : Interface) (at : ℕ) → AreHolders members hs → find (is_on i.handle) members ≡ None → at ≡ place (λ m. nat_lt m i.handle) hs
-    → AreHolders (insert members at i) (insert hs at i.handle)
-holders_insert members hs i at a none e = record {
-  ascending = rw e (ascending_insert (λ a b. a < b) (λ x y z l m. omega (arith, l, m)) (λ m. nat_lt m i.handle) hs i.handle
-      (subst (AllByRecursion (λ m. (nat_lt m i.handle ≡ true → m < i.handle) × (nat_lt m i.handle ≡ false → i.handle < m))) (sym a.holders)
-      (all_mapped (λ m. (nat_lt m i.handle ≡ true → m < i.handle) × (nat_lt m i.handle ≡ false → i.handle < m)) (λ j. is_on i.handle j ≡ false) (λ j. j.handle)
-      (λ j f. (λ t. ltb-true j.handle i.handle t, λ l. above j.handle i.handle f l)) members (found_none (is_on i.handle) members none)))
-      a.ascending);
-  holders = ap (λ l. insert l at i.handle) a.holders ∙ sym (map_insert (λ j. j.handle) members at i);
-}
-
-pub holders_without : (members : List Interface) (hs : List ℕ) (n : ℕ) → AreHolders members hs → AreHolders (filter (λ i. not (is_on n i)) members) (filter (λ m. not (m == n)) hs)
-holders_without members hs n a = record {
-  ascending = ascending_filter (λ a b. a < b) (λ m. not (m == n)) hs a.ascending;
-  holders = ap (filter (λ m. not (m == n))) a.holders ∙ sym (filter_map_filter (λ (i : Interface). i.handle) (λ m. not (m == n)) members);
-}
-
--- the interface at a place goes
-pub removed_at : (members : List Interface) (hs : List ℕ) (n at : ℕ) → AreHolders members hs → at ≡ place (λ m. nat_lt m n) hs → is_some (kept_if (is_on n) (slice_get members at)) ≡ true
-    → filter (λ i. not (is_on n i)) members ≡ remove members at
-removed_at members hs n at a e s =
-    let p : at ≡ place (λ i. nat_lt i.handle n) members = place_members members hs n at a e in
-    rw p (filter_at (λ i. i.handle) n members (subst (Ascending (λ a b. a < b)) a.holders a.ascending) (rw p at s))
-
-pub removed_none : (members : List Interface) (hs : List ℕ) (n at : ℕ) → AreHolders members hs → at ≡ place (λ m. nat_lt m n) hs → is_some (kept_if (is_on n) (slice_get members at)) ≡ false
-    → filter (λ i. not (is_on n i)) members ≡ members
-removed_none members hs n at a e s =
-    let p : at ≡ place (λ i. nat_lt i.handle n) members = place_members members hs n at a e in
-    filter_not_at (λ i. i.handle) n members (subst (Ascending (λ a b. a < b)) a.holders a.ascending) (rw p at s)
-
-pub holders_removed : (members : List Interface) (hs : List ℕ) (at : ℕ) → AreHolders members hs → AreHolders (remove members at) (remove hs at)
-holders_removed members hs at a = record {
-  ascending = ascending_remove (λ a b. a < b) hs at a.ascending;
-  holders = ap (λ l. remove l at) a.holders ∙ sym (map_remove (λ i. i.handle) members at);
-}
-
-pub holders_restamped : (members : List Interface) (hs : List ℕ) (n : ℕ) (guid : List ℕ) (value stamp : ℕ) → AreHolders members hs → AreHolders (map (restamped n guid value stamp) members) hs
-holders_restamped members hs n guid value stamp a = record {
-  ascending = a.ascending;
-  holders = a.holders ∙ sym (map_same (restamped n guid value stamp) (λ i. i.handle) (restamped_handle n guid value stamp) members);
-}
-
--- members on higher handles stay
-higher_stay : (n : ℕ) (guid : List ℕ) (value stamp : ℕ) (members : List Interface) → AllByRecursion (λ h. n < h) (handles_of members) → map (restamped n guid value stamp) members ≡ members
-higher_stay n guid value stamp [] h = refl
-higher_stay n guid value stamp (m ∷ ms) h =
-    let f : (m.handle == n) ≡ false = ne_eqb m.handle n (λ e. omega (arith, e, h.0)) in
-    rw f (ap (λ r. m ∷ r) (higher_stay n guid value stamp ms h.1))
-
-lower_stays : (n : ℕ) (guid : List ℕ) (value stamp : ℕ) (m : Interface) → nat_lt m.handle n ≡ true → restamped n guid value stamp m ≡ m
-lower_stays n guid value stamp m l = let f : (m.handle == n) ≡ false = ne_eqb m.handle n (λ e. omega (arith, e, ltb-true m.handle n l)) in rw f refl
-
--- the member at the place of a handle changes
-changed_at : (n : ℕ) (guid : List ℕ) (value stamp : ℕ) (members : List Interface) (x : Interface) → Ascending (λ a b. a < b) (handles_of members) → place (λ i. nat_lt i.handle n) members < length members
-    → x ≡ get_or members (place (λ i. nat_lt i.handle n) members) x
-    → set members (place (λ i. nat_lt i.handle n) members) (restamped n guid value stamp x) ≡ map (restamped n guid value stamp) members
-changed_at n guid value stamp [] x a l e = absurd (omega (arith, l))
-changed_at n guid value stamp (m ∷ ms) x a l e = elim (cases_Bool (nat_lt m.handle n)) [
-  | inl t ↦
-      let l1 = rw t at l in
-      let e1 = rw t at e in
-      rw t (rw (lower_stays n guid value stamp m t) (ap (λ r. m ∷ r) (changed_at n guid value stamp ms x a.1 (omega (arith, l1)) e1)))
-  | inr f ↦
-      let e1 : x ≡ m = rw f at e in
-      rw f (rw e1 (ap (λ r. restamped n guid value stamp m ∷ r) (sym (higher_stay n guid value stamp ms
-      (all_map (λ h. m.handle < h) (λ h. n < h) (λ h k. omega (arith, k, ltb-false m.handle n f)) (handles_of ms) a.0)))))
-]
-
-pub replaced_at : (members : List Interface) (hs : List ℕ) (n : ℕ) (guid : List ℕ) (value stamp at : ℕ) (x : Interface) → AreHolders members hs → at ≡ place (λ m. nat_lt m n) hs → at < length members → x ≡ get_or members at x
-    → set members at (restamped n guid value stamp x) ≡ map (restamped n guid value stamp) members
-replaced_at members hs n guid value stamp at x a e l g =
-    let p : at ≡ place (λ i. nat_lt i.handle n) members = place_members members hs n at a e in
-    rw p (changed_at n guid value stamp members x (subst (Ascending (λ a b. a < b)) a.holders a.ascending) (rw p at l) (rw p at g))
-
--- where all handles are lower none changes
-all_stay : (n : ℕ) (guid : List ℕ) (value stamp : ℕ) (members : List Interface) → length members ≤ place (λ i. nat_lt i.handle n) members → map (restamped n guid value stamp) members ≡ members
-all_stay n guid value stamp [] l = refl
-all_stay n guid value stamp (m ∷ ms) l = elim (cases_Bool (nat_lt m.handle n)) [
-  | inl t ↦ rw (lower_stays n guid value stamp m t) (ap (λ r. m ∷ r) (all_stay n guid value stamp ms (let k = rw t at l in omega (arith, k))))
-  | inr f ↦ let k = rw f at l in absurd (omega (arith, k))
-]
-
-pub replaced_none : (members : List Interface) (hs : List ℕ) (n : ℕ) (guid : List ℕ) (value stamp at : ℕ) → AreHolders members hs → at ≡ place (λ m. nat_lt m n) hs → length members ≤ at → map (restamped n guid value stamp) members ≡ members
-replaced_none members hs n guid value stamp at a e l =
-    let p : at ≡ place (λ i. nat_lt i.handle n) members = place_members members hs n at a e in
-    all_stay n guid value stamp members (rw p at l)
 
 -- ---- the group of a GUID
 
@@ -195,33 +95,41 @@ found_of (h ∷ hs) k g e = elim (cases_Bool (is_group_of k h)) [
 ]
 
 -- a group of a GUID takes the place of another
-pub grouped_set : (groups : List Group) (guid : List ℕ) (at : ℕ) (g new : Group) → IsPlaceOf guid groups at → slice_get groups at ≡ Some g → new.guid ≡ g.guid
-    → (k : List ℕ) (n : ℕ) → grouped_at (set groups at new) k n ≡ cond (same_guid guid k) (find (is_on n) new.members) (grouped_at groups k n)
-grouped_set groups guid at g new p e s k n =
+pub key_set : (groups : List Group) (guid : List ℕ) (at : ℕ) (g new : Group) → IsPlaceOf guid groups at → slice_get groups at ≡ Some g → new.guid ≡ g.guid
+    → (k : List ℕ) (n : ℕ) → key_at (set groups at new) k n ≡ cond (same_guid guid k) (key_in new n) (key_at groups k n)
+key_set groups guid at g new p e s k n =
     let t : is_group_of guid g ≡ true = found_of groups guid g (p.1 ∙ e) in
     let same : g.guid ≡ guid = same_guid-true g.guid guid t in
     elim (cases_Bool (same_guid guid k)) [
       | inl y ↦
           let there : find (is_group_of guid) (set groups at new) ≡ Some new =
           rw p.2 (find_set_new (is_group_of guid) (is_before guid) (before_other guid) groups new (subst (λ m. m < length groups) p.2 p.0) (rw s t)) in
-          rw y (rw (← same_guid-true guid k y) (ap (option_and_then (λ h. find (is_on n) h.members)) there))
+          rw y (rw (← same_guid-true guid k y) (ap (option_and_then (λ h. key_in h n)) there))
       | inr f ↦
-          rw f (ap (option_and_then (λ h. find (is_on n) h.members))
+          rw f (ap (option_and_then (λ h. key_in h n))
           (find_set_other (is_group_of k) groups at g new e (other_guid guid k g.guid same f) (other_guid guid k new.guid (s ∙ same) f)))
     ]
 
--- what the place of a group has is what is found
-pub grouped_there : (groups : List Group) (guid : List ℕ) (at : ℕ) (g : Group) → IsPlaceOf guid groups at → slice_get groups at ≡ Some g → (n : ℕ) → grouped_at groups guid n ≡ find (is_on n) g.members
-grouped_there groups guid at g p e n = ap (option_and_then (λ h. find (is_on n) h.members)) (p.1 ∙ e)
+-- what the group at a place has is what is found
+pub key_there : (groups : List Group) (guid : List ℕ) (at : ℕ) (g : Group) → IsPlaceOf guid groups at → slice_get groups at ≡ Some g → (n : ℕ) → key_at groups guid n ≡ key_in g n
+key_there groups guid at g p e n = ap (option_and_then (λ h. key_in h n)) (p.1 ∙ e)
 
-guids_set : (groups : List Group) (at : ℕ) (g new : Group) → slice_get groups at ≡ Some g → new.guid ≡ g.guid → map (λ h. h.guid) (set groups at new) ≡ map (λ h. h.guid) groups
-guids_set [] zero g new e s = refl
-guids_set [] (suc at) g new e s = refl
-guids_set (h ∷ hs) zero g new e s = let n : new.guid ≡ h.guid = s ∙ ap (λ x. x.guid) (sym (same_Some h g e)) in ap (λ x. x ∷ map (λ h. h.guid) hs) n
-guids_set (h ∷ hs) (suc at) g new e s = ap (λ r. h.guid ∷ r) (guids_set hs at g new e s)
+-- one key of a group changes
+pub key_changed : (groups : List Group) (guid : List ℕ) (at : ℕ) (g new : Group) (m : ℕ) (o : Option ℕ) → IsPlaceOf guid groups at → slice_get groups at ≡ Some g → new.guid ≡ g.guid
+    → ((n : ℕ) → key_in new n ≡ cond (m == n) o (key_in g n))
+    → (k : List ℕ) (n : ℕ) → key_at (set groups at new) k n ≡ cond ((m == n) && same_guid guid k) o (key_at groups k n)
+key_changed groups guid at g new m o p e s c k n = elim (cases_Bool (same_guid guid k)) [
+  | inl y ↦
+      key_set groups guid at g new p e s k n
+      ∙ rw (y, and_true (m == n)) (rw (← same_guid-true guid k y) (c n ∙ ap (cond (m == n) o) (sym (key_there groups guid at g p e n))))
+  | inr f ↦ key_set groups guid at g new p e s k n ∙ rw (f, and_false (m == n)) refl
+]
 
-pub ascend_set : (groups : List Group) (at : ℕ) (g new : Group) → AscendByGuid groups → slice_get groups at ≡ Some g → new.guid ≡ g.guid → AscendByGuid (set groups at new)
-ascend_set groups at g new a e s = subst (Ascending (λ x y. slice_cmp nat_cmp x y ≡ Less)) (sym (guids_set groups at g new e s)) a
+pub groups_set : (groups : List Group) (at : ℕ) (g new : Group) → AreGroups groups → slice_get groups at ≡ Some g → new.guid ≡ g.guid → 0 < length new.holders → AreGroups (set groups at new)
+groups_set groups at g new a e s l = record {
+  ascending = subst (Ascending (λ x y. slice_cmp nat_cmp x y ≡ Less)) (sym (set_same (λ h. h.guid) groups at g new e s)) a.ascending;
+  held = all_set (λ h. 0 < length h.holders) groups at new a.held l;
+}
 
 -- ---- a group comes
 
@@ -241,112 +149,101 @@ ascend_insert groups new at a none e =
     (λ g. is_group_of new.guid g ≡ false) (λ g. g.guid) (before_sides new.guid) groups (found_none (is_group_of new.guid) groups none))
     a)
 
-pub insert_there : {X : Type 0} (xs : List X) (at : ℕ) (y : X) → at ≤ length xs → (at < length (insert xs at y)) × (slice_get (insert xs at y) at ≡ Some y)
-insert_there [] zero y l = (omega arith, refl)
-insert_there [] (suc at) y l = absurd (omega arith)
-insert_there (x ∷ xs) zero y l = (omega arith, refl)
-insert_there (x ∷ xs) (suc at) y l = let r = insert_there xs at y (omega arith) in (omega (arith, r.0), r.1)
-
-pub place_insert : {X : Type 0} (p : X → Bool) (xs : List X) (y : X) → p y ≡ false → place p (insert xs (place p xs) y) ≡ place p xs
-place_insert p [] y f = rw f refl
-place_insert p (x ∷ xs) y f = elim (cases_Bool (p x)) [
-  | inl e ↦ rw e (rw e (ap (λ n. suc n) (place_insert p xs y f)))
-  | inr e ↦ rw e (rw f refl)
-]
-
-pub placed_new : (groups : List Group) (new : Group) (at : ℕ) → at ≤ length groups → find (is_group_of new.guid) groups ≡ None → at ≡ place (is_before new.guid) groups → IsPlaceOf new.guid (insert groups at new) at
-placed_new groups new at l none e =
-    let there : (at < length (insert groups at new)) × (slice_get (insert groups at new) at ≡ Some new) = insert_there groups at new l in (
-      there.0,
-      find_insert_new (is_group_of new.guid) groups at new (same_guid-refl new.guid) none ∙ sym there.1,
-      e ∙ sym (place_insert (is_before new.guid) groups new (not_before_itself new.guid)) ∙ ap (λ k. place (is_before new.guid) (insert groups k new)) (sym e),
-    )
-
--- an empty group changes nothing
-pub grouped_insert : (groups : List Group) (guid : List ℕ) (at : ℕ) → find (is_group_of guid) groups ≡ None → (k : List ℕ) (n : ℕ) → grouped_at (insert groups at (record { guid = guid; members = [] })) k n ≡ grouped_at groups k n
-grouped_insert groups guid at none k n = elim (cases_Bool (same_guid guid k)) [
+-- a group of a GUID that has none, with one holder
+pub key_insert : (groups : List Group) (new : Group) (guid : List ℕ) (at m key : ℕ) → new.guid ≡ guid → find (is_group_of guid) groups ≡ None → ((n : ℕ) → key_in new n ≡ cond (m == n) (Some key) None)
+    → (k : List ℕ) (n : ℕ) → key_at (insert groups at new) k n ≡ cond ((m == n) && same_guid guid k) (Some key) (key_at groups k n)
+key_insert groups new guid at m key own none c k n = elim (cases_Bool (same_guid guid k)) [
   | inl y ↦
       let e : find (is_group_of k) groups ≡ None = rw (← same_guid-true guid k y) none in
-      ap (option_and_then (λ h. find (is_on n) h.members)) (find_insert_new (is_group_of k) groups at (record { guid = guid; members = [] }) y e) ∙ sym (ap (option_and_then (λ h. find (is_on n) h.members)) e)
-  | inr f ↦ ap (option_and_then (λ h. find (is_on n) h.members)) (find_insert_other (is_group_of k) groups at (record { guid = guid; members = [] }) f)
+      ap (option_and_then (λ h. key_in h n)) (find_insert_new (is_group_of k) groups at new (rw own y) e)
+      ∙ rw (y, and_true (m == n)) (rw e (c n))
+  | inr f ↦ ap (option_and_then (λ h. key_in h n)) (find_insert_other (is_group_of k) groups at new (rw own f)) ∙ rw (f, and_false (m == n)) refl
 ]
 
--- ---- an interface comes, goes or changes
+pub groups_insert : (groups : List Group) (new : Group) (guid : List ℕ) (at : ℕ) → new.guid ≡ guid → AreGroups groups → find (is_group_of guid) groups ≡ None → at ≡ place (is_before guid) groups → 0 < length new.holders → AreGroups (insert groups at new)
+groups_insert groups new guid at own a none e l = record {
+  ascending = ascend_insert groups new at a.ascending (rw own none) (rw own e);
+  held = all_insert (λ h. 0 < length h.holders) groups at new a.held l;
+}
 
-member_added : (i : Interface) (g : Group) → find (is_on i.handle) g.members ≡ None → (n : ℕ) → find (is_on n) (with_member i g).members ≡ cond (is_on n i) (Some i) (find (is_on n) g.members)
-member_added i g none n = elim (cases_Bool (is_on n i)) [
-  | inl t ↦
-      let h : i.handle ≡ n = is_same i.handle n t in
-      rw t (find_insert_new (is_on n) g.members (place (λ j. nat_lt j.handle i.handle) g.members) i t (rw (← h) none))
-  | inr f ↦ rw f (find_insert_other (is_on n) g.members (place (λ j. nat_lt j.handle i.handle) g.members) i f)
+-- ---- a group goes
+
+pub not_none : (n : ℕ) → (n == 0) ≡ false → 0 < n
+not_none zero f = absurd cc
+not_none (suc n) f = omega arith
+
+-- no holders, no keys
+pub no_keys : (g : Group) → length g.holders ≡ 0 → (n : ℕ) → key_in g n ≡ None
+no_keys g e n = held_none g.holders e
+  where
+    held_none : (hs : List ℕ) → length hs ≡ 0 → key_beside hs g.keys n ≡ None
+    held_none [] z = refl
+    held_none (h ∷ hs) z = absurd (omega (arith, z))
+
+pub remove_set : {X : Type 0} (xs : List X) (at : ℕ) (y : X) → remove (set xs at y) at ≡ remove xs at
+remove_set [] zero y = refl
+remove_set [] (suc at) y = refl
+remove_set (x ∷ xs) zero y = refl
+remove_set (x ∷ xs) (suc at) y = ap (λ r. x ∷ r) (remove_set xs at y)
+
+find_remove_other : {X : Type 0} (q : X → Bool) (xs : List X) (at : ℕ) (x : X) → slice_get xs at ≡ Some x → q x ≡ false → find q (remove xs at) ≡ find q xs
+find_remove_other q [] zero x e f = refl
+find_remove_other q [] (suc at) x e f = refl
+find_remove_other q (z ∷ zs) zero x e f = let n : q z ≡ false = rw (same_Some z x e) f in rw n refl
+find_remove_other q (z ∷ zs) (suc at) x e f = ap (λ r. cond (q z) (Some z) r) (find_remove_other q zs at x e f)
+
+remove_split : {X : Type 0} (before tie : X → Bool) (xs : List X) → IsSplit before tie xs → find tie (remove xs (place before xs)) ≡ None
+remove_split before tie [] h = refl
+remove_split before tie (x ∷ xs) h = elim (cases_Bool (before x)) [
+  | inl e ↦ rw e (rw (h.0 e) (remove_split before tie xs h.2))
+  | inr e ↦ rw e (find_none tie xs (h.1 e))
 ]
 
-pub grouped_add : (groups : List Group) (at : ℕ) (g : Group) (i : Interface) → IsPlaceOf i.guid groups at → slice_get groups at ≡ Some g → find (is_on i.handle) g.members ≡ None
-    → HasOneMore i groups (set groups at (with_member i g))
-grouped_add groups at g i p e none k n = elim (cases_Bool (same_guid i.guid k)) [
-  | inl y ↦
-      grouped_set groups i.guid at g (with_member i g) p e refl k n
-      ∙ rw (y, and_true (i.handle == n)) (rw (← same_guid-true i.guid k y) (member_added i g none n ∙ ap (cond (is_on n i) (Some i)) (sym (grouped_there groups i.guid at g p e n))))
-  | inr f ↦ grouped_set groups i.guid at g (with_member i g) p e refl k n ∙ rw (f, and_false (i.handle == n)) refl
-]
-
-member_removed : (m : ℕ) (g : Group) (n : ℕ) → find (is_on n) (without_member m g).members ≡ cond (m == n) None (find (is_on n) g.members)
-member_removed m g n =
-    find_filter (is_on n) (λ i. not (is_on m i)) (not (n == m)) (λ i t. rw (is_same i.handle n t) refl) g.members
-    ∙ taken (n == m) (find (is_on n) g.members) None ∙ ap (λ b. cond b None (find (is_on n) g.members)) (turned n m)
-
-pub grouped_remove : (groups : List Group) (guid : List ℕ) (at : ℕ) (g : Group) (m : ℕ) → IsPlaceOf guid groups at → slice_get groups at ≡ Some g
-    → (k : List ℕ) (n : ℕ) → grouped_at (set groups at (without_member m g)) k n ≡ cond ((m == n) && same_guid guid k) None (grouped_at groups k n)
-grouped_remove groups guid at g m p e k n = elim (cases_Bool (same_guid guid k)) [
-  | inl y ↦
-      grouped_set groups guid at g (without_member m g) p e refl k n
-      ∙ rw (y, and_true (m == n)) (rw (← same_guid-true guid k y) (member_removed m g n ∙ ap (cond (m == n) None) (sym (grouped_there groups guid at g p e n))))
-  | inr f ↦ grouped_set groups guid at g (without_member m g) p e refl k n ∙ rw (f, and_false (m == n)) refl
-]
-
-member_changed : (m : ℕ) (guid : List ℕ) (value stamp : ℕ) (members : List Interface) (n : ℕ) → find (is_on n) (map (restamped m guid value stamp) members) ≡ option_map (restamped m guid value stamp) (find (is_on n) members)
-member_changed m guid value stamp members n = find_map (is_on n) (restamped m guid value stamp) (λ i. ap (λ h. h == n) (restamped_handle m guid value stamp i)) members
-
-abbrev pub changed_group : ℕ → ℕ → ℕ → Group → Group
-changed_group m value stamp g = record g { members = map (restamped m g.guid value stamp) g.members }
-
-pub grouped_replace : (groups : List Group) (guid : List ℕ) (at : ℕ) (g : Group) (m value stamp : ℕ) → IsPlaceOf guid groups at → slice_get groups at ≡ Some g
-    → (k : List ℕ) (n : ℕ)
-    → grouped_at (set groups at (changed_group m value stamp g)) k n ≡ cond (same_guid guid k) (option_map (restamped m guid value stamp) (grouped_at groups k n)) (grouped_at groups k n)
-grouped_replace groups guid at g m value stamp p e k n =
+-- the group of a GUID goes with the last of its holders
+pub key_removed : (groups : List Group) (guid : List ℕ) (at : ℕ) (g new : Group) (m : ℕ) → AscendByGuid groups → IsPlaceOf guid groups at → slice_get groups at ≡ Some g
+    → ((n : ℕ) → key_in new n ≡ cond (m == n) None (key_in g n)) → length new.holders ≡ 0
+    → (k : List ℕ) (n : ℕ) → key_at (remove groups at) k n ≡ cond ((m == n) && same_guid guid k) None (key_at groups k n)
+key_removed groups guid at g new m a p e c z k n =
     let same : g.guid ≡ guid = same_guid-true g.guid guid (found_of groups guid g (p.1 ∙ e)) in
     elim (cases_Bool (same_guid guid k)) [
       | inl y ↦
-          grouped_set groups guid at g (changed_group m value stamp g) p e refl k n
-          ∙ rw y (rw (← same_guid-true guid k y)
-          (member_changed m g.guid value stamp g.members n
-          ∙ ap (λ r. option_map (restamped m r value stamp) (find (is_on n) g.members)) same
-          ∙ ap (option_map (restamped m guid value stamp)) (sym (grouped_there groups guid at g p e n))))
-      | inr f ↦ grouped_set groups guid at g (changed_group m value stamp g) p e refl k n ∙ rw f refl
+          let none : find (is_group_of guid) (remove groups at) ≡ None = rw p.2 (remove_split (is_before guid) (is_group_of guid) groups (guid_splits guid groups a)) in
+          rw (y, and_true (m == n)) (rw (← same_guid-true guid k y)
+          (ap (option_and_then (λ h. key_in h n)) none ∙ sym (no_keys new z n) ∙ c n ∙ ap (cond (m == n) None) (sym (key_there groups guid at g p e n))))
+      | inr f ↦
+          rw (f, and_false (m == n)) (ap (option_and_then (λ h. key_in h n)) (find_remove_other (is_group_of k) groups at g e (other_guid guid k g.guid same f)))
     ]
 
--- ---- all groups change
+pub groups_remove : (groups : List Group) (at : ℕ) → AreGroups groups → AreGroups (remove groups at)
+groups_remove groups at a = record {
+  ascending = rw (map_remove (λ g. g.guid) groups at) (ascending_remove (λ x y. slice_cmp nat_cmp x y ≡ Less) (map (λ g. g.guid) groups) at a.ascending);
+  held = all_remove (λ h. 0 < length h.holders) groups at a.held;
+}
 
-pub ascend_without : (m : ℕ) (groups : List Group) → AscendByGuid groups → AscendByGuid (map (without_member m) groups)
-ascend_without m groups a = subst (Ascending (λ x y. slice_cmp nat_cmp x y ≡ Less)) (sym (map_same (without_member m) (λ g. g.guid) (λ g. refl) groups)) a
-
-each_without : (m n : ℕ) (o : Option Group) → option_and_then (λ g. find (is_on n) g.members) (option_map (without_member m) o) ≡ cond (m == n) None (option_and_then (λ g. find (is_on n) g.members) o)
-each_without m n None = elim (cases_Bool (m == n)) [
-  | inl e ↦ rw e refl
-  | inr e ↦ rw e refl
+-- no group, no key
+pub none_there : (groups : List Group) (guid : List ℕ) (m : ℕ) → find (is_group_of guid) groups ≡ None → (k : List ℕ) (n : ℕ) → key_at groups k n ≡ cond ((m == n) && same_guid guid k) None (key_at groups k n)
+none_there groups guid m none k n = elim (cases_Bool (same_guid guid k)) [
+  | inl y ↦
+      let e : find (is_group_of k) groups ≡ None = rw (← same_guid-true guid k y) none in
+      rw (y, and_true (m == n)) (same_either (m == n) (key_at groups k n) (ap (option_and_then (λ h. key_in h n)) e))
+  | inr f ↦ rw (f, and_false (m == n)) refl
 ]
-each_without m n (Some g) = member_removed m g n
+  where
+    same_either : (b : Bool) (o : Option ℕ) → o ≡ None → o ≡ cond b None o
+    same_either true o e = e
+    same_either false o e = refl
 
-pub grouped_without : (m : ℕ) (groups : List Group) (k : List ℕ) (n : ℕ) → grouped_at (map (without_member m) groups) k n ≡ cond (m == n) None (grouped_at groups k n)
-grouped_without m groups k n =
-    ap (option_and_then (λ g. find (is_on n) g.members)) (find_map (is_group_of k) (without_member m) (λ g. refl) groups) ∙ each_without m n (find (is_group_of k) groups)
-
--- ---- what is told
-
-pub holders_told : (groups : List Group) (guid : List ℕ) (g : Group) → Some g ≡ find (is_group_of guid) groups → (n : ℕ) → list_any (λ h. h == n) (handles_of g.members) ≡ is_some (grouped_at groups guid n)
-holders_told groups guid g e n =
-    any_map (λ (i : Interface). i.handle) (λ h. h == n) g.members ∙ sym (any_found (is_on n) g.members)
-    ∙ ap (λ o. is_some (option_and_then (λ h. find (is_on n) h.members) o)) e
+-- the handles of a group are those that have a key in it
+pub holders_told : (groups : List Group) (guid : List ℕ) (g : Group) → Some g ≡ find (is_group_of guid) groups → length g.holders ≡ length g.keys → (n : ℕ) → list_any (λ h. h == n) g.holders ≡ is_some (key_at groups guid n)
+holders_told groups guid g e even n = any_beside n g.holders g.keys even ∙ ap (λ o. is_some (option_and_then (λ h. key_in h n) o)) e
+  where
+    any_beside : (n : ℕ) (hs ks : List ℕ) → length hs ≡ length ks → list_any (λ h. h == n) hs ≡ is_some (key_beside hs ks n)
+    any_beside n [] ks e = refl
+    any_beside n (h ∷ hs) [] e = absurd (omega (arith, e))
+    any_beside n (h ∷ hs) (k ∷ ks) e = elim (cases_Bool (h == n)) [
+      | inl t ↦ rw t refl
+      | inr f ↦ rw f (any_beside n hs ks (omega (arith, e)))
+    ]
 
 pub got : {X : Type 0} (xs : List X) (at : ℕ) (x : X) → at < length xs → x ≡ get_or xs at x → slice_get xs at ≡ Some x
 got [] at x l e = absurd (omega arith)

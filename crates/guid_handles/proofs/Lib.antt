@@ -1,10 +1,13 @@
 pub mod SortedLists
+pub mod Filters
 pub mod GuidOrder
 pub mod Indexed
-pub mod Stored
-pub mod Found
 pub mod Grouped
-pub mod BlockLists
+pub mod Beside
+pub mod Numbered
+pub mod Slotted
 pub mod Filed
 pub mod Apart
+pub mod Found
+pub mod Stored
 pub mod Following

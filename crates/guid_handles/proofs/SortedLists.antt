@@ -10,6 +10,7 @@ use Rattle.std.specs.declared.cmp.Ordering.TheVariants.{Less, Equal, Greater}
 use Rattle.std.proofs.lemmas.List.Elements.{filter_more}
 use Rattle.std.proofs.lemmas.Bool.{cases_Bool, ne_eqb, ltb-true, ltb-false, le-ltb}
 use Rattle.std.proofs.lemmas.Bool.Decides.{eqb_tells}
+use Rattle.std.proofs.lemmas.Option.{same_Some}
 use Rattle.guid_handles.specs.HandleTables.{written_over}
 use Rattle.guid_handles.specs.Sorting.{Ascending, place, kept_if}
 
@@ -278,7 +279,7 @@ those_among (n ∷ ns) (h ∷ hs) a b m = elim (eqb_tells h n) [
 
 -- ---- numbered items
 
-all_numbered : {X : Type 0} (number : X → ℕ) (P Q : ℕ → Type 0) → ((m : ℕ) → P m → Q m) → (xs : List X) → AllByRecursion P (map number xs) → AllByRecursion (λ x. Q (number x)) xs
+pub all_numbered : {X : Type 0} (number : X → ℕ) (P Q : ℕ → Type 0) → ((m : ℕ) → P m → Q m) → (xs : List X) → AllByRecursion P (map number xs) → AllByRecursion (λ x. Q (number x)) xs
 all_numbered number P Q f [] h = tt
 all_numbered number P Q f (x ∷ xs) h = (f (number x) h.0, all_numbered number P Q f xs h.1)
 
@@ -404,7 +405,7 @@ map_remove f [] (suc at) = refl
 map_remove f (x ∷ xs) zero = refl
 map_remove f (x ∷ xs) (suc at) = ap (λ r. f x ∷ r) (map_remove f xs at)
 
-filter_whole : {X : Type 0} (p : X → Bool) (xs : List X) → AllByRecursion (λ x. p x ≡ false) xs → filter (λ x. not (p x)) xs ≡ xs
+pub filter_whole : {X : Type 0} (p : X → Bool) (xs : List X) → AllByRecursion (λ x. p x ≡ false) xs → filter (λ x. not (p x)) xs ≡ xs
 filter_whole p [] h = refl
 filter_whole p (x ∷ xs) h = rw h.0 (ap (λ r. x ∷ r) (filter_whole p xs h.1))
 
@@ -435,3 +436,23 @@ filter_not_at number n xs a h =
     (found_none (λ x. number x == n) xs
     (find_split (λ x. nat_lt (number x) n) (λ x. number x == n) xs (numbers_split number n xs a)
     ∙ none_some (kept_if (λ x. number x == n) (slice_get xs (place (λ x. nat_lt (number x) n) xs))) h))
+
+-- ---- one takes the place of another
+
+pub set_same : {X Y : Type 0} (f : X → Y) (xs : List X) (at : ℕ) (x y : X) → slice_get xs at ≡ Some x → f y ≡ f x → map f (set xs at y) ≡ map f xs
+set_same f [] zero x y e s = refl
+set_same f [] (suc at) x y e s = refl
+set_same f (z ∷ zs) zero x y e s = let n : f y ≡ f z = s ∙ ap f (sym (same_Some z x e)) in ap (λ r. r ∷ map f zs) n
+set_same f (z ∷ zs) (suc at) x y e s = ap (λ r. f z ∷ r) (set_same f zs at x y e s)
+
+pub all_set : {X : Type 0} (P : X → Type 0) (xs : List X) (at : ℕ) (y : X) → AllByRecursion P xs → P y → AllByRecursion P (set xs at y)
+all_set P [] zero y h p = tt
+all_set P [] (suc at) y h p = tt
+all_set P (x ∷ xs) zero y h p = (p, h.1)
+all_set P (x ∷ xs) (suc at) y h p = (h.0, all_set P xs at y h.1 p)
+
+pub got_all : {X : Type 0} (P : X → Type 0) (xs : List X) (at : ℕ) (x : X) → AllByRecursion P xs → slice_get xs at ≡ Some x → P x
+got_all P [] zero x h e = absurd cc
+got_all P [] (suc at) x h e = absurd cc
+got_all P (y ∷ ys) zero x h e = subst P (same_Some y x e) h.0
+got_all P (y ∷ ys) (suc at) x h e = got_all P ys at x h.1 e

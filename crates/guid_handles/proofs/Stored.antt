@@ -1,46 +1,44 @@
 -- What is asked of a handle table, by how it is kept; and what its changes keep.
-use Rattle.std.proofs.Common.{◌≡◌, ℕ, ◌+◌, ◌<◌, ◌≤◌, ◌==◌, nat_eq, not, Bool, true, false, List, [], ◌∷◌, ◌++◌, map, length, Option, Some, None, is_some, inl, inr, refl, sym, ap, ◌∙◌, arith, length-append, subst}
-use Rattle.std.specs.List.{filter, find, list_any, AllByRecursion}
-use Rattle.std.proofs.lemmas.Bool.{cases_Bool, ne_eqb, eq-eqb}
+use Rattle.std.proofs.Common.{◌≡◌, ◌≢◌, ℕ, zero, suc, ◌+◌, ◌-◌, ◌<◌, ◌≤◌, ◌==◌, ◌&&◌, nat_eq, not, Bool, true, false, cond, List, [], ◌∷◌, ◌++◌, map, length, Option, Some, None, is_some, inl, inr, refl, sym, ap, ◌∙◌, arith, append-nil, length-append, subst}
+use Rattle.std.specs.List.{filter, find, list_any, slice_get, AllByRecursion, AllZip}
+use Rattle.std.specs.Option.{option_map, option_and_then, option_to_list}
+use Rattle.std.proofs.lemmas.Bool.{cases_Bool, cases_eq, ne_eqb, eq-eqb}
+use Rattle.std.proofs.lemmas.Bool.Decides.{eqb_tells}
+use Rattle.std.proofs.lemmas.Option.{same_Some}
+use Rattle.std.proofs.lemmas.List.Elements.{same_from_all_zip}
+use Rattle.slab.specs.Slab.{IsSlotClone}
 use Rattle.guid_handles.specs.declared.records.Interface.{Interface}
 use Rattle.guid_handles.specs.declared.records.LiveHandle.{LiveHandle}
-use Rattle.guid_handles.specs.HandleTables.{HandleTable, numbers, is_on, is_at, is_live, has_number, carries, holders_of}
+use Rattle.guid_handles.specs.declared.records.Record.{Record}
+use Rattle.guid_handles.specs.HandleTables.{HandleTable, numbers, same_guid, is_on, is_at, is_live, has_number, carries, holders_of}
 use Rattle.guid_handles.specs.HandleChanges.{IsHandleTable, max_handles, is_taken, has_guid_twice, stamped, restamped, with_interfaces, with_handle, with_value, without_handle}
 use Rattle.guid_handles.specs.Sorting.{Ascending}
-use Rattle.guid_handles.specs.Indexes.{Group, grouped_at, AreOn, AreAbsent}
-use Rattle.guid_handles.specs.Nearby.{Block, AreFiled}
-use Rattle.guid_handles.specs.Stores.{AreApart, IsStore}
-use Rattle.guid_handles.proofs.SortedLists.{those_among, filter_same, all_of, all_map, all_mapped, all_push, all_append, all_filter, all_filtered, any_map, any_found, any_push, any_last, any_kept, any_member, filter_map_filter, filter_shorter, map_append, ascending_filter, ascending_push, find_none}
+use Rattle.guid_handles.specs.Indexes.{Row, Group, ChangesKeys, AreOn, AreAbsent, lives, is_row_of, row_numbers, keys_of, keys_on, key_at}
+use Rattle.guid_handles.specs.Slots.{at_key, at_keys, record_at, installed_until, with_stamp}
+use Rattle.guid_handles.specs.Stores.{AreApart, HaveInterfaces, IsStamped, IsStore, IsTable, table_of}
+use Rattle.guid_handles.proofs.SortedLists.{all_both, all_numbered, any_none, find_filter, find_push_other, those_among, filter_same, filter_whole, all_of, all_map, all_mapped, all_push, all_append, all_filter, all_filtered, any_map, any_found, any_push, any_last, any_kept, any_member, filter_map_filter, filter_shorter, map_append, ascending_filter, ascending_push, find_none, found_none}
+use Rattle.guid_handles.proofs.Filters.{filter_append, filter_inside, filter_swap, passed}
 use Rattle.guid_handles.proofs.Indexed.{restamped_handle}
+use Rattle.guid_handles.proofs.GuidOrder.{and_false, same_guid-refl}
 use Rattle.guid_handles.proofs.Apart.{apart_more, apart_restamped, below_more, below_restamped}
-use Rattle.guid_handles.proofs.Found.{among_own, carried_live, live_is}
+use Rattle.guid_handles.proofs.Found.{among_own, carried_live, found_one, live_is}
+use Rattle.guid_handles.proofs.Numbered.{find_lives, live_numbers}
+use Rattle.guid_handles.proofs.Slotted.{AreBelow, tagged, until_changed, until_later, until_less, until_more}
+use Rattle.guid_handles.proofs.Grouped.{is_same, none_of, some_map}
+use Rattle.guid_handles.proofs.Filed.{found_at, have_these, filed_changed, filed_less, filed_more, keyed_at, only_one}
 
--- the handles of a GUID are those on which the groups have it
-pub by_guid : (t : HandleTable) (ns : List ℕ) (groups : List Group) (blocks : List Block) → IsStore t ns groups blocks → (guid hs : List ℕ) → Ascending (λ a b. a < b) hs
-    → ((n : ℕ) → list_any (λ h. h == n) hs ≡ is_some (grouped_at groups guid n)) → hs ≡ holders_of t guid
-by_guid t ns groups blocks s guid hs ascending those =
-    let told : (n : ℕ) → list_any (λ h. h == n) hs ≡ carries t guid n = λ n. those n ∙ ap is_some (s.filed.by_guid n guid) in
-    sym (filter_same (carries t guid) (λ n. list_any (λ h. h == n) hs) (numbers t) (all_of (λ n. carries t guid n ≡ list_any (λ h. h == n) hs) (λ n. sym (told n)) (numbers t))
-    ∙ those_among (numbers t) hs s.table.ascending ascending
-    (all_map (λ h. list_any (λ k. nat_eq k h) hs ≡ true) (λ h. list_any (λ n. nat_eq n h) (numbers t) ≡ true)
-    (λ h m. sym (live_is t h) ∙ carried_live t s.table guid h (sym (told h) ∙ m)) hs (among_own hs)))
+-- ---- tables
 
--- ---- fewer
-
-pub store_without_interface : (t : HandleTable) (ns : List ℕ) (groups gs : List Group) (blocks bs : List Block) (n : ℕ) (guid : List ℕ) → IsStore t ns groups blocks
-    → AreFiled (filter (λ i. not (is_at n guid i)) t.interfaces) gs bs
-    → IsStore (record t { interfaces = filter (λ i. not (is_at n guid i)) t.interfaces }) ns gs bs
-store_without_interface t ns groups gs blocks bs n guid s filed = record {
-  table = record {
-    ascending = s.table.ascending;
-    given = s.table.given;
-    limit = s.table.limit;
-    on_live = all_filter (λ i. list_any (λ m. nat_eq m i.handle) (numbers t) ≡ true) (λ i. not (is_at n guid i)) t.interfaces s.table.on_live;
+pub table_without_interface : (t : HandleTable) (n : ℕ) (guid : List ℕ) → IsTable t → IsTable (record t { interfaces = filter (λ i. not (is_at n guid i)) t.interfaces })
+table_without_interface t n guid s = record {
+  proper = record {
+    ascending = s.proper.ascending;
+    given = s.proper.given;
+    limit = s.proper.limit;
+    on_live = all_filter (λ i. list_any (λ m. nat_eq m i.handle) (numbers t) ≡ true) (λ i. not (is_at n guid i)) t.interfaces s.proper.on_live;
   };
-  numbered = s.numbered;
   apart = ascending_filter AreApart (λ i. not (is_at n guid i)) t.interfaces s.apart;
   below = all_filter (λ i. i.stamp ≤ t.last_stamp) (λ i. not (is_at n guid i)) t.interfaces s.below;
-  filed = filed;
 }
 
 left_on_live : (n : ℕ) (ns : List ℕ) (is : List Interface) → AreOn ns is → AreOn (filter (λ m. not (m == n)) ns) (filter (λ i. not (is_on n i)) is)
@@ -48,63 +46,36 @@ left_on_live n ns is a =
     all_filtered (λ i. list_any (λ m. nat_eq m i.handle) (filter (λ m. not (m == n)) ns) ≡ true) (λ i. list_any (λ m. nat_eq m i.handle) ns ≡ true) (λ i. not (is_on n i))
     (λ i k h. any_kept i.handle (λ m. not (m == n)) ns k h) is a
 
-pub store_without_handle : (t : HandleTable) (ns : List ℕ) (groups gs : List Group) (blocks bs : List Block) (n : ℕ) → IsStore t ns groups blocks
-    → AreFiled (filter (λ i. not (is_on n i)) t.interfaces) gs bs
-    → IsStore (without_handle n t) (filter (λ m. not (m == n)) ns) gs bs
-store_without_handle t ns groups gs blocks bs n s filed =
+table_without_handle : (t : HandleTable) (n : ℕ) → IsTable t → IsTable (without_handle n t)
+table_without_handle t n s =
     let e : numbers (without_handle n t) ≡ filter (λ m. not (m == n)) (numbers t) = filter_map_filter (λ (h : LiveHandle). h.number) (λ m. not (m == n)) t.handles in
     record {
-      table = record {
-        ascending = rw e (ascending_filter (λ a b. a < b) (λ m. not (m == n)) (numbers t) s.table.ascending);
-        given = rw e (all_filter (λ m. (0 < m) × (m ≤ t.last_number)) (λ m. not (m == n)) (numbers t) s.table.given);
-        limit = omega (arith, s.table.limit, filter_shorter (λ h. not (has_number n h)) t.handles);
-        on_live = rw e (left_on_live n (numbers t) t.interfaces s.table.on_live);
+      proper = record {
+        ascending = rw e (ascending_filter (λ a b. a < b) (λ m. not (m == n)) (numbers t) s.proper.ascending);
+        given = rw e (all_filter (λ m. (0 < m) × (m ≤ t.last_number)) (λ m. not (m == n)) (numbers t) s.proper.given);
+        limit = omega (arith, s.proper.limit, filter_shorter (λ h. not (has_number n h)) t.handles);
+        on_live = rw e (left_on_live n (numbers t) t.interfaces s.proper.on_live);
       };
-      numbered = rw (e, s.numbered);
       apart = ascending_filter AreApart (λ i. not (is_on n i)) t.interfaces s.apart;
       below = all_filter (λ i. i.stamp ≤ t.last_stamp) (λ i. not (is_on n i)) t.interfaces s.below;
-      filed = filed;
     }
-
--- where no interface is on a handle none goes with it
-pub none_goes : (n : ℕ) (is : List Interface) → list_any (is_on n) is ≡ false → filter (λ i. not (is_on n i)) is ≡ is
-none_goes n [] e = refl
-none_goes n (i ∷ is) e = elim (cases_Bool (is_on n i)) [
-  | inl t ↦ let w = rw t at e in cc
-  | inr f ↦ rw f (ap (λ r. i ∷ r) (none_goes n is (rw f at e)))
-]
-
-pub store_without_bare : (t : HandleTable) (ns : List ℕ) (groups : List Group) (blocks : List Block) (n : ℕ) → IsStore t ns groups blocks → list_any (is_on n) t.interfaces ≡ false
-    → IsStore (record t { handles = filter (λ h. not (has_number n h)) t.handles }) (filter (λ m. not (m == n)) ns) groups blocks
-store_without_bare t ns groups blocks n s bare =
-    let e : filter (λ i. not (is_on n i)) t.interfaces ≡ t.interfaces = none_goes n t.interfaces bare in
-    subst (λ (is : List Interface). IsStore (record t { handles = filter (λ h. not (has_number n h)) t.handles; interfaces = is }) (filter (λ m. not (m == n)) ns) groups blocks) e
-    (store_without_handle t ns groups groups blocks blocks n s (subst (λ (is : List Interface). AreFiled is groups blocks) (sym e) s.filed))
-
--- ---- changed
 
 restamped_on_live : (n : ℕ) (guid : List ℕ) (value stamp : ℕ) (ns : List ℕ) (is : List Interface) → AreOn ns is → AreOn ns (map (restamped n guid value stamp) is)
 restamped_on_live n guid value stamp ns is a =
     all_mapped (λ i. list_any (λ m. nat_eq m i.handle) ns ≡ true) (λ i. list_any (λ m. nat_eq m i.handle) ns ≡ true) (restamped n guid value stamp)
     (λ i h. rw (restamped_handle n guid value stamp i) h) is a
 
-pub store_with_value : (t : HandleTable) (ns : List ℕ) (groups gs : List Group) (blocks bs : List Block) (n : ℕ) (guid : List ℕ) (value : ℕ) → IsStore t ns groups blocks
-    → AreFiled (map (restamped n guid value (t.last_stamp + 1)) t.interfaces) gs bs
-    → IsStore (with_value n guid value t) ns gs bs
-store_with_value t ns groups gs blocks bs n guid value s filed = record {
-  table = record {
-    ascending = s.table.ascending;
-    given = s.table.given;
-    limit = s.table.limit;
-    on_live = restamped_on_live n guid value (t.last_stamp + 1) (numbers t) t.interfaces s.table.on_live;
+table_with_value : (t : HandleTable) (n : ℕ) (guid : List ℕ) (value : ℕ) → IsTable t → IsTable (with_value n guid value t)
+table_with_value t n guid value s = record {
+  proper = record {
+    ascending = s.proper.ascending;
+    given = s.proper.given;
+    limit = s.proper.limit;
+    on_live = restamped_on_live n guid value (t.last_stamp + 1) (numbers t) t.interfaces s.proper.on_live;
   };
-  numbered = s.numbered;
   apart = apart_restamped n guid value t.last_stamp t.interfaces s.below s.apart;
   below = below_restamped n guid value t.last_stamp t.interfaces s.below;
-  filed = filed;
 }
-
--- ---- more
 
 stamped_on : (P : ℕ → Bool) (n stamp : ℕ) (pairs : List (List ℕ × ℕ)) → P n ≡ true → AllByRecursion (λ i. P i.handle ≡ true) (stamped n stamp pairs)
 stamped_on P n stamp [] h = tt
@@ -114,45 +85,38 @@ stamped_on P n stamp (p ∷ ps) h = (h, stamped_on P n (stamp + 1) ps h)
 pub live_number : (t : HandleTable) (n : ℕ) → is_live t n ≡ true → list_any (λ m. nat_eq m n) (numbers t) ≡ true
 live_number t n h = any_map (λ (l : LiveHandle). l.number) (λ m. nat_eq m n) t.handles ∙ sym (any_found (has_number n) t.handles) ∙ h
 
-pub store_with_interfaces : (t : HandleTable) (ns : List ℕ) (groups gs : List Group) (blocks bs : List Block) (n : ℕ) (pairs : List (List ℕ × ℕ)) → IsStore t ns groups blocks → is_live t n ≡ true → AreAbsent n pairs t.interfaces → has_guid_twice pairs ≡ false
-    → AreFiled (t.interfaces ++ stamped n t.last_stamp pairs) gs bs
-    → IsStore (with_interfaces n pairs t) ns gs bs
-store_with_interfaces t ns groups gs blocks bs n pairs s live absent once filed = record {
-  table = record {
-    ascending = s.table.ascending;
-    given = s.table.given;
-    limit = s.table.limit;
-    on_live = all_append (λ i. list_any (λ m. nat_eq m i.handle) (numbers t) ≡ true) t.interfaces (stamped n t.last_stamp pairs) s.table.on_live
+table_with_interfaces : (t : HandleTable) (n : ℕ) (pairs : List (List ℕ × ℕ)) → IsTable t → is_live t n ≡ true → AreAbsent n pairs t.interfaces → has_guid_twice pairs ≡ false → IsTable (with_interfaces n pairs t)
+table_with_interfaces t n pairs s live absent once = record {
+  proper = record {
+    ascending = s.proper.ascending;
+    given = s.proper.given;
+    limit = s.proper.limit;
+    on_live = all_append (λ i. list_any (λ m. nat_eq m i.handle) (numbers t) ≡ true) t.interfaces (stamped n t.last_stamp pairs) s.proper.on_live
         (stamped_on (λ h. list_any (λ m. nat_eq m h) (numbers t)) n t.last_stamp pairs (live_number t n live));
   };
-  numbered = s.numbered;
   apart = apart_more n t.last_stamp pairs t.interfaces absent once s.below s.apart;
   below = below_more n t.last_stamp pairs t.interfaces s.below;
-  filed = filed;
 }
 
 with_handle_on_live : (n : ℕ) (ns : List ℕ) (is : List Interface) → AreOn ns is → AreOn (ns ++ n ∷ []) is
 with_handle_on_live n ns is a =
     all_map (λ i. list_any (λ m. nat_eq m i.handle) ns ≡ true) (λ i. list_any (λ m. nat_eq m i.handle) (ns ++ n ∷ []) ≡ true) (λ i h. any_push (λ m. nat_eq m i.handle) ns n h) is a
 
-pub store_with_handle : (t : HandleTable) (ns : List ℕ) (groups : List Group) (blocks : List Block) (maker : Option (ℕ × ℕ)) → IsStore t ns groups blocks → length t.handles < max_handles
-    → IsStore (with_handle maker t) (ns ++ (t.last_number + 1) ∷ []) groups blocks
-store_with_handle t ns groups blocks maker s room =
+table_with_handle : (t : HandleTable) (maker : Option (ℕ × ℕ)) → IsTable t → length t.handles < max_handles → IsTable (with_handle maker t)
+table_with_handle t maker s room =
     let e : numbers (with_handle maker t) ≡ numbers t ++ (t.last_number + 1) ∷ [] = map_append (λ (h : LiveHandle). h.number) t.handles (record { number = t.last_number + 1; maker = maker } ∷ []) in
     record {
-      table = record {
-        ascending = rw e (ascending_push (λ a b. a < b) (numbers t) (t.last_number + 1) s.table.ascending
-            (all_map (λ m. (0 < m) × (m ≤ t.last_number)) (λ m. m < t.last_number + 1) (λ m h. omega (arith, h.1)) (numbers t) s.table.given));
+      proper = record {
+        ascending = rw e (ascending_push (λ a b. a < b) (numbers t) (t.last_number + 1) s.proper.ascending
+            (all_map (λ m. (0 < m) × (m ≤ t.last_number)) (λ m. m < t.last_number + 1) (λ m h. omega (arith, h.1)) (numbers t) s.proper.given));
         given = rw e (all_push (λ m. (0 < m) × (m ≤ t.last_number + 1)) (numbers t) (t.last_number + 1)
-            (all_map (λ m. (0 < m) × (m ≤ t.last_number)) (λ m. (0 < m) × (m ≤ t.last_number + 1)) (λ m h. (h.0, omega (arith, h.1))) (numbers t) s.table.given)
+            (all_map (λ m. (0 < m) × (m ≤ t.last_number)) (λ m. (0 < m) × (m ≤ t.last_number + 1)) (λ m h. (h.0, omega (arith, h.1))) (numbers t) s.proper.given)
             (omega arith, omega arith));
         limit = rw length-append (omega (arith, room));
-        on_live = rw e (with_handle_on_live (t.last_number + 1) (numbers t) t.interfaces s.table.on_live);
+        on_live = rw e (with_handle_on_live (t.last_number + 1) (numbers t) t.interfaces s.proper.on_live);
       };
-      numbered = rw (e, s.numbered);
       apart = s.apart;
       below = s.below;
-      filed = s.filed;
     }
 
 -- the new handle is live
@@ -174,10 +138,6 @@ pub absent_on_new : (t : HandleTable) → IsHandleTable t → (pairs : List (Lis
 absent_on_new t h [] = tt
 absent_on_new t h (p ∷ ps) = (find_none (is_at (t.last_number + 1) p.0) t.interfaces (none_on_new t h p.0 t.interfaces h.on_live), absent_on_new t h ps)
 
--- nothing comes
-pub store_same : (t : HandleTable) (ns : List ℕ) (groups gs : List Group) (blocks bs : List Block) → IsStore t ns groups blocks → AreFiled t.interfaces gs bs → IsStore t ns gs bs
-store_same t ns groups gs blocks bs s filed = record { table = s.table; numbered = s.numbered; apart = s.apart; below = s.below; filed = filed }
-
 none_found : {X : Type 0} (o : Option X) → is_some o ≡ false → o ≡ None
 none_found None h = refl
 none_found (Some x) h = cc
@@ -189,9 +149,438 @@ absent_from t n (p ∷ ps) z h = elim (cases_Bool (is_taken t n p.0)) [
   | inr e ↦ (none_found (find (is_at n p.0) t.interfaces) (rw z at e), absent_from t n ps z (rw e at h))
 ]
 
--- a new handle comes, with interfaces on it
-pub store_with_new : (t : HandleTable) (ns : List ℕ) (groups gs : List Group) (blocks bs : List Block) (maker : Option (ℕ × ℕ)) (pairs : List (List ℕ × ℕ)) → IsStore t ns groups blocks → length t.handles < max_handles → AreAbsent (t.last_number + 1) pairs t.interfaces → has_guid_twice pairs ≡ false
-    → AreFiled (t.interfaces ++ stamped (t.last_number + 1) t.last_stamp pairs) gs bs
-    → IsStore (with_interfaces (t.last_number + 1) pairs (with_handle maker t)) (ns ++ (t.last_number + 1) ∷ []) gs bs
-store_with_new t ns groups gs blocks bs maker pairs s room absent once filed =
-    store_with_interfaces (with_handle maker t) (ns ++ (t.last_number + 1) ∷ []) groups gs blocks bs (t.last_number + 1) pairs (store_with_handle t ns groups blocks maker s room) (new_is_live t maker) absent once filed
+-- where no interface is on a handle none goes with it
+pub none_goes : (n : ℕ) (is : List Interface) → list_any (is_on n) is ≡ false → filter (λ i. not (is_on n i)) is ≡ is
+none_goes n [] e = refl
+none_goes n (i ∷ is) e = elim (cases_Bool (is_on n i)) [
+  | inl t ↦ let w = rw t at e in cc
+  | inr f ↦ rw f (ap (λ r. i ∷ r) (none_goes n is (rw f at e)))
+]
+
+-- ---- taken back
+
+-- the interface that was installed last goes, and the others stay
+without_last : (n : ℕ) (guid : List ℕ) (value : ℕ) (t : HandleTable)
+    → filter (λ i. not (is_at n guid i)) (with_interfaces n ((guid, value) ∷ []) t).interfaces ≡ filter (λ i. not (is_at n guid i)) t.interfaces
+without_last n guid value t =
+    let i : Interface = record { handle = n; guid = guid; value = value; stamp = t.last_stamp + 1 } in
+    let own : is_at n guid i ≡ true = rw (eq-eqb n n refl) (same_guid-refl guid) in
+    filter_append (λ x. not (is_at n guid x)) t.interfaces (i ∷ []) ∙ rw own (append-nil (filter (λ x. not (is_at n guid x)) t.interfaces))
+
+pub newest_one : (n : ℕ) (guid : List ℕ) (value : ℕ) (t : HandleTable) → AllByRecursion (λ i. i.stamp ≤ t.last_stamp) t.interfaces
+    → AllByRecursion (λ i. i.stamp < t.last_stamp + 1) (filter (λ i. not (is_at n guid i)) (with_interfaces n ((guid, value) ∷ []) t).interfaces)
+newest_one n guid value t below =
+    rw (without_last n guid value t) (all_filter (λ i. i.stamp < t.last_stamp + 1) (λ i. not (is_at n guid i)) t.interfaces
+    (all_map (λ i. i.stamp ≤ t.last_stamp) (λ i. i.stamp < t.last_stamp + 1) (λ i l. omega (arith, l)) t.interfaces below))
+
+pub back_again : (n : ℕ) (guid : List ℕ) (value : ℕ) (t : HandleTable) → find (is_at n guid) t.interfaces ≡ None
+    → record (with_interfaces n ((guid, value) ∷ []) t) { interfaces = filter (λ i. not (is_at n guid i)) (with_interfaces n ((guid, value) ∷ []) t).interfaces; last_stamp = t.last_stamp + 1 - 1 } ≡ t
+back_again n guid value t absent =
+    let same : filter (λ i. not (is_at n guid i)) (with_interfaces n ((guid, value) ∷ []) t).interfaces ≡ t.interfaces =
+    without_last n guid value t ∙ filter_whole (is_at n guid) t.interfaces (found_none (is_at n guid) t.interfaces absent) in
+    let stamp : t.last_stamp + 1 - 1 ≡ t.last_stamp = omega arith in
+    rw (same, stamp) refl
+
+pub still_absent : (n : ℕ) (t : HandleTable) (p : List ℕ × ℕ) (ps : List (List ℕ × ℕ)) → AllByRecursion (λ q. same_guid p.0 q.0 ≡ false) ps → AreAbsent n ps t.interfaces → AreAbsent n ps (with_interfaces n (p ∷ []) t).interfaces
+still_absent n t p ps d a =
+    all_both (λ q. same_guid p.0 q.0 ≡ false) (λ q. find (is_at n q.0) t.interfaces ≡ None) (λ q. find (is_at n q.0) (with_interfaces n (p ∷ []) t).interfaces ≡ None)
+    (λ q f e.
+    let i : Interface = record { handle = n; guid = p.0; value = p.1; stamp = t.last_stamp + 1 } in
+    let other : is_at n q.0 i ≡ false = rw f (and_false (n == n)) in
+    find_push_other (is_at n q.0) t.interfaces i other ∙ e) ps d a
+
+pub none_is_on : (t : HandleTable) → IsHandleTable t → list_any (is_on (t.last_number + 1)) t.interfaces ≡ false
+none_is_on t h =
+    any_none (is_on (t.last_number + 1)) t.interfaces
+    (all_map (λ i. list_any (λ m. nat_eq m i.handle) (numbers t) ≡ true) (λ i. is_on (t.last_number + 1) i ≡ false)
+    (λ i k.
+    let l : (0 < i.handle) × (i.handle ≤ t.last_number) = any_member i.handle (numbers t) (λ m. (0 < m) × (m ≤ t.last_number)) h.given k in
+    ne_eqb i.handle (t.last_number + 1) (λ e. omega (arith, l.1, e))) t.interfaces h.on_live)
+
+pub lower_numbers : (t : HandleTable) (maker : Option (ℕ × ℕ)) → IsHandleTable t → AllByRecursion (λ n. n < t.last_number + 1) (filter (λ n. not (n == t.last_number + 1)) (numbers (with_handle maker t)))
+lower_numbers t maker h =
+    let own : (t.last_number + 1 == t.last_number + 1) ≡ true = eq-eqb (t.last_number + 1) (t.last_number + 1) refl in
+    rw (map_append (λ (x : LiveHandle). x.number) t.handles (record { number = t.last_number + 1; maker = maker } ∷ []), filter_append (λ n. not (n == t.last_number + 1)) (numbers t) ((t.last_number + 1) ∷ []))
+    (rw own (rw (append-nil (filter (λ n. not (n == t.last_number + 1)) (numbers t)))
+    (all_filter (λ n. n < t.last_number + 1) (λ n. not (n == t.last_number + 1)) (numbers t)
+    (all_map (λ m. (0 < m) × (m ≤ t.last_number)) (λ m. m < t.last_number + 1) (λ m k. omega (arith, k.1)) (numbers t) h.given))))
+
+pub unmade_again : (t : HandleTable) (maker : Option (ℕ × ℕ)) → IsHandleTable t → record (without_handle (t.last_number + 1) (with_handle maker t)) { last_number = t.last_number + 1 - 1 } ≡ t
+unmade_again t maker h =
+    let own : (t.last_number + 1 == t.last_number + 1) ≡ true = eq-eqb (t.last_number + 1) (t.last_number + 1) refl in
+    let handles : filter (λ l. not (has_number (t.last_number + 1) l)) (with_handle maker t).handles ≡ t.handles =
+    filter_append (λ l. not (has_number (t.last_number + 1) l)) t.handles (record { number = t.last_number + 1; maker = maker } ∷ [])
+    ∙ rw own (append-nil (filter (λ l. not (has_number (t.last_number + 1) l)) t.handles)
+    ∙ filter_whole (has_number (t.last_number + 1)) t.handles
+    (all_numbered (λ (l : LiveHandle). l.number) (λ m. (0 < m) × (m ≤ t.last_number)) (λ m. (m == t.last_number + 1) ≡ false) (λ m k. ne_eqb m (t.last_number + 1) (λ e. omega (arith, k.1, e))) t.handles h.given)) in
+    let number : t.last_number + 1 - 1 ≡ t.last_number = omega arith in
+    rw (handles, none_goes (t.last_number + 1) t.interfaces (none_is_on t h), number) refl
+
+-- ---- slots
+
+-- a key that is told stands for an interface that is found
+key_told : (slots : List (Option Record)) (p : Interface → Bool) (is : List Interface) (o : Option ℕ) → HaveInterfaces slots (option_to_list o) (filter p is) → is_some o ≡ is_some (find p is)
+key_told slots p [] None h = refl
+key_told slots p [] (Some k) h = absurd h
+key_told slots p (x ∷ xs) o h = elim (cases_Bool (p x)) [
+  | inl t ↦ rw t (one o (rw t at h))
+  | inr f ↦ rw f (key_told slots p xs o (rw f at h))
+]
+  where
+    one : (k : Option ℕ) → HaveInterfaces slots (option_to_list k) (x ∷ filter p xs) → is_some k ≡ true
+    one None b = absurd b
+    one (Some k) b = refl
+
+changed_slot : (n : ℕ) (guid : List ℕ) (value stamp : ℕ) (o : Option Record) → ((r : Record) → o ≡ Some r → is_at n guid r.interface ≡ true)
+    → tagged (restamped n guid value stamp) o ≡ tagged (λ i. i) (option_map (with_stamp value stamp) o)
+changed_slot n guid value stamp None h = refl
+changed_slot n guid value stamp (Some r) h = rw (h r refl) refl
+
+changed_there : (n : ℕ) (guid : List ℕ) (value stamp : ℕ) (o : Option Record) → ((r : Record) → o ≡ Some r → is_at n guid r.interface ≡ true) → (x : Interface) → option_map (λ r. r.interface) o ≡ Some x
+    → option_map (λ r. r.interface) (option_map (with_stamp value stamp) o) ≡ Some (restamped n guid value stamp x)
+changed_there n guid value stamp None h x e = absurd cc
+changed_there n guid value stamp (Some r) h x e =
+    let t : is_at n guid x ≡ true = subst (λ (i : Interface). is_at n guid i ≡ true) (same_Some r.interface x e) (h r refl) in
+    rw t (ap (λ (i : Interface). Some (record i { value = value; stamp = stamp })) (same_Some r.interface x e))
+
+new_there : (n : ℕ) (guid : List ℕ) (value stamp : ℕ) (o : Option Record) → ((r : Record) → o ≡ Some r → is_at n guid r.interface ≡ true) → (y : Interface)
+    → option_map (λ r. r.interface) (option_map (with_stamp value stamp) o) ≡ Some y → is_at n guid y ≡ true
+new_there n guid value stamp None h y e = absurd cc
+new_there n guid value stamp (Some r) h y e = subst (λ (i : Interface). is_at n guid i ≡ true) (same_Some (record r.interface { value = value; stamp = stamp }) y e) (h r refl)
+
+from_slot : (last value : ℕ) (o : Option Record) → ((p : Record) → o ≡ Some p → p.interface.stamp ≤ last) → (r : Record) → option_map (with_stamp value (last + 1)) o ≡ Some r
+    → (p : Record) × (o ≡ Some p) × (p.installed ≡ r.installed) × (p.interface.stamp ≤ r.interface.stamp)
+from_slot last value None h r e = absurd cc
+from_slot last value (Some p) h r e =
+    let s : with_stamp value (last + 1) p ≡ r = same_Some (with_stamp value (last + 1) p) r e in
+    let l : p.interface.stamp ≤ last = h p refl in
+    (p, refl, ap (λ (x : Record). x.installed) s, omega (arith, l, ap (λ (x : Record). x.interface.stamp) s))
+
+pub any_counted : (p : Interface → Bool) (xs : List Interface) → not (length (filter p xs) == 0) ≡ list_any p xs
+any_counted p [] = refl
+any_counted p (x ∷ xs) = elim (cases_Bool (p x)) [
+  | inl t ↦ let f : (suc (length (filter p xs)) == 0) ≡ false = ne_eqb (suc (length (filter p xs))) 0 (λ e. omega (arith, e)) in rw t (rw f refl)
+  | inr f ↦ rw f (any_counted p xs)
+]
+
+-- ---- interfaces on a handle go one by one
+
+pub first_goes : (n : ℕ) (guid : List ℕ) (t : HandleTable) → without_handle n (record t { interfaces = filter (λ i. not (is_at n guid i)) t.interfaces }) ≡ without_handle n t
+first_goes n guid t =
+    ap (λ is. record t { handles = filter (λ h. not (has_number n h)) t.handles; interfaces = is })
+    (filter_inside (λ i. not (is_at n guid i)) (λ i. not (is_on n i)) (λ i p. elim (cases_Bool (is_on n i)) [
+      | inl e ↦ let w = rw e at p in cc
+      | inr e ↦ rw e refl
+    ]) t.interfaces)
+
+pub first_fewer : (n : ℕ) (is : List Interface) (i : Interface) → slice_get (filter (is_on n) is) 0 ≡ Some i → length (filter (is_on n) (filter (λ x. not (is_at n i.guid x)) is)) ≤ length (filter (is_on n) is) - 1
+first_fewer n is i e = rw (filter_swap (is_on n) (λ x. not (is_at n i.guid x)) is) (one (filter (is_on n) is) (passed (is_on n) is) e)
+  where
+    one : (xs : List Interface) → AllByRecursion (λ x. is_on n x ≡ true) xs → slice_get xs 0 ≡ Some i → length (filter (λ x. not (is_at n i.guid x)) xs) ≤ length xs - 1
+    one [] a k = absurd cc
+    one (x ∷ xs) a k =
+        let t : is_at n i.guid x ≡ true = rw (same_Some x i k) (rw (rw (same_Some x i k) at a.0) (same_guid-refl i.guid)) in
+        rw t (omega (arith, filter_shorter (λ y. not (is_at n i.guid y)) xs))
+
+pub none_fewer : (xs : List Interface) → slice_get xs 0 ≡ None → length xs ≤ length xs - 1
+none_fewer [] e = omega arith
+none_fewer (x ∷ xs) e = absurd cc
+
+pub some_on : (p : Interface → Bool) (xs : List Interface) → list_any p xs ≡ true → 0 < length (filter p xs)
+some_on p xs e = positive (length (filter p xs)) (any_counted p xs ∙ e)
+  where
+    positive : (n : ℕ) → not (n == 0) ≡ true → 0 < n
+    positive zero h = absurd cc
+    positive (suc n) h = omega arith
+
+-- clones of slots are the same slots
+pub same_slots : (old new : List (Option Record)) → AllZip (IsSlotClone (λ r s. s ≡ r)) old new → new ≡ old
+same_slots old new a = same_from_all_zip (IsSlotClone (λ r s. s ≡ r)) old new a same_slot
+  where
+    same_slot : (o p : Option Record) → IsSlotClone (λ r s. s ≡ r) o p → p ≡ o
+    same_slot None p e = e
+    same_slot (Some r) None e = absurd e
+    same_slot (Some r) (Some s) e = ap (λ x. Some x) e
+
+-- keys of rows once a handle comes or goes
+keys_push : (rows : List Row) (live : LiveHandle) (m : ℕ) → keys_on (rows ++ record { live = live; keys = [] } ∷ []) m ≡ keys_on rows m
+keys_push [] live m = elim (cases_Bool (has_number m live)) [
+  | inl t ↦ rw t refl
+  | inr f ↦ rw f refl
+]
+keys_push (r ∷ rs) live m = elim (cases_Bool (is_row_of m r)) [
+  | inl t ↦ rw t refl
+  | inr f ↦ rw f (keys_push rs live m)
+]
+
+keys_without : (rows : List Row) (n m : ℕ) → keys_on rows n ≡ [] → keys_on (filter (λ r. not (is_row_of n r)) rows) m ≡ keys_on rows m
+keys_without rows n m e =
+    ap keys_of (find_filter (is_row_of m) (λ r. not (is_row_of n r)) (not (m == n)) (λ r t. rw (is_same r.live.number m t) refl) rows)
+    ∙ elim (eqb_tells m n) [
+      | inl t ↦ rw t.0 (sym (ap (keys_on rows) t.1 ∙ e))
+      | inr f ↦ rw f.0 refl
+    ]
+
+-- ---- what is asked
+
+module _ (rows : List Row) (slots : List (Option Record)) (groups : List Group) (number stamp : ℕ) (s : IsStore rows slots groups number stamp) where
+  -- the interface at the key in its group is the one that is asked for
+  pub stored_at : (n : ℕ) (guid : List ℕ) → find (is_at n guid) (installed_until stamp slots) ≡ option_and_then (at_key slots) (key_at groups guid n)
+  stored_at n guid = found_at slots (is_at n guid) (installed_until stamp slots) (key_at groups guid n) (s.filed.by_guid n guid)
+
+  -- a record in a slot is among the interfaces
+  pub slot_found : (key : ℕ) (i : Interface) → at_key slots key ≡ Some i → find (is_at i.handle i.guid) (installed_until stamp slots) ≡ Some i
+  slot_found key i e = stored_at i.handle i.guid ∙ ap (option_and_then (at_key slots)) (s.filed.in_group key i e) ∙ e
+
+  pub slots_below : AreBelow stamp slots
+  slots_below j r e =
+      let f = slot_found j r.interface (ap (option_map (λ (x : Record). x.interface)) e) in
+      let l : r.interface.stamp ≤ stamp = (found_one (λ i. i.stamp ≤ stamp) (is_at r.interface.handle r.interface.guid) (installed_until stamp slots) r.interface s.table.below f).1 in
+      omega (arith, l, (s.stamped j r e).1)
+
+  -- an interface that is not there has no key
+  pub unkeyed : (n : ℕ) (guid : List ℕ) → find (is_at n guid) (installed_until stamp slots) ≡ None → key_at groups guid n ≡ None
+  unkeyed n guid e = none_of (key_at groups guid n) (key_told slots (is_at n guid) (installed_until stamp slots) (key_at groups guid n) (s.filed.by_guid n guid) ∙ ap is_some e)
+
+  -- the handles of a GUID are those that have a key in its group
+  pub by_guid : (guid hs : List ℕ) → Ascending (λ a b. a < b) hs → ((n : ℕ) → list_any (λ h. h == n) hs ≡ is_some (key_at groups guid n)) → hs ≡ holders_of (table_of rows slots number stamp) guid
+  by_guid guid hs ascending those =
+      let t : HandleTable = table_of rows slots number stamp in
+      let told : (n : ℕ) → list_any (λ h. h == n) hs ≡ carries t guid n =
+      λ n. those n ∙ key_told slots (is_at n guid) (installed_until stamp slots) (key_at groups guid n) (s.filed.by_guid n guid) in
+      sym (filter_same (carries t guid) (λ n. list_any (λ h. h == n) hs) (numbers t) (all_of (λ n. carries t guid n ≡ list_any (λ h. h == n) hs) (λ n. sym (told n)) (numbers t))
+      ∙ those_among (numbers t) hs s.table.proper.ascending ascending
+      (all_map (λ h. list_any (λ k. nat_eq k h) hs ≡ true) (λ h. list_any (λ n. nat_eq n h) (numbers t) ≡ true)
+      (λ h m. sym (live_is t h) ∙ carried_live t s.table.proper guid h (sym (told h) ∙ m)) hs (among_own hs)))
+
+  -- ---- changes
+
+  -- the interfaces at the keys of a handle
+  pub carried_at : (n : ℕ) → HaveInterfaces slots (keys_on rows n) (filter (is_on n) (installed_until stamp slots))
+  carried_at n = s.filed.by_handle n
+
+  pub carried_these : (n : ℕ) → at_keys slots (keys_on rows n) ≡ filter (is_on n) (installed_until stamp slots)
+  carried_these n = have_these slots (keys_on rows n) (filter (is_on n) (installed_until stamp slots)) (carried_at n)
+
+  at_others : (new : List (Option Record)) (key : ℕ) → ((j : ℕ) → j ≢ key → record_at new j ≡ record_at slots j) → (j : ℕ) → j ≢ key → at_key new j ≡ at_key slots j
+  at_others new key others j d = ap (option_map (λ r. r.interface)) (others j d)
+
+  -- an interface comes
+  pub stored_more : (rs : List Row) (new : List (Option Record)) (gs : List Group) (n : ℕ) (guid : List ℕ) (value key : ℕ)
+      → is_live (table_of rows slots number stamp) n ≡ true → find (is_at n guid) (installed_until stamp slots) ≡ None
+      → record_at slots key ≡ None
+      → record_at new key ≡ Some (record { interface = record { handle = n; guid = guid; value = value; stamp = stamp + 1 }; installed = stamp + 1 })
+      → ((j : ℕ) → j ≢ key → record_at new j ≡ record_at slots j)
+      → ChangesKeys n (λ ks. ks ++ key ∷ []) rows rs
+      → ((k : List ℕ) (m : ℕ) → key_at gs k m ≡ cond ((n == m) && same_guid guid k) (Some key) (key_at groups k m))
+      → (table_of rs new number (stamp + 1) ≡ with_interfaces n ((guid, value) ∷ []) (table_of rows slots number stamp)) × IsStore rs new gs number (stamp + 1)
+  stored_more rs new gs n guid value key live absent none there others c g =
+      let i : Interface = record { handle = n; guid = guid; value = value; stamp = stamp + 1 } in
+      let more : installed_until (stamp + 1) new ≡ installed_until stamp slots ++ i ∷ [] =
+      until_more stamp key slots new (record { interface = i; installed = stamp + 1 }) slots_below refl none there others in
+      let same : table_of rs new number (stamp + 1) ≡ with_interfaces n ((guid, value) ∷ []) (table_of rows slots number stamp) = rw (c.lives, more) refl in (
+        same,
+        record {
+          table = subst IsTable (sym same) (table_with_interfaces (table_of rows slots number stamp) n ((guid, value) ∷ []) s.table live (absent, tt) refl);
+          filed = rw more (filed_more (installed_until stamp slots) slots new rows rs groups gs key i (ap (option_map (λ r. r.interface)) none) (ap (option_map (λ r. r.interface)) there)
+              (at_others new key others) c (unkeyed n guid absent) g s.filed);
+          stamped = λ j r e. elim (cases_eq j key) [
+            | inl w ↦ subst IsStamped (same_Some (record { interface = i; installed = stamp + 1 }) r (sym there ∙ ap (record_at new) (sym w) ∙ e)) (omega arith, omega arith)
+            | inr d ↦ s.stamped j r (sym (others j d) ∙ e)
+          ];
+        },
+      )
+
+  -- the interface at a key is of the GUID on the handle in whose group the key is, and no other is
+  own_key : (n : ℕ) (guid : List ℕ) (key : ℕ) → key_at groups guid n ≡ Some key → (r : Record) → record_at slots key ≡ Some r → is_at n guid r.interface ≡ true
+  own_key n guid key there r e = keyed_at (installed_until stamp slots) slots rows groups n guid key s.filed there r.interface (ap (option_map (λ (x : Record). x.interface)) e)
+
+  other_key : (n : ℕ) (guid : List ℕ) (key : ℕ) → key_at groups guid n ≡ Some key → (j : ℕ) (r : Record) → j ≢ key → record_at slots j ≡ Some r → is_at n guid r.interface ≡ false
+  other_key n guid key there j r d e = only_one (installed_until stamp slots) slots rows groups n guid key s.filed there j r.interface d (ap (option_map (λ (x : Record). x.interface)) e)
+
+  -- an interface goes
+  pub stored_less : (rs : List Row) (new : List (Option Record)) (gs : List Group) (n : ℕ) (guid : List ℕ) (key : ℕ) → key_at groups guid n ≡ Some key → record_at new key ≡ None
+      → ((j : ℕ) → j ≢ key → record_at new j ≡ record_at slots j)
+      → ChangesKeys n (filter (λ k. not (k == key))) rows rs
+      → ((k : List ℕ) (m : ℕ) → key_at gs k m ≡ cond ((n == m) && same_guid guid k) None (key_at groups k m))
+      → (table_of rs new number stamp ≡ record (table_of rows slots number stamp) { interfaces = filter (λ i. not (is_at n guid i)) (installed_until stamp slots) }) × IsStore rs new gs number stamp
+  stored_less rs new gs n guid key there none others c g =
+      let q : Interface → Bool = λ i. not (is_at n guid i) in
+      let less : installed_until stamp new ≡ filter q (installed_until stamp slots) =
+      until_less q stamp key slots new (λ r e. rw (own_key n guid key there r e) refl) (λ j r d e. rw (other_key n guid key there j r d e) refl) none others in
+      let same : table_of rs new number stamp ≡ record (table_of rows slots number stamp) { interfaces = filter q (installed_until stamp slots) } = rw (c.lives, less) refl in (
+        same,
+        record {
+          table = subst IsTable (sym same) (table_without_interface (table_of rows slots number stamp) n guid s.table);
+          filed = rw less (filed_less (installed_until stamp slots) slots new rows rs groups gs n guid key there (ap (option_map (λ r. r.interface)) none) (at_others new key others) c g s.filed);
+          stamped = λ j r e. elim (cases_eq j key) [
+            | inl w ↦ let z : Some r ≡ None = sym e ∙ ap (record_at new) w ∙ none in cc
+            | inr d ↦ s.stamped j r (sym (others j d) ∙ e)
+          ];
+        },
+      )
+
+  -- where no interface is of the GUID on the handle none goes
+  pub stored_none : (n : ℕ) (guid : List ℕ) → key_at groups guid n ≡ None → installed_until stamp slots ≡ filter (λ i. not (is_at n guid i)) (installed_until stamp slots)
+  stored_none n guid none =
+      sym (filter_whole (is_at n guid) (installed_until stamp slots) (found_none (is_at n guid) (installed_until stamp slots) (stored_at n guid ∙ ap (option_and_then (at_key slots)) none)))
+
+  -- an interface takes a value and the next stamp
+  pub stored_changed : (new : List (Option Record)) (n : ℕ) (guid : List ℕ) (value key : ℕ) → key_at groups guid n ≡ Some key
+      → record_at new key ≡ option_map (with_stamp value (stamp + 1)) (record_at slots key) → ((j : ℕ) → j ≢ key → record_at new j ≡ record_at slots j)
+      → (table_of rows new number (stamp + 1) ≡ with_value n guid value (table_of rows slots number stamp)) × IsStore rows new groups number (stamp + 1)
+  stored_changed new n guid value key there own others =
+      let f : Interface → Interface = restamped n guid value (stamp + 1) in
+      let kept : (j : ℕ) (r : Record) → record_at new j ≡ Some r → (p : Record) × (record_at slots j ≡ Some p) × (p.installed ≡ r.installed) × (p.interface.stamp ≤ r.interface.stamp) =
+      λ j r e. elim (cases_eq j key) [
+        | inl w ↦ rw w (from_slot stamp value (record_at slots key) (λ p k. slot_stamp key p k) r (sym own ∙ ap (record_at new) (sym w) ∙ e))
+        | inr d ↦ (r, sym (others j d) ∙ e, refl, omega arith)
+      ] in
+      let below : AreBelow stamp new = λ j r e. let k = kept j r e in omega (arith, slots_below j k.0 k.1, k.2) in
+      let changed : installed_until (stamp + 1) new ≡ map f (installed_until stamp slots) =
+      until_later stamp new below
+      ∙ until_changed f stamp key slots new (changed_slot n guid value (stamp + 1) (record_at slots key) (λ r e. own_key n guid key there r e) ∙ ap (tagged (λ i. i)) (sym own))
+      (λ j r d e. rw (other_key n guid key there j r d e) refl) others in
+      let same : table_of rows new number (stamp + 1) ≡ with_value n guid value (table_of rows slots number stamp) = rw changed refl in (
+        same,
+        record {
+          table = subst IsTable (sym same) (table_with_value (table_of rows slots number stamp) n guid value s.table);
+          filed = rw changed (filed_changed (installed_until stamp slots) slots new rows groups n guid value (stamp + 1) key there
+              (λ x e. ap (option_map (λ r. r.interface)) own ∙ changed_there n guid value (stamp + 1) (record_at slots key) (λ r k. own_key n guid key there r k) x e)
+              (λ y e. new_there n guid value (stamp + 1) (record_at slots key) (λ r k. own_key n guid key there r k) y (sym (ap (option_map (λ r. r.interface)) own) ∙ e))
+              (at_others new key others) s.filed);
+          stamped = λ j r e. let k = kept j r e in let b = s.stamped j k.0 k.1 in (omega (arith, b.0, k.2), omega (arith, b.1, k.2, k.3));
+        },
+      )
+    where
+      slot_stamp : (key : ℕ) (r : Record) → record_at slots key ≡ Some r → r.interface.stamp ≤ stamp
+      slot_stamp key r e =
+          (found_one (λ i. i.stamp ≤ stamp) (is_at r.interface.handle r.interface.guid) (installed_until stamp slots) r.interface s.table.below
+          (slot_found key r.interface (ap (option_map (λ (x : Record). x.interface)) e))).1
+
+  -- ---- handles
+
+  pub numbers_below : AllByRecursion (λ n. n < number + 1) (row_numbers rows)
+  numbers_below =
+      subst (AllByRecursion (λ n. n < number + 1)) (live_numbers rows)
+      (all_map (λ m. (0 < m) × (m ≤ number)) (λ m. m < number + 1) (λ m h. omega (arith, h.1)) (map (λ h. h.number) (lives rows)) s.table.proper.given)
+
+  pub live_row : (n : ℕ) → is_live (table_of rows slots number stamp) n ≡ true → is_some (find (is_row_of n) rows) ≡ true
+  live_row n l = sym (ap is_some (find_lives n rows) ∙ some_map (λ r. r.live) (find (is_row_of n) rows)) ∙ l
+
+  -- a handle comes
+  pub stored_handle : (maker : Option (ℕ × ℕ)) → length (lives rows) < max_handles
+      → (table_of (rows ++ record { live = record { number = number + 1; maker = maker }; keys = [] } ∷ []) slots (number + 1) stamp ≡ with_handle maker (table_of rows slots number stamp))
+      × IsStore (rows ++ record { live = record { number = number + 1; maker = maker }; keys = [] } ∷ []) slots groups (number + 1) stamp
+  stored_handle maker room =
+      let live : LiveHandle = record { number = number + 1; maker = maker } in
+      let same : table_of (rows ++ record { live = live; keys = [] } ∷ []) slots (number + 1) stamp ≡ with_handle maker (table_of rows slots number stamp) =
+      rw (map_append (λ r. r.live) rows (record { live = live; keys = [] } ∷ [])) refl in (
+        same,
+        record {
+          table = subst IsTable (sym same) (table_with_handle (table_of rows slots number stamp) maker s.table room);
+          filed = record { by_handle = λ n. rw (keys_push rows live n) (s.filed.by_handle n); by_guid = s.filed.by_guid; in_group = s.filed.in_group };
+          stamped = s.stamped;
+        },
+      )
+
+  bare_keys : (n : ℕ) → list_any (is_on n) (installed_until stamp slots) ≡ false → keys_on rows n ≡ []
+  bare_keys n b = no_keys (keys_on rows n) (none_of_them (installed_until stamp slots) b) (s.filed.by_handle n)
+    where
+      none_of_them : (is : List Interface) → list_any (is_on n) is ≡ false → filter (is_on n) is ≡ []
+      none_of_them [] e = refl
+      none_of_them (i ∷ is) e = elim (cases_Bool (is_on n i)) [
+        | inl t ↦ let w = rw t at e in cc
+        | inr f ↦ rw f (none_of_them is (rw f at e))
+      ]
+
+      no_keys : {xs : List Interface} (ks : List ℕ) → xs ≡ [] → HaveInterfaces slots ks xs → ks ≡ []
+      no_keys [] e h = refl
+      no_keys (k ∷ ks) e h = absurd (rw e at h)
+
+  -- a handle without interfaces goes
+  pub stored_bare : (n : ℕ) → list_any (is_on n) (installed_until stamp slots) ≡ false
+      → (table_of (filter (λ r. not (is_row_of n r)) rows) slots number stamp ≡ without_handle n (table_of rows slots number stamp)) × IsStore (filter (λ r. not (is_row_of n r)) rows) slots groups number stamp
+  stored_bare n bare =
+      let left : lives (filter (λ r. not (is_row_of n r)) rows) ≡ filter (λ h. not (has_number n h)) (lives rows) = filter_map_filter (λ r. r.live) (λ h. not (has_number n h)) rows in
+      let same : table_of (filter (λ r. not (is_row_of n r)) rows) slots number stamp ≡ without_handle n (table_of rows slots number stamp) = rw (left, none_goes n (installed_until stamp slots) bare) refl in (
+        same,
+        record {
+          table = subst IsTable (sym same) (table_without_handle (table_of rows slots number stamp) n s.table);
+          filed = record { by_handle = λ m. rw (keys_without rows n m (bare_keys n bare)) (s.filed.by_handle m); by_guid = s.filed.by_guid; in_group = s.filed.in_group };
+          stamped = s.stamped;
+        },
+      )
+
+  -- ---- taken back
+
+  -- the last number is given again, if no handle has it
+  pub stored_unmade : (last : ℕ) → AllByRecursion (λ n. n ≤ last) (map (λ h. h.number) (lives rows)) → IsStore rows slots groups last stamp
+  stored_unmade last below = record {
+    table = record {
+      proper = record {
+        ascending = s.table.proper.ascending;
+        given = all_both (λ m. (0 < m) × (m ≤ number)) (λ m. m ≤ last) (λ m. (0 < m) × (m ≤ last)) (λ m h l. (h.0, l)) (map (λ h. h.number) (lives rows)) s.table.proper.given below;
+        limit = s.table.proper.limit;
+        on_live = s.table.proper.on_live;
+      };
+      apart = s.table.apart;
+      below = s.table.below;
+    };
+    filed = s.filed;
+    stamped = s.stamped;
+  }
+
+  -- the last stamp is given again, if no interface has it
+  pub stored_back : (last : ℕ) → stamp ≡ last + 1 → AllByRecursion (λ i. i.stamp < stamp) (installed_until stamp slots)
+      → (installed_until last slots ≡ installed_until stamp slots) × IsStore rows slots groups number last
+  stored_back last e below =
+      let under : AreBelow last slots = λ j r w.
+      let f = slot_found j r.interface (ap (option_map (λ (x : Record). x.interface)) w) in
+      let l : r.interface.stamp < stamp = (found_one (λ i. i.stamp < stamp) (is_at r.interface.handle r.interface.guid) (installed_until stamp slots) r.interface below f).1 in
+      omega (arith, l, e, (s.stamped j r w).1) in
+      let same : installed_until last slots ≡ installed_until stamp slots = sym (ap (λ k. installed_until k slots) e ∙ until_later last slots under) in (
+        same,
+        record {
+          table = record {
+            proper = record { ascending = s.table.proper.ascending; given = s.table.proper.given; limit = s.table.proper.limit; on_live = rw same s.table.proper.on_live };
+            apart = rw same s.table.apart;
+            below = rw same (all_map (λ i. i.stamp < stamp) (λ i. i.stamp ≤ last) (λ i l. omega (arith, l, e)) (installed_until stamp slots) below);
+          };
+          filed = rw same s.filed;
+          stamped = s.stamped;
+        },
+      )
+
+  -- ---- by the tables before
+
+  pub unmade : (t : HandleTable) → table_of rows slots number stamp ≡ without_handle t.last_number t → AllByRecursion (λ n. n < t.last_number) (filter (λ n. not (n == t.last_number)) (numbers t))
+      → IsStore rows slots groups (number - 1) stamp
+  unmade t e below =
+      let last : number ≡ t.last_number = ap (λ (x : HandleTable). x.last_number) e in
+      let left : map (λ h. h.number) (lives rows) ≡ filter (λ n. not (n == t.last_number)) (numbers t) =
+      ap (λ (x : HandleTable). numbers x) e ∙ filter_map_filter (λ (h : LiveHandle). h.number) (λ n. not (n == t.last_number)) t.handles in
+      stored_unmade (number - 1) (rw left (all_map (λ n. n < t.last_number) (λ n. n ≤ number - 1) (λ n l. omega (arith, l, last)) (filter (λ n. not (n == t.last_number)) (numbers t)) below))
+
+  pub taken_back : (t : HandleTable) (is : List Interface) → table_of rows slots number stamp ≡ record t { interfaces = is } → AllByRecursion (λ i. i.stamp < t.last_stamp) is → 0 < t.last_stamp
+      → (table_of rows slots number (stamp - 1) ≡ record t { interfaces = is; last_stamp = t.last_stamp - 1 }) × IsStore rows slots groups number (stamp - 1)
+  taken_back t is e below some =
+      let last : stamp ≡ t.last_stamp = ap (λ (x : HandleTable). x.last_stamp) e in
+      let these : installed_until stamp slots ≡ is = ap (λ (x : HandleTable). x.interfaces) e in
+      let b = stored_back (stamp - 1) (omega (arith, last, some)) (rw (these, last) below) in
+      let back : table_of rows slots number (stamp - 1) ≡ record (table_of rows slots number stamp) { last_stamp = stamp - 1 } = rw b.0 refl in
+      (back ∙ ap (λ (x : HandleTable). record x { last_stamp = x.last_stamp - 1 }) e, b.1)
+
+  -- groups with the same keys
+  pub stored_same : (gs : List Group) → ((k : List ℕ) (n : ℕ) → key_at gs k n ≡ key_at groups k n) → IsStore rows slots gs number stamp
+  stored_same gs g = record {
+    table = s.table;
+    filed = record { by_handle = s.filed.by_handle; by_guid = λ n k. rw (g k n) (s.filed.by_guid n k); in_group = λ key i e. g i.guid i.handle ∙ s.filed.in_group key i e };
+    stamped = s.stamped;
+  }
+
+  pub stored_kept : (n : ℕ) (guid : List ℕ) → key_at groups guid n ≡ None → table_of rows slots number stamp ≡ record (table_of rows slots number stamp) { interfaces = filter (λ i. not (is_at n guid i)) (installed_until stamp slots) }
+  stored_kept n guid none = ap (λ is. record (table_of rows slots number stamp) { interfaces = is }) (stored_none n guid none)
+
+  pub uncarried : (n : ℕ) (guid : List ℕ) → key_at groups guid n ≡ None → carries (table_of rows slots number stamp) guid n ≡ true → ⊥
+  uncarried n guid none h = let w : false ≡ true = sym (ap is_some (stored_at n guid ∙ ap (option_and_then (at_key slots)) none)) ∙ h in cc

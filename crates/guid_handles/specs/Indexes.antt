@@ -1,27 +1,74 @@
--- The interfaces by GUID, in groups, and by handle in each group.
-use Rattle.std.specs.Prelude.{◌≡◌, ℕ, ◌<◌, ◌≤◌, nat_eq, nat_lt, Bool, true, not, List, map, length, Option, None, Some}
-use Rattle.std.specs.List.{find, filter, list_any, AllByRecursion, insert, slice_get}
+-- The keys of interfaces: by handle in rows, and by GUID in groups.
+use Rattle.std.specs.Prelude.{◌≡◌, ℕ, ◌<◌, ◌==◌, nat_eq, nat_lt, Bool, true, cond, List, [], ◌∷◌, map, length, Option, None, Some}
+use Rattle.std.specs.List.{find, list_any, AllByRecursion, slice_get}
 use Rattle.std.specs.Option.{option_and_then}
 use Rattle.std.specs.declared.cmp.Ordering.TheVariants.{Less}
 use Rattle.std.specs.Ordering.{nat_cmp, is_lt}
 use Rattle.std.specs.Cmp.Lexicographic.{slice_cmp}
 use Rattle.guid_handles.specs.declared.records.Interface.{Interface}
-use Rattle.guid_handles.specs.HandleTables.{same_guid, is_on, is_at}
-use Rattle.guid_handles.specs.Sorting.{Ascending, place, kept_if}
+use Rattle.guid_handles.specs.declared.records.LiveHandle.{LiveHandle}
+use Rattle.guid_handles.specs.HandleTables.{same_guid, has_number, is_at}
+use Rattle.guid_handles.specs.Sorting.{Ascending, place}
 
--- a GUID and interfaces of it
+-- ---- by handle
+
+-- a live handle, and the keys of the interfaces on it in order of installation
+pub record Row : Type 0 where
+  pub live : LiveHandle
+  pub keys : List ℕ
+
+abbrev pub lives : List Row → List LiveHandle
+lives rows = map (λ r. r.live) rows
+
+abbrev pub row_numbers : List Row → List ℕ
+row_numbers rows = map (λ r. r.live.number) rows
+
+-- numbers beside rows: those of their handles, which ascend
+pub record AreNumbers (rows : List Row) (ns : List ℕ) : Type 0 where
+  pub numbers : ns ≡ row_numbers rows
+  pub ascending : Ascending (λ a b. a < b) ns
+
+abbrev pub is_row_of : ℕ → Row → Bool
+is_row_of n r = has_number n r.live
+
+abbrev pub keys_of : Option Row → List ℕ
+keys_of None = []
+keys_of (Some r) = r.keys
+
+-- the keys in the row of a handle, none if there is no such row
+abbrev pub keys_on : List Row → ℕ → List ℕ
+keys_on rows n = keys_of (find (is_row_of n) rows)
+
+-- the place of the row of a handle
+abbrev pub IsRowPlace : ℕ → List Row → ℕ → Type 0
+IsRowPlace n rows at = (at < length rows) × (find (is_row_of n) rows ≡ slice_get rows at) × (at ≡ place (λ r. nat_lt r.live.number n) rows)
+
+-- the keys of one handle change, and nothing else of the rows
+pub record ChangesKeys (n : ℕ) (f : List ℕ → List ℕ) (old new : List Row) : Type 0 where
+  pub lives : lives new ≡ lives old
+  pub keys : (m : ℕ) → keys_on new m ≡ cond (n == m) (f (keys_on old m)) (keys_on old m)
+
+-- ---- by GUID
+
+-- a GUID, the handles that carry it, and beside each the key of its interface
 pub record Group : Type 0 where
   pub guid : List ℕ
-  pub members : List Interface
+  pub holders : List ℕ
+  pub keys : List ℕ
 
--- the handles of interfaces
-abbrev pub handles_of : List Interface → List ℕ
-handles_of members = map (λ i. i.handle) members
+-- handles that ascend, and as many keys
+pub record AreBeside (holders keys : List ℕ) : Type 0 where
+  pub ascending : Ascending (λ a b. a < b) holders
+  pub even : length holders ≡ length keys
 
--- numbers beside interfaces: their handles, which ascend
-pub record AreHolders (members : List Interface) (hs : List ℕ) : Type 0 where
-  pub ascending : Ascending (λ a b. a < b) hs
-  pub holders : hs ≡ handles_of members
+-- the key beside a handle
+abbrev pub key_beside : List ℕ → List ℕ → ℕ → Option ℕ
+key_beside [] ks n = None
+key_beside (h ∷ hs) [] n = None
+key_beside (h ∷ hs) (k ∷ ks) n = cond (h == n) (Some k) (key_beside hs ks n)
+
+abbrev pub key_in : Group → ℕ → Option ℕ
+key_in g n = key_beside g.holders g.keys n
 
 -- a group is of a GUID
 abbrev pub is_group_of : List ℕ → Group → Bool
@@ -35,30 +82,20 @@ is_before guid g = is_lt (slice_cmp nat_cmp g.guid guid)
 abbrev pub AscendByGuid : List Group → Type 0
 AscendByGuid groups = Ascending (λ a b. slice_cmp nat_cmp a b ≡ Less) (map (λ g. g.guid) groups)
 
+-- groups by ascending GUID, none of them without holders
+pub record AreGroups (groups : List Group) : Type 0 where
+  pub ascending : AscendByGuid groups
+  pub held : AllByRecursion (λ g. 0 < length g.holders) groups
+
 -- the place of the group of a GUID
 abbrev pub IsPlaceOf : List ℕ → List Group → ℕ → Type 0
 IsPlaceOf guid groups at = (at < length groups) × (find (is_group_of guid) groups ≡ slice_get groups at) × (at ≡ place (is_before guid) groups)
 
--- a group with one more interface, before the first of a handle that is not lower
-abbrev pub with_member : Interface → Group → Group
-with_member i g = record g { members = insert g.members (place (λ j. nat_lt j.handle i.handle) g.members) i }
+-- the key of the interface of a GUID on a handle
+abbrev pub key_at : List Group → List ℕ → ℕ → Option ℕ
+key_at groups guid n = option_and_then (λ g. key_in g n) (find (is_group_of guid) groups)
 
--- a group without the interface on a handle
-abbrev pub without_member : ℕ → Group → Group
-without_member n g = record g { members = filter (λ i. not (is_on n i)) g.members }
-
--- the interface on a handle in the group of a GUID
-abbrev pub grouped_at : List Group → List ℕ → ℕ → Option Interface
-grouped_at groups guid n = option_and_then (λ g. find (is_on n) g.members) (find (is_group_of guid) groups)
-
--- On each handle the groups have the same interface of each GUID as those listed.
-abbrev pub IsIndex : List Interface → List Group → Type 0
-IsIndex listed groups = (n : ℕ) (guid : List ℕ) → grouped_at groups guid n ≡ find (is_at n guid) listed
-
--- Of the interfaces on handles, at most one on each, the one with the least stamp of those that pass a test; none if none passes.
-abbrev pub IsNextOf : (Interface → Bool) → (ℕ → Option Interface) → Option Interface → Type 0
-IsNextOf q there None = (n : ℕ) → kept_if q (there n) ≡ None
-IsNextOf q there (Some i) = (there i.handle ≡ Some i) × (q i ≡ true) × ((n : ℕ) (j : Interface) → there n ≡ Some j → q j ≡ true → i.stamp ≤ j.stamp)
+-- ---- pairs and interfaces
 
 -- each interface is on a handle of these numbers
 abbrev pub AreOn : List ℕ → List Interface → Type 0

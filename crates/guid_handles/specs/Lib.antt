@@ -2,5 +2,5 @@ pub mod HandleTables
 pub mod HandleChanges
 pub mod Sorting
 pub mod Indexes
-pub mod Nearby
+pub mod Slots
 pub mod Stores

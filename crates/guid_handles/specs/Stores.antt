@@ -1,21 +1,45 @@
 -- How the handle table is kept.
-use Rattle.std.specs.Prelude.{◌≡◌, ◌==◌, ◌≤◌, ℕ, false, List}
-use Rattle.std.specs.List.{AllByRecursion}
+use Rattle.std.specs.Prelude.{◌≡◌, ◌==◌, ◌<◌, ◌≤◌, ℕ, false, List, Option, Some}
+use Rattle.std.specs.List.{filter, AllByRecursion, AllZip}
+use Rattle.std.specs.Option.{option_to_list}
 use Rattle.guid_handles.specs.declared.records.Interface.{Interface}
-use Rattle.guid_handles.specs.HandleTables.{HandleTable, numbers, is_at}
+use Rattle.guid_handles.specs.declared.records.Record.{Record}
+use Rattle.guid_handles.specs.HandleTables.{HandleTable, is_on, is_at}
 use Rattle.guid_handles.specs.HandleChanges.{IsHandleTable}
 use Rattle.guid_handles.specs.Sorting.{Ascending}
-use Rattle.guid_handles.specs.Indexes.{Group}
-use Rattle.guid_handles.specs.Nearby.{Block, AreFiled}
+use Rattle.guid_handles.specs.Indexes.{Row, Group, lives, keys_on, key_at}
+use Rattle.guid_handles.specs.Slots.{at_key, record_at, installed_until}
 
 -- two interfaces are not of one GUID on one handle, and have stamps of their own
 abbrev pub AreApart : Interface → Interface → Type 0
 AreApart i j = (is_at j.handle j.guid i ≡ false) × ((i.stamp == j.stamp) ≡ false)
 
--- A table, the numbers of its handles, and its interfaces, each of which is one of its kind, in groups by GUID and in blocks by handle.
-pub record IsStore (t : HandleTable) (ns : List ℕ) (groups : List Group) (blocks : List Block) : Type 0 where
-  pub table : IsHandleTable t
-  pub numbered : ns ≡ numbers t
+-- What is true of every table: each interface is one of its kind, and no stamp is higher than the last.
+pub record IsTable (t : HandleTable) : Type 0 where
+  pub proper : IsHandleTable t
   pub apart : Ascending AreApart t.interfaces
   pub below : AllByRecursion (λ i. i.stamp ≤ t.last_stamp) t.interfaces
-  pub filed : AreFiled t.interfaces groups blocks
+
+-- keys have these interfaces, one beside the other
+abbrev pub HaveInterfaces : List (Option Record) → List ℕ → List Interface → Type 0
+HaveInterfaces slots keys interfaces = AllZip (λ k i. at_key slots k ≡ Some i) keys interfaces
+
+-- Interfaces, and their keys in rows by handle and in groups by GUID. No slot has an interface whose key is not in its group.
+pub record AreFiled (interfaces : List Interface) (slots : List (Option Record)) (rows : List Row) (groups : List Group) : Type 0 where
+  pub by_handle : (n : ℕ) → HaveInterfaces slots (keys_on rows n) (filter (is_on n) interfaces)
+  pub by_guid : (n : ℕ) (guid : List ℕ) → HaveInterfaces slots (option_to_list (key_at groups guid n)) (filter (is_at n guid) interfaces)
+  pub in_group : (key : ℕ) (i : Interface) → at_key slots key ≡ Some i → key_at groups i.guid i.handle ≡ Some key
+
+-- an interface was installed with a stamp, from 1 on, and has that one or a later one
+abbrev pub IsStamped : Record → Type 0
+IsStamped r = (0 < r.installed) × (r.installed ≤ r.interface.stamp)
+
+-- the table that rows, slots and the last number and stamp stand for
+abbrev pub table_of : List Row → List (Option Record) → ℕ → ℕ → HandleTable
+table_of rows slots last_number last_stamp = record { handles = lives rows; interfaces = installed_until last_stamp slots; last_number = last_number; last_stamp = last_stamp }
+
+-- A table in rows, slots and groups.
+pub record IsStore (rows : List Row) (slots : List (Option Record)) (groups : List Group) (last_number last_stamp : ℕ) : Type 0 where
+  pub table : IsTable (table_of rows slots last_number last_stamp)
+  pub filed : AreFiled (installed_until last_stamp slots) slots rows groups
+  pub stamped : (key : ℕ) (r : Record) → record_at slots key ≡ Some r → IsStamped r

@@ -1,18 +1,16 @@
-//! The interfaces of all GUIDs, in groups.
-ghost use Rattle.std.specs.Prelude.{◌≡◌, ◌<◌, ◌≤◌, ◌==◌, ◌&&◌, ℕ, Bool, true, cond, List, [], None, Some, length, is_some, map, option_map, slice_get, IfOk, OnOk, OnErr, IfSome, IfNone};
+//! The interfaces by GUID.
+ghost use Rattle.std.specs.Prelude.{◌≡◌, ◌<◌, ◌≤◌, ◌==◌, ◌&&◌, ℕ, Bool, cond, List, [], None, Some, length, is_some, map, option_map, slice_get, IfOk, OnOk, OnErr, IfSome, IfNone};
 ghost use Rattle.std.specs.List.{find, list_any};
-ghost use Rattle.guid_handles.specs.HandleTables.{is_at, is_after, same_guid};
-ghost use Rattle.guid_handles.specs.HandleChanges.{restamped};
+ghost use Rattle.guid_handles.specs.HandleTables.{same_guid};
 ghost use Rattle.guid_handles.specs.Sorting.{Ascending, place, kept_if};
-ghost use Rattle.guid_handles.specs.Indexes.{AscendByGuid, IsNextOf, IsPlaceOf, grouped_at, is_before, is_group_of, without_member};
+ghost use Rattle.guid_handles.specs.Indexes.{AscendByGuid, IsPlaceOf, is_before, is_group_of, key_at, key_in};
 
 use crate::guid_group::GuidGroup;
-use crate::records::Interface;
 use std::alloc::{AllocError, Allocator};
 use std::marker::Model;
 use uuid::Uuid;
 
-/// Groups by ascending GUID. A group that is left without interfaces stays.
+/// Groups by ascending GUID. A group that is left without holders goes.
 #[derive(Drop)]
 pub(crate) struct Groups<A: Allocator> {
     groups: Vec<GuidGroup<A>, A>,
@@ -20,13 +18,13 @@ pub(crate) struct Groups<A: Allocator> {
 
 impl<A: Allocator> Model for Groups<A> {
     ghost use Rattle.std.specs.Prelude.{List};
-    ghost use Rattle.guid_handles.specs.Indexes.{Group, AscendByGuid};
+    ghost use Rattle.guid_handles.specs.Indexes.{Group, AreGroups};
 
     ghost Value = { List Group };
 
     ghost view = { λ g. g.groups.items };
 
-    ghost invariant = { λ g. AscendByGuid g.groups.items };
+    ghost invariant = { λ g. AreGroups g.groups.items };
 }
 
 /// How many groups have lower GUIDs.
@@ -80,15 +78,6 @@ fn place_of<A: Allocator + Copy>(groups: &[GuidGroup<A>], guid: Uuid) -> Option<
     }
 }
 
-/// Takes the interface on a handle out of each group.
-fn remove_from_all<A: Allocator + Copy>(groups: &mut Vec<GuidGroup<A>, A>, handle: u64)
-    ensures { groups.new.items ≡ map (without_member handle) groups.old.items }
-{
-    for group in groups.iter_mut() {
-        group.remove(handle);
-    }
-}
-
 impl<A: Allocator + Copy> Groups<A> {
     /// No groups. This takes no memory.
     pub(crate) fn new(alloc: A) -> Groups<A>
@@ -104,23 +93,31 @@ impl<A: Allocator + Copy> Groups<A> {
         ensures { IfOk result (λ copy. copy ≡ self.now) }
     {
         let mut groups = Vec::new(*self.groups.allocator());
+        groups.reserve(self.groups.len())?;
         for group in self.groups.iter() {
             groups.push(group.try_copy()?)?;
         }
         Ok(Groups { groups })
     }
 
-    /// The interface of a GUID on a handle.
-    pub(crate) fn find(&self, handle: u64, guid: Uuid) -> Option<Interface>
-        ensures { result ≡ grouped_at self.now guid handle }
+    /// The group of a GUID.
+    pub(crate) fn find(&self, guid: Uuid) -> Option<&GuidGroup<A>>
+        ensures { option_map (λ g. g.now) result ≡ find (is_group_of guid) self.now }
+    {
+        group_of(self.groups.as_slice(), guid)
+    }
+
+    /// The key of the interface of a GUID on a handle.
+    pub(crate) fn key(&self, guid: Uuid, handle: u64) -> Option<usize>
+        ensures { result ≡ key_at self.now guid handle }
     {
         group_of(self.groups.as_slice(), guid)?.find(handle)
     }
 
-    /// The handles in the group of a GUID, ascending.
+    /// The handles that carry a GUID, ascending.
     pub(crate) fn holders(&self, guid: Uuid) -> &[u64]
         ensures ascending { Ascending (λ a b. a < b) result.now }
-        ensures those { (n : ℕ) → list_any (λ h. h == n) result.now ≡ is_some (grouped_at self.now guid n) }
+        ensures those { (n : ℕ) → list_any (λ h. h == n) result.now ≡ is_some (key_at self.now guid n) }
     {
         match group_of(self.groups.as_slice(), guid) {
             Some(group) => group.holders(),
@@ -128,82 +125,61 @@ impl<A: Allocator + Copy> Groups<A> {
         }
     }
 
-    /// The interface of a GUID with the least stamp above a mark.
-    pub(crate) fn after(&self, guid: Uuid, mark: u64) -> Option<Interface>
-        ensures { IsNextOf (is_after guid mark) (grouped_at self.now guid) result }
-    {
-        match group_of(self.groups.as_slice(), guid) {
-            Some(group) => group.after(guid, mark),
-            None => None,
-        }
-    }
-
-    /// Makes a group for a GUID that has none, and answers its place.
-    fn make(&mut self, guid: Uuid) -> Result<usize, AllocError>
+    /// Makes a group of a GUID that has none, with one holder. On an `Err` the groups are as they
+    /// were.
+    fn make(&mut self, guid: Uuid, handle: u64, key: usize) -> Result<(), AllocError>
         requires { find (is_group_of guid) self.old ≡ None }
-        ensures at { IfOk result (IsPlaceOf guid self.new) }
-        ensures same { (k : List ℕ) (n : ℕ) → grouped_at self.new k n ≡ grouped_at self.old k n }
-    {
-        let at = count_before(self.groups.as_slice(), guid);
-        let group = GuidGroup::new(*self.groups.allocator(), guid);
-        self.groups.insert(at, group)?;
-        Ok(at)
-    }
-
-    /// The place of the group of a GUID, which is made if there is none.
-    fn place_for(&mut self, guid: Uuid) -> Result<usize, AllocError>
-        ensures at { IfOk result (IsPlaceOf guid self.new) }
-        ensures same { (k : List ℕ) (n : ℕ) → grouped_at self.new k n ≡ grouped_at self.old k n }
-    {
-        match place_of(self.groups.as_slice(), guid) {
-            Some(at) => Ok(at),
-            None => self.make(guid),
-        }
-    }
-
-    /// Adds an interface that is not there to the group at the place of its GUID.
-    fn add_at(&mut self, at: usize, interface: &Interface) -> Result<(), AllocError>
-        requires place { IsPlaceOf interface.now.guid self.old at }
-        requires absent { grouped_at self.old interface.now.guid interface.now.handle ≡ None }
-        ensures ok { OnOk result ((k : List ℕ) (n : ℕ) → grouped_at self.new k n ≡ cond (is_at n k interface.now) (Some interface.now) (grouped_at self.old k n)) }
+        ensures ok { OnOk result ((k : List ℕ) (n : ℕ) → key_at self.new k n ≡ cond ((handle == n) && same_guid guid k) (Some key) (key_at self.old k n)) }
         ensures err { OnErr result (self.new ≡ self.old) }
     {
-        self.groups[at].add(interface)?;
+        let at = count_before(self.groups.as_slice(), guid);
+        let mut group = GuidGroup::new(*self.groups.allocator(), guid);
+        group.add(handle, key)?;
+        self.groups.insert(at, group)?;
         Ok(())
     }
 
-    /// Adds an interface that is not there. On an `Err` the same ones are there as before.
-    pub(crate) fn add(&mut self, interface: &Interface) -> Result<(), AllocError>
-        requires { grouped_at self.old interface.now.guid interface.now.handle ≡ None }
-        ensures ok { OnOk result ((k : List ℕ) (n : ℕ) → grouped_at self.new k n ≡ cond (is_at n k interface.now) (Some interface.now) (grouped_at self.old k n)) }
-        ensures err { OnErr result ((k : List ℕ) (n : ℕ) → grouped_at self.new k n ≡ grouped_at self.old k n) }
+    /// Adds a holder that is not there to the group at a place. On an `Err` the groups are as they
+    /// were.
+    fn add_at(&mut self, at: usize, guid: Uuid, handle: u64, key: usize) -> Result<(), AllocError>
+        requires place { IsPlaceOf guid self.old at }
+        requires absent { key_at self.old guid handle ≡ None }
+        ensures ok { OnOk result ((k : List ℕ) (n : ℕ) → key_at self.new k n ≡ cond ((handle == n) && same_guid guid k) (Some key) (key_at self.old k n)) }
+        ensures err { OnErr result (self.new ≡ self.old) }
     {
-        let at = self.place_for(interface.guid)?;
-        self.add_at(at, interface)
+        self.groups[at].add(handle, key)?;
+        Ok(())
     }
 
-    /// Takes out the interface of a GUID on a handle.
-    pub(crate) fn remove(&mut self, handle: u64, guid: Uuid)
-        ensures { (k : List ℕ) (n : ℕ) → grouped_at self.new k n ≡ cond ((handle == n) && same_guid guid k) None (grouped_at self.old k n) }
+    /// Adds the key of an interface that is not there. On an `Err` the groups are as they were.
+    pub(crate) fn add(&mut self, guid: Uuid, handle: u64, key: usize) -> Result<(), AllocError>
+        requires { key_at self.old guid handle ≡ None }
+        ensures ok { OnOk result ((k : List ℕ) (n : ℕ) → key_at self.new k n ≡ cond ((handle == n) && same_guid guid k) (Some key) (key_at self.old k n)) }
+        ensures err { OnErr result (self.new ≡ self.old) }
     {
-        if let Some(at) = place_of(self.groups.as_slice(), guid) {
-            self.groups[at].remove(handle);
+        match place_of(self.groups.as_slice(), guid) {
+            Some(at) => self.add_at(at, guid, handle, key),
+            None => self.make(guid, handle, key),
         }
     }
 
-    /// Takes out all interfaces on a handle.
-    pub(crate) fn remove_all_on(&mut self, handle: u64)
-        ensures { (k : List ℕ) (n : ℕ) → grouped_at self.new k n ≡ cond (handle == n) None (grouped_at self.old k n) }
+    /// Takes out a handle from the group at a place.
+    fn remove_at(&mut self, at: usize, guid: Uuid, handle: u64)
+        requires { IsPlaceOf guid self.old at }
+        ensures { (k : List ℕ) (n : ℕ) → key_at self.new k n ≡ cond ((handle == n) && same_guid guid k) None (key_at self.old k n) }
     {
-        remove_from_all(&mut self.groups, handle);
+        self.groups[at].remove(handle);
+        if self.groups[at].is_empty() {
+            self.groups.remove(at);
+        }
     }
 
-    /// Gives the interface of a GUID on a handle a value and a stamp.
-    pub(crate) fn replace(&mut self, handle: u64, guid: Uuid, value: u64, stamp: u64)
-        ensures { (k : List ℕ) (n : ℕ) → grouped_at self.new k n ≡ cond (same_guid guid k) (option_map (restamped handle guid value stamp) (grouped_at self.old k n)) (grouped_at self.old k n) }
+    /// Takes out the key of the interface of a GUID on a handle.
+    pub(crate) fn remove(&mut self, guid: Uuid, handle: u64)
+        ensures { (k : List ℕ) (n : ℕ) → key_at self.new k n ≡ cond ((handle == n) && same_guid guid k) None (key_at self.old k n) }
     {
         if let Some(at) = place_of(self.groups.as_slice(), guid) {
-            self.groups[at].replace(handle, value, stamp);
+            self.remove_at(at, guid, handle);
         }
     }
 }

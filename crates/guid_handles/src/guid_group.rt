@@ -1,46 +1,41 @@
 //! The interfaces of one GUID.
-ghost use Rattle.std.specs.Prelude.{◌≡◌, ◌<◌, [], None, map, IfOk, OnOk, OnErr};
-ghost use Rattle.std.specs.List.{find};
-ghost use Rattle.guid_handles.specs.HandleTables.{is_on, is_after};
-ghost use Rattle.guid_handles.specs.HandleChanges.{restamped};
+ghost use Rattle.std.specs.Prelude.{◌≡◌, ◌<◌, ◌==◌, ◌≤◌, ℕ, [], true, cond, length, None, Some, IfOk, OnOk, OnErr};
 ghost use Rattle.guid_handles.specs.Sorting.{Ascending};
-ghost use Rattle.guid_handles.specs.Indexes.{IsNextOf, handles_of, with_member, without_member};
+ghost use Rattle.guid_handles.specs.Indexes.{key_in};
 
-use crate::interfaces::with_stamp;
-use crate::records::Interface;
 use crate::room::insert_with_room;
-use crate::searches::{count_less, find_after, member_if};
+use crate::searches::{count_less, is_number_at, nth_key};
 use std::alloc::{AllocError, Allocator};
 use std::marker::Model;
 use uuid::Uuid;
 
-/// The interfaces of one GUID by ascending handle, and beside them their handles alone.
+/// The handles that carry a GUID, ascending, and beside each the key of its interface.
 #[derive(Drop)]
 pub(crate) struct GuidGroup<A: Allocator> {
     guid: Uuid,
-    members: Vec<Interface, A>,
     holders: Vec<u64, A>,
+    keys: Vec<usize, A>,
 }
 
 impl<A: Allocator> Model for GuidGroup<A> {
-    ghost use Rattle.guid_handles.specs.Indexes.{Group, AreHolders};
+    ghost use Rattle.guid_handles.specs.Indexes.{Group, AreBeside};
 
     ghost Value = { Group };
 
-    ghost view = { λ g. record { guid = g.guid; members = g.members.items } };
+    ghost view = { λ g. record { guid = g.guid; holders = g.holders.items; keys = g.keys.items } };
 
-    ghost invariant = { λ g. AreHolders g.members.items g.holders.items };
+    ghost invariant = { λ g. AreBeside g.holders.items g.keys.items };
 }
 
 impl<A: Allocator + Copy> GuidGroup<A> {
-    /// A group without interfaces. This takes no memory.
+    /// A group without holders. This takes no memory.
     pub(crate) fn new(alloc: A, guid: Uuid) -> GuidGroup<A>
-        ensures { result ≡ record { guid = guid; members = [] } }
+        ensures { result ≡ record { guid = guid; holders = []; keys = [] } }
     {
         GuidGroup {
             guid,
-            members: Vec::new(alloc),
             holders: Vec::new(alloc),
+            keys: Vec::new(alloc),
         }
     }
 
@@ -49,12 +44,12 @@ impl<A: Allocator + Copy> GuidGroup<A> {
         ensures { IfOk result (λ copy. copy ≡ self.now) }
     {
         let alloc = *self.holders.allocator();
-        let members = Vec::from_slice(alloc, self.members.as_slice())?;
         let holders = Vec::from_slice(alloc, self.holders.as_slice())?;
+        let keys = Vec::from_slice(alloc, self.keys.as_slice())?;
         Ok(GuidGroup {
             guid: self.guid,
-            members,
             holders,
+            keys,
         })
     }
 
@@ -65,61 +60,67 @@ impl<A: Allocator + Copy> GuidGroup<A> {
         self.guid
     }
 
-    /// The handles of the interfaces, ascending.
+    /// The handles.
     pub(crate) fn holders(&self) -> &[u64]
-        ensures handles { result.now ≡ handles_of self.now.members }
+        ensures holders { result.now ≡ self.now.holders }
         ensures ascending { Ascending (λ a b. a < b) result.now }
+        ensures even { length self.now.holders ≡ length self.now.keys }
     {
         self.holders.as_slice()
     }
 
-    /// The interface on a handle.
-    pub(crate) fn find(&self, handle: u64) -> Option<Interface>
-        ensures { result ≡ find (is_on handle) self.now.members }
+    /// The keys.
+    pub(crate) fn keys(&self) -> &[usize]
+        ensures keys { result.now ≡ self.now.keys }
+        ensures ascending { Ascending (λ a b. a < b) self.now.holders }
+        ensures even { length self.now.holders ≡ length self.now.keys }
+    {
+        self.keys.as_slice()
+    }
+
+    /// Whether there are no holders.
+    pub(crate) fn is_empty(&self) -> bool
+        ensures { result ≡ (length self.now.holders == 0) }
+    {
+        self.holders.is_empty()
+    }
+
+    /// The key beside a handle.
+    pub(crate) fn find(&self, handle: u64) -> Option<usize>
+        ensures { result ≡ key_in self.now handle }
     {
         let at = count_less(self.holders.as_slice(), handle);
-        member_if(self.members.as_slice(), at, handle)
-    }
-
-    /// The interface of a GUID with the least stamp above a mark.
-    pub(crate) fn after(&self, guid: Uuid, mark: u64) -> Option<Interface>
-        ensures { IsNextOf (is_after guid mark) (λ n. find (is_on n) self.now.members) result }
-    {
-        find_after(self.members.as_slice(), guid, mark)
-    }
-
-    /// Adds an interface on a handle that has none here. On an `Err` the group is as it was.
-    pub(crate) fn add(&mut self, interface: &Interface) -> Result<(), AllocError>
-        requires { find (is_on interface.now.handle) self.old.members ≡ None }
-        ensures guid { self.new.guid ≡ self.old.guid }
-        ensures ok { OnOk result (self.new ≡ with_member interface.now self.old) }
-        ensures err { OnErr result (self.new ≡ self.old) }
-    {
-        let at = count_less(self.holders.as_slice(), interface.handle);
-        self.members.reserve(1)?;
-        self.holders.insert(at, interface.handle)?;
-        insert_with_room(&mut self.members, at, *interface);
-        Ok(())
-    }
-
-    /// Takes out the interface on a handle.
-    pub(crate) fn remove(&mut self, handle: u64)
-        ensures { self.new ≡ without_member handle self.old }
-    {
-        let at = count_less(self.holders.as_slice(), handle);
-        if member_if(self.members.as_slice(), at, handle).is_some() {
-            self.members.remove(at);
-            self.holders.remove(at);
+        if is_number_at(self.holders.as_slice(), at, handle) {
+            nth_key(self.keys.as_slice(), at)
+        } else {
+            None
         }
     }
 
-    /// Gives the interface on a handle a value and a stamp.
-    pub(crate) fn replace(&mut self, handle: u64, value: u64, stamp: u64)
-        ensures { self.new ≡ record self.old { members = map (restamped handle self.old.guid value stamp) self.old.members } }
+    /// Adds a handle that is not a holder, and its key. On an `Err` the group is as it was.
+    pub(crate) fn add(&mut self, handle: u64, key: usize) -> Result<(), AllocError>
+        requires { key_in self.old handle ≡ None }
+        ensures guid { self.new.guid ≡ self.old.guid }
+        ensures held { OnOk result (0 < length self.new.holders) }
+        ensures ok { OnOk result ((n : ℕ) → key_in self.new n ≡ cond (handle == n) (Some key) (key_in self.old n)) }
+        ensures err { OnErr result (self.new ≡ self.old) }
     {
         let at = count_less(self.holders.as_slice(), handle);
-        if at < self.members.len() {
-            self.members[at] = with_stamp(self.members[at], handle, self.guid, value, stamp);
+        self.keys.reserve(1)?;
+        self.holders.insert(at, handle)?;
+        insert_with_room(&mut self.keys, at, key);
+        Ok(())
+    }
+
+    /// Takes a handle out.
+    pub(crate) fn remove(&mut self, handle: u64)
+        ensures guid { self.new.guid ≡ self.old.guid }
+        ensures keys { (n : ℕ) → key_in self.new n ≡ cond (handle == n) None (key_in self.old n) }
+    {
+        let at = count_less(self.holders.as_slice(), handle);
+        if is_number_at(self.holders.as_slice(), at, handle) {
+            self.holders.remove(at);
+            self.keys.remove(at);
         }
     }
 }

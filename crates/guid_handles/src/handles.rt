@@ -1,15 +1,17 @@
 //! The handle table.
-ghost use Rattle.std.specs.Prelude.{◌≡◌, ◌+◌, ◌<◌, ◌≤◌, ◌^◌, ◌==◌, cond, not, is_some, IsSome, IfNone, OnOk, Bool, true, false, nat_lt, [], ◌∷◌, map, length, None, Some, MatchOption, IfOk, OnErr, IsTrue};
-ghost use Rattle.std.specs.List.{find, filter, list_any};
-ghost use Rattle.guid_handles.specs.HandleTables.{numbers, same_guid, is_live, is_on, is_at, maker_of, interface_at, value_at, carries, holders_of, interfaces_on, guids_on, written_over, earliest, is_after, next_after};
+ghost use Rattle.std.specs.Prelude.{◌≡◌, ◌≢◌, ◌+◌, ◌-◌, ◌<◌, ◌≤◌, ◌^◌, ◌==◌, ◌&&◌, ℕ, List, cond, not, is_some, IsSome, IfNone, OnOk, true, false, nat_lt, [], ◌∷◌, ◌++◌, map, length, option_map, slice_get, None, Some, IfOk, OnErr};
+ghost use Rattle.std.specs.List.{find, filter, list_any, AllByRecursion};
+ghost use Rattle.guid_handles.specs.HandleTables.{numbers, same_guid, has_number, is_live, is_on, is_at, maker_of, interface_at, value_at, carries, holders_of, interfaces_on, guids_on, written_over, earliest, is_after, next_after};
 ghost use Rattle.guid_handles.specs.HandleChanges.{IsHandleTable, max_handles, max_installed, has_guid_twice, is_dead, is_taken, past_limit, refusal, with_interfaces, with_handle, install_refusal, install_many_refusal, Installs, without_handle, without_interface, with_value};
-ghost use Rattle.guid_handles.specs.Indexes.{AreAbsent};
+ghost use Rattle.guid_handles.specs.Indexes.{AreAbsent, ChangesKeys, is_row_of, key_at};
+ghost use Rattle.guid_handles.specs.Slots.{record_at, with_stamp};
 
-use crate::interfaces::Interfaces;
-use crate::records::{Interface, LiveHandle};
-use crate::room::push_with_room;
-use crate::searches::{drop_live, drop_number, find_handle, has_any_on, write_guids};
+use crate::groups::Groups;
+use crate::records::{Interface, LiveHandle, Record};
+use crate::rows::Rows;
+use crate::searches::{find_after, interface_at, nth_key, write_guids};
 use page_ranges::Status;
+use slab::Slab;
 use std::alloc::{AllocError, Allocator, Global};
 use std::marker::Model;
 use uuid::Uuid;
@@ -20,26 +22,61 @@ pub const MAX_HANDLES: usize = 4096;
 /// So many interfaces may be installed by one call.
 pub const MAX_INSTALLED: usize = 16;
 
-/// The handle table: the live handles and the protocol interfaces on them.
+/// The handle table: the live handles and the protocol interfaces on them. Each interface is kept
+/// once, under a key that stays; the rows of the handles and the groups of the GUIDs have its key.
 #[derive(Drop)]
 pub struct Handles<A: Allocator = Global> {
-    live: Vec<LiveHandle, A>,
-    // The numbers of the live handles.
-    numbers: Vec<u64, A>,
-    interfaces: Interfaces<A>,
+    rows: Rows<A>,
+    records: Slab<Record, A>,
+    groups: Groups<A>,
     last_number: u64,
     last_stamp: u64,
 }
 
 impl<A: Allocator> Model for Handles<A> {
     ghost use Rattle.guid_handles.specs.HandleTables.{HandleTable};
-    ghost use Rattle.guid_handles.specs.Stores.{IsStore};
+    ghost use Rattle.guid_handles.specs.Stores.{IsStore, table_of};
 
     ghost Value = { HandleTable };
 
-    ghost view = { λ h. record { handles = h.live.items; interfaces = h.interfaces.listed.items; last_number = h.last_number; last_stamp = h.last_stamp } };
+    ghost view = { λ h. table_of h.rows h.records.slots h.last_number h.last_stamp };
 
-    ghost invariant = { λ h. IsStore (record { handles = h.live.items; interfaces = h.interfaces.listed.items; last_number = h.last_number; last_stamp = h.last_stamp }) h.numbers.items h.interfaces.groups h.interfaces.blocks };
+    ghost invariant = { λ h. IsStore h.rows h.records.slots h.groups h.last_number h.last_stamp };
+}
+
+/// Puts the key of an interface on a live handle into its row and into the group of its GUID. On an
+/// `Err` the rows are as they were, and the groups have the same keys.
+fn file_key<A: Allocator + Copy>(
+    rows: &mut Rows<A>,
+    groups: &mut Groups<A>,
+    handle: u64,
+    guid: Uuid,
+    key: usize,
+) -> Result<(), AllocError>
+    requires live { is_some (find (is_row_of handle) rows.old) ≡ true }
+    requires absent { key_at groups.old guid handle ≡ None }
+    ensures rows { OnOk result (ChangesKeys handle (λ ks. ks ++ key ∷ []) rows.old rows.new) }
+    ensures groups { OnOk result ((k : List ℕ) (n : ℕ) → key_at groups.new k n ≡ cond ((handle == n) && same_guid guid k) (Some key) (key_at groups.old k n)) }
+    ensures rows_stay { OnErr result (rows.new ≡ rows.old) }
+    ensures groups_stay { OnErr result ((k : List ℕ) (n : ℕ) → key_at groups.new k n ≡ key_at groups.old k n) }
+{
+    groups.add(guid, handle, key)?;
+    if let Err(error) = rows.push_key(handle, key) {
+        groups.remove(guid, handle);
+        return Err(error);
+    }
+    Ok(())
+}
+
+/// Gives the interface at a key a value and a stamp.
+fn restamp<A: Allocator>(records: &mut Slab<Record, A>, key: usize, value: u64, stamp: u64)
+    ensures changed { record_at records.new.slots key ≡ option_map (with_stamp value stamp) (record_at records.old.slots key) }
+    ensures others { (j : ℕ) → j ≢ key → record_at records.new.slots j ≡ record_at records.old.slots j }
+{
+    if let Some(record) = records.get_mut(key) {
+        record.interface.value = value;
+        record.interface.stamp = stamp;
+    }
 }
 
 impl<A: Allocator + Copy> Handles<A> {
@@ -48,9 +85,9 @@ impl<A: Allocator + Copy> Handles<A> {
         ensures { result ≡ record { handles = []; interfaces = []; last_number = 0; last_stamp = 0 } }
     {
         Handles {
-            live: Vec::new(alloc),
-            numbers: Vec::new(alloc),
-            interfaces: Interfaces::new(alloc),
+            rows: Rows::new(alloc),
+            records: Slab::new(alloc),
+            groups: Groups::new(alloc),
             last_number: 0,
             last_stamp: 0,
         }
@@ -60,14 +97,13 @@ impl<A: Allocator + Copy> Handles<A> {
     pub fn try_copy(&self) -> Result<Handles<A>, AllocError>
         ensures { IfOk result (λ copy. copy ≡ self.now) }
     {
-        let alloc = *self.numbers.allocator();
-        let live = Vec::from_slice(alloc, self.live.as_slice())?;
-        let numbers = Vec::from_slice(alloc, self.numbers.as_slice())?;
-        let interfaces = self.interfaces.try_copy()?;
+        let rows = self.rows.try_copy()?;
+        let records = self.records.clone()?;
+        let groups = self.groups.try_copy()?;
         Ok(Handles {
-            live,
-            numbers,
-            interfaces,
+            rows,
+            records,
+            groups,
             last_number: self.last_number,
             last_stamp: self.last_stamp,
         })
@@ -79,35 +115,31 @@ impl<A: Allocator + Copy> Handles<A> {
         ensures count { length result.now ≡ length self.now.handles }
         ensures proper { IsHandleTable self.now }
     {
-        self.numbers.as_slice()
-    }
-
-    /// The interfaces of all handles, in order of installation.
-    pub fn interfaces(&self) -> &[Interface]
-        ensures { result.now ≡ self.now.interfaces }
-    {
-        self.interfaces.listed.as_slice()
+        self.rows.numbers()
     }
 
     /// Whether a handle is live.
     pub fn is_live(&self, handle: u64) -> bool
         ensures { result ≡ is_live self.now handle }
     {
-        find_handle(self.live.as_slice(), handle).is_some()
+        self.rows.find(handle).is_some()
     }
 
     /// The controller and the agent of the driver that made a handle as a child.
     pub fn maker(&self, handle: u64) -> Option<(u64, u64)>
         ensures { result ≡ maker_of self.now handle }
     {
-        find_handle(self.live.as_slice(), handle).and_then(|h| h.maker)
+        self.rows.find(handle).and_then(|h| h.maker)
     }
 
     /// The interface of a GUID on a handle.
     fn find(&self, handle: u64, guid: Uuid) -> Option<Interface>
         ensures { result ≡ interface_at self.now handle guid }
     {
-        self.interfaces.groups.find(handle, guid)
+        match self.groups.key(guid, handle) {
+            Some(key) => interface_at(&self.records, key),
+            None => None,
+        }
     }
 
     /// The value of the interface of a GUID on a handle.
@@ -122,22 +154,40 @@ impl<A: Allocator + Copy> Handles<A> {
     pub fn by_protocol(&self, guid: Uuid) -> &[u64]
         ensures { result.now ≡ holders_of self.now guid }
     {
-        self.interfaces.groups.holders(guid)
+        self.groups.holders(guid)
     }
 
-    /// Interfaces on some handles that lie next to each other, and among them all on a handle, in
-    /// order of installation.
-    pub fn near(&self, handle: u64) -> &[Interface]
-        ensures { filter (is_on handle) result.now ≡ interfaces_on self.now handle }
+    /// How many interfaces are on a handle.
+    pub fn interface_count(&self, handle: u64) -> usize
+        ensures { result ≡ length (interfaces_on self.now handle) }
     {
-        self.interfaces.blocks.near(handle)
+        self.rows.keys(handle).len()
+    }
+
+    /// The interface on a handle before which so many were installed on it.
+    pub fn nth_interface(&self, handle: u64, at: usize) -> Option<Interface>
+        ensures { result ≡ slice_get (interfaces_on self.now handle) at }
+    {
+        match nth_key(self.rows.keys(handle), at) {
+            Some(key) => interface_at(&self.records, key),
+            None => None,
+        }
     }
 
     /// Whether a handle carries an interface.
     fn has_any(&self, handle: u64) -> bool
         ensures { result ≡ list_any (is_on handle) self.now.interfaces }
     {
-        has_any_on(self.near(handle), handle)
+        self.interface_count(handle) != 0
+    }
+
+    /// Writes the GUIDs on a handle in order of installation, as many as fit, and answers how many
+    /// there are.
+    fn write_all(&self, handle: u64, guids: &mut [Uuid]) -> usize
+        ensures count { result ≡ length (guids_on self.now handle) }
+        ensures written { guids.new ≡ written_over (guids_on self.now handle) guids.old }
+    {
+        write_guids(&self.records, self.rows.keys(handle), guids)
     }
 
     /// Writes the GUIDs on a live handle in order of installation, as many as fit, and answers how
@@ -148,7 +198,7 @@ impl<A: Allocator + Copy> Handles<A> {
         ensures none { IfNone result (guids.new ≡ guids.old) }
     {
         if self.is_live(handle) {
-            Some(write_guids(self.near(handle), handle, guids))
+            Some(self.write_all(handle, guids))
         } else {
             None
         }
@@ -172,7 +222,10 @@ impl<A: Allocator + Copy> Handles<A> {
     fn next(&self, guid: Uuid, mark: u64) -> Option<Interface>
         ensures { result ≡ earliest (filter (is_after guid mark) self.now.interfaces) }
     {
-        self.interfaces.groups.after(guid, mark)
+        match self.groups.find(guid) {
+            Some(group) => find_after(&self.records, group.keys(), mark),
+            None => None,
+        }
     }
 
     /// The handle and the stamp of the interface of a GUID with the least stamp above a mark.
@@ -207,7 +260,7 @@ impl<A: Allocator + Copy> Handles<A> {
     fn is_past_limit(&self, handle: u64) -> bool
         ensures { result ≡ past_limit self.now handle }
     {
-        handle == 0 && self.live.len() >= MAX_HANDLES
+        handle == 0 && self.rows.numbers().len() >= MAX_HANDLES
     }
 
     /// Why a valid installation is refused, if it is.
@@ -250,18 +303,87 @@ impl<A: Allocator + Copy> Handles<A> {
         self.limit_refusal(handle)
     }
 
+    /// Installs an interface on a live handle that does not carry its GUID.
+    fn install_one(&mut self, handle: u64, guid: Uuid, value: u64) -> Result<(), AllocError>
+        requires live { is_live self.old handle ≡ true }
+        requires absent { interface_at self.old handle guid ≡ None }
+        requires stamps { self.old.last_stamp + 1 < 2 ^ 64 }
+        ensures ok { OnOk result (self.new ≡ with_interfaces handle ((guid, value) ∷ []) self.old) }
+        ensures below { AllByRecursion (λ i. i.stamp ≤ self.old.last_stamp) self.old.interfaces }
+        ensures err { OnErr result (self.new ≡ self.old) }
+    {
+        self.records.reserve(1)?;
+        let key = self.records.vacant_key();
+        file_key(&mut self.rows, &mut self.groups, handle, guid, key)?;
+        let stamp = self.last_stamp + 1;
+        let interface = Interface {
+            handle,
+            guid,
+            value,
+            stamp,
+        };
+        self.records.insert_reserved(Record {
+            interface,
+            installed: stamp,
+        });
+        self.last_stamp = stamp;
+        Ok(())
+    }
+
+    /// Takes back the interface of a GUID on a handle, which was installed last, and its stamp.
+    fn take_back(&mut self, handle: u64, guid: Uuid)
+        requires newest { AllByRecursion (λ i. i.stamp < self.old.last_stamp) (filter (λ i. not (is_at handle guid i)) self.old.interfaces) }
+        requires some { 0 < self.old.last_stamp }
+        ensures { self.new ≡ record self.old { interfaces = filter (λ i. not (is_at handle guid i)) self.old.interfaces; last_stamp = self.old.last_stamp - 1 } }
+    {
+        self.take_out(handle, guid);
+        self.last_stamp -= 1;
+    }
+
     /// Installs interfaces on a live handle that carries none of their GUIDs.
     fn install_on(&mut self, handle: u64, pairs: &[(Uuid, u64)]) -> Result<(), AllocError>
         requires live { is_live self.old handle ≡ true }
         requires absent { AreAbsent handle pairs.now self.old.interfaces }
         requires once { has_guid_twice pairs.now ≡ false }
-        requires stamps { self.old.last_stamp < 2 ^ 62 }
+        requires stamps { self.old.last_stamp + length pairs.now < 2 ^ 64 }
         ensures ok { OnOk result (self.new ≡ with_interfaces handle pairs.now self.old) }
         ensures err { OnErr result (self.new ≡ self.old) }
     {
-        self.interfaces.add_all(handle, pairs, self.last_stamp)?;
-        self.last_stamp += pairs.len() as u64;
+        let Some((pair, others)) = pairs.split_first() else {
+            return Ok(());
+        };
+        let (guid, value) = *pair;
+        self.install_one(handle, guid, value)?;
+        if let Err(error) = self.install_on(handle, others) {
+            self.take_back(handle, guid);
+            return Err(error);
+        }
         Ok(())
+    }
+
+    /// Makes a handle without interfaces, and answers its number.
+    fn make_bare(&mut self, maker: Option<(u64, u64)>) -> Result<u64, AllocError>
+        requires room { length self.old.handles < max_handles }
+        requires numbers { self.old.last_number < 2 ^ 62 }
+        ensures ok { IfOk result (λ n. (n ≡ self.old.last_number + 1) × (self.new ≡ with_handle maker self.old)) }
+        ensures proper { IsHandleTable self.old }
+        ensures err { OnErr result (self.new ≡ self.old) }
+    {
+        let number = self.last_number + 1;
+        self.rows.push(LiveHandle { number, maker })?;
+        self.last_number = number;
+        Ok(number)
+    }
+
+    /// Takes back the handle that was made last, which has no interfaces, and its number.
+    fn unmake(&mut self)
+        requires bare { list_any (is_on self.old.last_number) self.old.interfaces ≡ false }
+        requires lower { AllByRecursion (λ n. n < self.old.last_number) (filter (λ n. not (n == self.old.last_number)) (numbers self.old)) }
+        requires some { 0 < self.old.last_number }
+        ensures { self.new ≡ record (without_handle self.old.last_number self.old) { last_number = self.old.last_number - 1 } }
+    {
+        self.remove_bare(self.last_number);
+        self.last_number -= 1;
     }
 
     /// Installs interfaces on a new handle.
@@ -277,14 +399,11 @@ impl<A: Allocator + Copy> Handles<A> {
         ensures ok { IfOk result (λ n. (n ≡ self.old.last_number + 1) × (self.new ≡ with_interfaces n pairs.now (with_handle maker self.old))) }
         ensures err { OnErr result (self.new ≡ self.old) }
     {
-        let number = self.last_number + 1;
-        self.live.reserve(1)?;
-        self.numbers.reserve(1)?;
-        self.interfaces.add_all(number, pairs, self.last_stamp)?;
-        push_with_room(&mut self.live, LiveHandle { number, maker });
-        push_with_room(&mut self.numbers, number);
-        self.last_number = number;
-        self.last_stamp += pairs.len() as u64;
+        let number = self.make_bare(maker)?;
+        if let Err(error) = self.install_on(number, pairs) {
+            self.unmake();
+            return Err(error);
+        }
         Ok(number)
     }
 
@@ -366,7 +485,11 @@ impl<A: Allocator + Copy> Handles<A> {
     fn take_out(&mut self, handle: u64, guid: Uuid)
         ensures { self.new ≡ record self.old { interfaces = filter (λ i. not (is_at handle guid i)) self.old.interfaces } }
     {
-        self.interfaces.remove(handle, guid);
+        if let Some(key) = self.groups.key(guid, handle) {
+            self.rows.remove_key(handle, key);
+            self.groups.remove(guid, handle);
+            self.records.try_remove(key);
+        }
     }
 
     /// Takes out the interface of a GUID on a handle. A handle that is left without interfaces goes.
@@ -385,17 +508,27 @@ impl<A: Allocator + Copy> Handles<A> {
         requires { list_any (is_on handle) self.old.interfaces ≡ false }
         ensures { self.new ≡ without_handle handle self.old }
     {
-        drop_live(&mut self.live, handle);
-        drop_number(&mut self.numbers, handle);
+        self.rows.remove(handle);
+    }
+
+    /// Takes out the interface on a handle that was installed first, if there is one.
+    fn take_first(&mut self, handle: u64)
+        ensures others { without_handle handle self.new ≡ without_handle handle self.old }
+        ensures fewer { length (interfaces_on self.new handle) ≤ length (interfaces_on self.old handle) - 1 }
+    {
+        if let Some(interface) = self.nth_interface(handle, 0) {
+            self.take_out(handle, interface.guid);
+        }
     }
 
     /// Takes out a handle with its interfaces.
     pub fn remove_handle(&mut self, handle: u64)
         ensures { self.new ≡ without_handle handle self.old }
     {
-        drop_live(&mut self.live, handle);
-        drop_number(&mut self.numbers, handle);
-        self.interfaces.remove_all_on(handle);
+        while self.has_any(handle) {
+            self.take_first(handle);
+        }
+        self.remove_bare(handle);
     }
 
     /// Gives the interface of a GUID on a handle a value and a new stamp. It keeps its place in the
@@ -406,8 +539,9 @@ impl<A: Allocator + Copy> Handles<A> {
         ensures { self.new ≡ with_value handle guid value self.old }
     {
         self.last_stamp += 1;
-        self.interfaces
-            .replace(handle, guid, value, self.last_stamp);
+        if let Some(key) = self.groups.key(guid, handle) {
+            restamp(&mut self.records, key, value, self.last_stamp);
+        }
     }
 }
 

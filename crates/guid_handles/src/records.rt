@@ -18,3 +18,11 @@ pub struct Interface {
     /// Of two interfaces the one that was installed or reinstalled later has the higher stamp.
     pub stamp: u64,
 }
+
+/// An interface as it is kept.
+#[derive(Clone, Copy)]
+pub(crate) struct Record {
+    pub(crate) interface: Interface,
+    /// The stamp of its installation. Interfaces are in the order of these.
+    pub(crate) installed: u64,
+}

@@ -1,28 +1,29 @@
-use Rattle.std.proofs.Common.{◌≡◌, true, false, arith, append-nil, length-append}
-use Rattle.std.proofs.lemmas.Bool.{eq-eqb, ne_eqb}
-use Rattle.guid_handles.specs.HandleTables.{is_on}
-use Rattle.guid_handles.proofs.SortedLists.{map_append, one_written, filter_next}
+use Rattle.std.proofs.Common.{◌++◌, arith, append-nil, length-append, sym, ap, ◌∙◌, take}
+use Rattle.std.specs.Option.{option_to_list}
+use Rattle.guid_handles.specs.Slots.{at_keys}
+use Rattle.guid_handles.proofs.SortedLists.{map_append, one_written}
+use Rattle.guid_handles.proofs.Filed.{keys_next}
 use Rattle.guid_handles.proofs.searches.write_guids.Goals as goal
-use Rattle.guid_handles.proofs.searches.write_guids.Goals.{then-i-handle, else-i-handle}
+use Rattle.guid_handles.proofs.searches.write_guids.Goals.{in-Some, in_default}
 
-pub loop-i-preserved : goal.loop-i-preserved
-loop-i-preserved c =
-    let next = filter_next (is_on c.args.handle) c.args.listed.now c.loop-i.i-index c.i-item.result c.loop-i-test.true c.i-item.is in
-    elim c.if-i-handle.branch [
-      | then-i-handle w ↦
-          let k : is_on c.args.handle c.i-item.result ≡ true = eq-eqb c.i-item.result.handle c.args.handle w.if-i-handle.true in
-          let e = rw k at next in
+pub loop-at-preserved : goal.loop-at-preserved
+loop-at-preserved g c =
+    let next =
+    keys_next c.args.records.now.slots c.args.keys.now c.loop-at.at 0 c.loop-at-test.true
+    ∙ ap (λ o. at_keys c.args.records.now.slots (take c.loop-at.at c.args.keys.now) ++ option_to_list o) (sym c.interface_at.ensures) in
+    elim c.match-interface_at.branch [
+      | in-Some w ↦
+          let e = rw w.in-Some.is at next in
           rw (w.count-is, w.out-is, e, map_append) record {
-            count = rw length-append (omega (arith, c.loop-i.invariant.count));
+            count = rw length-append (omega (arith, c.loop-at.invariant.count));
             bound = omega arith;
-            written = rw w.put_guid.ensures (one_written _ _ _ _ _ c.loop-i.invariant.count c.loop-i.invariant.written);
+            written = rw w.put_guid.ensures (one_written _ _ _ _ _ c.loop-at.invariant.count c.loop-at.invariant.written);
           }
-      | else-i-handle w ↦
-          let k : is_on c.args.handle c.i-item.result ≡ false = ne_eqb c.i-item.result.handle c.args.handle w.if-i-handle.false in
-          let e = rw append-nil at (rw k at next) in
+      | in_default w ↦
+          let e = rw append-nil at (rw w.in_default.is at next) in
           rw (w.count-is, w.out-is, e) record {
-            count = c.loop-i.invariant.count;
+            count = c.loop-at.invariant.count;
             bound = omega arith;
-            written = c.loop-i.invariant.written;
+            written = c.loop-at.invariant.written;
           }
     ]

@@ -1,5 +1,9 @@
 use Rattle.guid_handles.proofs.Grouped.{holders_told}
 use Rattle.guid_handles.proofs.groups.Groups.holders.Goals as goal
 
+pub group_of-requires : goal.group_of-requires
+group_of-requires g c = rw c.as_slice.ensures.value c.self.invariant.ascending
+
 pub returns-in-Some-clause-those : goal.returns-in-Some-clause-those
-returns-in-Some-clause-those g c = rw (← c.self.view_is, c.holders.ensures.handles) (holders_told _ c.args.guid _ (rw c.as_slice.ensures.value at c.in-Some.ensures))
+returns-in-Some-clause-those g c =
+    rw (← c.self.view_is, c.holders.ensures.holders) (holders_told _ c.args.guid _ (rw c.as_slice.ensures.value at c.in-Some.ensures) c.holders.ensures.even)

@@ -1,13 +1,5 @@
-use Rattle.std.proofs.Common.{refl}
-use Rattle.guid_handles.proofs.Grouped.{ascend_set, got, grouped_remove}
+use Rattle.guid_handles.proofs.Grouped.{none_there}
 use Rattle.guid_handles.proofs.groups.Groups.remove.Goals as goal
 
-pub invariant_of-self : goal.invariant_of-self
-invariant_of-self g c =
-    let there = rw c.as_slice.ensures.value at c.in-Some.ensures.there in
-    rw c.remove.ensures (ascend_set _ _ _ _ c.self.invariant (got _ _ _ there.0 c.index_mut.ensures.value) refl)
-
-pub returns-in-Some : goal.returns-in-Some
-returns-in-Some g c =
-    let there = rw c.as_slice.ensures.value at c.in-Some.ensures.there in
-    rw (← c.self.view_is, c.remove.ensures) (grouped_remove _ c.args.guid _ _ c.args.handle there (got _ _ _ there.0 c.index_mut.ensures.value))
+pub returns-in_default : goal.returns-in_default
+returns-in_default g c = rw (← c.self.view_is) (none_there _ c.args.guid c.args.handle (rw c.as_slice.ensures.value at c.in_default.ensures.none))

@@ -1,6 +1,6 @@
-use Rattle.std.proofs.lemmas.List.{length-map}
+use Rattle.std.proofs.Common.{sym}
+use Rattle.guid_handles.proofs.Numbered.{live_numbers}
 use Rattle.guid_handles.proofs.handles.Handles.all.Goals as goal
 
-pub returns-clause-count : goal.returns-clause-count
-returns-clause-count g c =
-    rw (← c.self.view_is, c.as_slice.ensures.value, c.self.invariant.numbered, length-map)
+pub returns-clause-numbers : goal.returns-clause-numbers
+returns-clause-numbers g c = rw (← c.self.view_is, c.numbers.ensures) (sym (live_numbers _))

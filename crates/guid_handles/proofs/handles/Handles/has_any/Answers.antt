@@ -1,7 +1,6 @@
-use Rattle.std.proofs.Common.{◌∙◌}
+use Rattle.guid_handles.proofs.Stored.{any_counted}
 use Rattle.guid_handles.specs.HandleTables.{is_on}
-use Rattle.guid_handles.proofs.Filed.{any_by_filter}
 use Rattle.guid_handles.proofs.handles.Handles.has_any.Goals as goal
 
 pub returns : goal.returns
-returns g c = c.has_any_on.ensures ∙ any_by_filter (is_on c.args.handle) _ _ c.near.ensures
+returns g c = rw c.interface_count.ensures (any_counted (is_on c.args.handle) c.args.self.now.interfaces)

@@ -1,17 +1,17 @@
-use Rattle.guid_handles.proofs.Stored.{absent_on_new, store_same, store_with_new}
+use Rattle.guid_handles.proofs.Stored.{absent_on_new, lower_numbers, new_is_live, none_is_on, unmade_again}
 use Rattle.guid_handles.proofs.handles.Handles.install_on_new.Goals as goal
 
-pub add_all-requires-clause-absent : goal.add_all-requires-clause-absent
-add_all-requires-clause-absent g c = absent_on_new _ c.self.invariant.table c.args.pairs.now
+pub install_on-requires-clause-live : goal.install_on-requires-clause-live
+install_on-requires-clause-live g c = rw (c.in_ok-number.ensures.ok.1, c.in_ok-number.ensures.ok.0) (new_is_live c.args.self.now c.args.maker)
 
-pub invariant_of-self-in_err-add_all : goal.invariant_of-self-in_err-add_all
-invariant_of-self-in_err-add_all g c =
-    rw (c.reserve.ensures.items, c.reserve-2.ensures.items, c.in_err-add_all.ensures.err)
-    (store_same _ _ _ _ _ _ c.self.invariant (rw c.in_err-add_all.ensures.err at c.add_all.ensures.filed))
+pub install_on-requires-clause-absent : goal.install_on-requires-clause-absent
+install_on-requires-clause-absent g c = rw (c.in_ok-number.ensures.ok.1, c.in_ok-number.ensures.ok.0) (absent_on_new c.args.self.now c.in_ok-number.ensures.proper c.args.pairs.now)
 
-pub invariant_of-self-2 : goal.invariant_of-self-2
-invariant_of-self-2 g c =
-    rw (c.push_with_room.ensures.items, c.push_with_room-2.ensures.items, c.reserve.ensures.items, c.reserve-2.ensures.items, c.in_ok-add_all.ensures.ok)
-    (store_with_new _ _ _ _ _ _ c.args.maker c.args.pairs.now c.self.invariant (rw (← c.self.view_is) at c.requires.room)
-    (absent_on_new _ c.self.invariant.table c.args.pairs.now) c.requires.once
-    (rw c.in_ok-add_all.ensures.ok at c.add_all.ensures.filed))
+pub unmake-requires-clause-bare : goal.unmake-requires-clause-bare
+unmake-requires-clause-bare g c = rw (c.in-Err.ensures.err, c.in_ok-number.ensures.ok.1) (none_is_on c.args.self.now c.in_ok-number.ensures.proper)
+
+pub unmake-requires-clause-lower : goal.unmake-requires-clause-lower
+unmake-requires-clause-lower g c = rw (c.in-Err.ensures.err, c.in_ok-number.ensures.ok.1) (lower_numbers c.args.self.now c.args.maker c.in_ok-number.ensures.proper)
+
+pub returns-in-Err-clause-err : goal.returns-in-Err-clause-err
+returns-in-Err-clause-err g c = rw (c.unmake.ensures, c.in-Err.ensures.err, c.in_ok-number.ensures.ok.1) (unmade_again c.args.self.now c.args.maker c.in_ok-number.ensures.proper)

@@ -1,6 +1,17 @@
-use Rattle.guid_handles.proofs.Stored.{store_without_interface}
+use Rattle.std.proofs.Common.{sym}
+use Rattle.guid_handles.proofs.Stored.{stored_less, stored_kept}
 use Rattle.guid_handles.proofs.handles.Handles.take_out.Goals as goal
 
 pub invariant_of-self : goal.invariant_of-self
 invariant_of-self g c =
-    rw c.remove.ensures.listed (store_without_interface _ _ _ _ _ _ c.args.handle c.args.guid c.self.invariant (rw c.remove.ensures.listed at c.remove.ensures.filed))
+    (stored_less _ _ _ _ _ c.self.invariant _ _ _ c.args.handle c.args.guid _ (sym c.in-Some.ensures) c.try_remove.ensures.updates.changed c.try_remove.ensures.updates.others
+    c.remove_key.ensures c.remove.ensures).1
+
+pub returns-in-Some : goal.returns-in-Some
+returns-in-Some g c =
+    rw (← c.self.view_is)
+    (stored_less _ _ _ _ _ c.self.invariant _ _ _ c.args.handle c.args.guid _ (sym c.in-Some.ensures) c.try_remove.ensures.updates.changed c.try_remove.ensures.updates.others
+    c.remove_key.ensures c.remove.ensures).0
+
+pub returns-in_default : goal.returns-in_default
+returns-in_default g c = rw (← c.self.view_is) (stored_kept _ _ _ _ _ c.self.invariant c.args.handle c.args.guid (sym c.in_default.ensures))

@@ -1,0 +1,139 @@
+-- Keys beside handles that ascend: which one is beside a handle, and what an insertion and a removal change.
+use Rattle.std.proofs.Common.{◌≡◌, ◌⊎◌, ℕ, zero, suc, ◌<◌, ◌==◌, nat_lt, true, false, cond, List, [], ◌∷◌, length, Option, Some, None, is_some, inl, inr, refl, sym, ap, ◌∙◌, arith}
+use Rattle.std.specs.List.{AllByRecursion, slice_get, insert, remove}
+use Rattle.std.proofs.lemmas.Bool.{cases_Bool, ne_eqb, eq-eqb, ltb-true}
+use Rattle.std.proofs.lemmas.Bool.Decides.{eqb_tells}
+use Rattle.std.proofs.lemmas.Option.{same_Some}
+use Rattle.guid_handles.specs.Sorting.{place, kept_if}
+use Rattle.guid_handles.specs.Indexes.{AreBeside, key_beside}
+use Rattle.guid_handles.proofs.SortedLists.{all_map, got_all, ascending_insert, ascending_remove}
+use Rattle.guid_handles.proofs.Grouped.{above, is_same}
+
+beside_none : (n : ℕ) (hs ks : List ℕ) → AllByRecursion (λ m. (m == n) ≡ false) hs → key_beside hs ks n ≡ None
+beside_none n [] ks a = refl
+beside_none n (h ∷ hs) [] a = refl
+beside_none n (h ∷ hs) (k ∷ ks) a = rw a.0 (beside_none n hs ks a.1)
+
+none_beside : (n : ℕ) (hs ks : List ℕ) → length hs ≡ length ks → key_beside hs ks n ≡ None → AllByRecursion (λ m. (m == n) ≡ false) hs
+none_beside n [] ks e z = tt
+none_beside n (h ∷ hs) [] e z = absurd (omega (arith, e))
+none_beside n (h ∷ hs) (k ∷ ks) e z = elim (cases_Bool (h == n)) [
+  | inl t ↦ let w : Some k ≡ None = rw t at z in cc
+  | inr f ↦ (f, none_beside n hs ks (omega (arith, e)) (rw f at z))
+]
+
+higher : (n : ℕ) (hs : List ℕ) (h : ℕ) → AllByRecursion (λ m. h < m) hs → n < h ⊎ (n ≡ h) → AllByRecursion (λ m. (m == n) ≡ false) hs
+higher n hs h a l = all_map (λ m. h < m) (λ m. (m == n) ≡ false) (λ m b. ne_eqb m n (λ e. elim l [ inl k ↦ omega (arith, b, e, k) | inr k ↦ omega (arith, b, e, k) ])) hs a
+
+-- the key beside a handle is at the place of the handle
+pub beside_found : (n : ℕ) (hs ks : List ℕ) → AreBeside hs ks
+    → key_beside hs ks n ≡ cond (is_some (kept_if (λ m. m == n) (slice_get hs (place (λ m. nat_lt m n) hs)))) (slice_get ks (place (λ m. nat_lt m n) hs)) None
+beside_found n [] ks a = refl
+beside_found n (h ∷ hs) [] a = absurd (omega (arith, a.even))
+beside_found n (h ∷ hs) (k ∷ ks) a = elim (cases_Bool (nat_lt h n)) [
+  | inl t ↦
+      let f : (h == n) ≡ false = ne_eqb h n (λ e. omega (arith, e, ltb-true h n t)) in
+      rw t (rw f (beside_found n hs ks (record { ascending = a.ascending.1; even = omega (arith, a.even) })))
+  | inr f ↦ rw f (elim (cases_Bool (h == n)) [
+    | inl t ↦ rw t refl
+    | inr g ↦ rw g (beside_none n hs ks (higher n hs h a.ascending.0 (inl (above h n g f))))
+  ])
+]
+
+-- ---- one more
+
+pub beside_insert : (hs ks : List ℕ) (at h k n : ℕ) → length hs ≡ length ks → key_beside hs ks h ≡ None → key_beside (insert hs at h) (insert ks at k) n ≡ cond (h == n) (Some k) (key_beside hs ks n)
+beside_insert [] [] zero h k n e z = refl
+beside_insert [] [] (suc at) h k n e z = refl
+beside_insert [] (y ∷ ys) at h k n e z = absurd (omega (arith, e))
+beside_insert (x ∷ xs) [] at h k n e z = absurd (omega (arith, e))
+beside_insert (x ∷ xs) (y ∷ ys) zero h k n e z = refl
+beside_insert (x ∷ xs) (y ∷ ys) (suc at) h k n e z = elim (cases_Bool (x == h)) [
+  | inl t ↦ let w : Some y ≡ None = rw t at z in cc
+  | inr f ↦ elim (eqb_tells x n) [
+    | inl t ↦
+        let g : (h == n) ≡ false = ne_eqb h n (λ w. let u : (x == h) ≡ true = eq-eqb x h (omega (arith, w, t.1)) in let v : false ≡ true = sym f ∙ u in cc) in
+        rw t.0 (rw g refl)
+    | inr d ↦ rw d.0 (beside_insert xs ys at h k n (omega (arith, e)) (rw f at z))
+  ]
+]
+
+even_insert : (hs ks : List ℕ) (at h k : ℕ) → length hs ≡ length ks → length (insert hs at h) ≡ length (insert ks at k)
+even_insert [] [] zero h k e = refl
+even_insert [] [] (suc at) h k e = refl
+even_insert [] (y ∷ ys) at h k e = absurd (omega (arith, e))
+even_insert (x ∷ xs) [] at h k e = absurd (omega (arith, e))
+even_insert (x ∷ xs) (y ∷ ys) zero h k e = omega (arith, e)
+even_insert (x ∷ xs) (y ∷ ys) (suc at) h k e = omega (arith, even_insert xs ys at h k (omega (arith, e)))
+
+pub insert_beside : (hs ks : List ℕ) (at h k : ℕ) → AreBeside hs ks → key_beside hs ks h ≡ None → at ≡ place (λ m. nat_lt m h) hs → AreBeside (insert hs at h) (insert ks at k)
+insert_beside hs ks at h k a z e = record {
+  ascending = rw e (ascending_insert (λ a b. a < b) (λ x y z l m. omega (arith, l, m)) (λ m. nat_lt m h) hs h
+      (all_map (λ m. (m == h) ≡ false) (λ m. (nat_lt m h ≡ true → m < h) × (nat_lt m h ≡ false → h < m)) (λ m f. (λ t. ltb-true m h t, λ l. above m h f l)) hs (none_beside h hs ks a.even z))
+      a.ascending);
+  even = even_insert hs ks at h k a.even;
+}
+
+pub insert_held : (hs : List ℕ) (at h : ℕ) → 0 < length (insert hs at h)
+insert_held [] zero h = omega arith
+insert_held [] (suc at) h = omega arith
+insert_held (x ∷ xs) zero h = omega arith
+insert_held (x ∷ xs) (suc at) h = omega arith
+
+-- ---- one less
+
+pub beside_remove : (hs ks : List ℕ) (at h n : ℕ) → AreBeside hs ks → slice_get hs at ≡ Some h → key_beside (remove hs at) (remove ks at) n ≡ cond (h == n) None (key_beside hs ks n)
+beside_remove [] ks zero h n a e = absurd cc
+beside_remove [] ks (suc at) h n a e = absurd cc
+beside_remove (x ∷ xs) [] at h n a e = absurd (omega (arith, a.even))
+beside_remove (x ∷ xs) (y ∷ ys) zero h n a e =
+    let s : x ≡ h = same_Some x h e in
+    rw (← s) (elim (eqb_tells x n) [
+      | inl t ↦ rw t.0 (beside_none n xs ys (higher n xs x a.ascending.0 (inr (sym t.1))))
+      | inr f ↦ rw f.0 refl
+    ])
+beside_remove (x ∷ xs) (y ∷ ys) (suc at) h n a e =
+    let l : x < h = got_all (λ m. x < m) xs at h a.ascending.0 e in
+    elim (eqb_tells x n) [
+      | inl t ↦ let g : (h == n) ≡ false = ne_eqb h n (λ w. omega (arith, w, l, t.1)) in rw t.0 (rw g refl)
+      | inr f ↦ rw f.0 (beside_remove xs ys at h n (record { ascending = a.ascending.1; even = omega (arith, a.even) }) e)
+    ]
+
+even_remove : (hs ks : List ℕ) (at : ℕ) → length hs ≡ length ks → length (remove hs at) ≡ length (remove ks at)
+even_remove [] [] zero e = refl
+even_remove [] [] (suc at) e = refl
+even_remove [] (y ∷ ys) at e = absurd (omega (arith, e))
+even_remove (x ∷ xs) [] at e = absurd (omega (arith, e))
+even_remove (x ∷ xs) (y ∷ ys) zero e = omega (arith, e)
+even_remove (x ∷ xs) (y ∷ ys) (suc at) e = omega (arith, even_remove xs ys at (omega (arith, e)))
+
+pub remove_beside : (hs ks : List ℕ) (at : ℕ) → AreBeside hs ks → AreBeside (remove hs at) (remove ks at)
+remove_beside hs ks at a = record {
+  ascending = ascending_remove (λ a b. a < b) hs at a.ascending;
+  even = even_remove hs ks at a.even;
+}
+
+pub beside_at : (n at : ℕ) (hs ks : List ℕ) → AreBeside hs ks → at ≡ place (λ m. nat_lt m n) hs → is_some (kept_if (λ m. m == n) (slice_get hs at)) ≡ true → key_beside hs ks n ≡ slice_get ks at
+beside_at n at hs ks a e t =
+    let s : is_some (kept_if (λ m. m == n) (slice_get hs (place (λ m. nat_lt m n) hs))) ≡ true = rw e at t in
+    beside_found n hs ks a ∙ rw s (ap (slice_get ks) (sym e))
+
+pub none_beside_at : (n at : ℕ) (hs ks : List ℕ) → AreBeside hs ks → at ≡ place (λ m. nat_lt m n) hs → is_some (kept_if (λ m. m == n) (slice_get hs at)) ≡ false → key_beside hs ks n ≡ None
+none_beside_at n at hs ks a e f =
+    let s : is_some (kept_if (λ m. m == n) (slice_get hs (place (λ m. nat_lt m n) hs))) ≡ false = rw e at f in
+    beside_found n hs ks a ∙ rw s refl
+
+-- a handle that is found at its place is there
+pub kept_there : (n : ℕ) (o : Option ℕ) → is_some (kept_if (λ m. m == n) o) ≡ true → o ≡ Some n
+kept_there n None h = absurd cc
+kept_there n (Some m) h = elim (cases_Bool (m == n)) [
+  | inl t ↦ ap (λ x. Some x) (is_same m n t)
+  | inr f ↦ let w = rw f at h in cc
+]
+
+-- where a handle has no key, to take it away changes nothing
+pub absent_same : (h n : ℕ) (hs ks : List ℕ) → key_beside hs ks h ≡ None → key_beside hs ks n ≡ cond (h == n) None (key_beside hs ks n)
+absent_same h n hs ks e = elim (eqb_tells h n) [
+  | inl t ↦ rw t.0 (ap (key_beside hs ks) (sym t.1) ∙ e)
+  | inr f ↦ rw f.0 refl
+]

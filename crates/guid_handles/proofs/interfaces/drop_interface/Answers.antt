@@ -1,7 +1,0 @@
-use Rattle.std.proofs.Common.{rules, not}
-use Rattle.std.proofs.lemmas.Fn.{filter_same}
-use Rattle.guid_handles.specs.HandleTables.{is_at}
-use Rattle.guid_handles.proofs.interfaces.drop_interface.Goals as goal
-
-pub returns-clause-items : goal.returns-clause-items
-returns-clause-items g c = filter_same _ (λ i. not (is_at c.args.handle c.args.guid i)) _ (λ x b f k. search rules) _ _ c.retain.ensures.filtered

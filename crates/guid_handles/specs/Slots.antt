@@ -1,0 +1,36 @@
+-- The interfaces in the slots of a slab, by keys and in order of installation.
+use Rattle.std.specs.Prelude.{ℕ, zero, suc, ◌==◌, cond, List, [], ◌∷◌, ◌++◌, Option, Some, None, slice_index_or}
+use Rattle.std.specs.List.{filter_map}
+use Rattle.std.specs.Option.{option_map}
+use Rattle.guid_handles.specs.declared.records.Interface.{Interface}
+use Rattle.guid_handles.specs.declared.records.Record.{Record}
+
+-- the record at a key
+abbrev pub record_at : List (Option Record) → ℕ → Option Record
+record_at slots key = slice_index_or slots key None
+
+-- the interface at a key
+abbrev pub at_key : List (Option Record) → ℕ → Option Interface
+at_key slots key = option_map (λ r. r.interface) (record_at slots key)
+
+-- the interfaces at keys
+abbrev pub at_keys : List (Option Record) → List ℕ → List Interface
+at_keys slots keys = filter_map (at_key slots) keys
+
+-- a record with another value and stamp
+abbrev pub with_stamp : ℕ → ℕ → Record → Record
+with_stamp value stamp r = record r { interface = record r.interface { value = value; stamp = stamp } }
+
+-- the interface in a slot, if it was installed with a stamp
+abbrev pub picked : ℕ → Option Record → List Interface
+picked stamp None = []
+picked stamp (Some r) = cond (r.installed == stamp) (r.interface ∷ []) []
+
+abbrev pub installed_with : ℕ → List (Option Record) → List Interface
+installed_with stamp [] = []
+installed_with stamp (slot ∷ slots) = picked stamp slot ++ installed_with stamp slots
+
+-- the interfaces that were installed with the stamps from 1 to the last, in this order
+abbrev pub installed_until : ℕ → List (Option Record) → List Interface
+installed_until zero slots = []
+installed_until (suc stamp) slots = installed_until stamp slots ++ installed_with (suc stamp) slots
