@@ -6,7 +6,7 @@ use Rattle.guid_handles.specs.HandleTables.{HandleTable, is_live, same_guid}
 use Rattle.guid_handles.proofs.SortedLists.{any_found, find_filter}
 use Rattle.guid_handles.proofs.Grouped.{is_same}
 use Rattle.open_agents.specs.declared.items.OpenRecord.{OpenRecord}
-use Rattle.open_agents.specs.OpenItems.{is_for_driver, is_exclusive, is_open_on, is_of_pair, is_closed_by, item_of, items_on}
+use Rattle.open_agents.specs.OpenItems.{is_for_driver, is_exclusive, is_open_on, is_of_pair, is_closed_by, item_of, items_on, manages, managers_of, names}
 use Rattle.open_agents.specs.declared.items.Decision.TheVariants.{Add}
 use Rattle.open_agents.specs.OpenRule.{add_or_stop, has_equal, has_of_agent, has_holder, has_exclusive, is_driver_item, driver_item, names_badly, needs_agent, open_rule}
 use Rattle.open_agents.proofs.Placed.{none_of_agent_0}
@@ -21,7 +21,71 @@ first_part a b h = elim (cases_Bool a) [
 open_near : (n : ℕ) (guid : List ℕ) (o : OpenRecord) → is_open_on n guid o ≡ true → is_near n o ≡ true
 open_near n guid o h =
     let e : o.handle ≡ n = is_same o.handle n (first_part (o.handle == n) (same_guid o.guid guid) h) in
-    rw e (eq-eqb (n / block_size) (n / block_size) refl)
+    rw (e, eq-eqb (n / block_size) (n / block_size) refl) refl
+
+or_true : (a : Bool) → (a || true) ≡ true
+or_true true = refl
+or_true false = refl
+
+controller_near : (n : ℕ) (o : OpenRecord) → (n == 0) ≡ false → (o.controller == n) ≡ true → is_near n o ≡ true
+controller_near n o z h =
+    let e : o.controller ≡ n = is_same o.controller n h in
+    rw (e, z, eq-eqb (n / block_size) (n / block_size) refl) (or_true ((o.handle / block_size) == (n / block_size)))
+
+handle_near : (n : ℕ) (o : OpenRecord) → (o.handle == n) ≡ true → is_near n o ≡ true
+handle_near n o h =
+    let e : o.handle ≡ n = is_same o.handle n h in
+    rw (e, eq-eqb (n / block_size) (n / block_size) refl) refl
+
+second_part : (a b : Bool) → (a && b) ≡ true → b ≡ true
+second_part true b h = h
+second_part false b h = cc
+
+-- the items of a pair are near its controller
+pub pair_near : (controller agent : ℕ) (opens : List OpenRecord) → (controller == 0) ≡ false → list_any (is_of_pair controller agent) (filter (is_near controller) opens) ≡ list_any (is_of_pair controller agent) opens
+pair_near controller agent opens z =
+    sym (any_found (is_of_pair controller agent) (filter (is_near controller) opens))
+    ∙ ap is_some (find_filter (is_of_pair controller agent) (is_near controller) true (λ o h. controller_near controller o z (second_part (o.agent == agent) (o.controller == controller) h)) opens)
+    ∙ any_found (is_of_pair controller agent) opens
+
+filter_narrow : {X : Type 0} (q p : X → Bool) → ((x : X) → q x ≡ true → p x ≡ true) → (xs : List X) → filter q (filter p xs) ≡ filter q xs
+filter_narrow q p h [] = refl
+filter_narrow q p h (x ∷ xs) = elim (cases_Bool (q x)) [
+  | inl e ↦ rw (h x e) (rw e (ap (λ r. x ∷ r) (filter_narrow q p h xs)))
+  | inr e ↦ elim (cases_Bool (p x)) [
+    | inl k ↦ rw k (rw e (filter_narrow q p h xs))
+    | inr k ↦ rw k (rw e (filter_narrow q p h xs))
+  ]
+]
+
+abbrev pair_of : OpenRecord → ℕ × ℕ
+pair_of o = (o.controller, o.agent)
+
+-- the items that make a pair manage a handle are near it
+pub managed_near : (opens : List OpenRecord) (n : ℕ) → (n == 0) ≡ false → managers_of (filter (is_near n) opens) n ≡ managers_of opens n
+managed_near opens n z = ap (map pair_of) (filter_narrow (manages n) (is_near n) (λ o h. controller_near n o z (second_part (is_for_driver o.attributes) (o.controller == n) h)) opens)
+
+far_unnamed : (n : ℕ) (o : OpenRecord) → (n == 0) ≡ false → (o.agent == n) ≡ false → is_near n o ≡ false → names n o ≡ false
+far_unnamed n o z a f = elim (cases_Bool (o.handle == n)) [
+  | inl e ↦ let t = sym (handle_near n o e) ∙ f in absurd cc
+  | inr e ↦ elim (cases_Bool (o.controller == n)) [
+    | inl k ↦ let t = sym (controller_near n o z k) ∙ f in absurd cc
+    | inr k ↦ rw (e, a, k) refl
+  ]
+]
+
+no_part : (a b : Bool) → (a || b) ≡ false → (a ≡ false) × (b ≡ false)
+no_part true b h = cc
+no_part false b h = (refl, h)
+
+-- the items that name a handle, which is the agent of none, are near it
+pub naming_near : (n : ℕ) (opens : List OpenRecord) → (n == 0) ≡ false → AllByRecursion (λ o. (o.agent == n) ≡ false) opens
+    → list_any (names n) (filter (is_near n) opens) ≡ false → list_any (names n) opens ≡ false
+naming_near n [] z a h = refl
+naming_near n (o ∷ os) z a h = elim (cases_Bool (is_near n o)) [
+  | inl e ↦ let p = no_part (names n o) (list_any (names n) (filter (is_near n) os)) (rw e at h) in rw p.0 (naming_near n os z a.1 p.1)
+  | inr e ↦ rw (far_unnamed n o z a.0 e) (naming_near n os z a.1 (rw e at h))
+]
 
 -- a test that passes just items of an interface
 any_near : (n : ℕ) (guid : List ℕ) (q : OpenRecord → Bool) (opens : List OpenRecord)
@@ -57,16 +121,6 @@ driver_near opens n guid = find_filter (is_driver_item n guid) (is_near n) true 
 pub rule_near : (t : HandleTable) (opens : List OpenRecord) (n : ℕ) (guid : List ℕ) (agent controller a : ℕ) → open_rule t (filter (is_near n) opens) n guid agent controller a ≡ open_rule t opens n guid agent controller a
 rule_near t opens n guid agent controller a =
     rw (equal_near opens n guid agent controller a, of_agent_near opens n guid agent a, holder_near opens n guid, exclusive_near opens n guid, driver_near opens n guid) refl
-
-filter_narrow : {X : Type 0} (q p : X → Bool) → ((x : X) → q x ≡ true → p x ≡ true) → (xs : List X) → filter q (filter p xs) ≡ filter q xs
-filter_narrow q p h [] = refl
-filter_narrow q p h (x ∷ xs) = elim (cases_Bool (q x)) [
-  | inl e ↦ rw (h x e) (rw e (ap (λ r. x ∷ r) (filter_narrow q p h xs)))
-  | inr e ↦ elim (cases_Bool (p x)) [
-    | inl k ↦ rw k (rw e (filter_narrow q p h xs))
-    | inr k ↦ rw k (rw e (filter_narrow q p h xs))
-  ]
-]
 
 pub items_near : (opens : List OpenRecord) (n : ℕ) (guid : List ℕ) → items_on (filter (is_near n) opens) n guid ≡ items_on opens n guid
 items_near opens n guid = ap (map item_of) (filter_narrow (is_open_on n guid) (is_near n) (open_near n guid) opens)

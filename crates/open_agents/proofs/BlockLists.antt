@@ -1,14 +1,14 @@
 -- Blocks by number: which one is found, and what is found once one has changed.
 use Rattle.std.proofs.Math.ListN.{set}
-use Rattle.std.proofs.Common.{◌≡◌, ℕ, zero, suc, ◌<◌, ◌==◌, nat_lt, Bool, true, false, cond, List, [], ◌∷◌, map, length, Option, Some, None, is_some, inl, inr, refl, sym, ap, ◌∙◌, arith, subst}
-use Rattle.std.specs.List.{find, slice_get, insert, remove, AllByRecursion}
+use Rattle.std.proofs.Common.{◌≡◌, ℕ, zero, suc, ◌<◌, ◌==◌, ◌++◌, not, nat_lt, Bool, true, false, cond, List, [], ◌∷◌, map, length, Option, Some, None, is_some, inl, inr, refl, sym, ap, ◌∙◌, arith, subst}
+use Rattle.std.specs.List.{filter, find, slice_get, insert, remove, AllByRecursion}
 use Rattle.std.specs.Option.{option_map}
 use Rattle.std.proofs.lemmas.Bool.{cases_Bool, eq-eqb, ne_eqb, ltb-true}
 use Rattle.std.proofs.lemmas.Option.{same_Some}
 use Rattle.guid_handles.specs.Sorting.{Ascending, place, kept_if}
 use Rattle.guid_handles.proofs.SortedLists.{all_map, all_mapped, all_under, found_none, find_none, find_split, find_insert_other, find_insert_new, ascending_insert, map_insert, place_map, numbers_split}
 use Rattle.guid_handles.proofs.Grouped.{find_set_new, find_set_other, kept_one, one_there, none_of, some_map, is_same, above}
-use Rattle.open_agents.specs.Blocks.{Block, IsPlaceOf, AscendByNumber, ChangesBlock, block_at, one_or_empty, empty_block, is_numbered}
+use Rattle.open_agents.specs.Blocks.{Block, IsPlaceOf, AscendByNumber, ChangesBlock, ChangesBlocks, IsFree, with_last, without_place, block_at, one_or_empty, empty_block, is_numbered}
 
 -- ---- places in lists
 
@@ -63,6 +63,38 @@ found_number (h ∷ hs) n k e = elim (cases_Bool (is_numbered n h)) [
 
 pub number_there : (blocks : List Block) (n at : ℕ) (k : Block) → IsPlaceOf n blocks at → slice_get blocks at ≡ Some k → k.number ≡ n
 number_there blocks n at k p e = found_number blocks n k (p.1 ∙ e)
+
+-- ---- two blocks change
+
+pub changes_one : (b c : ℕ) (f : Block → Block) (old new : List Block) → c ≡ b → ChangesBlock b f old new → ChangesBlocks b c f old new
+changes_one b c f old new e h m = elim (cases_Bool (b == m)) [
+  | inl t ↦ h m ∙ rw (e, t) refl
+  | inr n ↦ h m ∙ rw (e, n) refl
+]
+
+pub changes_both : (b c : ℕ) (f : Block → Block) (old mid new : List Block) → (c ≡ b → ⊥) → ChangesBlock b f old mid → ChangesBlock c f mid new → ChangesBlocks b c f old new
+changes_both b c f old mid new d h k m = elim (cases_Bool (c == m)) [
+  | inl t ↦
+      let other : (b == m) ≡ false = ne_eqb b m (λ e. d (is_same c m t ∙ sym e)) in
+      k m ∙ rw (t, other) (ap f (h m ∙ rw other refl))
+  | inr n ↦ elim (cases_Bool (b == m)) [
+    | inl t ↦ k m ∙ rw (n, t) (h m ∙ rw t refl)
+    | inr o ↦ k m ∙ rw (n, o) (h m ∙ rw o refl)
+  ]
+]
+
+with_last_out : (place : ℕ) (xs : List ℕ) → filter (λ x. not (x == place)) (xs ++ place ∷ []) ≡ filter (λ x. not (x == place)) xs
+with_last_out place [] = rw (eq-eqb place place refl) refl
+with_last_out place (x ∷ xs) = ap (λ r. cond (not (x == place)) (x ∷ r) r) (with_last_out place xs)
+
+-- a place that no block had is taken out again
+pub put_back : (b place : ℕ) (old mid new : List Block) → IsFree place old → ChangesBlock b (with_last place) old mid → ChangesBlock b (without_place place) mid new → (m : ℕ) → block_at new m ≡ block_at old m
+put_back b place old mid new free h k m = elim (cases_Bool (b == m)) [
+  | inl t ↦
+      let there : block_at mid m ≡ with_last place (block_at old m) = h m ∙ rw t refl in
+      k m ∙ rw t (rw there (ap (λ r. record { number = (block_at old m).number; places = r }) (with_last_out place (block_at old m).places) ∙ free m))
+  | inr n ↦ k m ∙ rw n (h m ∙ rw n refl)
+]
 
 -- ---- one block changes
 

@@ -12,7 +12,7 @@ use Rattle.guid_handles.proofs.GuidOrder.{same_guid-true, and_false}
 use Rattle.guid_handles.proofs.Grouped.{is_same}
 use Rattle.open_agents.specs.declared.items.OpenRecord.{OpenRecord}
 use Rattle.open_agents.specs.OpenItems.{is_equal_item, counted}
-use Rattle.open_agents.specs.Blocks.{Block, HoldsAt, IsOpenStore, ChangesBlock, are_equal, block_at, block_of, block_size, is_in, is_near, item_at, items_at, items_in, passes, places_from, with_last, without_place}
+use Rattle.open_agents.specs.Blocks.{Block, HoldsAt, IsOpenStore, ChangesBlocks, IsFree, IsNoted, Notes, are_equal, block_at, block_of, block_size, second_block, is_in, is_near, item_at, items_at, items_in, passes, places_from, with_last, without_place}
 
 -- ---- items by places
 
@@ -29,8 +29,8 @@ placed_items q all (Some o ∷ ss) i h =
       | inr e ↦ rw e rest
     ]
 
-pub store_near : (slots : List (Option OpenRecord)) (blocks : List Block) → IsOpenStore slots blocks → (n : ℕ) → items_at slots (block_at blocks (n / block_size)).places ≡ filter (is_near n) (items_in slots)
-store_near slots blocks h n =
+pub store_near : (slots : List (Option OpenRecord)) (blocks agents : List Block) → IsOpenStore slots blocks agents → (n : ℕ) → items_at slots (block_at blocks (n / block_size)).places ≡ filter (is_near n) (items_in slots)
+store_near slots blocks agents h n =
     ap (λ b. items_at slots b.places) (h.in_step (n / block_size)) ∙ placed_items (is_near n) slots slots 0 (λ k. ap (item_at slots) (omega arith))
 
 held_one : (p : OpenRecord → Bool) (s : Option OpenRecord) → passes p s ≡ true → (x : OpenRecord) × (s ≡ Some x) × (p x ≡ true)
@@ -94,7 +94,7 @@ vacated_count (Some o ∷ ss) (suc k) x e = omega (arith, vacated_count ss k x e
 pub vacated_smaller : (p : OpenRecord → Bool) (slots : List (Option OpenRecord)) (k : ℕ) → HoldsAt p slots k → length (items_in (set slots k None)) < length (items_in slots)
 vacated_smaller p slots k h = let w = held p slots k h in omega (arith, vacated_count slots k w.0 w.1)
 
-all_vacated : (P : OpenRecord → Type 0) (slots : List (Option OpenRecord)) (k : ℕ) → AllByRecursion P (items_in slots) → AllByRecursion P (items_in (set slots k None))
+pub all_vacated : (P : OpenRecord → Type 0) (slots : List (Option OpenRecord)) (k : ℕ) → AllByRecursion P (items_in slots) → AllByRecursion P (items_in (set slots k None))
 all_vacated P [] zero h = tt
 all_vacated P [] (suc k) h = tt
 all_vacated P (None ∷ ss) zero h = h
@@ -155,18 +155,19 @@ emptied : (q : OpenRecord → Bool) (slots : List (Option OpenRecord)) (k : ℕ)
 emptied q slots k = sym (places_vacated q slots 0 k ∙ ap (λ n. filter (λ x. not (x == n)) (places_from 0 q slots)) (omega arith))
 
 blocks_removed : (slots : List (Option OpenRecord)) (k : ℕ) (x : OpenRecord) (old new : List Block) → item_at slots k ≡ Some x → ((b : ℕ) → block_at old b ≡ block_of slots b)
-    → ChangesBlock (x.handle / block_size) (without_place k) old new → (b : ℕ) → block_at new b ≡ block_of (set slots k None) b
+    → ChangesBlocks (x.handle / block_size) (second_block x) (without_place k) old new → (b : ℕ) → block_at new b ≡ block_of (set slots k None) b
 blocks_removed slots k x old new e h c b = elim (cases_Bool (is_in b x)) [
   | inl t ↦ c b ∙ rw t (ap (without_place k) (h b) ∙ ap (λ r. record { number = b; places = r }) (emptied (is_in b) slots k))
   | inr f ↦ c b ∙ rw f (h b ∙ ap (λ r. record { number = b; places = r }) (sym (places_other (is_in b) slots 0 k x e f)))
 ]
 
-pub store_removed : (slots : List (Option OpenRecord)) (k : ℕ) (x : OpenRecord) (old new : List Block) → IsOpenStore slots old → item_at slots k ≡ Some x
-    → ChangesBlock (x.handle / block_size) (without_place k) old new → IsOpenStore (set slots k None) new
-store_removed slots k x old new h e c = record {
+pub store_removed : (slots : List (Option OpenRecord)) (k : ℕ) (x : OpenRecord) (old new agents : List Block) → IsOpenStore slots old agents → item_at slots k ≡ Some x
+    → ChangesBlocks (x.handle / block_size) (second_block x) (without_place k) old new → IsOpenStore (set slots k None) new agents
+store_removed slots k x old new agents h e c = record {
   in_step = blocks_removed slots k x old new e h.in_step c;
   distinct = ascending_vacated (λ o p. are_equal p o ≡ false) slots k h.distinct;
   agents = all_vacated (λ o. (o.agent == 0) ≡ false) slots k h.agents;
+  all_noted = all_vacated (λ o. IsNoted agents o.agent) slots k h.all_noted;
 }
 
 -- ---- an item comes
@@ -190,7 +191,7 @@ filled : (q : OpenRecord → Bool) (slots : List (Option OpenRecord)) (o : OpenR
 filled q slots o = places_pushed q slots 0 o ∙ ap (λ n. places_from 0 q slots ++ cond (q o) (n ∷ []) []) (omega arith)
 
 blocks_pushed : (slots : List (Option OpenRecord)) (o : OpenRecord) (old new : List Block) → ((b : ℕ) → block_at old b ≡ block_of slots b)
-    → ChangesBlock (o.handle / block_size) (with_last (length slots)) old new → (b : ℕ) → block_at new b ≡ block_of (slots ++ Some o ∷ []) b
+    → ChangesBlocks (o.handle / block_size) (second_block o) (with_last (length slots)) old new → (b : ℕ) → block_at new b ≡ block_of (slots ++ Some o ∷ []) b
 blocks_pushed slots o old new h c b = elim (cases_Bool (is_in b o)) [
   | inl t ↦ c b ∙ rw t (rw (h b) (sym (rw (filled (is_in b) slots o, t) refl)))
   | inr f ↦ c b ∙ rw f (h b ∙ sym (rw (filled (is_in b) slots o, f, append-nil) refl))
@@ -203,13 +204,40 @@ none_any p (x ∷ xs) h = elim (cases_Bool (p x)) [
   | inr e ↦ (e, none_any p xs (rw e at h))
 ]
 
-pub store_pushed : (slots : List (Option OpenRecord)) (o : OpenRecord) (old new : List Block) → IsOpenStore slots old → list_any (are_equal o) (items_in slots) ≡ false → (o.agent == 0) ≡ false
-    → ChangesBlock (o.handle / block_size) (with_last (length slots)) old new → IsOpenStore (slots ++ Some o ∷ []) new
-store_pushed slots o old new h n a c = record {
+still_noted : (old new : List Block) (a : ℕ) (os : List OpenRecord) → Notes a old new → AllByRecursion (λ o. IsNoted old o.agent) os → AllByRecursion (λ o. IsNoted new o.agent) os
+still_noted old new a os k h = all_map (λ o. IsNoted old o.agent) (λ o. IsNoted new o.agent) (λ o. k.others o.agent) os h
+
+-- an agent that is not noted has no items
+pub none_of_agent : (slots : List (Option OpenRecord)) (blocks agents : List Block) (a : ℕ) → IsOpenStore slots blocks agents → (block_at agents a).places ≡ [] → AllByRecursion (λ o. (o.agent == a) ≡ false) (items_in slots)
+none_of_agent slots blocks agents a h e = all_map (λ o. IsNoted agents o.agent) (λ o. (o.agent == a) ≡ false) (λ o n. ne_eqb o.agent a (λ s. n (ap (λ m. (block_at agents m).places) s ∙ e))) (items_in slots) h.all_noted
+
+pub store_pushed : (slots : List (Option OpenRecord)) (o : OpenRecord) (old new old_agents agents : List Block) → IsOpenStore slots old old_agents → Notes o.agent old_agents agents → list_any (are_equal o) (items_in slots) ≡ false → (o.agent == 0) ≡ false
+    → ChangesBlocks (o.handle / block_size) (second_block o) (with_last (length slots)) old new → IsOpenStore (slots ++ Some o ∷ []) new agents
+store_pushed slots o old new old_agents agents h k n a c = record {
   in_step = blocks_pushed slots o old new h.in_step c;
   distinct = rw (items_pushed slots o) (ascending_push (λ p q. are_equal q p ≡ false) (items_in slots) o h.distinct (none_any (are_equal o) (items_in slots) n));
   agents = rw (items_pushed slots o) (all_push (λ p. (p.agent == 0) ≡ false) (items_in slots) o h.agents a);
+  all_noted = rw (items_pushed slots o) (all_push (λ p. IsNoted agents p.agent) (items_in slots) o (still_noted old_agents agents o.agent (items_in slots) k h.all_noted) k.noted);
 }
+
+-- where no block changed, and agents were noted at most
+pub store_stays : (slots : List (Option OpenRecord)) (old new old_agents agents : List Block) (a : ℕ) → IsOpenStore slots old old_agents → Notes a old_agents agents
+    → ((m : ℕ) → block_at new m ≡ block_at old m) → IsOpenStore slots new agents
+store_stays slots old new old_agents agents a h k s = record {
+  in_step = λ b. s b ∙ h.in_step b;
+  distinct = h.distinct;
+  agents = h.agents;
+  all_noted = still_noted old_agents agents a (items_in slots) k h.all_noted;
+}
+
+set_end : (slots : List (Option OpenRecord)) → set slots (length slots) None ≡ slots
+set_end [] = refl
+set_end (s ∷ ss) = ap (λ r. s ∷ r) (set_end ss)
+
+-- the next place is in no block
+pub next_free : (slots : List (Option OpenRecord)) (blocks agents : List Block) → IsOpenStore slots blocks agents → IsFree (length slots) blocks
+next_free slots blocks agents h m =
+    rw (h.in_step m) (ap (λ r. record { number = m; places = r }) (emptied (is_in m) slots (length slots) ∙ ap (places_from 0 (is_in m)) (set_end slots)))
 
 -- ---- items that go over to fresh places
 
@@ -312,9 +340,9 @@ places_set q (None ∷ ss) i zero x y e s = absurd cc
 places_set q (Some o ∷ ss) i zero x y e s = let n : q y ≡ q o = s ∙ sym (ap q (same_Some o x e)) in ap (λ c. cond c (i ∷ places_from (i + 1) q ss) (places_from (i + 1) q ss)) n
 places_set q (z ∷ ss) i (suc k) x y e s = ap (λ r. cond (passes q z) (i ∷ r) r) (places_set q ss (i + 1) k x y e s)
 
-pub store_counted : (n : ℕ) (guid : List ℕ) (agent controller a : ℕ) (slots : List (Option OpenRecord)) (k : ℕ) (x : OpenRecord) (blocks : List Block) → IsOpenStore slots blocks → item_at slots k ≡ Some x
-    → is_equal_item n guid agent controller a x ≡ true → IsOpenStore (set slots k (Some (record x { count = x.count + 1 }))) blocks
-store_counted n guid agent controller a slots k x blocks h e t =
+pub store_counted : (n : ℕ) (guid : List ℕ) (agent controller a : ℕ) (slots : List (Option OpenRecord)) (k : ℕ) (x : OpenRecord) (blocks agents : List Block) → IsOpenStore slots blocks agents → item_at slots k ≡ Some x
+    → is_equal_item n guid agent controller a x ≡ true → IsOpenStore (set slots k (Some (record x { count = x.count + 1 }))) blocks agents
+store_counted n guid agent controller a slots k x blocks agents h e t =
     let q : OpenRecord → Bool = is_equal_item n guid agent controller a in
     let y : OpenRecord = record x { count = x.count + 1 } in
     let one : map (counted q) (items_in slots) ≡ items_in (set slots k (Some y)) = one_counted n guid agent controller a slots k x h.distinct e t in
@@ -322,6 +350,7 @@ store_counted n guid agent controller a slots k x blocks h e t =
       in_step = λ b. h.in_step b ∙ ap (λ r. record { number = b; places = r }) (sym (places_set (is_in b) slots 0 k x y e refl));
       distinct = subst (Ascending (λ o p. are_equal p o ≡ false)) one (ascending_map (λ o p. are_equal p o ≡ false) (λ o p. are_equal p o ≡ false) (counted q) (λ o p f. counted_equal q p o ∙ f) (items_in slots) h.distinct);
       agents = subst (AllByRecursion (λ o. (o.agent == 0) ≡ false)) one (all_mapped (λ o. (o.agent == 0) ≡ false) (λ o. (o.agent == 0) ≡ false) (counted q) (λ o f. ap (λ m. m == 0) (counted_agent q o) ∙ f) (items_in slots) h.agents);
+      all_noted = subst (AllByRecursion (λ o. IsNoted agents o.agent)) one (all_mapped (λ o. IsNoted agents o.agent) (λ o. IsNoted agents o.agent) (counted q) (λ o f. rw (counted_agent q o) f) (items_in slots) h.all_noted);
     }
 
 -- ---- agent 0

@@ -1,5 +1,5 @@
--- The open items at their places, and where those on each handle are, in blocks.
-use Rattle.std.specs.Prelude.{◌≡◌, ℕ, ◌+◌, ◌<◌, ◌/◌, ◌==◌, ◌++◌, nat_lt, not, Bool, true, false, cond, List, [], ◌∷◌, map, length, Option, Some, None, slice_index_or}
+-- The open items at their places, and where those on each handle and of each controller are, in blocks.
+use Rattle.std.specs.Prelude.{◌≡◌, ℕ, ◌+◌, ◌<◌, ◌/◌, ◌==◌, ◌||◌, ◌++◌, nat_lt, not, Bool, true, false, cond, List, [], ◌∷◌, map, length, Option, Some, None, slice_index_or}
 use Rattle.std.specs.List.{filter, find, slice_get, AllByRecursion}
 use Rattle.guid_handles.specs.Sorting.{Ascending, place}
 use Rattle.open_agents.specs.declared.items.OpenRecord.{OpenRecord}
@@ -44,15 +44,19 @@ places_from k p (s ∷ ss) = cond (passes p s) (k ∷ places_from (k + 1) p ss) 
 abbrev pub block_size : ℕ
 block_size = 8
 
--- an item is on a handle of a block
-abbrev pub is_in : ℕ → OpenRecord → Bool
-is_in b o = (o.handle / block_size) == b
+-- the block of an item's controller, or of its handle where it has none
+abbrev pub second_block : OpenRecord → ℕ
+second_block o = cond (o.controller == 0) (o.handle / block_size) (o.controller / block_size)
 
--- an item is on a handle of the same block as a handle
+-- an item is in a block by its handle or by its controller
+abbrev pub is_in : ℕ → OpenRecord → Bool
+is_in b o = ((o.handle / block_size) == b) || (second_block o == b)
+
+-- an item is in the block of a handle
 abbrev pub is_near : ℕ → OpenRecord → Bool
 is_near n o = is_in (n / block_size) o
 
--- the places of the items on the handles of a block
+-- the places of the items in a block
 pub record Block : Type 0 where
   pub number : ℕ
   pub places : List ℕ
@@ -91,6 +95,25 @@ without_place at k = record k { places = filter (λ x. not (x == at)) k.places }
 abbrev pub ChangesBlock : ℕ → (Block → Block) → List Block → List Block → Type 0
 ChangesBlock b f old new = (m : ℕ) → block_at new m ≡ cond (b == m) (f (block_at old m)) (block_at old m)
 
+-- the blocks of two numbers change, which may be one, and no other
+abbrev pub ChangesBlocks : ℕ → ℕ → (Block → Block) → List Block → List Block → Type 0
+ChangesBlocks b c f old new = (m : ℕ) → block_at new m ≡ cond ((b == m) || (c == m)) (f (block_at old m)) (block_at old m)
+
+-- no block has a place
+abbrev pub IsFree : ℕ → List Block → Type 0
+IsFree place blocks = (m : ℕ) → without_place place (block_at blocks m) ≡ block_at blocks m
+
+-- ---- agents
+
+-- an agent is noted: the block with its number is not empty
+abbrev pub IsNoted : List Block → ℕ → Type 0
+IsNoted agents a = (block_at agents a).places ≡ [] → ⊥
+
+-- an agent is noted, and those that were stay so
+pub record Notes (a : ℕ) (old new : List Block) : Type 0 where
+  pub noted : IsNoted new a
+  pub others : (m : ℕ) → IsNoted old m → IsNoted new m
+
 -- ---- in step with the items
 
 -- the block of a number, of items at their places
@@ -101,8 +124,9 @@ block_of slots b = record { number = b; places = places_from 0 (is_in b) slots }
 abbrev pub are_equal : OpenRecord → OpenRecord → Bool
 are_equal o p = is_equal_item o.handle o.guid o.agent o.controller o.attributes p
 
--- Items, no two of which are equal and each of which has an agent, at their places; and these places in blocks.
-pub record IsOpenStore (slots : List (Option OpenRecord)) (blocks : List Block) : Type 0 where
+-- Items, no two of which are equal and each of which has an agent, at their places; these places in blocks; and the agents noted.
+pub record IsOpenStore (slots : List (Option OpenRecord)) (blocks noted : List Block) : Type 0 where
   pub in_step : (b : ℕ) → block_at blocks b ≡ block_of slots b
   pub distinct : Ascending (λ o p. are_equal p o ≡ false) (items_in slots)
   pub agents : AllByRecursion (λ o. (o.agent == 0) ≡ false) (items_in slots)
+  pub all_noted : AllByRecursion (λ o. IsNoted noted o.agent) (items_in slots)

@@ -1,8 +1,8 @@
-//! Where the open items are, by handle, in blocks.
-ghost use Rattle.std.specs.Prelude.{◌≡◌, ◌<◌, ◌≤◌, ◌==◌, ℕ, ◌/◌, [], None, length, nat_lt, option_map, map, slice_get, IfOk, OnOk, OnErr, IfSome, IfNone};
+//! Where the open items are, by handle and by controller, in blocks.
+ghost use Rattle.std.specs.Prelude.{◌≡◌, ◌<◌, ◌≤◌, ◌==◌, ◌||◌, ℕ, ◌/◌, [], None, length, nat_lt, option_map, map, slice_get, IfOk, OnOk, OnErr, IfSome, IfNone};
 ghost use Rattle.std.specs.List.{find};
 ghost use Rattle.guid_handles.specs.Sorting.{Ascending, kept_if, place};
-ghost use Rattle.open_agents.specs.Blocks.{AscendByNumber, ChangesBlock, IsPlaceOf, block_at, block_size, is_numbered, with_last, without_place};
+ghost use Rattle.open_agents.specs.Blocks.{AscendByNumber, ChangesBlock, ChangesBlocks, IsFree, IsPlaceOf, block_at, block_size, is_numbered, with_last, without_place};
 
 use crate::place_block::PlaceBlock;
 use std::alloc::{AllocError, Allocator};
@@ -168,6 +168,39 @@ impl<A: Allocator + Copy> Blocks<A> {
         if let Some(at) = place_of(self.blocks.as_slice(), number) {
             self.remove_in(at, number, place);
             self.drop_empty(at, number);
+        }
+    }
+
+    /// Appends the place of an item to the blocks of two numbers, which may be one. On an `Err` each
+    /// block is as it was.
+    pub(crate) fn push_in_both(
+        &mut self,
+        first: u64,
+        second: u64,
+        place: usize,
+    ) -> Result<(), AllocError>
+        requires { IsFree place self.old }
+        ensures ok { OnOk result (ChangesBlocks first second (with_last place) self.old self.new) }
+        ensures err { OnErr result ((m : ℕ) → block_at self.new m ≡ block_at self.old m) }
+    {
+        self.push(first, place)?;
+        if second == first {
+            return Ok(());
+        }
+        if let Err(fault) = self.push(second, place) {
+            self.remove(first, place);
+            return Err(fault);
+        }
+        Ok(())
+    }
+
+    /// Takes the place of an item out of the blocks of two numbers, which may be one.
+    pub(crate) fn remove_from_both(&mut self, first: u64, second: u64, place: usize)
+        ensures { ChangesBlocks first second (without_place place) self.old self.new }
+    {
+        self.remove(first, place);
+        if second != first {
+            self.remove(second, place);
         }
     }
 }

@@ -1,6 +1,6 @@
 //! The open items of all interfaces.
-ghost use Rattle.std.specs.Prelude.{◌≡◌, ◌<◌, ◌^◌, true, false, [], length, IfOk, IsOk, OnOk, OnErr};
-ghost use Rattle.std.specs.List.{filter, list_any};
+ghost use Rattle.std.specs.Prelude.{◌≡◌, ◌<◌, ◌^◌, ◌==◌, true, false, [], length, IfOk, IsOk, OnOk, OnErr};
+ghost use Rattle.std.specs.List.{AllByRecursion, filter, list_any};
 ghost use Rattle.guid_handles.specs.HandleTables.{carries, is_live};
 ghost use Rattle.guid_handles.specs.HandleChanges.{is_dead as dead};
 ghost use Rattle.open_agents.specs.OpenItems as spec;
@@ -15,8 +15,9 @@ use crate::attributes::{
 use crate::items::{Decision, OpenItem, OpenRecord, is_open_on, item_of};
 use crate::near::{Near, item_at};
 use crate::questions::{
-    find_closed, find_equal, find_naming, find_of_pair, find_open_on, first_driver_item, has_equal,
-    has_exclusive, has_of_agent, is_any_driving, is_any_keeping, is_held,
+    find_closed, find_equal, find_last_naming, find_last_of_pair, find_naming, find_of_pair,
+    find_open_on, first_driver_item, has_equal, has_exclusive, has_of_agent, is_any_driving,
+    is_any_keeping, is_held,
 };
 use crate::store::{ItemStore, count_items};
 use guid_handles::Handles;
@@ -197,16 +198,60 @@ impl<A: Allocator + Copy> Opens<A> {
     pub fn drop_pair(&mut self, controller: u64, agent: u64)
         ensures { self.new ≡ without_items (spec.is_of_pair controller agent) self.old }
     {
-        while let Some(place) = find_of_pair(self.items.slots(), controller, agent) {
+        if controller == 0 {
+            self.drop_pair_among_all(controller, agent);
+        } else {
+            self.drop_pair_near(controller, agent);
+        }
+    }
+
+    /// Takes out all items of a controller and an agent, looked for near the controller.
+    fn drop_pair_near(&mut self, controller: u64, agent: u64)
+        requires { (controller == 0) ≡ false }
+        ensures { self.new ≡ without_items (spec.is_of_pair controller agent) self.old }
+    {
+        while let Some(place) = find_of_pair(self.items.near(controller), controller, agent) {
             self.items.remove(place);
         }
     }
 
-    /// Takes out all items that name a handle, as their handle, agent or controller.
+    /// Takes out all items of a controller and an agent, looked for among all.
+    fn drop_pair_among_all(&mut self, controller: u64, agent: u64)
+        ensures { self.new ≡ without_items (spec.is_of_pair controller agent) self.old }
+    {
+        while let Some(place) = find_last_of_pair(self.items.slots(), controller, agent) {
+            self.items.remove(place);
+        }
+    }
+
+    /// Takes out all items that name a handle, as their handle, agent or controller. All items are
+    /// looked at only where the handle may be an agent.
     pub fn drop_handle(&mut self, handle: u64)
         ensures { self.new ≡ without_items (names handle) self.old }
     {
-        while let Some(place) = find_naming(self.items.slots(), handle) {
+        if handle == 0 || self.items.may_have_agent(handle) {
+            self.drop_naming_among_all(handle);
+        } else {
+            self.drop_naming_near(handle);
+        }
+    }
+
+    /// Takes out all items that name a handle, which is the agent of none, looked for near it.
+    fn drop_naming_near(&mut self, handle: u64)
+        requires handle { (handle == 0) ≡ false }
+        requires agent { AllByRecursion (λ o. (o.agent == handle) ≡ false) self.old }
+        ensures { self.new ≡ without_items (names handle) self.old }
+    {
+        while let Some(place) = find_naming(self.items.near(handle), handle) {
+            self.items.remove(place);
+        }
+    }
+
+    /// Takes out all items that name a handle, looked for among all.
+    fn drop_naming_among_all(&mut self, handle: u64)
+        ensures { self.new ≡ without_items (names handle) self.old }
+    {
+        while let Some(place) = find_last_naming(self.items.slots(), handle) {
             self.items.remove(place);
         }
     }
@@ -294,7 +339,10 @@ impl<A: Allocator + Copy> Opens<A> {
         ensures pairs { IfOk result (λ v. v.items ≡ managers_of self.now handle) }
         ensures none { managers_of self.now handle ≡ [] → IsOk result }
     {
-        managers_among(self.items.allocator(), self.items.slots(), handle)
+        if handle == 0 {
+            return managers_among(self.items.allocator(), self.items.slots(), handle);
+        }
+        managers_near(self.items.allocator(), self.near(handle), handle)
     }
 }
 
@@ -410,7 +458,27 @@ fn items_among<A: Allocator>(
     Ok(found)
 }
 
-/// The pairs that manage a handle by some items.
+/// The pairs that manage a handle by items near it.
+fn managers_near<A: Allocator>(
+    alloc: A,
+    near: Near<'_>,
+    handle: u64,
+) -> Result<Vec<(u64, u64), A>, AllocError>
+    ensures pairs { IfOk result (λ v. v.items ≡ managers_of (items_at near.entry.slots.now near.entry.places.now) handle) }
+    ensures none { managers_of (items_at near.entry.slots.now near.entry.places.now) handle ≡ [] → IsOk result }
+{
+    let mut found = Vec::new(alloc);
+    for place in near.places {
+        if let Some(o) = item_at(near.slots, *place) {
+            if manages(o, handle) {
+                found.push((o.controller, o.agent))?;
+            }
+        }
+    }
+    Ok(found)
+}
+
+/// The pairs that manage a handle by all items.
 fn managers_among<A: Allocator>(
     alloc: A,
     slots: &[Option<OpenRecord>],
@@ -421,9 +489,9 @@ fn managers_among<A: Allocator>(
 {
     let mut found = Vec::new(alloc);
     for slot in slots {
-        if let Some(o) = slot {
-            if manages(o, handle) {
-                found.push((o.controller, o.agent))?;
+        if let Some(item) = slot {
+            if manages(item, handle) {
+                found.push((item.controller, item.agent))?;
             }
         }
     }

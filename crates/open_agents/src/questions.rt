@@ -237,8 +237,38 @@ pub(crate) fn find_open_on(near: Near<'_>, handle: u64, guid: Uuid) -> Option<us
     None
 }
 
+/// The place of an item of a controller and an agent, among those near.
+pub(crate) fn find_of_pair(near: Near<'_>, controller: u64, agent: u64) -> Option<usize>
+    ensures there { IfSome result (HoldsAt (spec.is_of_pair controller agent) near.entry.slots.now) }
+    ensures none { IfNone result (list_any (spec.is_of_pair controller agent) (items_at near.entry.slots.now near.entry.places.now) ≡ false) }
+{
+    for place in near.places {
+        if let Some(o) = item_at(near.slots, *place) {
+            if is_of_pair(o, controller, agent) {
+                return Some(*place);
+            }
+        }
+    }
+    None
+}
+
+/// The place of an item that names a handle, among those near.
+pub(crate) fn find_naming(near: Near<'_>, handle: u64) -> Option<usize>
+    ensures there { IfSome result (HoldsAt (spec.names handle) near.entry.slots.now) }
+    ensures none { IfNone result (list_any (spec.names handle) (items_at near.entry.slots.now near.entry.places.now) ≡ false) }
+{
+    for place in near.places {
+        if let Some(o) = item_at(near.slots, *place) {
+            if names_handle(o, handle) {
+                return Some(*place);
+            }
+        }
+    }
+    None
+}
+
 /// The place of the last item of a controller and an agent.
-pub(crate) fn find_of_pair(
+pub(crate) fn find_last_of_pair(
     slots: &[Option<OpenRecord>],
     controller: u64,
     agent: u64,
@@ -257,7 +287,7 @@ pub(crate) fn find_of_pair(
 }
 
 /// The place of the last item that names a handle.
-pub(crate) fn find_naming(slots: &[Option<OpenRecord>], handle: u64) -> Option<usize>
+pub(crate) fn find_last_naming(slots: &[Option<OpenRecord>], handle: u64) -> Option<usize>
     ensures there { IfSome result (HoldsAt (spec.names handle) slots.now) }
     ensures none { IfNone result (list_any (spec.names handle) (items_in slots.now) ≡ false) }
 {

@@ -1,9 +1,10 @@
-//! The open items at their places, and where those on each handle are.
+//! The open items at their places, and where those on each handle and of each controller are.
 ghost use Rattle.std.specs.Prelude.{◌≡◌, ◌<◌, ◌^◌, ◌==◌, ◌++◌, ◌∷◌, [], None, true, false, length, map, is_some, slice_set, vec_len, vec_capacity, IfOk, OnOk, OnErr};
 ghost use Rattle.std.specs.List.{filter, list_any, AllByRecursion};
 ghost use Rattle.open_agents.specs.OpenItems as spec;
 ghost use Rattle.open_agents.specs.OpenItems.{CanCount};
-ghost use Rattle.open_agents.specs.Blocks.{HoldsAt, are_equal, is_near, item_at as there, items_at, items_in};
+ghost use Rattle.open_agents.specs.Blocks as other;
+ghost use Rattle.open_agents.specs.Blocks.{HoldsAt, Notes, are_equal, is_near, item_at as there, items_at, items_in};
 
 use crate::blocks::{Blocks, block_of};
 use crate::items::OpenRecord;
@@ -17,8 +18,11 @@ use uuid::Uuid;
 pub(crate) struct ItemStore<A: Allocator> {
     // In the order in which they were made.
     slots: Vec<Option<OpenRecord>, A>,
-    // Their places, by handle.
+    // Their places, by handle and by controller.
     blocks: Blocks<A>,
+    // The agents that have items, each as a number of a block that is not empty. An agent stays until
+    // the places are compacted.
+    agents: Blocks<A>,
 }
 
 impl<A: Allocator> Model for ItemStore<A> {
@@ -30,7 +34,7 @@ impl<A: Allocator> Model for ItemStore<A> {
 
     ghost view = { λ s. s.slots.items };
 
-    ghost invariant = { λ s. IsOpenStore s.slots.items s.blocks };
+    ghost invariant = { λ s. IsOpenStore s.slots.items s.blocks s.agents };
 }
 
 impl<A: Allocator + Copy> ItemStore<A> {
@@ -41,6 +45,7 @@ impl<A: Allocator + Copy> ItemStore<A> {
         ItemStore {
             slots: Vec::new(alloc),
             blocks: Blocks::new(alloc),
+            agents: Blocks::new(alloc),
         }
     }
 
@@ -50,7 +55,12 @@ impl<A: Allocator + Copy> ItemStore<A> {
     {
         let slots = Vec::from_slice(*self.slots.allocator(), self.slots.as_slice())?;
         let blocks = self.blocks.try_copy()?;
-        Ok(ItemStore { slots, blocks })
+        let agents = self.agents.try_copy()?;
+        Ok(ItemStore {
+            slots,
+            blocks,
+            agents,
+        })
     }
 
     /// The allocator.
@@ -75,6 +85,13 @@ impl<A: Allocator + Copy> ItemStore<A> {
             slots: self.slots.as_slice(),
             places: self.blocks.places(block_of(handle)),
         }
+    }
+
+    /// Whether an agent may have items.
+    pub(crate) fn may_have_agent(&self, agent: u64) -> bool
+        ensures { result ≡ false → AllByRecursion (λ o. (o.agent == agent) ≡ false) (items_in self.now) }
+    {
+        !self.agents.places(agent).is_empty()
     }
 
     /// Counts the item at a place once more, which is equal to what a call asks for.
@@ -105,7 +122,8 @@ impl<A: Allocator + Copy> ItemStore<A> {
     {
         if let Some(item) = self.slots[place] {
             self.slots[place] = None;
-            self.blocks.remove(block_of(item.handle), place);
+            self.blocks
+                .remove_from_both(block_of(item.handle), second_block(&item), place);
         }
     }
 
@@ -117,8 +135,10 @@ impl<A: Allocator + Copy> ItemStore<A> {
         ensures err { OnErr result (self.new ≡ self.old) }
     {
         self.slots.reserve(1)?;
+        note_agent(&mut self.agents, item.agent)?;
         let place = self.slots.as_slice().len();
-        self.blocks.push(block_of(item.handle), place)?;
+        self.blocks
+            .push_in_both(block_of(item.handle), second_block(item), place)?;
         push_with_room(&mut self.slots, Some(*item));
         Ok(())
     }
@@ -161,6 +181,28 @@ impl<A: Allocator + Copy> ItemStore<A> {
         }
         self.append(item)
     }
+}
+
+/// The block of an item's controller, or of its handle where it has none.
+fn second_block(item: &OpenRecord) -> u64
+    ensures { result ≡ other.second_block item.now }
+{
+    if item.controller == 0 {
+        block_of(item.handle)
+    } else {
+        block_of(item.controller)
+    }
+}
+
+/// Notes that an agent has items. On an `Err` nothing changes.
+fn note_agent<A: Allocator + Copy>(agents: &mut Blocks<A>, agent: u64) -> Result<(), AllocError>
+    ensures ok { OnOk result (Notes agent agents.old agents.new) }
+    ensures err { OnErr result (agents.new ≡ agents.old) }
+{
+    if agents.places(agent).is_empty() {
+        agents.push(agent, 0)?;
+    }
+    Ok(())
 }
 
 /// Appends an item, for which there is room.

@@ -18,7 +18,7 @@ invariant_of-self g c =
     let q = is_equal_item c.args.handle c.args.guid c.args.agent c.args.controller c.args.attributes in
     let held = rw (← c.self.view_is) at c.requires.there in
     let read = there c.self.inside.slots.items c.args.place _ (held_is q c.self.inside.slots.items c.args.place held) c.index.ensures ∙ c.in-Some.is in
-    store_counted c.args.handle c.args.guid c.args.agent c.args.controller c.args.attributes _ c.args.place c.in-Some.item _ c.self.invariant read (sym (ap (passes q) read) ∙ held)
+    store_counted c.args.handle c.args.guid c.args.agent c.args.controller c.args.attributes _ c.args.place c.in-Some.item _ _ c.self.invariant read (sym (ap (passes q) read) ∙ held)
 
 pub returns-in-Some : goal.returns-in-Some
 returns-in-Some g c =

@@ -5,4 +5,4 @@ use Rattle.open_agents.proofs.store.ItemStore.remove.Goals as goal
 pub invariant_of-self : goal.invariant_of-self
 invariant_of-self g c =
     let read = there _ c.args.place _ (rw (← c.self.view_is) at c.requires) c.index.ensures in
-    store_removed _ c.args.place c.in-Some.item _ _ c.self.invariant (read ∙ c.in-Some.is) (rw c.block_of.ensures at c.remove.ensures)
+    store_removed _ c.args.place c.in-Some.item _ _ _ c.self.invariant (read ∙ c.in-Some.is) (rw (c.block_of.ensures, c.second_block.ensures) at c.remove_from_both.ensures)

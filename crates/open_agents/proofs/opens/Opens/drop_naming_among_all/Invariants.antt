@@ -1,7 +1,7 @@
 use Rattle.std.proofs.Common.{◌≡◌, length}
 use Rattle.open_agents.specs.OpenItems.{names, without_items}
 use Rattle.open_agents.specs.Blocks.{items_in}
-use Rattle.open_agents.proofs.opens.Opens.drop_handle.Given as goal
+use Rattle.open_agents.proofs.opens.Opens.drop_naming_among_all.Given as goal
 
 abbrev pub invariant-loop-place : goal.invariant-loop-place
 invariant-loop-place g l = without_items (names l.handle) (items_in l.self-inside.items) ≡ without_items (names l.handle) l.fn.self

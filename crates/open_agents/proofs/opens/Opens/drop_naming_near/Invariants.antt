@@ -1,0 +1,14 @@
+use Rattle.std.proofs.Common.{◌≡◌, ◌==◌, false, length}
+use Rattle.std.specs.List.{AllByRecursion}
+use Rattle.open_agents.specs.OpenItems.{names, without_items}
+use Rattle.open_agents.specs.Blocks.{items_in}
+use Rattle.open_agents.proofs.opens.Opens.drop_naming_near.Given as goal
+
+abbrev pub invariant-loop-place : goal.invariant-loop-place
+invariant-loop-place g l = record {
+  kept : without_items (names l.handle) (items_in l.self-inside.items) ≡ without_items (names l.handle) l.fn.self;
+  agents : AllByRecursion (λ o. (o.agent == l.handle) ≡ false) (items_in l.self-inside.items);
+}
+
+abbrev pub decreases-loop-place : goal.decreases-loop-place
+decreases-loop-place g l = length (items_in l.self-inside.items)
