@@ -4,19 +4,20 @@ use Rattle.std.proofs.lemmas.List.{append_cancel_left, drop_at, get_or_append_le
 use Rattle.std.proofs.lemmas.Bool.{and_from, and_left, and_parts, and_right, cases_Bool}
 use Rattle.std.proofs.lemmas.Slice.Eq.{bytes_eq-Decides}
 use Rattle.std.specs.List.{AllByRecursion, concat, list_any}
-use Rattle.device_path_locate.specs.DevicePaths.{BeginsWith, IsPathNode, Node, bytes_of, end_of_instance, end_of_path, first_instance, is_inner, nodes_from, path_in, same_bytes}
+use Rattle.device_path_locate.specs.DevicePaths.{BeginsWith, IsPathNode, Node, bytes_of, end_of_instance, end_of_path, first_instance, has_end_type, is_inner, nodes_from, path_in, same_bytes}
 use Rattle.device_path_locate.specs.Locating.{is_front}
+use Rattle.device_path_locate.specs.Reading.{IsInstanceNode}
 use Rattle.device_path_locate.proofs.NodeLists.{path_here}
 
 -- ---- bytes that begin with a path are read as it
 
-no_end : (n : Node) → is_inner n ≡ true → same_bytes n end_of_path ≡ false
+pub no_end : (n : Node) → is_inner n ≡ true → same_bytes n end_of_path ≡ false
 no_end n i = elim (cases_Bool (same_bytes n end_of_path)) [
   | inl c ↦ let z : false ≡ true = rw ((bytes_eq-Decides n end_of_path).0 c) at i in absurd cc
   | inr c ↦ c
 ]
 
-node_read : (n : Node) (behind : List ℕ) → IsPathNode n → path_in (n ++ behind) ≡ nodes_from n (path_in behind)
+pub node_read : (n : Node) (behind : List ℕ) → IsPathNode n → path_in (n ++ behind) ≡ nodes_from n (path_in behind)
 node_read [] behind p = absurd (omega (arith, p.header))
 node_read (t ∷ []) behind p = absurd (omega (arith, p.header))
 node_read (t ∷ s ∷ []) behind p = absurd (omega (arith, p.header))
@@ -72,11 +73,18 @@ has_front (n ∷ ns) (m ∷ ms) a b h =
 
 -- ---- the first instance
 
-pub first_nodes : (P : Node → Type 0) (ns : List Node) → AllByRecursion P ns → AllByRecursion P (first_instance ns)
-first_nodes P [] a = tt
-first_nodes P (n ∷ ns) a = elim (cases_Bool (same_bytes n end_of_instance)) [
+-- a node that may stand in a path and is no end of an instance has another type
+plain_node : (n : Node) → is_inner n ≡ true → same_bytes n end_of_instance ≡ false → has_end_type n ≡ false
+plain_node n i e = elim (cases_Bool (has_end_type n)) [
+  | inl c ↦ let z : false ≡ true = rw (c, e) at i in absurd cc
+  | inr c ↦ c
+]
+
+pub first_instance_nodes : (ns : List Node) → AllByRecursion IsPathNode ns → AllByRecursion IsInstanceNode (first_instance ns)
+first_instance_nodes [] a = tt
+first_instance_nodes (n ∷ ns) a = elim (cases_Bool (same_bytes n end_of_instance)) [
   | inl c ↦ rw c tt
-  | inr c ↦ rw c (a.0, first_nodes P ns a.1)
+  | inr c ↦ rw c (record { node = a.0; plain = plain_node n a.0.inner c }, first_instance_nodes ns a.1)
 ]
 
 pub first_front : (ns : List Node) → HasFront (concat ns) (concat (first_instance ns))

@@ -2,3 +2,4 @@ pub mod NodeLists
 pub mod SpanSteps
 pub mod Fronts
 pub mod PathMatches
+pub mod SharedFronts

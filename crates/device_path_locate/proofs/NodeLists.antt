@@ -34,7 +34,7 @@ same_either false x = refl
 none_behind : (n : Node) → same_bytes n end_of_path ≡ false → nodes_from n None ≡ None
 none_behind n e = rw e (same_either (is_inner n) None)
 
--- the end of a path is told to have 4 bytes
+-- the end of a path has a length of 4 bytes
 end_told : (t s l h : ℕ) (rest : List ℕ) → same_bytes (t ∷ s ∷ l ∷ h ∷ rest) end_of_path ≡ true → l + 256 * h ≡ 4
 end_told t s l h rest e =
     let p = and_parts (nat_eq t 0x7f) (same_bytes (s ∷ l ∷ h ∷ rest) (0xff ∷ 4 ∷ 0 ∷ [])) e in

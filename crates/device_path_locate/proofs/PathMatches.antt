@@ -1,20 +1,20 @@
 -- Paths in the pool, and which of them match.
-use Rattle.std.proofs.Common.{◌≡◌, ℕ, ◌+◌, ◌<◌, ◌≤◌, ◌++◌, nat_lt, true, List, length, take, drop, get_or, IfSome, Option, Some, None, option_map, option_and_then, refl, sym, ap, ◌∙◌, arith, append_assoc, inl, inr, lt-ltb, le-ltb}
+use Rattle.std.proofs.Common.{◌≡◌, ℕ, ◌+◌, ◌<◌, ◌≤◌, ◌++◌, nat_lt, List, length, take, drop, get_or, IfSome, Option, Some, None, option_map, option_and_then, refl, sym, ap, ◌∙◌, arith, append_assoc, inl, inr, lt-ltb, le-ltb}
 use Rattle.std.proofs.lemmas.List.{drop_more, length-append, take_at}
 use Rattle.std.proofs.lemmas.Bool.{cases_Bool, cases_lt}
 use Rattle.std.specs.List.{AllByRecursion, concat, cons_option, filter_map}
 use Rattle.pool_services.specs.Extents.{Extent, tail_at}
-use Rattle.guid_handles.specs.HandleTables.{HandleTable, value_at}
+use Rattle.guid_handles.specs.HandleTables.{HandleTable}
 use Rattle.device_path_locate.specs.declared.spans.PathSpan.{PathSpan}
-use Rattle.device_path_locate.specs.DevicePaths.{IsPathNode, Node, end_of_path, first_instance, path_in, size_of, span_of}
-use Rattle.device_path_locate.specs.Locating.{answer_at, device_path_guid, is_front, located, located_by, longer_of, longest, matched_size, path_at, path_of, whole_bytes}
-use Rattle.device_path_locate.specs.Reading.{IsBestMatch, IsMatch, longer_if}
+use Rattle.device_path_locate.specs.DevicePaths.{IsPathNode, Node, end_of_path, first_instance, path_in, span_of}
+use Rattle.device_path_locate.specs.Locating.{answer_at, located, located_by, longer_of, longest, path_at, whole_bytes}
+use Rattle.device_path_locate.specs.Reading.{IsBestMatch, IsFoundFrom, longer_if, matched_bytes}
 use Rattle.device_path_locate.proofs.NodeLists.{begins_with}
-use Rattle.device_path_locate.proofs.Fronts.{HasFront, first_front, first_nodes, front_has, has_front}
+use Rattle.device_path_locate.proofs.Fronts.{HasFront, first_front, first_instance_nodes}
 
 -- ---- the bytes of a path that was read
 
-spanned : (path : Option (List Node)) (span : PathSpan) → Some span ≡ option_map span_of path → (ns : List Node) × (path ≡ Some ns) × (span ≡ span_of ns)
+pub spanned : (path : Option (List Node)) (span : PathSpan) → Some span ≡ option_map span_of path → (ns : List Node) × (path ≡ Some ns) × (span ≡ span_of ns)
 spanned None span e = absurd cc
 spanned (Some ns) span e = (ns, refl, cc)
 
@@ -59,40 +59,12 @@ first_read bytes span e =
 pub path_there : (bytes : List ℕ) (address : ℕ) (es : List Extent) → Some bytes ≡ tail_at address es → path_in bytes ≡ path_at address es
 path_there bytes address es e = ap (option_and_then path_in) e
 
-from_then : {X Y : Type 0} (f : X → Option Y) (o : Option X) (y : Y) → option_and_then f o ≡ Some y → (x : X) × (o ≡ Some x) × (f x ≡ Some y)
+pub from_then : {X Y : Type 0} (f : X → Option Y) (o : Option X) (y : Y) → option_and_then f o ≡ Some y → (x : X) × (o ≡ Some x) × (f x ≡ Some y)
 from_then f None y e = absurd cc
 from_then f (Some x) y e = (x, refl, e)
 
 pub at_nodes : (address : ℕ) (es : List Extent) (ns : List Node) → path_at address es ≡ Some ns → AllByRecursion IsPathNode ns
 at_nodes address es ns e = let t = from_then path_in (tail_at address es) ns e in (begins_with t.0 ns t.2).nodes
-
-of_nodes : (t : HandleTable) (es : List Extent) (handle : ℕ) (ns : List Node) → path_of t es handle ≡ Some ns → AllByRecursion IsPathNode ns
-of_nodes t es handle ns e = let k = from_then (λ value. path_at value es) (value_at t handle device_path_guid) ns e in at_nodes k.0 es ns k.2
-
-held : (path : Option (List Node)) (bytes : List ℕ) → Some bytes ≡ whole_bytes path → (ns : List Node) × (path ≡ Some ns) × (bytes ≡ concat ns)
-held None bytes e = absurd cc
-held (Some ns) bytes e = (ns, refl, cc)
-
--- ---- the match of a handle
-
-abbrev match_by : List Node → ℕ → Option (List Node) → Option (ℕ × ℕ)
-match_by nodes handle path = option_map (λ size. (handle, size)) (option_and_then (matched_size nodes) path)
-
-pub matches : (t : HandleTable) (es : List Extent) (handle : ℕ) (nodes path : List ℕ) → Some path ≡ whole_bytes (path_of t es handle) → HasFront nodes path → IsMatch t es handle nodes (Some (handle, length path))
-matches t es handle nodes path e f = λ ns all z.
-    let w = held (path_of t es handle) path e in
-    let a = of_nodes t es handle w.0 w.1 in
-    let g : is_front w.0 ns ≡ true = has_front w.0 ns a all (f.0, sym z ∙ f.1 ∙ ap (λ (xs : List ℕ). xs ++ f.0) w.2) in
-    let h : match_by ns handle (Some w.0) ≡ Some (handle, size_of w.0) = rw g refl in
-    ap (λ (xs : List ℕ). Some (handle, length xs)) w.2 ∙ sym h ∙ ap (match_by ns handle) (sym w.1)
-
-pub matches_not : (t : HandleTable) (es : List Extent) (handle : ℕ) (nodes path : List ℕ) → Some path ≡ whole_bytes (path_of t es handle) → (HasFront nodes path → ⊥) → IsMatch t es handle nodes None
-matches_not t es handle nodes path e f = λ ns all z.
-    let w = held (path_of t es handle) path e in
-    elim (cases_Bool (is_front w.0 ns)) [
-      | inl g ↦ let r = front_has w.0 ns g in absurd (f (r.0, z ∙ r.1 ∙ ap (λ (xs : List ℕ). xs ++ r.0) (sym w.2)))
-      | inr g ↦ let h : match_by ns handle (Some w.0) ≡ None = rw g refl in sym h ∙ ap (match_by ns handle) (sym w.1)
-    ]
 
 -- ---- the longest of some matches
 
@@ -119,21 +91,29 @@ longest-cons : (m : Option (ℕ × ℕ)) (ms : List (ℕ × ℕ)) → longest (c
 longest-cons None ms = refl
 longest-cons (Some m) ms = refl
 
+-- a match that is no longer than the best one is passed over
+passed : (best real found : Option (ℕ × ℕ)) → IsFoundFrom (λ m. m.1) (matched_bytes best) real found → longer_if best found ≡ longer_if best real
+passed best real found (inl e) = ap (longer_if best) e
+passed best None found (inr (e, l)) = ap (longer_if best) e
+passed None (Some m) found (inr (e, l)) = absurd (omega (arith, l))
+passed (Some b) (Some m) found (inr (e, l)) = ap (longer_if (Some b)) e ∙ rw (le-ltb b.1 m.1 (omega (arith, l))) refl
+
 -- one handle more is looked at
-pub one_more : (f : ℕ → Option (ℕ × ℕ)) (best found : Option (ℕ × ℕ)) (hs : List ℕ) (k : ℕ) (whole : Option (ℕ × ℕ)) → k < length hs → found ≡ f (get_or hs k 0) →
+pub one_more : (f : ℕ → Option (ℕ × ℕ)) (best found : Option (ℕ × ℕ)) (hs : List ℕ) (k : ℕ) (whole : Option (ℕ × ℕ)) → k < length hs → IsFoundFrom (λ m. m.1) (matched_bytes best) (f (get_or hs k 0)) found →
     longer_if best (longest (filter_map f (drop k hs))) ≡ whole → longer_if (longer_if best found) (longest (filter_map f (drop (k + 1) hs))) ≡ whole
 one_more f best found hs k whole l m w =
     let rest : List (ℕ × ℕ) = filter_map f (drop (k + 1) hs) in
-    longer_assoc best found (longest rest)
-    ∙ ap (λ (o : Option (ℕ × ℕ)). longer_if best (longer_if o (longest rest))) m
+    let real : Option (ℕ × ℕ) = f (get_or hs k 0) in
+    ap (λ (o : Option (ℕ × ℕ)). longer_if o (longest rest)) (passed best real found m)
+    ∙ longer_assoc best real (longest rest)
     ∙ ap (longer_if best) (sym (longest-cons (f (get_or hs k 0)) rest))
     ∙ ap (λ (xs : List ℕ). longer_if best (longest (filter_map f xs))) (sym (drop_more hs k 0 l))
     ∙ w
 
-pub longer_bound : (n : ℕ) (a b : Option (ℕ × ℕ)) → IfSome a (λ m. m.1 ≤ n) → IfSome b (λ m. m.1 ≤ n) → IfSome (longer_if a b) (λ m. m.1 ≤ n)
-longer_bound n None b p q = q
-longer_bound n (Some a) None p q = p
-longer_bound n (Some a) (Some b) p q = elim (cases_Bool (nat_lt a.1 b.1)) [
+pub longer_keeps : (P : ℕ × ℕ → Type 0) (a b : Option (ℕ × ℕ)) → IfSome a P → IfSome b P → IfSome (longer_if a b) P
+longer_keeps P None b p q = q
+longer_keeps P (Some a) None p q = p
+longer_keeps P (Some a) (Some b) p q = elim (cases_Bool (nat_lt a.1 b.1)) [
   | inl c ↦ rw c q
   | inr c ↦ rw c p
 ]
@@ -148,4 +128,4 @@ pub answered : (t : HandleTable) (es : List Extent) (guid : List ℕ) (address :
     IsBestMatch t es guid nodes found → answer_at address found ≡ located t es guid address
 answered t es guid address nodes found e b =
     let w = first_held (path_at address es) nodes e in
-    ap (answer_at address) (b (first_instance w.0) (first_nodes IsPathNode w.0 (at_nodes address es w.0 w.1)) w.2) ∙ ap (located_by t es guid address) (sym w.1)
+    ap (answer_at address) (b (first_instance w.0) (first_instance_nodes w.0 (at_nodes address es w.0 w.1)) w.2) ∙ ap (located_by t es guid address) (sym w.1)

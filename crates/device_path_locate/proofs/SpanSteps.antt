@@ -7,7 +7,7 @@ use Rattle.device_path_locate.specs.declared.spans.PathSpan.{PathSpan}
 use Rattle.device_path_locate.specs.Reading.{IsFrontNode}
 use Rattle.device_path_locate.specs.DevicePaths.{Node, end_of_instance, end_of_path, first_instance, is_inner, nodes_from, path_in, same_bytes, size_of, span_of}
 
--- the span of a path of which so many bytes are read, and the first instance if it ended in them, given the nodes that are left
+-- the span of a path of which a number of bytes are read, and the first instance if it ended in them, given the nodes that are left
 abbrev pub span_after : ℕ → Option ℕ → List Node → PathSpan
 span_after read first ns = record { first_instance = unwrap_or first (read + size_of (first_instance ns)); whole = read + size_of ns }
 

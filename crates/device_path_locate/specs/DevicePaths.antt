@@ -9,7 +9,7 @@ use Rattle.device_path_locate.specs.declared.spans.PathSpan.{PathSpan}
 abbrev pub Node : Type 0
 Node = List ℕ
 
--- the length that a node tells, the low byte first
+-- the length in a node's header, the low byte first
 abbrev pub told_length : ℕ → ℕ → ℕ
 told_length low high = low + 256 * high
 
@@ -30,7 +30,7 @@ abbrev pub has_end_type : Node → Bool
 has_end_type [] = false
 has_end_type (type ∷ bytes) = type == 0x7f
 
--- what may stand before the end of the entire path: a node of another type, or the end of an instance
+-- what may come before the end of the entire path: a node of another type, or the end of an instance
 abbrev pub is_inner : Node → Bool
 is_inner n = not (has_end_type n) || same_bytes n end_of_instance
 
@@ -38,7 +38,7 @@ is_inner n = not (has_end_type n) || same_bytes n end_of_instance
 abbrev pub nodes_from : Node → Option (List Node) → Option (List Node)
 nodes_from n behind = cond (same_bytes n end_of_path) (Some []) (cond (is_inner n) (option_map (λ ns. n ∷ ns) behind) None)
 
--- The nodes up to the end of the entire path, if it comes, where the first so many bytes are passed over.
+-- The nodes up to the end of the entire path, if it comes, where a number of bytes at the front are passed over.
 abbrev pub nodes_behind : ℕ → List ℕ → Option (List Node)
 nodes_behind zero (type ∷ subtype ∷ low ∷ high ∷ bytes) =
     cond (nat_lt (told_length low high) 4) None
@@ -65,7 +65,7 @@ span_of ns = record { first_instance = size_of (first_instance ns); whole = size
 
 -- ---- paths by their bytes
 
--- A node that may stand before the end of the entire path. It has the length that it tells, its header counted.
+-- A node that may come before the end of the entire path. Its length field counts its bytes, the header's too.
 pub record IsPathNode (n : Node) : Type 0 where
   pub header : 4 ≤ length n
   pub told : told_length (slice_index n 2) (slice_index n 3) ≡ length n

@@ -4,6 +4,7 @@
 mod laws;
 mod matches;
 mod nodes;
+mod prefixes;
 mod spans;
 
 pub use laws::{front_bytes_law, instance_ends_law, path_bytes_law};

@@ -3,8 +3,9 @@ ghost use Rattle.std.specs.Prelude.{◌≡◌, ◌+◌, ◌&&◌, ◌≤◌, ◌
 ghost use Rattle.std.specs.List.{concat};
 ghost use Rattle.device_path_locate.specs.DevicePaths.{first_instance};
 ghost use Rattle.device_path_locate.specs.Locating.{are_same, device_path_guid, has_path_installed, is_path_of_any, located, path_at, path_of, whole_bytes};
-ghost use Rattle.device_path_locate.specs.Reading.{IsBestMatch, IsMatch, longer_if};
+ghost use Rattle.device_path_locate.specs.Reading.{IsBestMatch, IsBoundary, IsMatch, longer_if, matched_bytes};
 
+use crate::prefixes::matched_size;
 use crate::spans::read_path;
 use guid_handles::Handles;
 use page_ranges::Status;
@@ -52,21 +53,30 @@ fn whole_of<'a, A: Allocator + Copy>(
     whole_at(pools, handles.interface(handle, device_path_guid())?)
 }
 
-/// A handle whose path matches the bytes of some nodes, with how many it matches: all of its own.
+/// A handle whose path matches the bytes of some nodes, with how many it matches: all of its own. One that
+/// matches fewer bytes than `from`, where a node ends, may be passed over.
 fn match_of<A: Allocator + Copy>(
     handles: &Handles<A>,
     pools: &Pools<A>,
     handle: u64,
     nodes: &[u8],
+    from: usize,
 ) -> Option<(u64, usize)>
-    ensures found { IsMatch handles.now pools.now handle nodes.now result }
-    ensures within { IfSome result (λ m. m.1 ≤ length nodes.now) }
+    requires { IsBoundary nodes.now from }
+    ensures found { IsMatch handles.now pools.now handle nodes.now from result }
+    ensures boundary { IfSome result (λ m. IsBoundary nodes.now m.1) }
 {
-    let path = whole_of(handles, pools, handle)?;
-    if nodes.starts_with(path) {
-        Some((handle, path.len()))
-    } else {
-        None
+    let path = pools.tail(handles.interface(handle, device_path_guid())?)?;
+    Some((handle, matched_size(path, nodes, from)?))
+}
+
+/// How many bytes a match has, none if there is none.
+fn bytes_of(best: Option<(u64, usize)>) -> usize
+    ensures { result ≡ matched_bytes best }
+{
+    match best {
+        Some((_, size)) => size,
+        None => 0,
     }
 }
 
@@ -95,7 +105,10 @@ fn best_match<A: Allocator + Copy>(
     let holders = handles.by_protocol(guid);
     let mut best = None;
     for handle in holders {
-        best = longer(best, match_of(handles, pools, *handle, nodes));
+        best = longer(
+            best,
+            match_of(handles, pools, *handle, nodes, bytes_of(best)),
+        );
     }
     best
 }

@@ -34,7 +34,7 @@ pub(crate) fn front_node(bytes: &[u8]) -> Option<&[u8]>
     Some(&bytes[..length])
 }
 
-/// Whether a node may stand before the end of the entire path.
+/// Whether a node may come before the end of the entire path.
 pub(crate) fn is_inner(node: &[u8]) -> bool
     requires { 4 ≤ length node.now }
     ensures { result ≡ is_inner node.now }

@@ -1,7 +1,7 @@
-use Rattle.std.proofs.Common.{length}
 use Rattle.device_path_locate.specs.Locating.{longest, match_of}
+use Rattle.device_path_locate.specs.Reading.{IsBoundary}
 use Rattle.std.specs.List.{filter_map}
-use Rattle.device_path_locate.proofs.PathMatches.{longer_bound, one_more}
+use Rattle.device_path_locate.proofs.PathMatches.{longer_keeps, one_more}
 use Rattle.device_path_locate.proofs.matches.best_match.Goals as goal
 
 pub loop-handle-preserved : goal.loop-handle-preserved
@@ -12,6 +12,6 @@ loop-handle-preserved g c =
       found = λ ns all z.
           let f = match_of c.args.handles.now c.args.pools.now ns in
           rw c.longer-best.ensures
-          (one_more f c.loop-handle.best c.match_of.result holders c.loop-handle.handle-index (longest (filter_map f holders)) c.loop-handle-test.true (c.match_of.ensures.found ns all z) (i.found ns all z));
-      within = rw c.longer-best.ensures (longer_bound (length c.args.nodes.now) c.loop-handle.best c.match_of.result i.within c.match_of.ensures.within);
+          (one_more f c.loop-handle.best c.match_of.result holders c.loop-handle.handle-index (longest (filter_map f holders)) c.loop-handle-test.true (rw c.bytes_of.ensures at (c.match_of.ensures.found ns all z)) (i.found ns all z));
+      boundary = rw c.longer-best.ensures (longer_keeps (λ m. IsBoundary c.args.nodes.now m.1) c.loop-handle.best c.match_of.result i.boundary c.match_of.ensures.boundary);
     }

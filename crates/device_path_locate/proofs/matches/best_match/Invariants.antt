@@ -1,13 +1,13 @@
-use Rattle.std.proofs.Common.{◌≡◌, ◌≤◌, List, length, drop, IfSome}
+use Rattle.std.proofs.Common.{◌≡◌, List, drop, IfSome}
 use Rattle.std.specs.List.{AllByRecursion, concat, filter_map}
-use Rattle.device_path_locate.specs.DevicePaths.{IsPathNode, Node}
+use Rattle.device_path_locate.specs.DevicePaths.{Node}
 use Rattle.device_path_locate.specs.Locating.{longest, match_of}
-use Rattle.device_path_locate.specs.Reading.{longer_if}
+use Rattle.device_path_locate.specs.Reading.{IsBoundary, IsInstanceNode, longer_if}
 use Rattle.device_path_locate.proofs.matches.best_match.Given as goal
 
 abbrev pub invariant-loop-handle : goal.invariant-loop-handle
 invariant-loop-handle g l = record {
-  found : (ns : List Node) → AllByRecursion IsPathNode ns → l.nodes ≡ concat ns →
+  found : (ns : List Node) → AllByRecursion IsInstanceNode ns → l.nodes ≡ concat ns →
       longer_if l.best (longest (filter_map (match_of l.handles l.pools ns) (drop l.handle-index l.holders))) ≡ longest (filter_map (match_of l.handles l.pools ns) l.holders);
-  within : IfSome l.best (λ m. m.1 ≤ length l.nodes);
+  boundary : IfSome l.best (λ m. IsBoundary l.nodes m.1);
 }
