@@ -1,4 +1,4 @@
-//! The best start of all.
+//! The best start of all, with its certificate.
 ghost use Rattle.std.specs.Prelude.{◌≡◌, ℕ, None, IfSome, IfOk};
 ghost use Rattle.placement_certificate.specs.Placement.{IsProperRequest, IsPermittedStart};
 ghost use Rattle.placement_certificate.specs.Certificates.{IsTrueCertificate};

@@ -1,6 +1,8 @@
-//! The choice of the best start for a request, with its certificate.
+//! The choice of the best start for a request, with its certificate or alone.
 #![tactic(auto)]
 
 mod choosing;
+mod starts;
 
 pub use choosing::choose;
+pub use starts::best_start;

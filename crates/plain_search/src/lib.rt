@@ -1,5 +1,5 @@
 //! A plain search for the best start, which tries every start, and tests in which it judges the search that
-//! the services use. No other crate stands on this one.
+//! the services use. No other crate uses this one.
 #![tactic(auto)]
 
 mod plain;

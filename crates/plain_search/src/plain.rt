@@ -14,7 +14,7 @@ use page_ranges::{Descriptor, MemoryType, Owner, PageRange, Run, is_specific_pur
 use placement_certificate::{Bound, Certificate, Request, better_of};
 use std::alloc::{AllocError, Allocator};
 
-/// The memory map of the memory that runs stand for.
+/// The memory map of the memory that runs describe.
 pub fn plain_map<A: Allocator + Copy>(
     alloc: A,
     runs: &[Run],

@@ -46,7 +46,7 @@ fn machine_b() -> [Run; 2]
     [run(0, 8, 7, 0xf), run(8, 8, 7, 0x7)]
 }
 
-// A request for pages that may stand at each page.
+// A request for pages that may begin at each page.
 fn request(number: u32, pages: u64, limit: u64) -> Request
     ensures made { result ≡ record { mtype = number; pages = pages; limit = limit; granule = 1 } }
     ensures proper { 0 < pages → is_bad_type number ≡ false → IsProperRequest result }

@@ -13,7 +13,7 @@ use crate::plain_certificate;
 use descriptor_table::RunTable;
 use page_ranges::{MemoryType, PAGE_COUNT, Run, has_runtime};
 use placement_certificate::{Bound, Certificate, Request};
-use placement_chooser::choose;
+use placement_chooser::{best_start, choose};
 use std::alloc::{AllocError, Global};
 use std::process::Abort;
 
@@ -92,7 +92,7 @@ fn chosen(alloc: Global, runs: &[Run], request: &Request) -> Result<Option<Certi
     choose(alloc, &table, request)
 }
 
-// A request on a machine with granules of 16 pages, of a type that stands in them.
+// A request on a machine with granules of 16 pages, of a type whose pages lie in whole granules.
 fn in_granules(number: u32, pages: u64, limit: u64) -> Request
     ensures { 0 < pages → pages % 16 ≡ 0 → is_granular number ≡ true → IsProperRequest result }
 {
@@ -328,8 +328,8 @@ fn next_draw(draw: u64) -> u64 {
         .wrapping_add(1_442_695_040_888_963_407)
 }
 
-// A machine of eight runs, each of up to so many pages and with a hole of a page below it or none, of
-// so many kinds.
+// A machine of eight runs, each of up to the given number of pages and with a hole of a page below it or none, of
+// the given number of kinds.
 fn drawn_machine(alloc: Global, seed: u64, most: u64, kinds: u64) -> Result<Vec<Run>, AllocError>
     requires most { (0 < most) × (most ≤ 11) }
     requires kinds { 0 < kinds }
@@ -374,17 +374,23 @@ fn drawn_in_granules(draw: u64) -> Request
     in_granules(number, (draw / 4 % 3 + 1) * 16, draw / 12 * 8)
 }
 
-// The choice is that of the plain search.
+// The choice is that of the plain search, with its certificate and alone.
 fn agrees(alloc: Global, runs: &[Run], request: &Request) -> Result<bool, AllocError>
     requires runs { AreRuns runs.now }
     requires proper { IsProperMemory (pages_of runs.now) }
     requires good { IsProperRequest request.now }
 {
     let want = plain_certificate(alloc, runs, request)?;
-    let got = chosen(alloc, runs, request)?;
+    let table = RunTable::from_runs(alloc, runs)?;
+    let got = choose(alloc, &table, request)?;
+    let alone = best_start(&table, request);
     Ok(match (&want, &got) {
-        (None, None) => true,
-        (Some(x), Some(y)) => x.answer == y.answer && x.bounds.as_slice() == y.bounds.as_slice(),
+        (None, None) => alone.is_none(),
+        (Some(x), Some(y)) => {
+            x.answer == y.answer
+                && x.bounds.as_slice() == y.bounds.as_slice()
+                && alone == Some(x.answer)
+        }
         _ => false,
     })
 }

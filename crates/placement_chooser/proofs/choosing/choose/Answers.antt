@@ -1,6 +1,5 @@
-use Rattle.std.proofs.Common.{◌≡◌, ◌∷◌, ◌+◌, [], ◌++◌, length, Contains, refl, sym, ap, subst, ◌∙◌, append_assoc, rules, arith}
+use Rattle.std.proofs.Common.{◌≡◌, ◌∷◌, ◌+◌, [], ◌++◌, length, refl, sym, ap, subst, ◌∙◌, append_assoc, rules, arith}
 use Rattle.page_ranges.specs.Memory.{page_at, page_below}
-use Rattle.page_ranges.specs.MemoryMap.{memory_map}
 use Rattle.placement_certificate.specs.declared.certificates.Bound.{Bound}
 use Rattle.placement_certificate.specs.Certificates.{IsTrueBound, conventional_entries}
 use Rattle.placement_certificate.specs.Search.{IsBestOf, IsOnPage}

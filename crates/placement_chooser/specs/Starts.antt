@@ -1,0 +1,9 @@
+-- The best start of a request, whether its certificate is answered or not.
+use Rattle.std.specs.Prelude.{◌≡◌, ℕ, List}
+use Rattle.page_ranges.specs.Memory.{Page}
+use Rattle.placement_certificate.specs.declared.certificates.Request.{Request}
+use Rattle.placement_certificate.specs.Certificates.{CertificateValue, IsTrueCertificate}
+
+-- the answer of the true certificate of a request, so the best start
+abbrev pub IsCertifiedStart : List Page → Request → ℕ → Type 0
+IsCertifiedStart m r p = (c : CertificateValue) × IsTrueCertificate m r c × (c.answer ≡ p)
