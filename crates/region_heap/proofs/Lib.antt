@@ -1,0 +1,4 @@
+mod Contents
+mod FreeRuns
+mod Handing
+mod Units
