@@ -9,6 +9,9 @@ use clap::{Arg, ArgAction, ArgMatches};
 use std::alloc::{AllocError, Global};
 use thiserror::Error;
 
+/// The version of the program, and of the library.
+pub const VERSION: &str = "0.1.0";
+
 /// What the program is to do.
 #[derive(Clone, Copy, Debug, PartialEq, Eq)]
 pub enum Command<'a> {
@@ -20,6 +23,8 @@ pub enum Command<'a> {
     },
     /// To check the certificate block on standard input.
     Check,
+    /// To print the program's version.
+    Version,
 }
 
 /// Why the words are no command.
@@ -51,7 +56,7 @@ pub fn command_of<'a>(alloc: Global, words: &'a [&'a str]) -> Result<Command<'a>
     let program = program(alloc)?;
     match program.try_get_matches_from(words) {
         Ok(matches) => command_in(alloc, &matches),
-        Err(error) => Err(fault_of(alloc, &error)),
+        Err(error) => command_for(alloc, &error),
     }
 }
 
@@ -94,6 +99,7 @@ fn program<'a>(alloc: Global) -> Result<clap::Command<'a>, AllocError>
         "Judges the certificate block on standard input",
     );
     clap::Command::new(alloc, "bootcore")
+        .version(VERSION)
         .about("The memory and protocol services that firmware boots by")
         .subcommand_required(true)
         .subcommand(run)?
@@ -151,6 +157,19 @@ fn file_option<'a>(alloc: Global, name: &'a str, help: &'a str) -> Arg<'a>
         .help(help)
         .required(true)
         .action(ArgAction::Set)
+}
+
+/// The command that an error of `clap` asks for, or else its fault.
+fn command_for<'a>(alloc: Global, error: &clap::Error) -> Result<Command<'a>, CommandFault>
+    ensures ok { IfOk result
+        (λ command. (kind_of error.now ≡ ErrorKind.DisplayVersion) × (command ≡ Command.Version)) }
+    ensures err { IfErr result (λ fault. (kind_of error.now ≢ ErrorKind.DisplayVersion)
+        × HasReason (kind_of error.now ≢ ErrorKind.OutOfMemory) fault) }
+{
+    if error.kind() == ErrorKind::DisplayVersion {
+        return Ok(Command::Version);
+    }
+    Err(fault_of(alloc, error))
 }
 
 /// The fault of an error of `clap`.

@@ -3,4 +3,4 @@
 
 mod commands;
 
-pub use commands::{Command, CommandFault, command_of};
+pub use commands::{Command, CommandFault, VERSION, command_of};

@@ -11,7 +11,7 @@ use Rattle.command_line.specs.declared.commands.CommandFault.TheVariants as comm
 use Rattle.command_line.specs.Words.{IsCommandOf, IsRefusedBy}
 use Rattle.program_runs.specs.declared.serve.Fault.{Fault}
 use Rattle.program_runs.specs.declared.serve.Fault.TheVariants as fault
-use Rattle.program_runs.specs.Serving.{RunsFiles, status_of, check_status, fault_status, usage_status}
+use Rattle.program_runs.specs.Serving.{PrintsVersion, RunsFiles, status_of, check_status, fault_status, usage_status}
 
 -- ---- files
 
@@ -46,10 +46,12 @@ RunsPaths files certify machine trace openings before after end =
     ⊎ (((openings ≡ opening machine true ++ opening trace false) × (end ≡ Err fault.CannotReadTrace) × (after ≡ before))
     ⊎ ((openings ≡ opening machine true ++ opening trace true) × IfSome (files machine) (λ file. RunsFiles certify file (files trace) before after end)))
 
--- What a command does: the files that it opens, what it writes, and its status. `check` opens none and judges the input.
+-- What a command does: the files that it opens, what it writes, and its status. `check` opens none and judges the
+-- input; a request for the version opens none.
 abbrev pub Does : Files → Option (List ℕ) → Command → List Opening → Option (List ℕ) → Option (List ℕ) → ℕ → Type 0
 Does files input (command.Run machine trace certify) openings before after status = (end : Result (Unit {0}) Fault) × (status ≡ status_of end) × RunsPaths files certify machine.now trace.now openings before after end
 Does files input command.Check openings before after status = (openings ≡ []) × ((end : Result Bool BlockFault) × (status ≡ check_status end) × Writes before after end × IfSome input (λ bytes. Judges true bytes before after end))
+Does files input command.Version openings before after status = (openings ≡ []) × PrintsVersion before after status
 
 -- ---- words
 

@@ -1,7 +1,8 @@
 -- What the program does on the bytes that it is given.
-use Rattle.std.specs.Prelude.{◌≡◌, ◌⊎◌, ℕ, ◌<◌, Bool, List, [], ◌++◌, length, map, take, Option, IfSome, Result, Ok, Err, true, false}
+use Rattle.std.specs.Prelude.{◌≡◌, ◌⊎◌, ℕ, ◌<◌, Bool, List, [], ◌++◌, length, map, take, codes, Option, IfSome, Result, Ok, Err, true, false}
 use Rattle.std.specs.Io.KnownBytes.{Appends}
 use Rattle.std.specs.declared.alloc.Global.{Global}
+use Rattle.text_lines.specs.Printed.{line_feed}
 use Rattle.boot_core.specs.Machines.{State, first_state}
 use Rattle.machine_files.specs.declared.faults.MachineFault.TheVariants as machine_fault
 use Rattle.boot_trace.specs.declared.faults.RunFault.{RunFault}
@@ -53,3 +54,13 @@ fault_status = 1
 -- a front of the text is written, and nothing else
 abbrev pub WritesFront : Option (List ℕ) → List ℕ → Option (List ℕ) → Type 0
 WritesFront before text after = (count : ℕ) × Appends before after (take count text)
+
+-- the line with the program's name and version
+abbrev pub version_line : List ℕ
+version_line = codes "bootcore 0.1.0" ++ line_feed
+
+-- The line with the version is written, or a front of it where there was a fault.
+abbrev pub PrintsVersion : Option (List ℕ) → Option (List ℕ) → ℕ → Type 0
+PrintsVersion before after status =
+    ((status ≡ 0) × Appends before after version_line)
+    ⊎ ((status ≡ fault_status) × WritesFront before version_line after)

@@ -5,16 +5,18 @@ ghost use Rattle.std.specs.Vec.Iter.{into_iter_items};
 ghost use Rattle.program_runs.specs.Programs.{Opening, Opens, RunsPaths, Does, DoesAsAsked, IsLostStatus};
 
 use crate::files::OpenFiles;
-use crate::serve::{Fault, run_files, serve_check, serve_end, serve_fault, serve_usage};
+use crate::serve::{
+    Fault, run_files, serve_check, serve_end, serve_fault, serve_usage, serve_version,
+};
 use command_line::{Command, CommandFault, command_of};
 use std::alloc::Global;
 use std::env::Args;
 use std::io::{self, Error, ErrorKind, Read, Write};
 
-/// What is told of arguments that are not UTF-8.
+/// What is printed about arguments that are not UTF-8.
 const NOT_UTF8: &str = "error: arguments that are not UTF-8\n";
 
-/// Does what the arguments ask for, if they could be read, and answers the exit status.
+/// Does what the arguments ask for, if they could be read, and returns the exit status.
 pub fn serve_arguments<O: OpenFiles, I: Read + Drop, W: Write, E: Write>(
     alloc: Global,
     arguments: io::Result<Args>,
@@ -39,7 +41,7 @@ pub fn serve_arguments<O: OpenFiles, I: Read + Drop, W: Write, E: Write>(
     serve_texts(alloc, texts.as_slice(), files, input, out, err)
 }
 
-/// Tells why the arguments could not be read, and answers the exit status.
+/// Prints why the arguments could not be read, and returns the exit status.
 fn serve_lost_arguments<E: Write>(err: &mut E, error: &Error) -> u8
     ensures { IsLostStatus (error_kind error.now) result }
 {
@@ -82,7 +84,7 @@ fn words_of(alloc: Global, texts: &[String]) -> Result<Vec<&str>, Fault>
     Ok(words)
 }
 
-/// Does what the command says, and answers the exit status.
+/// Does what the command says, and returns the exit status.
 fn serve_command<O: OpenFiles, I: Read + Drop, W: Write, E: Write>(
     alloc: Global,
     command: &Command,
@@ -101,6 +103,7 @@ fn serve_command<O: OpenFiles, I: Read + Drop, W: Write, E: Write>(
             certify,
         } => serve_end(err, &run_paths(alloc, files, machine, trace, out, certify)),
         Command::Check => serve_check(alloc, input, out, err),
+        Command::Version => serve_version(alloc, out, err),
     }
 }
 

@@ -1,11 +1,12 @@
 //! A run of the program, over any readers and writers.
 ghost use Rattle.std.specs.Prelude.{◌≡◌, ◌⊎◌, true, IfOk, IfErr, IfSome};
 ghost use Rattle.certificate_blocks.specs.BlockChecks.{Judges, Writes};
-ghost use Rattle.program_runs.specs.Serving.{IsRead, RunsFiles, check_status, fault_status, status_of, usage_status, WritesFront};
+ghost use Rattle.program_runs.specs.Serving.{IsRead, PrintsVersion, RunsFiles, check_status, fault_status, status_of, usage_status, WritesFront};
 
 use boot_core::Core;
 use boot_trace::{MachineFault, RunFault, read_machine};
 use certificate_blocks::{BlockFault, check_block};
+use command_line::VERSION;
 use std::alloc::{AllocError, AllocFailed, Global};
 use std::io::{Read, Write};
 use text_lines::write_text;
@@ -69,7 +70,7 @@ impl<T: Drop> From<AllocFailed<T>> for Fault {
 }
 
 /// Runs the trace on the machine, writes the replies to `out` and a fault's line to `err`, and
-/// answers the exit status.
+/// returns the exit status.
 pub fn serve_run<M: Read + Drop, T: Read + Drop, W: Write, E: Write>(
     alloc: Global,
     machine: M,
@@ -84,7 +85,7 @@ pub fn serve_run<M: Read + Drop, T: Read + Drop, W: Write, E: Write>(
     serve_end(err, &run_files(alloc, machine, trace, out, certify))
 }
 
-/// Writes the line of a run's fault, if it ended with one, and answers the exit status.
+/// Writes the line of a run's fault, if it ended with one, and returns the exit status.
 pub fn serve_end<E: Write>(err: &mut E, end: &Result<(), Fault>) -> u8
     ensures { result ≡ status_of end.now }
 {
@@ -94,7 +95,7 @@ pub fn serve_end<E: Write>(err: &mut E, end: &Result<(), Fault>) -> u8
     }
 }
 
-/// Judges the block, writes `accepted` or `refused` to `out` or a fault's line to `err`, and answers
+/// Judges the block, writes `accepted` or `refused` to `out` or a fault's line to `err`, and returns
 /// the exit status.
 pub fn serve_check<R: Read + Drop, W: Write, E: Write>(
     alloc: Global,
@@ -112,7 +113,21 @@ pub fn serve_check<R: Read + Drop, W: Write, E: Write>(
     }
 }
 
-/// Writes the line of a fault, and answers its status. That the line could not be written changes
+/// Writes the program's name and version to `out`, or a fault's line to `err`, and returns the exit
+/// status.
+pub fn serve_version<W: Write, E: Write>(alloc: Global, out: &mut W, err: &mut E) -> u8
+    ensures { PrintsVersion (W.contents out.old) (W.contents out.new) result }
+{
+    let Ok(line) = format!(in alloc; "bootcore {VERSION}\n") else {
+        return serve_fault(err, &Fault::OutOfMemory);
+    };
+    let Ok(()) = write_text(out, line.as_bytes()) else {
+        return serve_fault(err, &Fault::Run(RunFault::Write));
+    };
+    SUCCESS
+}
+
+/// Writes the line of a fault, and returns its status. That the line could not be written changes
 /// nothing.
 pub fn serve_fault<E: Write>(err: &mut E, fault: &Fault) -> u8
     ensures { result ≡ fault_status }
@@ -121,7 +136,7 @@ pub fn serve_fault<E: Write>(err: &mut E, fault: &Fault) -> u8
     FAULT
 }
 
-/// Writes the text that says how the program is used, and answers the status.
+/// Writes the text that says how the program is used, and returns the status.
 pub fn serve_usage<E: Write>(err: &mut E, text: &str) -> u8
     ensures status { result ≡ usage_status }
     ensures text { WritesFront (E.contents err.old) text.now (E.contents err.new) }
