@@ -2,11 +2,13 @@
  *
  *     measure [--reps COUNT] [--certify] [LOAD ..]
  *
- * LOAD is pages-100, pages-1000, pages-10000 or pages-100000 (so many live allocations of mixed
- * types and sizes), pool-10000 (so many blocks) or handles-4096; without any all are run. Told are
- * nanoseconds a call, the least of COUNT repetitions, each on a new core; what a call asks for is
- * drawn before the clock starts. `refused` is a call that is refused at once: what any call costs
- * at least. With --certify the core keeps the certificates of placements. */
+ * LOAD is pages-100, pages-1000, pages-10000 or pages-100000 (the number of live allocations, of
+ * mixed types and sizes), pool-10000 (of blocks), handles-64, handles-1024 or handles-4096 (of
+ * handles), or drivers-64, drivers-1024 or drivers-4096 (of handles, on which a driver is started
+ * and stopped); without any all are run. It prints nanoseconds a call, the least of COUNT
+ * repetitions, each on a new core; what a call asks for is drawn before the clock starts. `refused`
+ * is a call that is refused at once: what any call costs at least. With --certify the core keeps
+ * the certificates of placements. */
 #include "fault.h"
 #include "machine.h"
 #include "meter.h"
@@ -32,6 +34,10 @@
 #define KINDS 64
 #define AGENTS 16
 #define SEARCHES 256
+
+/* The handle that carries the driver binding, and the most controllers of a round of its driver. */
+#define DRIVER 1
+#define LONGEST_DRIVE 256
 
 /* What is asked for: pages (`below` is 0 for any place), or a block of a pool. */
 struct request {
@@ -106,7 +112,7 @@ static struct request draw_block(struct load *load)
         type < 6 ? RAFKUDIN_BOOT_SERVICES_DATA : (uint32_t)draw_between(load, 1, 6), size, 0};
 }
 
-/* Makes so many calls of a service, and adds their time to the row of a phase. */
+/* Makes the given number of calls of a service, and adds their time to the row of a phase. */
 static void time_calls(struct load *load, const char *phase, const char *service, size_t count,
                        one_call *call)
 {
@@ -182,7 +188,7 @@ static void place(struct load *load, const struct services *services, const char
     time_calls(load, phase, services->placing, count, services->place);
 }
 
-/* Frees so many of those held. */
+/* Frees the given number of those held. */
 static void give(struct load *load, const struct services *services, const char *phase,
                  size_t count)
 {
@@ -222,7 +228,7 @@ static size_t least_of(size_t one, size_t other)
     return one < other ? one : other;
 }
 
-/* Fills up to so many live ones, churns them, frees half, fills up again, and for a pool frees all.
+/* Fills up to the given number of live ones, churns them, frees half, fills up again, and for a pool frees all.
  */
 static void run_memory(struct load *load, const struct services *services, size_t live)
 {
@@ -368,6 +374,114 @@ static void run_handles(struct load *load, size_t handles)
     time_calls(load, "take out", "UninstallProtocolInterface", handles / 2, take_out);
 }
 
+/* The kind that the driver needs and opens, of an interface whose value is its handle. */
+static const struct rafkudin_guid *driven_kind(const struct load *load)
+{
+    return &load->kinds[KINDS];
+}
+
+/* The controller of a call: a handle above the driver's. */
+static uint64_t controller_at(size_t number)
+{
+    return DRIVER + 1 + number;
+}
+
+/* Installs the driver binding of the machine's first driver on a new handle, which is the first. */
+static void install_driver(struct load *load)
+{
+    static const struct rafkudin_guid binding = {{0xab, 0x31, 0xa0, 0x18, 0x43, 0xb4, 0x1a, 0x4d,
+                                                  0xa5, 0xc0, 0x0c, 0x09, 0x26, 0x1e, 0x9f, 0x71}};
+    uint64_t handle = 0;
+
+    if (RafkudinInstallProtocolInterface(load->core, &handle, &binding, 0, 0) !=
+            RAFKUDIN_SUCCESS ||
+        handle != DRIVER)
+        fail("the driver's handle is refused");
+}
+
+/* Installs an interface that the driver needs, and another, on a new handle. */
+static bool install_controller(struct load *load, size_t number)
+{
+    uint64_t handle = 0, expected = controller_at(number);
+    struct rafkudin_interface pair[2] = {{*kind_of(load, expected), expected},
+                                         {*driven_kind(load), expected}};
+
+    return RafkudinInstallMultipleProtocolInterfaces(load->core, &handle, pair, 2) ==
+               RAFKUDIN_SUCCESS &&
+           handle == expected;
+}
+
+static bool start_driver(struct load *load, size_t number)
+{
+    return RafkudinConnectDrivers(load->core, controller_at(number), NULL, 0, false) ==
+           RAFKUDIN_SUCCESS;
+}
+
+static bool stop_driver(struct load *load, size_t number)
+{
+    return RafkudinDisconnectDrivers(load->core, controller_at(number), 0) == RAFKUDIN_SUCCESS;
+}
+
+/* Reinstalls an interface that no driver has open, on a controller where no driver is to start. */
+static bool reinstall_other(struct load *load, size_t number)
+{
+    uint64_t handle = controller_at(number);
+
+    return RafkudinReinstallProtocolInterface(load->core, handle, kind_of(load, handle), handle,
+                                              handle) == RAFKUDIN_SUCCESS;
+}
+
+/* Reinstalls the interface that the driver has open, which stops the driver and starts it again. */
+static bool reinstall_driven(struct load *load, size_t number)
+{
+    uint64_t handle = controller_at(number);
+
+    return RafkudinReinstallProtocolInterface(load->core, handle, driven_kind(load), handle,
+                                              handle) == RAFKUDIN_SUCCESS;
+}
+
+/* Opens the interface that the driver has open exclusively, which stops the driver. */
+static bool open_exclusive(struct load *load, size_t number)
+{
+    uint64_t value;
+
+    return RafkudinOpenProtocol(load->core, controller_at(number), driven_kind(load), &value,
+                                DRIVER, 0, RAFKUDIN_EXCLUSIVE) == RAFKUDIN_SUCCESS;
+}
+
+static bool close_exclusive(struct load *load, size_t number)
+{
+    return RafkudinCloseProtocol(load->core, controller_at(number), driven_kind(load), DRIVER,
+                                 0) == RAFKUDIN_SUCCESS;
+}
+
+/* Takes out the interface that the driver has open, which stops the driver. */
+static bool take_driven_out(struct load *load, size_t number)
+{
+    uint64_t handle = controller_at(number);
+
+    return RafkudinUninstallProtocolInterface(load->core, handle, driven_kind(load), handle) ==
+           RAFKUDIN_SUCCESS;
+}
+
+static void run_drivers(struct load *load, size_t handles)
+{
+    size_t driven = least_of(handles - 1, LONGEST_DRIVE);
+
+    install_driver(load);
+    time_calls(load, "install", "InstallMultipleProtocolInterfaces", handles - 1,
+               install_controller);
+    time_calls(load, "start", "ConnectController", driven, start_driver);
+    time_calls(load, "other", "ReinstallProtocolInterface", driven, reinstall_other);
+    time_calls(load, "restart", "ReinstallProtocolInterface", driven, reinstall_driven);
+    time_calls(load, "stop", "DisconnectController", driven, stop_driver);
+    time_calls(load, "start", "ConnectController", driven, start_driver);
+    time_calls(load, "stop", "OpenProtocol", driven, open_exclusive);
+    time_calls(load, "close", "CloseProtocol", driven, close_exclusive);
+    time_calls(load, "start", "ConnectController", driven, start_driver);
+    time_calls(load, "stop", "UninstallProtocolInterface", driven, take_driven_out);
+}
+
 /* The loads, and how often each is repeated. */
 static const struct {
     const char *name;
@@ -375,10 +489,26 @@ static const struct {
     size_t live;
     int repetitions;
 } loads[] = {
-    {"pages-100", run_pages, 100, 15},    {"pages-1000", run_pages, 1000, 9},
-    {"pages-10000", run_pages, 10000, 3}, {"pages-100000", run_pages, 100000, 1},
-    {"pool-10000", run_pool, 10000, 5},   {"handles-4096", run_handles, 4096, 5},
+    {"pages-100", run_pages, 100, 15},          {"pages-1000", run_pages, 1000, 9},
+    {"pages-10000", run_pages, 10000, 3},       {"pages-100000", run_pages, 100000, 1},
+    {"pool-10000", run_pool, 10000, 5},         {"handles-64", run_handles, 64, 15},
+    {"handles-1024", run_handles, 1024, 9},     {"handles-4096", run_handles, 4096, 5},
+    {"drivers-64", run_drivers, 64, 15},        {"drivers-1024", run_drivers, 1024, 9},
+    {"drivers-4096", run_drivers, 4096, 5},
 };
+
+/* The machine's driver: it needs an interface of a kind, and opens it. */
+static void add_driver(struct machine *machine, const struct rafkudin_guid *kind)
+{
+    struct rafkudin_driver driver = {0};
+
+    driver.version = 1;
+    driver.stops = true;
+    driver.needs[0] = driver.opens[0] = *kind;
+    driver.needs_count = driver.opens_count = 1;
+    machine->drivers[0] = driver;
+    machine->driver_count = 1;
+}
 
 /* Adds a range of pages to a machine; the answer is the page behind it. */
 static uint64_t add_range(struct machine *machine, uint32_t type, uint64_t first, uint64_t count)
@@ -397,7 +527,7 @@ static uint64_t add_range(struct machine *machine, uint32_t type, uint64_t first
     return first + count;
 }
 
-/* A machine for so many live allocations, its memory in five pieces; the answer is the address
+/* A machine for the given number of live allocations, its memory in five pieces; it returns the address
  * behind the low half. */
 static uint64_t make_machine(struct machine *machine, size_t live)
 {
@@ -416,7 +546,7 @@ static uint64_t make_machine(struct machine *machine, size_t live)
     return middle * PAGE;
 }
 
-/* Runs a load so many times, each on a new core. */
+/* Runs a load the given number of times, each on a new core. */
 static void repeat(size_t index, int repetitions, bool certify)
 {
     static struct load load;
@@ -432,6 +562,7 @@ static void repeat(size_t index, int repetitions, bool certify)
     for (size_t kind = 0; kind <= KINDS; kind++)
         put_number(load.kinds[kind].bytes, sizeof load.kinds[kind].bytes,
                    0x6b66615200000000 + kind);
+    add_driver(&machine, &load.kinds[KINDS]);
     for (int done = 0; done < repetitions; done++) {
         load.drawn = 0x9e3779b97f4a7c15;
         load.count = 0;
@@ -452,7 +583,7 @@ static void repeat(size_t index, int repetitions, bool certify)
     load.map = NULL;
 }
 
-/* Runs the loads of a name, or all where there is none; so many times, or as often as each says. */
+/* Runs the loads of a name, or all where there is none; the given number of times, or as often as each says. */
 static void run_loads(const char *name, int repetitions, bool certify)
 {
     size_t ran = 0;

@@ -65,10 +65,10 @@ void meter_end(struct meter *meter)
 
 void meter_print(const struct meter *meter)
 {
-    printf("  %-8s %-26s %8s %8s %10s\n", "phase", "service", "calls", "refused", "ns a call");
+    printf("  %-8s %-34s %8s %8s %10s\n", "phase", "service", "calls", "refused", "ns a call");
     for (const struct row *row = meter->rows; row != meter->rows + meter->count; row++)
         if (row->calls != 0)
-            printf("  %-8s %-26s %8" PRIu64 " %8" PRIu64 " %10.0f\n", row->phase, row->service,
+            printf("  %-8s %-34s %8" PRIu64 " %8" PRIu64 " %10.0f\n", row->phase, row->service,
                    row->calls, row->refused, (double)row->least / (double)row->calls);
     fflush(stdout);
 }

@@ -30,7 +30,7 @@ void meter_begin(struct meter *meter);
 /* Starts the clock. */
 void meter_start(struct meter *meter);
 
-/* Stops the clock after so many calls of a service, and adds its time to their row. */
+/* Stops the clock after the given number of calls of a service, and adds its time to their row. */
 void meter_stop(struct meter *meter, const char *phase, const char *service, uint64_t calls,
                 uint64_t refused);
 
