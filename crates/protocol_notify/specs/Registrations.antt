@@ -25,7 +25,8 @@ events_for rs guid = map (λ r. r.event) (filter (is_for guid) rs)
 
 -- Keys count up from 1, and nothing that was installed before is waited for.
 abbrev pub with_registration : HandleTable → List ℕ → ℕ → List Registration → List Registration
-with_registration t guid event rs = rs ++ record { key = length rs + 1; guid = guid; event = event; mark = t.last_stamp } ∷ []
+with_registration t guid event rs =
+    rs ++ record { key = length rs + 1; guid = guid; event = event; mark = t.last_stamp } ∷ []
 
 -- the handle and the stamp of the interface that is next for a registration: of those of its GUID the one with the least stamp
 -- above its mark

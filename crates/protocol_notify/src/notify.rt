@@ -54,7 +54,9 @@ impl<A: Allocator + Copy> Notify<A> {
     /// its key. On an `Err`, which means out of memory, the registrations are as they were.
     pub fn register(&mut self, handles: &Handles<A>, guid: Uuid, event: u64) -> Result<u64, Status>
         requires { length self.old < 2 ^ 62 }
-        ensures ok { IfOk result (λ key. (key ≡ length self.old + 1) × (self.new ≡ with_registration handles.now guid event self.old)) }
+        ensures ok { IfOk result
+            (λ key. (key ≡ length self.old + 1)
+            × (self.new ≡ with_registration handles.now guid event self.old)) }
         ensures err { IfErr result (λ status. (status ≡ OutOfResources) × (self.new ≡ self.old)) }
     {
         let key = self.registrations.len() as u64 + 1;

@@ -11,7 +11,7 @@ written_whole [] (y ∷ out) e = absurd (omega (arith, e))
 written_whole (x ∷ xs) [] e = absurd (omega (arith, e))
 written_whole (x ∷ xs) (y ∷ out) e = ap (λ r. x ∷ r) (written_whole xs out (omega (arith, e)))
 
--- What a look-up told to be so long is written over a list of that length.
+-- What a look-up gave the length of is written over a list of that length.
 pub told_whole : {X : Type 0} (live : Bool) (xs : List X) (count len : ℕ) (told : Option ℕ) (out new : List X) → Some count ≡ cond live (Some (length xs)) None → told ≡ cond live (Some (length xs)) None
     → len ≡ count → length out ≡ len → (IsSome told → new ≡ written_over xs out) → (live ≡ true) × (take len (new ++ drop (length new) out) ≡ xs)
 told_whole false xs count len told out new a b c d f = absurd cc

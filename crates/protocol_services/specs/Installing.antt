@@ -12,18 +12,22 @@ use Rattle.protocol_services.specs.Lists.{Lists, OnHandles}
 abbrev pub signaled : List Registration → List (List ℕ × ℕ) → List ℕ
 signaled rs pairs = flat_map (λ p. events_for rs p.0) pairs
 
--- What an installation answers, given its refusal, and the lists after it: the handle with its interfaces and the events, or a
+-- What an installation returns, given its refusal, and the lists after it: the handle with its interfaces and the events, or a
 -- refusal that leaves the lists. Where nothing is refused, OUT_OF_RESOURCES means out of memory.
-abbrev pub InstallsPairs : {A : Type 0} → Lists → ℕ → List (List ℕ × ℕ) → Option Status → Result (Installed A) Status → Lists → Type 0
-InstallsPairs l handle pairs refusal (Ok done) new = OnHandles (Installs l.handles handle pairs refusal (Ok done.handle)) l new × (done.events.items ≡ signaled l.registrations pairs)
-InstallsPairs l handle pairs refusal (Err status) new = OnHandles (Installs l.handles handle pairs refusal (Err status)) l new
+abbrev pub InstallsPairs : {A : Type 0} → Lists → ℕ → List (List ℕ × ℕ) → Option Status
+    → Result (Installed A) Status → Lists → Type 0
+InstallsPairs l handle pairs refusal (Ok done) new =
+    OnHandles (Installs l.handles handle pairs refusal (Ok done.handle)) l new
+    × (done.events.items ≡ signaled l.registrations pairs)
+InstallsPairs l handle pairs refusal (Err status) new =
+    OnHandles (Installs l.handles handle pairs refusal (Err status)) l new
 
 -- a refusal, or OUT_OF_RESOURCES where there is none
 abbrev pub or_out_of_memory : Option Status → Status
 or_out_of_memory None = OutOfResources
 or_out_of_memory (Some status) = status
 
--- A refusal of InstallMultipleProtocolInterfaces, where the path of one of the pairs is installed already or not: that is told
+-- A refusal of InstallMultipleProtocolInterfaces, where the path of one of the pairs is installed already or not: that is returned
 -- after what is wrong with the call, and before a limit.
 abbrev pub unless_path : Bool → Option Status → Option Status
 unless_path false refusal = refusal
@@ -32,10 +36,13 @@ unless_path true refusal = Some AlreadyStarted
 
 -- why InstallMultipleProtocolInterfaces is refused
 abbrev pub many_refusal : Lists → ℕ → List (List ℕ × ℕ) → Bool → Option Status
-many_refusal l handle pairs has_path = unless_path has_path (install_many_refusal l.handles handle pairs)
+many_refusal l handle pairs has_path =
+    unless_path has_path (install_many_refusal l.handles handle pairs)
 
--- What RegisterProtocolNotify answers, and the lists after it: a key, or OUT_OF_RESOURCES where memory runs out.
+-- What RegisterProtocolNotify returns, and the lists after it: a key, or OUT_OF_RESOURCES where memory runs out.
 abbrev pub Registers : Lists → List ℕ → ℕ → Result ℕ Status → Lists → Type 0
-Registers l guid event (Ok key) new = (key ≡ length l.registrations + 1) × (new ≡ record l { registrations = with_registration l.handles guid event l.registrations })
+Registers l guid event (Ok key) new =
+    (key ≡ length l.registrations + 1)
+    × (new ≡ record l { registrations = with_registration l.handles guid event l.registrations })
 Registers l guid event (Err OutOfResources) new = new ≡ l
 Registers l guid event (Err status) new = ⊥

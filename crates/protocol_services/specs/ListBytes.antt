@@ -9,7 +9,9 @@ handle_bytes handles = flat_map (little_bytes 8) handles
 
 -- the entry of an open item, of 24 bytes: agent, controller, attributes, open count (EFI_OPEN_PROTOCOL_INFORMATION_ENTRY)
 abbrev pub entry_of : OpenItem → List ℕ
-entry_of i = little_bytes 8 i.agent ++ little_bytes 8 i.controller ++ little_bytes 4 i.attributes ++ little_bytes 4 i.count
+entry_of i =
+    little_bytes 8 i.agent ++ little_bytes 8 i.controller ++ little_bytes 4 i.attributes
+    ++ little_bytes 4 i.count
 
 -- the entries of open items, one behind the other
 abbrev pub item_bytes : List OpenItem → List ℕ

@@ -13,11 +13,17 @@ pub record Lists : Type 0 where
 
 -- before any call there is nothing in them
 abbrev pub no_lists : Lists
-no_lists = record { handles = record { handles = []; interfaces = []; last_number = 0; last_stamp = 0 }; opens = []; registrations = [] }
+no_lists =
+    record {
+      handles = record { handles = []; interfaces = []; last_number = 0; last_stamp = 0 };
+      opens = [];
+      registrations = [];
+    }
 
 -- the handles are left so, and the other lists as they were
 abbrev pub OnHandles : (HandleTable → Type 0) → Lists → Lists → Type 0
-OnHandles Rule old new = Rule new.handles × (new.opens ≡ old.opens) × (new.registrations ≡ old.registrations)
+OnHandles Rule old new =
+    Rule new.handles × (new.opens ≡ old.opens) × (new.registrations ≡ old.registrations)
 
 -- Numbers, stamps, keys and counts are far from their ends.
 pub record HasRoom (l : Lists) : Type 0 where
@@ -30,9 +36,10 @@ pub record HasRoom (l : Lists) : Type 0 where
 abbrev pub most_given : ℕ
 most_given = 0x10000
 
--- A call gives so many numbers and stamps at most, one key at most, and raises each item's count by 1 at most.
+-- The most numbers and stamps that a call gives; it gives one key at most, and raises each item's count by 1 at most.
 pub record IsRaised (old new : Lists) : Type 0 where
   pub numbers : new.handles.last_number ≤ old.handles.last_number + most_given
   pub stamps : new.handles.last_stamp ≤ old.handles.last_stamp + most_given
   pub keys : length new.registrations ≤ length old.registrations + 1
-  pub counts : (n : ℕ) → AllByRecursion (λ o. o.count ≤ n) old.opens → AllByRecursion (λ o. o.count ≤ n + 1) new.opens
+  pub counts : (n : ℕ) → AllByRecursion (λ o. o.count ≤ n) old.opens
+      → AllByRecursion (λ o. o.count ≤ n + 1) new.opens

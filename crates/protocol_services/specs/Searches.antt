@@ -27,7 +27,9 @@ listed (Some n) = n ∷ []
 
 -- the handle that is next for a key, in a list; None for a key that was never given
 abbrev pub next_listed : Lists → ℕ → Option (List ℕ)
-next_listed l key = option_map (λ r. listed (next_handle l.handles l.registrations key)) (registration_of l.registrations key)
+next_listed l key =
+    option_map (λ r. listed (next_handle l.handles l.registrations key))
+    (registration_of l.registrations key)
 
 -- the handles that a search is for, ascending; None where there is no such search, or no such key
 abbrev pub found_handles : Lists → ℕ → List ℕ → ℕ → Option (List ℕ)
@@ -40,7 +42,7 @@ found_handles l search guid key =
 abbrev pub once_taken : ℕ → Lists → Lists
 once_taken key l = record l { registrations = map (taken l.handles key) l.registrations }
 
--- the lists once the handles of a search are told: a search by a key takes its handle
+-- the lists once the handles of a search are returned: a search by a key takes its handle
 abbrev pub once_found : ℕ → ℕ → Lists → Lists
 once_found search key l = cond (search == by_register_notify) (once_taken key l) l
 
@@ -48,27 +50,35 @@ once_found search key l = cond (search == by_register_notify) (once_taken key l)
 abbrev pub handles_size : List ℕ → ℕ
 handles_size handles = 8 * length handles
 
--- What is told of the handles that a search is for, where the buffer has so many bytes: status, size in bytes, handles.
+-- What a search returns of its handles, for a buffer of a size in bytes: status, size in bytes, handles.
 abbrev pub TellsHandles : Option (List ℕ) → ℕ → Status → ℕ → List ℕ → Type 0
-TellsHandles found room Success size handles = (found ≡ Some handles) × (0 < length handles) × (size ≡ handles_size handles) × (size ≤ room)
+TellsHandles found room Success size handles =
+    (found ≡ Some handles) × (0 < length handles) × (size ≡ handles_size handles) × (size ≤ room)
 TellsHandles found room InvalidParameter size handles = (found ≡ None) × (size ≡ 0) × (handles ≡ [])
 TellsHandles found room NotFound size handles = (found ≡ Some []) × (size ≡ 0) × (handles ≡ [])
-TellsHandles found room BufferTooSmall size handles = (whole : List ℕ) × (found ≡ Some whole) × (size ≡ handles_size whole) × (room < size) × (handles ≡ [])
-TellsHandles found room OutOfResources size handles = (whole : List ℕ) × (found ≡ Some whole) × (0 < length whole) × (handles_size whole ≤ room) × (size ≡ 0) × (handles ≡ [])
+TellsHandles found room BufferTooSmall size handles =
+    (whole : List ℕ) × (found ≡ Some whole) × (size ≡ handles_size whole) × (room < size)
+    × (handles ≡ [])
+TellsHandles found room OutOfResources size handles =
+    (whole : List ℕ) × (found ≡ Some whole) × (0 < length whole) × (handles_size whole ≤ room)
+    × (size ≡ 0) × (handles ≡ [])
 TellsHandles found room status size handles = ⊥
 
--- what a search answers
+-- what a search returns
 abbrev pub FindsHandles : {A : Type 0} → Lists → ℕ → List ℕ → ℕ → ℕ → LocateReply A → Type 0
-FindsHandles l search guid key room told = TellsHandles (found_handles l search guid key) room told.status told.size told.handles.items
+FindsHandles l search guid key room told =
+    TellsHandles (found_handles l search guid key) room told.status told.size told.handles.items
 
 -- the lists after a search with this status
 abbrev pub after_search : Status → ℕ → ℕ → Lists → Lists
 after_search Success search key l = once_found search key l
 after_search status search key l = l
 
--- What LocateHandle answers, and the lists after it.
-abbrev pub LocatesHandles : {A : Type 0} → Lists → ℕ → List ℕ → ℕ → ℕ → LocateReply A → Lists → Type 0
-LocatesHandles l search guid key room told new = FindsHandles l search guid key room told × (new ≡ after_search told.status search key l)
+-- What LocateHandle returns, and the lists after it.
+abbrev pub LocatesHandles : {A : Type 0} → Lists → ℕ → List ℕ → ℕ → ℕ → LocateReply A → Lists
+    → Type 0
+LocatesHandles l search guid key room told new =
+    FindsHandles l search guid key room told × (new ≡ after_search told.status search key l)
 
 -- ---- LocateProtocol
 
@@ -79,24 +89,32 @@ first_handle (n ∷ ns) = Some n
 
 -- the handle that is next for a key of a GUID; None for a key that was never given for it
 abbrev pub next_of_guid : Lists → List ℕ → ℕ → Option (Option ℕ)
-next_of_guid l guid key = option_and_then (λ r. cond (is_for guid r) (Some (next_handle l.handles l.registrations key)) None) (registration_of l.registrations key)
+next_of_guid l guid key =
+    option_and_then
+    (λ r. cond (is_for guid r) (Some (next_handle l.handles l.registrations key)) None)
+    (registration_of l.registrations key)
 
 -- the handle that LocateProtocol is for: without a key, which is 0, the lowest that carries the GUID, else the next for the key
 abbrev pub located_handle : Lists → List ℕ → ℕ → Option (Option ℕ)
-located_handle l guid key = cond (key == 0) (Some (first_handle (holders_of l.handles guid))) (next_of_guid l guid key)
+located_handle l guid key =
+    cond (key == 0) (Some (first_handle (holders_of l.handles guid))) (next_of_guid l guid key)
 
--- What LocateProtocol answers, and the lists after it: the value of the interface, or a refusal that leaves the lists.
+-- What LocateProtocol returns, and the lists after it: the value of the interface, or a refusal that leaves the lists.
 abbrev pub LocatesProtocol : Lists → List ℕ → ℕ → Result ℕ Status → Lists → Type 0
-LocatesProtocol l guid key (Ok value) new = (n : ℕ) × (located_handle l guid key ≡ Some (Some n)) × (value_at l.handles n guid ≡ Some value) × (new ≡ cond (key == 0) l (once_taken key l))
-LocatesProtocol l guid key (Err InvalidParameter) new = (located_handle l guid key ≡ None) × (new ≡ l)
+LocatesProtocol l guid key (Ok value) new =
+    (n : ℕ) × (located_handle l guid key ≡ Some (Some n)) × (value_at l.handles n guid ≡ Some value)
+    × (new ≡ cond (key == 0) l (once_taken key l))
+LocatesProtocol l guid key (Err InvalidParameter) new =
+    (located_handle l guid key ≡ None) × (new ≡ l)
 LocatesProtocol l guid key (Err NotFound) new = (located_handle l guid key ≡ Some None) × (new ≡ l)
 LocatesProtocol l guid key (Err status) new = ⊥
 
 -- ---- ProtocolsPerHandle
 
--- what ProtocolsPerHandle answers: the GUIDs on a live handle, in order of installation
+-- what ProtocolsPerHandle returns: the GUIDs on a live handle, in order of installation
 abbrev pub TellsProtocols : {A : Type 0} → Lists → ℕ → Result (Vec (List ℕ) A) Status → Type 0
-TellsProtocols l handle (Ok guids) = (is_live l.handles handle ≡ true) × (guids.items ≡ guids_on l.handles handle)
+TellsProtocols l handle (Ok guids) =
+    (is_live l.handles handle ≡ true) × (guids.items ≡ guids_on l.handles handle)
 TellsProtocols l handle (Err InvalidParameter) = is_live l.handles handle ≡ false
 TellsProtocols l handle (Err OutOfResources) = is_live l.handles handle ≡ true
 TellsProtocols l handle (Err status) = ⊥

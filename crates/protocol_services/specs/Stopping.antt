@@ -6,11 +6,16 @@ use Rattle.protocol_services.specs.Lists.{Lists}
 
 -- whether the stop set of some pairs can be stopped, for a call on a handle, and of OpenProtocol also with its agent and controller
 abbrev pub can_stop : List Meaning → Lists → List (ℕ × ℕ) → ℕ → Option (ℕ × ℕ) → Bool
-can_stop ds l pairs handle opener = can_be_stopped ds l.handles l.opens (stop_set l.handles l.opens pairs) handle opener
+can_stop ds l pairs handle opener =
+    can_be_stopped ds l.handles l.opens (stop_set l.handles l.opens pairs) handle opener
 
 -- the lists without the handles and the items of a stop set
 abbrev pub without_set : List (ℕ × ℕ) → Lists → Lists
-without_set set l = record l { handles = without_handles (made_by l.handles set) l.handles; opens = without_opens (made_by l.handles set) set l.opens }
+without_set set l =
+    record l {
+      handles = without_handles (made_by l.handles set) l.handles;
+      opens = without_opens (made_by l.handles set) set l.opens;
+    }
 
 -- the lists once the stop set of some pairs is stopped
 abbrev pub once_stopped : List (ℕ × ℕ) → Lists → Lists

@@ -10,7 +10,7 @@ use std::alloc::Allocator;
 
 impl<A: Allocator + Copy> Protocols<A> {
     /// ConnectController: starts drivers on a handle, those first that are named, and where `recursive` is
-    /// set on the handles that this makes, eight levels deep. It answers the events that are signaled.
+    /// set on the handles that this makes, eight levels deep. It returns the events that are signaled.
     ///
     /// INVALID_PARAMETER: the handle is not live, or more than 16 drivers are named. NOT_FOUND: no start on
     /// the handle was carried out. OUT_OF_RESOURCES: memory ran out.
@@ -22,7 +22,8 @@ impl<A: Allocator + Copy> Protocols<A> {
         recursive: bool,
     ) -> Result<Vec<u64, A>, Status>
         requires { HasRoomToConnect self.old }
-        ensures connects { ConnectsController (map D.meaning drivers.now) self.old handle named.now recursive result self.new }
+        ensures connects { ConnectsController
+            (map D.meaning drivers.now) self.old handle named.now recursive result self.new }
         ensures raised { IsRaised self.old self.new }
     {
         connect(

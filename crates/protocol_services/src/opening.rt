@@ -7,16 +7,10 @@ ghost use Rattle.protocol_services.specs.Opening.{Closes, HandlesProtocol, Opens
 
 use crate::protocols::Protocols;
 use driver_connect::{Driver, StopPlan};
-use open_agents::{Decision, OpenItem};
+use open_agents::{BY_HANDLE_PROTOCOL, Decision, OpenItem, TEST_PROTOCOL};
 use page_ranges::Status;
 use std::alloc::Allocator;
 use uuid::Uuid;
-
-/// EFI_OPEN_PROTOCOL_BY_HANDLE_PROTOCOL.
-const BY_HANDLE_PROTOCOL: u32 = 0x1;
-
-/// EFI_OPEN_PROTOCOL_TEST_PROTOCOL.
-const TEST_PROTOCOL: u32 = 0x4;
 
 impl<A: Allocator + Copy> Protocols<A> {
     /// OpenProtocol: the value of the interface of a GUID on a handle, none for TEST_PROTOCOL; an agent
@@ -35,7 +29,8 @@ impl<A: Allocator + Copy> Protocols<A> {
         attributes: u32,
     ) -> Result<Option<u64>, Status>
         requires { HasRoom self.old }
-        ensures opens { OpensProtocol (map D.meaning drivers.now) self.old handle guid agent controller attributes result self.new }
+        ensures opens { OpensProtocol
+            (map D.meaning drivers.now) self.old handle guid agent controller attributes result self.new }
         ensures raised { IsRaised self.old self.new }
     {
         let value = self.handles.interface(handle, guid);
@@ -61,7 +56,8 @@ impl<A: Allocator + Copy> Protocols<A> {
         attributes: u32,
     ) -> Decision
         requires { is_some value ≡ carries self.now.handles guid handle }
-        ensures { result ≡ open_rule self.now.handles self.now.opens handle guid agent controller attributes }
+        ensures { result
+            ≡ open_rule self.now.handles self.now.opens handle guid agent controller attributes }
     {
         self.opens.decide_carried(
             &self.handles,
@@ -87,7 +83,8 @@ impl<A: Allocator + Copy> Protocols<A> {
         requires room { HasRoom self.old }
         requires value { value ≡ value_at self.old.handles handle guid }
         ensures adds { OpensAs [] Decision.Add self.old handle guid agent controller attributes result self.new }
-        ensures counts { has_equal self.old.opens handle guid agent controller attributes ≡ true → OpensAs [] Decision.Count self.old handle guid agent controller attributes result self.new }
+        ensures counts { has_equal self.old.opens handle guid agent controller attributes ≡ true
+            → OpensAs [] Decision.Count self.old handle guid agent controller attributes result self.new }
         ensures raised { IsRaised self.old self.new }
     {
         match self.opens.add(handle, guid, agent, controller, attributes) {
@@ -134,7 +131,8 @@ impl<A: Allocator + Copy> Protocols<A> {
         attributes: u32,
     ) -> Result<Option<u64>, Status>
         requires { HasRoom self.old }
-        ensures opens { OpensAs (map D.meaning drivers.now) (Decision.StopFirst pair) self.old handle guid opener.0 opener.1 attributes result self.new }
+        ensures opens { OpensAs (map D.meaning drivers.now)
+            (Decision.StopFirst pair) self.old handle guid opener.0 opener.1 attributes result self.new }
         ensures raised { IsRaised self.old self.new }
     {
         let Ok(plan) = StopPlan::new(self.alloc, &self.handles, &self.opens, &[pair]) else {
@@ -236,7 +234,7 @@ impl<A: Allocator + Copy> Protocols<A> {
     }
 }
 
-/// What OpenProtocol tells of the value of an interface.
+/// What OpenProtocol returns of the value of an interface.
 fn told_value(value: Option<u64>, attributes: u32) -> Option<u64>
     ensures { result ≡ cond (attributes == test_protocol) None value }
 {

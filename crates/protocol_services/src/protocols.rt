@@ -62,7 +62,8 @@ impl<A: Allocator + Copy> Protocols<A> {
         value: u64,
     ) -> Result<Installed<A>, Status>
         requires { HasRoom self.old }
-        ensures installs { InstallsPairs self.old handle ((guid, value) ∷ []) (install_refusal self.old.handles handle guid kind) result self.new }
+        ensures installs { InstallsPairs self.old handle ((guid, value) ∷ [])
+            (install_refusal self.old.handles handle guid kind) result self.new }
         ensures raised { IsRaised self.old self.new }
     {
         let Ok(events) = self.signaled(&[(guid, value)]) else {
@@ -87,7 +88,8 @@ impl<A: Allocator + Copy> Protocols<A> {
         has_path: bool,
     ) -> Result<Installed<A>, Status>
         requires { HasRoom self.old }
-        ensures installs { InstallsPairs self.old handle pairs.now (many_refusal self.old handle pairs.now has_path) result self.new }
+        ensures installs { InstallsPairs self.old handle pairs.now
+            (many_refusal self.old handle pairs.now has_path) result self.new }
         ensures raised { IsRaised self.old self.new }
     {
         let refusal = unless_path(has_path, self.handles.install_many_refusal(handle, pairs));
@@ -114,7 +116,7 @@ impl<A: Allocator + Copy> Protocols<A> {
     }
 
     /// RegisterProtocolNotify: registers an event for the interfaces of a GUID that are installed from
-    /// now on, and answers its key. OUT_OF_RESOURCES: memory ran out.
+    /// now on, and returns its key. OUT_OF_RESOURCES: memory ran out.
     pub fn register(&mut self, guid: Uuid, event: u64) -> Result<u64, Status>
         requires { HasRoom self.old }
         ensures registers { Registers self.old guid event result self.new }

@@ -40,7 +40,8 @@ fn drivers_among<A: Allocator>(
     alloc: A,
     items: &[OpenItem],
 ) -> Result<Vec<(u64, u64), A>, AllocError>
-    ensures { IfOk result (λ v. v.items ≡ map (λ i. (i.controller, i.agent)) (filter (λ i. is_for_driver i.attributes) items.now)) }
+    ensures { IfOk result
+        (λ v. v.items ≡ map (λ i. (i.controller, i.agent)) (filter (λ i. is_for_driver i.attributes) items.now)) }
 {
     let mut pairs = Vec::new(alloc);
     for item in items {
@@ -53,7 +54,9 @@ fn drivers_among<A: Allocator>(
 
 /// Whether an item keeps its interface once a stop is carried out.
 fn is_kept_after<A: Allocator + Copy>(plan: &StopPlan<A>, handle: u64, items: &[OpenItem]) -> bool
-    ensures { result ≡ list_any (λ i. keeps i.attributes && not (takes_item plan.now handle i.agent i.controller)) items.now }
+    ensures { result
+        ≡ list_any
+        (λ i. keeps i.attributes && not (takes_item plan.now handle i.agent i.controller)) items.now }
 {
     items.iter().any(|i| keeps(i.attributes) && !plan.takes_item(handle, i.agent, i.controller))
 }
@@ -76,7 +79,9 @@ fn free<A: Allocator + Copy>(
     guid: Uuid,
 )
     ensures handles { handles.new ≡ without_handles plan.now.handles handles.old }
-    ensures opens { opens.new ≡ without_items (is_open_on handle guid) (without_opens plan.now.handles plan.now.pairs opens.old) }
+    ensures opens { opens.new
+        ≡ without_items (is_open_on handle guid)
+        (without_opens plan.now.handles plan.now.pairs opens.old) }
 {
     plan.carry_out(handles, opens);
     opens.drop_interface(handle, guid);
@@ -90,7 +95,9 @@ fn take_out<A: Allocator + Copy>(
     guid: Uuid,
 )
     requires { carries handles.old guid handle ≡ true }
-    ensures { record { handles = handles.new; opens = opens.new; registrations = [] } ≡ spec.uninstalled handle guid (record { handles = handles.old; opens = opens.old; registrations = [] }) }
+    ensures { record { handles = handles.new; opens = opens.new; registrations = [] }
+        ≡ spec.uninstalled handle guid
+        (record { handles = handles.old; opens = opens.old; registrations = [] }) }
 {
     handles.remove(handle, guid);
     if !handles.is_live(handle) {
@@ -108,7 +115,8 @@ impl<A: Allocator + Copy> Protocols<A> {
         handle: u64,
         guid: Uuid,
     ) -> Result<StopPlan<A>, Status>
-        ensures { spec.Frees None (spec.can_be_freed (map D.meaning drivers.now) self.now handle guid) (λ plan. plan ≡ planned_stop self.now.handles self.now.opens (spec.drivers_on self.now.opens handle guid)) result self.now self.now }
+        ensures { spec.Frees None (spec.can_be_freed (map D.meaning drivers.now) self.now handle guid)
+            (λ plan. plan ≡ planned_stop self.now.handles self.now.opens (spec.drivers_on self.now.opens handle guid)) result self.now self.now }
     {
         let Ok(items) = self.opens.items(handle, guid) else {
             return Err(Status::OutOfResources);
@@ -137,7 +145,8 @@ impl<A: Allocator + Copy> Protocols<A> {
 
     /// What the stop of the drivers of some items takes out.
     fn plan_among(&self, items: &[OpenItem]) -> Result<StopPlan<A>, AllocError>
-        ensures { IfOk result (λ plan. plan ≡ planned_stop self.now.handles self.now.opens (map (λ i. (i.controller, i.agent)) (filter (λ i. is_for_driver i.attributes) items.now))) }
+        ensures { IfOk result
+            (λ plan. plan ≡ planned_stop self.now.handles self.now.opens (map (λ i. (i.controller, i.agent)) (filter (λ i. is_for_driver i.attributes) items.now))) }
     {
         let pairs = drivers_among(self.alloc, items)?;
         StopPlan::new(self.alloc, &self.handles, &self.opens, pairs.as_slice())
@@ -178,7 +187,7 @@ impl<A: Allocator + Copy> Protocols<A> {
 
     /// ReinstallProtocolInterface: gives the interface of a GUID another value, as if it were installed
     /// anew in the same place, and connects the handle and all below it. The drivers that have it open are
-    /// stopped first, the other items on it go. It answers the events that are signaled: those of the GUID,
+    /// stopped first, the other items on it go. It returns the events that are signaled: those of the GUID,
     /// then those of the connect.
     ///
     /// Refused as [`Protocols::uninstall`], with the old value.
@@ -191,7 +200,8 @@ impl<A: Allocator + Copy> Protocols<A> {
         new_value: u64,
     ) -> Result<Vec<u64, A>, Status>
         requires { spec.HasRoomToReinstall self.old }
-        ensures reinstalls { spec.Reinstalls (map D.meaning drivers.now) self.old handle guid old_value new_value result self.new }
+        ensures reinstalls { spec.Reinstalls
+            (map D.meaning drivers.now) self.old handle guid old_value new_value result self.new }
         ensures raised { IsRaised self.old self.new }
     {
         if let Some(status) = removal_refusal(&self.handles, handle, guid, old_value) {
@@ -214,10 +224,13 @@ impl<A: Allocator + Copy> Protocols<A> {
         guid: Uuid,
         value: u64,
     ) -> Result<Vec<u64, A>, AllocError>
-        requires plan { plan.now ≡ planned_stop self.old.handles self.old.opens (spec.drivers_on self.old.opens handle guid) }
+        requires plan { plan.now
+            ≡ planned_stop self.old.handles self.old.opens
+            (spec.drivers_on self.old.opens handle guid) }
         requires there { carries (spec.freed handle guid self.old).handles guid handle ≡ true }
         requires room { spec.HasRoomToReinstall self.old }
-        ensures ok { IfOk result (λ events. spec.Replaces (map D.meaning drivers.now) handle guid value (spec.freed handle guid self.old) events self.new) }
+        ensures ok { IfOk result
+            (λ events. spec.Replaces (map D.meaning drivers.now) handle guid value (spec.freed handle guid self.old) events self.new) }
         ensures err { OnErr result (self.new ≡ self.old) }
         ensures raised { IsRaised self.old self.new }
     {
@@ -237,7 +250,7 @@ impl<A: Allocator + Copy> Protocols<A> {
         }
     }
 
-    /// Frees an interface and gives it another value. It answers the events of the GUID. On an `Err`
+    /// Frees an interface and gives it another value. It returns the events of the GUID. On an `Err`
     /// nothing changes.
     fn replace_in_place(
         &mut self,
@@ -246,10 +259,13 @@ impl<A: Allocator + Copy> Protocols<A> {
         guid: Uuid,
         value: u64,
     ) -> Result<Vec<u64, A>, AllocError>
-        requires plan { plan.now ≡ planned_stop self.old.handles self.old.opens (spec.drivers_on self.old.opens handle guid) }
+        requires plan { plan.now
+            ≡ planned_stop self.old.handles self.old.opens
+            (spec.drivers_on self.old.opens handle guid) }
         requires there { carries (spec.freed handle guid self.old).handles guid handle ≡ true }
         requires stamps { self.old.handles.last_stamp < 2 ^ 62 }
-        ensures lists { OnOk result (self.new ≡ spec.replaced handle guid value (spec.freed handle guid self.old)) }
+        ensures lists { OnOk result
+            (self.new ≡ spec.replaced handle guid value (spec.freed handle guid self.old)) }
         ensures order { OnOk result (IsHandleTable self.new.handles) }
         ensures events { IfOk result (λ events. events.items ≡ events_for self.old.registrations guid) }
         ensures err { OnErr result (self.new ≡ self.old) }
@@ -263,7 +279,7 @@ impl<A: Allocator + Copy> Protocols<A> {
     }
 
     /// Frees an interface, gives it another value and connects its handle with all below it, on a copy of
-    /// the lists that is put in place at the end. It answers the events of the GUID, then those of the
+    /// the lists that is put in place at the end. It returns the events of the GUID, then those of the
     /// connect. On an `Err` nothing changes.
     fn replace_on_draft<D: Driver>(
         &mut self,
@@ -273,10 +289,13 @@ impl<A: Allocator + Copy> Protocols<A> {
         guid: Uuid,
         value: u64,
     ) -> Result<Vec<u64, A>, AllocError>
-        requires plan { plan.now ≡ planned_stop self.old.handles self.old.opens (spec.drivers_on self.old.opens handle guid) }
+        requires plan { plan.now
+            ≡ planned_stop self.old.handles self.old.opens
+            (spec.drivers_on self.old.opens handle guid) }
         requires there { carries (spec.freed handle guid self.old).handles guid handle ≡ true }
         requires room { spec.HasRoomToReinstall self.old }
-        ensures ok { IfOk result (λ events. spec.Replaces (map D.meaning drivers.now) handle guid value (spec.freed handle guid self.old) events self.new) }
+        ensures ok { IfOk result
+            (λ events. spec.Replaces (map D.meaning drivers.now) handle guid value (spec.freed handle guid self.old) events self.new) }
         ensures err { OnErr result (self.new ≡ self.old) }
         ensures raised { IsRaised self.old self.new }
     {

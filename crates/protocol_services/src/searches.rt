@@ -24,11 +24,11 @@ const BY_PROTOCOL: u32 = 2;
 const HANDLE_SIZE: u64 = 8;
 
 impl<A: Allocator + Copy> Protocols<A> {
-    /// The handles that a search is for, ascending, where they fit into so many bytes, 8 each. All
+    /// The handles that a search is for, ascending, where they fit into `size` bytes, 8 each. All
     /// stays as it was.
     ///
     /// INVALID_PARAMETER: another search, or a key that was never given. NOT_FOUND: there are none.
-    /// BUFFER_TOO_SMALL: they do not fit; the size is told. OUT_OF_RESOURCES: memory ran out.
+    /// BUFFER_TOO_SMALL: they do not fit; the size is returned. OUT_OF_RESOURCES: memory ran out.
     pub fn find(&self, search: u32, guid: Uuid, key: u64, room: u64) -> LocateReply<A>
         ensures { FindsHandles self.now search guid key room result }
     {
@@ -40,9 +40,10 @@ impl<A: Allocator + Copy> Protocols<A> {
         }
     }
 
-    /// The handle that is next for a key, as a search tells it.
+    /// The handle that is next for a key, as a search returns it.
     fn find_next(&self, key: u64, room: u64) -> LocateReply<A>
-        ensures { TellsHandles (next_listed self.now key) room result.status result.size result.handles.items }
+        ensures { TellsHandles
+            (next_listed self.now key) room result.status result.size result.handles.items }
     {
         if self.registrations.guid_of(key).is_none() {
             return refused(self.alloc, Status::InvalidParameter, 0);
@@ -55,7 +56,8 @@ impl<A: Allocator + Copy> Protocols<A> {
 
     /// Takes the handle of a search by a key; after another search all stays as it was.
     pub fn take_found(&mut self, search: u32, key: u64)
-        requires { search ≡ by_register_notify → IsSome (next_handle self.old.handles self.old.registrations key) }
+        requires { search ≡ by_register_notify
+            → IsSome (next_handle self.old.handles self.old.registrations key) }
         ensures taken { self.new ≡ once_found search key self.old }
         ensures raised { IsRaised self.old self.new }
     {
@@ -64,7 +66,7 @@ impl<A: Allocator + Copy> Protocols<A> {
         }
     }
 
-    /// LocateHandle: the handles that a search is for, as `find` tells them. A search by a key takes its
+    /// LocateHandle: the handles that a search is for, as `find` returns them. A search by a key takes its
     /// handle, but where it is refused.
     pub fn locate(&mut self, search: u32, guid: Uuid, key: u64, room: u64) -> LocateReply<A>
         ensures locates { LocatesHandles self.old search guid key room result self.new }
@@ -107,7 +109,8 @@ impl<A: Allocator + Copy> Protocols<A> {
     /// The value of the interface of a GUID on the handle that is next for a key of the GUID, which is
     /// taken.
     fn next_value(&mut self, guid: Uuid, key: u64) -> Result<u64, Status>
-        requires given { next_of_guid self.old guid key ≡ Some (next_handle self.old.handles self.old.registrations key) }
+        requires given { next_of_guid self.old guid key
+            ≡ Some (next_handle self.old.handles self.old.registrations key) }
         requires key { key ≢ 0 }
         ensures { LocatesProtocol self.old guid key result self.new }
     {
@@ -150,14 +153,14 @@ impl<A: Allocator + Copy> Protocols<A> {
     }
 }
 
-/// So many GUIDs, to be written over.
+/// The given number of GUIDs, to be written over.
 fn no_guids<A: Allocator>(alloc: A, count: usize) -> Result<Vec<Uuid, A>, AllocError>
     ensures { IfOk result (λ guids. vec_len guids ≡ count) }
 {
     vec![in alloc; Uuid::nil(); count]
 }
 
-/// The handles that a search is for, as it tells them.
+/// The handles that a search is for, as it returns them.
 fn told<A: Allocator + Copy>(alloc: A, handles: &[u64], room: u64) -> LocateReply<A>
     ensures { TellsHandles (Some handles.now) room result.status result.size result.handles.items }
 {

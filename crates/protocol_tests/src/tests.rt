@@ -55,7 +55,7 @@ pub enum Services {
     Driving,
 }
 
-/// What a call of some services tells, if one may still be made.
+/// What a call of some services returns, if one may still be made.
 pub fn told_by<D: Driver>(
     rt: &(impl AllocGlobal + Abort),
     core: &mut Core<D>,
@@ -69,7 +69,7 @@ pub fn told_by<D: Driver>(
     told_of(rt, services, &reply)
 }
 
-/// What a reply of some services tells.
+/// What a reply of some services returns.
 fn told_of(rt: &(impl AllocGlobal + Abort), services: Services, reply: &Reply) -> Told {
     match services {
         Services::Installing => installing::told_of(rt, reply),
@@ -80,14 +80,14 @@ fn told_of(rt: &(impl AllocGlobal + Abort), services: Services, reply: &Reply) -
     }
 }
 
-/// What a service tells: its status, and numbers.
+/// What a service returns: its status, and numbers.
 #[derive(Drop)]
 pub struct Told {
     pub status: Status,
     pub numbers: Vec<u64>,
 }
 
-/// A reply that tells so many numbers.
+/// A reply with the given numbers.
 pub fn tell(rt: &(impl AllocGlobal + Abort), status: Status, numbers: &[u64]) -> Told {
     Told {
         status,
@@ -95,7 +95,7 @@ pub fn tell(rt: &(impl AllocGlobal + Abort), status: Status, numbers: &[u64]) ->
     }
 }
 
-/// A reply that tells one number, or a refusal.
+/// A reply with one number, or a refusal.
 pub fn tell_one(rt: &(impl AllocGlobal + Abort), answer: Result<u64, Status>) -> Told {
     match answer {
         Ok(number) => tell(rt, Status::Success, &[number]),
@@ -103,7 +103,7 @@ pub fn tell_one(rt: &(impl AllocGlobal + Abort), answer: Result<u64, Status>) ->
     }
 }
 
-/// Asserts that a call of some services tells what the plain lists tell, and answers the status.
+/// Asserts that a call of some services returns what the plain lists return, and returns the status.
 pub fn assert_tells(
     rt: &(impl AllocGlobal + Abort),
     core: &mut Core<TableDriver>,

@@ -57,7 +57,7 @@ fn table(needed: Uuid) -> TableDriver {
     }
 }
 
-/// What a connect or a disconnect tells: its status.
+/// What a connect or a disconnect returns: its status.
 pub fn told_of(rt: &(impl AllocGlobal + Abort), reply: &Reply) -> Told {
     match reply {
         Reply::ConnectController(Ok(_)) | Reply::DisconnectController(Ok(())) => {

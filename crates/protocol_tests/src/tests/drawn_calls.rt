@@ -7,7 +7,7 @@ use driver_connect::TableDriver;
 use page_ranges::Status;
 use std::process::Abort;
 
-/// A service that is called; the searches of LocateHandle stand for themselves.
+/// A service that is called; the searches of LocateHandle count as services of their own.
 #[derive(Clone, Copy, PartialEq)]
 enum Service {
     Install,
@@ -54,7 +54,7 @@ const SERVICES: [Service; 24] = [
     Service::Information,
 ];
 
-/// Calls a service, and answers the status that it told.
+/// Calls a service, and returns its status.
 fn status_of(
     rt: &(impl AllocGlobal + Abort),
     core: &mut Core<TableDriver>,
@@ -80,7 +80,7 @@ fn status_of(
     }
 }
 
-/// How often a service told a status.
+/// How often a service returned a status.
 #[derive(Drop)]
 struct Tally {
     service: Service,
@@ -131,7 +131,7 @@ const LEAST: &[(Service, Status, u64)] = &[
 /// Calls that are made of one machine.
 const CALLS: u32 = 500;
 
-/// How often a service told a status.
+/// How often a service returned a status.
 fn calls_of(tallies: &[Tally], service: Service, status: Status) -> u64 {
     for tally in tallies {
         if tally.service == service && tally.status == status {

@@ -1,6 +1,6 @@
 //! Numbers, GUIDs and handles drawn one after the other.
 
-/// So many GUIDs are drawn.
+/// The number of GUIDs that are drawn.
 const GUIDS: u64 = 5;
 
 /// A linear congruential generator.
@@ -24,12 +24,12 @@ impl Draws {
         self.next().checked_rem(limit).unwrap_or(0)
     }
 
-    /// An index of so many things.
+    /// An index below a length.
     pub fn index(&mut self, count: usize) -> usize {
         (self.next() as usize).checked_rem(count).unwrap_or(0)
     }
 
-    /// Whether one of so many is drawn.
+    /// Whether one of a number of things is drawn.
     pub fn one_of(&mut self, count: u64) -> bool {
         self.below(count) == 0
     }
@@ -39,7 +39,7 @@ impl Draws {
         (self.next() % GUIDS) as u8 + 1
     }
 
-    /// 0, a live one of so many handles, or one of the two numbers behind them.
+    /// 0, a live one of the given handles, or one of the two numbers behind them.
     pub fn handle(&mut self, handles: u64) -> u64 {
         self.below(handles.saturating_add(3))
     }

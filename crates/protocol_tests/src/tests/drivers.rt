@@ -10,10 +10,10 @@ use arrayvec::ArrayVec;
 use driver_connect::{StartPlan, TableDriver, driver_binding};
 use uuid::Uuid;
 
-/// Stands in tables for the GUID of the driver binding protocol.
+/// The byte that tables have for the GUID of the driver binding protocol.
 pub const BINDING: u8 = 0xdb;
 
-/// The GUID that stands in tables as a byte: its bytes are all this one, but for the driver binding
+/// The GUID that tables have as a byte: its bytes are all this one, but for the driver binding
 /// protocol.
 pub fn guid(byte: u8) -> Uuid {
     if byte == BINDING {
@@ -38,7 +38,7 @@ pub fn child(byte: u8, value: u64) -> ArrayVec<(Uuid, u64), 4> {
     child
 }
 
-/// Adds so many children to a plan, as far as there is room. All have an interface of a GUID with
+/// Adds the given number of children to a plan, as far as there is room. All have an interface of a GUID with
 /// values that count up.
 pub fn add_children(plan: &mut StartPlan, byte: u8, values: &[u64]) {
     for value in values {

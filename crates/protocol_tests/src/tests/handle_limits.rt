@@ -1,11 +1,11 @@
-//! So many handles, and no more.
+//! The most handles that can be live.
 use super::{Services, assert_tells, guid, small_core, tell_one};
 use boot_core::{Call, Core};
 use driver_connect::TableDriver;
 use page_ranges::Status;
 use std::process::Abort;
 
-/// Asserts what an installation on a handle answers: the handle, and no event, or a refusal.
+/// Asserts what an installation on a handle returns: the handle, and no event, or a refusal.
 fn assert_installed(
     rt: &(impl AllocGlobal + Abort),
     core: &mut Core<TableDriver>,

@@ -8,7 +8,7 @@ use page_ranges::Status;
 use std::process::Abort;
 use uuid::Uuid;
 
-/// So many handles are made at most.
+/// The most handles that are made.
 const MOST_HANDLES: u64 = 38;
 
 /// The handle to install on: often a new one.
@@ -32,7 +32,7 @@ fn told_installed(rt: &(impl AllocGlobal + Abort), handle: u64, events: &[u64]) 
     reply
 }
 
-/// What an installation or a registration tells.
+/// What an installation or a registration returns.
 pub fn told_of(rt: &(impl AllocGlobal + Abort), reply: &Reply) -> Told {
     match reply {
         Reply::InstallProtocolInterface(Ok(done))
@@ -67,7 +67,7 @@ pub fn install(
     assert_tells(rt, core, Services::Installing, call, plain)
 }
 
-/// Up to three interfaces, in which a GUID may stand twice.
+/// Up to three interfaces, in which a GUID may occur twice.
 fn drawn_pairs(rt: &(impl AllocGlobal + Abort), draws: &mut Draws) -> Vec<(u8, u64)> {
     let mut pairs = Vec::new(rt.alloc());
     for _ in 0..draws.below(4) {

@@ -5,7 +5,7 @@ use driver_connect::TableDriver;
 use page_ranges::Status;
 use std::process::Abort;
 
-/// What a call on a list in a pool block tells: its count and its address, or the bytes of the block.
+/// What a call on a list in a pool block returns: its count and its address, or the bytes of the block.
 pub fn told_of(rt: &(impl AllocGlobal + Abort), reply: &Reply) -> Told {
     match reply {
         Reply::LocateHandleBuffer(list) | Reply::OpenProtocolInformation(list) => {
@@ -25,7 +25,7 @@ fn told_list(rt: &(impl AllocGlobal + Abort), list: &Result<PoolList, Status>) -
     }
 }
 
-/// A reply that tells bytes.
+/// A reply with bytes.
 fn tell_bytes(rt: &(impl AllocGlobal + Abort), status: Status, bytes: &[u8]) -> Told {
     let mut told = tell(rt, status, &[]);
     for byte in bytes {
@@ -34,7 +34,7 @@ fn tell_bytes(rt: &(impl AllocGlobal + Abort), status: Status, bytes: &[u8]) -> 
     told
 }
 
-/// Asserts that a call tells a list of these bytes, in items of so many, or is refused with a status. The list's
+/// Asserts that a call returns a list of these bytes, in items of the given size, or is refused with a status. The list's
 /// block is freed.
 pub fn assert_list(
     rt: &(impl AllocGlobal + Abort),
@@ -54,7 +54,7 @@ pub fn assert_list(
     status
 }
 
-/// A number that a reply tells.
+/// A number of a reply.
 fn number_at(rt: &impl Abort, told: &Told, at: usize) -> u64 {
     match told.numbers.get(at) {
         Some(number) => *number,

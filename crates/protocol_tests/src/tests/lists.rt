@@ -11,7 +11,7 @@ use open_agents::Opens;
 use page_ranges::Status;
 use std::process::Abort;
 
-/// An installation: the handle, the byte of the GUID, the kind and the value, and what is answered.
+/// An installation: the handle, the byte of the GUID, the kind and the value, and what is returned.
 pub type Installation = (u64, u8, u32, u64, Result<u64, Status>);
 
 /// Installs an interface, of not too many.
@@ -29,7 +29,7 @@ fn install(
     handles.install(handle, guid(byte), kind, value)
 }
 
-/// Asserts what installations answer.
+/// Asserts what installations return.
 pub fn assert_installs(rt: &impl Abort, handles: &mut Handles, rows: &[Installation]) {
     for (handle, byte, kind, value, answer) in rows {
         let told = install(rt, handles, *handle, *byte, *kind, *value);

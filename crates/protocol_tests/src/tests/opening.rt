@@ -53,7 +53,7 @@ fn like_open(draws: &mut Draws, lists: &Lists) -> Item {
     open
 }
 
-/// What an open, a close or a look at a value tells.
+/// What an open, a close or a look at a value returns.
 pub fn told_of(rt: &(impl AllocGlobal + Abort), reply: &Reply) -> Told {
     match reply {
         Reply::OpenProtocol(Ok(Some(value))) | Reply::HandleProtocol(Ok(value)) => {

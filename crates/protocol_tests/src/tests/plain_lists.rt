@@ -76,7 +76,7 @@ impl Lists {
         None
     }
 
-    /// Whether a GUID stands twice among some pairs, or is on the handle.
+    /// Whether a GUID occurs twice among some pairs, or is on the handle.
     fn is_any_taken(&self, handle: u64, pairs: &[(u8, u64)]) -> bool {
         for pair in pairs {
             if self.value(handle, pair.0).is_some() || times(pairs, pair.0) > 1 {
@@ -164,7 +164,7 @@ impl Lists {
     }
 }
 
-/// How often a GUID stands among some pairs.
+/// How often a GUID occurs among some pairs.
 fn times(pairs: &[(u8, u64)], guid: u8) -> usize {
     let mut count = 0usize;
     for pair in pairs {
@@ -175,7 +175,7 @@ fn times(pairs: &[(u8, u64)], guid: u8) -> usize {
     count
 }
 
-/// Installs some pairs, and tells the handle and the events.
+/// Installs some pairs, and returns the handle and the events.
 pub fn install(
     rt: &(impl AllocGlobal + Abort),
     lists: &mut Lists,
@@ -195,7 +195,7 @@ pub fn install(
     reply
 }
 
-/// Registers an event, and tells the key.
+/// Registers an event, and returns the key.
 pub fn register(rt: &(impl AllocGlobal + Abort), lists: &mut Lists, guid: u8, event: u64) -> Told {
     let key = (lists.registrations.len() as u64).saturating_add(1);
     let mark = lists.last_stamp;
@@ -222,7 +222,7 @@ fn holders(rt: &(impl AllocGlobal + Abort), lists: &Lists, guid: u8) -> Vec<u64>
     found
 }
 
-/// Some handles where they fit into so many bytes; else a refusal, with the size where they are too many.
+/// Some handles where they fit into a buffer of this size; else a refusal, with the size where they are too many.
 fn fitted(rt: &(impl AllocGlobal + Abort), handles: &[u64], room: u64) -> Told {
     let size = (handles.len() as u64).saturating_mul(8);
     if handles.is_empty() {

@@ -123,7 +123,7 @@ fn add(rt: &impl Abort, items: &mut Vec<Item>, open: &Item) {
     }
 }
 
-/// Opens an interface, and tells its value.
+/// Opens an interface, and returns its value.
 pub fn open(rt: &(impl AllocGlobal + Abort), lists: &mut Lists, open: &Item) -> Told {
     if let Some(status) = refusal(lists, open) {
         return tell(rt, status, &[]);

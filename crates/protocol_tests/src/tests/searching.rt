@@ -16,7 +16,7 @@ fn drawn_key(draws: &mut Draws, lists: &Lists) -> u64 {
     draws.below(keys.saturating_add(3))
 }
 
-/// A size of a buffer: large, of so many handles, or a byte too small.
+/// A size of a buffer: large, just enough for a number of handles, or a byte too small.
 fn drawn_room(draws: &mut Draws) -> u64 {
     let room = draws.next() % 40 * 8;
     match draws.next() % 6 {
@@ -38,7 +38,7 @@ fn drawn_search(draws: &mut Draws) -> u32 {
     }
 }
 
-/// What a search tells.
+/// What a search returns.
 pub fn told_of(rt: &(impl AllocGlobal + Abort), reply: &Reply) -> Told {
     match reply {
         Reply::LocateHandle(found) => {
@@ -72,7 +72,7 @@ pub fn locate(
     assert_tells(rt, core, Services::Searching, call, plain)
 }
 
-/// What LocateHandle tells: the handles, or the size that they need.
+/// What LocateHandle returns: the handles, or the size that they need.
 fn told_handles(
     rt: &(impl AllocGlobal + Abort),
     status: Status,

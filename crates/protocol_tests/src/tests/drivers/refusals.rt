@@ -82,7 +82,7 @@ fn smaller_parts<'a>(
     parts
 }
 
-/// All of the one free part of the heap but so many bytes, taken.
+/// All of the one free part of the heap but the given number of bytes, taken.
 fn all_but<'a>(rt: &impl Abort, heap: &'a LocalHeap, left: usize) -> Vec<u8, &'a LocalHeap> {
     Vec::with_capacity(heap, heap.free().saturating_sub(left)).expect(rt, "memory")
 }
@@ -99,7 +99,7 @@ fn assert_each<'a>(
     }
 }
 
-/// The status of a call while so many bytes are left.
+/// The status of a call while this many bytes are left.
 fn status_with<'a>(
     rt: &(impl AllocGlobal + Abort),
     heap: &'a LocalHeap,
@@ -116,7 +116,7 @@ fn status_with<'a>(
     }
 }
 
-/// Makes a call while so many bytes are left, and again with enough memory if it is refused. Answers
+/// Makes a call while this many bytes are left, and again with enough memory if it is refused. Answers
 /// whether it was refused.
 fn is_refused(
     rt: &(impl AllocGlobal + Abort),

@@ -8,7 +8,7 @@ use protocol_notify::Notify;
 use std::alloc::{AllocError, Allocator};
 use std::process::Abort;
 
-/// A call, or a look at the lists. GUIDs stand as bytes.
+/// A call, or a look at the lists. GUIDs are written as bytes.
 pub enum Step {
     /// A handle or 0, interfaces as pairs of GUID and value, and the handle that carries them then.
     Install(u64, &'static [(u8, u64)], u64),
@@ -56,7 +56,7 @@ pub fn no_lists<A: Allocator + Copy>(alloc: A) -> Lists<A> {
     }
 }
 
-/// Installs interfaces on a handle, and answers it.
+/// Installs interfaces on a handle, and returns it.
 fn install<A: Allocator + Copy>(
     rt: &impl Abort,
     handles: &mut Handles<A>,
@@ -116,7 +116,7 @@ fn opened<A: Allocator + Copy>(
     opens
 }
 
-/// Connects a handle, and answers the events.
+/// Connects a handle, and returns the events.
 fn connect_one<D: Driver, A: Allocator + Copy>(
     rt: &impl Abort,
     alloc: A,
@@ -191,7 +191,7 @@ fn stop_pairs<D: Driver, A: Allocator + Copy>(
     )
 }
 
-/// Makes a call on drivers, and answers its status alone.
+/// Makes a call on drivers, and returns its status alone.
 pub fn status_of<D: Driver, A: Allocator + Copy>(
     rt: &impl Abort,
     alloc: A,
@@ -293,7 +293,7 @@ fn assert_lists<A: Allocator + Copy>(rt: &impl Abort, lists: &Lists<A>, step: &S
     }
 }
 
-/// Makes a call and asserts what it answers, or looks at the lists.
+/// Makes a call and asserts what it returns, or looks at the lists.
 pub fn assert_step<D: Driver, A: Allocator + Copy>(
     rt: &impl Abort,
     alloc: A,

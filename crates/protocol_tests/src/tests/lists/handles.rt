@@ -51,7 +51,7 @@ const INSTALLED_AT_ONCE: [(u64, [(u8, u64); 2], Result<u64, Status>); 3] = [
     (1, [(3, 3), (1, 4)], REFUSED),
 ];
 
-/// Asserts what an installation of two interfaces answers.
+/// Asserts what an installation of two interfaces returns.
 fn assert_installs_both(
     rt: &impl Abort,
     handles: &mut Handles,

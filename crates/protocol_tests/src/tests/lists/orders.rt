@@ -121,9 +121,9 @@ fn install_one(rt: &impl Abort, handles: &mut Handles, handle: u64, byte: u8) {
 /// Asserts the stamp of the interface that was installed last on a handle.
 fn assert_last(rt: &impl Abort, handles: &Handles, handle: u64, stamp: u64) {
     let mut last = 0;
-    for i in handles.near(handle) {
-        if i.handle == handle {
-            last = i.stamp;
+    for at in 0..handles.interface_count(handle) {
+        if let Some(interface) = handles.nth_interface(handle, at) {
+            last = interface.stamp;
         }
     }
     assert!(rt; last == stamp, "last on {handle}");
