@@ -11,7 +11,7 @@ pub struct Installed<A: Allocator = Global> {
     pub events: Vec<u64, A>,
 }
 
-/// What LocateHandle answers.
+/// What LocateHandle returns.
 #[derive(Drop)]
 pub struct LocateReply<A: Allocator = Global> {
     pub status: Status,

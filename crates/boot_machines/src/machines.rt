@@ -27,7 +27,7 @@ impl<A: Allocator> Model for Machine<A> {
 }
 
 impl<A: Allocator> Machine<A> {
-    /// The machine of runs, with a granule of so many pages. None where the runs are not in ascending
+    /// The machine of runs, with a granule of this many pages. None where the runs are not in ascending
     /// order, disjoint, nonempty, of the machine's own, below page 2^52 and of types that a machine
     /// may have, where conventional memory carries RUNTIME, or where the granule is neither 1 nor 16.
     pub fn new(runs: Vec<Run, A>, granule: u64) -> Option<Machine<A>>
@@ -58,7 +58,7 @@ impl<A: Allocator> Machine<A> {
     }
 }
 
-/// Whether a machine may have a granule of so many pages.
+/// Whether a machine may have a granule of this many pages.
 fn is_granule(granule: u64) -> bool
     ensures { IsTrue result ↔ IsGranule granule }
 {

@@ -1,4 +1,4 @@
--- How results are replied.
+-- Results as statuses.
 use Rattle.std.specs.Prelude.{Result, Ok, Err}
 use Rattle.page_ranges.specs.declared.statuses.Status.{Status}
 use Rattle.page_ranges.specs.declared.statuses.Status.TheVariants.{Success}

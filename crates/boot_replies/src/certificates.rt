@@ -20,7 +20,7 @@ const HANDLE_SIZE: u64 = 8;
 /// The bytes of an open item (EFI_OPEN_PROTOCOL_INFORMATION_ENTRY).
 const ENTRY_SIZE: u64 = 24;
 
-/// The certificate of the reply to a call on a machine with a granule of so many pages, and the request
+/// The certificate of the reply to a call on a machine with a granule of this many pages, and the request
 /// that it is for.
 pub fn certified<'a, A: Allocator>(
     granule: u64,
@@ -35,7 +35,7 @@ pub fn certified<'a, A: Allocator>(
     }
 }
 
-/// Whether a reply to the call on a machine with a granule of so many pages may carry a certificate,
+/// Whether a reply to the call on a machine with a granule of this many pages may carry a certificate,
 /// which says nothing without the memory map before the call.
 pub fn may_be_certified<A: Allocator>(granule: u64, call: &Call<A>) -> bool
     ensures { result ≡ may_be_certified granule call.now }
@@ -91,7 +91,7 @@ fn told_count<A: Allocator>(reply: &Reply<A>) -> Option<u64>
     }
 }
 
-/// The request on a machine with a granule for a block of so many items of so many bytes each, where
+/// The request on a machine with a granule for a block of `count` items of `size` bytes each, where
 /// they are so few that a block can have them.
 fn list_request(granule: u64, size: u64, count: Option<u64>) -> Option<Request>
     requires { 0 < size }

@@ -18,7 +18,7 @@ pub struct PoolList<A: Allocator = Global> {
     pub certificate: Option<Certificate<A>>,
 }
 
-/// What a boot service answers; of a buffer, the bytes that were used.
+/// What a boot service returns; of a buffer, the bytes that were used.
 #[derive(Drop)]
 pub enum Reply<A: Allocator = Global> {
     AllocatePages(Result<Placed<A>, Status>),

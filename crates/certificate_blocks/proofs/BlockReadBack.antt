@@ -175,7 +175,7 @@ module _ (entries : List Descriptor) (r : Request) (c : CertificateValue) (h : H
   unfolding block_text
   lines = text_lines (block_lines entries r c) all_words ∙ all_lines
 
-  -- where the reading stands after each part
+  -- where the reading is after each part
   abbrev at : ℕ → List (List ℕ) → LinesLeft
   at number rest = record { number = number; lines = rest }
 

@@ -97,14 +97,14 @@ end_missing can_fail number byte (Some bytes) next (rest, e, n) =
     let some : 0 < length (byte ∷ rest) = omega arith in
     rw (e, lines_of-some (byte ∷ rest) some) refl
 
--- ---- so many of a kind
+-- ---- a number of one kind
 
 -- the values, and then others
 abbrev pub prepended : {A : Type 0} → List A → Result (List A × LinesLeft) ℕ → Result (List A × LinesLeft) ℕ
 prepended xs (Ok (ys, left)) = Ok (xs ++ ys, left)
 prepended xs (Err number) = Err number
 
--- Of count values so many have been read, these; the others are still to be read from what is left now.
+-- Of count values these have been read; the others are still to be read from what is left now.
 abbrev pub HasRead : {A : Type 0} → ℕ → Reading A → Option LinesLeft → ℕ → List A → Option LinesLeft → Type 0
 HasRead count reading old done items now = IfSome old (λ left. (rest : LinesLeft) × (now ≡ Some rest) × (times count reading left ≡ prepended items (times (count - done) reading rest)))
 

@@ -2,7 +2,7 @@
 use Rattle.std.proofs.Common.{◌≡◌, ◌⊎◌, ℕ, ◌<◌, List, [], ◌∷◌, length, None, refl, inl, inr, arith}
 use Rattle.certificate_blocks.specs.BlockLines.{entry_of_words, request_of, bound_of}
 
--- not so many
+-- not that many
 abbrev pub OtherThan : ℕ → ℕ → List (List ℕ) → Type 0
 OtherThan low high words = (length words < low) ⊎ (high < length words)
 

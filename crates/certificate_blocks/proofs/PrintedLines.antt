@@ -126,7 +126,7 @@ module _ {A : Type 0} (meaning : List (List ℕ) → Option A) where
       let says : said meaning (joined words) ≡ Some x = ap (λ (bytes : List ℕ). meaning (words_of bytes)) (no_return (joined words) (joined_keeps words a.0)) ∙ ap meaning (joined_words words a) ∙ m in
       rw (le-ltb most_block_lines number n, le-ltb longest_line (length (joined words)) short, says) refl
 
-  -- so many lines, each of which says a value
+  -- a number of lines, each of which says a value
   pub times_read : (xs : List A) (words : A → List (List ℕ)) (number : ℕ) (rest : List (List ℕ)) → AllByRecursion (λ x. AreWords (words x) × (meaning (words x) ≡ Some x)) xs → number + length xs ≤ most_block_lines + 1 → times (length xs) (line meaning) (record { number = number; lines = map joined (map words xs) ++ rest }) ≡ Ok (xs, record { number = number + length xs; lines = rest })
   unfolding times
   times_read [] words number rest a n = let e : number ≡ number + 0 = omega arith in ap (λ (m : ℕ). Ok ([], record { number = m; lines = rest })) e

@@ -25,15 +25,19 @@ pub record IsVerdict (bytes : List ℕ) (accepted : Bool) : Type 0 where
 -- What is written, whatever is read: one of the two lines; on a fault nothing, but for a write that fails: then a front of one.
 abbrev pub Writes : Option (List ℕ) → Option (List ℕ) → Result Bool BlockFault → Type 0
 Writes before after (Ok accepted) = Appends before after (verdict_text accepted)
-Writes before after (Err fault.Write) = (accepted : Bool) × ((taken : ℕ) × Appends before after (take taken (verdict_text accepted)))
+Writes before after (Err fault.Write) =
+    (accepted : Bool) × ((taken : ℕ) × Appends before after (take taken (verdict_text accepted)))
 Writes before after (Err e) = Keeps before after
 
 -- What the answer says of known bytes: whether the block is accepted, or the first line that is not as stated. A read
--- fault is told of a source that can fail alone. A write that fails has written a front of the block's own verdict.
+-- fault comes from a source that can fail alone. A write that fails has written a front of the block's own verdict.
 -- Memory may run out at any time.
-abbrev pub Judges : Bool → List ℕ → Option (List ℕ) → Option (List ℕ) → Result Bool BlockFault → Type 0
+abbrev pub Judges : Bool → List ℕ → Option (List ℕ) → Option (List ℕ) → Result Bool BlockFault
+    → Type 0
 Judges can_fail bytes before after (Ok accepted) = IsVerdict bytes accepted
 Judges can_fail bytes before after (Err (fault.Line number)) = block_said bytes ≡ Err number
-Judges can_fail bytes before after (Err fault.Write) = (accepted : Bool) × IsVerdict bytes accepted × ((taken : ℕ) × Appends before after (take taken (verdict_text accepted)))
+Judges can_fail bytes before after (Err fault.Write) =
+    (accepted : Bool) × IsVerdict bytes accepted
+    × ((taken : ℕ) × Appends before after (take taken (verdict_text accepted)))
 Judges can_fail bytes before after (Err fault.Read) = IsTrue can_fail
 Judges can_fail bytes before after (Err fault.OutOfMemory) = Unit {0}

@@ -46,7 +46,10 @@ pub record HasBlockNumbers (entries : List Descriptor) (r : Request) (c : Certif
 
 -- The text of a block that has no more lines than a block may have is read back as the map, the request and the certificate that it was made of.
 abbrev pub BlockReadBackLaw : Type 0
-BlockReadBackLaw = (entries : List Descriptor) (r : Request) (c : CertificateValue) → HasBlockNumbers entries r c → length (block_lines entries r c) ≤ most_block_lines → block_said (block_text entries r c) ≡ Ok (entries, r, c)
+BlockReadBackLaw =
+    (entries : List Descriptor) (r : Request) (c : CertificateValue) → HasBlockNumbers entries r c
+    → length (block_lines entries r c) ≤ most_block_lines
+    → block_said (block_text entries r c) ≡ Ok (entries, r, c)
 
 -- The check answers that the block is accepted, unless a read or a write fails or memory runs out.
 abbrev pub SaysAccepted : Result Bool BlockFault → Type 0
@@ -57,9 +60,13 @@ SaysAccepted (Err e) = Unit {0}
 -- The text of a block is read back as the map, the request and the certificate that it was made of, and its check answers that it is accepted.
 pub record IsAcceptedBlock (entries : List Descriptor) (r : Request) (c : CertificateValue) : Type 0 where
   pub read_back : block_said (block_text entries r c) ≡ Ok (entries, r, c)
-  pub judged : (can_fail : Bool) (before after : Option (List ℕ)) (answer : Result Bool BlockFault) → Judges can_fail (block_text entries r c) before after answer → SaysAccepted answer
+  pub judged : (can_fail : Bool) (before after : Option (List ℕ)) (answer : Result Bool BlockFault)
+      → Judges can_fail (block_text entries r c) before after answer → SaysAccepted answer
 
 -- So it is of each certificate that is accepted, where the numbers of the entries and of the request fit, and where the block has no
 -- more lines than it may have with a bound for each entry.
 abbrev pub AcceptedBlockLaw : Type 0
-AcceptedBlockLaw = (entries : List Descriptor) (r : Request) (c : CertificateValue) → IsAccepted entries r c → AllByRecursion HasEntryNumbers entries → HasRequestNumbers r → 2 * length entries + 6 ≤ most_block_lines → IsAcceptedBlock entries r c
+AcceptedBlockLaw =
+    (entries : List Descriptor) (r : Request) (c : CertificateValue) → IsAccepted entries r c
+    → AllByRecursion HasEntryNumbers entries → HasRequestNumbers r
+    → 2 * length entries + 6 ≤ most_block_lines → IsAcceptedBlock entries r c

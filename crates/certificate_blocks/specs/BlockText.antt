@@ -30,7 +30,8 @@ granule_words granule = if granule == 1 then [] else decimal granule ∷ []
 
 -- the words of the request's line
 abbrev pub request_words : Request → List (List ℕ)
-request_words r = codes "request" ∷ decimal r.mtype ∷ decimal r.pages ∷ decimal r.limit ∷ granule_words r.granule
+request_words r =
+    codes "request" ∷ decimal r.mtype ∷ decimal r.pages ∷ decimal r.limit ∷ granule_words r.granule
 
 -- the words of the lines that say the bounds
 abbrev pub bound_lines : List Bound → List (List (List ℕ))
@@ -42,7 +43,9 @@ answer_lines answer = (codes "answer" ∷ decimal answer ∷ []) ∷ (codes "end
 
 -- the words of each line of a block
 abbrev pub block_lines : List Descriptor → Request → CertificateValue → List (List (List ℕ))
-block_lines entries r c = (codes "certificate" ∷ []) ∷ map_lines entries ++ (request_words r ∷ bound_lines c.bounds) ++ answer_lines c.answer
+block_lines entries r c =
+    (codes "certificate" ∷ []) ∷ map_lines entries ++ (request_words r ∷ bound_lines c.bounds)
+    ++ answer_lines c.answer
 
 -- words as a line, with single spaces between them
 abbrev pub printed_line : List (List ℕ) → List ℕ

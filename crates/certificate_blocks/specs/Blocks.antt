@@ -29,7 +29,8 @@ abbrev pub value_or_fault : {A : Type 0} → ℕ → Option A → Reading A
 value_or_fault number None = λ left. Err number
 value_or_fault number (Some x) = value x
 
-abbrev pub and_then : {A B : Type 0} → (A → Reading B) → Result (A × LinesLeft) ℕ → Result (B × LinesLeft) ℕ
+abbrev pub and_then : {A B : Type 0} → (A → Reading B) → Result (A × LinesLeft) ℕ
+    → Result (B × LinesLeft) ℕ
 and_then next (Err number) = Err number
 and_then next (Ok (x, left)) = next x left
 
@@ -38,7 +39,7 @@ infixl 10 ◌>>=◌
 abbrev pub ◌>>=◌ : {A B : Type 0} → Reading A → (A → Reading B) → Reading B
 first >>= next = λ left. and_then next (first left)
 
--- so many readings of one kind
+-- a number of readings of one kind
 unfoldable pub times : {A : Type 0} → ℕ → Reading A → Reading (List A)
 times zero reading = value []
 times (suc n) reading = do
@@ -54,7 +55,9 @@ most_block_lines = 5000000
 
 abbrev pub line_from : ℕ → List (List ℕ) → Result ((ℕ × List ℕ) × LinesLeft) ℕ
 line_from number [] = Err number
-line_from number (line ∷ lines) = if nat_lt most_block_lines number || nat_lt longest_line (length line) then Err number else Ok ((number, line), record { number = number + 1; lines = lines })
+line_from number (line ∷ lines) =
+    if nat_lt most_block_lines number || nat_lt longest_line (length line) then Err number
+    else Ok ((number, line), record { number = number + 1; lines = lines })
 
 -- the next line and its number: there must be one, not one too many and not too long
 abbrev pub next_line : Reading (ℕ × List ℕ)

@@ -19,7 +19,8 @@ pub fn check_block<A: Allocator + Copy, R: Read + Drop, W: Write>(
     reader: R,
     writer: &mut W,
 ) -> Result<bool, BlockFault>
-    ensures judged { IfSome (R.remaining reader) (λ bytes. Judges true bytes (W.contents writer.old) (W.contents writer.new) result) }
+    ensures judged { IfSome (R.remaining reader)
+        (λ bytes. Judges true bytes (W.contents writer.old) (W.contents writer.new) result) }
     ensures written { Writes (W.contents writer.old) (W.contents writer.new) result }
 {
     match BufReader::new(alloc, reader) {
@@ -28,13 +29,14 @@ pub fn check_block<A: Allocator + Copy, R: Read + Drop, W: Write>(
     }
 }
 
-/// As [`check_block`], of a source of bytes. Where it cannot fail, no read fault is told.
+/// As [`check_block`], of a source of bytes. Where it cannot fail, there is no read fault.
 pub fn judge_block<A: Allocator + Copy, S: ByteSource + Drop, W: Write>(
     alloc: A,
     source: S,
     writer: &mut W,
 ) -> Result<bool, BlockFault>
-    ensures judged { IfSome (S.left source) (λ bytes. Judges S.can_fail bytes (W.contents writer.old) (W.contents writer.new) result) }
+    ensures judged { IfSome (S.left source)
+        (λ bytes. Judges S.can_fail bytes (W.contents writer.old) (W.contents writer.new) result) }
     ensures written { Writes (W.contents writer.old) (W.contents writer.new) result }
 {
     let block = match read_block(alloc, source) {
@@ -50,7 +52,8 @@ pub fn judge_block<A: Allocator + Copy, S: ByteSource + Drop, W: Write>(
 
 /// Writes whether a certificate is accepted.
 fn write_verdict<W: Write>(writer: &mut W, accepted: bool) -> Result<(), BlockFault>
-    ensures ok { OnOk result (Appends (W.contents writer.old) (W.contents writer.new) (verdict_text accepted)) }
+    ensures ok { OnOk result
+        (Appends (W.contents writer.old) (W.contents writer.new) (verdict_text accepted)) }
     ensures err { IfErr result (λ fault. (fault ≡ BlockFault.Write)
         × ((count : ℕ) × Appends (W.contents writer.old) (W.contents writer.new) (take count (verdict_text accepted)))) }
 {

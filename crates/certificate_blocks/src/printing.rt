@@ -13,7 +13,8 @@ pub fn print_block<A: Allocator, B: Allocator>(
     request: &Request,
     certificate: &Certificate<B>,
 ) -> Result<(), AllocError>
-    ensures { OnOk result (string_bytes text.new ≡ string_bytes text.old ++ block_text map.now request.now certificate.now) }
+    ensures { OnOk result
+        (string_bytes text.new ≡ string_bytes text.old ++ block_text map.now request.now certificate.now) }
 {
     writeln!(text, "certificate")?;
     print_map(text, map)?;
@@ -24,7 +25,8 @@ pub fn print_block<A: Allocator, B: Allocator>(
 
 /// Appends the lines that say the map.
 fn print_map<A: Allocator>(text: &mut String<A>, map: &[Descriptor]) -> Result<(), AllocError>
-    ensures { OnOk result (string_bytes text.new ≡ string_bytes text.old ++ flat_map printed_line (map_lines map.now)) }
+    ensures { OnOk result
+        (string_bytes text.new ≡ string_bytes text.old ++ flat_map printed_line (map_lines map.now)) }
 {
     let count = map.len();
     writeln!(text, "map {count}")?;
@@ -36,7 +38,8 @@ fn print_map<A: Allocator>(text: &mut String<A>, map: &[Descriptor]) -> Result<(
 
 /// Appends the line of a map entry.
 fn print_entry<A: Allocator>(text: &mut String<A>, entry: &Descriptor) -> Result<(), AllocError>
-    ensures { OnOk result (string_bytes text.new ≡ string_bytes text.old ++ printed_line (entry_words entry.now)) }
+    ensures { OnOk result
+        (string_bytes text.new ≡ string_bytes text.old ++ printed_line (entry_words entry.now)) }
 {
     let mtype = entry.mtype.number();
     let first = entry.first;
@@ -47,7 +50,8 @@ fn print_entry<A: Allocator>(text: &mut String<A>, entry: &Descriptor) -> Result
 
 /// Appends the line of the request.
 fn print_request<A: Allocator>(text: &mut String<A>, request: &Request) -> Result<(), AllocError>
-    ensures { OnOk result (string_bytes text.new ≡ string_bytes text.old ++ printed_line (request_words request.now)) }
+    ensures { OnOk result
+        (string_bytes text.new ≡ string_bytes text.old ++ printed_line (request_words request.now)) }
 {
     let mtype = request.mtype.number();
     let pages = request.pages;
@@ -60,7 +64,8 @@ fn print_request<A: Allocator>(text: &mut String<A>, request: &Request) -> Resul
 
 /// Appends the lines that say the bounds.
 fn print_bounds<A: Allocator>(text: &mut String<A>, bounds: &[Bound]) -> Result<(), AllocError>
-    ensures { OnOk result (string_bytes text.new ≡ string_bytes text.old ++ flat_map printed_line (bound_lines bounds.now)) }
+    ensures { OnOk result
+        (string_bytes text.new ≡ string_bytes text.old ++ flat_map printed_line (bound_lines bounds.now)) }
 {
     let count = bounds.len();
     writeln!(text, "bounds {count}")?;
@@ -72,7 +77,8 @@ fn print_bounds<A: Allocator>(text: &mut String<A>, bounds: &[Bound]) -> Result<
 
 /// Appends the line of a bound.
 fn print_bound<A: Allocator>(text: &mut String<A>, bound: &Bound) -> Result<(), AllocError>
-    ensures { OnOk result (string_bytes text.new ≡ string_bytes text.old ++ printed_line (bound_words bound.now)) }
+    ensures { OnOk result
+        (string_bytes text.new ≡ string_bytes text.old ++ printed_line (bound_words bound.now)) }
 {
     let first = bound.first;
     let pages = bound.pages;
@@ -84,7 +90,8 @@ fn print_bound<A: Allocator>(text: &mut String<A>, bound: &Bound) -> Result<(), 
 
 /// Appends the lines that say the answer, and that end the block.
 fn print_answer<A: Allocator>(text: &mut String<A>, answer: u64) -> Result<(), AllocError>
-    ensures { OnOk result (string_bytes text.new ≡ string_bytes text.old ++ flat_map printed_line (answer_lines answer)) }
+    ensures { OnOk result
+        (string_bytes text.new ≡ string_bytes text.old ++ flat_map printed_line (answer_lines answer)) }
 {
     writeln!(text, "answer {answer}\nend")
 }

@@ -13,11 +13,11 @@ use page_ranges::Descriptor;
 use placement_certificate::{Bound, Certificate, Request};
 use std::alloc::Allocator;
 use text_lines::{
-    ByteSource, LONGEST_LINE, LineFault, next_line, without_carriage_return, words_of,
+    ByteSource, LineFault, MAX_LINE_LENGTH, next_line, without_carriage_return, words_of,
 };
 
 /// The most lines of a block.
-const MOST_BLOCK_LINES: u64 = 5_000_000;
+const MAX_BLOCK_LINES: u64 = 5_000_000;
 
 /// A certificate block: the map before the call, the request and the certificate.
 #[derive(Drop)]
@@ -37,12 +37,14 @@ pub struct BlockReader<S: Drop, A: Allocator> {
 }
 
 impl<S: ByteSource + Drop, A: Allocator + Copy> BlockReader<S, A> {
-    /// Takes the next line, and answers its number.
+    /// Takes the next line, and returns its number.
     fn next_line(&mut self) -> Result<u64, BlockFault>
-        ensures { Reads S.can_fail (λ number. (number, self.new.line.items)) next_line (lines_left (S.left self.old.source) self.old.number) result (lines_left (S.left self.new.source) self.new.number) }
+        ensures { Reads S.can_fail (λ number. (number, self.new.line.items)) next_line
+            (lines_left (S.left self.old.source) self.old.number) result
+            (lines_left (S.left self.new.source) self.new.number) }
     {
         let number = self.number;
-        if number > MOST_BLOCK_LINES {
+        if number > MAX_BLOCK_LINES {
             return Err(BlockFault::Line { number });
         }
         match next_line(&mut self.source, &mut self.line) {
@@ -51,7 +53,7 @@ impl<S: ByteSource + Drop, A: Allocator + Copy> BlockReader<S, A> {
             Err(LineFault::Read) => return Err(BlockFault::Read),
             Err(LineFault::OutOfMemory) => return Err(BlockFault::OutOfMemory),
         }
-        if self.line.len() > LONGEST_LINE {
+        if self.line.len() > MAX_LINE_LENGTH {
             return Err(BlockFault::Line { number });
         }
         self.number = number + 1;
@@ -60,7 +62,8 @@ impl<S: ByteSource + Drop, A: Allocator + Copy> BlockReader<S, A> {
 
     /// The words of the newest line.
     fn words(&self) -> Result<Vec<&[u8], A>, BlockFault>
-        ensures ok { IfOk result (λ words. map (λ word. word.now) words.items ≡ words_of (strip_last 13 self.now.line.items)) }
+        ensures ok { IfOk result
+            (λ words. map (λ word. word.now) words.items ≡ words_of (strip_last 13 self.now.line.items)) }
         ensures err { IfErr result (λ fault. fault ≡ BlockFault.OutOfMemory) }
     {
         Ok(words_of(self.alloc, without_carriage_return(self.line.as_slice()))?)
@@ -68,7 +71,9 @@ impl<S: ByteSource + Drop, A: Allocator + Copy> BlockReader<S, A> {
 
     /// Reads `NAME`.
     fn name(&mut self, name: &[u8]) -> Result<(), BlockFault>
-        ensures { Reads S.can_fail (λ done. done) (line (name_alone name.now)) (lines_left (S.left self.old.source) self.old.number) result (lines_left (S.left self.new.source) self.new.number) }
+        ensures { Reads S.can_fail (λ done. done) (line (name_alone name.now))
+            (lines_left (S.left self.old.source) self.old.number) result
+            (lines_left (S.left self.new.source) self.new.number) }
     {
         let number = self.next_line()?;
         let words = self.words()?;
@@ -77,7 +82,9 @@ impl<S: ByteSource + Drop, A: Allocator + Copy> BlockReader<S, A> {
 
     /// Reads `NAME NUMBER`.
     fn number_after(&mut self, name: &[u8]) -> Result<u64, BlockFault>
-        ensures { Reads S.can_fail (λ n. n) (line (number_after name.now)) (lines_left (S.left self.old.source) self.old.number) result (lines_left (S.left self.new.source) self.new.number) }
+        ensures { Reads S.can_fail (λ n. n) (line (number_after name.now))
+            (lines_left (S.left self.old.source) self.old.number) result
+            (lines_left (S.left self.new.source) self.new.number) }
     {
         let number = self.next_line()?;
         let words = self.words()?;
@@ -86,7 +93,9 @@ impl<S: ByteSource + Drop, A: Allocator + Copy> BlockReader<S, A> {
 
     /// Reads a map entry.
     fn entry(&mut self) -> Result<Descriptor, BlockFault>
-        ensures { Reads S.can_fail (λ entry. entry) (line entry_of_words) (lines_left (S.left self.old.source) self.old.number) result (lines_left (S.left self.new.source) self.new.number) }
+        ensures { Reads S.can_fail (λ entry. entry) (line entry_of_words)
+            (lines_left (S.left self.old.source) self.old.number) result
+            (lines_left (S.left self.new.source) self.new.number) }
     {
         let number = self.next_line()?;
         let words = self.words()?;
@@ -95,7 +104,9 @@ impl<S: ByteSource + Drop, A: Allocator + Copy> BlockReader<S, A> {
 
     /// Reads the request.
     fn request(&mut self) -> Result<Request, BlockFault>
-        ensures { Reads S.can_fail (λ request. request) (line request_of) (lines_left (S.left self.old.source) self.old.number) result (lines_left (S.left self.new.source) self.new.number) }
+        ensures { Reads S.can_fail (λ request. request) (line request_of)
+            (lines_left (S.left self.old.source) self.old.number) result
+            (lines_left (S.left self.new.source) self.new.number) }
     {
         let number = self.next_line()?;
         let words = self.words()?;
@@ -104,16 +115,20 @@ impl<S: ByteSource + Drop, A: Allocator + Copy> BlockReader<S, A> {
 
     /// Reads a bound.
     fn bound(&mut self) -> Result<Bound, BlockFault>
-        ensures { Reads S.can_fail (λ bound. bound) (line bound_of) (lines_left (S.left self.old.source) self.old.number) result (lines_left (S.left self.new.source) self.new.number) }
+        ensures { Reads S.can_fail (λ bound. bound) (line bound_of)
+            (lines_left (S.left self.old.source) self.old.number) result
+            (lines_left (S.left self.new.source) self.new.number) }
     {
         let number = self.next_line()?;
         let words = self.words()?;
         bound_of(words.as_slice()).ok_or(BlockFault::Line { number })
     }
 
-    /// Reads so many map entries.
+    /// Reads the given number of map entries.
     fn entries(&mut self, count: u64) -> Result<Vec<Descriptor, A>, BlockFault>
-        ensures { Reads S.can_fail (λ entries. entries.items) (times count (line entry_of_words)) (lines_left (S.left self.old.source) self.old.number) result (lines_left (S.left self.new.source) self.new.number) }
+        ensures { Reads S.can_fail (λ entries. entries.items) (times count (line entry_of_words))
+            (lines_left (S.left self.old.source) self.old.number) result
+            (lines_left (S.left self.new.source) self.new.number) }
     {
         let mut entries = Vec::new(self.alloc);
         for _read in 0..count {
@@ -122,9 +137,11 @@ impl<S: ByteSource + Drop, A: Allocator + Copy> BlockReader<S, A> {
         Ok(entries)
     }
 
-    /// Reads so many bounds.
+    /// Reads the given number of bounds.
     fn bounds(&mut self, count: u64) -> Result<Vec<Bound, A>, BlockFault>
-        ensures { Reads S.can_fail (λ bounds. bounds.items) (times count (line bound_of)) (lines_left (S.left self.old.source) self.old.number) result (lines_left (S.left self.new.source) self.new.number) }
+        ensures { Reads S.can_fail (λ bounds. bounds.items) (times count (line bound_of))
+            (lines_left (S.left self.old.source) self.old.number) result
+            (lines_left (S.left self.new.source) self.new.number) }
     {
         let mut bounds = Vec::new(self.alloc);
         for _read in 0..count {
@@ -135,7 +152,9 @@ impl<S: ByteSource + Drop, A: Allocator + Copy> BlockReader<S, A> {
 
     /// Reads that no line is left.
     fn no_line(&mut self) -> Result<(), BlockFault>
-        ensures { Reads S.can_fail (λ done. done) no_line (lines_left (S.left self.old.source) self.old.number) result (lines_left (S.left self.new.source) self.new.number) }
+        ensures { Reads S.can_fail (λ done. done) no_line
+            (lines_left (S.left self.old.source) self.old.number) result
+            (lines_left (S.left self.new.source) self.new.number) }
     {
         let number = self.number;
         match self.source.take_byte() {
@@ -147,7 +166,9 @@ impl<S: ByteSource + Drop, A: Allocator + Copy> BlockReader<S, A> {
 
     /// Reads a block.
     fn block(&mut self) -> Result<Block<A>, BlockFault>
-        ensures { Reads S.can_fail (λ b. (b.map.items, b.request, b.certificate)) block (lines_left (S.left self.old.source) self.old.number) result (lines_left (S.left self.new.source) self.new.number) }
+        ensures { Reads S.can_fail (λ b. (b.map.items, b.request, b.certificate)) block
+            (lines_left (S.left self.old.source) self.old.number) result
+            (lines_left (S.left self.new.source) self.new.number) }
     {
         self.name(b"certificate")?;
         let entry_count = self.number_after(b"map")?;

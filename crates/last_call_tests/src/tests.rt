@@ -20,7 +20,7 @@ fn free_run() -> Run {
     }
 }
 
-/// A core of that machine, with so many calls left.
+/// A core of that machine, with the given number of calls left.
 pub fn core_with(rt: &(impl AllocGlobal + Abort), calls: u64) -> Core<TableDriver> {
     let mut runs = Vec::new(rt.alloc());
     runs.push(free_run()).expect(rt, "memory");

@@ -26,18 +26,33 @@ pub record ListedDriver : Type 0 where
 
 -- how a file lists a driver
 abbrev pub listed : TableDriver → ListedDriver
-listed d = record { version = d.version; needs = d.needs.items; opens = d.plan.opens; children = d.plan.children; stops = d.stops }
+listed d =
+    record {
+      version = d.version;
+      needs = d.needs.items;
+      opens = d.plan.opens;
+      children = d.plan.children;
+      stops = d.stops;
+    }
 
--- What a listed driver answers: it supports a controller that carries each GUID that it needs, none of them held, and its plan and
+-- What a listed driver does: it supports a controller that carries each GUID that it needs, none of them held, and its plan and
 -- whether it may be stopped are always the same.
 abbrev pub listed_meaning : ListedDriver → Meaning
-listed_meaning d = record { version = d.version; supports = λ s. list_all (is_free s.protocols) d.needs; plan = λ s. record { opens = d.opens; children = d.children }; may_stop = λ s. d.stops }
+listed_meaning d =
+    record {
+      version = d.version;
+      supports = λ s. list_all (is_free s.protocols) d.needs;
+      plan = λ s. record { opens = d.opens; children = d.children };
+      may_stop = λ s. d.stops;
+    }
 
 -- ---- a member of the driver list
 
 -- a number of 32 bits
 abbrev pub version_of : Data → Option ℕ
-version_of d = option_and_then (if_passes (λ version. nat_lt version (2 ^ 32))) (number_at (driver_field_name field.Version) d)
+version_of d =
+    option_and_then (if_passes (λ version. nat_lt version (2 ^ 32)))
+    (number_at (driver_field_name field.Version) d)
 
 -- the GUID that a text is
 unfoldable pub guid_of : Data → Option (List ℕ)
@@ -50,7 +65,8 @@ guids_of = each_up_to 8 guid_of
 -- the pair of two members: a GUID's text, and the text of a number of `0x` and digits
 abbrev pub pair_in : Items → Option (List ℕ × ℕ)
 pair_in (item guid (item value no_items)) =
-    option_and_then (λ g. option_map (λ v. (g, v)) (option_and_then hexadecimal_of (as_str value))) (guid_of guid)
+    option_and_then
+    (λ g. option_map (λ v. (g, v)) (option_and_then hexadecimal_of (as_str value))) (guid_of guid)
 pair_in members = None
 
 -- the pair that a list of two texts is

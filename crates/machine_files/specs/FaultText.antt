@@ -1,4 +1,4 @@
--- How faults are told.
+-- How faults are printed.
 use Rattle.std.specs.Prelude.{ℕ, List, codes}
 use Rattle.machine_files.specs.declared.faults.MemberField.{MemberField}
 use Rattle.machine_files.specs.declared.faults.MemberField.TheVariants as field

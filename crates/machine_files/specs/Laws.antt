@@ -6,7 +6,11 @@ use Rattle.boot_machines.specs.Machines.{IsMachine}
 use Rattle.machine_files.specs.DriverText.{most_drivers}
 use Rattle.machine_files.specs.MachineText.{ListedMachine, most_descriptors, machine_of}
 
--- What a file lists is a machine of at most so many runs, and their types and attributes fit their fields of a record. It
--- lists at most so many drivers.
+-- What a file lists is a machine of at most `most_descriptors` runs, and their types and attributes fit their fields of a record. It
+-- lists at most `most_drivers` drivers.
 abbrev pub MachineLaw : Type 0
-MachineLaw = (bytes : List ℕ) (machine : ListedMachine) → machine_of bytes ≡ Ok machine → IsMachine machine.machine × AllByRecursion HasRecordNumbers machine.machine.runs × (length machine.machine.runs ≤ most_descriptors) × (length machine.drivers ≤ most_drivers)
+MachineLaw =
+    (bytes : List ℕ)
+    (machine : ListedMachine) → machine_of bytes ≡ Ok machine → IsMachine machine.machine
+    × AllByRecursion HasRecordNumbers machine.machine.runs
+    × (length machine.machine.runs ≤ most_descriptors) × (length machine.drivers ≤ most_drivers)

@@ -23,19 +23,26 @@ use Rattle.text_lines.specs.FirstFault.{◌>>=◌, or_fault}
 
 -- a type that a machine may have
 abbrev pub member_type : Data → Option ℕ
-member_type d = option_and_then (if_passes (λ t. nat_lt t (2 ^ 32) && is_machine_type t)) (number_at (field_name field.Type) d)
+member_type d =
+    option_and_then (if_passes (λ t. nat_lt t (2 ^ 32) && is_machine_type t))
+    (number_at (field_name field.Type) d)
 
 -- the page that begins at the start
 abbrev pub first_page_of : Data → Option ℕ
-first_page_of d = option_and_then (λ start. if start % page_size == 0 then Some (start / page_size) else None) (hexadecimal_at (field_name field.Start) d)
+first_page_of d =
+    option_and_then (λ start. if start % page_size == 0 then Some (start / page_size) else None) (hexadecimal_at (field_name field.Start) d)
 
 -- a number of pages, not 0, the last of which exists
 abbrev pub page_count_of : ℕ → Data → Option ℕ
-page_count_of first d = option_and_then (if_passes (λ pages. not (pages == 0) && nat_le (first + pages) page_count)) (number_at (field_name field.Pages) d)
+page_count_of first d =
+    option_and_then (if_passes (λ pages. not (pages == 0) && nat_le (first + pages) page_count))
+    (number_at (field_name field.Pages) d)
 
 -- attributes, without RUNTIME where the type is conventional
 abbrev pub attributes_of : ℕ → Data → Option ℕ
-attributes_of t d = option_and_then (if_passes (λ attributes. not ((t == conventional) && has_runtime attributes))) (hexadecimal_at (field_name field.Attributes) d)
+attributes_of t d =
+    option_and_then (if_passes (λ attributes. not ((t == conventional) && has_runtime attributes)))
+    (hexadecimal_at (field_name field.Attributes) d)
 
 -- The run of a member, or its first field that is missing, of another kind or out of its range. A member that is no
 -- object lacks each field.
@@ -78,7 +85,8 @@ root_runs root = do
 
 -- a granule that a machine may have
 abbrev pub granule_of : Data → Option ℕ
-granule_of d = option_and_then (if_passes (λ n. (n == 1) || (n == 16))) (option_and_then as_u64 (as_number d))
+granule_of d =
+    option_and_then (if_passes (λ n. (n == 1) || (n == 16))) (option_and_then as_u64 (as_number d))
 
 -- the granule that a file names, or a page where it names none
 abbrev pub granule_if : Option Data → Option ℕ
@@ -88,15 +96,19 @@ granule_if (Some d) = granule_of d
 abbrev pub root_granule : Data → Option ℕ
 root_granule root = granule_if (get (codes "granule") root)
 
--- what JSON a file of at most so many bytes is
+-- the JSON value of a file of at most `longest_file` bytes
 unfoldable pub root_of : List ℕ → Result Data MachineFault
-root_of bytes = if nat_lt longest_file (length bytes) then Err fault.TooLong else or_fault fault.NotJson (json_of bytes)
+root_of bytes =
+    if nat_lt longest_file (length bytes) then Err fault.TooLong
+    else or_fault fault.NotJson (json_of bytes)
 
 -- ---- the machine
 
 -- the runs have a page in common
 abbrev pub shares_page : Run → Run → Bool
-shares_page r s = nat_lt r.range.first (s.range.first + s.range.pages) && nat_lt s.range.first (r.range.first + r.range.pages)
+shares_page r s =
+    nat_lt r.range.first (s.range.first + s.range.pages)
+    && nat_lt s.range.first (r.range.first + r.range.pages)
 
 -- some run has a page in common with more than one of the list, itself among them
 abbrev pub overlap : List Run → Bool
@@ -105,7 +117,8 @@ overlap runs = list_any (λ r. nat_lt 1 (count_by (shares_page r) runs)) runs
 -- runs by ascending page, and one more of them
 abbrev pub with_run : Run → List Run → List Run
 with_run r [] = r ∷ []
-with_run r (s ∷ runs) = if nat_le r.range.first s.range.first then r ∷ s ∷ runs else s ∷ with_run r runs
+with_run r (s ∷ runs) =
+    if nat_le r.range.first s.range.first then r ∷ s ∷ runs else s ∷ with_run r runs
 
 -- the runs by ascending page
 abbrev pub in_order : List Run → List Run
@@ -119,7 +132,9 @@ pub record ListedMachine : Type 0 where
 
 -- the machine of these runs and this granule, unless runs have a page in common or the granule is none
 abbrev pub machine_with : List Run → Option ℕ → Result MachineValue MachineFault
-machine_with runs granule = if overlap runs then Err fault.Overlap else or_fault fault.Granule (option_map (λ g. record { runs = in_order runs; granule = g }) granule)
+machine_with runs granule =
+    if overlap runs then Err fault.Overlap
+    else or_fault fault.Granule (option_map (λ g. record { runs = in_order runs; granule = g }) granule)
 
 -- the machine that a file lists, with its descriptors in any order
 unfoldable pub machine_of : List ℕ → Result ListedMachine MachineFault
@@ -136,4 +151,6 @@ listed_machine file = record { machine = file.machine; drivers = map listed file
 
 -- What a function returned, seen by view, is what the definition reads, unless memory ran out.
 abbrev pub Gives : {X Y : Type 0} → (X → Y) → Result X MachineFault → Result Y MachineFault → Type 0
-Gives view result reading = MatchResult result (λ x. reading ≡ Ok (view x)) (λ e. (e ≡ fault.OutOfMemory) ⊎ (reading ≡ Err e))
+Gives view result reading =
+    MatchResult result (λ x. reading ≡ Ok (view x))
+    (λ e. (e ≡ fault.OutOfMemory) ⊎ (reading ≡ Err e))

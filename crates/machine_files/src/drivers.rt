@@ -13,13 +13,13 @@ use text_lines::hexadecimal_of;
 use uuid::Uuid;
 
 /// The most GUIDs that a driver needs, and the most that it opens.
-const MOST_GUIDS: usize = 8;
+const MAX_GUIDS: usize = 8;
 
 /// The most children of a driver's plan.
-const MOST_CHILDREN: usize = 8;
+const MAX_CHILDREN: usize = 8;
 
 /// The most interfaces of a child.
-const MOST_PAIRS: usize = 4;
+const MAX_PAIRS: usize = 4;
 
 /// The driver of a member, or its first field that is missing, of another kind or out of its range.
 /// A member that is no object lacks them all.
@@ -63,19 +63,19 @@ fn guid_of(value: &Value) -> Option<Uuid>
 
 /// The GUIDs of a list of texts.
 #[tactic(auto, using(crate::proofs::EachMember::count_of_items))]
-fn guids_of(value: &Value) -> Option<ArrayVec<Uuid, MOST_GUIDS>>
+fn guids_of(value: &Value) -> Option<ArrayVec<Uuid, MAX_GUIDS>>
     ensures { option_map (λ guids. guids.items) result ≡ guids_of (view value.now) }
 {
     let list = value.as_array()?;
-    if list.len() > MOST_GUIDS {
+    if list.len() > MAX_GUIDS {
         return None;
     }
     guids_in(list.as_slice())
 }
 
 /// The GUIDs of the members.
-fn guids_in(members: &[Value]) -> Option<ArrayVec<Uuid, MOST_GUIDS>>
-    requires { length members.now ≤ MOST_GUIDS }
+fn guids_in(members: &[Value]) -> Option<ArrayVec<Uuid, MAX_GUIDS>>
+    requires { length members.now ≤ MAX_GUIDS }
     ensures { option_map (λ guids. guids.items) result ≡ each_of guid_of (items_view members.now) }
 {
     let mut guids = ArrayVec::new();
@@ -108,19 +108,19 @@ fn pair_in(members: &[Value]) -> Option<(Uuid, u64)>
 
 /// The interfaces of a list of pairs.
 #[tactic(auto, unfolding(crate::specs::DriverText::child_of), using(crate::proofs::EachMember::count_of_items))]
-fn child_of(value: &Value) -> Option<ArrayVec<(Uuid, u64), MOST_PAIRS>>
+fn child_of(value: &Value) -> Option<ArrayVec<(Uuid, u64), MAX_PAIRS>>
     ensures { option_map (λ child. child.items) result ≡ child_of (view value.now) }
 {
     let list = value.as_array()?;
-    if list.len() > MOST_PAIRS {
+    if list.len() > MAX_PAIRS {
         return None;
     }
     pairs_in(list.as_slice())
 }
 
 /// The pairs of the members.
-fn pairs_in(members: &[Value]) -> Option<ArrayVec<(Uuid, u64), MOST_PAIRS>>
-    requires { length members.now ≤ MOST_PAIRS }
+fn pairs_in(members: &[Value]) -> Option<ArrayVec<(Uuid, u64), MAX_PAIRS>>
+    requires { length members.now ≤ MAX_PAIRS }
     ensures { option_map (λ pairs. pairs.items) result ≡ each_of pair_of (items_view members.now) }
 {
     let mut pairs = ArrayVec::new();
@@ -132,11 +132,12 @@ fn pairs_in(members: &[Value]) -> Option<ArrayVec<(Uuid, u64), MOST_PAIRS>>
 
 /// The children of a list of them.
 #[tactic(auto, using(crate::proofs::EachMember::count_of_items))]
-fn children_of(value: &Value) -> Option<ArrayVec<ArrayVec<(Uuid, u64), MOST_PAIRS>, MOST_CHILDREN>>
-    ensures { option_map (λ children. map (λ child. child.items) children.items) result ≡ children_of (view value.now) }
+fn children_of(value: &Value) -> Option<ArrayVec<ArrayVec<(Uuid, u64), MAX_PAIRS>, MAX_CHILDREN>>
+    ensures { option_map (λ children. map (λ child. child.items) children.items) result
+        ≡ children_of (view value.now) }
 {
     let list = value.as_array()?;
-    if list.len() > MOST_CHILDREN {
+    if list.len() > MAX_CHILDREN {
         return None;
     }
     children_in(list.as_slice())
@@ -145,9 +146,10 @@ fn children_of(value: &Value) -> Option<ArrayVec<ArrayVec<(Uuid, u64), MOST_PAIR
 /// The children of the members.
 fn children_in(
     members: &[Value],
-) -> Option<ArrayVec<ArrayVec<(Uuid, u64), MOST_PAIRS>, MOST_CHILDREN>>
-    requires { length members.now ≤ MOST_CHILDREN }
-    ensures { option_map (λ children. map (λ child. child.items) children.items) result ≡ each_of child_of (items_view members.now) }
+) -> Option<ArrayVec<ArrayVec<(Uuid, u64), MAX_PAIRS>, MAX_CHILDREN>>
+    requires { length members.now ≤ MAX_CHILDREN }
+    ensures { option_map (λ children. map (λ child. child.items) children.items) result
+        ≡ each_of child_of (items_view members.now) }
 {
     let mut children = ArrayVec::new();
     for member in members {

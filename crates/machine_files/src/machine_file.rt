@@ -19,13 +19,13 @@ use serde_json::Value;
 use std::alloc::Global;
 
 /// The most bytes of a machine file.
-pub const LONGEST_FILE: usize = 67_108_864;
+pub const MAX_FILE_LENGTH: usize = 67_108_864;
 
 /// The most members of a memory list.
-pub const MOST_DESCRIPTORS: usize = 65_536;
+pub const MAX_DESCRIPTORS: usize = 65_536;
 
 /// The most members of a driver list.
-pub const MOST_DRIVERS: usize = 64;
+pub const MAX_DRIVERS: usize = 64;
 
 /// What a machine file says.
 #[derive(Drop)]
@@ -46,7 +46,7 @@ pub fn read_machine(alloc: Global, bytes: &[u8]) -> Result<MachineFile, MachineF
     Ok(MachineFile { machine, drivers })
 }
 
-/// The machine with these runs and this granule. Two runs that have a page in common are told before a
+/// The machine with these runs and this granule. Two runs that have a page in common are a fault before a
 /// granule that is none.
 fn machine_with(runs: Vec<Run>, granule: Option<u64>) -> Result<Machine, MachineFault>
     requires runs { AllByRecursion IsMachineRun runs.items }
@@ -64,7 +64,8 @@ fn machine_with(runs: Vec<Run>, granule: Option<u64>) -> Result<Machine, Machine
 fn whole_machine(mut runs: Vec<Run>, granule: u64) -> Option<Machine>
     requires runs { AllByRecursion IsMachineRun runs.items }
     requires granule { IsGranule granule }
-    ensures { result ≡ (if overlap runs.items then None else Some (record { runs = in_order runs.items; granule = granule })) }
+    ensures { result
+        ≡ (if overlap runs.items then None else Some (record { runs = in_order runs.items; granule = granule })) }
 {
     runs.sort_unstable_by_key(|run| run.range.first);
     Machine::new(runs, granule)
@@ -87,7 +88,7 @@ fn root_granule(root: &Value) -> Option<u64>
 fn root_of(alloc: Global, bytes: &[u8]) -> Result<Value, MachineFault>
     ensures { Gives view result (root_of bytes.now) }
 {
-    if bytes.len() > LONGEST_FILE {
+    if bytes.len() > MAX_FILE_LENGTH {
         return Err(MachineFault::TooLong);
     }
     json_of(alloc, bytes)
@@ -122,7 +123,7 @@ fn root_runs(alloc: Global, root: &Value) -> Result<Vec<Run>, MachineFault>
     let Some(list) = root.get("memory").and_then(Value::as_array) else {
         return Err(MachineFault::NoMemoryList);
     };
-    if list.len() > MOST_DESCRIPTORS {
+    if list.len() > MAX_DESCRIPTORS {
         return Err(MachineFault::TooManyDescriptors);
     }
     runs_of(alloc, list.as_slice())
@@ -160,7 +161,7 @@ fn drivers_of(alloc: Global, list: &Value) -> Result<Vec<TableDriver>, MachineFa
     let Some(members) = list.as_array() else {
         return Err(MachineFault::NoDriverList);
     };
-    if members.len() > MOST_DRIVERS {
+    if members.len() > MAX_DRIVERS {
         return Err(MachineFault::TooManyDrivers);
     }
     drivers_in(alloc, members.as_slice())

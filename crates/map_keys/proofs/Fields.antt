@@ -15,7 +15,7 @@ put_from xs field new at n e =
     ∙ ap (λ (ys : List ℕ). take at xs ++ ys) (append-nil (field ++ drop (at + n) xs))
     ∙ sym (append_assoc (take at xs) field (drop (at + n) xs))
 
--- a field behind those that stand in the front of what was there
+-- a field behind those at the front of what was there
 pub field_behind : (old xs front field : List ℕ) (at n : ℕ) → xs ≡ front ++ drop at old → length front ≡ at → take at xs ++ field ++ drop (at + n) xs ≡ front ++ field ++ drop (at + n) old
 field_behind old xs front field at n e f =
     let before : take at xs ≡ front = ap (take at) e ∙ ap (λ (k : ℕ). take k (front ++ drop at old)) (sym f) ∙ take-append_seam front (drop at old) in

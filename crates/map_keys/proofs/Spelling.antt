@@ -30,7 +30,7 @@ number-bytes_8 : (xs : List ℕ) → 8 ≤ length xs → AreBytes xs → little_
 number-bytes_8 xs h a =
     le_bytes_8 (take 8 xs) (little_number 8 xs) (length-take-le 8 xs h) (bytes-take 8 xs a) (sym (little_from-take 0 8 8 xs (omega arith)) ∙ omega arith)
 
--- a field of 4 or 8 bytes at a place, behind those that stand before it
+-- a field of 4 or 8 bytes at an index, behind those before it
 spelled_4 : (xs front : List ℕ) (at : ℕ) → at + 4 ≤ length xs → AreBytes xs → front ≡ take at xs → front ++ little_bytes 4 (little_number 4 (drop at xs)) ≡ take (at + 4) xs
 spelled_4 xs front at h a e =
     ap (λ (ys : List ℕ). ys ++ little_bytes 4 (little_number 4 (drop at xs))) e

@@ -1,4 +1,4 @@
--- What GetMemoryMap answers, and what it leaves in the buffer.
+-- What GetMemoryMap returns, and what it leaves in the buffer.
 use Rattle.std.specs.Prelude.{ℕ, ◌*◌, nat_le, List, ◌++◌, length, drop, if◌then◌else◌}
 use Rattle.page_ranges.specs.declared.statuses.Status.TheVariants.{Success, BufferTooSmall}
 use Rattle.page_ranges.specs.MemoryMap.{memory_map}
@@ -14,7 +14,7 @@ descriptor_version = 1
 abbrev pub map_size : Book → ℕ
 map_size b = record_size * length (memory_map b.memory)
 
--- The reply to a buffer of so many bytes: the size used, the key, the size of a record and the version; where the buffer is
+-- The reply to a buffer of a size in bytes: the size used, the key, the size of a record and the version; where the buffer is
 -- too small, the size needed and no other field.
 abbrev pub map_reply : Book → ℕ → MapReply
 map_reply b room =
@@ -25,4 +25,6 @@ map_reply b room =
 -- The buffer after that: the records of the map in its front and the rest as it was; all of it as it was where it is too small.
 abbrev pub buffer_with_map : Book → List ℕ → List ℕ
 buffer_with_map b buffer =
-    if nat_le (map_size b) (length buffer) then records (memory_map b.memory) ++ drop (map_size b) buffer else buffer
+    if nat_le (map_size b) (length buffer)
+    then records (memory_map b.memory) ++ drop (map_size b) buffer
+    else buffer

@@ -13,7 +13,8 @@ record_size = 48
 -- NumberOfPages and Attribute, and 8 bytes more.
 abbrev pub record_of : Descriptor → List ℕ
 record_of d =
-    little_bytes 4 d.mtype ++ little_bytes 4 0 ++ little_bytes 8 (d.first * page_size) ++ little_bytes 8 0 ++ little_bytes 8 d.pages ++ little_bytes 8 d.attributes ++ little_bytes 8 0
+    little_bytes 4 d.mtype ++ little_bytes 4 0 ++ little_bytes 8 (d.first * page_size)
+    ++ little_bytes 8 0 ++ little_bytes 8 d.pages ++ little_bytes 8 d.attributes ++ little_bytes 8 0
 
 -- the records of entries, one behind the other
 abbrev pub records : List Descriptor → List ℕ
@@ -34,8 +35,11 @@ ReadsRecord bytes None = (d : Descriptor) → IsRecordEntry d → ¬ (record_of 
 -- What is read of bytes: the entries whose records they are, or `None` where they are the records of no entries.
 abbrev pub ReadsRecords : List ℕ → Option (List Descriptor) → Type 0
 ReadsRecords bytes (Some ds) = AllByRecursion IsRecordEntry ds × (records ds ≡ bytes)
-ReadsRecords bytes None = (ds : List Descriptor) → AllByRecursion IsRecordEntry ds → ¬ (records ds ≡ bytes)
+ReadsRecords bytes None =
+    (ds : List Descriptor) → AllByRecursion IsRecordEntry ds → ¬ (records ds ≡ bytes)
 
 -- What is read of the records of entries is those entries.
 abbrev pub ReadBackLaw : Type 0
-ReadBackLaw = (ds : List Descriptor) (found : Option (List Descriptor)) → AllByRecursion IsRecordEntry ds → ReadsRecords (records ds) found → found ≡ Some ds
+ReadBackLaw =
+    (ds : List Descriptor) (found : Option (List Descriptor)) → AllByRecursion IsRecordEntry ds
+    → ReadsRecords (records ds) found → found ≡ Some ds

@@ -10,7 +10,7 @@ use std::alloc::Allocator;
 /// The version of the memory descriptors (EFI_MEMORY_DESCRIPTOR_VERSION).
 const VERSION: u32 = 1;
 
-/// What GetMemoryMap answers beside the bytes of the map.
+/// What GetMemoryMap returns beside the bytes of the map.
 #[derive(Clone, Copy, Debug, PartialEq, Eq)]
 pub struct MapReply {
     /// SUCCESS or BUFFER_TOO_SMALL.
@@ -26,7 +26,7 @@ pub struct MapReply {
 }
 
 /// Writes the memory map into the front of a buffer, a record of 48 bytes for each entry by
-/// ascending page, and answers the bytes used, the map key, 48 and 1. All bytes behind the map stay.
+/// ascending page, and returns the bytes used, the map key, 48 and 1. All bytes behind the map stay.
 ///
 /// BUFFER_TOO_SMALL where the buffer has fewer bytes than the map: the reply has the size needed,
 /// and 0 in all other fields, and the buffer stays as it was. Takes no memory.

@@ -1,4 +1,4 @@
--- Regions: fresh ones, and what a block's cell tells.
+-- Regions: fresh ones, and what a block's cell says.
 use Rattle.std.proofs.Common.{◌≡◌, ℕ, ◌+◌, ◌-◌, ◌*◌, ◌^◌, ◌<◌, ◌≤◌, inl, inr, List, [], ◌∷◌, ◌++◌, length, map, max, Option, Some, None, refl, sym, ap, ap₂, ◌∙◌, append_assoc, arith, subst, get_or, Bool, cond, eq-eqb, ne_eqb}
 use Rattle.std.specs.Option.{option_map}
 use Rattle.std.proofs.lemmas.List.{append-nil}

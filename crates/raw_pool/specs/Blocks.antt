@@ -8,12 +8,12 @@ pub record Block : Type 0 where
   pub size : ℕ
   pub bytes : List ℕ
 
--- a region of so many cells, and its blocks by ascending first cell
+-- a region of the given number of cells, and its blocks by ascending first cell
 pub record Pool : Type 0 where
   pub cells : ℕ
   pub blocks : List Block
 
--- the cells of 32 bytes that a block of a size takes: a header of 8 bytes stands before its bytes
+-- the cells of 32 bytes that a block of a size takes: a header of 8 bytes comes before its bytes
 abbrev pub cells_for : ℕ → ℕ
 cells_for size = (size + 8 + 31) / 32
 
@@ -26,10 +26,11 @@ abbrev pub block_at : ℕ → List Block → Option Block
 block_at cell [] = None
 block_at cell (b ∷ bs) = cond (b.first == cell) (Some b) (block_at cell bs)
 
--- the first of so many free cells in a row, the lowest from a cell on, where the blocks from there on are given
+-- the first of the given number of free cells in a row, the lowest from a cell on, where the blocks from there on are given
 abbrev pub lowest_fit : ℕ → ℕ → ℕ → List Block → Option ℕ
 lowest_fit cells need from [] = cond (nat_le (from + need) cells) (Some from) None
-lowest_fit cells need from (b ∷ bs) = cond (nat_le (from + need) b.first) (Some from) (lowest_fit cells need (end_of b) bs)
+lowest_fit cells need from (b ∷ bs) =
+    cond (nat_le (from + need) b.first) (Some from) (lowest_fit cells need (end_of b) bs)
 
 -- the blocks with one more among them
 abbrev pub with_block : Block → List Block → List Block
@@ -43,7 +44,8 @@ new_block cell size = record { first = cell; size = size; bytes = replicate size
 -- the pool once a block is taken at a cell, if there is one to take it at
 abbrev pub taken : Pool → ℕ → Option ℕ → Pool
 taken p size None = p
-taken p size (Some cell) = record { cells = p.cells; blocks = with_block (new_block cell size) p.blocks }
+taken p size (Some cell) =
+    record { cells = p.cells; blocks = with_block (new_block cell size) p.blocks }
 
 -- the blocks without the one that begins at a cell
 abbrev pub without_block : ℕ → List Block → List Block
@@ -54,16 +56,19 @@ without_block cell (b ∷ bs) = cond (b.first == cell) bs (b ∷ without_block c
 abbrev pub with_bytes : ℕ → ℕ → List ℕ → List Block → List Block
 with_bytes cell at bytes [] = []
 with_bytes cell at bytes (b ∷ bs) =
-    cond (b.first == cell) (record { first = b.first; size = b.size; bytes = put b.bytes at bytes } ∷ bs) (b ∷ with_bytes cell at bytes bs)
+    cond (b.first == cell)
+    (record { first = b.first; size = b.size; bytes = put b.bytes at bytes } ∷ bs)
+    (b ∷ with_bytes cell at bytes bs)
 
--- whether so many bytes from a place on lie in a block, if there is one
+-- whether the given number of bytes from an index on lie in a block, if there is one
 abbrev pub holds_range : ℕ → ℕ → Option Block → Bool
 holds_range at count None = false
 holds_range at count (Some b) = nat_le (at + count) b.size
 
 -- the pool once bytes are written into a block, if they are
 abbrev pub written : Bool → ℕ → ℕ → List ℕ → Pool → Pool
-written done cell at bytes p = cond done (record { cells = p.cells; blocks = with_bytes cell at bytes p.blocks }) p
+written done cell at bytes p =
+    cond done (record { cells = p.cells; blocks = with_bytes cell at bytes p.blocks }) p
 
 -- how many cells the longest run of free cells has, of those from a cell on, where the blocks from there on are given
 abbrev pub longest_run : ℕ → ℕ → List Block → ℕ

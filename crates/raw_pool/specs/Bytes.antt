@@ -16,7 +16,7 @@ pub record Parts : Type 0 where
 abbrev pub extended : List ℕ → ℕ → List ℕ
 extended bytes end = bytes ++ replicate (end - length bytes) 0
 
--- so many bytes from a place on
+-- the given number of bytes from an index on
 abbrev pub part : List ℕ → ℕ → ℕ → List ℕ
 part bytes at count = take count (drop at bytes)
 

@@ -1,4 +1,4 @@
--- What a region's bytes stand for: blocks with their headers, and the list of the free runs.
+-- What a region's bytes represent: blocks with their headers, and the list of the free runs.
 use Rattle.std.specs.Prelude.{◌≡◌, ◌≤◌, ℕ, ◌+◌, ◌-◌, ◌*◌, ◌==◌, nat_lt, cond, List, [], ◌∷◌, ◌++◌, length, map}
 use Rattle.raw_pool.specs.Bytes.{word, part}
 use Rattle.raw_pool.specs.Blocks.{Block, cells_for}
@@ -10,7 +10,12 @@ marked k (m ∷ ms) = cond (m == 0) (marked (k + 1) ms) (k ∷ marked (k + 1) ms
 
 -- the block at a cell: a header of 8 bytes with its size, and its bytes
 unfoldable pub block_in : List ℕ → ℕ → Block
-block_in bytes cell = record { first = cell; size = word bytes (32 * cell); bytes = part bytes (32 * cell + 8) (word bytes (32 * cell)) }
+block_in bytes cell =
+    record {
+      first = cell;
+      size = word bytes (32 * cell);
+      bytes = part bytes (32 * cell + 8) (word bytes (32 * cell));
+    }
 
 -- the cells of the block at a cell
 abbrev pub cells_in : List ℕ → ℕ → ℕ
@@ -42,9 +47,11 @@ free_runs bytes cells from starts = gaps bytes from starts ++ gap (behind bytes 
 -- blocks at ascending cells, one behind the other, all of whose bytes are set
 abbrev pub AreApart : List ℕ → ℕ → ℕ → List ℕ → Type 0
 AreApart bytes cells from [] = from ≤ cells
-AreApart bytes cells from (c ∷ cs) = (from ≤ c) × (32 * (c + cells_in bytes c) ≤ length bytes) × AreApart bytes cells (c + cells_in bytes c) cs
+AreApart bytes cells from (c ∷ cs) =
+    (from ≤ c) × (32 * (c + cells_in bytes c) ≤ length bytes)
+    × AreApart bytes cells (c + cells_in bytes c) cs
 
--- the link behind a free run; the list's head stands as the link of the number of cells
+-- the link behind a free run; the list's head is the link of the number of cells
 unfoldable pub link : List ℕ → ℕ → ℕ → ℕ → ℕ
 link bytes cells head run = cond (run == cells) head (word bytes (32 * run + 8))
 
@@ -55,13 +62,14 @@ IsRun bytes run = (word bytes (32 * run.first) ≡ run.cells) × (32 * run.first
 -- free runs in the order of the list, from a link on to the list's end
 abbrev pub AreLinked : List ℕ → ℕ → ℕ → ℕ → List FreeRun → Type 0
 AreLinked bytes cells head to [] = to ≡ cells
-AreLinked bytes cells head to (r ∷ rs) = (to ≡ r.first) × IsRun bytes r × AreLinked bytes cells head (link bytes cells head r.first) rs
+AreLinked bytes cells head to (r ∷ rs) =
+    (to ≡ r.first) × IsRun bytes r × AreLinked bytes cells head (link bytes cells head r.first) rs
 
--- The representation: the marks tell where blocks begin, and the list has all free runs.
+-- The representation: the marks show where blocks begin, and the list has all free runs.
 pub record IsLaidOut (bytes marks : List ℕ) (cells head : ℕ) : Type 0 where
   pub apart : AreApart bytes cells 0 (marked 0 marks)
   pub linked : AreLinked bytes cells head head (free_runs bytes cells 0 (marked 0 marks))
 
--- the blocks that bytes and marks stand for
+-- the blocks that bytes and marks represent
 abbrev pub blocks_in : List ℕ → List ℕ → List Block
 blocks_in bytes marks = map (block_in bytes) (marked 0 marks)

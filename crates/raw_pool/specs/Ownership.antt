@@ -8,13 +8,15 @@ use denote.Builtin.{u8}
 use denote.RawPtr.{Ptr, lies_at, room_for, in_block, ◌+ₚ◌}
 use denote.Struct.Lending.{lent_at}
 
--- the type of so many bytes in a row
+-- the type of the given number of bytes in a row
 abbrev pub byte_row : ℕ → Ty
 byte_row n = ty_array (ty_int w8) n
 
 -- at p the n bytes that are set, and behind them memory for the others, of which none is set
 abbrev pub row_owned : Ptr → ℕ → ℕ → List ℕ → Fml
-row_owned p n room xs = in_block p (fsep (lies_at (Array u8 n) full_share p xs) (room_for (byte_row (room - n)) (p +ₚ n)))
+row_owned p n room xs =
+    in_block p
+    (fsep (lies_at (Array u8 n) full_share p xs) (room_for (byte_row (room - n)) (p +ₚ n)))
 
 -- what a `&` to the row lends: the bytes that are set
 abbrev pub row_lent : Ptr → ℕ → List ℕ → Lft → Fml

@@ -10,4 +10,11 @@ bytes_of r = record { set = r.set; room = r.room }
 
 -- it with others as the bytes that are set. Where they are not as many, they are cut or filled up
 abbrev pub with_set : RawBytes → List ℕ → RawBytes
-with_set r xs = record { ptr = r.ptr; len = r.len; room = r.room; set = take r.len (xs ++ drop (length xs) r.set); ok = (length_refill r.len r.set xs r.ok.0, r.ok.1, r.ok.2) }
+with_set r xs =
+    record {
+      ptr = r.ptr;
+      len = r.len;
+      room = r.room;
+      set = take r.len (xs ++ drop (length xs) r.set);
+      ok = (length_refill r.len r.set xs r.ok.0, r.ok.1, r.ok.2);
+    }

@@ -7,3 +7,4 @@ mod region;
 mod store;
 
 pub use pool::RawPool;
+pub use raw_bytes::RawBytes;

@@ -33,7 +33,7 @@ impl<A: Allocator> Model for RawPool<A> {
 }
 
 impl<A: Allocator + Copy> RawPool<A> {
-    /// A region of so many pages, at most 2^21, with no blocks. This is the one call that takes
+    /// A region of the given number of pages, at most 2^21, with no blocks. This is the one call that takes
     /// memory. It touches none of it.
     pub fn new(alloc: A, pages: usize) -> Result<RawPool<A>, AllocError>
         requires { (1 ≤ pages) × (pages ≤ 2 ^ 21) }
@@ -50,8 +50,8 @@ impl<A: Allocator + Copy> RawPool<A> {
         })
     }
 
-    /// Takes the lowest run of free cells that has room for a block of so many bytes, all of which
-    /// become 0, and answers its first cell. On None, which means that there is no such run, all stays.
+    /// Takes the lowest run of free cells that has room for a block of the given size, all bytes of which
+    /// become 0, and returns its first cell. On None, which means that there is no such run, all stays.
     pub fn take(&mut self, size: usize) -> Option<usize>
         ensures cell { result ≡ lowest_fit self.old.cells (cells_for size) 0 self.old.blocks }
         ensures pool { self.new ≡ taken self.old size result }
@@ -62,7 +62,8 @@ impl<A: Allocator + Copy> RawPool<A> {
     /// Gives a block back. False, with nothing changed, if no block begins at the cell.
     pub fn give(&mut self, cell: usize) -> bool
         ensures given { result ≡ is_some (block_at cell self.old.blocks) }
-        ensures pool { self.new ≡ record { cells = self.old.cells; blocks = without_block cell self.old.blocks } }
+        ensures pool { self.new
+            ≡ record { cells = self.old.cells; blocks = without_block cell self.old.blocks } }
     {
         self.store.give(cell)
     }
@@ -76,7 +77,8 @@ impl<A: Allocator + Copy> RawPool<A> {
 
     /// The bytes of the block that begins at a cell.
     pub fn bytes(&self, cell: usize) -> Option<&[u8]>
-        ensures { option_map (λ s. s.now) result ≡ option_map (λ b. b.bytes) (block_at cell self.now.blocks) }
+        ensures { option_map (λ s. s.now) result
+            ≡ option_map (λ b. b.bytes) (block_at cell self.now.blocks) }
     {
         self.store.bytes_of(cell)
     }

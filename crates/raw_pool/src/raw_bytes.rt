@@ -13,12 +13,12 @@ use std::slice;
 mod edits;
 
 /// Bytes in a row, of which the first `len` are set. The others are never read.
-pub(crate) struct RawBytes {
-    ptr: *mut u8,
-    len: usize,
-    pub(crate) ghost room: { ℕ },
-    pub(crate) ghost set: { List ℕ },
-    ghost ok: { (len ≡ length set) × (len ≤ room) × (room < 2 ^ 63) },
+pub struct RawBytes {
+    pub ptr: *mut u8,
+    pub len: usize,
+    pub ghost room: { ℕ },
+    pub ghost set: { List ℕ },
+    pub ghost ok: { (len ≡ length set) × (len ≤ room) × (room < 2 ^ 63) },
 }
 
 impl Model for RawBytes {
@@ -47,8 +47,11 @@ impl<A: Allocator> Lease<A> {
         second: usize,
     ) -> Result<(RawBytes, RawBytes, Lease<A>), AllocError>
         requires { first + second < 2 ^ 63 }
-        ensures rows { IfOk result (λ p. (p.0.set ≡ []) × (p.0.room ≡ first) × (p.1.set ≡ []) × (p.1.room ≡ second)) }
-        ensures block { IfOk result (λ p. AreBlock p.0.ptr p.0.room p.1.ptr p.1.room p.2.ptr p.2.size × (p.2.alloc ≡ alloc.now)) }
+        ensures rows { IfOk result
+            (λ p. (p.0.set ≡ []) × (p.0.room ≡ first) × (p.1.set ≡ []) × (p.1.room ≡ second)) }
+        ensures block { IfOk result
+            (λ p. AreBlock p.0.ptr p.0.room p.1.ptr p.1.room p.2.ptr p.2.size
+            × (p.2.alloc ≡ alloc.now)) }
     {
         let size = first + second;
         match alloc.allocate(size, 1) {
@@ -70,7 +73,8 @@ impl<A: Allocator> Lease<A> {
 
     /// Frees the block of two rows.
     pub(crate) fn release(self, first: RawBytes, second: RawBytes, alloc: &A)
-        requires { AreBlock first.ptr first.room second.ptr second.room self.ptr self.size × (self.alloc ≡ alloc.now) }
+        requires { AreBlock first.ptr first.room second.ptr second.room self.ptr self.size
+            × (self.alloc ≡ alloc.now) }
     {
         let Lease { size, by: _ } = self;
         let RawBytes { ptr, len: _ } = first;
@@ -85,21 +89,22 @@ impl RawBytes {
     ghost use Rattle.raw_pool.specs.contracts.raw_bytes.RawBytes.{the_row};
 
     /// The bytes that are set.
-    pub(crate) fn bytes(&self) -> &[u8]
+    pub fn bytes(&self) -> &[u8]
         ensures { result.now ≡ self.now.set }
     {
         unsafe { slice::from_raw_parts(self.ptr, self.len) }
     }
 
     /// The bytes that are set, to be written.
-    pub(crate) fn bytes_mut(&mut self) -> &mut [u8]
-        ensures* writes_back { sem 𝓛 (follows the_row (Array u8 0) self.entry.ghost_name result.ghost_name (with_set self.old)) }
+    pub fn bytes_mut(&mut self) -> &mut [u8]
+        ensures* writes_back { sem 𝓛
+            (follows the_row (Array u8 0) self.entry.ghost_name result.ghost_name (with_set self.old)) }
         ensures value { result.now ≡ self.old.set }
     {
         unsafe { slice::from_raw_parts_mut(self.ptr, self.len) }
     }
 
-    /// Sets so many more bytes to 0.
+    /// Sets the given number of further bytes to 0.
     pub(crate) fn extend(&mut self, count: usize)
         requires { length self.old.set + count ≤ self.old.room }
         ensures set { self.new.set ≡ self.old.set ++ replicate count 0 }
@@ -111,7 +116,7 @@ impl RawBytes {
     }
 }
 
-/// Sets so many bytes at a pointer to 0.
+/// Sets the given number of bytes at a pointer to 0.
 unsafe fn zero(start: *mut u8, count: usize)
     requires few { count < 2 ^ 63 }
     requires* memory { sem 𝓛 (room_for (byte_row count) start) }

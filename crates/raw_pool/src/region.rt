@@ -29,10 +29,12 @@ impl<A: Allocator> Model for Region<A> {
 }
 
 impl<A: Allocator> Region<A> {
-    /// Room for so many bytes and marks, none of which is set. It touches none of the memory.
+    /// Room for the given numbers of bytes and marks, none of which is set. It touches none of the memory.
     pub(crate) fn new(alloc: A, bytes: usize, marks: usize) -> Result<Region<A>, AllocError>
         requires { bytes + marks < 2 ^ 63 }
-        ensures { IfOk result (λ r. (r.bytes ≡ record { set = []; room = bytes }) × (r.marks ≡ record { set = []; room = marks })) }
+        ensures { IfOk result
+            (λ r. (r.bytes ≡ record { set = []; room = bytes })
+            × (r.marks ≡ record { set = []; room = marks })) }
     {
         let (bytes, marks, lease) = Lease::reserve(&alloc, bytes, marks)?;
         Ok(Region {
@@ -61,16 +63,18 @@ impl<A: Allocator> Region<A> {
     /// Writes bytes from a place on, at most behind those that are set.
     pub(crate) fn write(&mut self, at: usize, bytes: &[u8])
         requires { (at ≤ length self.old.bytes.set) × (at + length bytes.now ≤ self.old.bytes.room) }
-        ensures bytes { self.new.bytes ≡ record { set = put self.old.bytes.set at bytes.now; room = self.old.bytes.room } }
+        ensures bytes { self.new.bytes
+            ≡ record { set = put self.old.bytes.set at bytes.now; room = self.old.bytes.room } }
         ensures marks { self.new.marks ≡ self.old.marks }
     {
         self.bytes.write(at, bytes);
     }
 
-    /// Sets so many bytes from a place on to 0.
+    /// Sets the given number of bytes from a place on to 0.
     pub(crate) fn clear(&mut self, at: usize, count: usize)
         requires { (at ≤ length self.old.bytes.set) × (at + count ≤ self.old.bytes.room) }
-        ensures bytes { self.new.bytes ≡ record { set = put self.old.bytes.set at (replicate count 0); room = self.old.bytes.room } }
+        ensures bytes { self.new.bytes
+            ≡ record { set = put self.old.bytes.set at (replicate count 0); room = self.old.bytes.room } }
         ensures marks { self.new.marks ≡ self.old.marks }
     {
         self.bytes.clear(at, count);
@@ -87,7 +91,8 @@ impl<A: Allocator> Region<A> {
     /// Writes a number into the 8 bytes from a place on.
     pub(crate) fn write_word(&mut self, at: usize, number: u64)
         requires { (at ≤ length self.old.bytes.set) × (at + 8 ≤ self.old.bytes.room) }
-        ensures bytes { self.new.bytes ≡ record { set = put self.old.bytes.set at (little_bytes 8 number); room = self.old.bytes.room } }
+        ensures bytes { self.new.bytes
+            ≡ record { set = put self.old.bytes.set at (little_bytes 8 number); room = self.old.bytes.room } }
         ensures marks { self.new.marks ≡ self.old.marks }
     {
         self.bytes.write_word(at, number);
@@ -108,10 +113,11 @@ impl<A: Allocator> Region<A> {
         self.marks.len()
     }
 
-    /// Sets so many marks from a cell's on to 0.
+    /// Sets the given number of marks from a cell's on to 0.
     pub(crate) fn clear_marks(&mut self, cell: usize, count: usize)
         requires { (cell ≤ length self.old.marks.set) × (cell + count ≤ self.old.marks.room) }
-        ensures marks { self.new.marks ≡ record { set = put self.old.marks.set cell (replicate count 0); room = self.old.marks.room } }
+        ensures marks { self.new.marks
+            ≡ record { set = put self.old.marks.set cell (replicate count 0); room = self.old.marks.room } }
         ensures bytes { self.new.bytes ≡ self.old.bytes }
     {
         self.marks.clear(cell, count);
@@ -120,7 +126,8 @@ impl<A: Allocator> Region<A> {
     /// Sets the mark of a cell, which may be the first that is not set yet.
     pub(crate) fn put_mark(&mut self, cell: usize, mark: u8)
         requires { (cell ≤ length self.old.marks.set) × (cell < self.old.marks.room) }
-        ensures marks { self.new.marks ≡ record { set = put self.old.marks.set cell (mark ∷ []); room = self.old.marks.room } }
+        ensures marks { self.new.marks
+            ≡ record { set = put self.old.marks.set cell (mark ∷ []); room = self.old.marks.room } }
         ensures bytes { self.new.bytes ≡ self.old.bytes }
     {
         self.marks.put(cell, mark);

@@ -46,7 +46,7 @@ pub(crate) struct Store<A: Allocator = Global> {
 
 impl<A: Allocator + Copy> Store<A> {
     /// The first cell of the run behind a free run, or of the first one behind the list's head,
-    /// which stands as the number of cells.
+    /// which is written as the number of cells.
     fn link(&self, run: usize) -> usize
         requires few { self.now.cells ≤ 2 ^ 28 }
         requires set { run < self.now.cells → 32 * run + 16 ≤ length self.now.region.bytes.set }
@@ -74,7 +74,8 @@ impl<A: Allocator + Copy> Store<A> {
         requires few { (self.old.cells ≤ 2 ^ 28) × (run ≤ self.old.cells) }
         requires room { self.old.region.bytes.room ≡ 32 * self.old.cells }
         requires set { run < self.old.cells → 32 * run + 16 ≤ length self.old.region.bytes.set }
-        ensures bytes { self.new.region.bytes ≡ record { set = cond (run == self.old.cells) self.old.region.bytes.set (put self.old.region.bytes.set (32 * run + 8) (little_bytes 8 next)); room = self.old.region.bytes.room } }
+        ensures bytes { self.new.region.bytes
+            ≡ record { set = cond (run == self.old.cells) self.old.region.bytes.set (put self.old.region.bytes.set (32 * run + 8) (little_bytes 8 next)); room = self.old.region.bytes.room } }
         ensures head { self.new.head ≡ cond (run == self.old.cells) next self.old.head }
         ensures others { (self.new.region.marks ≡ self.old.region.marks) × (self.new.cells ≡ self.old.cells) }
     {
@@ -90,17 +91,22 @@ impl<A: Allocator + Copy> Store<A> {
         requires few { (self.old.cells ≤ 2 ^ 28) × (run < self.old.cells) }
         requires room { self.old.region.bytes.room ≡ 32 * self.old.cells }
         requires set { 32 * run ≤ length self.old.region.bytes.set }
-        ensures bytes { self.new.region.bytes ≡ record { set = put (put self.old.region.bytes.set (32 * run) (little_bytes 8 cells)) (32 * run + 8) (little_bytes 8 next); room = self.old.region.bytes.room } }
-        ensures others { (self.new.head ≡ self.old.head) × (self.new.region.marks ≡ self.old.region.marks) × (self.new.cells ≡ self.old.cells) }
+        ensures bytes { self.new.region.bytes
+            ≡ record { set = put (put self.old.region.bytes.set (32 * run) (little_bytes 8 cells)) (32 * run + 8) (little_bytes 8 next); room = self.old.region.bytes.room } }
+        ensures others { (self.new.head ≡ self.old.head) × (self.new.region.marks ≡ self.old.region.marks)
+            × (self.new.cells ≡ self.old.cells) }
     {
         self.region.write_word(CELL_SIZE * run, cells as u64);
         self.region.write_word(CELL_SIZE * run + 8, next as u64);
     }
 
-    /// The first free run of at least so many cells, and the place in the list before it.
+    /// The first free run of at least the given number of cells, and the place in the list before it.
     fn find_fit(&self, need: usize) -> Option<(usize, usize)>
         requires { IsStore self.now.region.bytes self.now.region.marks self.now.cells self.now.head }
-        ensures { MatchOption result (AllByRecursion (λ r. r.cells < need) (runs_of self.now.region.bytes self.now.region.marks self.now.cells)) (λ p. Scan (λ r. r.cells < need) self.now.region.bytes.set self.now.cells self.now.head (runs_of self.now.region.bytes self.now.region.marks self.now.cells) p.0 p.1 × (p.1 < self.now.cells) × (need ≤ word self.now.region.bytes.set (32 * p.1))) }
+        ensures { MatchOption result
+            (AllByRecursion (λ r. r.cells < need) (runs_of self.now.region.bytes self.now.region.marks self.now.cells))
+            (λ p. Scan (λ r. r.cells < need) self.now.region.bytes.set self.now.cells self.now.head (runs_of self.now.region.bytes self.now.region.marks self.now.cells) p.0 p.1
+            × (p.1 < self.now.cells) × (need ≤ word self.now.region.bytes.set (32 * p.1))) }
     {
         let mut last = self.cells;
         let mut next = self.head;
@@ -118,7 +124,9 @@ impl<A: Allocator + Copy> Store<A> {
     fn find_place(&self, cell: usize) -> (usize, usize)
         requires store { IsStore self.now.region.bytes self.now.region.marks self.now.cells self.now.head }
         requires within { cell < self.now.cells }
-        ensures { Scan (λ r. r.first < cell) self.now.region.bytes.set self.now.cells self.now.head (runs_of self.now.region.bytes self.now.region.marks self.now.cells) result.0 result.1 × (cell ≤ result.1) }
+        ensures { Scan (λ r. r.first < cell) self.now.region.bytes.set self.now.cells self.now.head
+            (runs_of self.now.region.bytes self.now.region.marks self.now.cells) result.0 result.1
+            × (cell ≤ result.1) }
     {
         let mut last = self.cells;
         let mut next = self.head;
@@ -129,7 +137,7 @@ impl<A: Allocator + Copy> Store<A> {
         (last, next)
     }
 
-    /// Takes so many cells off the front of a free run and sets their bytes to 0. The answer is what
+    /// Takes the given number of cells off the front of a free run and sets their bytes to 0. The answer is what
     /// the list goes on with: the rest of the run, or the run behind it.
     fn cut(&mut self, at: usize, need: usize) -> usize
         requires few { (self.old.cells ≤ 2 ^ 28) × (at < self.old.cells) }
@@ -138,7 +146,9 @@ impl<A: Allocator + Copy> Store<A> {
         requires fits { need ≤ word self.old.region.bytes.set (32 * at) }
         requires within { at + word self.old.region.bytes.set (32 * at) ≤ self.old.cells }
         ensures cut { IsCut self.old.region.bytes.set self.new.region.bytes.set self.old.cells self.old.head at need result }
-        ensures others { (self.new.region.bytes.room ≡ self.old.region.bytes.room) × (self.new.head ≡ self.old.head) × (self.new.region.marks ≡ self.old.region.marks) × (self.new.cells ≡ self.old.cells) }
+        ensures others { (self.new.region.bytes.room ≡ self.old.region.bytes.room)
+            × (self.new.head ≡ self.old.head) × (self.new.region.marks ≡ self.old.region.marks)
+            × (self.new.cells ≡ self.old.cells) }
     {
         let free = self.run_cells(at);
         let next = self.link(at);
@@ -154,8 +164,10 @@ impl<A: Allocator + Copy> Store<A> {
     /// Marks a cell as the first of a block.
     fn mark(&mut self, cell: usize)
         requires { (self.old.region.marks.room ≡ self.old.cells) × (cell < self.old.cells) }
-        ensures marks { self.new.region.marks ≡ record { set = put (grown self.old.region.marks.set cell) cell (1 ∷ []); room = self.old.region.marks.room } }
-        ensures others { (self.new.region.bytes ≡ self.old.region.bytes) × (self.new.head ≡ self.old.head) × (self.new.cells ≡ self.old.cells) }
+        ensures marks { self.new.region.marks
+            ≡ record { set = put (grown self.old.region.marks.set cell) cell (1 ∷ []); room = self.old.region.marks.room } }
+        ensures others { (self.new.region.bytes ≡ self.old.region.bytes) × (self.new.head ≡ self.old.head)
+            × (self.new.cells ≡ self.old.cells) }
     {
         let set = self.region.marks_len();
         self.region.clear_marks(set, cell.saturating_sub(set));
@@ -165,11 +177,14 @@ impl<A: Allocator + Copy> Store<A> {
     /// Makes the front of a free run a block, all of whose bytes are 0.
     fn place(&mut self, last: usize, at: usize, size: usize, need: usize)
         requires store { IsStore self.old.region.bytes self.old.region.marks self.old.cells self.old.head }
-        requires scan { Scan (λ r. r.cells < need) self.old.region.bytes.set self.old.cells self.old.head (runs_of self.old.region.bytes self.old.region.marks self.old.cells) last at }
+        requires scan { Scan (λ r. r.cells < need) self.old.region.bytes.set self.old.cells self.old.head
+            (runs_of self.old.region.bytes self.old.region.marks self.old.cells) last at }
         requires within { at < self.old.cells }
         requires need { need ≡ cells_for size }
         requires fits { need ≤ word self.old.region.bytes.set (32 * at) }
-        ensures pool { pool_of self.new.region.bytes self.new.region.marks self.new.cells ≡ taken (pool_of self.old.region.bytes self.old.region.marks self.old.cells) size (Some at) }
+        ensures pool { pool_of self.new.region.bytes self.new.region.marks self.new.cells
+            ≡ taken
+            (pool_of self.old.region.bytes self.old.region.marks self.old.cells) size (Some at) }
         ensures store { IsStore self.new.region.bytes self.new.region.marks self.new.cells self.new.head }
     {
         let rest = self.cut(at, need);
@@ -181,8 +196,11 @@ impl<A: Allocator + Copy> Store<A> {
     /// Takes the lowest run of free cells that has room for a block.
     fn take_prepared(&mut self, size: usize) -> Option<usize>
         requires { IsStore self.old.region.bytes self.old.region.marks self.old.cells self.old.head }
-        ensures cell { result ≡ lowest_fit self.old.cells (cells_for size) 0 (blocks_in self.old.region.bytes.set self.old.region.marks.set) }
-        ensures pool { pool_of self.new.region.bytes self.new.region.marks self.new.cells ≡ taken (pool_of self.old.region.bytes self.old.region.marks self.old.cells) size result }
+        ensures cell { result
+            ≡ lowest_fit self.old.cells (cells_for size) 0
+            (blocks_in self.old.region.bytes.set self.old.region.marks.set) }
+        ensures pool { pool_of self.new.region.bytes self.new.region.marks self.new.cells
+            ≡ taken (pool_of self.old.region.bytes self.old.region.marks self.old.cells) size result }
         ensures store { IsStore self.new.region.bytes self.new.region.marks self.new.cells self.new.head }
     {
         if size > CELL_SIZE * self.cells {
@@ -196,8 +214,10 @@ impl<A: Allocator + Copy> Store<A> {
 
     /// Whether a block begins at a cell.
     fn is_block(&self, cell: usize) -> bool
-        ensures block { block_at cell (blocks_in self.now.region.bytes.set self.now.region.marks.set) ≡ (if result then Some (block_in self.now.region.bytes.set cell) else None) }
-        ensures marked { result ≡ true → (cell < length self.now.region.marks.set) × (slice_index self.now.region.marks.set cell ≢ 0) }
+        ensures block { block_at cell (blocks_in self.now.region.bytes.set self.now.region.marks.set)
+            ≡ (if result then Some (block_in self.now.region.bytes.set cell) else None) }
+        ensures marked { result ≡ true → (cell < length self.now.region.marks.set)
+            × (slice_index self.now.region.marks.set cell ≢ 0) }
     {
         let marks = self.region.marks();
         cell < marks.len() && marks[cell] != 0
@@ -207,9 +227,12 @@ impl<A: Allocator + Copy> Store<A> {
     /// the list goes on there. The first free run from that cell on is `next`.
     fn run_behind(&self, cell: usize, next: usize) -> (usize, usize)
         requires few { self.now.cells ≤ 2 ^ 28 }
-        requires set { next < self.now.cells → (32 * next + 16 ≤ length self.now.region.bytes.set) × (next + word self.now.region.bytes.set (32 * next) ≤ self.now.cells) }
+        requires set { next < self.now.cells → (32 * next + 16 ≤ length self.now.region.bytes.set)
+            × (next + word self.now.region.bytes.set (32 * next) ≤ self.now.cells) }
         requires within { next ≤ self.now.cells }
-        ensures run { next ≡ cell → next < self.now.cells → (result.0 ≡ next + word self.now.region.bytes.set (32 * next)) × (result.1 ≡ link self.now.region.bytes.set self.now.cells self.now.head next) }
+        ensures run { next ≡ cell → next < self.now.cells →
+            (result.0 ≡ next + word self.now.region.bytes.set (32 * next))
+            × (result.1 ≡ link self.now.region.bytes.set self.now.cells self.now.head next) }
         ensures none { (next ≡ cell → next < self.now.cells → ⊥) → (result.0 ≡ cell) × (result.1 ≡ next) }
     {
         if next == cell && next < self.cells {
@@ -222,12 +245,18 @@ impl<A: Allocator + Copy> Store<A> {
     /// Makes the cells from a cell up to `end` free. They join the free run `last` before them if it
     /// touches them; the list goes on with `after`.
     fn join(&mut self, last: usize, cell: usize, end: usize, after: usize)
-        requires few { (self.old.cells ≤ 2 ^ 28) × (cell < end) × (end ≤ self.old.cells) × (last ≤ self.old.cells) }
+        requires few { (self.old.cells ≤ 2 ^ 28) × (cell < end) × (end ≤ self.old.cells)
+            × (last ≤ self.old.cells) }
         requires room { self.old.region.bytes.room ≡ 32 * self.old.cells }
-        requires last { last < self.old.cells → (32 * last + 16 ≤ length self.old.region.bytes.set) × (last + word self.old.region.bytes.set (32 * last) ≤ self.old.cells) × (last < cell) }
+        requires last { last < self.old.cells → (32 * last + 16 ≤ length self.old.region.bytes.set)
+            × (last + word self.old.region.bytes.set (32 * last) ≤ self.old.cells) × (last < cell) }
         requires set { 32 * cell + 32 ≤ length self.old.region.bytes.set }
-        ensures touching { last < self.old.cells → last + word self.old.region.bytes.set (32 * last) ≡ cell → (self.new.region.bytes ≡ record { set = put (put self.old.region.bytes.set (32 * last) (little_bytes 8 (end - last))) (32 * last + 8) (little_bytes 8 after); room = self.old.region.bytes.room }) × (self.new.head ≡ self.old.head) }
-        ensures apart { (last < self.old.cells → last + word self.old.region.bytes.set (32 * last) ≡ cell → ⊥) → (self.new.region.bytes ≡ record { set = with_link (put (put self.old.region.bytes.set (32 * cell) (little_bytes 8 (end - cell))) (32 * cell + 8) (little_bytes 8 after)) self.old.cells last cell; room = self.old.region.bytes.room }) × (self.new.head ≡ cond (last == self.old.cells) cell self.old.head) }
+        ensures touching { last < self.old.cells → last + word self.old.region.bytes.set (32 * last) ≡ cell →
+            (self.new.region.bytes ≡ record { set = put (put self.old.region.bytes.set (32 * last) (little_bytes 8 (end - last))) (32 * last + 8) (little_bytes 8 after); room = self.old.region.bytes.room })
+            × (self.new.head ≡ self.old.head) }
+        ensures apart { (last < self.old.cells → last + word self.old.region.bytes.set (32 * last) ≡ cell → ⊥) →
+            (self.new.region.bytes ≡ record { set = with_link (put (put self.old.region.bytes.set (32 * cell) (little_bytes 8 (end - cell))) (32 * cell + 8) (little_bytes 8 after)) self.old.cells last cell; room = self.old.region.bytes.room })
+            × (self.new.head ≡ cond (last == self.old.cells) cell self.old.head) }
         ensures others { (self.new.region.marks ≡ self.old.region.marks) × (self.new.cells ≡ self.old.cells) }
     {
         if last < self.cells && last + self.run_cells(last) == cell {
@@ -241,8 +270,10 @@ impl<A: Allocator + Copy> Store<A> {
     /// Makes the cells of a block free.
     fn free(&mut self, cell: usize)
         requires store { IsStore self.old.region.bytes self.old.region.marks self.old.cells self.old.head }
-        requires block { (cell < length self.old.region.marks.set) × (slice_index self.old.region.marks.set cell ≢ 0) }
-        ensures pool { pool_of self.new.region.bytes self.new.region.marks self.new.cells ≡ record { cells = self.old.cells; blocks = without_block cell (blocks_in self.old.region.bytes.set self.old.region.marks.set) } }
+        requires block { (cell < length self.old.region.marks.set)
+            × (slice_index self.old.region.marks.set cell ≢ 0) }
+        ensures pool { pool_of self.new.region.bytes self.new.region.marks self.new.cells
+            ≡ record { cells = self.old.cells; blocks = without_block cell (blocks_in self.old.region.bytes.set self.old.region.marks.set) } }
         ensures store { IsStore self.new.region.bytes self.new.region.marks self.new.cells self.new.head }
     {
         let block_end = cell + cells_of(self.region.word(CELL_SIZE * cell) as usize);
@@ -255,7 +286,8 @@ impl<A: Allocator + Copy> Store<A> {
     /// Writes the header of the one free run, if no byte of the region is set yet.
     fn prepare(&mut self)
         requires { IsRegion self.old.region.bytes self.old.region.marks self.old.cells self.old.head }
-        ensures pool { pool_of self.new.region.bytes self.new.region.marks self.new.cells ≡ pool_of self.old.region.bytes self.old.region.marks self.old.cells }
+        ensures pool { pool_of self.new.region.bytes self.new.region.marks self.new.cells
+            ≡ pool_of self.old.region.bytes self.old.region.marks self.old.cells }
         ensures store { IsStore self.new.region.bytes self.new.region.marks self.new.cells self.new.head }
     {
         if self.region.len() == 0 {
@@ -264,12 +296,15 @@ impl<A: Allocator + Copy> Store<A> {
         }
     }
 
-    /// Takes the lowest run of free cells that has room for a block of so many bytes, all of which
-    /// become 0, and answers the first of its cells.
+    /// Takes the lowest run of free cells that has room for a block of the given size, all bytes of which
+    /// become 0, and returns the first of its cells.
     pub(crate) fn take(&mut self, size: usize) -> Option<usize>
         requires { IsRegion self.old.region.bytes self.old.region.marks self.old.cells self.old.head }
-        ensures cell { result ≡ lowest_fit self.old.cells (cells_for size) 0 (blocks_in self.old.region.bytes.set self.old.region.marks.set) }
-        ensures pool { pool_of self.new.region.bytes self.new.region.marks self.new.cells ≡ taken (pool_of self.old.region.bytes self.old.region.marks self.old.cells) size result }
+        ensures cell { result
+            ≡ lowest_fit self.old.cells (cells_for size) 0
+            (blocks_in self.old.region.bytes.set self.old.region.marks.set) }
+        ensures pool { pool_of self.new.region.bytes self.new.region.marks self.new.cells
+            ≡ taken (pool_of self.old.region.bytes self.old.region.marks self.old.cells) size result }
         ensures region { IsRegion self.new.region.bytes self.new.region.marks self.new.cells self.new.head }
     {
         self.prepare();
@@ -279,8 +314,11 @@ impl<A: Allocator + Copy> Store<A> {
     /// Gives a block back, if one begins at the cell.
     pub(crate) fn give(&mut self, cell: usize) -> bool
         requires { IsRegion self.old.region.bytes self.old.region.marks self.old.cells self.old.head }
-        ensures given { result ≡ is_some (block_at cell (blocks_in self.old.region.bytes.set self.old.region.marks.set)) }
-        ensures pool { pool_of self.new.region.bytes self.new.region.marks self.new.cells ≡ record { cells = self.old.cells; blocks = without_block cell (blocks_in self.old.region.bytes.set self.old.region.marks.set) } }
+        ensures given { result
+            ≡ is_some
+            (block_at cell (blocks_in self.old.region.bytes.set self.old.region.marks.set)) }
+        ensures pool { pool_of self.new.region.bytes self.new.region.marks self.new.cells
+            ≡ record { cells = self.old.cells; blocks = without_block cell (blocks_in self.old.region.bytes.set self.old.region.marks.set) } }
         ensures region { IsRegion self.new.region.bytes self.new.region.marks self.new.cells self.new.head }
     {
         let is_block = self.is_block(cell);
@@ -293,7 +331,9 @@ impl<A: Allocator + Copy> Store<A> {
     /// The size of the block at a cell.
     pub(crate) fn size_of(&self, cell: usize) -> Option<usize>
         requires { IsRegion self.now.region.bytes self.now.region.marks self.now.cells self.now.head }
-        ensures { result ≡ option_map (λ b. b.size) (block_at cell (blocks_in self.now.region.bytes.set self.now.region.marks.set)) }
+        ensures { result
+            ≡ option_map (λ b. b.size)
+            (block_at cell (blocks_in self.now.region.bytes.set self.now.region.marks.set)) }
     {
         if self.is_block(cell) {
             Some(self.region.word(CELL_SIZE * cell) as usize)
@@ -305,7 +345,9 @@ impl<A: Allocator + Copy> Store<A> {
     /// The bytes of the block at a cell.
     pub(crate) fn bytes_of(&self, cell: usize) -> Option<&[u8]>
         requires { IsRegion self.now.region.bytes self.now.region.marks self.now.cells self.now.head }
-        ensures { option_map (λ s. s.now) result ≡ option_map (λ b. b.bytes) (block_at cell (blocks_in self.now.region.bytes.set self.now.region.marks.set)) }
+        ensures { option_map (λ s. s.now) result
+            ≡ option_map (λ b. b.bytes)
+            (block_at cell (blocks_in self.now.region.bytes.set self.now.region.marks.set)) }
     {
         let size = self.size_of(cell)?;
         let start = CELL_SIZE * cell + HEADER_SIZE;
@@ -315,8 +357,12 @@ impl<A: Allocator + Copy> Store<A> {
     /// Writes bytes into the block at a cell, from one of its bytes on, if they fit.
     pub(crate) fn write(&mut self, cell: usize, at: usize, bytes: &[u8]) -> bool
         requires { IsRegion self.old.region.bytes self.old.region.marks self.old.cells self.old.head }
-        ensures written { result ≡ holds_range at (length bytes.now) (block_at cell (blocks_in self.old.region.bytes.set self.old.region.marks.set)) }
-        ensures pool { pool_of self.new.region.bytes self.new.region.marks self.new.cells ≡ written result cell at bytes.now (pool_of self.old.region.bytes self.old.region.marks self.old.cells) }
+        ensures written { result
+            ≡ holds_range at (length bytes.now)
+            (block_at cell (blocks_in self.old.region.bytes.set self.old.region.marks.set)) }
+        ensures pool { pool_of self.new.region.bytes self.new.region.marks self.new.cells
+            ≡ written result cell at bytes.now
+            (pool_of self.old.region.bytes self.old.region.marks self.old.cells) }
         ensures region { IsRegion self.new.region.bytes self.new.region.marks self.new.cells self.new.head }
     {
         let Some(size) = self.size_of(cell) else {
@@ -333,7 +379,9 @@ impl<A: Allocator + Copy> Store<A> {
     /// How many cells the longest free run has. It goes along the whole free list.
     pub(crate) fn longest_free(&self) -> usize
         requires { IsRegion self.now.region.bytes self.now.region.marks self.now.cells self.now.head }
-        ensures { result ≡ longest_run self.now.cells 0 (blocks_in self.now.region.bytes.set self.now.region.marks.set) }
+        ensures { result
+            ≡ longest_run self.now.cells 0
+            (blocks_in self.now.region.bytes.set self.now.region.marks.set) }
     {
         if self.region.len() == 0 {
             return self.cells;

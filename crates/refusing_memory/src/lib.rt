@@ -1,4 +1,4 @@
-//! Memory that can be refused: an allocator for tests, which refuses an allocation that it is told.
+//! Memory that can be refused: an allocator for tests, which refuses the allocations that a test chooses.
 #![tactic(auto)]
 
 use std::alloc::{AllocError, Allocator};
@@ -46,7 +46,7 @@ impl<B: Allocator> Drop for Refusing<B> {
     }
 }
 
-// Counts an allocation, and answers whether it is refused.
+// Counts an allocation, and returns whether it is refused.
 fn is_time(left: &Cell<u64>) -> bool {
     let before = left.get();
     left.set(before.checked_sub(2).unwrap_or(before));

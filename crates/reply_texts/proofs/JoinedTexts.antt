@@ -5,7 +5,7 @@ use Rattle.std.proofs.lemmas.Grind.{flat_map-append}
 use Rattle.std.proofs.lemmas.List.{take_more}
 use Rattle.reply_texts.specs.ListTexts.{joined, separator_at}
 
--- what stands between some texts and one more
+-- what comes between some texts and one more
 abbrev separator_after : {X : Type 0} → List X → List ℕ
 separator_after [] = []
 separator_after (x ∷ xs) = codes ","
@@ -27,7 +27,7 @@ same_separator f (x ∷ xs) = refl
 joined_item : {X : Type 0} (f : X → List ℕ) (xs : List X) (y : X) → joined (map f (xs ++ y ∷ [])) ≡ joined (map f xs) ++ (separator_after xs ++ f y)
 joined_item f xs y = ap joined (map_append f xs y) ∙ joined_more (map f xs) (f y) ∙ ap (λ (s : List ℕ). joined (map f xs) ++ (s ++ f y)) (same_separator f xs)
 
--- what stands before the item at an index, the items before it taken
+-- what comes before the item at an index, the items before it taken
 separated : {X : Type 0} (xs : List X) (i : ℕ) → i < length xs → separator_after (take i xs) ≡ separator_at i
 separated [] i low = absurd (omega (arith, low))
 separated (x ∷ xs) zero low = refl

@@ -15,7 +15,8 @@ use Rattle.reply_texts.specs.PrintedText.{reply_text}
 
 -- the entries whose records the bytes are, none where they are no records
 abbrev pub HoldsEntries : List ℕ → List Descriptor → Type 0
-HoldsEntries bytes entries = ReadsRecords bytes (Some entries) ⊎ (ReadsRecords bytes None × (entries ≡ []))
+HoldsEntries bytes entries =
+    ReadsRecords bytes (Some entries) ⊎ (ReadsRecords bytes None × (entries ≡ []))
 
 -- the entries of the memory map that a reply carries: those that its bytes hold
 abbrev pub CarriesEntries : {A : Type 0} → Reply A → List Descriptor → Type 0
@@ -31,7 +32,8 @@ certificate_text entries None = []
 -- the block of the one that it carries.
 abbrev pub PrintsCall : {A : Type 0} → Bool → ℕ → Book → Call A → Reply A → List ℕ → Type 0
 PrintsCall certify number before c answer text =
-    (entries : List Descriptor) × CarriesEntries answer entries × (text ≡ reply_text number entries answer ++ (if certify then certificate_text (memory_map before.memory) (certified before.granule c answer) else []))
+    (entries : List Descriptor) × CarriesEntries answer entries
+    × (text ≡ reply_text number entries answer ++ (if certify then certificate_text (memory_map before.memory) (certified before.granule c answer) else []))
 
 -- the block, where the map before the call was kept
 abbrev pub block_after : Option (List Descriptor) → Option (Request × CertificateValue) → List ℕ

@@ -8,7 +8,7 @@ abbrev pub joined : List (List ℕ) → List ℕ
 joined [] = []
 joined (x ∷ xs) = x ++ flat_map (λ y. codes "," ++ y) xs
 
--- what stands before the item at an index of a row
+-- what comes before the item at an index of a row
 abbrev pub separator_at : ℕ → List ℕ
 separator_at index = cond (index == 0) [] (codes ",")
 

@@ -30,23 +30,31 @@ status_line number v status = reply_start number v ++ space ++ status ++ line_fe
 
 -- the line of a call that was given too small a buffer: the size needed
 abbrev pub size_line : ℕ → Verb → ℕ → List ℕ
-size_line number v size = reply_start number v ++ codes " BUFFER_TOO_SMALL size=" ++ decimal size ++ line_feed
+size_line number v size =
+    reply_start number v ++ codes " BUFFER_TOO_SMALL size=" ++ decimal size ++ line_feed
 
 -- the line of a call that succeeded with a value
 abbrev pub value_line : ℕ → Verb → List ℕ → ℕ → List ℕ
-value_line number v name value = reply_start number v ++ codes " SUCCESS " ++ name ++ codes "=" ++ hexadecimal value ++ line_feed
+value_line number v name value =
+    reply_start number v ++ codes " SUCCESS " ++ name ++ codes "=" ++ hexadecimal value ++ line_feed
 
 -- the line of a call that succeeded with bytes: each as two hexadecimal digits
 abbrev pub bytes_line : ℕ → Verb → List ℕ → List ℕ
-bytes_line number v bytes = reply_start number v ++ codes " SUCCESS bytes=" ++ encode_lower bytes ++ line_feed
+bytes_line number v bytes =
+    reply_start number v ++ codes " SUCCESS bytes=" ++ encode_lower bytes ++ line_feed
 
 -- the line of an entry of the memory map: two spaces, and its type, address, pages and attributes
 abbrev pub descriptor_line : Descriptor → List ℕ
-descriptor_line d = codes "  " ++ decimal d.mtype ++ space ++ hexadecimal (d.first * page_size) ++ space ++ decimal d.pages ++ space ++ hexadecimal d.attributes ++ line_feed
+descriptor_line d =
+    codes "  " ++ decimal d.mtype ++ space ++ hexadecimal (d.first * page_size) ++ space
+    ++ decimal d.pages ++ space ++ hexadecimal d.attributes ++ line_feed
 
 -- the line of a memory map that was written
 abbrev pub map_line : ℕ → MapReply → List ℕ
-map_line number told = reply_start number verb.Map ++ codes " SUCCESS size=" ++ decimal told.size ++ codes " key=" ++ decimal told.key ++ codes " descriptor-size=" ++ decimal told.descriptor_size ++ codes " version=" ++ decimal told.version ++ line_feed
+map_line number told =
+    reply_start number verb.Map ++ codes " SUCCESS size=" ++ decimal told.size ++ codes " key="
+    ++ decimal told.key ++ codes " descriptor-size=" ++ decimal told.descriptor_size
+    ++ codes " version=" ++ decimal told.version ++ line_feed
 
 -- What is printed of a GetMemoryMap with this reply, of this status: on success its line and those of the entries.
 abbrev pub map_text : ℕ → List Descriptor → MapReply → Status → List ℕ
@@ -59,18 +67,20 @@ abbrev pub read_line : ℕ → List ℕ → Status → List ℕ
 read_line number bytes Success = bytes_line number verb.Read bytes
 read_line number bytes status = status_line number verb.Read (status_of status)
 
--- the line of a reply that tells how a call ended, and nothing else
+-- the line of a reply that says how a call ended, and nothing else
 abbrev pub result_line : ℕ → Verb → Result (Unit {0}) Status → List ℕ
 result_line number v result = status_line number v (status_of (told_status result))
 
 -- the line of a reply with fields, or of a refusal
 abbrev pub told_line : {R : Type 0} → (R → List ℕ) → ℕ → Verb → Result R Status → List ℕ
-told_line fields number v (Ok told) = reply_start number v ++ codes " SUCCESS " ++ fields told ++ line_feed
+told_line fields number v (Ok told) =
+    reply_start number v ++ codes " SUCCESS " ++ fields told ++ line_feed
 told_line fields number v (Err status) = status_line number v (status_of status)
 
 -- the fields of an installation
 abbrev pub installed_fields : {A : Type 0} → Installed A → List ℕ
-installed_fields told = codes "handle=" ++ decimal told.handle ++ codes " events=" ++ events_text told.events.items
+installed_fields told =
+    codes "handle=" ++ decimal told.handle ++ codes " events=" ++ events_text told.events.items
 
 -- the field of the events that are signaled
 abbrev pub events_field : {A : Type 0} → Vec ℕ A → List ℕ
@@ -78,7 +88,8 @@ events_field events = codes "events=" ++ events_text events.items
 
 -- the fields of a list in a pool block
 abbrev pub pool_list_fields : {A : Type 0} → PoolList A → List ℕ
-pool_list_fields told = codes "count=" ++ decimal told.count ++ codes " address=" ++ hexadecimal told.address
+pool_list_fields told =
+    codes "count=" ++ decimal told.count ++ codes " address=" ++ hexadecimal told.address
 
 -- the field of an interface
 abbrev pub interface_field : ℕ → List ℕ
@@ -96,7 +107,7 @@ guids_field guids = codes "guids=" ++ guids_text guids.items
 abbrev pub path_fields : ℕ × ℕ → List ℕ
 path_fields found = codes "handle=" ++ decimal found.0 ++ codes " address=" ++ hexadecimal found.1
 
--- the line of an open, which may tell no interface
+-- the line of an open, which may have no interface
 abbrev pub opened_line : ℕ → Result (Option ℕ) Status → List ℕ
 opened_line number (Ok None) = status_line number verb.Open (status_of Success)
 opened_line number (Ok (Some value)) = told_line interface_field number verb.Open (Ok value)
@@ -104,7 +115,8 @@ opened_line number (Err status) = status_line number verb.Open (status_of status
 
 -- the fields of a search that found handles: their size, and the handles
 abbrev pub handles_fields : {A : Type 0} → LocateReply A → List ℕ
-handles_fields told = codes "size=" ++ decimal told.size ++ codes " handles=" ++ numbers_text told.handles.items
+handles_fields told =
+    codes "size=" ++ decimal told.size ++ codes " handles=" ++ numbers_text told.handles.items
 
 -- the line of a search for handles, of this status
 abbrev pub located_line : {A : Type 0} → ℕ → LocateReply A → Status → List ℕ
@@ -114,32 +126,47 @@ located_line number told status = status_line number verb.Locate (status_of stat
 
 -- what is printed of a reply of the protocol services
 abbrev pub protocol_text : {A : Type 0} → ℕ → Reply A → List ℕ
-protocol_text number (reply.InstallProtocolInterface result) = told_line installed_fields number verb.Install result
-protocol_text number (reply.InstallMultipleProtocolInterfaces result) = told_line installed_fields number verb.InstallMany result
-protocol_text number (reply.UninstallProtocolInterface result) = result_line number verb.Uninstall result
-protocol_text number (reply.ReinstallProtocolInterface result) = told_line events_field number verb.Reinstall result
-protocol_text number (reply.RegisterProtocolNotify result) = told_line registration_field number verb.Notify result
+protocol_text number (reply.InstallProtocolInterface result) =
+    told_line installed_fields number verb.Install result
+protocol_text number (reply.InstallMultipleProtocolInterfaces result) =
+    told_line installed_fields number verb.InstallMany result
+protocol_text number (reply.UninstallProtocolInterface result) =
+    result_line number verb.Uninstall result
+protocol_text number (reply.ReinstallProtocolInterface result) =
+    told_line events_field number verb.Reinstall result
+protocol_text number (reply.RegisterProtocolNotify result) =
+    told_line registration_field number verb.Notify result
 protocol_text number (reply.LocateHandle told) = located_line number told told.status
-protocol_text number (reply.LocateHandleBuffer result) = told_line pool_list_fields number verb.LocateBuffer result
-protocol_text number (reply.LocateProtocol result) = told_line interface_field number verb.LocateProtocol result
-protocol_text number (reply.ProtocolsPerHandle result) = told_line guids_field number verb.Protocols result
+protocol_text number (reply.LocateHandleBuffer result) =
+    told_line pool_list_fields number verb.LocateBuffer result
+protocol_text number (reply.LocateProtocol result) =
+    told_line interface_field number verb.LocateProtocol result
+protocol_text number (reply.ProtocolsPerHandle result) =
+    told_line guids_field number verb.Protocols result
 protocol_text number (reply.OpenProtocol result) = opened_line number result
 protocol_text number (reply.CloseProtocol result) = result_line number verb.Close result
-protocol_text number (reply.OpenProtocolInformation result) = told_line pool_list_fields number verb.Information result
-protocol_text number (reply.HandleProtocol result) = told_line interface_field number verb.HandleProtocol result
-protocol_text number (reply.ConnectController result) = told_line events_field number verb.Connect result
+protocol_text number (reply.OpenProtocolInformation result) =
+    told_line pool_list_fields number verb.Information result
+protocol_text number (reply.HandleProtocol result) =
+    told_line interface_field number verb.HandleProtocol result
+protocol_text number (reply.ConnectController result) =
+    told_line events_field number verb.Connect result
 protocol_text number (reply.DisconnectController result) = result_line number verb.Disconnect result
 protocol_text number (reply.LocateDevicePath result) = told_line path_fields number verb.Path result
 protocol_text number answer = []
 
 -- what is printed of a reply that carries these entries
 abbrev pub reply_text : {A : Type 0} → ℕ → List Descriptor → Reply A → List ℕ
-reply_text number entries (reply.AllocatePages (Ok placed)) = value_line number verb.Pages (codes "address") placed.address
-reply_text number entries (reply.AllocatePages (Err status)) = status_line number verb.Pages (status_of status)
+reply_text number entries (reply.AllocatePages (Ok placed)) =
+    value_line number verb.Pages (codes "address") placed.address
+reply_text number entries (reply.AllocatePages (Err status)) =
+    status_line number verb.Pages (status_of status)
 reply_text number entries (reply.FreePages result) = result_line number verb.FreePages result
 reply_text number entries (reply.GetMemoryMap told bytes) = map_text number entries told told.status
-reply_text number entries (reply.AllocatePool (Ok block)) = value_line number verb.Pool (codes "address") block.0
-reply_text number entries (reply.AllocatePool (Err status)) = status_line number verb.Pool (status_of status)
+reply_text number entries (reply.AllocatePool (Ok block)) =
+    value_line number verb.Pool (codes "address") block.0
+reply_text number entries (reply.AllocatePool (Err status)) =
+    status_line number verb.Pool (status_of status)
 reply_text number entries (reply.FreePool result) = result_line number verb.FreePool result
 reply_text number entries (reply.PoolRead status bytes) = read_line number bytes.items status
 reply_text number entries (reply.PoolWrite result) = result_line number verb.Write result
@@ -148,4 +175,6 @@ reply_text number entries answer = protocol_text number answer
 
 -- what is printed of a listing of these entries
 abbrev pub list_text : ℕ → List Descriptor → List ℕ
-list_text number entries = reply_start number verb.List ++ codes " descriptors=" ++ decimal (length entries) ++ line_feed ++ flat_map descriptor_line entries
+list_text number entries =
+    reply_start number verb.List ++ codes " descriptors=" ++ decimal (length entries) ++ line_feed
+    ++ flat_map descriptor_line entries

@@ -13,7 +13,7 @@ use page_ranges::Descriptor;
 use std::alloc::{AllocError, Allocator};
 
 /// Appends the lines of a reply and, where the memory map before the call was kept, the block of the
-/// certificate that the reply carries. The machine has a granule of so many pages.
+/// certificate that the reply carries. The machine has a granule of this many pages.
 pub fn print_call<A: Allocator + Copy>(
     alloc: A,
     text: &mut String<A>,
@@ -23,7 +23,9 @@ pub fn print_call<A: Allocator + Copy>(
     call: &Call<A>,
     reply: &Reply<A>,
 ) -> Result<(), AllocError>
-    ensures { OnOk result ((entries : List Descriptor) × CarriesEntries reply.now entries × (string_bytes text.new ≡ string_bytes text.old ++ (reply_text number entries reply.now ++ block_after (option_map (λ kept. kept.items) before.now) (certified granule call.now reply.now)))) }
+    ensures { OnOk result
+        ((entries : List Descriptor) × CarriesEntries reply.now entries
+        × (string_bytes text.new ≡ string_bytes text.old ++ (reply_text number entries reply.now ++ block_after (option_map (λ kept. kept.items) before.now) (certified granule call.now reply.now)))) }
 {
     let entries = carried_entries(alloc, reply)?;
     print_reply(alloc, text, number, entries.as_slice(), reply)?;

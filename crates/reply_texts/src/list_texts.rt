@@ -5,7 +5,7 @@ ghost use Rattle.reply_texts.specs.ListTexts.{events_text, guids_text, numbers_t
 use std::alloc::{AllocError, Allocator};
 use uuid::Uuid;
 
-/// What stands before the item at an index of a row.
+/// What comes before the item at an index of a row.
 fn separator_at(index: usize) -> &'static str
     ensures { result.now ≡ separator_at index }
 {

@@ -17,7 +17,8 @@ pub(crate) fn print_protocols<A: Allocator>(
     number: u64,
     reply: &Reply<A>,
 ) -> Result<(), AllocError>
-    ensures { OnOk result (string_bytes text.new ≡ string_bytes text.old ++ protocol_text number reply.now) }
+    ensures { OnOk result
+        (string_bytes text.new ≡ string_bytes text.old ++ protocol_text number reply.now) }
 {
     match reply {
         Reply::InstallProtocolInterface(result) => {
@@ -65,7 +66,8 @@ fn print_installed<A: Allocator>(
     verb: Verb,
     done: &Result<Installed<A>, Status>,
 ) -> Result<(), AllocError>
-    ensures { OnOk result (string_bytes text.new ≡ string_bytes text.old ++ told_line installed_fields number verb done.now) }
+    ensures { OnOk result
+        (string_bytes text.new ≡ string_bytes text.old ++ told_line installed_fields number verb done.now) }
 {
     match done {
         Ok(told) => {
@@ -79,14 +81,15 @@ fn print_installed<A: Allocator>(
     }
 }
 
-/// Appends the line of a call that tells the events that are signaled.
+/// Appends the line of a call that returns the events that are signaled.
 fn print_signaled<A: Allocator>(
     text: &mut String<A>,
     number: u64,
     verb: Verb,
     done: &Result<Vec<u64, A>, Status>,
 ) -> Result<(), AllocError>
-    ensures { OnOk result (string_bytes text.new ≡ string_bytes text.old ++ told_line events_field number verb done.now) }
+    ensures { OnOk result
+        (string_bytes text.new ≡ string_bytes text.old ++ told_line events_field number verb done.now) }
 {
     match done {
         Ok(events) => {
@@ -106,7 +109,8 @@ fn print_pool_list<A: Allocator>(
     verb: Verb,
     done: &Result<PoolList<A>, Status>,
 ) -> Result<(), AllocError>
-    ensures { OnOk result (string_bytes text.new ≡ string_bytes text.old ++ told_line pool_list_fields number verb done.now) }
+    ensures { OnOk result
+        (string_bytes text.new ≡ string_bytes text.old ++ told_line pool_list_fields number verb done.now) }
 {
     match done {
         Ok(told) => {
@@ -122,14 +126,15 @@ fn print_pool_list<A: Allocator>(
     }
 }
 
-/// Appends the line of a call that tells the value of an interface.
+/// Appends the line of a call that returns the value of an interface.
 fn print_interface<A: Allocator>(
     text: &mut String<A>,
     number: u64,
     verb: Verb,
     done: Result<u64, Status>,
 ) -> Result<(), AllocError>
-    ensures { OnOk result (string_bytes text.new ≡ string_bytes text.old ++ told_line interface_field number verb done) }
+    ensures { OnOk result
+        (string_bytes text.new ≡ string_bytes text.old ++ told_line interface_field number verb done) }
 {
     match done {
         Ok(value) => {
@@ -140,7 +145,7 @@ fn print_interface<A: Allocator>(
     }
 }
 
-/// Appends the line of an open, which may tell no interface.
+/// Appends the line of an open, which may have no interface.
 fn print_opened<A: Allocator>(
     text: &mut String<A>,
     number: u64,
@@ -161,7 +166,8 @@ fn print_registration<A: Allocator>(
     number: u64,
     done: Result<u64, Status>,
 ) -> Result<(), AllocError>
-    ensures { OnOk result (string_bytes text.new ≡ string_bytes text.old ++ told_line registration_field number Verb.Notify done) }
+    ensures { OnOk result
+        (string_bytes text.new ≡ string_bytes text.old ++ told_line registration_field number Verb.Notify done) }
 {
     match done {
         Ok(key) => {
@@ -178,7 +184,8 @@ fn print_protocols_on<A: Allocator>(
     number: u64,
     done: &Result<Vec<Uuid, A>, Status>,
 ) -> Result<(), AllocError>
-    ensures { OnOk result (string_bytes text.new ≡ string_bytes text.old ++ told_line guids_field number Verb.Protocols done.now) }
+    ensures { OnOk result
+        (string_bytes text.new ≡ string_bytes text.old ++ told_line guids_field number Verb.Protocols done.now) }
 {
     match done {
         Ok(guids) => {
@@ -197,7 +204,8 @@ fn print_path<A: Allocator>(
     number: u64,
     done: Result<(u64, u64), Status>,
 ) -> Result<(), AllocError>
-    ensures { OnOk result (string_bytes text.new ≡ string_bytes text.old ++ told_line path_fields number Verb.Path done) }
+    ensures { OnOk result
+        (string_bytes text.new ≡ string_bytes text.old ++ told_line path_fields number Verb.Path done) }
 {
     match done {
         Ok((handle, address)) => {
@@ -218,7 +226,8 @@ fn print_handles<A: Allocator>(
     verb: Verb,
     told: &LocateReply<A>,
 ) -> Result<(), AllocError>
-    ensures { OnOk result (string_bytes text.new ≡ string_bytes text.old ++ told_line handles_fields number verb (Ok told.now)) }
+    ensures { OnOk result
+        (string_bytes text.new ≡ string_bytes text.old ++ told_line handles_fields number verb (Ok told.now)) }
 {
     let verb = verb.name();
     let size = told.size;
@@ -233,7 +242,8 @@ fn print_located<A: Allocator>(
     number: u64,
     told: &LocateReply<A>,
 ) -> Result<(), AllocError>
-    ensures { OnOk result (string_bytes text.new ≡ string_bytes text.old ++ located_line number told.now told.now.status) }
+    ensures { OnOk result
+        (string_bytes text.new ≡ string_bytes text.old ++ located_line number told.now told.now.status) }
 {
     match told.status {
         Status::Success => print_handles(text, number, Verb::Locate, told),

@@ -48,7 +48,8 @@ pub fn print_reply<A: Allocator + Copy>(
     reply: &Reply<A>,
 ) -> Result<(), AllocError>
     requires { AllByRecursion IsRecordEntry entries.now }
-    ensures { OnOk result (string_bytes text.new ≡ string_bytes text.old ++ reply_text number entries.now reply.now) }
+    ensures { OnOk result
+        (string_bytes text.new ≡ string_bytes text.old ++ reply_text number entries.now reply.now) }
 {
     match reply {
         Reply::AllocatePages(Ok(placed)) => {
@@ -71,7 +72,7 @@ pub fn print_reply<A: Allocator + Copy>(
     }
 }
 
-/// Appends the line of a reply that tells how a call ended, and nothing else.
+/// Appends the line of a reply that says how a call ended, and nothing else.
 pub(crate) fn print_result<A: Allocator>(
     text: &mut String<A>,
     number: u64,
@@ -94,7 +95,8 @@ fn print_read<A: Allocator + Copy>(
     status: Status,
     bytes: &[u8],
 ) -> Result<(), AllocError>
-    ensures { OnOk result (string_bytes text.new ≡ string_bytes text.old ++ read_line number bytes.now status) }
+    ensures { OnOk result
+        (string_bytes text.new ≡ string_bytes text.old ++ read_line number bytes.now status) }
 {
     match status {
         Status::Success => print_bytes(alloc, text, number, Verb::Read, bytes),
@@ -110,7 +112,8 @@ fn print_bytes<A: Allocator + Copy>(
     verb: Verb,
     bytes: &[u8],
 ) -> Result<(), AllocError>
-    ensures { OnOk result (string_bytes text.new ≡ string_bytes text.old ++ bytes_line number verb bytes.now) }
+    ensures { OnOk result
+        (string_bytes text.new ≡ string_bytes text.old ++ bytes_line number verb bytes.now) }
 {
     let verb = verb.name();
     let digits = hex::encode(alloc, bytes)?;
@@ -125,7 +128,8 @@ fn print_value<A: Allocator>(
     name: &str,
     value: u64,
 ) -> Result<(), AllocError>
-    ensures { OnOk result (string_bytes text.new ≡ string_bytes text.old ++ value_line number verb name.now value) }
+    ensures { OnOk result
+        (string_bytes text.new ≡ string_bytes text.old ++ value_line number verb name.now value) }
 {
     let verb = verb.name();
     writeln!(text, "{number} {verb} SUCCESS {name}=0x{value:x}")
@@ -138,7 +142,8 @@ pub(crate) fn print_status<A: Allocator>(
     verb: Verb,
     status: Status,
 ) -> Result<(), AllocError>
-    ensures { OnOk result (string_bytes text.new ≡ string_bytes text.old ++ status_line number verb (name_of status)) }
+    ensures { OnOk result
+        (string_bytes text.new ≡ string_bytes text.old ++ status_line number verb (name_of status)) }
 {
     let verb = verb.name();
     let status = status.name();
@@ -153,7 +158,8 @@ fn print_map<A: Allocator>(
     reply: &MapReply,
 ) -> Result<(), AllocError>
     requires { AllByRecursion IsRecordEntry entries.now }
-    ensures { OnOk result (string_bytes text.new ≡ string_bytes text.old ++ map_text number entries.now reply.now reply.now.status) }
+    ensures { OnOk result
+        (string_bytes text.new ≡ string_bytes text.old ++ map_text number entries.now reply.now reply.now.status) }
 {
     match reply.status {
         Status::Success => {
@@ -203,7 +209,8 @@ fn print_entries<A: Allocator>(
     entries: &[Descriptor],
 ) -> Result<(), AllocError>
     requires { AllByRecursion IsRecordEntry entries.now }
-    ensures { OnOk result (string_bytes text.new ≡ string_bytes text.old ++ flat_map descriptor_line entries.now) }
+    ensures { OnOk result
+        (string_bytes text.new ≡ string_bytes text.old ++ flat_map descriptor_line entries.now) }
 {
     for entry in entries {
         print_descriptor(text, entry)?;

@@ -36,10 +36,10 @@ answer 4
 end
 ";
 
-/// Never: so many reads, writes or flushes are not made.
+/// Never: no test makes this many reads, writes or flushes.
 pub const NEVER: u64 = 0xffff_ffff;
 
-/// A reader that gives a byte at a time. After so many reads one fails, and those after it go on.
+/// A reader that gives a byte at a time. After the given number of reads one fails, and those after it go on.
 #[derive(Drop)]
 pub struct Source<'a> {
     pub bytes: &'a [u8],
@@ -58,7 +58,7 @@ impl Read for Source<'_> {
     }
 }
 
-/// A writer that takes a few bytes at a time. After so many writes one fails, or takes none, and after so many
+/// A writer that takes a few bytes at a time. After the given number of writes one fails, or takes none, and after a number of
 /// flushes one fails; those after it go on.
 #[derive(Drop)]
 pub struct Sink {
@@ -91,14 +91,14 @@ impl Write for Sink {
     }
 }
 
-/// Counts down, and answers whether the count was at 0. It stays away from 0 then.
+/// Counts down, and returns whether the count was at 0. It stays away from 0 then.
 fn is_time(left: &mut u64) -> bool {
     let is_time = *left == 0;
     *left = left.wrapping_sub(1);
     is_time
 }
 
-/// A writer that fails after so many writes or flushes.
+/// A writer that fails after the given number of writes or flushes.
 pub fn sink_of(rt: &impl AllocGlobal, writes: u64, flushes: u64, takes_none: bool) -> Sink {
     Sink {
         taken: Vec::new(rt.alloc()),

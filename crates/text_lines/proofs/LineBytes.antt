@@ -111,7 +111,7 @@ bytes-ended (Some bytes) now new line (rest, e, l) a t =
     let (none, left) = rw l at t in
     ended_whole bytes line new (e ∙ ap (λ (xs : List ℕ). line ++ xs) none ∙ append-nil line) a left
 
--- so many bytes without a line feed are too many
+-- more bytes without a line feed than a line may have
 pub line-too-long : (old now : Option (List ℕ)) (line : List ℕ) → HasTaken old line now → HasNone line → longest_line < length line → TakesLine old true line now
 line-too-long None now line h a long = tt
 line-too-long (Some bytes) now line (rest, e, l) a long =

@@ -31,12 +31,19 @@ after_line (b ∷ bytes) = if is_line_feed b then bytes else after_line bytes
 
 -- The next byte was taken from the front of known bytes, and these are left; or there was none.
 abbrev pub TakesByte : Option (List ℕ) → Option ℕ → Option (List ℕ) → Type 0
-TakesByte old next new = IfSome old (λ bytes. MatchOption next ((bytes ≡ []) × (new ≡ Some [])) (λ byte. (rest : List ℕ) × (bytes ≡ byte ∷ rest) × (new ≡ Some rest)))
+TakesByte old next new =
+    IfSome old
+    (λ bytes. MatchOption next ((bytes ≡ []) × (new ≡ Some [])) (λ byte. (rest : List ℕ)
+    × (bytes ≡ byte ∷ rest) × (new ≡ Some rest)))
 
 -- The first line of the bytes was taken, and these are left; or the first line is too long, and so are the bytes taken.
 abbrev pub IsFirstLine : List ℕ → List ℕ → Option (List ℕ) → Type 0
-IsFirstLine bytes line left = (0 < length bytes) × (((line ≡ first_line bytes) × (left ≡ Some (after_line bytes))) ⊎ ((longest_line < length line) × (longest_line < length (first_line bytes))))
+IsFirstLine bytes line left =
+    (0 < length bytes)
+    × (((line ≡ first_line bytes) × (left ≡ Some (after_line bytes)))
+    ⊎ ((longest_line < length line) × (longest_line < length (first_line bytes))))
 
 -- the next line was taken from the front of known bytes; or there was none
 abbrev pub TakesLine : Option (List ℕ) → Bool → List ℕ → Option (List ℕ) → Type 0
-TakesLine old more line new = IfSome old (λ bytes. MatchBool more (IsFirstLine bytes line new) (bytes ≡ []))
+TakesLine old more line new =
+    IfSome old (λ bytes. MatchBool more (IsFirstLine bytes line new) (bytes ≡ []))

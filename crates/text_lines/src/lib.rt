@@ -7,7 +7,7 @@ mod sources;
 mod words;
 mod writes;
 
-pub use lines::{LONGEST_LINE, LineFault, next_byte, next_line, without_carriage_return};
+pub use lines::{LineFault, MAX_LINE_LENGTH, next_byte, next_line, without_carriage_return};
 pub use numbers::{hexadecimal_of, number_of};
 pub use sources::ByteSource;
 pub use words::words_of;

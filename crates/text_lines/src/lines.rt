@@ -9,10 +9,10 @@ use std::alloc::Allocator;
 use std::io::{self, BufRead, BufReader, Read};
 
 /// The most bytes of a line, without its line feed.
-pub const LONGEST_LINE: usize = 65_536;
+pub const MAX_LINE_LENGTH: usize = 65_536;
 
 /// The most bytes that are taken of a line that is too long.
-const LONGEST_FRONT: usize = LONGEST_LINE + 1;
+const MAX_FRONT_LENGTH: usize = MAX_LINE_LENGTH + 1;
 
 /// Why a line was not read.
 #[derive(Clone, Copy, Debug, PartialEq, Eq)]
@@ -23,7 +23,8 @@ pub enum LineFault {
 
 /// The next byte, None at the end.
 pub fn next_byte<R: Read, A: Allocator>(reader: &mut BufReader<R, A>) -> io::Result<Option<u8>>
-    ensures { IfOk result (λ next. TakesByte (reader_remaining R.remaining reader.old) next (reader_remaining R.remaining reader.new)) }
+    ensures { IfOk result
+        (λ next. TakesByte (reader_remaining R.remaining reader.old) next (reader_remaining R.remaining reader.new)) }
 {
     let next = reader.fill_buf()?.first().copied();
     if next.is_some() {
@@ -32,8 +33,8 @@ pub fn next_byte<R: Read, A: Allocator>(reader: &mut BufReader<R, A>) -> io::Res
     Ok(next)
 }
 
-/// Puts the next line in the place of `line`, without its line feed, and answers whether there was
-/// one. Of a line that is longer than [`LONGEST_LINE`], reading stops one byte past that limit.
+/// Puts the next line in the place of `line`, without its line feed, and returns whether there was
+/// one. Of a line that is longer than [`MAX_LINE_LENGTH`], reading stops one byte past that limit.
 pub fn next_line<S: ByteSource, A: Allocator>(
     reader: &mut S,
     line: &mut Vec<u8, A>,
@@ -43,7 +44,7 @@ pub fn next_line<S: ByteSource, A: Allocator>(
         (λ fault. fault ≡ LineFault.Read → IsTrue S.can_fail) }
 {
     line.clear();
-    for _taken in 0..LONGEST_FRONT {
+    for _taken in 0..MAX_FRONT_LENGTH {
         match reader.take_byte() {
             Ok(None) => return Ok(!line.is_empty()),
             Ok(Some(b'\n')) => return Ok(true),

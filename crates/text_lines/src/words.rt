@@ -4,7 +4,7 @@ ghost use Rattle.text_lines.specs.Words.{is_blank, words_of};
 
 use std::alloc::{AllocError, Allocator};
 
-/// Whether a byte stands between words: a space or a tab.
+/// Whether a byte separates words: a space or a tab.
 fn is_blank(byte: u8) -> bool
     ensures { result ≡ is_blank byte }
 {

@@ -11,7 +11,9 @@ use std::io::{Error, ErrorKind, Result, Write};
 /// failed write is not tried again, and that the text is flushed, is for tests to show.
 pub fn write_text<W: Write>(writer: &mut W, bytes: &[u8]) -> Result<()>
     ensures ok { OnOk result (Appends (W.contents writer.old) (W.contents writer.new) bytes.now) }
-    ensures err { OnErr result ((count : ℕ) × Appends (W.contents writer.old) (W.contents writer.new) (take count bytes.now)) }
+    ensures err { OnErr result
+        ((count : ℕ)
+        × Appends (W.contents writer.old) (W.contents writer.new) (take count bytes.now)) }
 {
     let mut written = 0;
     while written < bytes.len() {

@@ -1,7 +1,7 @@
 -- Parameters, as many as a verb takes.
 use Rattle.std.proofs.Common.{◌≡◌, ℕ, ◌<◌, ◌≤◌, List, [], ◌∷◌, length, map, get_or, refl, arith, Bor}
 
--- what stands where there is no parameter
+-- what is printed where there is no parameter
 abbrev pub none : Bor (List ℕ)
 none = record { ref_ptr = (0, 0); now = [] }
 

@@ -57,7 +57,8 @@ or_hex (Err error) = Err fault.Hex
 -- bytes, two hexadecimal digits of either case for each, one byte at least; `-` for none
 abbrev pub bytes_of : List ℕ → Result (List ℕ) TraceFault
 bytes_of [] = Err fault.Hex
-bytes_of (b ∷ bytes) = if bytes_eq (b ∷ bytes) (codes "-") then Ok [] else or_hex (decode_of (b ∷ bytes))
+bytes_of (b ∷ bytes) =
+    if bytes_eq (b ∷ bytes) (codes "-") then Ok [] else or_hex (decode_of (b ∷ bytes))
 
 -- ---- GUIDs
 

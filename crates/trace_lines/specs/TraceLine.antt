@@ -150,4 +150,6 @@ call_of_words (name ∷ parameters) = if starts_with nat_eq name (codes "#") the
 
 -- what a line asks for, without its line feed: one carriage return at its end is dropped
 abbrev pub line_of : {A : Type 0} → List ℕ → Result (Option (TraceCall A)) TraceFault
-line_of line = if nat_lt longest_line (length line) then Err fault.Long else call_of_words (words_of (strip_last 13 line))
+line_of line =
+    if nat_lt longest_line (length line) then Err fault.Long
+    else call_of_words (words_of (strip_last 13 line))

@@ -7,14 +7,14 @@ use crate::parameters::{read_bytes, read_u32, read_u64, read_u64_up_to};
 use crate::protocols;
 use boot_calls::Call;
 use std::alloc::{Allocator, Global};
-use text_lines::{LONGEST_LINE, without_carriage_return, words_of};
+use text_lines::{MAX_LINE_LENGTH, without_carriage_return, words_of};
 use trace_verbs::{Verb, verb_named};
 
 /// The most bytes of a buffer for the memory map.
-const LARGEST_BUFFER: u64 = 16_777_216;
+const MAX_BUFFER_SIZE: u64 = 16_777_216;
 
 /// The most bytes of the pool that one line reads.
-const LONGEST_READ: u64 = 65_536;
+const MAX_READ_SIZE: u64 = 65_536;
 
 /// What a trace line asks for.
 #[derive(Drop)]
@@ -31,7 +31,7 @@ pub fn read_call<A: Allocator + Copy>(
 ) -> Result<Option<TraceCall<A>>, TraceFault>
     ensures { (result ≡ Err TraceFault.OutOfMemory) ⊎ (result ≡ line_of line.now) }
 {
-    if line.len() > LONGEST_LINE {
+    if line.len() > MAX_LINE_LENGTH {
         return Err(TraceFault::Long);
     }
     let words = words_of(alloc, without_carriage_return(line))?;
@@ -43,7 +43,8 @@ fn read_words<A: Allocator + Copy>(
     alloc: A,
     words: &[&[u8]],
 ) -> Result<Option<TraceCall<A>>, TraceFault>
-    ensures { (result ≡ Err TraceFault.OutOfMemory) ⊎ (result ≡ call_of_words (map (λ word. word.now) words.now)) }
+    ensures { (result ≡ Err TraceFault.OutOfMemory)
+        ⊎ (result ≡ call_of_words (map (λ word. word.now) words.now)) }
 {
     let [name, parameters @ ..] = words else {
         return Ok(None);
@@ -61,7 +62,8 @@ fn read_verb<A: Allocator + Copy>(
     verb: Verb,
     parameters: &[&[u8]],
 ) -> Result<TraceCall<A>, TraceFault>
-    ensures { (result ≡ Err TraceFault.OutOfMemory) ⊎ (result ≡ call_of verb (map (λ word. word.now) parameters.now)) }
+    ensures { (result ≡ Err TraceFault.OutOfMemory)
+        ⊎ (result ≡ call_of verb (map (λ word. word.now) parameters.now)) }
 {
     match verb {
         Verb::Pages => read_pages(parameters),
@@ -128,7 +130,7 @@ fn read_map<A: Allocator>(parameters: &[&[u8]]) -> Result<TraceCall<A>, TraceFau
         return Err(TraceFault::Words);
     };
     Ok(TraceCall::Service(Call::GetMemoryMap {
-        size: read_u64_up_to(LARGEST_BUFFER, size)?,
+        size: read_u64_up_to(MAX_BUFFER_SIZE, size)?,
     }))
 }
 
@@ -166,13 +168,14 @@ fn read_pool_read<A: Allocator>(parameters: &[&[u8]]) -> Result<TraceCall<A>, Tr
     };
     Ok(TraceCall::Service(Call::PoolRead {
         address: read_u64(address)?,
-        size: read_u64_up_to(LONGEST_READ, count)?,
+        size: read_u64_up_to(MAX_READ_SIZE, count)?,
     }))
 }
 
 /// What `write` asks for.
 fn read_pool_write<A: Allocator>(alloc: A, parameters: &[&[u8]]) -> Result<TraceCall<A>, TraceFault>
-    ensures { (result ≡ Err TraceFault.OutOfMemory) ⊎ (result ≡ call_of Verb.Write (map (λ word. word.now) parameters.now)) }
+    ensures { (result ≡ Err TraceFault.OutOfMemory)
+        ⊎ (result ≡ call_of Verb.Write (map (λ word. word.now) parameters.now)) }
 {
     let [address, bytes] = parameters else {
         return Err(TraceFault::Words);

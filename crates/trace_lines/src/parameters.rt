@@ -45,7 +45,8 @@ pub fn read_flag(word: &[u8]) -> Result<bool, TraceFault>
 
 /// Handles, numbers of 64 bits from left to right.
 pub fn read_handles<A: Allocator>(alloc: A, words: &[&[u8]]) -> Result<CallHandles<A>, TraceFault>
-    ensures { (result ≡ Err TraceFault.OutOfMemory) ⊎ (result ≡ u64s_of (map (λ word. word.now) words.now)) }
+    ensures { (result ≡ Err TraceFault.OutOfMemory)
+        ⊎ (result ≡ u64s_of (map (λ word. word.now) words.now)) }
 {
     let mut handles = Vec::with_capacity(alloc, words.len())?;
     for word in words {
@@ -77,7 +78,8 @@ pub fn read_guid(word: &[u8]) -> Result<Uuid, TraceFault>
 
 /// Pairs of a GUID and a value, from left to right. A word that is left over belongs to none.
 pub fn read_pairs<A: Allocator>(alloc: A, words: &[&[u8]]) -> Result<CallPairs<A>, TraceFault>
-    ensures { (result ≡ Err TraceFault.OutOfMemory) ⊎ (result ≡ pairs_of (map (λ word. word.now) words.now)) }
+    ensures { (result ≡ Err TraceFault.OutOfMemory)
+        ⊎ (result ≡ pairs_of (map (λ word. word.now) words.now)) }
 {
     let mut pairs = Vec::with_capacity(alloc, words.len() / 2)?;
     let mut rest = words;

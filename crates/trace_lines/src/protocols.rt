@@ -29,7 +29,8 @@ pub fn read_install_many<A: Allocator + Copy>(
     alloc: A,
     parameters: &[&[u8]],
 ) -> Result<TraceCall<A>, TraceFault>
-    ensures { (result ≡ Err TraceFault.OutOfMemory) ⊎ (result ≡ call_of Verb.InstallMany (map (λ word. word.now) parameters.now)) }
+    ensures { (result ≡ Err TraceFault.OutOfMemory)
+        ⊎ (result ≡ call_of Verb.InstallMany (map (λ word. word.now) parameters.now)) }
 {
     let [handle, words @ ..] = parameters else {
         return Err(TraceFault::Words);
@@ -201,7 +202,8 @@ pub fn read_connect<A: Allocator + Copy>(
     alloc: A,
     parameters: &[&[u8]],
 ) -> Result<TraceCall<A>, TraceFault>
-    ensures { (result ≡ Err TraceFault.OutOfMemory) ⊎ (result ≡ call_of Verb.Connect (map (λ word. word.now) parameters.now)) }
+    ensures { (result ≡ Err TraceFault.OutOfMemory)
+        ⊎ (result ≡ call_of Verb.Connect (map (λ word. word.now) parameters.now)) }
 {
     let [handle, recursive, drivers @ ..] = parameters else {
         return Err(TraceFault::Words);

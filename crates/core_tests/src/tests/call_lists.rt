@@ -52,7 +52,7 @@ pub fn address_told(reply: &Reply) -> Option<u64> {
     }
 }
 
-/// The status that a reply tells.
+/// The status of a reply.
 pub fn status_told(reply: &Reply) -> Status {
     match reply {
         Reply::AllocatePages(Err(status)) => *status,

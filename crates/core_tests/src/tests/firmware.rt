@@ -144,7 +144,7 @@ fn is_border(page: u64, drawn: &Drawn) -> bool {
     border_below(page, drawn.granule) == page
 }
 
-/// Judges that pages were placed at an address, and answers the change.
+/// Judges that pages were placed at an address, and returns the change.
 fn placed_change(rt: &impl Abort, stretches: &[Stretch], drawn: &Drawn, address: u64) -> Change {
     let first = address / PAGE_SIZE;
     let end = first.saturating_add(taken_by(drawn));
@@ -203,7 +203,7 @@ fn place(
     }
 }
 
-/// Frees pages, and answers the status.
+/// Frees pages, and returns the status.
 fn freed(rt: &impl Abort, core: &mut Core<TableDriver>, first: u64, end: u64) -> Status {
     let free = Call::FreePages {
         memory: first.saturating_mul(PAGE_SIZE),
@@ -280,7 +280,7 @@ fn assert_map(rt: &(impl AllocGlobal + Abort), core: &Core<TableDriver>, stretch
     assert_eq!(rt; core.descriptors(), joined.len());
 }
 
-/// Makes so many calls on a map of a machine with a granule, and answers how many of them changed it.
+/// Makes the given number of calls on a map of a machine with a granule, and returns how many of them changed it.
 fn changes_on(rt: &(impl AllocGlobal + Abort), map: Vec<Stretch>, granule: u64, calls: u32) -> u32 {
     let mut stretches = map;
     let mut core = core_of_stretches(rt, stretches.as_slice(), granule);

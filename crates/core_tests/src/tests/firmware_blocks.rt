@@ -30,7 +30,7 @@ fn is_accepted(
     check_block(rt.alloc(), block.as_bytes(), &mut verdict).expect(rt, "a block")
 }
 
-/// Places pages as it is requested, and answers the certificate of that.
+/// Places pages as it is requested, and returns the certificate of that.
 fn certificate_of(rt: &impl Abort, core: &mut Core<TableDriver>, request: &Request) -> Certificate {
     let allocate = Call::AllocatePages {
         kind: u32::from(request.limit < PAGE_COUNT),
@@ -61,7 +61,7 @@ fn assert_refused(
     swapped_bound(rt, certificate, index, bound);
 }
 
-/// Puts a bound in the place of one, and answers that one.
+/// Puts a bound in the place of one, and returns that one.
 fn swapped_bound(
     rt: &impl Abort,
     certificate: &mut Certificate,

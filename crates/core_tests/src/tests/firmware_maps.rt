@@ -1,5 +1,5 @@
 //! Memory maps of real firmware, those of `examples/real-firmware/`: a word for each run from page 0 on,
-//! with its type, its pages and, in hexadecimal, its attributes, or `-` and so many absent pages.
+//! with its type, its pages and, in hexadecimal, its attributes, or `-` and a number of absent pages.
 
 /// The maps, each with its name.
 pub fn maps() -> &'static [(&'static str, &'static str)] {

@@ -1,7 +1,7 @@
 //! The granules of types, written plainly once more, and the pages that a request or a free of pages takes of them.
 use super::stretches::{Change, Stretch};
 
-/// The types that stand in granules: reserved memory, code and data of runtime services, and ACPI non-volatile
+/// The types whose pages lie in whole granules: reserved memory, code and data of runtime services, and ACPI non-volatile
 /// storage.
 const GRANULAR: [u32; 4] = [0, 5, 6, 10];
 

@@ -1,4 +1,4 @@
-//! Requests that take much memory, and are served: each service may answer that memory is out, and none may answer it
+//! Requests that take much memory, and are served: each service may return OUT_OF_RESOURCES, and none may return it
 //! for what is large alone.
 use super::call_lists::{address_told, replies_of, reply_of, status_told};
 use super::{Given, core_of, core_of_runs, run_of};
@@ -82,7 +82,7 @@ fn core_of_most(rt: &(impl AllocGlobal + Abort)) -> Core<TableDriver> {
     core_of_runs(rt, runs, 1)
 }
 
-/// The bytes of a memory map that a reply tells, if they are as many as it says.
+/// The bytes of a memory map in a reply, if they are as many as it says.
 fn bytes_told(reply: &Reply) -> Option<&[u8]> {
     match reply {
         Reply::GetMemoryMap { reply, bytes } if reply.size == bytes.len() as u64 => {
@@ -121,7 +121,7 @@ fn many_descriptors(rt: HostRuntime) {
     assert_records(&rt, &core, bytes);
 }
 
-/// So many pairs of calls, one of which frees what the other placed.
+/// The number of pairs of calls, one of which frees what the other placed.
 const PAIRS: usize = 5_000;
 
 /// Appends a call that places pages, and one that frees them.

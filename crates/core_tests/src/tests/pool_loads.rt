@@ -32,7 +32,7 @@ fn cells_of(size: u64) -> usize {
     (size.saturating_add(39) / CELL) as usize
 }
 
-/// The lowest free cells in a row, so many.
+/// The lowest free cells in a row, as many as given.
 fn fit(taken: &[bool], need: usize) -> Option<usize> {
     let mut free = 0usize;
     for (cell, is_taken) in taken.iter().enumerate() {
@@ -158,7 +158,7 @@ fn new_extent(
     }
 }
 
-/// Asks for a block, and answers its address, which is where first fit puts it, or in a new extent.
+/// Asks for a block, and returns its address, which is where first fit puts it, or in a new extent.
 fn take(
     rt: &(impl AllocGlobal + Abort),
     core: &mut Core<TableDriver>,

@@ -27,7 +27,7 @@ const GUID: Guid = Guid { bytes: [0x11; 16] };
 /// A number that no call gives.
 const OTHER: u64 = 0xabcd;
 
-/// A core that has served so many calls, the last of them too, and serves no more.
+/// A core that has served the given number of calls, its last one too, and serves no more.
 fn spent_core(rt: &(impl AllocGlobal + Abort)) -> EfiCore {
     let mut core = EfiCore::new(rt.alloc(), core_with(rt, CALLS));
     let (mut memory, mut block, mut handle) = (0, 0, 0);

@@ -85,7 +85,7 @@ fn damage(draws: &mut Draws, bytes: &mut Vec<u8>) {
 enum Node {
     EndOfPath,
     EndOfInstance,
-    /// Another, of so many bytes.
+    /// Another, of the given number of bytes.
     Inner(usize),
 }
 
@@ -142,7 +142,7 @@ impl Counts {
     }
 }
 
-/// Asserts that some bytes are read as the plain reader does, and answers what it read.
+/// Asserts that some bytes are read as the plain reader does, and returns what it read.
 fn assert_same(rt: &impl Abort, bytes: &[u8]) -> Option<(usize, usize)> {
     let spans = plain_spans(bytes);
     let told = read_path(bytes).map(|span| (span.first_instance, span.whole));

@@ -47,7 +47,7 @@ const DRAWS: &[Draws] = &[
     },
 ];
 
-/// A new region of so many pages.
+/// A new region of the given number of pages.
 fn region_of(rt: &(impl AllocGlobal + Abort), pages: usize) -> RawPool {
     if pages == 0 || pages > MOST_PAGES {
         panic!(rt; "{pages} pages");
@@ -60,7 +60,7 @@ fn cells_of(size: usize) -> usize {
     size.saturating_add(39) / 32
 }
 
-/// The lowest place for a block among those known, in a region of so many cells.
+/// The lowest place for a block among those known, in a region of the given number of cells.
 fn lowest(blocks: &[Known], cells: usize, size: usize) -> Option<usize> {
     let need = cells_of(size);
     let mut from = 0usize;

@@ -169,7 +169,7 @@ fn guid(byte: u8) -> Uuid {
     Uuid::from_bytes([byte; 16])
 }
 
-/// Installs an interface, and answers the handle.
+/// Installs an interface, and returns the handle.
 fn install(rt: &impl Abort, handles: &mut Handles, handle: u64, guid: Uuid, value: u64) -> u64 {
     if handles.last_number() >= 1 << 62 || handles.last_stamp() >= 1 << 62 {
         panic!(rt; "too many handles");

@@ -3,7 +3,7 @@ use device_path_locate::{PathSpan, read_path};
 use std::alloc::AllocError;
 use std::process::Abort;
 
-/// Bytes that no path stands at the front of.
+/// Bytes that no path begins.
 const REFUSED: &[&[u8]] = &[
     // The bytes run out.
     b"",
@@ -133,7 +133,7 @@ const LENGTHS: &[u16] = &[
     255, 256, 257, 260, 1023, 1024, 0x1234, 0x7fff, 0x8000, 0xfffe, 0xffff,
 ];
 
-/// Asserts that a node of so many bytes and an end are a path, and nothing less.
+/// Asserts that a node of this many bytes and an end are a path, and nothing less.
 fn assert_long_node(rt: &(impl AllocGlobal + Abort), length: u16) -> Result<(), AllocError> {
     let size = length as usize;
     let mut bytes = Vec::new(rt.alloc());

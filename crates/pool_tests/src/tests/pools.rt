@@ -13,9 +13,9 @@ use page_services::PageBook;
 use pool_services::{Pools, given_pages_law, written_keeps_pool_law};
 use std::process::Abort;
 
-/// A call on the pool, and what it answers.
+/// A call on the pool, and what it returns.
 enum Step {
-    /// A type and a size; the block's address, and whether it stands in a new extent.
+    /// A type and a size; the block's address, and whether it is in a new extent.
     Pool(u32, u64, Result<(u64, bool), Status>),
     Free(u64, Result<(), Status>),
     /// An address, the bytes from there on, and whether they lie in a block.
@@ -74,7 +74,7 @@ fn assert_step(rt: &impl Abort, book: &mut PageBook, pools: &mut Pools, step: &S
     }
 }
 
-// The address of a block that is asked for, and whether it stands in a new extent.
+// The address of a block that is asked for, and whether it is in a new extent.
 fn allocate(
     rt: &impl Abort,
     book: &mut PageBook,
@@ -116,7 +116,7 @@ fn write(book: &PageBook, pools: &mut Pools, address: u64, bytes: &[u8]) -> bool
     pools.write(address, bytes).is_ok()
 }
 
-// Asserts that these are the bytes from an address on, or that so many do not lie in a block.
+// Asserts that these are the bytes from an address on, or that they do not lie in a block.
 fn assert_read(rt: &impl Abort, pools: &Pools, address: u64, bytes: &[u8], fits: bool) {
     let mut buffer = [0xee; 4];
     match buffer.get_mut(..bytes.len()) {
@@ -129,7 +129,7 @@ fn assert_read(rt: &impl Abort, pools: &Pools, address: u64, bytes: &[u8], fits:
     }
 }
 
-// Asserts the answers of calls on a machine with a granule.
+// Asserts what calls on a machine with a granule return.
 fn assert_steps(rt: &(impl AllocGlobal + Abort), granule: u64, steps: &[Step])
     requires { IsGranule granule }
 {

@@ -5,7 +5,7 @@ use std::process::Abort;
 /// A page holds 128 blocks of one cell, of 24 bytes at most.
 const PAGE_BLOCKS: usize = 128;
 
-/// A call on a region, and what it answers.
+/// A call on a region, and what it returns.
 enum Step {
     /// The size of a block to take, and its first cell.
     Take(usize, Option<usize>),
@@ -88,7 +88,7 @@ fn make(rt: &impl Abort, pool: &mut RawPool, step: &Step) {
     }
 }
 
-/// A new region of so many pages.
+/// A new region of the given number of pages.
 fn region_of(rt: &(impl AllocGlobal + Abort), pages: usize) -> RawPool {
     if pages == 0 || pages > 4 {
         panic!(rt; "{pages} pages");
@@ -96,7 +96,7 @@ fn region_of(rt: &(impl AllocGlobal + Abort), pages: usize) -> RawPool {
     RawPool::new(rt.alloc(), pages).expect(rt, "memory")
 }
 
-/// Makes the calls on a new region of so many pages.
+/// Makes the calls on a new region of the given number of pages.
 fn make_all(rt: &(impl AllocGlobal + Abort), pages: usize, steps: &[Step]) {
     let mut pool = region_of(rt, pages);
     for step in steps {

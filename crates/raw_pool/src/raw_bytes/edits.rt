@@ -44,7 +44,7 @@ impl RawBytes {
         self.bytes_mut()[at] = byte;
     }
 
-    /// Sets so many bytes that are set to 0.
+    /// Sets the given number of bytes that are set to 0.
     fn overwrite_zeros(&mut self, at: usize, count: usize)
         requires { at + count ≤ length self.old.set }
         ensures set { self.new.set ≡ put self.old.set at (replicate count 0) }
@@ -53,8 +53,8 @@ impl RawBytes {
         self.bytes_mut()[at..at + count].fill(0);
     }
 
-    /// Sets so many bytes from a place on to 0.
-    pub(crate) fn clear(&mut self, at: usize, count: usize)
+    /// Sets the given number of bytes from a place on to 0.
+    pub fn clear(&mut self, at: usize, count: usize)
         requires { (at ≤ length self.old.set) × (at + count ≤ self.old.room) }
         ensures set { self.new.set ≡ put self.old.set at (replicate count 0) }
         ensures place { (self.new.room ≡ self.old.room) × (self.new.ptr ≡ self.old.ptr) }

@@ -1,4 +1,4 @@
-//! The core after a run that ended by a read, a write or memory: in the state after the lines that were told.
+//! The core after a run that ended by a read, a write or memory: in the state after the lines that were written.
 use super::call_rows::QUESTIONS;
 use super::heaps::{core_on, printed};
 use super::{NEVER, Source, sink_of};
@@ -6,7 +6,7 @@ use boot_trace::{RunFault, run};
 use refusing_memory::Refusing;
 use std::process::Abort;
 
-/// Lines whose calls change what the questions are answered. No line feed stands behind the last.
+/// Lines whose calls change what the questions are answered. No line feed follows the last.
 const LINES: &[u8] = b"pages 2 4 2 0x9e000
 # a comment
 pool 4 24
@@ -72,7 +72,7 @@ fn front_of(count: usize) -> &'static [u8] {
         .unwrap_or(b"")
 }
 
-/// What the first lines leave, the fewest that print at least so many bytes.
+/// What the first lines leave, the fewest that print at least this many bytes.
 fn left_with(rt: &(impl AllocGlobal + Abort), least: usize) -> Left {
     for count in 0..=LINES.len() {
         let front = front_of(count);
@@ -106,8 +106,8 @@ fn state_after_read_fails(rt: HostRuntime) {
     }
 }
 
-/// Asserts that a run tells that it cannot write, and that it made the calls of the lines that print the bytes that were
-/// written and so many more. Answers whether it can write after all.
+/// Asserts that a run reports that it cannot write, and that it made the calls of the lines that print the bytes that were
+/// written and of a number of lines more. Returns whether it can write after all.
 fn can_write(rt: &(impl AllocGlobal + Abort), failing: Failing, more: usize) -> bool {
     let left = left_by(rt, LINES, failing);
     if left.end.is_ok() {
@@ -122,7 +122,7 @@ fn can_write(rt: &(impl AllocGlobal + Abort), failing: Failing, more: usize) -> 
 /// More writes and allocations than a run makes.
 const MOST: u64 = 1000;
 
-/// Each write: the calls were made of the lines told whole and of the next.
+/// Each write: the calls were made of the lines written whole and of the next.
 #[test]
 fn state_after_write_fails(rt: HostRuntime) {
     for writes in 0..MOST {
@@ -147,7 +147,7 @@ fn state_after_flush_fails(rt: HostRuntime) {
 }
 
 /// Asserts that a run to whose lines memory is refused wrote whole lines, and leaves the state after these or after one
-/// more. Answers whether it is refused none.
+/// more. Returns whether it is refused none.
 fn has_memory(rt: &(impl AllocGlobal + Abort), memory: u64) -> bool {
     let left = left_by(rt, LINES, Failing { memory, ..NOTHING });
     if left.end.is_ok() {

@@ -126,7 +126,7 @@ const ROWS: [Row; 9] = [
         out: REPLY,
         err: b"",
     },
-    // The machine file is opened first, wherever its option stands.
+    // The machine file is opened first, wherever its option is.
     Row {
         words: &["bootcore", "run", "--trace", "b.txt", "--machine", "a.json"],
         lost: &[],
@@ -175,7 +175,7 @@ const ROWS: [Row; 9] = [
         out: b"",
         err: b"bootcore: cannot read machine\n",
     },
-    // A machine file that is none is told only once the trace is open.
+    // A machine file that is none is reported only once the trace is open.
     Row {
         words: &["bootcore", "run", "--machine", "b.txt", "--trace", "a.json"],
         lost: &["a.json"],
@@ -222,7 +222,7 @@ fn openings(rt: HostRuntime) {
     }
 }
 
-/// Words that are no command: nothing is opened nor printed, and a text is told.
+/// Words that are no command: nothing is opened or printed, and a text says why.
 const REFUSED: [&[&str]; 6] = [
     &[],
     &["bootcore"],

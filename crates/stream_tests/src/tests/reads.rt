@@ -1,4 +1,4 @@
-//! A read that fails is told, and not made again.
+//! A read that fails is reported, and not tried again.
 use super::{BLOCK, MACHINE, Source, TRACE, assert_outcome, check_of, run_of};
 use std::process::Abort;
 

@@ -84,7 +84,7 @@ fn plain_of(rt: &(impl AllocGlobal + Abort), (before, call, reply): (&str, &str,
     }
 }
 
-/// Asserts that a call was served whole, or else was out of memory and left all as it was. Answers whether it was served.
+/// Asserts that a call was served whole, or else was out of memory and left all as it was. Returns whether it was served.
 fn is_served(rt: &impl Abort, told: Told, plain: Plain) -> bool {
     if told.call == plain.reply {
         assert!(rt; told.after == plain.with);
@@ -94,7 +94,7 @@ fn is_served(rt: &impl Abort, told: Told, plain: Plain) -> bool {
     false
 }
 
-/// Makes a call to which an allocation is refused, and answers whether it asks for so many. Where that one alone is refused,
+/// Makes a call to which an allocation is refused, and returns whether it makes this many allocations. Where that one alone is refused,
 /// std may ask again for less and the call be served; where all after it are too, it is refused, and the same call is
 /// served then.
 fn is_refused(
@@ -117,7 +117,7 @@ fn is_refused(
 /// More allocations than any of the calls asks for.
 const MOST: u64 = 1000;
 
-/// Refuses each allocation of a call in turn, and answers how many there are.
+/// Refuses each allocation of a call in turn, and returns how many there are.
 fn refusals(rt: &(impl AllocGlobal + Abort), row: &(&str, &str, &str)) -> u64 {
     let (before, call, _) = *row;
     let plain = plain_of(rt, *row);
@@ -145,9 +145,9 @@ fn calls_are_refused_memory(rt: HostRuntime) {
     }
 }
 
-/// What a call changes shows in the answers.
+/// What a call changes shows in the returns.
 #[test]
-fn questions_tell_changes(rt: HostRuntime) {
+fn questions_show_changes(rt: HostRuntime) {
     for (before, call, _reply) in &CHANGING {
         assert!(rt; answers(&rt, before, call) != answers(&rt, before, ""));
     }

@@ -1,4 +1,4 @@
-//! What takes memory beside the services, and tells that it is refused.
+//! What takes memory beside the services, and reports that it is refused.
 use super::BLOCK;
 use super::heaps::{core_on, new_core};
 use boot_core::{Call, Core, Reply};
@@ -13,7 +13,7 @@ use std::process::Abort;
 /// More allocations than are asked for.
 const MOST: u64 = 1000;
 
-/// Asserts that a core is made unless an allocation is refused, and answers how many it takes.
+/// Asserts that a core is made unless an allocation is refused, and returns how many it takes.
 fn core_allocations(rt: &(impl AllocGlobal + Abort)) -> u64 {
     for number in 1..MOST {
         let heap = Refusing::new(rt.alloc());
@@ -91,7 +91,7 @@ const LINES: [&str; 5] = [
     "install-many 0 11111111-1111-1111-1111-111111111111 1 22222222-2222-2222-2222-222222222222 2",
 ];
 
-/// Asserts that a line is read unless an allocation is refused, and answers how many it takes.
+/// Asserts that a line is read unless an allocation is refused, and returns how many it takes.
 fn line_allocations(rt: &(impl AllocGlobal + Abort), line: &str) -> u64 {
     for number in 1..MOST {
         let heap = Refusing::new(rt.alloc());
@@ -115,7 +115,7 @@ fn lines_are_refused_memory(rt: HostRuntime) {
     }
 }
 
-/// Asserts that a block is judged unless an allocation is refused, and answers how many that takes.
+/// Asserts that a block is judged unless an allocation is refused, and returns how many that takes.
 fn block_allocations(rt: &(impl AllocGlobal + Abort)) -> u64 {
     for number in 1..MOST {
         let heap = Refusing::new(rt.alloc());

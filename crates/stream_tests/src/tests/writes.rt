@@ -1,4 +1,4 @@
-//! A write or a flush that fails is told, and not made again.
+//! A write or a flush that fails is reported, and not tried again.
 use super::{BLOCK, MACHINE, NEVER, Sink, TRACE, run_of, sink_of};
 use program_runs::{serve_check, serve_run};
 use std::process::Abort;
@@ -10,7 +10,7 @@ enum Work {
     Check,
 }
 
-/// Does the work over the sink, and asserts that it ends well, or else tells that it cannot write.
+/// Does the work over the sink, and asserts that it ends well, or else reports that it cannot write.
 fn ends_well(rt: &(impl AllocGlobal + Abort), work: Work, sink: &mut Sink) -> bool {
     let mut err = Vec::new(rt.alloc());
     let status = match work {
@@ -42,7 +42,7 @@ fn assert_stops_at_writes(
     assert!(rt; taken < whole.taken.len());
 }
 
-/// Asserts that the work stops at each of the flushes, of which there are so many.
+/// Asserts that the work stops at each of the flushes, of which there are the given number.
 fn assert_stops_at_flushes(rt: &(impl AllocGlobal + Abort), work: Work, whole: &Sink, count: u64) {
     assert_eq!(rt; NEVER.saturating_sub(whole.flushes), count);
     for flushes in 0..count {

@@ -237,7 +237,7 @@ fn is_block_of(block: Option<Descriptor>, run: Option<Run>, page: u64) -> bool {
     }
 }
 
-// Asserts that the free entries are those of the plain list, and what is told of the pages beside each.
+// Asserts that the free entries are those of the plain list, and what the table says of the pages beside each.
 fn assert_free(rt: &impl Abort, table: &RunTable, entries: &[Run]) {
     let mut found = table.free_entries();
     for entry in entries {
@@ -271,7 +271,7 @@ fn assert_lists(rt: &impl Abort, table: &RunTable, runs: &[Run], entries: &[Run]
     assert_free(rt, table, entries);
 }
 
-// Asserts what is answered of ranges that begin at a page.
+// Asserts what the table returns for ranges that begin at a page.
 fn assert_ranges(rt: &impl Abort, table: &RunTable, list: &[Run], first: u64) {
     let mut are_free = true;
     let mut are_placed = true;
@@ -338,7 +338,7 @@ fn drawn_range(draw: u64) -> PageRange {
     }
 }
 
-// Asserts what is answered of a page and of the page below it.
+// Asserts what the table returns for a page and for the page below it.
 fn assert_page(rt: &impl Abort, table: &RunTable, runs: &[Run], page: u64) {
     let below = if page == 0 {
         None
@@ -352,7 +352,7 @@ fn assert_page(rt: &impl Abort, table: &RunTable, runs: &[Run], page: u64) {
     assert_eq!(rt; cursor.run_at(page), found);
 }
 
-// Asserts how many runs and entries there are, and what is answered of drawn indices.
+// Asserts how many runs and entries there are, and what the table returns for drawn indices.
 fn assert_indices(rt: &impl Abort, table: &RunTable, runs: &[Run], entries: &[Run], draw: u64) {
     assert!(rt; table.len() == runs.len());
     assert!(rt; table.descriptors() == entries.len());
@@ -364,7 +364,7 @@ fn assert_indices(rt: &impl Abort, table: &RunTable, runs: &[Run], entries: &[Ru
     }
 }
 
-// Asserts what is answered of drawn indices, at the ends of a range and of ranges that begin there, and
+// Asserts what the table returns for drawn indices, at the ends of a range and of ranges that begin there, and
 // now and then the whole lists.
 fn assert_changed(
     rt: &(impl AllocGlobal + Abort),

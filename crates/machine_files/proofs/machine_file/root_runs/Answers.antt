@@ -6,8 +6,8 @@ use Rattle.machine_files.proofs.machine_file.root_runs.Goals as goal
 pub returns-in_default : goal.returns-in_default
 returns-in_default c = search rules
 
-pub returns-then-len-gt-MOST_DESCRIPTORS : goal.returns-then-len-gt-MOST_DESCRIPTORS
-returns-then-len-gt-MOST_DESCRIPTORS c = grind (arith, count_of_items)
+pub returns-then-len-gt-MAX_DESCRIPTORS : goal.returns-then-len-gt-MAX_DESCRIPTORS
+returns-then-len-gt-MAX_DESCRIPTORS c = grind (arith, count_of_items)
 
 pub returns : goal.returns
 returns c = grind (arith, count_of_items)

@@ -7,8 +7,8 @@ returns-in-Ok-false g c =
     line_missing g.S.ByteSource.can_fail c.args.self.now.number c.next_line.new.line.items (g.S.ByteSource.left c.args.self.now.source) (g.S.ByteSource.left c.next_line.new.reader)
     (rw c.in-Ok-false.field-0-test at c.in-Ok-false.ensures)
 
-pub returns-then-len-gt-LONGEST_LINE : goal.returns-then-len-gt-LONGEST_LINE
-returns-then-len-gt-LONGEST_LINE g c =
+pub returns-then-len-gt-MAX_LINE_LENGTH : goal.returns-then-len-gt-MAX_LINE_LENGTH
+returns-then-len-gt-MAX_LINE_LENGTH g c =
     line_too_long g.S.ByteSource.can_fail c.args.self.now.number c.next_line.new.line.items (g.S.ByteSource.left c.args.self.now.source) (g.S.ByteSource.left c.next_line.new.reader) (omega arith)
     (rw c.in-Ok-true.field-0-test at c.in-Ok-true.ensures)
 
@@ -17,8 +17,8 @@ returns g c =
     line_taken g.S.ByteSource.can_fail c.args.self.now.number c.next_line.new.line.items (g.S.ByteSource.left c.args.self.now.source) (g.S.ByteSource.left c.next_line.new.reader) (omega arith) (omega arith)
     (rw c.in-Ok-true.field-0-test at c.in-Ok-true.ensures)
 
-pub returns-then-number-gt-MOST_BLOCK_LINES : goal.returns-then-number-gt-MOST_BLOCK_LINES
-returns-then-number-gt-MOST_BLOCK_LINES g c = search rules
+pub returns-then-number-gt-MAX_BLOCK_LINES : goal.returns-then-number-gt-MAX_BLOCK_LINES
+returns-then-number-gt-MAX_BLOCK_LINES g c = search rules
 
 pub returns-in-Err-OutOfMemory : goal.returns-in-Err-OutOfMemory
 returns-in-Err-OutOfMemory g c = search rules
