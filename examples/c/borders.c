@@ -1,6 +1,6 @@
 /* Tries what rafkudin.h says of the library's borders and a replay of traces does not show: sizes,
  * refused cores, what refusals leave, certificates, and two threads. Each point that is not as said
- * is told on standard error, and then the status is 1. */
+ * is printed on standard error, and then the status is 1. */
 #include "machine.h"
 #include "points.h"
 
@@ -121,7 +121,7 @@ static void try_descriptors(void)
     HOLDS(made_of(UINT32_MAX, 0, 1, 0) == RAFKUDIN_SUCCESS);
 }
 
-/* Makes a core with so many drivers, the first of which has these counts. */
+/* Makes a core with the given number of drivers, the first of which has these counts. */
 static uint64_t made_by(size_t count, uint64_t needs, uint64_t opens, uint64_t children,
                         uint64_t interfaces)
 {

@@ -69,7 +69,7 @@ static enum verb verb_of(struct word word)
     return verb;
 }
 
-/* Whether a verb may have so many words behind it. */
+/* Whether a verb may have this many words behind it. */
 static bool is_count(enum verb verb, size_t count)
 {
     size_t always = 0;

@@ -92,7 +92,7 @@ static size_t put_code(uint32_t code, char bytes[4])
     return count;
 }
 
-/* The character of an escape whose backslash and u were passed. Surrogates stand in pairs only. */
+/* The character of an escape whose backslash and u were passed. Surrogates come in pairs only. */
 static bool read_unicode(const char **at, char bytes[4], size_t *count)
 {
     uint32_t high, low;
@@ -110,7 +110,7 @@ static bool read_unicode(const char **at, char bytes[4], size_t *count)
     return true;
 }
 
-/* The bytes that the next part of a string stands for: a byte as it is, or an escape. */
+/* The bytes that the next part of a string spells: a byte as it is, or an escape. */
 static bool read_part(const char **at, char bytes[4], size_t *count)
 {
     static const char letters[] = "\"\\/bfnrt";
@@ -211,7 +211,7 @@ static bool pass_inside(const char **at, char close, unsigned levels)
     }
 }
 
-/* A value with the blanks on both sides of it, of at most so many levels. */
+/* A value with the blanks on both sides of it, of a limited number of levels. */
 static bool pass_value(const char **at, unsigned levels)
 {
     bool passed;

@@ -9,7 +9,7 @@
  * and ends with status 1.
  *
  * The library knows the machine's memory by addresses only. So the pages that the loader takes
- * there are stood for by memory of this program, as many bytes. */
+ * there are represented by memory of this program, as many bytes. */
 #include "fault.h"
 #include "machine.h"
 
@@ -28,7 +28,7 @@
 struct map {
     uint64_t address; /* of its pages */
     uint64_t pages;
-    uint8_t *bytes; /* what stands for them here */
+    uint8_t *bytes; /* what represents them here */
     uint64_t size;  /* of the map in them */
     uint64_t key;
     uint64_t step; /* the size of a descriptor */

@@ -24,7 +24,7 @@ void machine_free(struct machine *machine);
 /* A core of the machine. Where the library refuses to make it, the program ends and says why. */
 struct rafkudin *machine_core(const struct machine *machine);
 
-/* Writes a number of so many bytes, the lowest first, and reads one. */
+/* Writes a number of the given size in bytes, the lowest first, and reads one. */
 void put_number(uint8_t *bytes, size_t count, uint64_t number);
 uint64_t number_at(const uint8_t *bytes, size_t count);
 

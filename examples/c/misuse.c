@@ -1,6 +1,6 @@
 /* Hands null pointers to each function of rafkudin.h. A null pointer that may not be null is
  * INVALID_PARAMETER, and uses up no call; beside a count of 0 it is as any other. Each point that
- * is not as said is told on standard error, and then the status is 1. */
+ * is not as said is printed on standard error, and then the status is 1. */
 #include "points.h"
 
 #include <rafkudin.h>

@@ -96,7 +96,7 @@ static int check_block(void)
     return status == RAFKUDIN_SUCCESS ? 0 : 3;
 }
 
-/* The argument of an option, which stands once. */
+/* The argument of an option, which may be given once. */
 static void take_option(const char **value, const char *argument)
 {
     if (*value != NULL || argument == NULL)

@@ -64,7 +64,7 @@ def long_lines():
 
 
 def lines():
-    """Lines, each to stand in a trace of its own, as bytes."""
+    """Lines, each for a trace of its own, as bytes."""
     for make in (lambda: ODD_LINES, service_lines, long_lines):
         for line in make():
             yield line.encode("latin-1")
@@ -74,7 +74,7 @@ FREE = '{"type":7,"start":"0x1000","pages":160,"attributes":"0xf"}'
 DRIVER = ('{"version":3,"needs":["%s"],"opens":["%s"],"children":[[["%s","0x500"]]],"stops":true}' % (DISK, DISK, FILES))
 PAIR = '["%s","0x500"]' % FILES
 
-# What may stand in the place of each field of a descriptor.
+# What replaces each field of a descriptor.
 FIELDS = {
     '"type":7': ["0", "6", "14", "15", "16", "1879048191", "1879048192", "4294967295", "4294967296", "7.0", "7e0", "-7", "-0",
                  "07", '"7"', "true", "null", "[7]", "0x7"],
@@ -86,7 +86,7 @@ FIELDS = {
     '"attributes":"0xf"': ['"0x0"', '"0x8000000000000000"', '"0x7fffffffffffffff"', '"0x4000f"', "15", '"15"'],
 }
 
-# What may stand in the place of parts of a driver.
+# What replaces parts of a driver.
 DRIVER_PARTS = [
     ('"version":3', ['"version":4294967295', '"version":4294967296', '"version":-1', '"v":3']),
     ('"stops":true', ['"stops":false', '"stops":1', '"stops":null']),

@@ -10,7 +10,7 @@
 /* The room that a print has at first. */
 #define ROOM 128
 
-/* Makes room for so many bytes more. */
+/* Makes room for the given number of further bytes. */
 static void reserve(struct text *text, size_t length)
 {
     if (text->room - text->length >= length)

@@ -16,7 +16,7 @@ def guid(number):
 
 
 def address_below(pages):
-    """Where the block of an extent begins, of so many pages, that are the highest of the machine."""
+    """Where the block of an extent begins whose pages, of the given number, are the highest of the machine."""
     return (FIRST + PAGES - pages) * PAGE + 8
 
 

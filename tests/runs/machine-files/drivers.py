@@ -8,12 +8,12 @@ DRIVER = (
 
 
 def list_of(text, count):
-    """A list of so many times the same text."""
+    """A list of the same text, the given number of times."""
     return f"[{','.join([text] * count)}]"
 
 
 def driver_of(guids, children, pairs):
-    """A driver that needs and opens so many GUIDs, with so many children of so many interfaces."""
+    """A driver that needs and opens the given numbers of GUIDs, with children of the given numbers."""
     names = list_of('"{18A031AB-B443-4D1A-A5C0-0C09261E9F71}"', guids)
     child = list_of('["18a031abb4434d1aa5c00c09261e9f71","0xFFFFFFFFFFFFFFFF"]', pairs)
     made = list_of(child, children)

@@ -1,8 +1,8 @@
 """Blocks that differ from the accepted one in some lines."""
 from blocks import answered, block_with
 
-# Each a name, the first line that differs and how many are left out, what stands there, and what is answered: the
-# verdict, or the number of the line that is told.
+# Each a name, the first line that differs and how many are left out, what is there instead, and what is printed: the
+# verdict, or the number of the line of the fault.
 ROWS = [
     ("words in other places", 12, 1, " answer\t 0x7F6 \r\n", "accepted"),
     ("another answer", 12, 1, "answer 150\n", "refused"),

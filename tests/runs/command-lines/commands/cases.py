@@ -16,12 +16,15 @@ bounds 3
 answer 2038
 end
 """
+VERSION = "bootcore 0.1.0\n"
 # Each with what is printed.
 COMMANDS = [
     (RUN, REPLY),
     (RUN + " --certify", REPLY + BLOCK),
     ("run --certify --trace=examples/one-allocation.txt --machine examples/machine-a.json", REPLY + BLOCK),
     ("check", "accepted\n"),
+    ("--version", VERSION),
+    ("-V", VERSION),
 ]
 
 

@@ -16,9 +16,10 @@ Commands:
   help   Print this message or the help of the given subcommand(s)
 
 Options:
-  -h, --help  Print help
+  -h, --help     Print help
+  -V, --version  Print version
 """
-# Each with what is told.
+# Each with the text that is printed.
 LINES = [
     ("", f"error: 'bootcore' requires a subcommand but one was not provided\n{COMMANDS}{ANY}{MORE}"),
     ("runs", "error: unrecognized subcommand 'runs'\n\n  tip: a similar subcommand exists: 'run'\n" + ANY + MORE),
@@ -27,6 +28,7 @@ LINES = [
     ("run --machine=a.json --trace", f"error: a value is required for '--trace <FILE>' but none was supplied\n{MORE}"),
     ("run --machine a --machine b --trace c", TWICE + RUN.replace("run", "run [OPTIONS]") + MORE),
     ("check x", "error: unexpected argument 'x' found\n\nUsage: bootcore check\n" + MORE),
+    ("run --version", f"error: unexpected argument '--version' found\n\nUsage: bootcore run [OPTIONS] --machine <FILE> --trace <FILE>\n{MORE}"),
     ("--help", HELP),
 ]
 

@@ -3,7 +3,7 @@ from drivers import DRIVER, driver_of, list_of
 
 # The fields in another order, one of them twice, and a key that is not known.
 ANY_ORDER = '{"stops":false,"children":[],"opens":[],"needs":7,"name":{},"needs":[],"version":4294967295}'
-# Each a name and the list; the key stands twice in the first.
+# Each a name and the list; the key occurs twice in the first.
 LISTS = [
     ("no drivers", '7,"drivers":[]'),
     ("one driver", list_of(DRIVER, 1)),

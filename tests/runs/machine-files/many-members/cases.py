@@ -4,7 +4,7 @@ MOST = 65_536
 
 
 def machine_of(count, last=',"attributes":"0xf"'):
-    """A machine of so many descriptors. The last one may lack its attributes."""
+    """A machine of the given number of descriptors. The last one may lack its attributes."""
     starts = [f'{{"type":7,"start":"0x{number:x}2000","pages":1' for number in range(1, count + 1)]
     return '{"memory":[' + ',"attributes":"0xf"},'.join(starts) + last + "}]}"
 

@@ -3,7 +3,7 @@
 PAGE = b'{"type":7,"start":"0x0","pages":1,"attributes":"0x0"}'
 TWO_PAGES = b'{"type":7,"start":"0x2000","pages":2,"attributes":"0x0"}'
 SECOND = b'{"type":7,"start":"0x3000","pages":1,"attributes":"0x0"}'
-# Each with what is told; the words in capitals are the descriptors above.
+# Each with the text that is printed; the words in capitals are the descriptors above.
 MACHINES = [
     (b'', "not JSON"),
     (b'{"memory":[]}x', "not JSON"),

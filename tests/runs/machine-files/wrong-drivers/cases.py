@@ -1,8 +1,8 @@
 """Drivers that are refused, each the second of a list whose third is none either."""
 from drivers import DRIVER, driver_of, list_of
 
-# Members that are no drivers, each with the field that is told: no objects, objects that lack a field behind those that
-# they have, and some with several wrong fields, of which the first in the order of the fields is told.
+# Members that are no drivers, each with the field that the fault names: no objects, objects that lack a field behind those that
+# they have, and some with several wrong fields, of which the fault names the first in the order of the fields.
 MEMBERS = [
     ('7', "version"),
     ('null', "version"),

@@ -1,6 +1,6 @@
 """Members of the memory list that are refused, each the second of a list whose third is none either."""
 
-# Each with the field that is told.
+# Each with the field that the fault names.
 MEMBERS = [
     ('7', "type"),
     ('{}', "type"),
