@@ -12,3 +12,4 @@ pub mod ProperRules
 pub mod ProperOpens
 pub mod ProperRemovals
 pub mod Unopened
+pub mod Signals
