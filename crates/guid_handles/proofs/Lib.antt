@@ -1,5 +1,6 @@
 pub mod SortedLists
 pub mod Filters
+pub mod Retained
 pub mod GuidOrder
 pub mod Indexed
 pub mod Grouped

@@ -4,3 +4,4 @@ pub mod Sorting
 pub mod Indexes
 pub mod Slots
 pub mod Stores
+pub mod KeyRoom

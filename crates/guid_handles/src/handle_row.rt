@@ -2,6 +2,7 @@
 ghost use Rattle.std.specs.Prelude.{◌≡◌, ◌==◌, ◌++◌, [], ◌∷◌, not, IfOk, OnOk, OnErr};
 ghost use Rattle.std.specs.List.{filter};
 
+use crate::handle_keys::HandleKeys;
 use crate::records::LiveHandle;
 use std::alloc::{AllocError, Allocator};
 use std::marker::Model;
@@ -10,7 +11,7 @@ use std::marker::Model;
 #[derive(Drop)]
 pub(crate) struct HandleRow<A: Allocator> {
     live: LiveHandle,
-    keys: Vec<usize, A>,
+    keys: HandleKeys<A>,
 }
 
 impl<A: Allocator> Model for HandleRow<A> {
@@ -18,25 +19,23 @@ impl<A: Allocator> Model for HandleRow<A> {
 
     ghost Value = { Row };
 
-    ghost view = { λ r. record { live = r.live; keys = r.keys.items } };
+    ghost view = { λ r. record { live = r.live; keys = r.keys } };
 }
 
 impl<A: Allocator + Copy> HandleRow<A> {
     /// A handle without interfaces. This takes no memory.
-    pub(crate) fn new(alloc: A, live: LiveHandle) -> HandleRow<A>
-        ensures { result ≡ record { live = live; keys = [] } }
+    pub(crate) fn new(alloc: A, live: LiveHandle) -> Result<HandleRow<A>, AllocError>
+        ensures { IfOk result (λ row. row ≡ record { live = live; keys = [] }) }
     {
-        HandleRow {
-            live,
-            keys: Vec::new(alloc),
-        }
+        let keys = HandleKeys::new(alloc)?;
+        Ok(HandleRow { live, keys })
     }
 
     /// The same handle and keys, in memory of their own.
     pub(crate) fn try_copy(&self) -> Result<HandleRow<A>, AllocError>
         ensures { IfOk result (λ copy. copy ≡ self.now) }
     {
-        let keys = Vec::from_slice(*self.keys.allocator(), self.keys.as_slice())?;
+        let keys = self.keys.try_copy()?;
         Ok(HandleRow {
             live: self.live,
             keys,
@@ -63,8 +62,7 @@ impl<A: Allocator + Copy> HandleRow<A> {
         ensures ok { OnOk result (self.new.keys ≡ self.old.keys ++ key ∷ []) }
         ensures err { OnErr result (self.new ≡ self.old) }
     {
-        self.keys.push(key)?;
-        Ok(())
+        self.keys.push(key)
     }
 
     /// Takes out a key.
@@ -72,10 +70,6 @@ impl<A: Allocator + Copy> HandleRow<A> {
         ensures live { self.new.live ≡ self.old.live }
         ensures keys { self.new.keys ≡ filter (λ k. not (k == key)) self.old.keys }
     {
-        self.keys.retain(
-            |k: &usize| -> bool
-                ensures { result ≡ not (k.now == key) }
-            { *k != key },
-        );
+        self.keys.remove(key);
     }
 }

@@ -3,6 +3,7 @@
 
 mod groups;
 mod guid_group;
+mod handle_keys;
 mod handle_row;
 mod handles;
 mod records;

@@ -102,7 +102,7 @@ impl<A: Allocator + Copy> Rows<A> {
         ensures ok { OnOk result (self.new ≡ self.old ++ record { live = live; keys = [] } ∷ []) }
         ensures err { OnErr result (self.new ≡ self.old) }
     {
-        let row = HandleRow::new(*self.numbers.allocator(), live);
+        let row = HandleRow::new(*self.numbers.allocator(), live)?;
         self.rows.reserve(1)?;
         self.numbers.push(live.number)?;
         push_with_room(&mut self.rows, row);

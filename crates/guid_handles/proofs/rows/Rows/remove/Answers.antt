@@ -2,7 +2,7 @@ use Rattle.guid_handles.proofs.Numbered.{none_removed, numbers_remove, row_remov
 use Rattle.guid_handles.proofs.rows.Rows.remove.Goals as goal
 
 pub invariant_of-self : goal.invariant_of-self
-invariant_of-self g c = rw (c.remove.ensures.items, c.remove-in-Some.ensures.items) (numbers_remove _ _ _ c.self.invariant)
+invariant_of-self g c = rw (c.remove.ensures.items, c.remove-in-Some-4.ensures.items) (numbers_remove _ _ _ c.self.invariant)
 
 pub returns-in-Some : goal.returns-in-Some
 returns-in-Some g c =
