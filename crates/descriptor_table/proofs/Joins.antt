@@ -1,5 +1,5 @@
 -- Runs put behind others, joined to the last where the two should be one.
-use Rattle.std.proofs.Common.{◌≡◌, ℕ, zero, suc, ◌+◌, ◌<◌, ◌≤◌, true, false, List, [], ◌∷◌, ◌++◌, length, get_or, refl, sym, ap, subst, ◌∙◌, append_assoc, append-nil, arith}
+use Rattle.std.proofs.Common.{◌≡◌, ℕ, zero, suc, ◌+◌, ◌<◌, ◌≤◌, true, false, List, [], ◌∷◌, ◌++◌, length, get_or, refl, sym, ap, ap₂, subst, ◌∙◌, append_assoc, append-nil, arith}
 use Rattle.std.proofs.Math.ListN.{set}
 use Rattle.std.proofs.lemmas.List.{get_or_default}
 use Rattle.std.specs.List.{AllByRecursion}
@@ -38,6 +38,13 @@ module _ (x : Run) where
 
   pub grown-pages : (rs : List Run) (i : ℕ) (r : Run) → i + 1 ≡ length rs → r ≡ get_or rs i r → should_be_one_run r x ≡ true → pages_of (set rs i (longer r x.range.pages)) ≡ pages_of rs ++ pages_of (x ∷ [])
   grown-pages rs i r n e one = ap (λ s. pages_of (set rs i (longer s x.range.pages))) e ∙ grown rs i r n (sym (ap (λ s. should_be_one_run s x) e) ∙ one)
+
+  -- the last run with its number of pages alone written anew
+  pub last_grows : (rs : List Run) (i : ℕ) (r c d : Run) → i < length rs → r ≡ get_or rs i r
+      → set rs i (record { range = record { first = (get_or rs i c).range.first; pages = (get_or rs i d).range.pages + x.range.pages }; mtype = (get_or rs i c).mtype; attributes = (get_or rs i c).attributes; owner = (get_or rs i c).owner })
+      ≡ set rs i (longer r x.range.pages)
+  last_grows rs i r c d h e =
+      ap₂ (λ (s t : Run). set rs i (record { range = record { first = s.range.first; pages = t.range.pages + x.range.pages }; mtype = s.mtype; attributes = s.attributes; owner = s.owner })) (get_or_default rs i c r h ∙ sym e) (get_or_default rs i d r h ∙ sym e)
 
   apart_set : (q : Run) (rs : List Run) (i : ℕ) (d : Run) → IsApartRun q rs → IsApartRun q (set rs i (longer (get_or rs i d) x.range.pages))
   apart_set q [] i d a = tt

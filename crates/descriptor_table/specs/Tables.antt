@@ -1,5 +1,5 @@
 -- Sorted runs as the table of a memory.
-use Rattle.std.specs.Prelude.{◌≡◌, ℕ, zero, suc, ◌+◌, ◌<◌, ◌≤◌, List, take, drop, length, Contains, Option, Some, None}
+use Rattle.std.specs.Prelude.{◌≡◌, ℕ, zero, suc, ◌+◌, ◌<◌, ◌≤◌, List, [], ◌∷◌, ◌++◌, take, drop, length, Contains, Option, Some, None}
 use Rattle.std.specs.List.{AllByRecursion}
 use Rattle.page_ranges.specs.declared.ranges.PageRange.{PageRange}
 use Rattle.page_ranges.specs.declared.ranges.Run.{Run}
@@ -20,6 +20,11 @@ EndBy n rs = AllByRecursion (λ r. r.range.first + r.range.pages ≤ n) rs
 -- maximal runs that end at a page number or below it
 abbrev pub AreMaximalUpTo : ℕ → List Run → Type 0
 AreMaximalUpTo n rs = AreMaximalRuns rs × EndBy n rs
+
+-- maximal runs with the pages of the old ones and of a run behind these, where they end
+pub record PutsBehind (old : List Run) (r : Run) (new : List Run) : Type 0 where
+  pub pages : pages_of new ≡ pages_of old ++ pages_of (r ∷ [])
+  pub order : AreMaximalUpTo (r.range.first + r.range.pages) new
 
 -- A table: maximal runs that make a proper memory, and the number of entries of its map.
 pub record IsTable (rs : List Run) (count : ℕ) : Type 0 where

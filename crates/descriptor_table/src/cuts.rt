@@ -1,10 +1,12 @@
 //! Cutting and joining runs.
-ghost use Rattle.std.specs.Prelude.{◌≡◌, ◌+◌, ◌-◌, ◌<◌, ◌≤◌, ◌^◌, ◌++◌, ◌∷◌, [], IfOk, OnOk};
+ghost use Rattle.std.specs.Prelude.{◌≡◌, ◌+◌, ◌-◌, ◌<◌, ◌≤◌, ◌^◌, ◌++◌, ◌∷◌, [], List, length, false, IsTrue, OnOk};
+ghost use Rattle.page_ranges.specs.declared.ranges.Run.{Run};
 ghost use Rattle.page_ranges.specs.MemoryTypes.{page_count};
 ghost use Rattle.page_ranges.specs.Memory.{row, retyped};
 ghost use Rattle.page_ranges.specs.Runs.{page_in, pages_of, should_be_one_run, AreRuns, AreMaximalRuns};
-ghost use Rattle.descriptor_table.specs.Tables.{EndBy, AreMaximalUpTo};
+ghost use Rattle.descriptor_table.specs.Tables.{EndBy, AreMaximalUpTo, PutsBehind};
 
+use arrayvec::{ArrayVec, CapacityError};
 use page_ranges::{MemoryType, Owner, PageRange, Run};
 use std::alloc::{AllocError, Allocator};
 
@@ -19,62 +21,105 @@ fn should_be_one(run: &Run, next: &Run) -> bool
         && run.owner == next.owner
 }
 
-/// Puts a run behind others that end at its first page or below it: as a part of the last one
-/// where the two should be one.
-pub(crate) fn push_joined<A: Allocator>(runs: &mut Vec<Run, A>, run: Run) -> Result<(), AllocError>
-    requires order { AreMaximalUpTo run.range.first runs.old.items }
-    requires some { 0 < run.range.pages }
-    requires within { run.range.first + run.range.pages ≤ page_count }
-    ensures pages { OnOk result (pages_of runs.new.items ≡ pages_of runs.old.items ++ pages_of (run ∷ [])) }
-    ensures order { OnOk result (AreMaximalUpTo (run.range.first + run.range.pages) runs.new.items) }
+/// Makes the last of a row of runs longer by a run behind it where the two should be one, and returns
+/// whether they should.
+#[inline(always)]
+fn grow_last(runs: &mut [Run], run: &Run) -> bool
+    requires order { AreMaximalUpTo run.now.range.first runs.old }
+    requires some { 0 < run.now.range.pages }
+    requires within { run.now.range.first + run.now.range.pages ≤ page_count }
+    ensures len { length runs.new ≡ length runs.old }
+    ensures grown { IsTrue result → PutsBehind runs.old run.now runs.new }
+    ensures kept { result ≡ false → runs.new ≡ runs.old }
+    ensures apart { result ≡ false → PutsBehind runs.old run.now (runs.old ++ run.now ∷ []) }
 {
     let count = runs.len();
-    if count > 0 && should_be_one(&runs[count - 1], &run) {
+    if count > 0 && should_be_one(&runs[count - 1], run) {
         runs[count - 1].range.pages += run.range.pages;
-    } else {
-        runs.push(run)?;
+        return true;
     }
-    Ok(())
+    false
+}
+
+/// A list that runs are put into, one behind the other.
+pub(crate) trait RunList {
+    /// The error of a list that has no room for one more run.
+    type Full;
+
+    ghost items: { Self → List Run };
+
+    /// Puts a run behind others that end at its first page or below it: as a part of the last one
+    /// where the two should be one.
+    fn push_joined(&mut self, run: Run) -> Result<(), Self::Full>
+        requires order { AreMaximalUpTo run.range.first (items self.old) }
+        requires some { 0 < run.range.pages }
+        requires within { run.range.first + run.range.pages ≤ page_count }
+        ensures { OnOk result (PutsBehind (items self.old) run (items self.new)) };
+}
+
+impl<A: Allocator> RunList for Vec<Run, A> {
+    type Full = AllocError;
+
+    ghost items = { λ v. v.items };
+
+    #[inline(always)]
+    fn push_joined(&mut self, run: Run) -> Result<(), AllocError> {
+        if grow_last(self.as_mut_slice(), &run) {
+            return Ok(());
+        }
+        self.push(run)?;
+        Ok(())
+    }
+}
+
+impl<const N: usize> RunList for ArrayVec<Run, N> {
+    type Full = CapacityError;
+
+    ghost items = { λ v. v.items };
+
+    #[inline(always)]
+    fn push_joined(&mut self, run: Run) -> Result<(), CapacityError> {
+        if grow_last(self.as_mut_slice(), &run) {
+            return Ok(());
+        }
+        self.try_extend_from_slice(&[run])
+    }
 }
 
 /// Puts the part of a run from one page up to another behind others; an empty part leaves them.
-fn push_part<A: Allocator>(
-    runs: &mut Vec<Run, A>,
-    run: &Run,
-    first: u64,
-    end: u64,
-) -> Result<(), AllocError>
-    requires order { AreMaximalUpTo first runs.old.items }
+#[inline(always)]
+fn push_part<L: RunList>(runs: &mut L, run: &Run, first: u64, end: u64) -> Result<(), L::Full>
+    requires order { AreMaximalUpTo first (L.items runs.old) }
     requires up { first ≤ end }
     requires within { end ≤ page_count }
-    ensures pages { OnOk result (pages_of runs.new.items ≡ pages_of runs.old.items ++ row (end - first) (page_in first run.now)) }
-    ensures order { OnOk result (AreMaximalUpTo end runs.new.items) }
+    ensures pages { OnOk result (pages_of (L.items runs.new) ≡ pages_of (L.items runs.old) ++ row (end - first) (page_in first run.now)) }
+    ensures order { OnOk result (AreMaximalUpTo end (L.items runs.new)) }
 {
-    if first < end {
-        let range = PageRange {
-            first,
-            pages: end - first,
-        };
-        push_joined(runs, Run { range, ..*run })?;
+    if first == end {
+        return Ok(());
     }
-    Ok(())
+    let range = PageRange {
+        first,
+        pages: end - first,
+    };
+    runs.push_joined(Run { range, ..*run })
 }
 
-/// The runs in which the pages of a range have a type and an owner.
-pub(crate) fn retyped_runs<A: Allocator>(
-    alloc: A,
+/// Puts into an empty list the runs in which the pages of a range have a type and an owner.
+pub(crate) fn push_retyped<L: RunList>(
+    parts: &mut L,
     runs: &[Run],
     range: PageRange,
     mtype: MemoryType,
     owner: Owner,
-) -> Result<Vec<Run, A>, AllocError>
+) -> Result<(), L::Full>
+    requires empty { L.items parts.old ≡ [] }
     requires runs { AreRuns runs.now }
     requires ends { EndBy page_count runs.now }
     requires within { range.first + range.pages ≤ page_count }
-    ensures pages { IfOk result (λ v. pages_of v.items ≡ retyped range mtype owner (pages_of runs.now)) }
-    ensures order { IfOk result (λ v. AreMaximalRuns v.items) }
+    ensures pages { OnOk result (pages_of (L.items parts.new) ≡ retyped range mtype owner (pages_of runs.now)) }
+    ensures order { OnOk result (AreMaximalRuns (L.items parts.new)) }
 {
-    let mut parts = Vec::new(alloc);
     for run in runs {
         let first = run.range.first;
         let end = first + run.range.pages;
@@ -86,9 +131,9 @@ pub(crate) fn retyped_runs<A: Allocator>(
             attributes: mtype.attributes_as(run.attributes),
             owner,
         };
-        push_part(&mut parts, run, first, low)?;
-        push_part(&mut parts, &changed, low, high)?;
-        push_part(&mut parts, run, high, end)?;
+        push_part(parts, run, first, low)?;
+        push_part(parts, &changed, low, high)?;
+        push_part(parts, run, high, end)?;
     }
-    Ok(parts)
+    Ok(())
 }

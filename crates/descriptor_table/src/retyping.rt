@@ -9,17 +9,21 @@ ghost use Rattle.descriptor_table.specs.Leaves.{leaf_at, runs_in, AreLeaves, Are
 ghost use Rattle.descriptor_table.specs.Tables.{EndBy, IsWindow};
 
 use crate::beginnings::{begun_in, runs_before};
-use crate::cuts::retyped_runs;
+use crate::cuts::push_retyped;
 use crate::entries::count_entries;
 use crate::leaf_searches::{count_leaves_below, count_leaves_by};
 use crate::leaves::{LEAF_SIZE, Leaf, leaves_of, runs_of_leaves, sizes_of};
 use crate::searches::{count_beginning_by, count_ending_below};
 use crate::tallies::Tally;
+use arrayvec::ArrayVec;
 use page_ranges::{MemoryType, Owner, PageRange, Run};
 use std::alloc::{AllocError, Allocator};
 
-/// Neighbours with so many runs between them, or fewer, are joined when one of them changes.
+/// Neighbours that have this many runs together, or fewer, are joined when one of them changes.
 const JOINED_SIZE: usize = 24;
+
+/// At most this many runs come into a leaf in the place of others; more come in new leaves.
+const MOST_PARTS: usize = 8;
 
 /// The indices between which runs share a page with a range or touch it.
 fn window_of(runs: &[Run], range: PageRange) -> (usize, usize)
@@ -67,9 +71,9 @@ fn leaves_near<A: Allocator + Copy>(leaves: &[Leaf<A>], range: PageRange) -> (us
     with_neighbour(leaves, range, below.saturating_sub(1), high)
 }
 
-/// Puts runs in the place of some of those in leaves next to each other, which are `runs`,
-/// in new leaves. The map of the runs that go has so many entries, and that of those that come. On an
-/// `Err` the leaves are as they were.
+/// Puts parts in the place of a window of `runs`, which are the runs of leaves next to each other, and
+/// all of them in new leaves. `entries` are how many entries the map of the window has, and that of the
+/// parts. On an `Err` the leaves are as they were.
 fn put_in_new_leaves<A: Allocator + Copy>(
     leaves: &mut Vec<Leaf<A>, A>,
     begun: &mut Tally<A>,
@@ -115,8 +119,8 @@ fn put_in_new_leaves<A: Allocator + Copy>(
     Ok(())
 }
 
-/// Puts runs in the place of some of those of a leaf, which they fit. The map of the runs that go has
-/// so many entries, and that of those that come.
+/// Puts parts in the place of a window of a leaf's runs, which has room for them. `entries` are how many
+/// entries the map of the window has, and that of the parts.
 fn put_in_leaf<A: Allocator + Copy>(
     leaves: &mut Vec<Leaf<A>, A>,
     begun: &mut Tally<A>,
@@ -150,8 +154,8 @@ fn put_in_leaf<A: Allocator + Copy>(
 }
 
 /// Gives the pages of a range a type and an owner within the leaf that has all runs near it, and
-/// answers how many entries the map then has; `None`, and nothing changes, where the leaf can't hold
-/// what comes.
+/// returns how many entries the map then has; `None`, and nothing changes, where the leaf has no room
+/// for the runs that come. It takes no memory.
 fn retype_in_leaf<A: Allocator + Copy>(
     leaves: &mut Vec<Leaf<A>, A>,
     begun: &mut Tally<A>,
@@ -161,26 +165,27 @@ fn retype_in_leaf<A: Allocator + Copy>(
     range: PageRange,
     mtype: MemoryType,
     owner: Owner,
-) -> Result<Option<usize>, AllocError>
+) -> Option<usize>
     requires table { IsLeafTable leaves.old.items entries begun.old sizes.old }
     requires near { AreLeavesNear leaves.old.items range index (index + 1) }
     requires some { 0 < range.pages }
     requires present { AllInRange (pages_of (runs_in leaves.old.items)) range IsPresent }
     requires owner { mtype ≡ conventional → owner ≡ Given }
-    ensures table { IfOk result (λ o. IfSome o (λ n. IsLeafTable leaves.new.items n begun.new sizes.new)) }
-    ensures pages { IfOk result (λ o. OnSome o (pages_of (runs_in leaves.new.items) ≡ retyped range mtype owner (pages_of (runs_in leaves.old.items)))) }
-    ensures none { IfOk result (λ o. IfNone o ((leaves.new.items ≡ leaves.old.items) × (begun.new ≡ begun.old) × (sizes.new ≡ sizes.old))) }
-    ensures err { OnErr result ((leaves.new.items ≡ leaves.old.items) × (begun.new ≡ begun.old) × (sizes.new ≡ sizes.old)) }
+    ensures table { IfSome result (λ n. IsLeafTable leaves.new.items n begun.new sizes.new) }
+    ensures pages { OnSome result (pages_of (runs_in leaves.new.items) ≡ retyped range mtype owner (pages_of (runs_in leaves.old.items))) }
+    ensures none { IfNone result ((leaves.new.items ≡ leaves.old.items) × (begun.new ≡ begun.old) × (sizes.new ≡ sizes.old)) }
 {
-    let alloc = *leaves.allocator();
     let runs = leaves[index].runs();
     let window = window_of(runs, range);
     let room = LEAF_SIZE + (window.1 - window.0) - runs.len();
     let gone = &runs[window.0..window.1];
     let old_entries = count_entries(gone);
-    let parts = retyped_runs(alloc, gone, range, mtype, owner)?;
+    let mut parts = ArrayVec::<Run, MOST_PARTS>::new();
+    let Ok(()) = push_retyped(&mut parts, gone, range, mtype, owner) else {
+        return None;
+    };
     if parts.is_empty() || parts.len() > room {
-        return Ok(None);
+        return None;
     }
     let new_entries = count_entries(parts.as_slice());
     put_in_leaf(
@@ -192,11 +197,11 @@ fn retype_in_leaf<A: Allocator + Copy>(
         parts.as_slice(),
         (old_entries, new_entries),
     );
-    Ok(Some(entries + new_entries - old_entries))
+    Some(entries + new_entries - old_entries)
 }
 
 /// Gives the pages of a range a type and an owner by new leaves in the place of those that have all
-/// runs near it, and answers how many entries the map then has. All room is taken before the leaves
+/// runs near it, and returns how many entries the map then has. All memory is taken before the leaves
 /// change.
 fn retype_in_new_leaves<A: Allocator + Copy>(
     leaves: &mut Vec<Leaf<A>, A>,
@@ -222,7 +227,8 @@ fn retype_in_new_leaves<A: Allocator + Copy>(
     let window = window_of(runs.as_slice(), range);
     let old = &runs[window.0..window.1];
     let old_entries = count_entries(old);
-    let parts = retyped_runs(alloc, old, range, mtype, owner)?;
+    let mut parts = Vec::new(alloc);
+    push_retyped(&mut parts, old, range, mtype, owner)?;
     let new_entries = count_entries(parts.as_slice());
     put_in_new_leaves(
         leaves,
@@ -237,8 +243,8 @@ fn retype_in_new_leaves<A: Allocator + Copy>(
     Ok(entries + new_entries - old_entries)
 }
 
-/// Gives the pages of a range a type and an owner, and answers how many entries the map then has: in
-/// the leaf of the range where it can hold what comes, and else in new leaves.
+/// Gives the pages of a range a type and an owner, and returns how many entries the map then has: in
+/// the leaf of the range where that has room, and else in new leaves.
 pub(crate) fn retype_runs<A: Allocator + Copy>(
     leaves: &mut Vec<Leaf<A>, A>,
     begun: &mut Tally<A>,
@@ -258,7 +264,7 @@ pub(crate) fn retype_runs<A: Allocator + Copy>(
 {
     let near = leaves_near(leaves.as_slice(), range);
     if near.1 - near.0 == 1 {
-        let changed = retype_in_leaf(leaves, begun, sizes, entries, near.0, range, mtype, owner)?;
+        let changed = retype_in_leaf(leaves, begun, sizes, entries, near.0, range, mtype, owner);
         if let Some(entries) = changed {
             return Ok(entries);
         }

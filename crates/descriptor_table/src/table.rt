@@ -10,7 +10,7 @@ ghost use Rattle.descriptor_table.specs.Tables.{HoldsPage};
 
 use crate::beginnings::begun_in;
 use crate::cursors::RunCursor;
-use crate::cuts::push_joined;
+use crate::cuts::RunList;
 use crate::entries::{MapEntries, count_entries};
 use crate::free_entries::FreeEntries;
 use crate::leaf_searches::{all_in_range, run_at_index, run_in_leaves};
@@ -22,8 +22,8 @@ use page_ranges::{Descriptor, MemoryType, Owner, PageRange, Run};
 use std::alloc::{AllocError, Allocator, Global};
 use std::marker::Model;
 
-/// The memory of a machine: its maximal runs of equal type, attributes and owner, by ascending page, in
-/// leaves.
+/// The memory of a machine: its maximal runs of equal type, attributes and owner, by ascending page,
+/// in leaves.
 #[derive(Drop)]
 pub struct RunTable<A: Allocator = Global> {
     leaves: Vec<Leaf<A>, A>,
@@ -56,7 +56,7 @@ impl<A: Allocator + Copy> RunTable<A> {
     {
         let mut joined = Vec::new(alloc);
         for run in runs {
-            push_joined(&mut joined, *run)?;
+            joined.push_joined(*run)?;
         }
         let entries = count_entries(joined.as_slice());
         let leaves = leaves_of(alloc, joined.as_slice())?;

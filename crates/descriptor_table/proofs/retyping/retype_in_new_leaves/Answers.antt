@@ -12,8 +12,8 @@ use Rattle.descriptor_table.proofs.retyping.retype_in_new_leaves.Goals as goal
 pub window_of-window-requires-clause-within : goal.window_of-window-requires-clause-within
 window_of-window-requires-clause-within g c = present_within _ c.args.range c.requires.table.table.proper c.requires.some c.requires.present
 
-pub retyped_runs-requires-clause-within : goal.retyped_runs-requires-clause-within
-retyped_runs-requires-clause-within g c = present_within _ c.args.range c.requires.table.table.proper c.requires.some c.requires.present
+pub push_retyped-requires-clause-within : goal.push_retyped-requires-clause-within
+push_retyped-requires-clause-within g c = present_within _ c.args.range c.requires.table.table.proper c.requires.some c.requires.present
 
 pub window_of-window-requires-clause-runs : goal.window_of-window-requires-clause-runs
 window_of-window-requires-clause-runs g c =
@@ -66,8 +66,8 @@ count_entries-old_entries-requires-clause-ends g c =
     let cut = cut_in_leaves ls from to range near rs same low high w in
     rw c.deref-2.ensures.value (old_ends (runs_in ls) n range t o table before old behind cut)
 
-pub retyped_runs-requires-clause-runs : goal.retyped_runs-requires-clause-runs
-retyped_runs-requires-clause-runs g c =
+pub push_retyped-requires-clause-runs : goal.push_retyped-requires-clause-runs
+push_retyped-requires-clause-runs g c =
     let ls = c.args.leaves.now.items in
     let n = c.args.entries in
     let range = c.args.range in
@@ -88,8 +88,8 @@ retyped_runs-requires-clause-runs g c =
     let cut = cut_in_leaves ls from to range near rs same low high w in
     rw c.deref-2.ensures.value (old_runs (runs_in ls) n range t o table before old behind cut)
 
-pub retyped_runs-requires-clause-ends : goal.retyped_runs-requires-clause-ends
-retyped_runs-requires-clause-ends g c =
+pub push_retyped-requires-clause-ends : goal.push_retyped-requires-clause-ends
+push_retyped-requires-clause-ends g c =
     let ls = c.args.leaves.now.items in
     let n = c.args.entries in
     let range = c.args.range in
@@ -111,7 +111,7 @@ retyped_runs-requires-clause-ends g c =
     rw c.deref-2.ensures.value (old_ends (runs_in ls) n range t o table before old behind cut)
 
 pub count_entries-new_entries-requires-clause-runs : goal.count_entries-new_entries-requires-clause-runs
-count_entries-new_entries-requires-clause-runs g c = rw c.as_slice-2.ensures.value (maximal_are_runs c.in_ok-parts.parts.items c.in_ok-parts.ensures.order)
+count_entries-new_entries-requires-clause-runs g c = rw c.as_slice-2.ensures.value (maximal_are_runs c.push_retyped.new.parts.items c.in_ok-push_retyped.ensures.order)
 
 pub count_entries-new_entries-requires-clause-ends : goal.count_entries-new_entries-requires-clause-ends
 count_entries-new_entries-requires-clause-ends g c =
@@ -133,9 +133,9 @@ count_entries-new_entries-requires-clause-ends g c =
     let old = take (high - low) (drop low rs) in
     let behind = all_behind ls from to range near rs same high in
     let cut = cut_in_leaves ls from to range near rs same low high w in
-    let parts = c.in_ok-parts.parts.items in
-    let order = c.in_ok-parts.ensures.order in
-    let pages = rw c.deref-2.ensures.value at c.in_ok-parts.ensures.pages in
+    let parts = c.push_retyped.new.parts.items in
+    let order = c.in_ok-push_retyped.ensures.order in
+    let pages = rw c.deref-2.ensures.value at c.in_ok-push_retyped.ensures.pages in
     rw c.as_slice-2.ensures.value (parts_ends (runs_in ls) n range t o table before old behind cut c.requires.some c.requires.present parts order pages c.requires.owner)
 
 pub overflow_sub-result : goal.overflow_sub-result
@@ -158,9 +158,9 @@ overflow_sub-result g c =
     let old = take (high - low) (drop low rs) in
     let behind = all_behind ls from to range near rs same high in
     let cut = cut_in_leaves ls from to range near rs same low high w in
-    let parts = c.in_ok-parts.parts.items in
-    let order = c.in_ok-parts.ensures.order in
-    let pages = rw c.deref-2.ensures.value at c.in_ok-parts.ensures.pages in
+    let parts = c.push_retyped.new.parts.items in
+    let order = c.in_ok-push_retyped.ensures.order in
+    let pages = rw c.deref-2.ensures.value at c.in_ok-push_retyped.ensures.pages in
     let old_count = rw c.deref-2.ensures.value at c.count_entries-old_entries.ensures.count in
     let parts_count = rw c.as_slice-2.ensures.value at c.count_entries-new_entries.ensures.count in
     let count = new_count (runs_in ls) n range t o table before old behind cut c.requires.some c.requires.present parts order pages in
@@ -186,9 +186,9 @@ overflow_add-result g c =
     let old = take (high - low) (drop low rs) in
     let behind = all_behind ls from to range near rs same high in
     let cut = cut_in_leaves ls from to range near rs same low high w in
-    let parts = c.in_ok-parts.parts.items in
-    let order = c.in_ok-parts.ensures.order in
-    let pages = rw c.deref-2.ensures.value at c.in_ok-parts.ensures.pages in
+    let parts = c.push_retyped.new.parts.items in
+    let order = c.in_ok-push_retyped.ensures.order in
+    let pages = rw c.deref-2.ensures.value at c.in_ok-push_retyped.ensures.pages in
     let old_count = rw c.deref-2.ensures.value at c.count_entries-old_entries.ensures.count in
     let parts_count = rw c.as_slice-2.ensures.value at c.count_entries-new_entries.ensures.count in
     let runs = table_runs (runs_in ls) n table in
@@ -216,9 +216,9 @@ returns-clause-table g c =
     let old = take (high - low) (drop low rs) in
     let behind = all_behind ls from to range near rs same high in
     let cut = cut_in_leaves ls from to range near rs same low high w in
-    let parts = c.in_ok-parts.parts.items in
-    let order = c.in_ok-parts.ensures.order in
-    let pages = rw c.deref-2.ensures.value at c.in_ok-parts.ensures.pages in
+    let parts = c.push_retyped.new.parts.items in
+    let order = c.in_ok-push_retyped.ensures.order in
+    let pages = rw c.deref-2.ensures.value at c.in_ok-push_retyped.ensures.pages in
     let old_count = rw c.deref-2.ensures.value at c.count_entries-old_entries.ensures.count in
     let parts_count = rw c.as_slice-2.ensures.value at c.count_entries-new_entries.ensures.count in
     let all = put_regroup ls from to range near rs same low high parts c.put_in_new_leaves.new.leaves.items c.in_ok-put_in_new_leaves.ensures.runs in
@@ -249,9 +249,9 @@ returns-clause-pages g c =
     let old = take (high - low) (drop low rs) in
     let behind = all_behind ls from to range near rs same high in
     let cut = cut_in_leaves ls from to range near rs same low high w in
-    let parts = c.in_ok-parts.parts.items in
-    let order = c.in_ok-parts.ensures.order in
-    let pages = rw c.deref-2.ensures.value at c.in_ok-parts.ensures.pages in
+    let parts = c.push_retyped.new.parts.items in
+    let order = c.in_ok-push_retyped.ensures.order in
+    let pages = rw c.deref-2.ensures.value at c.in_ok-push_retyped.ensures.pages in
     let old_count = rw c.deref-2.ensures.value at c.count_entries-old_entries.ensures.count in
     let parts_count = rw c.as_slice-2.ensures.value at c.count_entries-new_entries.ensures.count in
     let all = put_regroup ls from to range near rs same low high parts c.put_in_new_leaves.new.leaves.items c.in_ok-put_in_new_leaves.ensures.runs in
@@ -280,9 +280,9 @@ put_in_new_leaves-requires-clause-grows g c =
     let old = take (high - low) (drop low rs) in
     let behind = all_behind ls from to range near rs same high in
     let cut = cut_in_leaves ls from to range near rs same low high w in
-    let parts = c.in_ok-parts.parts.items in
-    let order = c.in_ok-parts.ensures.order in
-    let pages = rw c.deref-2.ensures.value at c.in_ok-parts.ensures.pages in
+    let parts = c.push_retyped.new.parts.items in
+    let order = c.in_ok-push_retyped.ensures.order in
+    let pages = rw c.deref-2.ensures.value at c.in_ok-push_retyped.ensures.pages in
     let old_count = rw c.deref-2.ensures.value at c.count_entries-old_entries.ensures.count in
     let parts_count = rw c.as_slice-2.ensures.value at c.count_entries-new_entries.ensures.count in
     let grows = window_grows (runs_in ls) n range t o table before old behind cut c.requires.some c.requires.present parts order pages in
@@ -308,9 +308,9 @@ put_in_new_leaves-requires-clause-order g c =
     let old = take (high - low) (drop low rs) in
     let behind = all_behind ls from to range near rs same high in
     let cut = cut_in_leaves ls from to range near rs same low high w in
-    let parts = c.in_ok-parts.parts.items in
-    let order = c.in_ok-parts.ensures.order in
-    let pages = rw c.deref-2.ensures.value at c.in_ok-parts.ensures.pages in
+    let parts = c.push_retyped.new.parts.items in
+    let order = c.in_ok-push_retyped.ensures.order in
+    let pages = rw c.deref-2.ensures.value at c.in_ok-push_retyped.ensures.pages in
     let old_count = rw c.deref-2.ensures.value at c.count_entries-old_entries.ensures.count in
     let parts_count = rw c.as_slice-2.ensures.value at c.count_entries-new_entries.ensures.count in
     subst AreRuns (sym (put_is ls from to range near rs same low high parts)) (new_runs (runs_in ls) n range t o table before old behind cut c.requires.some c.requires.present parts order pages)
@@ -335,9 +335,9 @@ put_in_new_leaves-requires-clause-ends g c =
     let old = take (high - low) (drop low rs) in
     let behind = all_behind ls from to range near rs same high in
     let cut = cut_in_leaves ls from to range near rs same low high w in
-    let parts = c.in_ok-parts.parts.items in
-    let order = c.in_ok-parts.ensures.order in
-    let pages = rw c.deref-2.ensures.value at c.in_ok-parts.ensures.pages in
+    let parts = c.push_retyped.new.parts.items in
+    let order = c.in_ok-push_retyped.ensures.order in
+    let pages = rw c.deref-2.ensures.value at c.in_ok-push_retyped.ensures.pages in
     let old_count = rw c.deref-2.ensures.value at c.count_entries-old_entries.ensures.count in
     let parts_count = rw c.as_slice-2.ensures.value at c.count_entries-new_entries.ensures.count in
     subst (EndBy page_count) (sym (put_is ls from to range near rs same low high parts)) (new_ends (runs_in ls) n range t o table before old behind cut c.requires.some c.requires.present parts order pages c.requires.owner)
@@ -362,9 +362,9 @@ put_in_new_leaves-requires-clause-few g c =
     let old = take (high - low) (drop low rs) in
     let behind = all_behind ls from to range near rs same high in
     let cut = cut_in_leaves ls from to range near rs same low high w in
-    let parts = c.in_ok-parts.parts.items in
-    let order = c.in_ok-parts.ensures.order in
-    let pages = rw c.deref-2.ensures.value at c.in_ok-parts.ensures.pages in
+    let parts = c.push_retyped.new.parts.items in
+    let order = c.in_ok-push_retyped.ensures.order in
+    let pages = rw c.deref-2.ensures.value at c.in_ok-push_retyped.ensures.pages in
     let old_count = rw c.deref-2.ensures.value at c.count_entries-old_entries.ensures.count in
     let parts_count = rw c.as_slice-2.ensures.value at c.count_entries-new_entries.ensures.count in
     omega (arith, parts_count, few_entries parts (maximal_are_runs parts order) (parts_ends (runs_in ls) n range t o table before old behind cut c.requires.some c.requires.present parts order pages c.requires.owner))

@@ -3,12 +3,12 @@ use Rattle.page_ranges.specs.declared.ranges.Run.{Run}
 use Rattle.page_ranges.specs.Memory.{retyped}
 use Rattle.page_ranges.specs.Runs.{pages_of, AreMaximalRuns}
 use Rattle.descriptor_table.specs.Tables.{AreMaximalUpTo}
-use Rattle.descriptor_table.proofs.cuts.retyped_runs.Given as goal
+use Rattle.descriptor_table.proofs.cuts.push_retyped.Given as goal
 
 -- the runs so far, retyped, and what is to come begins where they end or above
 abbrev pub invariant-loop-run : goal.invariant-loop-run
 invariant-loop-run g l = record {
-  pages : pages_of l.parts.items ≡ retyped l.range l.mtype l.owner (pages_of (take l.run-index l.runs));
-  order : AreMaximalRuns l.parts.items;
-  next : (r : Run) → l.run-index < length l.runs → r ≡ get_or l.runs l.run-index r → AreMaximalUpTo r.range.first l.parts.items;
+  pages : pages_of (g.L.RunList.items l.parts) ≡ retyped l.range l.mtype l.owner (pages_of (take l.run-index l.runs));
+  order : AreMaximalRuns (g.L.RunList.items l.parts);
+  next : (r : Run) → l.run-index < length l.runs → r ≡ get_or l.runs l.run-index r → AreMaximalUpTo r.range.first (g.L.RunList.items l.parts);
 }

@@ -4,11 +4,12 @@ use Rattle.page_ranges.specs.Memory.{row, retyped}
 use Rattle.page_ranges.specs.Runs.{page_in, pages_of}
 use Rattle.page_ranges.proofs.RunLists.{retyped_run}
 use Rattle.descriptor_table.proofs.CutRuns.{three_parts, one_more, put_behind, up_to_next}
-use Rattle.descriptor_table.proofs.cuts.retyped_runs.Goals as goal
+use Rattle.descriptor_table.proofs.cuts.push_retyped.Goals as goal
 
 pub loop-run-preserved : goal.loop-run-preserved
 loop-run-preserved g c =
     let i = c.loop-run.invariant in
+    let items = g.L.RunList.items in
     let r = c.run-item.result in
     let end = r.range.first + r.range.pages in
     let low = c.clamp-low.result in
@@ -19,12 +20,12 @@ loop-run-preserved g c =
     let d = row (end - high) (page_in high r) in
     let same = ap (λ n. row (high - low) (record { number = low; mtype = c.args.mtype; attributes = n; owner = c.args.owner })) c.attributes_as.ensures in
     let parts = three_parts c.args.range c.args.mtype c.args.owner r low high (omega arith) (omega arith) (omega arith) (λ h. omega arith) (λ h. (omega arith, omega arith)) (λ h. omega arith) in
-    let put = put_behind (pages_of c.loop-run.parts.items) (pages_of c.push_part.new.runs.items) (pages_of c.push_part-in-loop-run.new.runs.items) (pages_of c.push_part-in-loop-run-2.new.runs.items) a b b' d
+    let put = put_behind (pages_of (items c.loop-run.parts)) (pages_of (items c.push_part.new.runs)) (pages_of (items c.push_part-in-loop-run.new.runs)) (pages_of (items c.push_part-in-loop-run-2.new.runs)) a b b' d
     c.in_ok-push_part.ensures.pages c.in_ok-push_part-2.ensures.pages same c.in_ok-push_part-3.ensures.pages in
     record {
-      pages = put ∙ one_more c.args.range c.args.mtype c.args.owner c.args.runs.now c.loop-run.run-index r (omega arith) c.run-item.is (pages_of c.loop-run.parts.items) a b d i.pages parts;
+      pages = put ∙ one_more c.args.range c.args.mtype c.args.owner c.args.runs.now c.loop-run.run-index r (omega arith) c.run-item.is (pages_of (items c.loop-run.parts)) a b d i.pages parts;
       order = c.in_ok-push_part-3.ensures.order.0;
-      next = λ s h e. up_to_next c.args.runs.now c.push_part-in-loop-run-2.new.runs.items c.loop-run.run-index r s c.requires.runs c.run-item.is h e c.in_ok-push_part-3.ensures.order;
+      next = λ s h e. up_to_next c.args.runs.now (items c.push_part-in-loop-run-2.new.runs) c.loop-run.run-index r s c.requires.runs c.run-item.is h e c.in_ok-push_part-3.ensures.order;
     }
 
 pub push_part-requires-clause-order : goal.push_part-requires-clause-order
