@@ -1,0 +1,271 @@
+/* The console's text: on a terminal with colours and the cursor, else as plain text, in which a
+ * position to the right becomes blanks and any other a new line. */
+#include "host.h"
+
+#include <string.h>
+#include <unistd.h>
+
+#define COLUMNS 80
+#define ROWS 25
+
+static const EFI_GUID text_out_guid = {
+    0x387477c2, 0x69c7, 0x11d2, {0x8e, 0x39, 0x00, 0xa0, 0xc9, 0x69, 0x72, 0x3b}};
+static const EFI_GUID text_in_guid = {
+    0x387477c1, 0x69c7, 0x11d2, {0x8e, 0x39, 0x00, 0xa0, 0xc9, 0x69, 0x72, 0x3b}};
+static const EFI_GUID text_in_ex_guid = {
+    0xdd9e7534, 0x7762, 0x4698, {0x8c, 0x14, 0xf5, 0x85, 0x17, 0xa6, 0x25, 0xaa}};
+
+static EFI_SIMPLE_TEXT_OUTPUT_MODE mode = {1, 0, 7, 0, 0, 1};
+static int row_of_text; /* the row in which plain text is */
+
+bool terminal_out(void)
+{
+    return !host.options.plain && isatty(STDOUT_FILENO);
+}
+
+static void put(const char *text, size_t length)
+{
+    if (!host.options.quiet)
+        fwrite(text, 1, length, stdout);
+}
+
+static void put_text(const char *text)
+{
+    put(text, strlen(text));
+}
+
+static EFI_STATUS EFIAPI reset_out(EFI_SIMPLE_TEXT_OUTPUT_PROTOCOL *this, BOOLEAN extended)
+{
+    (void)extended;
+    return this->ClearScreen(this);
+}
+
+static void new_row(void)
+{
+    mode.CursorRow += mode.CursorRow < ROWS - 1;
+    row_of_text = mode.CursorRow;
+}
+
+/* Puts a letter and moves the cursor; behind the last column the next row begins, which a terminal
+ * does by itself only where it is as wide. */
+static void put_letter(CHAR16 letter, CHAR16 next)
+{
+    char bytes[4];
+
+    if (letter == '\r') {
+        mode.CursorColumn = 0;
+        if (terminal_out())
+            put_text("\r");
+    } else if (letter == '\n') {
+        put_text("\n");
+        new_row();
+    } else if (letter == 8) {
+        mode.CursorColumn -= mode.CursorColumn > 0;
+        put_text("\b");
+    } else if (letter >= 32) {
+        put(bytes, utf8_of(letter, bytes));
+        if (++mode.CursorColumn == COLUMNS) {
+            mode.CursorColumn = 0;
+            new_row();
+            if (next != '\r' && next != '\n')
+                put_text(terminal_out() ? "\r\n" : "\n");
+        }
+    }
+}
+
+static EFI_STATUS EFIAPI output_string(EFI_SIMPLE_TEXT_OUTPUT_PROTOCOL *this, const CHAR16 *text)
+{
+    (void)this;
+    if (text == NULL)
+        return EFI_INVALID_PARAMETER;
+    for (; *text != 0; text++)
+        put_letter(text[0], text[1]);
+    if (terminal_out())
+        fflush(stdout);
+    return EFI_SUCCESS;
+}
+
+static EFI_STATUS EFIAPI test_string(EFI_SIMPLE_TEXT_OUTPUT_PROTOCOL *this, const CHAR16 *text)
+{
+    (void)this;
+    (void)text;
+    return EFI_SUCCESS;
+}
+
+static EFI_STATUS EFIAPI query_mode(EFI_SIMPLE_TEXT_OUTPUT_PROTOCOL *this, UINTN number,
+                                    UINTN *columns, UINTN *rows)
+{
+    (void)this;
+    if (number != 0)
+        return EFI_UNSUPPORTED;
+    *columns = COLUMNS;
+    *rows = ROWS;
+    return EFI_SUCCESS;
+}
+
+static EFI_STATUS EFIAPI set_mode(EFI_SIMPLE_TEXT_OUTPUT_PROTOCOL *this, UINTN number)
+{
+    return number != 0 ? EFI_UNSUPPORTED : this->ClearScreen(this);
+}
+
+/* The standard's colours are numbered blue first, a terminal's red first. */
+static EFI_STATUS EFIAPI set_attribute(EFI_SIMPLE_TEXT_OUTPUT_PROTOCOL *this, UINTN attribute)
+{
+    static const int colours[] = {0, 4, 2, 6, 1, 5, 3, 7};
+    char text[32];
+
+    (void)this;
+    if (attribute > 0x7f)
+        return EFI_UNSUPPORTED;
+    mode.Attribute = (int32_t)attribute;
+    if (terminal_out()) {
+        snprintf(text, sizeof text, "\033[%d;%d;%dm", (attribute & 8) != 0 ? 1 : 22,
+                 30 + colours[attribute & 7], 40 + colours[attribute >> 4 & 7]);
+        put_text(text);
+    }
+    return EFI_SUCCESS;
+}
+
+static EFI_STATUS EFIAPI clear_screen(EFI_SIMPLE_TEXT_OUTPUT_PROTOCOL *this)
+{
+    (void)this;
+    if (terminal_out())
+        put_text("\033[2J\033[H");
+    else if (mode.CursorColumn != 0)
+        put_text("\n");
+    mode.CursorColumn = mode.CursorRow = row_of_text = 0;
+    return EFI_SUCCESS;
+}
+
+static EFI_STATUS EFIAPI set_cursor(EFI_SIMPLE_TEXT_OUTPUT_PROTOCOL *this, UINTN column, UINTN row)
+{
+    char text[32];
+
+    (void)this;
+    if (column >= COLUMNS || row >= ROWS)
+        return EFI_UNSUPPORTED;
+    if (terminal_out()) {
+        snprintf(text, sizeof text, "\033[%u;%uH", (unsigned)row + 1, (unsigned)column + 1);
+        put_text(text);
+    } else {
+        if ((int)row != row_of_text || (int)column < mode.CursorColumn) {
+            put_text("\n");
+            mode.CursorColumn = 0;
+        }
+        for (int i = mode.CursorColumn; i < (int)column; i++)
+            put_text(" ");
+    }
+    mode.CursorColumn = (int32_t)column;
+    mode.CursorRow = row_of_text = (int)row;
+    return EFI_SUCCESS;
+}
+
+static EFI_STATUS EFIAPI enable_cursor(EFI_SIMPLE_TEXT_OUTPUT_PROTOCOL *this, BOOLEAN visible)
+{
+    (void)this;
+    mode.CursorVisible = visible;
+    if (terminal_out())
+        put_text(visible ? "\033[?25h" : "\033[?25l");
+    return EFI_SUCCESS;
+}
+
+static EFI_SIMPLE_TEXT_OUTPUT_PROTOCOL text_out = {
+    reset_out,     output_string, test_string, query_mode,    set_mode,
+    set_attribute, clear_screen,  set_cursor,  enable_cursor, &mode};
+
+/* ---- Keys as the protocols have them ---- */
+
+static EFI_STATUS EFIAPI reset_in(EFI_SIMPLE_TEXT_INPUT_PROTOCOL *this, BOOLEAN extended)
+{
+    (void)this;
+    (void)extended;
+    return EFI_SUCCESS;
+}
+
+/* An image that asks again and again, without waiting, is kept from burning a processor. */
+static EFI_STATUS read_any_key(EFI_INPUT_KEY *key)
+{
+    static unsigned in_vain;
+
+    dispatch();
+    if (next_key(key)) {
+        in_vain = 0;
+        return EFI_SUCCESS;
+    }
+    if (++in_vain > 50)
+        idle(true);
+    return EFI_NOT_READY;
+}
+
+static EFI_STATUS EFIAPI read_key(EFI_SIMPLE_TEXT_INPUT_PROTOCOL *this, EFI_INPUT_KEY *key)
+{
+    SERVICE("ReadKeyStroke", NUMBER(this), NUMBER(key));
+
+    ANSWER(key == NULL ? EFI_INVALID_PARAMETER : read_any_key(key));
+}
+
+static EFI_SIMPLE_TEXT_INPUT_PROTOCOL text_in = {reset_in, read_key, NULL};
+
+static EFI_STATUS EFIAPI reset_in_ex(EFI_SIMPLE_TEXT_INPUT_EX_PROTOCOL *this, BOOLEAN extended)
+{
+    (void)this;
+    (void)extended;
+    return EFI_SUCCESS;
+}
+
+static EFI_STATUS EFIAPI read_key_ex(EFI_SIMPLE_TEXT_INPUT_EX_PROTOCOL *this, EFI_KEY_DATA *key)
+{
+    SERVICE("ReadKeyStrokeEx", NUMBER(this), NUMBER(key));
+
+    if (key == NULL)
+        ANSWER(EFI_INVALID_PARAMETER);
+    memset(key, 0, sizeof *key);
+    ANSWER(read_any_key(&key->Key));
+}
+
+static EFI_STATUS EFIAPI set_state(EFI_SIMPLE_TEXT_INPUT_EX_PROTOCOL *this, uint8_t *state)
+{
+    (void)this;
+    (void)state;
+    return EFI_SUCCESS;
+}
+
+/* Notes that it was asked for: no key is notified. */
+static EFI_STATUS EFIAPI register_key(EFI_SIMPLE_TEXT_INPUT_EX_PROTOCOL *this, EFI_KEY_DATA *key,
+                                      EFI_KEY_NOTIFY_FUNCTION notify, void **handle)
+{
+    static uint64_t registered;
+
+    (void)this;
+    if (key == NULL || notify == NULL || handle == NULL)
+        return EFI_INVALID_PARAMETER;
+    *handle = POINTER(++registered);
+    return EFI_SUCCESS;
+}
+
+static EFI_STATUS EFIAPI unregister_key(EFI_SIMPLE_TEXT_INPUT_EX_PROTOCOL *this, void *handle)
+{
+    (void)this;
+    return handle == NULL ? EFI_INVALID_PARAMETER : EFI_SUCCESS;
+}
+
+static EFI_SIMPLE_TEXT_INPUT_EX_PROTOCOL text_in_ex = {
+    reset_in_ex, read_key_ex, NULL, set_state, register_key, unregister_key};
+
+static const uint8_t console_path[] = {2,    1, 12, 0, 0xd0, 0x41, 3, 5,
+                                       0,    0, 0,  0, 0x7f, 0xff, 4, 0};
+
+void make_console(void)
+{
+    uint64_t in = 0, out = 0;
+
+    text_in.WaitForKey = text_in_ex.WaitForKeyEx = make_key_event();
+    install_one(&in, &text_in_guid, 0, NUMBER(&text_in));
+    install_one(&in, &text_in_ex_guid, 0, NUMBER(&text_in_ex));
+    install_one(&in, &device_path_guid, 0, NUMBER(console_path));
+    install_one(&out, &text_out_guid, 0, NUMBER(&text_out));
+    host.table->ConsoleInHandle = HANDLE(in);
+    host.table->ConIn = &text_in;
+    host.table->ConsoleOutHandle = host.table->StandardErrorHandle = HANDLE(out);
+    host.table->ConOut = host.table->StdErr = &text_out;
+}

@@ -1,0 +1,228 @@
+/* The protocol services of the library, each with its line of the trace and its reply. What an
+ * installation signals is signalled here. */
+#include "host.h"
+
+#include <string.h>
+
+#define MOST_EVENTS 1024
+
+static uint64_t events[MOST_EVENTS];
+
+struct rafkudin_guid core_guid(const void *guid)
+{
+    struct rafkudin_guid copy = {{0}};
+
+    if (guid != NULL)
+        memcpy(copy.bytes, guid, sizeof copy.bytes);
+    return copy;
+}
+
+/* The events of the last call, and their numbers as a text. */
+static size_t take_events(uint64_t status, char *text, size_t room)
+{
+    size_t count = status == 0 ? RafkudinEvents(host.core, events, MOST_EVENTS) : 0;
+    int used = snprintf(text, room, count == 0 ? "-" : "");
+
+    if (count > MOST_EVENTS)
+        count = MOST_EVENTS;
+    for (size_t i = 0; i < count && (size_t)used < room; i++)
+        used += snprintf(text + used, room - (size_t)used, i == 0 ? "%lu" : ",%lu", events[i]);
+    return count;
+}
+
+uint64_t core_install(uint64_t *handle, const void *guid, uint32_t kind, uint64_t value)
+{
+    struct rafkudin_guid copy = core_guid(guid);
+    uint64_t asked = *handle, status;
+    char text[8192];
+    size_t count;
+
+    status = RafkudinInstallProtocolInterface(host.core, handle, &copy, kind, value);
+    count = take_events(status, text, sizeof text);
+    trace_call("install %lu %s %u 0x%lx", asked, guid_text(guid), kind, value);
+    trace_reply("install", status, status == 0 ? "handle=%lu events=%s" : "", *handle, text);
+    signal_numbers(events, count);
+    return status;
+}
+
+uint64_t core_install_many(uint64_t *handle, const struct rafkudin_interface *list, size_t count)
+{
+    uint64_t asked = *handle, status;
+    char text[8192];
+    size_t signalled;
+    FILE *file;
+
+    status = RafkudinInstallMultipleProtocolInterfaces(host.core, handle, list, count);
+    signalled = take_events(status, text, sizeof text);
+    file = trace_part();
+    if (file != NULL)
+        fprintf(file, "install-many %lu", asked);
+    for (size_t i = 0; i < count && file != NULL; i++)
+        fprintf(file, " %s 0x%lx", guid_text(&list[i].guid), list[i].value);
+    trace_call("");
+    trace_reply("install-many", status, status == 0 ? "handle=%lu events=%s" : "", *handle, text);
+    signal_numbers(events, signalled);
+    return status;
+}
+
+uint64_t core_uninstall(uint64_t handle, const void *guid, uint64_t value)
+{
+    struct rafkudin_guid copy = core_guid(guid);
+    uint64_t status = RafkudinUninstallProtocolInterface(host.core, handle, &copy, value);
+
+    trace_call("uninstall %lu %s 0x%lx", handle, guid_text(guid), value);
+    trace_reply("uninstall", status, "");
+    return status;
+}
+
+uint64_t core_reinstall(uint64_t handle, const void *guid, uint64_t old, uint64_t value)
+{
+    struct rafkudin_guid copy = core_guid(guid);
+    uint64_t status = RafkudinReinstallProtocolInterface(host.core, handle, &copy, old, value);
+    char text[8192];
+    size_t count = take_events(status, text, sizeof text);
+
+    trace_call("reinstall %lu %s 0x%lx 0x%lx", handle, guid_text(guid), old, value);
+    trace_reply("reinstall", status, status == 0 ? "events=%s" : "", text);
+    signal_numbers(events, count);
+    return status;
+}
+
+uint64_t core_notify(const void *guid, uint64_t event, uint64_t *key)
+{
+    struct rafkudin_guid copy = core_guid(guid);
+    uint64_t status = RafkudinRegisterProtocolNotify(host.core, &copy, event, key);
+
+    trace_call("notify %s %lu", guid_text(guid), event);
+    trace_reply("notify", status, status == 0 ? "registration=%lu" : "", *key);
+    return status;
+}
+
+/* `size` is not null, and `handles` is so only beside a size of 0. */
+uint64_t core_locate(uint32_t search, const void *guid, uint64_t key, uint64_t *size,
+                     uint64_t *handles)
+{
+    struct rafkudin_guid copy = core_guid(guid);
+    uint64_t asked = *size, status;
+    FILE *file;
+
+    status = RafkudinLocateHandle(host.core, search, &copy, key, size, handles);
+    trace_call("locate %u %s %lu %lu", search, guid_text(guid), key, asked);
+    if (status != RAFKUDIN_SUCCESS) {
+        trace_reply("locate", status, status == RAFKUDIN_BUFFER_TOO_SMALL ? "size=%lu" : "",
+                    *size);
+        return status;
+    }
+    file = trace_more();
+    if (file == NULL)
+        return status;
+    trace_reply("locate", status, "size=%lu handles=", *size);
+    for (uint64_t i = 0; i < *size / 8; i++)
+        fprintf(file, i == 0 ? "%lu" : ",%lu", handles[i]);
+    fputc('\n', file);
+    return status;
+}
+
+uint64_t core_locate_buffer(uint32_t search, const void *guid, uint64_t key, uint64_t *count,
+                            uint64_t *address)
+{
+    struct rafkudin_guid copy = core_guid(guid);
+    uint64_t status =
+        RafkudinLocateHandleBuffer(host.core, search, &copy, key, count, address);
+
+    trace_call("locate-buffer %u %s %lu", search, guid_text(guid), key);
+    trace_reply("locate-buffer", status, status == 0 ? "count=%lu address=0x%lx" : "", *count,
+                *address);
+    check_certificate();
+    return status;
+}
+
+uint64_t core_locate_protocol(const void *guid, uint64_t key, uint64_t *value)
+{
+    struct rafkudin_guid copy = core_guid(guid);
+    uint64_t status = RafkudinLocateProtocol(host.core, &copy, key, value);
+
+    trace_call("locate-protocol %s %lu", guid_text(guid), key);
+    trace_reply("locate-protocol", status, status == 0 ? "interface=0x%lx" : "", *value);
+    return status;
+}
+
+/* On BUFFER_TOO_SMALL the trace has the call all the same, which then prints the GUIDs: so the
+ * caller's room is for all that a handle may have. */
+uint64_t core_protocols(uint64_t handle, struct rafkudin_guid *list, size_t room, uint64_t *count)
+{
+    uint64_t status = RafkudinProtocolsPerHandle(host.core, handle, list, room, count);
+    FILE *file;
+
+    trace_call("protocols %lu", handle);
+    if (status != RAFKUDIN_SUCCESS) {
+        trace_reply("protocols", status, "");
+        return status;
+    }
+    file = trace_more();
+    if (file == NULL)
+        return status;
+    trace_reply("protocols", status, "guids=");
+    for (uint64_t i = 0; i < *count; i++)
+        fprintf(file, i == 0 ? "%s" : ",%s", guid_text(&list[i]));
+    fputc('\n', file);
+    return status;
+}
+
+uint64_t core_open(uint64_t handle, const void *guid, uint64_t *value, uint64_t agent,
+                   uint64_t controller, uint32_t attributes)
+{
+    struct rafkudin_guid copy = core_guid(guid);
+    bool shows = attributes != RAFKUDIN_TEST_PROTOCOL;
+    uint64_t status =
+        RafkudinOpenProtocol(host.core, handle, &copy, value, agent, controller, attributes);
+
+    trace_call("open %lu %s %lu %lu 0x%x", handle, guid_text(guid), agent, controller,
+               attributes);
+    trace_reply("open", status, status == 0 && shows ? "interface=0x%lx" : "", *value);
+    return status;
+}
+
+uint64_t core_close(uint64_t handle, const void *guid, uint64_t agent, uint64_t controller)
+{
+    struct rafkudin_guid copy = core_guid(guid);
+    uint64_t status = RafkudinCloseProtocol(host.core, handle, &copy, agent, controller);
+
+    trace_call("close %lu %s %lu %lu", handle, guid_text(guid), agent, controller);
+    trace_reply("close", status, "");
+    return status;
+}
+
+uint64_t core_information(uint64_t handle, const void *guid, uint64_t *address, uint64_t *count)
+{
+    struct rafkudin_guid copy = core_guid(guid);
+    uint64_t status =
+        RafkudinOpenProtocolInformation(host.core, handle, &copy, address, count);
+
+    trace_call("information %lu %s", handle, guid_text(guid));
+    trace_reply("information", status, status == 0 ? "count=%lu address=0x%lx" : "", *count,
+                *address);
+    check_certificate();
+    return status;
+}
+
+uint64_t core_handle_protocol(uint64_t handle, const void *guid, uint64_t *value)
+{
+    struct rafkudin_guid copy = core_guid(guid);
+    uint64_t status = RafkudinHandleProtocol(host.core, handle, &copy, value);
+
+    trace_call("handle-protocol %lu %s", handle, guid_text(guid));
+    trace_reply("handle-protocol", status, status == 0 ? "interface=0x%lx" : "", *value);
+    return status;
+}
+
+uint64_t core_path(const void *guid, uint64_t *address, uint64_t *handle)
+{
+    struct rafkudin_guid copy = core_guid(guid);
+    uint64_t asked = *address;
+    uint64_t status = RafkudinLocateDevicePath(host.core, &copy, address, handle);
+
+    trace_call("path %s 0x%lx", guid_text(guid), asked);
+    trace_reply("path", status, status == 0 ? "handle=%lu address=0x%lx" : "", *handle, *address);
+    return status;
+}

@@ -1,0 +1,167 @@
+/* Disks: an image of the host's as a block device, a folder of the host's as a file system. */
+#include "host.h"
+
+#include <errno.h>
+#include <fcntl.h>
+#include <limits.h>
+#include <stdlib.h>
+#include <string.h>
+#include <sys/stat.h>
+#include <unistd.h>
+
+#define SECTOR 512U
+
+struct disk {
+    EFI_BLOCK_IO_PROTOCOL protocol;
+    EFI_BLOCK_IO_MEDIA media;
+    uint8_t path[32];
+    int file;
+};
+
+static struct {
+    char *path;
+    uint64_t handle;
+} folders[MOST_DISKS];
+static size_t folder_count;
+
+static EFI_STATUS EFIAPI reset_disk(EFI_BLOCK_IO_PROTOCOL *this, BOOLEAN extended)
+{
+    (void)this;
+    (void)extended;
+    return EFI_SUCCESS;
+}
+
+/* Whether a request fits a disk. */
+static EFI_STATUS judge(const struct disk *disk, uint32_t media, uint64_t block, UINTN size)
+{
+    if (media != disk->media.MediaId)
+        return EFI_MEDIA_CHANGED;
+    if (size % SECTOR != 0)
+        return EFI_BAD_BUFFER_SIZE;
+    if (block > disk->media.LastBlock || size / SECTOR > disk->media.LastBlock + 1 - block)
+        return EFI_INVALID_PARAMETER;
+    return EFI_SUCCESS;
+}
+
+static EFI_STATUS EFIAPI read_blocks(EFI_BLOCK_IO_PROTOCOL *this, uint32_t media, uint64_t block,
+                                     UINTN size, void *bytes)
+{
+    struct disk *disk = (struct disk *)this;
+    EFI_STATUS status = judge(disk, media, block, size);
+    char *to = bytes;
+
+    if (status != EFI_SUCCESS || size == 0)
+        return status;
+    if (bytes == NULL)
+        return EFI_INVALID_PARAMETER;
+    for (UINTN done = 0; done < size;) {
+        ssize_t count = pread(disk->file, to + done, size - done, (off_t)(block * SECTOR + done));
+
+        if (count <= 0)
+            return EFI_DEVICE_ERROR;
+        done += (UINTN)count;
+    }
+    return EFI_SUCCESS;
+}
+
+static EFI_STATUS EFIAPI write_blocks(EFI_BLOCK_IO_PROTOCOL *this, uint32_t media, uint64_t block,
+                                      UINTN size, const void *bytes)
+{
+    struct disk *disk = (struct disk *)this;
+    EFI_STATUS status = judge(disk, media, block, size);
+
+    if (status != EFI_SUCCESS)
+        return status;
+    if (disk->media.ReadOnly)
+        return EFI_WRITE_PROTECTED;
+    if (pwrite(disk->file, bytes, size, (off_t)(block * SECTOR)) != (ssize_t)size)
+        return EFI_DEVICE_ERROR;
+    return EFI_SUCCESS;
+}
+
+static EFI_STATUS EFIAPI flush_blocks(EFI_BLOCK_IO_PROTOCOL *this)
+{
+    return fsync(((struct disk *)this)->file) == 0 ? EFI_SUCCESS : EFI_DEVICE_ERROR;
+}
+
+static void make_disk(const char *name, uint64_t size, unsigned number)
+{
+    static const uint8_t path[] = {2, 1, 12, 0, 0xd0, 0x41, 3, 0x0a, 0,    0,    0, 0,
+                                   1, 5, 8,  0, 0,    0,    0, 0,    0x7f, 0xff, 4, 0};
+    struct disk *disk = must(calloc(1, sizeof *disk));
+    uint64_t handle = 0;
+
+    disk->file = open(name, O_RDWR | O_CLOEXEC);
+    disk->media.ReadOnly = disk->file < 0;
+    if (disk->file < 0)
+        disk->file = open(name, O_RDONLY | O_CLOEXEC);
+    if (disk->file < 0 || size < SECTOR)
+        refuse("cannot read disk %s", name);
+    disk->media.MediaId = 1;
+    disk->media.MediaPresent = true;
+    disk->media.BlockSize = SECTOR;
+    disk->media.LastBlock = size / SECTOR - 1;
+    disk->protocol = (EFI_BLOCK_IO_PROTOCOL){0x10000,     &disk->media, reset_disk,
+                                             read_blocks, write_blocks, flush_blocks};
+    memcpy(disk->path, path, sizeof path);
+    disk->path[16] = (uint8_t)number;
+    install_one(&handle, &block_io_guid, 0, NUMBER(&disk->protocol));
+    install_one(&handle, &device_path_guid, 0, NUMBER(disk->path));
+}
+
+void make_disks(void)
+{
+    for (size_t i = 0; i < host.options.disk_count; i++) {
+        const char *name = host.options.disks[i];
+        struct stat about;
+
+        if (stat(name, &about) != 0)
+            refuse("cannot read disk %s: %s", name, strerror(errno));
+        if (!S_ISDIR(about.st_mode)) {
+            make_disk(name, (uint64_t)about.st_size, (unsigned)i);
+            continue;
+        }
+        folders[folder_count].path = must(realpath(name, NULL));
+        folders[folder_count++].handle = make_folder(name, (unsigned)i);
+    }
+}
+
+/* The first file system that there is, of the host or of a driver. */
+static EFI_HANDLE first_file_system(void)
+{
+    static uint64_t handles[RAFKUDIN_MOST_HANDLES];
+    uint64_t size = sizeof handles;
+
+    if (core_locate(RAFKUDIN_BY_PROTOCOL, &file_system_guid, 0, &size, handles) != EFI_SUCCESS)
+        return NULL;
+    return HANDLE(handles[0]);
+}
+
+/* Where an application of the host's lies for itself: its path from the root of the folder that
+ * holds it, or its name alone on the first file system, or on no device. */
+const char *application_path(const char *file, EFI_HANDLE *device)
+{
+    static char path[PATH_MAX];
+    char *whole = realpath(file, NULL);
+    const char *rest = NULL;
+
+    *device = NULL;
+    for (size_t i = 0; whole != NULL && i < folder_count; i++) {
+        size_t length = strlen(folders[i].path);
+
+        if (strncmp(whole, folders[i].path, length) == 0 && whole[length] == '/') {
+            *device = HANDLE(folders[i].handle);
+            rest = whole + length;
+        }
+    }
+    if (rest == NULL) {
+        *device = first_file_system();
+        rest = strrchr(file, '/') == NULL ? file : strrchr(file, '/');
+    }
+    snprintf(path, sizeof path, "%s%s", *rest == '/' ? "" : "/", rest);
+    for (char *at = path; *at != 0; at++)
+        if (*at == '/')
+            *at = '\\';
+    free(whole);
+    return path;
+}

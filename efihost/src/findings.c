@@ -1,0 +1,230 @@
+/* What --check and --guard find: each is said once for each place, counted, and in the report. */
+#include "host.h"
+
+#include <stdarg.h>
+#include <stdlib.h>
+#include <string.h>
+
+struct one_finding {
+    enum finding kind;
+    struct origin origin;
+    uint64_t count;
+    char text[400];
+};
+static struct one_finding *findings;
+static size_t finding_count;
+
+size_t findings_count(void)
+{
+    return finding_count;
+}
+
+const char *finding_name(enum finding kind)
+{
+    static const char *const names[FINDING_KINDS] = {
+        "behind-block", "before-block", "use-after-free", "free-not-live", "never-placed",
+        "run-border",   "image-rights", "leak",           "stale-key",     "after-exit"};
+
+    return names[kind];
+}
+
+static bool same_place(const struct one_finding *one, enum finding kind,
+                       const struct origin *origin)
+{
+    return one->kind == kind && kind != LEAK && one->origin.image == origin->image &&
+           one->origin.address == origin->address;
+}
+
+static void print_finding(const struct one_finding *one)
+{
+    fprintf(stderr, "efihost: %s: %s\n", finding_name(one->kind), one->text);
+    fprintf(stderr, "efihost:   at %s\n", origin_text(&one->origin));
+}
+
+/* Notes a finding: of `origin` is the code that is to blame, or the block that was harmed. With
+ * --guard the first that is no leak ends the run. */
+void found(enum finding kind, const struct origin *origin, const char *format, ...)
+{
+    struct one_finding *one;
+    va_list words;
+
+    if (!host.checks)
+        return;
+    for (size_t i = 0; i < finding_count; i++)
+        if (same_place(&findings[i], kind, origin)) {
+            findings[i].count++;
+            return;
+        }
+    findings = must(realloc(findings, (finding_count + 1) * sizeof *findings));
+    one = &findings[finding_count++];
+    one->kind = kind;
+    one->origin = *origin;
+    one->count = 1;
+    va_start(words, format);
+    vsnprintf(one->text, sizeof one->text, format, words);
+    va_end(words);
+    fflush(stdout);
+    print_finding(one);
+    if (host.options.guard && kind != LEAK)
+        finish(ENDED_WITH_FINDINGS, "stopped at the first finding, %s", finding_name(kind));
+}
+
+/* An access to memory of the machine that is shut: whose it is, or was. */
+void found_access(uint64_t address, uint64_t instruction, bool write)
+{
+    struct origin origin = origin_at(instruction);
+    const char *how = write ? "write to" : "read of";
+    struct block *block = ledger_block_around(address);
+    struct freed *freed = ledger_freed_with(address);
+    struct run *run = ledger_run_beside(address);
+
+    if (image_at(instruction) == NULL && host.call != NULL)
+        origin = origin_now();
+    if (block != NULL && address >= block->at)
+        found(BEHIND_BLOCK, &origin, "%s byte %lu behind a block of %lu bytes at 0x%lx made by %s",
+              how, address - block->at - block->size, block->size, block->at,
+              origin_text(&block->origin));
+    else if (run != NULL)
+        found(RUN_BORDER, &origin, "%s 0x%lx, %s %lu pages at 0x%lx placed by %s", how, address,
+              address < run->at ? "before" : "behind", run->pages, run->at,
+              origin_text(&run->origin));
+    else if (freed != NULL)
+        found(USE_AFTER_FREE, &origin,
+              "%s byte %lu of %lu bytes at 0x%lx made by %s, which %s freed", how,
+              address - freed->at, freed->size, freed->at, origin_text(&freed->made),
+              origin_text(&freed->freed));
+    else
+        found(NEVER_PLACED, &origin, "%s 0x%lx, in a page that nobody placed", how, address);
+}
+
+/* ---- What an image left ---- */
+
+struct leaks {
+    struct image *image;
+    const char *when;
+    struct {
+        struct origin origin;
+        uint64_t count, bytes;
+    } groups[64];
+    size_t group_count;
+};
+
+static bool same_trail(const struct origin *one, const struct origin *other)
+{
+    return one->image == other->image && one->address == other->address &&
+           memcmp(one->trail, other->trail, sizeof one->trail) == 0;
+}
+
+static void add_leak(struct leaks *leaks, const struct origin *origin, uint64_t bytes)
+{
+    size_t i = 0;
+
+    if (origin->image != leaks->image)
+        return;
+    while (i < leaks->group_count && !same_trail(&leaks->groups[i].origin, origin))
+        i++;
+    if (i == LENGTH(leaks->groups))
+        return;
+    if (i == leaks->group_count) {
+        leaks->groups[i].origin = *origin;
+        leaks->groups[i].count = leaks->groups[i].bytes = 0;
+        leaks->group_count++;
+    }
+    leaks->groups[i].count++;
+    leaks->groups[i].bytes += bytes;
+}
+
+static void add_block(struct block *block, void *context)
+{
+    add_leak(context, &block->origin, block->size);
+}
+
+static void add_run(struct run *run, void *context)
+{
+    add_leak(context, &run->origin, run->pages * PAGE);
+}
+
+static void say_leaks(struct leaks *leaks, const char *what)
+{
+    for (size_t i = 0; i < leaks->group_count; i++)
+        found(LEAK, &leaks->groups[i].origin, "%s %s: left %lu %s, %lu bytes", leaks->image->name,
+              leaks->when, leaks->groups[i].count, what, leaks->groups[i].bytes);
+    leaks->group_count = 0;
+}
+
+/* An open or an interface that is still there; what ended without its image's doing is not. */
+static void say_held(const struct held *held, void *context)
+{
+    struct leaks *leaks = context;
+    uint64_t value = 0;
+
+    if (held->origin.image != leaks->image ||
+        core_handle_protocol(held->handle, &held->guid, &value) != EFI_SUCCESS)
+        return;
+    if (held->attributes == 0)
+        found(LEAK, &held->origin, "%s %s: left protocol %s on handle %lu", leaks->image->name,
+              leaks->when, guid_text(&held->guid), held->handle);
+    else
+        found(LEAK, &held->origin, "%s %s: left protocol %s of handle %lu open, attributes 0x%x",
+              leaks->image->name, leaks->when, guid_text(&held->guid), held->handle,
+              held->attributes);
+}
+
+void look_for_leaks(struct image *image, const char *when)
+{
+    static struct leaks leaks;
+    size_t events;
+
+    if (!host.checks || host.exited)
+        return;
+    leaks.image = image;
+    leaks.when = when;
+    leaks.group_count = 0;
+    ledger_each_block(add_block, &leaks);
+    say_leaks(&leaks, "pool blocks");
+    ledger_each_run(add_run, &leaks);
+    say_leaks(&leaks, "runs of pages");
+    each_held(say_held, &leaks);
+    events = events_of(image);
+    if (events > 0) {
+        struct origin origin = {image, image->entry - image->base, 0, {{NULL, 0}}};
+
+        found(LEAK, &origin, "%s %s: left %zu events", image->name, when, events);
+    }
+}
+
+/* ---- The report for programs ---- */
+
+static void write_text(FILE *file, const char *text)
+{
+    fputc('"', file);
+    for (; *text != 0; text++) {
+        if (*text == '"' || *text == '\\')
+            fputc('\\', file);
+        if ((unsigned char)*text < ' ')
+            fprintf(file, "\\u%04x", (unsigned)*text);
+        else
+            fputc(*text, file);
+    }
+    fputc('"', file);
+}
+
+void write_findings(FILE *file)
+{
+    fprintf(file, "  \"findings\": [");
+    for (size_t i = 0; i < finding_count; i++) {
+        fprintf(file, "%s\n    { \"kind\": \"%s\", \"count\": %lu, \"text\": ", i == 0 ? "" : ",",
+                finding_name(findings[i].kind), findings[i].count);
+        write_text(file, findings[i].text);
+        fprintf(file, ", \"at\": ");
+        write_text(file, origin_text(&findings[i].origin));
+        fprintf(file, " }");
+    }
+    fprintf(file, "%s],\n  \"missing\": [", finding_count == 0 ? "" : "\n  ");
+    for (size_t i = 0; i < missing_count(); i++) {
+        if (i != 0)
+            fprintf(file, ", ");
+        write_text(file, missing_name(i));
+    }
+    fprintf(file, "]\n");
+}

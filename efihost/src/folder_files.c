@@ -1,0 +1,319 @@
+/* Files and folders of a folder of the host, as EFI_FILE_PROTOCOL has them. */
+#include "folder.h"
+
+#include <dirent.h>
+#include <errno.h>
+#include <fcntl.h>
+#include <stdlib.h>
+#include <string.h>
+#include <sys/stat.h>
+#include <sys/statvfs.h>
+#include <unistd.h>
+
+struct open_file {
+    EFI_FILE_PROTOCOL protocol;
+    int root, file;
+    DIR *list; /* of a folder */
+    bool writes;
+    uint64_t position;
+    char path[FOLDER_PATH];
+};
+
+static const EFI_GUID file_info_guid = {
+    0x09576e92, 0x6d3f, 0x11d2, {0x8e, 0x39, 0x00, 0xa0, 0xc9, 0x69, 0x72, 0x3b}};
+static const EFI_GUID system_info_guid = {
+    0x09576e93, 0x6d3f, 0x11d2, {0x8e, 0x39, 0x00, 0xa0, 0xc9, 0x69, 0x72, 0x3b}};
+static const EFI_GUID label_guid = {
+    0xdb47d7d3, 0xfe81, 0x11d3, {0x9a, 0x35, 0x00, 0x90, 0x27, 0x3f, 0xc1, 0x4d}};
+static const CHAR16 label[] = {'H', 'O', 'S', 'T', 0};
+
+static EFI_STATUS EFIAPI open_below(EFI_FILE_PROTOCOL *this, EFI_FILE_PROTOCOL **made,
+                                    const CHAR16 *name, uint64_t mode, uint64_t attributes)
+{
+    SERVICE("File.Open", NUMBER(this), NUMBER(name), mode, attributes);
+    struct open_file *from = (struct open_file *)this;
+    int flags = (mode & EFI_FILE_MODE_WRITE) != 0 ? O_RDWR : O_RDONLY;
+    char folder[FOLDER_PATH], path[FOLDER_PATH], *slash;
+    EFI_STATUS status;
+
+    if (made == NULL || name == NULL || (mode & EFI_FILE_MODE_READ) == 0)
+        ANSWER(EFI_INVALID_PARAMETER);
+    strcpy(folder, from->path);
+    slash = strrchr(folder, '/');
+    if (from->list == NULL)
+        *(slash == NULL ? folder : slash) = 0;
+    status = folder_resolve(from->root, folder, name, path);
+    if (status != EFI_SUCCESS)
+        ANSWER(status);
+    if ((mode & EFI_FILE_MODE_CREATE) != 0 && (attributes & EFI_FILE_DIRECTORY) != 0) {
+        if (mkdirat(from->root, path, 0777) != 0 && errno != EEXIST)
+            ANSWER(folder_status());
+    } else if ((mode & EFI_FILE_MODE_CREATE) != 0) {
+        flags |= O_CREAT;
+    }
+    ANSWER(folder_open(from->root, path, flags, made));
+}
+
+static void close_file(struct open_file *it)
+{
+    if (it->list != NULL)
+        closedir(it->list);
+    else
+        close(it->file);
+    free(it);
+}
+
+static EFI_STATUS EFIAPI close_this(EFI_FILE_PROTOCOL *this)
+{
+    SERVICE("File.Close", NUMBER(this));
+
+    close_file((struct open_file *)this);
+    ANSWER(EFI_SUCCESS);
+}
+
+static EFI_STATUS EFIAPI delete_this(EFI_FILE_PROTOCOL *this)
+{
+    SERVICE("File.Delete", NUMBER(this));
+    struct open_file *it = (struct open_file *)this;
+    bool gone = *it->path != 0 && (it->list != NULL || it->writes) &&
+                unlinkat(it->root, it->path, it->list == NULL ? 0 : AT_REMOVEDIR) == 0;
+
+    close_file(it);
+    ANSWER(gone ? EFI_SUCCESS : EFI_WARN_DELETE_FAILURE);
+}
+
+/* Writes what a file's information is, where it fits; *size are the bytes needed. */
+static EFI_STATUS write_info(int root, const char *path, const char *name, UINTN *size, void *to)
+{
+    struct stat about;
+    EFI_FILE_INFO *info = to;
+    UINTN needed = sizeof *info + 2 * (strlen(name) + 1), room = *size;
+
+    if (fstatat(root, *path == 0 ? "." : path, &about, AT_SYMLINK_NOFOLLOW) != 0)
+        return folder_status();
+    *size = needed;
+    if (room < needed)
+        return EFI_BUFFER_TOO_SMALL;
+    memset(info, 0, sizeof *info);
+    info->Size = needed;
+    info->FileSize = S_ISDIR(about.st_mode) ? 0 : (uint64_t)about.st_size;
+    info->PhysicalSize = (uint64_t)about.st_blocks * 512;
+    write_time(&info->CreateTime, about.st_mtime);
+    write_time(&info->LastAccessTime, about.st_atime);
+    write_time(&info->ModificationTime, about.st_mtime);
+    info->Attribute = S_ISDIR(about.st_mode) ? EFI_FILE_DIRECTORY : 0x20;
+    if ((about.st_mode & 0222) == 0)
+        info->Attribute |= EFI_FILE_READ_ONLY;
+    widen(info->FileName, name);
+    return EFI_SUCCESS;
+}
+
+/* The next entry of a folder; 0 bytes behind the last one. One that doesn't fit is read again. */
+static EFI_STATUS read_entry(struct open_file *it, UINTN *size, void *to)
+{
+    const struct dirent *entry;
+    char path[2 * FOLDER_PATH];
+    EFI_STATUS status;
+    long before;
+
+    do {
+        before = telldir(it->list);
+        entry = readdir(it->list);
+        if (entry == NULL) {
+            *size = 0;
+            return EFI_SUCCESS;
+        }
+    } while (strcmp(entry->d_name, ".") == 0 || strcmp(entry->d_name, "..") == 0 ||
+             entry->d_type == DT_LNK);
+    snprintf(path, sizeof path, "%s%s%s", it->path, *it->path == 0 ? "" : "/", entry->d_name);
+    status = write_info(it->root, path, entry->d_name, size, to);
+    if (status == EFI_BUFFER_TOO_SMALL)
+        seekdir(it->list, before);
+    return status;
+}
+
+static EFI_STATUS EFIAPI read_this(EFI_FILE_PROTOCOL *this, UINTN *size, void *bytes)
+{
+    SERVICE("File.Read", NUMBER(this), size == NULL ? 0 : *size, NUMBER(bytes));
+    struct open_file *it = (struct open_file *)this;
+    UINTN done = 0;
+
+    if (size == NULL || (bytes == NULL && *size != 0))
+        ANSWER(EFI_INVALID_PARAMETER);
+    if (it->list != NULL)
+        ANSWER(read_entry(it, size, bytes));
+    while (done < *size) {
+        ssize_t count = pread(it->file, (char *)bytes + done, *size - done,
+                              (off_t)(it->position + done));
+
+        if (count < 0)
+            ANSWER(EFI_DEVICE_ERROR);
+        if (count == 0)
+            break;
+        done += (UINTN)count;
+    }
+    it->position += done;
+    *size = done;
+    ANSWER(EFI_SUCCESS);
+}
+
+static EFI_STATUS EFIAPI write_this(EFI_FILE_PROTOCOL *this, UINTN *size, const void *bytes)
+{
+    SERVICE("File.Write", NUMBER(this), size == NULL ? 0 : *size, NUMBER(bytes));
+    struct open_file *it = (struct open_file *)this;
+    ssize_t count;
+
+    if (size == NULL || (bytes == NULL && *size != 0))
+        ANSWER(EFI_INVALID_PARAMETER);
+    if (it->list != NULL)
+        ANSWER(EFI_UNSUPPORTED);
+    if (!it->writes)
+        ANSWER(EFI_ACCESS_DENIED);
+    count = pwrite(it->file, bytes, *size, (off_t)it->position);
+    if (count < 0)
+        ANSWER(folder_status());
+    it->position += (uint64_t)count;
+    ANSWER((UINTN)count == *size ? EFI_SUCCESS : EFI_VOLUME_FULL);
+}
+
+static EFI_STATUS EFIAPI get_position(EFI_FILE_PROTOCOL *this, uint64_t *position)
+{
+    struct open_file *it = (struct open_file *)this;
+
+    if (position == NULL)
+        return EFI_INVALID_PARAMETER;
+    if (it->list != NULL)
+        return EFI_UNSUPPORTED;
+    *position = it->position;
+    return EFI_SUCCESS;
+}
+
+/* The highest position is the end of the file; of a folder only its start can be set. */
+static EFI_STATUS EFIAPI set_position(EFI_FILE_PROTOCOL *this, uint64_t position)
+{
+    struct open_file *it = (struct open_file *)this;
+    struct stat about;
+
+    if (it->list != NULL) {
+        if (position != 0)
+            return EFI_UNSUPPORTED;
+        rewinddir(it->list);
+        return EFI_SUCCESS;
+    }
+    it->position = position;
+    if (position == UINT64_MAX)
+        it->position = fstat(it->file, &about) == 0 ? (uint64_t)about.st_size : 0;
+    return EFI_SUCCESS;
+}
+
+static EFI_STATUS system_info(struct open_file *it, UINTN *size, void *to)
+{
+    size_t offset = offsetof(EFI_FILE_SYSTEM_INFO, VolumeLabel);
+    UINTN needed = offset + sizeof label, room = *size;
+    EFI_FILE_SYSTEM_INFO *info = to;
+    struct statvfs about;
+
+    *size = needed;
+    if (room < needed)
+        return EFI_BUFFER_TOO_SMALL;
+    if (fstatvfs(it->root, &about) != 0)
+        return EFI_DEVICE_ERROR;
+    memset(info, 0, offset);
+    info->Size = needed;
+    info->VolumeSize = about.f_blocks * about.f_frsize;
+    info->FreeSpace = about.f_bavail * about.f_frsize;
+    info->BlockSize = (uint32_t)about.f_frsize;
+    memcpy(info->VolumeLabel, label, sizeof label);
+    return EFI_SUCCESS;
+}
+
+static EFI_STATUS EFIAPI get_info(EFI_FILE_PROTOCOL *this, const EFI_GUID *kind, UINTN *size,
+                                  void *to)
+{
+    SERVICE("File.GetInfo", NUMBER(this), NUMBER(kind), size == NULL ? 0 : *size, NUMBER(to));
+    struct open_file *it = (struct open_file *)this;
+    const char *name = strrchr(it->path, '/') == NULL ? it->path : strrchr(it->path, '/') + 1;
+    UINTN room;
+
+    if (kind == NULL || size == NULL || (to == NULL && *size != 0))
+        ANSWER(EFI_INVALID_PARAMETER);
+    if (guid_equal(kind, &file_info_guid))
+        ANSWER(write_info(it->root, it->path, name, size, to));
+    if (guid_equal(kind, &system_info_guid))
+        ANSWER(system_info(it, size, to));
+    if (!guid_equal(kind, &label_guid))
+        ANSWER(EFI_UNSUPPORTED);
+    room = *size;
+    *size = sizeof label;
+    if (room < sizeof label)
+        ANSWER(EFI_BUFFER_TOO_SMALL);
+    memcpy(to, label, sizeof label);
+    ANSWER(EFI_SUCCESS);
+}
+
+/* Sets a file's size and its name, and nothing else. */
+static EFI_STATUS EFIAPI set_info(EFI_FILE_PROTOCOL *this, const EFI_GUID *kind, UINTN size,
+                                  const void *from)
+{
+    SERVICE("File.SetInfo", NUMBER(this), NUMBER(kind), size, NUMBER(from));
+    struct open_file *it = (struct open_file *)this;
+    const EFI_FILE_INFO *info = from;
+    char folder[FOLDER_PATH], path[FOLDER_PATH], *slash;
+    struct stat about;
+
+    if (kind == NULL || from == NULL || !guid_equal(kind, &file_info_guid) ||
+        size < sizeof *info + 2)
+        ANSWER(EFI_UNSUPPORTED);
+    if (it->list == NULL && fstat(it->file, &about) == 0 &&
+        (uint64_t)about.st_size != info->FileSize &&
+        (!it->writes || ftruncate(it->file, (off_t)info->FileSize) != 0))
+        ANSWER(EFI_ACCESS_DENIED);
+    strcpy(folder, it->path);
+    slash = strrchr(folder, '/');
+    *(slash == NULL ? folder : slash) = 0;
+    if (*it->path == 0 || folder_resolve(it->root, folder, info->FileName, path) != EFI_SUCCESS ||
+        strcmp(path, it->path) == 0)
+        ANSWER(EFI_SUCCESS);
+    if (renameat(it->root, it->path, it->root, path) != 0)
+        ANSWER(folder_status());
+    strcpy(it->path, path);
+    ANSWER(EFI_SUCCESS);
+}
+
+static EFI_STATUS EFIAPI flush_this(EFI_FILE_PROTOCOL *this)
+{
+    struct open_file *it = (struct open_file *)this;
+
+    return it->list != NULL || fsync(it->file) == 0 ? EFI_SUCCESS : EFI_DEVICE_ERROR;
+}
+
+static const EFI_FILE_PROTOCOL functions = {
+    0x10000,      open_below,   close_this, delete_this, read_this, write_this,
+    get_position, set_position, get_info,   set_info,    flush_this};
+
+/* Opens what is at a path below the root. */
+EFI_STATUS folder_open(int root, const char *path, int flags, EFI_FILE_PROTOCOL **made)
+{
+    struct open_file *it;
+    struct stat about;
+    int file = openat(root, *path == 0 ? "." : path, flags | O_NOFOLLOW | O_CLOEXEC, 0666);
+
+    if (file < 0 && errno == EISDIR)
+        file = openat(root, *path == 0 ? "." : path, O_RDONLY | O_NOFOLLOW | O_CLOEXEC);
+    if (file < 0 || fstat(file, &about) != 0)
+        return folder_status();
+    if (!S_ISDIR(about.st_mode) && !S_ISREG(about.st_mode)) {
+        close(file);
+        return EFI_ACCESS_DENIED;
+    }
+    it = must(calloc(1, sizeof *it));
+    it->protocol = functions;
+    it->root = root;
+    it->file = file;
+    it->writes = (flags & O_RDWR) != 0;
+    if (S_ISDIR(about.st_mode))
+        it->list = must(fdopendir(file));
+    strcpy(it->path, path);
+    *made = &it->protocol;
+    return EFI_SUCCESS;
+}

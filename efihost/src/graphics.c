@@ -1,0 +1,118 @@
+/* A graphics output of 800 by 600 pixels in memory, where --picture asks for it; the picture is
+ * saved at the end, and when the process gets SIGUSR1. */
+#include "host.h"
+
+#include <stdlib.h>
+#include <string.h>
+#include <sys/mman.h>
+#include <unistd.h>
+
+#define WIDTH 800U
+#define HEIGHT 600U
+
+static const EFI_GUID graphics_guid = {
+    0x9042a9de, 0x23dc, 0x4a38, {0x96, 0xfb, 0x7a, 0xde, 0xd0, 0x80, 0x51, 0x6a}};
+static EFI_GRAPHICS_OUTPUT_MODE_INFORMATION information = {0, WIDTH, HEIGHT, 1, {0}, WIDTH};
+static EFI_GRAPHICS_OUTPUT_PROTOCOL_MODE mode = {
+    1, 0, &information, sizeof information, 0, WIDTH * HEIGHT * 4};
+static uint32_t *pixels;
+static FILE *picture;
+
+static EFI_STATUS EFIAPI query_mode(EFI_GRAPHICS_OUTPUT_PROTOCOL *this, uint32_t number,
+                                    UINTN *size, EFI_GRAPHICS_OUTPUT_MODE_INFORMATION **to)
+{
+    SERVICE("GraphicsOutput.QueryMode", NUMBER(this), number);
+    void *block = NULL;
+    EFI_STATUS status;
+
+    if (number != 0 || size == NULL || to == NULL)
+        ANSWER(EFI_INVALID_PARAMETER);
+    status = host_pool(RAFKUDIN_BOOT_SERVICES_DATA, sizeof information, &block);
+    if (status != EFI_SUCCESS)
+        ANSWER(status);
+    *to = memcpy(block, &information, sizeof information);
+    *size = sizeof information;
+    ANSWER(EFI_SUCCESS);
+}
+
+static EFI_STATUS EFIAPI set_mode(EFI_GRAPHICS_OUTPUT_PROTOCOL *this, uint32_t number)
+{
+    SERVICE("GraphicsOutput.SetMode", NUMBER(this), number);
+
+    if (number != 0)
+        ANSWER(EFI_UNSUPPORTED);
+    memset(pixels, 0, WIDTH * HEIGHT * 4);
+    ANSWER(EFI_SUCCESS);
+}
+
+/* A rectangle lies on the screen. */
+static bool on_screen(UINTN x, UINTN y, UINTN width, UINTN height)
+{
+    return x <= WIDTH && y <= HEIGHT && width <= WIDTH - x && height <= HEIGHT - y;
+}
+
+static EFI_STATUS EFIAPI transfer(EFI_GRAPHICS_OUTPUT_PROTOCOL *this, uint32_t *buffer,
+                                  uint32_t operation, UINTN from_x, UINTN from_y, UINTN to_x,
+                                  UINTN to_y, UINTN width, UINTN height, UINTN delta)
+{
+    SERVICE("GraphicsOutput.Blt", NUMBER(this), NUMBER(buffer), operation, delta);
+    UINTN row = delta == 0 ? width : delta / 4;
+
+    if (operation > BLT_VIDEO_TO_VIDEO || width == 0 || height == 0 ||
+        (buffer == NULL && operation != BLT_VIDEO_TO_VIDEO) ||
+        (operation != BLT_VIDEO_TO_BUFFER && !on_screen(to_x, to_y, width, height)) ||
+        ((operation == BLT_VIDEO_TO_BUFFER || operation == BLT_VIDEO_TO_VIDEO) &&
+         !on_screen(from_x, from_y, width, height)))
+        ANSWER(EFI_INVALID_PARAMETER);
+    for (UINTN i = 0; i < height; i++) {
+        UINTN y = operation == BLT_VIDEO_TO_VIDEO && to_y > from_y ? height - 1 - i : i;
+        uint32_t *to = operation == BLT_VIDEO_TO_BUFFER
+                           ? buffer + (to_y + y) * row + to_x
+                           : pixels + (to_y + y) * WIDTH + to_x;
+        const uint32_t *from = operation == BLT_BUFFER_TO_VIDEO
+                                   ? buffer + (from_y + y) * row + from_x
+                                   : pixels + (from_y + y) * WIDTH + from_x;
+
+        if (operation == BLT_VIDEO_FILL)
+            for (UINTN x = 0; x < width; x++)
+                to[x] = *buffer;
+        else
+            memmove(to, from, width * 4);
+    }
+    ANSWER(EFI_SUCCESS);
+}
+
+static EFI_GRAPHICS_OUTPUT_PROTOCOL graphics = {query_mode, set_mode, transfer, &mode};
+
+/* The frame buffer lies below 4 GiB where the machine has nothing there. */
+void make_graphics(void)
+{
+    int flags = MAP_PRIVATE | MAP_ANONYMOUS;
+    uint64_t out = NUMBER(host.table->ConsoleOutHandle);
+    void *at = MAP_FAILED;
+
+    if (host.options.picture == NULL)
+        return;
+    picture = fopen(host.options.picture, "wb");
+    if (picture == NULL)
+        refuse("cannot write %s", host.options.picture);
+    if (machine_range_at(0xc0000000) == NULL)
+        at = mmap(POINTER(0xc0000000), WIDTH * HEIGHT * 4, PROT_READ | PROT_WRITE,
+                  flags | MAP_FIXED_NOREPLACE, -1, 0);
+    if (at == MAP_FAILED)
+        at = mmap(NULL, WIDTH * HEIGHT * 4, PROT_READ | PROT_WRITE, flags, -1, 0);
+    if (at == MAP_FAILED)
+        refuse("no memory for the screen");
+    pixels = at;
+    mode.FrameBufferBase = NUMBER(at);
+    install_one(&out, &graphics_guid, 0, NUMBER(&graphics));
+}
+
+void save_picture(void)
+{
+    if (picture == NULL || ftruncate(fileno(picture), 0) != 0)
+        return;
+    rewind(picture);
+    write_picture(picture, pixels, WIDTH, HEIGHT);
+    fflush(picture);
+}

@@ -1,0 +1,387 @@
+/* What the files of the host share. Each group of functions has the file that defines it above. */
+#ifndef EFIHOST_HOST_H
+#define EFIHOST_HOST_H
+
+#include "uefi.h"
+
+#include <rafkudin.h>
+
+#include <setjmp.h>
+#include <stdio.h>
+
+#define PAGE 4096ULL
+#define TRAIL 6
+#define RED_PAGES 16ULL /* those below the stack, which are shut */
+#define MOST_DISKS 16
+#define MOST_DRIVERS 128
+#define MOST_ARGUMENTS 256
+#define LENGTH(array) (sizeof(array) / sizeof(array)[0])
+#define HANDLE(number) ((EFI_HANDLE)(uintptr_t)(number))
+#define NUMBER(pointer) ((uint64_t)(uintptr_t)(pointer))
+#define POINTER(number) ((void *)(uintptr_t)(number))
+
+struct image;
+
+/* Where something was asked for: the image whose code called (NULL: the host), the offset in it or,
+ * without an image, the address, the number of the call, and who called before. */
+struct origin {
+    struct image *image;
+    uint64_t address, call;
+    struct {
+        struct image *image;
+        uint64_t address;
+    } trail[TRAIL];
+};
+
+/* A service that is being called; `outer` is the one in which the caller's code was called. */
+struct call {
+    const char *name;
+    uint64_t caller, frame, number;
+    struct call *outer;
+    uint64_t slot;
+};
+
+struct options {
+    const char *machine, *trace, *input, *variables, *json, *calls, *picture, *serial, *application;
+    const char *disks[MOST_DISKS], *drivers[MOST_DRIVERS], *arguments[MOST_ARGUMENTS];
+    size_t disk_count, driver_count, argument_count;
+    bool check, guard, strict, quiet, plain, certify, rights;
+    unsigned seconds;
+};
+
+struct host {
+    struct rafkudin *core;
+    struct options options;
+    EFI_SYSTEM_TABLE *table;
+    EFI_BOOT_SERVICES *boot;
+    EFI_RUNTIME_SERVICES *runtime;
+    EFI_TPL tpl;
+    struct call *call;
+    struct image *running, *application;
+    bool exited, checks;
+    uint64_t calls;
+    uint64_t stack, stack_end; /* that of the machine, on which all images run */
+};
+extern struct host host;
+
+/* How a run of efihost ends. */
+enum ending {
+    ENDED_WELL = 0,
+    ENDED_REFUSED = 1, /* the application returned an error */
+    ENDED_NEVER_RAN = 2,
+    ENDED_WITH_FINDINGS = 3,
+    ENDED_BY_FAULT = 4,
+    ENDED_BY_LIMIT = 5,
+};
+
+/* ---- options.c ---- */
+void read_options(int count, char **words, struct options *options);
+_Noreturn void refuse(const char *format, ...) __attribute__((format(printf, 1, 2)));
+
+/* ---- text.c ---- */
+size_t wide_length(const CHAR16 *text);
+void widen(CHAR16 *to, const char *text);
+bool wide_equal(const CHAR16 *one, const CHAR16 *other);
+size_t utf8_of(uint32_t letter, char *to);
+const char *narrow(const CHAR16 *text);
+const char *status_text(EFI_STATUS status);
+const char *guid_text(const void *guid);
+bool guid_equal(const void *one, const void *other);
+uint32_t crc32_of(const void *bytes, size_t count);
+void *must(void *memory);
+uint8_t *read_file(const char *name, size_t *length);
+
+/* ---- core_memory.c, core_protocols.c, trace.c: the services of the library, each with its line
+ * of the trace ---- */
+void open_trace(const char *name, const uint8_t *records, size_t count);
+void close_trace(void);
+void trace_call(const char *format, ...) __attribute__((format(printf, 1, 2)));
+void trace_bytes(uint64_t address, const uint8_t *bytes, size_t count);
+void trace_reply(const char *verb, uint64_t status, const char *format, ...)
+    __attribute__((format(printf, 3, 4)));
+FILE *trace_more(void);
+FILE *trace_part(void);
+void check_certificate(void);
+uint64_t core_pages(uint32_t kind, uint32_t type, uint64_t pages, uint64_t *memory);
+uint64_t core_free_pages(uint64_t memory, uint64_t pages);
+uint64_t core_map(uint64_t *size, void *map, uint64_t *key, uint64_t *step, uint32_t *version);
+uint64_t core_pool(uint32_t type, uint64_t size, uint64_t *address);
+uint64_t core_free_pool(uint64_t address);
+uint64_t core_write(uint64_t address, const void *bytes, size_t count);
+uint64_t core_read(uint64_t address, void *bytes, size_t count);
+uint64_t core_exit(uint64_t image, uint64_t key);
+struct rafkudin_guid core_guid(const void *guid);
+uint64_t core_install(uint64_t *handle, const void *guid, uint32_t kind, uint64_t value);
+uint64_t core_install_many(uint64_t *handle, const struct rafkudin_interface *list, size_t count);
+uint64_t core_uninstall(uint64_t handle, const void *guid, uint64_t value);
+uint64_t core_reinstall(uint64_t handle, const void *guid, uint64_t old, uint64_t value);
+uint64_t core_notify(const void *guid, uint64_t event, uint64_t *key);
+uint64_t core_locate(uint32_t search, const void *guid, uint64_t key, uint64_t *size,
+                     uint64_t *handles);
+uint64_t core_locate_buffer(uint32_t search, const void *guid, uint64_t key, uint64_t *count,
+                            uint64_t *address);
+uint64_t core_locate_protocol(const void *guid, uint64_t key, uint64_t *value);
+uint64_t core_protocols(uint64_t handle, struct rafkudin_guid *list, size_t room,
+                        uint64_t *count);
+uint64_t core_open(uint64_t handle, const void *guid, uint64_t *value, uint64_t agent,
+                   uint64_t controller, uint32_t attributes);
+uint64_t core_close(uint64_t handle, const void *guid, uint64_t agent, uint64_t controller);
+uint64_t core_information(uint64_t handle, const void *guid, uint64_t *address, uint64_t *count);
+uint64_t core_handle_protocol(uint64_t handle, const void *guid, uint64_t *value);
+uint64_t core_path(const void *guid, uint64_t *address, uint64_t *handle);
+
+/* ---- calls.c: who calls which service ---- */
+#define HERE NUMBER(__builtin_return_address(0))
+#define FRAME NUMBER(__builtin_frame_address(0)) /* above it is the return address */
+#define SERVICE(name, ...) SERVICE_AT(name, HERE, __VA_ARGS__)
+#define SERVICE_AT(name, where, ...)                                                              \
+    struct call this_call = {.frame = FRAME};                                                     \
+    if (!enter(&this_call, name, where, (const uint64_t[4]){__VA_ARGS__}))                        \
+    return leave(&this_call, EFI_UNSUPPORTED)
+#define ANSWER(status) return leave(&this_call, (status))
+bool enter(struct call *call, const char *name, uint64_t caller, const uint64_t *arguments);
+EFI_STATUS leave(struct call *call, EFI_STATUS status);
+struct origin origin_at(uint64_t caller);
+struct origin origin_now(void);
+void open_calls_log(const char *file);
+void close_calls_log(void);
+void print_last_calls(FILE *file);
+void ask_missing(const char *what);
+void print_missing(FILE *file, const char *before);
+size_t missing_count(void);
+const char *missing_name(size_t index);
+
+/* ---- machine.c ---- */
+struct machine_range {
+    uint64_t start, pages, attributes;
+    uint32_t type;
+    bool mapped;
+};
+void make_machine(const char *file);
+const struct machine_range *machine_range_at(uint64_t address);
+bool conventional_range(uint64_t address, uint64_t *start, uint64_t *size);
+void open_memory(uint64_t address, uint64_t size);
+void shut_memory(uint64_t address, uint64_t size);
+void open_all_memory(void);
+
+/* ---- json.c ---- */
+struct json {
+    const char *at, *end;
+};
+struct json json_text(const char *text, size_t length);
+bool json_enter(struct json *json, char bracket);
+bool json_next(struct json *json, char bracket, char *key, size_t room);
+bool json_number(struct json *json, uint64_t *number);
+bool json_string(struct json *json, char *text, size_t room);
+bool json_skip(struct json *json);
+
+/* ---- ledger.c: what is live, and who made it ---- */
+struct block {
+    uint64_t at, size, core_at, core_size;
+    uint32_t type;
+    struct origin origin;
+    struct block *next;
+};
+struct run {
+    uint64_t at, pages;
+    uint32_t type;
+    bool red_before, red_behind;
+    struct origin origin;
+};
+struct freed {
+    uint64_t at, size;
+    bool filled;
+    struct origin made, freed;
+};
+void ledger_add_block(const struct block *block);
+struct block *ledger_block(uint64_t at);
+struct block *ledger_block_around(uint64_t address);
+void ledger_remove_block(uint64_t at, struct block *removed);
+void ledger_each_block(void (*visit)(struct block *block, void *context), void *context);
+void ledger_add_run(const struct run *run);
+struct run *ledger_run_with(uint64_t address);
+struct run *ledger_run_beside(uint64_t address);
+void ledger_cut_runs(uint64_t at, uint64_t pages);
+void ledger_each_run(void (*visit)(struct run *run, void *context), void *context);
+void ledger_add_freed(uint64_t at, uint64_t size, bool filled, struct origin made);
+struct freed *ledger_freed_with(uint64_t address);
+struct freed *ledger_freed(size_t index);
+void ledger_drop_freed(uint64_t at, uint64_t size);
+
+/* ---- memory.c, red_zones.c ---- */
+EFI_STATUS host_pages(uint32_t kind, uint32_t type, uint64_t pages, uint64_t *at);
+EFI_STATUS host_plain_pages(uint32_t kind, uint32_t type, uint64_t pages, uint64_t *at);
+EFI_STATUS host_free_pages(uint64_t at, uint64_t pages);
+EFI_STATUS host_pool(uint32_t type, uint64_t size, void **block);
+EFI_STATUS host_free_pool(void *block);
+EFI_STATUS host_adopt_block(uint64_t core_at, uint64_t size, void **block);
+void *machine_block(uint64_t size);
+void fill_memory_services(EFI_BOOT_SERVICES *boot);
+struct origin last_map_change(void);
+uint64_t zone_request(uint64_t size);
+void zone_lay(struct block *block);
+bool zone_look(const struct block *block, const char *when);
+void zone_free(const struct block *block);
+void zone_look_at_reuse(uint64_t at, uint64_t size);
+void zone_look_at_all(const char *when);
+void zone_shut_free(uint64_t address, uint64_t size);
+
+/* ---- findings.c ---- */
+enum finding {
+    BEHIND_BLOCK,
+    BEFORE_BLOCK,
+    USE_AFTER_FREE,
+    FREE_NOT_LIVE,
+    NEVER_PLACED,
+    RUN_BORDER,
+    IMAGE_RIGHTS,
+    LEAK,
+    STALE_KEY,
+    AFTER_EXIT,
+    FINDING_KINDS,
+};
+void found(enum finding kind, const struct origin *origin, const char *format, ...)
+    __attribute__((format(printf, 3, 4)));
+size_t findings_count(void);
+const char *finding_name(enum finding kind);
+void write_findings(FILE *file);
+void found_access(uint64_t address, uint64_t instruction, bool write);
+void look_for_leaks(struct image *image, const char *when);
+
+/* ---- report.c ---- */
+void open_report(const char *file);
+_Noreturn void finish(enum ending ending, const char *format, ...)
+    __attribute__((format(printf, 2, 3)));
+
+/* ---- images.c, pe.c, load.c, symbols.c ---- */
+struct symbol {
+    uint64_t offset;
+    char *name;
+};
+struct section {
+    uint64_t at, size;
+    bool writable, executable;
+};
+struct image {
+    EFI_HANDLE handle;
+    EFI_LOADED_IMAGE_PROTOCOL *loaded;
+    EFI_DEVICE_PATH_PROTOCOL *path;
+    uint64_t placed, base, pages, size, entry, calls;
+    char name[64];
+    uint16_t subsystem;
+    bool started, gone, rights_noted;
+    sigjmp_buf back;
+    EFI_STATUS status;
+    UINTN exit_size;
+    CHAR16 *exit_data;
+    struct image *below, *next;
+    struct section sections[32];
+    size_t section_count;
+    struct symbol *symbols;
+    size_t symbol_count;
+    char *files; /* the host's path without its ending, where it comes from a file of the host */
+};
+struct image *image_at(uint64_t address);
+struct image *image_of(EFI_HANDLE handle);
+struct image *first_image(void);
+void keep_image(struct image *image);
+void read_symbols(struct image *image);
+const char *place_text(struct image *image, uint64_t address);
+const char *where(uint64_t address);
+const char *origin_text(const struct origin *origin);
+EFI_STATUS load_pe(const uint8_t *file, uint64_t length, struct image *image);
+void apply_rights(struct image *image);
+EFI_STATUS load_image(EFI_HANDLE parent, const void *path, const uint8_t *data, uint64_t length,
+                      const char *file, struct image **image);
+EFI_STATUS start_image(struct image *image);
+EFI_STATUS unload_image(struct image *image);
+EFI_STATUS EFIAPI LoadImage(BOOLEAN policy, EFI_HANDLE parent, EFI_DEVICE_PATH_PROTOCOL *path,
+                            void *data, UINTN size, EFI_HANDLE *handle);
+EFI_STATUS EFIAPI StartImage(EFI_HANDLE handle, UINTN *size, CHAR16 **data);
+EFI_STATUS EFIAPI Exit(EFI_HANDLE handle, EFI_STATUS status, UINTN size, CHAR16 *data);
+EFI_STATUS EFIAPI UnloadImage(EFI_HANDLE handle);
+EFI_STATUS EFIAPI ExitBootServices(EFI_HANDLE handle, UINTN key);
+const uint8_t *read_by_path(const void *path, uint64_t *length);
+
+/* ---- events.c ---- */
+struct event;
+uint64_t now_100ns(void);
+void skip_time(uint64_t amount);
+void idle(bool wants_key);
+void dispatch(void);
+void signal_numbers(const uint64_t *numbers, size_t count);
+uint64_t event_number(EFI_EVENT event);
+EFI_EVENT make_key_event(void);
+void signal_exit_boot_services(void);
+size_t events_of(const struct image *image);
+void fill_event_services(EFI_BOOT_SERVICES *boot);
+
+/* ---- protocols.c, device_paths.c, drivers.c, open_items.c ---- */
+EFI_STATUS install_one(uint64_t *handle, const void *guid, uint32_t kind, uint64_t value);
+EFI_STATUS uninstall_one(uint64_t handle, const void *guid, uint64_t value);
+void *interface_of(uint64_t handle, const void *guid);
+void fill_protocol_services(EFI_BOOT_SERVICES *boot);
+void fill_open_services(EFI_BOOT_SERVICES *boot);
+void make_path_room(void);
+size_t path_length(const void *path);
+uint64_t path_to_core(const void *guid, uint64_t value);
+uint64_t path_from_core(const void *guid, uint64_t value);
+uint64_t path_installed(uint64_t handle, const void *guid, uint64_t value);
+void path_drop(uint64_t value);
+EFI_STATUS locate_path(const void *guid, const void *path, uint64_t *handle, uint64_t *matched);
+EFI_STATUS connect_controller(uint64_t handle, const EFI_HANDLE *first,
+                              EFI_DEVICE_PATH_PROTOCOL *rest, bool recursive);
+EFI_STATUS disconnect_controller(uint64_t handle, uint64_t driver, uint64_t child);
+EFI_STATUS stop_holders(uint64_t handle, const void *guid);
+size_t open_entries(uint64_t handle, const void *guid, EFI_OPEN_PROTOCOL_INFORMATION_ENTRY *list,
+                    size_t room);
+struct held {
+    uint64_t handle, agent, controller, value;
+    EFI_GUID guid;
+    uint32_t attributes; /* 0: the interface itself, installed */
+    struct origin origin;
+};
+void hold(const struct held *held);
+void let_go(uint64_t handle, const void *guid, uint64_t agent, uint64_t controller, bool all);
+void each_held(void (*visit)(const struct held *held, void *context), void *context);
+
+/* ---- console.c, keys.c ---- */
+void make_console(void);
+void restore_terminal(void);
+bool terminal_out(void);
+bool key_is_ready(void);
+bool next_key(EFI_INPUT_KEY *key);
+bool keys_are_over(void);
+bool keys_from_terminal(void);
+int keys_descriptor(void);
+void open_keys(const char *file);
+
+/* ---- tables.c, runtime.c, variables.c ---- */
+void make_tables(void);
+void fill_small_services(EFI_BOOT_SERVICES *boot);
+void fill_runtime_services(EFI_RUNTIME_SERVICES *runtime);
+void fill_variable_services(EFI_RUNTIME_SERVICES *runtime);
+void open_variables(const char *file);
+void seal_table(EFI_TABLE_HEADER *header);
+
+/* ---- disks.c, folder.c, folder_files.c, graphics.c, picture.c, serial.c ---- */
+void make_disks(void);
+uint64_t make_folder(const char *path, unsigned number);
+EFI_FILE_PROTOCOL *folder_root(int folder);
+void write_time(EFI_TIME *to, int64_t seconds);
+const char *application_path(const char *file, EFI_HANDLE *device);
+void make_graphics(void);
+void save_picture(void);
+void write_picture(FILE *file, const uint32_t *pixels, unsigned width, unsigned height);
+void make_serial(const char *file);
+
+/* ---- faults.c, instructions.c, sandbox.c ---- */
+void catch_faults(void);
+const char *pass_over(void *context, bool only_name);
+void print_passed_over(FILE *file);
+void drop_rights(void);
+
+extern const EFI_GUID device_path_guid, loaded_image_guid, loaded_image_path_guid,
+    driver_binding_guid, file_system_guid, block_io_guid;
+
+#endif

@@ -1,0 +1,178 @@
+/* What is live and who made it: pool blocks, runs of pages, and the last of what was freed. */
+#include "host.h"
+
+#include <stdlib.h>
+#include <string.h>
+
+#define SLOTS 65536U
+#define FREED 512U
+
+static struct block *slots[SLOTS];
+static struct run *runs;
+static size_t run_count, run_room;
+static struct freed freed[FREED];
+static size_t freed_next;
+
+static struct block **slot_of(uint64_t at)
+{
+    return &slots[(at >> 3 ^ at >> 19) % SLOTS];
+}
+
+void ledger_add_block(const struct block *block)
+{
+    struct block *copy = must(malloc(sizeof *copy)), **slot = slot_of(block->at);
+
+    *copy = *block;
+    copy->next = *slot;
+    *slot = copy;
+}
+
+struct block *ledger_block(uint64_t at)
+{
+    struct block *block = *slot_of(at);
+
+    while (block != NULL && block->at != at)
+        block = block->next;
+    return block;
+}
+
+/* The block whose memory, with what the core has around it, holds an address. */
+struct block *ledger_block_around(uint64_t address)
+{
+    for (size_t i = 0; i < SLOTS; i++)
+        for (struct block *block = slots[i]; block != NULL; block = block->next)
+            if (address + 8 >= block->core_at && address < block->core_at + block->core_size)
+                return block;
+    return NULL;
+}
+
+void ledger_remove_block(uint64_t at, struct block *removed)
+{
+    struct block **link = slot_of(at);
+
+    while (*link != NULL && (*link)->at != at)
+        link = &(*link)->next;
+    if (*link != NULL) {
+        struct block *block = *link;
+
+        *removed = *block;
+        *link = block->next;
+        free(block);
+    }
+}
+
+void ledger_each_block(void (*visit)(struct block *block, void *context), void *context)
+{
+    for (size_t i = 0; i < SLOTS; i++)
+        for (struct block *block = slots[i]; block != NULL; block = block->next)
+            visit(block, context);
+}
+
+void ledger_add_run(const struct run *run)
+{
+    if (run_count == run_room) {
+        run_room = run_room == 0 ? 64 : 2 * run_room;
+        runs = must(realloc(runs, run_room * sizeof *runs));
+    }
+    runs[run_count++] = *run;
+}
+
+struct run *ledger_run_with(uint64_t address)
+{
+    for (size_t i = 0; i < run_count; i++)
+        if (address >= runs[i].at && address - runs[i].at < runs[i].pages * PAGE)
+            return &runs[i];
+    return NULL;
+}
+
+/* The run before or behind which a red page with this address lies. */
+struct run *ledger_run_beside(uint64_t address)
+{
+    for (size_t i = 0; i < run_count; i++) {
+        uint64_t end = runs[i].at + runs[i].pages * PAGE;
+
+        if (runs[i].red_before && address + PAGE >= runs[i].at && address < runs[i].at)
+            return &runs[i];
+        if (runs[i].red_behind && address >= end && address - end < PAGE)
+            return &runs[i];
+    }
+    return NULL;
+}
+
+/* Takes pages out of all runs, of which what lies before and behind stays. */
+void ledger_cut_runs(uint64_t at, uint64_t pages)
+{
+    uint64_t end = at + pages * PAGE;
+
+    for (size_t i = run_count; i-- > 0;) {
+        struct run run = runs[i], piece = run;
+        uint64_t run_end = run.at + run.pages * PAGE;
+
+        if (run_end <= at || run.at >= end)
+            continue;
+        runs[i] = runs[--run_count];
+        if (run.at < at) {
+            piece.pages = (at - run.at) / PAGE;
+            piece.red_behind = false;
+            ledger_add_run(&piece);
+        }
+        if (run_end > end) {
+            piece = run;
+            piece.at = end;
+            piece.pages = (run_end - end) / PAGE;
+            piece.red_before = false;
+            ledger_add_run(&piece);
+        }
+    }
+}
+
+void ledger_each_run(void (*visit)(struct run *run, void *context), void *context)
+{
+    for (size_t i = 0; i < run_count; i++)
+        visit(&runs[i], context);
+}
+
+void ledger_add_freed(uint64_t at, uint64_t size, bool filled, struct origin made)
+{
+    struct freed *entry = &freed[freed_next++ % FREED];
+
+    if (entry->filled)
+        zone_look_at_reuse(entry->at, entry->size);
+    entry->at = at;
+    entry->size = size;
+    entry->filled = filled;
+    entry->made = made;
+    entry->freed = origin_now();
+}
+
+/* The latest of what was freed that holds an address. */
+struct freed *ledger_freed_with(uint64_t address)
+{
+    for (size_t i = 1; i <= FREED && i <= freed_next; i++) {
+        struct freed *entry = &freed[(freed_next - i) % FREED];
+
+        if (entry->at != UINT64_MAX && address >= entry->at &&
+            address - entry->at < (entry->size == 0 ? 1 : entry->size))
+            return entry;
+    }
+    return NULL;
+}
+
+/* One after the other, from 0 on; NULL behind the last. */
+struct freed *ledger_freed(size_t index)
+{
+    return index < FREED && index < freed_next ? &freed[index] : NULL;
+}
+
+/* What is placed again is freed memory no longer. */
+void ledger_drop_freed(uint64_t at, uint64_t size)
+{
+    struct freed *entry;
+
+    for (size_t i = 0; (entry = ledger_freed(i)) != NULL; i++)
+        if (entry->at != UINT64_MAX && entry->at < at + size &&
+            at < entry->at + (entry->size == 0 ? 1 : entry->size)) {
+            entry->filled = false;
+            entry->at = UINT64_MAX;
+        }
+}

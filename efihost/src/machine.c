@@ -1,0 +1,253 @@
+/* The machine: its memory map, of a machine file or a default of 256 MB, and that memory at its own
+ * addresses in this process. */
+#include "host.h"
+
+#include <stdlib.h>
+#include <string.h>
+#include <sys/mman.h>
+
+#define MOST_RANGES 65536U
+#define LOWEST 0x10000ULL /* what a process may have lies at or above this */
+#define ALL (PROT_READ | PROT_WRITE | PROT_EXEC)
+
+static struct machine_range *ranges;
+static size_t range_count;
+
+/* Whether a type of memory has bytes behind it that a program may use. */
+static bool has_bytes(const struct machine_range *range)
+{
+    if (range->type == RAFKUDIN_RESERVED)
+        return (range->attributes & 8) != 0;
+    return range->type != RAFKUDIN_UNUSABLE && range->type != RAFKUDIN_MEMORY_MAPPED_IO &&
+           range->type != RAFKUDIN_MEMORY_MAPPED_IO_PORT_SPACE;
+}
+
+static void keep(struct machine_range range)
+{
+    if (range_count == MOST_RANGES)
+        refuse("machine: too many descriptors");
+    ranges = must(realloc(ranges, (range_count + 1) * sizeof *ranges));
+    ranges[range_count++] = range;
+}
+
+/* Adds a range of memory. What lies below the lowest address that a process may have, or where this
+ * process has something already, is reserved on the machine that is run, and a line says so. */
+static void add(uint32_t type, uint64_t start, uint64_t pages, uint64_t attributes)
+{
+    struct machine_range range = {start, pages, attributes, type, false};
+
+    if (has_bytes(&range) && start < LOWEST) {
+        uint64_t below = (LOWEST - start) / PAGE;
+        struct machine_range low = {start, below < pages ? below : pages, attributes,
+                                    type == RAFKUDIN_CONVENTIONAL ? RAFKUDIN_RESERVED : type,
+                                    false};
+
+        keep(low);
+        if (below >= pages)
+            return;
+        range.start = LOWEST;
+        range.pages = pages - below;
+    }
+    if (has_bytes(&range)) {
+        void *at = POINTER(range.start);
+        int flags = MAP_PRIVATE | MAP_ANONYMOUS | MAP_NORESERVE | MAP_FIXED_NOREPLACE;
+
+        range.mapped = mmap(at, range.pages * PAGE, ALL, flags, -1, 0) == at;
+        if (!range.mapped) {
+            fprintf(stderr, "efihost: this process cannot have the memory at 0x%lx, %lu pages\n",
+                    range.start, range.pages);
+            if (type == RAFKUDIN_CONVENTIONAL)
+                range.type = RAFKUDIN_RESERVED;
+        }
+    }
+    keep(range);
+}
+
+/* A text that is a hexadecimal number. */
+static bool hexadecimal(struct json *json, uint64_t *number)
+{
+    char text[32], *end;
+
+    if (!json_string(json, text, sizeof text) || strncmp(text, "0x", 2) != 0)
+        return false;
+    *number = strtoull(text, &end, 16);
+    return *end == 0 && end != text + 2;
+}
+
+static bool read_descriptor(struct json *json)
+{
+    uint64_t type = 0, start = 0, pages = 0, attributes = 0;
+    unsigned fields = 0;
+    char key[16];
+
+    if (!json_enter(json, '{'))
+        return false;
+    while (json_next(json, '}', key, sizeof key)) {
+        bool good;
+
+        if (strcmp(key, "type") == 0)
+            fields |= 1U, good = json_number(json, &type);
+        else if (strcmp(key, "start") == 0)
+            fields |= 2U, good = hexadecimal(json, &start);
+        else if (strcmp(key, "pages") == 0)
+            fields |= 4U, good = json_number(json, &pages);
+        else if (strcmp(key, "attributes") == 0)
+            fields |= 8U, good = hexadecimal(json, &attributes);
+        else
+            good = json_skip(json);
+        if (!good)
+            return false;
+    }
+    if (json->at == NULL || fields != 15 || type > UINT32_MAX || pages == 0 || start % PAGE != 0 ||
+        pages > (1ULL << 52) - start / PAGE)
+        return false;
+    add((uint32_t)type, start, pages, attributes);
+    return true;
+}
+
+static void read_machine(const char *name)
+{
+    size_t length, count = 0;
+    char *text = (char *)read_file(name, &length), key[16];
+    struct json json;
+    bool memory = false;
+
+    if (text == NULL)
+        refuse("cannot read machine %s", name);
+    json = json_text(text, length);
+    if (!json_enter(&json, '{'))
+        refuse("machine: not JSON");
+    while (json_next(&json, '}', key, sizeof key)) {
+        if (strcmp(key, "memory") != 0) {
+            if (!json_skip(&json))
+                refuse("machine: not JSON");
+            continue;
+        }
+        memory = json_enter(&json, '[');
+        while (memory && json_next(&json, ']', NULL, 0))
+            if (!read_descriptor(&json))
+                refuse("machine: descriptor %zu", count);
+            else
+                count++;
+    }
+    if (json.at == NULL)
+        refuse("machine: not JSON");
+    if (!memory)
+        refuse("machine: no memory list");
+    free(text);
+}
+
+static int by_start(const void *one, const void *other)
+{
+    const struct machine_range *a = one, *b = other;
+
+    return a->start < b->start ? -1 : a->start > b->start;
+}
+
+/* Makes the core of the ranges, in the form in which GetMemoryMap writes them. */
+static void make_core(void)
+{
+    EFI_MEMORY_DESCRIPTOR *records = must(calloc(range_count + 1, sizeof *records));
+    uint64_t status;
+
+    for (size_t i = 0; i < range_count; i++) {
+        records[i].Type = ranges[i].type;
+        records[i].PhysicalStart = ranges[i].start;
+        records[i].NumberOfPages = ranges[i].pages;
+        records[i].Attribute = ranges[i].attributes;
+    }
+    status = RafkudinMake((const uint8_t *)records, range_count * sizeof *records,
+                          sizeof *records, 1, NULL, 0, &host.core);
+    if (status != RAFKUDIN_SUCCESS)
+        refuse("machine: the core refuses it: %s", status_text(status));
+    RafkudinCertify(host.core, host.options.certify);
+    if (host.options.trace != NULL)
+        open_trace(host.options.trace, (const uint8_t *)records, range_count);
+    free(records);
+}
+
+void make_machine(const char *file)
+{
+    if (file != NULL) {
+        read_machine(file);
+    } else {
+        add(RAFKUDIN_CONVENTIONAL, LOWEST, 0x90, 0xf);
+        add(RAFKUDIN_CONVENTIONAL, 0x100000, 0xff00, 0xf);
+    }
+    qsort(ranges, range_count, sizeof *ranges, by_start);
+    make_core();
+    if (!host.checks)
+        return;
+    for (size_t i = 0; i < range_count; i++)
+        if (ranges[i].mapped && ranges[i].type == RAFKUDIN_CONVENTIONAL)
+            shut_memory(ranges[i].start, ranges[i].pages * PAGE);
+}
+
+/* The range of the machine with an address, or NULL. */
+const struct machine_range *machine_range_at(uint64_t address)
+{
+    size_t low = 0, high = range_count;
+
+    while (low < high) {
+        size_t middle = low + (high - low) / 2;
+
+        if (address < ranges[middle].start)
+            high = middle;
+        else if (address - ranges[middle].start >= ranges[middle].pages * PAGE)
+            low = middle + 1;
+        else
+            return &ranges[middle];
+    }
+    return NULL;
+}
+
+/* The conventional memory around an address; false where it is of another type or none. */
+bool conventional_range(uint64_t address, uint64_t *start, uint64_t *size)
+{
+    struct rafkudin_descriptor entry;
+    size_t low = 0, high = RafkudinDescriptors(host.core);
+
+    while (low < high) {
+        size_t middle = low + (high - low) / 2;
+
+        if (RafkudinDescriptor(host.core, middle, &entry) != RAFKUDIN_SUCCESS)
+            return false;
+        if (address < entry.physical_start)
+            high = middle;
+        else if (address - entry.physical_start >= entry.number_of_pages * PAGE)
+            low = middle + 1;
+        else {
+            *start = entry.physical_start;
+            *size = entry.number_of_pages * PAGE;
+            return entry.type == RAFKUDIN_CONVENTIONAL;
+        }
+    }
+    return false;
+}
+
+static void protect(uint64_t address, uint64_t size, int rights)
+{
+    uint64_t first = address & ~(PAGE - 1), end = (address + size + PAGE - 1) & ~(PAGE - 1);
+
+    if (end > first && mprotect(POINTER(first), end - first, rights) != 0)
+        refuse("cannot protect 0x%lx: too many pieces of memory for one process", first);
+}
+
+/* Lets every page with one of these bytes be used. */
+void open_memory(uint64_t address, uint64_t size)
+{
+    protect(address, size, ALL);
+}
+
+void shut_memory(uint64_t address, uint64_t size)
+{
+    protect(address, size, PROT_NONE);
+}
+
+/* Once boot services have ended, all memory is the application's. */
+void open_all_memory(void)
+{
+    for (size_t i = 0; i < range_count; i++)
+        if (ranges[i].mapped)
+            open_memory(ranges[i].start, ranges[i].pages * PAGE);
+}

@@ -1,0 +1,151 @@
+/* The command line. */
+#include "host.h"
+
+#include <stdarg.h>
+#include <stdlib.h>
+#include <string.h>
+
+static const char usage[] =
+    "usage: efihost [OPTION]... APP.efi [ARGUMENT]...\n"
+    "Runs a UEFI application for x86-64 in a process, over the proved core of Rafkudin.\n"
+    "\n"
+    "  --machine FILE    the machine's memory map, a machine file of bootcore; else 256 MB\n"
+    "  --disk FILE       an image as a block device\n"
+    "  --disk FOLDER     a folder as a file system\n"
+    "  --driver FILE     a driver's .efi, started before the application; drivers are then\n"
+    "                    connected to all handles\n"
+    "  --variables FILE  where non-volatile variables are kept\n"
+    "  --input FILE      keys: text, its lines ended by Enter, and <<esc>>, <<up>>, <<down>>,\n"
+    "                    <<left>>, <<right>>, <<home>>, <<end>>, <<insert>>, <<delete>>,\n"
+    "                    <<pageup>>, <<pagedown>>, <<f1>> to <<f12>>, <<wait SECONDS>>;\n"
+    "                    else keys come from standard input\n"
+    "  --picture FILE    a graphics output; its picture is saved as PNG at the end and on SIGUSR1\n"
+    "  --serial FILE     a serial port; what is written to it goes to FILE\n"
+    "  --plain           plain text also on a terminal\n"
+    "  --quiet           no text of the console\n"
+    "\n"
+    "  --check           reports misuse of memory and services, and what is left at the end\n"
+    "  --guard           the same, and stops at the first, accesses at their instruction\n"
+    "  --json FILE       the report for programs\n"
+    "  --calls FILE      the services that were called, a line each\n"
+    "  --trace FILE      the calls of the core for `bootcore run --trace FILE --machine\n"
+    "                    FILE.machine.json`, which prints what is in FILE.replies\n"
+    "  --certify         checks the certificate of each placement as it is made\n"
+    "  --strict          an instruction that a process may not have ends the run\n"
+    "  --time SECONDS    ends the run then; 0 is never, without the option it is 60\n"
+    "  --rights          the process keeps the rights that it has\n"
+    "  --help, --version\n"
+    "\n"
+    "Exit status: 0 the application ended with success; 1 with an error; 2 it was never run;\n"
+    "3 something was found by --check or --guard; 4 it failed; 5 its time or its input was over.\n";
+
+void refuse(const char *format, ...)
+{
+    va_list words;
+
+    restore_terminal();
+    fflush(stdout);
+    fprintf(stderr, "efihost: ");
+    va_start(words, format);
+    vfprintf(stderr, format, words);
+    va_end(words);
+    fputc('\n', stderr);
+    exit(ENDED_NEVER_RAN);
+}
+
+static void print_version(void)
+{
+    uint32_t version = RafkudinVersion();
+
+    printf("efihost %u.%u.%u\n", version >> 16, version >> 8 & 0xff, version & 0xff);
+    exit(0);
+}
+
+/* An option without a value. */
+static bool read_flag(const char *word, struct options *options)
+{
+    struct {
+        const char *word;
+        bool *flag;
+    } const flags[] = {
+        {"--check", &options->check},     {"--guard", &options->guard},
+        {"--strict", &options->strict},   {"--quiet", &options->quiet},
+        {"--plain", &options->plain},     {"--certify", &options->certify},
+        {"--rights", &options->rights},
+    };
+
+    for (size_t i = 0; i < LENGTH(flags); i++)
+        if (strcmp(word, flags[i].word) == 0)
+            return *flags[i].flag = true;
+    if (strcmp(word, "--version") == 0)
+        print_version();
+    if (strcmp(word, "--help") == 0) {
+        fputs(usage, stdout);
+        exit(0);
+    }
+    return false;
+}
+
+static void add_to(const char **list, size_t *count, size_t most, const char *value)
+{
+    if (*count == most)
+        refuse("too many of %s", value);
+    list[(*count)++] = value;
+}
+
+/* An option with a value. */
+static bool read_value(const char *word, const char *value, struct options *options)
+{
+    struct {
+        const char *word;
+        const char **value;
+    } const values[] = {
+        {"--machine", &options->machine},     {"--trace", &options->trace},
+        {"--input", &options->input},         {"--variables", &options->variables},
+        {"--json", &options->json},           {"--calls", &options->calls},
+        {"--picture", &options->picture},     {"--serial", &options->serial},
+    };
+    char *end;
+
+    for (size_t i = 0; i < LENGTH(values); i++)
+        if (strcmp(word, values[i].word) == 0) {
+            *values[i].value = value;
+            return true;
+        }
+    if (strcmp(word, "--disk") == 0)
+        add_to(options->disks, &options->disk_count, MOST_DISKS, value);
+    else if (strcmp(word, "--driver") == 0)
+        add_to(options->drivers, &options->driver_count, MOST_DRIVERS, value);
+    else if (strcmp(word, "--time") == 0) {
+        options->seconds = (unsigned)strtoul(value, &end, 10);
+        if (end == value || *end != 0)
+            refuse("--time: %s is no number of seconds", value);
+    } else {
+        return false;
+    }
+    return true;
+}
+
+/* Reads the options up to the application; all behind it are its own arguments. */
+void read_options(int count, char **words, struct options *options)
+{
+    int i = 1;
+
+    options->seconds = 60;
+    for (; i < count && strncmp(words[i], "--", 2) == 0; i++) {
+        if (read_flag(words[i], options))
+            continue;
+        if (i + 1 == count || !read_value(words[i], words[i + 1], options)) {
+            fprintf(stderr, "efihost: %s\n%s", words[i], usage);
+            exit(ENDED_NEVER_RAN);
+        }
+        i++;
+    }
+    if (i == count) {
+        fputs(usage, stderr);
+        exit(ENDED_NEVER_RAN);
+    }
+    options->application = words[i++];
+    for (; i < count; i++)
+        add_to(options->arguments, &options->argument_count, MOST_ARGUMENTS, words[i]);
+}

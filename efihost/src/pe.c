@@ -1,0 +1,219 @@
+/* PE32+ images for x86-64: their sections at their places, relocations, and what each section's
+ * memory may be used for. */
+#include "host.h"
+
+#include <string.h>
+#include <sys/mman.h>
+
+#define RELOCATIONS 5U
+#define STRIPPED 1U
+#define MOST_IMAGE (1ULL << 30)
+
+struct headers {
+    const uint8_t *file, *header, *optional, *sections;
+    uint64_t length, image_base, size;
+    uint32_t alignment, header_size, directories;
+    uint16_t section_count, flags;
+};
+
+static uint16_t get16(const uint8_t *at)
+{
+    return (uint16_t)(at[0] | at[1] << 8);
+}
+
+static uint32_t get32(const uint8_t *at)
+{
+    return get16(at) | (uint32_t)get16(at + 2) << 16;
+}
+
+static uint64_t get64(const uint8_t *at)
+{
+    return get32(at) | (uint64_t)get32(at + 4) << 32;
+}
+
+static bool read_headers(const uint8_t *file, uint64_t length, struct headers *to)
+{
+    uint32_t start;
+
+    if (length < 64 || file[0] != 'M' || file[1] != 'Z')
+        return false;
+    start = get32(file + 60);
+    if (start > length || length - start < 24 + 112 || memcmp(file + start, "PE\0\0", 4) != 0)
+        return false;
+    to->file = file;
+    to->length = length;
+    to->header = file + start;
+    to->optional = to->header + 24;
+    if (get16(to->header + 4) != 0x8664 || get16(to->optional) != 0x20b)
+        return false;
+    to->section_count = get16(to->header + 6);
+    to->flags = get16(to->header + 22);
+    to->sections = to->optional + get16(to->header + 20);
+    to->image_base = get64(to->optional + 24);
+    to->alignment = get32(to->optional + 32);
+    to->size = get32(to->optional + 56);
+    to->header_size = get32(to->optional + 60);
+    to->directories = get32(to->optional + 108);
+    return (uint64_t)(to->sections - file) + 40ULL * to->section_count <= length &&
+           to->header_size <= length && to->header_size <= to->size && to->size <= MOST_IMAGE &&
+           to->size != 0 && get32(to->optional + 16) < to->size;
+}
+
+/* A directory of the image, its place and its size; false where it has none or it lies outside. */
+static bool directory(const struct headers *from, unsigned index, uint32_t *at, uint32_t *size)
+{
+    const uint8_t *entry = from->optional + 112 + 8 * index;
+
+    if (index >= from->directories || entry + 8 > from->sections)
+        return false;
+    *at = get32(entry);
+    *size = get32(entry + 4);
+    return *size != 0 && (uint64_t)*at + *size <= from->size;
+}
+
+static uint32_t code_type(uint16_t subsystem)
+{
+    if (subsystem == 10)
+        return RAFKUDIN_LOADER_CODE;
+    return subsystem == 11 ? RAFKUDIN_BOOT_SERVICES_CODE : RAFKUDIN_RUNTIME_SERVICES_CODE;
+}
+
+/* Places the image's pages; one that can't be relocated goes where it says. */
+static EFI_STATUS place(const struct headers *from, struct image *image)
+{
+    uint32_t type = code_type(image->subsystem);
+    uint64_t alignment = from->alignment > PAGE ? from->alignment : PAGE;
+    uint64_t at = from->image_base;
+    EFI_STATUS status;
+
+    image->size = from->size;
+    image->pages = (from->size + PAGE - 1) / PAGE;
+    if ((from->flags & STRIPPED) != 0) {
+        status = host_plain_pages(RAFKUDIN_AT_ADDRESS, type, image->pages, &at);
+        image->placed = image->base = at;
+        return status;
+    }
+    image->pages += (alignment - PAGE) / PAGE;
+    status = host_plain_pages(RAFKUDIN_ANY_PAGES, type, image->pages, &at);
+    image->placed = at;
+    image->base = (at + alignment - 1) / alignment * alignment;
+    return status;
+}
+
+/* Copies the sections; false where one lies outside the file or the image. */
+static bool copy_sections(const struct headers *from, struct image *image)
+{
+    uint8_t *to = POINTER(image->base);
+
+    memset(POINTER(image->placed), 0, image->pages * PAGE);
+    memcpy(to, from->file, from->header_size);
+    for (unsigned i = 0; i < from->section_count; i++) {
+        const uint8_t *header = from->sections + 40 * i;
+        uint64_t virtual_size = get32(header + 8), at = get32(header + 12);
+        uint64_t size = get32(header + 16), start = get32(header + 20);
+        uint32_t flags = get32(header + 36);
+
+        if (virtual_size != 0 && size > virtual_size)
+            size = virtual_size;
+        if (at > from->size || size > from->size - at || virtual_size > from->size - at)
+            return false;
+        if (size != 0 && (start > from->length || size > from->length - start))
+            return false;
+        memcpy(to + at, from->file + start, size);
+        if (image->section_count < LENGTH(image->sections))
+            image->sections[image->section_count++] =
+                (struct section){at, virtual_size == 0 ? size : virtual_size,
+                                 (flags & 0x80000000U) != 0, (flags & 0x20000000U) != 0};
+    }
+    return true;
+}
+
+/* Applies one block of relocations, all of a page; false where it is none. */
+static bool relocate_page(struct image *image, const uint8_t *block, uint32_t size, uint64_t delta)
+{
+    uint32_t page = get32(block);
+    uint8_t *to = POINTER(image->base);
+
+    for (uint32_t i = 8; i + 2 <= size; i += 2) {
+        uint16_t entry = get16(block + i);
+        uint64_t at = (uint64_t)page + (entry & 4095), whole;
+        uint32_t half;
+
+        if (entry >> 12 == 0)
+            continue;
+        if (at + 8 > image->size)
+            return false;
+        if (entry >> 12 == 10) {
+            memcpy(&whole, to + at, 8);
+            whole += delta;
+            memcpy(to + at, &whole, 8);
+        } else if (entry >> 12 == 3) {
+            memcpy(&half, to + at, 4);
+            half += (uint32_t)delta;
+            memcpy(to + at, &half, 4);
+        } else {
+            return false;
+        }
+    }
+    return true;
+}
+
+static bool relocate(const struct headers *from, struct image *image)
+{
+    uint64_t delta = image->base - from->image_base;
+    uint32_t at, size, done = 0;
+
+    if (delta == 0 || !directory(from, RELOCATIONS, &at, &size))
+        return true;
+    while (done + 8 <= size) {
+        const uint8_t *block = (const uint8_t *)POINTER(image->base) + at + done;
+        uint32_t block_size = get32(block + 4);
+
+        if (block_size == 0)
+            return true;
+        if (block_size < 8 || block_size > size - done ||
+            !relocate_page(image, block, block_size, delta))
+            return false;
+        done += block_size;
+    }
+    return true;
+}
+
+/* Each section's pages may be used for what its flags say, where each begins a page of its own. */
+void apply_rights(struct image *image)
+{
+    for (size_t i = 0; i < image->section_count; i++)
+        if (image->sections[i].at % PAGE != 0)
+            return;
+    for (size_t i = 0; i < image->section_count; i++) {
+        const struct section *section = &image->sections[i];
+        int rights = PROT_READ | (section->writable ? PROT_WRITE : 0) |
+                     (section->executable ? PROT_EXEC : 0);
+        uint64_t size = (section->size + PAGE - 1) / PAGE * PAGE;
+
+        if (size != 0 && mprotect(POINTER(image->base + section->at), size, rights) != 0)
+            return;
+    }
+}
+
+/* Puts an image into the machine's memory; on an error nothing is kept. */
+EFI_STATUS load_pe(const uint8_t *file, uint64_t length, struct image *image)
+{
+    struct headers headers;
+    EFI_STATUS status;
+
+    if (!read_headers(file, length, &headers))
+        return EFI_UNSUPPORTED;
+    image->subsystem = get16(headers.optional + 68);
+    if (image->subsystem < 10 || image->subsystem > 12)
+        return EFI_UNSUPPORTED;
+    status = place(&headers, image);
+    if (status != EFI_SUCCESS)
+        return status;
+    if (!copy_sections(&headers, image) || !relocate(&headers, image)) {
+        host_free_pages(image->placed, image->pages);
+        return EFI_LOAD_ERROR;
+    }
+    image->entry = image->base + get32(headers.optional + 16);
+    return EFI_SUCCESS;
+}

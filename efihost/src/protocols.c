@@ -1,0 +1,334 @@
+/* The protocol services that install and look up. */
+#include "host.h"
+
+#include <stdarg.h>
+#include <stdlib.h>
+#include <string.h>
+
+#define MOST_INTERFACES 64U
+
+/* Values that are handed to the core and back: those of device paths are other ones there. */
+EFI_STATUS install_one(uint64_t *handle, const void *guid, uint32_t kind, uint64_t value)
+{
+    uint64_t core_value = path_to_core(guid, value);
+    EFI_STATUS status = core_install(handle, guid, kind, core_value);
+    struct held held = {*handle, 0, 0, value, {0}, 0, origin_now()};
+
+    memcpy(&held.guid, guid, sizeof held.guid);
+    if (status == EFI_SUCCESS)
+        hold(&held);
+    else if (core_value != value)
+        path_drop(core_value);
+    return status;
+}
+
+/* Where a driver has the interface open the host stops it first. */
+EFI_STATUS uninstall_one(uint64_t handle, const void *guid, uint64_t value)
+{
+    uint64_t core_value = path_installed(handle, guid, value);
+    EFI_STATUS status = core_uninstall(handle, guid, core_value);
+
+    if (status == EFI_ACCESS_DENIED && stop_holders(handle, guid) == EFI_SUCCESS)
+        status = core_uninstall(handle, guid, core_value);
+    if (status != EFI_SUCCESS)
+        return status;
+    if (core_value != value)
+        path_drop(core_value);
+    let_go(handle, guid, 0, 0, true);
+    return EFI_SUCCESS;
+}
+
+/* The interface of a handle, or NULL. */
+void *interface_of(uint64_t handle, const void *guid)
+{
+    uint64_t value = 0;
+
+    if (core_handle_protocol(handle, guid, &value) != EFI_SUCCESS)
+        return NULL;
+    return POINTER(path_from_core(guid, value));
+}
+
+static EFI_STATUS EFIAPI InstallProtocolInterface(EFI_HANDLE *handle, const EFI_GUID *guid,
+                                                  uint32_t kind, void *interface)
+{
+    SERVICE("InstallProtocolInterface", NUMBER(handle), NUMBER(guid), kind, NUMBER(interface));
+    uint64_t number;
+    EFI_STATUS status;
+
+    if (handle == NULL || guid == NULL)
+        ANSWER(EFI_INVALID_PARAMETER);
+    number = NUMBER(*handle);
+    status = install_one(&number, guid, kind, NUMBER(interface));
+    if (status == EFI_SUCCESS)
+        *handle = HANDLE(number);
+    ANSWER(status);
+}
+
+static EFI_STATUS EFIAPI UninstallProtocolInterface(EFI_HANDLE handle, const EFI_GUID *guid,
+                                                    void *interface)
+{
+    SERVICE("UninstallProtocolInterface", NUMBER(handle), NUMBER(guid), NUMBER(interface));
+
+    if (guid == NULL)
+        ANSWER(EFI_INVALID_PARAMETER);
+    ANSWER(uninstall_one(NUMBER(handle), guid, NUMBER(interface)));
+}
+
+static EFI_STATUS EFIAPI ReinstallProtocolInterface(EFI_HANDLE handle, const EFI_GUID *guid,
+                                                    void *old, void *interface)
+{
+    SERVICE("ReinstallProtocolInterface", NUMBER(handle), NUMBER(guid), NUMBER(old),
+            NUMBER(interface));
+    uint64_t number = NUMBER(handle), core_old, core_new;
+    EFI_STATUS status;
+
+    if (guid == NULL)
+        ANSWER(EFI_INVALID_PARAMETER);
+    core_old = path_installed(number, guid, NUMBER(old));
+    core_new = path_to_core(guid, NUMBER(interface));
+    status = core_reinstall(number, guid, core_old, core_new);
+    if (status == EFI_ACCESS_DENIED && stop_holders(number, guid) == EFI_SUCCESS)
+        status = core_reinstall(number, guid, core_old, core_new);
+    if (status != EFI_SUCCESS) {
+        if (core_new != NUMBER(interface))
+            path_drop(core_new);
+        ANSWER(status);
+    }
+    if (core_old != NUMBER(old))
+        path_drop(core_old);
+    connect_controller(number, NULL, NULL, true);
+    ANSWER(status);
+}
+
+struct listed {
+    const EFI_GUID *guid;
+    uint64_t value;
+};
+
+/* The pairs of a list of arguments, of at most `room`; `count` is how many there are. */
+static bool read_list(__builtin_ms_va_list words, struct listed *list, size_t *count)
+{
+    const EFI_GUID *guid;
+
+    *count = 0;
+    while ((guid = __builtin_va_arg(words, const EFI_GUID *)) != NULL) {
+        if (*count == MOST_INTERFACES)
+            return false;
+        list[*count].guid = guid;
+        list[(*count)++].value = __builtin_va_arg(words, uint64_t);
+    }
+    return true;
+}
+
+static EFI_STATUS install_list(EFI_HANDLE *handle, const struct listed *list, size_t count)
+{
+    struct rafkudin_interface interfaces[MOST_INTERFACES];
+    uint64_t number = NUMBER(*handle);
+    EFI_STATUS status;
+
+    for (size_t i = 0; i < count; i++) {
+        interfaces[i].guid = core_guid(list[i].guid);
+        interfaces[i].value = path_to_core(list[i].guid, list[i].value);
+    }
+    status = core_install_many(&number, interfaces, count);
+    for (size_t i = 0; i < count; i++) {
+        struct held held = {number, 0, 0, list[i].value, *list[i].guid, 0, origin_now()};
+
+        if (status == EFI_SUCCESS)
+            hold(&held);
+        else if (interfaces[i].value != list[i].value)
+            path_drop(interfaces[i].value);
+    }
+    if (status == EFI_SUCCESS)
+        *handle = HANDLE(number);
+    return status;
+}
+
+/* Of no interfaces the reference implementation makes nothing of it, and returns SUCCESS. */
+static EFI_STATUS EFIAPI InstallMultipleProtocolInterfaces(EFI_HANDLE *handle, ...)
+{
+    SERVICE("InstallMultipleProtocolInterfaces", NUMBER(handle));
+    struct listed list[MOST_INTERFACES];
+    __builtin_ms_va_list words;
+    size_t count;
+    bool fits;
+
+    if (handle == NULL)
+        ANSWER(EFI_INVALID_PARAMETER);
+    __builtin_ms_va_start(words, handle);
+    fits = read_list(words, list, &count);
+    __builtin_ms_va_end(words);
+    if (!fits)
+        ANSWER(EFI_OUT_OF_RESOURCES);
+    if (count == 0)
+        ANSWER(EFI_SUCCESS);
+    ANSWER(install_list(handle, list, count));
+}
+
+/* The library lacks this service: the interfaces are uninstalled one after the other, and where one
+ * is refused those before it are installed again. */
+static EFI_STATUS EFIAPI UninstallMultipleProtocolInterfaces(EFI_HANDLE handle, ...)
+{
+    SERVICE("UninstallMultipleProtocolInterfaces", NUMBER(handle));
+    struct listed list[MOST_INTERFACES];
+    __builtin_ms_va_list words;
+    uint64_t number = NUMBER(handle);
+    size_t count, done = 0;
+    bool fits;
+
+    __builtin_ms_va_start(words, handle);
+    fits = read_list(words, list, &count);
+    __builtin_ms_va_end(words);
+    while (fits && done < count &&
+           uninstall_one(number, list[done].guid, list[done].value) == EFI_SUCCESS)
+        done++;
+    if (fits && done == count)
+        ANSWER(EFI_SUCCESS);
+    while (done-- > 0)
+        install_one(&number, list[done].guid, 0, list[done].value);
+    ANSWER(EFI_INVALID_PARAMETER);
+}
+
+static EFI_STATUS EFIAPI RegisterProtocolNotify(const EFI_GUID *guid, EFI_EVENT event, void **key)
+{
+    SERVICE("RegisterProtocolNotify", NUMBER(guid), NUMBER(event));
+    uint64_t number = event_number(event), made = 0;
+    EFI_STATUS status;
+
+    if (guid == NULL || key == NULL || number == 0)
+        ANSWER(EFI_INVALID_PARAMETER);
+    status = core_notify(guid, number, &made);
+    if (status == EFI_SUCCESS)
+        *key = POINTER(made);
+    ANSWER(status);
+}
+
+static EFI_STATUS EFIAPI LocateHandle(uint32_t search, const EFI_GUID *guid, void *key,
+                                      UINTN *size, EFI_HANDLE *handles)
+{
+    SERVICE("LocateHandle", search, NUMBER(guid), NUMBER(key), size == NULL ? 0 : *size);
+
+    if (size == NULL || (handles == NULL && *size != 0) ||
+        (guid == NULL && search == RAFKUDIN_BY_PROTOCOL))
+        ANSWER(EFI_INVALID_PARAMETER);
+    ANSWER(core_locate(search, guid, NUMBER(key), size, (uint64_t *)handles));
+}
+
+/* On a refusal the count is 0 and the buffer null, as in the reference implementation. */
+static EFI_STATUS EFIAPI LocateHandleBuffer(uint32_t search, const EFI_GUID *guid, void *key,
+                                            UINTN *count, EFI_HANDLE **handles)
+{
+    SERVICE("LocateHandleBuffer", search, NUMBER(guid), NUMBER(key));
+    uint64_t address = 0, found_handles = 0;
+    void *block = NULL;
+    EFI_STATUS status;
+
+    if (count == NULL || handles == NULL || (guid == NULL && search == RAFKUDIN_BY_PROTOCOL))
+        ANSWER(EFI_INVALID_PARAMETER);
+    status = core_locate_buffer(search, guid, NUMBER(key), &found_handles, &address);
+    if (status == EFI_SUCCESS)
+        status = host_adopt_block(address, 8 * found_handles, &block);
+    *count = status == EFI_SUCCESS ? found_handles : 0;
+    *handles = block;
+    ANSWER(status);
+}
+
+/* Notes a protocol that nobody installed. */
+static void ask_missing_protocol(const EFI_GUID *guid)
+{
+    char text[64];
+
+    snprintf(text, sizeof text, "protocol %s", guid_text(guid));
+    ask_missing(text);
+}
+
+static EFI_STATUS EFIAPI LocateProtocol(const EFI_GUID *guid, void *key, void **interface)
+{
+    SERVICE("LocateProtocol", NUMBER(guid), NUMBER(key));
+    uint64_t value = 0;
+    EFI_STATUS status;
+
+    if (guid == NULL || interface == NULL)
+        ANSWER(EFI_INVALID_PARAMETER);
+    status = core_locate_protocol(guid, NUMBER(key), &value);
+    if (status == EFI_NOT_FOUND && key == NULL)
+        ask_missing_protocol(guid);
+    *interface = status == EFI_SUCCESS ? POINTER(path_from_core(guid, value)) : NULL;
+    ANSWER(status);
+}
+
+/* The GUIDs that are handed out by address, which stay for good. */
+static EFI_GUID *lasting_guid(const struct rafkudin_guid *guid)
+{
+    static struct lasting {
+        struct rafkudin_guid guid;
+        struct lasting *next;
+    } *first;
+    struct lasting *it = first;
+
+    while (it != NULL && !guid_equal(&it->guid, guid))
+        it = it->next;
+    if (it == NULL) {
+        it = must(malloc(sizeof *it));
+        it->guid = *guid;
+        it->next = first;
+        first = it;
+    }
+    return (EFI_GUID *)(void *)&it->guid;
+}
+
+static EFI_STATUS EFIAPI ProtocolsPerHandle(EFI_HANDLE handle, EFI_GUID ***guids, UINTN *count)
+{
+    static struct rafkudin_guid list[1024];
+    SERVICE("ProtocolsPerHandle", NUMBER(handle));
+    uint64_t found_guids = 0;
+    void *block = NULL;
+    EFI_STATUS status;
+
+    if (guids == NULL || count == NULL)
+        ANSWER(EFI_INVALID_PARAMETER);
+    status = core_protocols(NUMBER(handle), list, LENGTH(list), &found_guids);
+    if (status == EFI_SUCCESS)
+        status = host_pool(RAFKUDIN_BOOT_SERVICES_DATA, 8 * found_guids, &block);
+    if (status != EFI_SUCCESS)
+        ANSWER(status);
+    for (uint64_t i = 0; i < found_guids; i++)
+        ((EFI_GUID **)block)[i] = lasting_guid(&list[i]);
+    *guids = block;
+    *count = found_guids;
+    ANSWER(EFI_SUCCESS);
+}
+
+static EFI_STATUS EFIAPI LocateDevicePath(const EFI_GUID *guid, EFI_DEVICE_PATH_PROTOCOL **path,
+                                          EFI_HANDLE *device)
+{
+    SERVICE("LocateDevicePath", NUMBER(guid), path == NULL ? 0 : NUMBER(*path));
+    uint64_t handle = 0, matched = 0;
+    EFI_STATUS status;
+
+    if (guid == NULL || path == NULL || *path == NULL)
+        ANSWER(EFI_INVALID_PARAMETER);
+    status = locate_path(guid, *path, &handle, &matched);
+    if (status != EFI_SUCCESS)
+        ANSWER(status);
+    if (device == NULL)
+        ANSWER(EFI_INVALID_PARAMETER);
+    *path = (EFI_DEVICE_PATH_PROTOCOL *)(void *)((uint8_t *)*path + matched);
+    *device = HANDLE(handle);
+    ANSWER(EFI_SUCCESS);
+}
+
+void fill_protocol_services(EFI_BOOT_SERVICES *boot)
+{
+    boot->InstallProtocolInterface = InstallProtocolInterface;
+    boot->UninstallProtocolInterface = UninstallProtocolInterface;
+    boot->ReinstallProtocolInterface = ReinstallProtocolInterface;
+    boot->InstallMultipleProtocolInterfaces = InstallMultipleProtocolInterfaces;
+    boot->UninstallMultipleProtocolInterfaces = UninstallMultipleProtocolInterfaces;
+    boot->RegisterProtocolNotify = RegisterProtocolNotify;
+    boot->LocateHandle = LocateHandle;
+    boot->LocateHandleBuffer = LocateHandleBuffer;
+    boot->LocateProtocol = LocateProtocol;
+    boot->ProtocolsPerHandle = ProtocolsPerHandle;
+    boot->LocateDevicePath = LocateDevicePath;
+}

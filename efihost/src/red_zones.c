@@ -1,0 +1,171 @@
+/* The bytes around a pool block that are nobody's, for --check and --guard.
+ *
+ * With --check the core's block is 64 bytes larger than the caller's, which lies in its middle; the
+ * bytes on both sides hold patterns, which are looked at when the block is freed and at ends. With
+ * --guard the caller's block ends at the end of a page, behind which is one that is shut; the pages
+ * of a freed block are shut until the core places them again. */
+#include "host.h"
+
+#include <string.h>
+
+#define BEFORE 0xb5
+#define BEHIND 0xc5
+#define FRESH 0xaf
+#define GONE 0xdd
+#define MARGIN 32U
+#define CELL 32U /* the core's blocks are whole cells, and 8 bytes of the first come before */
+
+static uint64_t up(uint64_t number, uint64_t multiple)
+{
+    return (number + multiple - 1) / multiple * multiple;
+}
+
+/* The size of the core's block for a caller's block of this size. */
+uint64_t zone_request(uint64_t size)
+{
+    if (!host.checks || size > RAFKUDIN_LARGEST_BLOCK)
+        return size;
+    return host.options.guard ? up(size, PAGE) + 2 * PAGE : size + 2 * MARGIN;
+}
+
+static uint64_t first_page(const struct block *block)
+{
+    return up(block->core_at, PAGE);
+}
+
+/* The page behind a block that is shut. */
+static uint64_t shut_page(const struct block *block)
+{
+    return first_page(block) + up(block->size, PAGE);
+}
+
+static uint64_t before_start(const struct block *block)
+{
+    return host.options.guard ? first_page(block) : block->core_at - 8;
+}
+
+static uint64_t behind_end(const struct block *block)
+{
+    if (host.options.guard)
+        return shut_page(block);
+    return block->core_at - 8 + up(block->core_size + 8, CELL);
+}
+
+/* Finds the caller's place in the core's block, and lays the patterns. */
+void zone_lay(struct block *block)
+{
+    block->at = block->core_at;
+    if (!host.checks)
+        return;
+    zone_look_at_reuse(block->core_at - 8, up(block->core_size + 8, CELL));
+    open_memory(block->core_at - 8, block->core_size + 8);
+    block->at = host.options.guard ? shut_page(block) - up(block->size, 8)
+                                   : block->core_at + MARGIN;
+    memset(POINTER(before_start(block)), BEFORE, block->at - before_start(block));
+    memset(POINTER(block->at), FRESH, block->size);
+    memset(POINTER(block->at + block->size), BEHIND, behind_end(block) - block->at - block->size);
+    if (host.options.guard)
+        shut_memory(shut_page(block), PAGE);
+}
+
+/* Whether no byte on either side of a block was written. */
+bool zone_look(const struct block *block, const char *when)
+{
+    const uint8_t *at = POINTER(block->at);
+    uint64_t before = block->at - before_start(block);
+    uint64_t end = behind_end(block) - block->at;
+
+    if (!host.checks)
+        return true;
+    for (uint64_t i = block->size; i < end; i++)
+        if (at[i] != BEHIND) {
+            found(BEHIND_BLOCK, &block->origin,
+                  "byte %lu behind a block of %lu bytes at 0x%lx was written, seen %s; it is made",
+                  i - block->size, block->size, block->at, when);
+            return false;
+        }
+    for (uint64_t i = 1; i <= before; i++)
+        if (at[-(int64_t)i] != BEFORE) {
+            found(BEFORE_BLOCK, &block->origin,
+                  "byte %lu before a block of %lu bytes at 0x%lx was written, seen %s; it is made",
+                  i, block->size, block->at, when);
+            return false;
+        }
+    return true;
+}
+
+/* After the core has freed a block. */
+void zone_free(const struct block *block)
+{
+    if (!host.checks)
+        return;
+    if (host.options.guard)
+        shut_memory(first_page(block), shut_page(block) + PAGE - first_page(block));
+    else
+        memset(POINTER(block->at), GONE, block->size);
+    ledger_add_freed(block->at, block->size, !host.options.guard, block->origin);
+    zone_shut_free(block->core_at - 8, up(block->core_size + 8, CELL));
+}
+
+static void look_at_freed(struct freed *entry)
+{
+    const uint8_t *at = POINTER(entry->at);
+
+    entry->filled = false;
+    for (uint64_t i = 0; i < entry->size; i++)
+        if (at[i] != GONE) {
+            found(USE_AFTER_FREE, &entry->made,
+                  "byte %lu of a block of %lu bytes at 0x%lx was written after %s freed it; it is "
+                  "made",
+                  i, entry->size, entry->at, origin_text(&entry->freed));
+            return;
+        }
+}
+
+/* Looks at freed blocks whose bytes are about to be used again. */
+void zone_look_at_reuse(uint64_t at, uint64_t size)
+{
+    struct freed *entry;
+
+    if (!host.checks)
+        return;
+    for (size_t i = 0; (entry = ledger_freed(i)) != NULL; i++)
+        if (entry->filled && entry->at < at + size && at < entry->at + entry->size)
+            look_at_freed(entry);
+    ledger_drop_freed(at, size);
+}
+
+/* Shuts the free memory in which these bytes are, with what is free beside it. */
+void zone_shut_free(uint64_t address, uint64_t size)
+{
+    uint64_t start, length;
+    struct freed *entry;
+
+    for (uint64_t at = address; at < address + size; at = (at / PAGE + 1) * PAGE) {
+        if (!conventional_range(at, &start, &length))
+            continue;
+        for (size_t i = 0; (entry = ledger_freed(i)) != NULL; i++)
+            if (entry->filled && entry->at < start + length && start < entry->at + entry->size)
+                look_at_freed(entry);
+        shut_memory(start, length);
+        at = start + length - PAGE;
+    }
+}
+
+static void look_at_block(struct block *block, void *context)
+{
+    zone_look(block, context);
+}
+
+/* Looks at all blocks, live and freed. */
+void zone_look_at_all(const char *when)
+{
+    struct freed *entry;
+
+    if (!host.checks)
+        return;
+    ledger_each_block(look_at_block, (void *)(uintptr_t)when);
+    for (size_t i = 0; (entry = ledger_freed(i)) != NULL; i++)
+        if (entry->filled)
+            look_at_freed(entry);
+}

@@ -1,0 +1,166 @@
+/* Names of functions, of a .map of lld-link or of an ELF file beside an image; and places as
+ * text. */
+#include "host.h"
+
+#include <elf.h>
+#include <stdlib.h>
+#include <string.h>
+
+static int by_offset(const void *one, const void *other)
+{
+    const struct symbol *a = one, *b = other;
+
+    return a->offset < b->offset ? -1 : a->offset > b->offset;
+}
+
+static void keep_symbol(struct image *image, uint64_t offset, const char *name, size_t length)
+{
+    struct symbol *symbol;
+
+    if (offset >= image->size || length == 0)
+        return;
+    image->symbols =
+        must(realloc(image->symbols, (image->symbol_count + 1) * sizeof *image->symbols));
+    symbol = &image->symbols[image->symbol_count++];
+    symbol->offset = offset;
+    symbol->name = must(malloc(length + 1));
+    memcpy(symbol->name, name, length);
+    symbol->name[length] = 0;
+}
+
+/* Lines of a map are a section and an offset in it, a name, and the address, of which the base is
+ * that of the line "Preferred load address is". */
+static void read_map(struct image *image, char *text)
+{
+    uint64_t base = 0;
+
+    for (char *line = strtok(text, "\n"); line != NULL; line = strtok(NULL, "\n")) {
+        unsigned section, offset;
+        unsigned long address;
+        char name[256];
+
+        if (sscanf(line, " Preferred load address is %lx", &address) == 1)
+            base = address;
+        if (sscanf(line, " %x:%x %255s %lx", &section, &offset, name, &address) == 4)
+            keep_symbol(image, address - base, name, strlen(name));
+    }
+}
+
+static void read_elf_table(struct image *image, const uint8_t *file, size_t length,
+                           const Elf64_Shdr *table, const Elf64_Shdr *names)
+{
+    if (table->sh_offset > length || table->sh_size > length - table->sh_offset ||
+        names->sh_offset > length || names->sh_size > length - names->sh_offset)
+        return;
+    for (size_t at = 0; at + sizeof(Elf64_Sym) <= table->sh_size; at += sizeof(Elf64_Sym)) {
+        Elf64_Sym symbol;
+        const char *name;
+
+        memcpy(&symbol, file + table->sh_offset + at, sizeof symbol);
+        if (ELF64_ST_TYPE(symbol.st_info) != STT_FUNC || symbol.st_name >= names->sh_size)
+            continue;
+        name = (const char *)file + names->sh_offset + symbol.st_name;
+        keep_symbol(image, symbol.st_value, name, strnlen(name, names->sh_size - symbol.st_name));
+    }
+}
+
+static void read_elf(struct image *image, const uint8_t *file, size_t length)
+{
+    Elf64_Ehdr header;
+
+    if (length < sizeof header || memcmp(file, ELFMAG, SELFMAG) != 0)
+        return;
+    memcpy(&header, file, sizeof header);
+    if (header.e_shentsize != sizeof(Elf64_Shdr) || header.e_shoff > length ||
+        header.e_shnum > (length - header.e_shoff) / sizeof(Elf64_Shdr))
+        return;
+    for (unsigned i = 0; i < header.e_shnum; i++) {
+        Elf64_Shdr table, names;
+
+        memcpy(&table, file + header.e_shoff + i * sizeof table, sizeof table);
+        if (table.sh_type != SHT_SYMTAB || table.sh_link >= header.e_shnum)
+            continue;
+        memcpy(&names, file + header.e_shoff + table.sh_link * sizeof names, sizeof names);
+        read_elf_table(image, file, length, &table, &names);
+    }
+}
+
+/* Reads the names of the first file that is there, of those beside an image of the host's. */
+void read_symbols(struct image *image)
+{
+    static const char *const endings[] = {".map", ".efi.map", ".debug", ".so", ".elf"};
+
+    for (size_t i = 0; i < LENGTH(endings) && image->symbol_count == 0; i++) {
+        char path[4096];
+        size_t length;
+        uint8_t *file;
+
+        snprintf(path, sizeof path, "%s%s", image->files, endings[i]);
+        file = read_file(path, &length);
+        if (file == NULL)
+            continue;
+        if (i < 2)
+            read_map(image, (char *)file);
+        else
+            read_elf(image, file, length);
+        free(file);
+    }
+    if (image->symbol_count > 0)
+        qsort(image->symbols, image->symbol_count, sizeof *image->symbols, by_offset);
+}
+
+/* The name of the function at an offset, or NULL. */
+static const char *function_at(const struct image *image, uint64_t offset)
+{
+    size_t low = 0, high = image->symbol_count;
+
+    while (low < high) {
+        size_t middle = low + (high - low) / 2;
+
+        if (image->symbols[middle].offset <= offset)
+            low = middle + 1;
+        else
+            high = middle;
+    }
+    return low == 0 ? NULL : image->symbols[low - 1].name;
+}
+
+/* A place in an image, or an address; the text stays until the 16th call after this. */
+const char *place_text(struct image *image, uint64_t address)
+{
+    static char turns[16][400];
+    static unsigned turn;
+    char *text = turns[turn++ % 16];
+    const char *function = image == NULL ? NULL : function_at(image, address);
+
+    if (image == NULL && address == 0)
+        snprintf(text, sizeof turns[0], "efihost");
+    else if (image == NULL)
+        snprintf(text, sizeof turns[0], "0x%lx", address);
+    else if (function == NULL)
+        snprintf(text, sizeof turns[0], "%s+0x%lx", image->name, address);
+    else
+        snprintf(text, sizeof turns[0], "%s+0x%lx (%s)", image->name, address, function);
+    return text;
+}
+
+const char *where(uint64_t address)
+{
+    struct image *image = image_at(address);
+
+    return place_text(image, image == NULL ? address : address - image->base);
+}
+
+/* Where something was asked for, and the callers before; it stays until the fourth call. */
+const char *origin_text(const struct origin *origin)
+{
+    static char turns[4][1600];
+    static unsigned turn;
+    char *text = turns[turn++ % 4];
+    int used = snprintf(text, sizeof turns[0], "%s", place_text(origin->image, origin->address));
+
+    for (size_t i = 0; i < TRAIL && origin->trail[i].image != NULL; i++)
+        used += snprintf(text + used, sizeof turns[0] - (size_t)used, " < %s",
+                         place_text(origin->trail[i].image, origin->trail[i].address));
+    return text;
+}

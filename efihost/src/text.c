@@ -1,0 +1,184 @@
+/* Texts: UTF-16 and UTF-8, statuses and GUIDs as words, checksums; and memory of the host. */
+#include "host.h"
+
+#include <stdlib.h>
+#include <string.h>
+
+const EFI_GUID device_path_guid = {
+    0x09576e91, 0x6d3f, 0x11d2, {0x8e, 0x39, 0x00, 0xa0, 0xc9, 0x69, 0x72, 0x3b}};
+const EFI_GUID loaded_image_guid = {
+    0x5b1b31a1, 0x9562, 0x11d2, {0x8e, 0x3f, 0x00, 0xa0, 0xc9, 0x69, 0x72, 0x3b}};
+const EFI_GUID loaded_image_path_guid = {
+    0xbc62157e, 0x3e33, 0x4fec, {0x99, 0x20, 0x2d, 0x3b, 0x36, 0xd7, 0x50, 0xdf}};
+const EFI_GUID driver_binding_guid = {
+    0x18a031ab, 0xb443, 0x4d1a, {0xa5, 0xc0, 0x0c, 0x09, 0x26, 0x1e, 0x9f, 0x71}};
+const EFI_GUID file_system_guid = {
+    0x964e5b22, 0x6459, 0x11d2, {0x8e, 0x39, 0x00, 0xa0, 0xc9, 0x69, 0x72, 0x3b}};
+const EFI_GUID block_io_guid = {
+    0x964e5b21, 0x6459, 0x11d2, {0x8e, 0x39, 0x00, 0xa0, 0xc9, 0x69, 0x72, 0x3b}};
+
+size_t wide_length(const CHAR16 *text)
+{
+    size_t length = 0;
+
+    while (text[length] != 0)
+        length++;
+    return length;
+}
+
+/* Of a text in UTF-8 its letters up to U+FFFF; others become question marks. */
+void widen(CHAR16 *to, const char *text)
+{
+    const uint8_t *from = (const uint8_t *)text;
+
+    while (*from != 0) {
+        if (*from < 0x80 || (*from & 0xc0) == 0x80) {
+            *to++ = *from++;
+        } else if (*from < 0xe0 && from[1] != 0) {
+            *to++ = (CHAR16)((from[0] & 0x1f) << 6 | (from[1] & 0x3f));
+            from += 2;
+        } else if (*from < 0xf0 && from[1] != 0 && from[2] != 0) {
+            *to++ = (CHAR16)((from[0] & 0xf) << 12 | (from[1] & 0x3f) << 6 | (from[2] & 0x3f));
+            from += 3;
+        } else {
+            *to++ = '?';
+            from++;
+        }
+    }
+    *to = 0;
+}
+
+bool wide_equal(const CHAR16 *one, const CHAR16 *other)
+{
+    while (*one != 0 && *one == *other) {
+        one++;
+        other++;
+    }
+    return *one == *other;
+}
+
+size_t utf8_of(uint32_t letter, char *to)
+{
+    if (letter < 0x80) {
+        to[0] = (char)letter;
+        return 1;
+    }
+    if (letter < 0x800) {
+        to[0] = (char)(0xc0 | letter >> 6);
+        to[1] = (char)(0x80 | (letter & 0x3f));
+        return 2;
+    }
+    to[0] = (char)(0xe0 | letter >> 12);
+    to[1] = (char)(0x80 | (letter >> 6 & 0x3f));
+    to[2] = (char)(0x80 | (letter & 0x3f));
+    return 3;
+}
+
+/* The text in UTF-8, cut after some 1,000 bytes. It stays until the fourth call after this. */
+const char *narrow(const CHAR16 *text)
+{
+    static char turns[4][1024];
+    static unsigned turn;
+    char *start = turns[turn++ % 4], *to = start;
+
+    while (text != NULL && *text != 0 && to < start + 1000)
+        to += utf8_of(*text++, to);
+    *to = 0;
+    return start;
+}
+
+const char *status_text(EFI_STATUS status)
+{
+    static const char *const errors[] = {
+        "SUCCESS",           "LOAD_ERROR",      "INVALID_PARAMETER",  "UNSUPPORTED",
+        "BAD_BUFFER_SIZE",   "BUFFER_TOO_SMALL", "NOT_READY",         "DEVICE_ERROR",
+        "WRITE_PROTECTED",   "OUT_OF_RESOURCES", "VOLUME_CORRUPTED",  "VOLUME_FULL",
+        "NO_MEDIA",          "MEDIA_CHANGED",   "NOT_FOUND",          "ACCESS_DENIED",
+        "NO_RESPONSE",       "NO_MAPPING",      "TIMEOUT",            "NOT_STARTED",
+        "ALREADY_STARTED",   "ABORTED",         "ICMP_ERROR",         "TFTP_ERROR",
+        "PROTOCOL_ERROR",    "INCOMPATIBLE_VERSION", "SECURITY_VIOLATION", "CRC_ERROR"};
+    static char turns[4][24];
+    static unsigned turn;
+    uint64_t number = status & ~EFI_ERROR_BIT;
+    char *text;
+
+    if ((status == 0 || EFI_ERROR(status)) && number < LENGTH(errors))
+        return errors[number];
+    text = turns[turn++ % 4];
+    snprintf(text, sizeof turns[0], "0x%llx", (unsigned long long)status);
+    return text;
+}
+
+/* In small letters, as traces have it. It stays until the eighth call after this. */
+const char *guid_text(const void *guid)
+{
+    static char turns[8][40];
+    static unsigned turn;
+    static const uint8_t order[16] = {3, 2, 1, 0, 5, 4, 7, 6, 8, 9, 10, 11, 12, 13, 14, 15};
+    static const char digits[] = "0123456789abcdef";
+    const uint8_t *bytes = guid;
+    char *text = turns[turn++ % 8], *to = text;
+
+    if (guid == NULL)
+        return "00000000-0000-0000-0000-000000000000";
+    for (unsigned i = 0; i < 16; i++) {
+        *to++ = digits[bytes[order[i]] >> 4];
+        *to++ = digits[bytes[order[i]] & 15];
+        if (i == 3 || i == 5 || i == 7 || i == 9)
+            *to++ = '-';
+    }
+    *to = 0;
+    return text;
+}
+
+bool guid_equal(const void *one, const void *other)
+{
+    return memcmp(one, other, 16) == 0;
+}
+
+uint32_t crc32_of(const void *bytes, size_t count)
+{
+    uint32_t sum = 0xffffffff;
+    const uint8_t *at = bytes;
+
+    while (count-- > 0) {
+        sum ^= *at++;
+        for (unsigned i = 0; i < 8; i++)
+            sum = sum >> 1 ^ (0xedb88320 & (0 - (sum & 1)));
+    }
+    return ~sum;
+}
+
+/* Memory of the host itself; without it nothing goes on. */
+void *must(void *memory)
+{
+    if (memory == NULL)
+        refuse("out of memory");
+    return memory;
+}
+
+/* The bytes of a file of the host with a zero byte behind, or NULL. */
+uint8_t *read_file(const char *name, size_t *length)
+{
+    FILE *file = fopen(name, "rb");
+    size_t room = 65536, count = 0, more;
+    uint8_t *bytes;
+
+    if (file == NULL)
+        return NULL;
+    bytes = must(malloc(room + 1));
+    while ((more = fread(bytes + count, 1, room - count, file)) > 0) {
+        count += more;
+        if (count == room)
+            bytes = must(realloc(bytes, (room *= 2) + 1));
+    }
+    if (ferror(file)) {
+        free(bytes);
+        bytes = NULL;
+    } else {
+        bytes[count] = 0;
+        *length = count;
+    }
+    fclose(file);
+    return bytes;
+}
