@@ -97,13 +97,13 @@ uint64_t core_read(uint64_t address, void *bytes, size_t count)
     FILE *file;
 
     trace_call("read 0x%lx %zu", address, count);
-    trace_reply("read", status, status == 0 ? "bytes=%s" : "", count == 0 ? "-" : "");
+    trace_reply("read", status, status == 0 ? "bytes=" : "");
     file = trace_more();
-    if (file != NULL && status == 0 && count != 0) {
-            for (size_t i = 0; i < count; i++)
-            fprintf(file, "%02x", ((const uint8_t *)bytes)[i]);
-        fputc('\n', file);
-    }
+    if (file == NULL || status != 0)
+        return status;
+    for (size_t i = 0; i < count; i++)
+        fprintf(file, "%02x", ((const uint8_t *)bytes)[i]);
+    fputc('\n', file);
     return status;
 }
 

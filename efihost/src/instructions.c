@@ -88,23 +88,19 @@ static unsigned short_form(const struct decoded *it, greg_t *registers, bool nam
         *kind = HALT;
         return 1;
     case 0xe4:
-    case 0xec:
-        ones = 0xff;
-        /* fall through */
     case 0xe5:
+    case 0xec:
     case 0xed:
         *kind = INPUT;
         if (!name)
-            registers[REG_RAX] |= ones;
+            registers[REG_RAX] |= (*it->at & 1) != 0 ? ones : 0xff;
         return *it->at < 0xe8 ? 2 : 1;
     case 0xe6:
     case 0xe7:
-        *kind = OUTPUT;
-        return 2;
     case 0xee:
     case 0xef:
         *kind = OUTPUT;
-        return 1;
+        return *it->at < 0xe8 ? 2 : 1;
     case 0x6c:
     case 0x6d:
     case 0x6e:

@@ -60,7 +60,9 @@ bool json_number(struct json *json, uint64_t *number)
         digits[count++] = *json->at++;
     digits[count] = 0;
     *number = strtoull(digits, NULL, 10);
-    return count > 0 && count <= 20 && memchr(".eE", json->at < json->end ? *json->at : 0, 3) == NULL;
+    if (json->at < json->end && memchr(".eE", *json->at, 3) != NULL)
+        return false;
+    return count > 0 && count <= 20;
 }
 
 /* A text, cut where it is longer than the room; escapes stay as they are. */

@@ -80,15 +80,17 @@ bool zone_look(const struct block *block, const char *when)
     for (uint64_t i = block->size; i < end; i++)
         if (at[i] != BEHIND) {
             found(BEHIND_BLOCK, &block->origin,
-                  "byte %lu behind a block of %lu bytes at 0x%lx was written, seen %s; it is made",
-                  i - block->size, block->size, block->at, when);
+                  "byte %lu behind a block of %lu bytes at 0x%lx was written, 0x%02x, seen %s; it "
+                  "is made",
+                  i - block->size, block->size, block->at, at[i], when);
             return false;
         }
     for (uint64_t i = 1; i <= before; i++)
         if (at[-(int64_t)i] != BEFORE) {
             found(BEFORE_BLOCK, &block->origin,
-                  "byte %lu before a block of %lu bytes at 0x%lx was written, seen %s; it is made",
-                  i, block->size, block->at, when);
+                  "byte %lu before a block of %lu bytes at 0x%lx was written, 0x%02x, seen %s; it "
+                  "is made",
+                  i, block->size, block->at, at[-(int64_t)i], when);
             return false;
         }
     return true;
