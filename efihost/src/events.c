@@ -188,9 +188,19 @@ static void call_group(const EFI_GUID *group, uint32_t type)
     dispatch();
 }
 
+/* Before the boot services end, once. */
+void signal_before_exit(void)
+{
+    static bool signalled;
+
+    if (!signalled)
+        call_group(&before_exit_group, 0);
+    signalled = true;
+}
+
+/* Once the memory services have ended. */
 void signal_exit_boot_services(void)
 {
-    call_group(&before_exit_group, 0);
     call_group(&exit_group, EVT_SIGNAL_EXIT_BOOT_SERVICES);
 }
 

@@ -93,7 +93,7 @@ uint8_t *read_file(const char *name, size_t *length);
 
 /* ---- core_memory.c, core_protocols.c, trace.c: the services of the library, each with its line
  * of the trace ---- */
-void open_trace(const char *name, const uint8_t *records, size_t count);
+void open_trace(const char *name, const uint8_t *records, size_t count, uint64_t granule);
 void close_trace(void);
 void trace_call(const char *format, ...) __attribute__((format(printf, 1, 2)));
 void trace_bytes(uint64_t address, const uint8_t *bytes, size_t count);
@@ -312,6 +312,7 @@ void dispatch(void);
 void signal_numbers(const uint64_t *numbers, size_t count);
 uint64_t event_number(EFI_EVENT event);
 EFI_EVENT make_key_event(void);
+void signal_before_exit(void);
 void signal_exit_boot_services(void);
 size_t events_of(const struct image *image);
 void fill_event_services(EFI_BOOT_SERVICES *boot);

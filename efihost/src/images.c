@@ -248,8 +248,10 @@ static void found_stale_key(uint64_t key)
 EFI_STATUS EFIAPI ExitBootServices(EFI_HANDLE handle, UINTN key)
 {
     SERVICE("ExitBootServices", NUMBER(handle), key);
-    EFI_STATUS status = core_exit(NUMBER(handle), key);
+    EFI_STATUS status;
 
+    signal_before_exit();
+    status = core_exit(NUMBER(handle), key);
     if (status == EFI_INVALID_PARAMETER)
         found_stale_key(key);
     if (status != EFI_SUCCESS)

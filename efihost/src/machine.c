@@ -12,6 +12,7 @@
 
 static struct machine_range *ranges;
 static size_t range_count;
+static uint64_t granule = 1;
 
 /* Whether a type of memory has bytes behind it that a program may use. */
 static bool has_bytes(const struct machine_range *range)
@@ -118,17 +119,17 @@ static void read_machine(const char *name)
     if (!json_enter(&json, '{'))
         refuse("machine: not JSON");
     while (json_next(&json, '}', key, sizeof key)) {
-        if (strcmp(key, "memory") != 0) {
-            if (!json_skip(&json))
-                refuse("machine: not JSON");
-            continue;
+        if (strcmp(key, "memory") == 0) {
+            memory = json_enter(&json, '[');
+            for (; memory && json_next(&json, ']', NULL, 0); count++)
+                if (!read_descriptor(&json))
+                    refuse("machine: descriptor %zu", count);
+        } else if (strcmp(key, "granule") == 0) {
+            if (!json_number(&json, &granule) || (granule != 1 && granule != 16))
+                refuse("machine: granule");
+        } else if (!json_skip(&json)) {
+            refuse("machine: not JSON");
         }
-        memory = json_enter(&json, '[');
-        while (memory && json_next(&json, ']', NULL, 0))
-            if (!read_descriptor(&json))
-                refuse("machine: descriptor %zu", count);
-            else
-                count++;
     }
     if (json.at == NULL)
         refuse("machine: not JSON");
@@ -157,12 +158,12 @@ static void make_core(void)
         records[i].Attribute = ranges[i].attributes;
     }
     status = RafkudinMake((const uint8_t *)records, range_count * sizeof *records,
-                          sizeof *records, 1, NULL, 0, &host.core);
+                          sizeof *records, granule, NULL, 0, &host.core);
     if (status != RAFKUDIN_SUCCESS)
         refuse("machine: the core refuses it: %s", status_text(status));
     RafkudinCertify(host.core, host.options.certify);
     if (host.options.trace != NULL)
-        open_trace(host.options.trace, (const uint8_t *)records, range_count);
+        open_trace(host.options.trace, (const uint8_t *)records, range_count, granule);
     free(records);
 }
 

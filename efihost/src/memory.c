@@ -165,7 +165,7 @@ static EFI_STATUS EFIAPI FreePages(uint64_t memory, UINTN pages)
     SERVICE("FreePages", memory, pages);
     EFI_STATUS status = host_free_pages(memory, pages);
 
-    if (status != EFI_SUCCESS) {
+    if (status != EFI_SUCCESS && status != EFI_UNSUPPORTED) {
         struct origin origin = origin_now();
 
         found(FREE_NOT_LIVE, &origin, "FreePages of %lu pages at 0x%lx, which are not all placed",
@@ -211,7 +211,7 @@ static EFI_STATUS EFIAPI FreePool(void *block)
     SERVICE("FreePool", NUMBER(block));
     EFI_STATUS status = host_free_pool(block);
 
-    if (status != EFI_SUCCESS)
+    if (status != EFI_SUCCESS && status != EFI_UNSUPPORTED)
         found_bad_free(block);
     ANSWER(status);
 }

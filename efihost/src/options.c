@@ -4,6 +4,7 @@
 #include <stdarg.h>
 #include <stdlib.h>
 #include <string.h>
+#include <unistd.h>
 
 static const char usage[] =
     "usage: efihost [OPTION]... APP.efi [ARGUMENT]...\n"
@@ -32,12 +33,15 @@ static const char usage[] =
     "                    FILE.machine.json`, which prints what is in FILE.replies\n"
     "  --certify         checks the certificate of each placement as it is made\n"
     "  --strict          an instruction that a process may not have ends the run\n"
-    "  --time SECONDS    ends the run then; 0 is never, without the option it is 60\n"
+    "  --time SECONDS    ends the run then; 0 is never; without the option it is 60, or never where\n"
+    "                    keys come from a terminal\n"
     "  --rights          the process keeps the rights that it has\n"
     "  --help, --version\n"
     "\n"
     "Exit status: 0 the application ended with success; 1 with an error; 2 it was never run;\n"
     "3 something was found by --check or --guard; 4 it failed; 5 its time or its input was over.\n";
+
+#define UNSET UINT32_MAX
 
 void refuse(const char *format, ...)
 {
@@ -131,7 +135,7 @@ void read_options(int count, char **words, struct options *options)
 {
     int i = 1;
 
-    options->seconds = 60;
+    options->seconds = UNSET;
     for (; i < count && strncmp(words[i], "--", 2) == 0; i++) {
         if (read_flag(words[i], options))
             continue;
@@ -145,6 +149,8 @@ void read_options(int count, char **words, struct options *options)
         fputs(usage, stderr);
         exit(ENDED_NEVER_RAN);
     }
+    if (options->seconds == UNSET)
+        options->seconds = options->input == NULL && isatty(STDIN_FILENO) ? 0 : 60;
     options->application = words[i++];
     for (; i < count; i++)
         add_to(options->arguments, &options->argument_count, MOST_ARGUMENTS, words[i]);

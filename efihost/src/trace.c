@@ -23,11 +23,12 @@ static FILE *open_beside(const char *name, const char *ending)
     return file;
 }
 
-static void write_machine(const char *name, const uint8_t *records, size_t count)
+static void write_machine(const char *name, const uint8_t *records, size_t count,
+                          uint64_t granule)
 {
     FILE *file = open_beside(name, ".machine.json");
 
-    fprintf(file, "{\n  \"memory\": [\n");
+    fprintf(file, "{\n  \"granule\": %lu,\n  \"memory\": [\n", granule);
     for (size_t i = 0; i < count; i++) {
         EFI_MEMORY_DESCRIPTOR entry;
 
@@ -41,11 +42,11 @@ static void write_machine(const char *name, const uint8_t *records, size_t count
     fclose(file);
 }
 
-void open_trace(const char *name, const uint8_t *records, size_t count)
+void open_trace(const char *name, const uint8_t *records, size_t count, uint64_t granule)
 {
     calls_file = open_beside(name, "");
     replies_file = open_beside(name, ".replies");
-    write_machine(name, records, count);
+    write_machine(name, records, count, granule);
 }
 
 /* The trace ends with the memory map. A run that has more calls than a trace may have lines ends

@@ -12,7 +12,7 @@ static void EFIAPI notify(EFI_EVENT event, void *context)
 static EFI_STATUS memory(void)
 {
     uint8_t *blocks[40], *low;
-    uint64_t at = 0, below = 0x4000000;
+    uint64_t at = 0, below;
 
     for (unsigned i = 0; i < 40; i++) {
         blocks[i] = pool(i * 37);
@@ -28,6 +28,7 @@ static EFI_STATUS memory(void)
         MUST(boot->FreePool(blocks[i]));
     }
     MUST(boot->AllocatePages(0, 4, 5, &at));
+    below = at + 0xffffff;
     MUST(boot->AllocatePages(1, 2, 3, &below));
     low = (uint8_t *)below;
     low[0] = low[3 * 4096 - 1] = 1;
