@@ -36,6 +36,8 @@ static bool allowed_by_firmware(uint64_t address, uint64_t instruction, bool wri
         return false;
     found(IMAGE_RIGHTS, &origin, "%s %s, which the rights of its section forbid",
           fetch ? "execution of" : write ? "write to" : "read of", where(address));
+    if (host.checks)
+        stop_at_access(instruction);
     open_memory(address, 1);
     return true;
 }

@@ -41,8 +41,7 @@ static void print_finding(const struct one_finding *one)
     fprintf(stderr, "efihost:   at %s\n", origin_text(&one->origin));
 }
 
-/* Notes a finding: of `origin` is the code that is to blame, or the block that was harmed. With
- * --guard the first that is no leak ends the run. */
+/* Notes a finding: `origin` is the code that is to blame, or that made the block that was harmed. */
 void found(enum finding kind, const struct origin *origin, const char *format, ...)
 {
     struct one_finding *one;
@@ -65,8 +64,13 @@ void found(enum finding kind, const struct origin *origin, const char *format, .
     va_end(words);
     fflush(stdout);
     print_finding(one);
-    if (host.options.guard && kind != LEAK)
-        finish(ENDED_WITH_FINDINGS, "stopped at the first finding, %s", finding_name(kind));
+}
+
+/* With --guard the run ends at an access that should not be. */
+void stop_at_access(uint64_t instruction)
+{
+    if (host.options.guard)
+        finish(ENDED_WITH_FINDINGS, "stopped at %s", where(instruction));
 }
 
 /* An access to memory of the machine that is shut: whose it is, or was. */
@@ -95,6 +99,7 @@ void found_access(uint64_t address, uint64_t instruction, bool write)
               origin_text(&freed->freed));
     else
         found(NEVER_PLACED, &origin, "%s 0x%lx, in a page that nobody placed", how, address);
+    stop_at_access(instruction);
 }
 
 /* ---- What an image left ---- */
@@ -147,8 +152,9 @@ static void add_run(struct run *run, void *context)
 static void say_leaks(struct leaks *leaks, const char *what)
 {
     for (size_t i = 0; i < leaks->group_count; i++)
-        found(LEAK, &leaks->groups[i].origin, "%s %s: left %lu %s, %lu bytes", leaks->image->name,
-              leaks->when, leaks->groups[i].count, what, leaks->groups[i].bytes);
+        found(LEAK, &leaks->groups[i].origin, "%s %s: left %lu of %s, %lu bytes",
+              leaks->image->name, leaks->when, leaks->groups[i].count, what,
+              leaks->groups[i].bytes);
     leaks->group_count = 0;
 }
 
@@ -181,15 +187,15 @@ void look_for_leaks(struct image *image, const char *when)
     leaks.when = when;
     leaks.group_count = 0;
     ledger_each_block(add_block, &leaks);
-    say_leaks(&leaks, "pool blocks");
+    say_leaks(&leaks, "its pool blocks");
     ledger_each_run(add_run, &leaks);
-    say_leaks(&leaks, "runs of pages");
+    say_leaks(&leaks, "its runs of pages");
     each_held(say_held, &leaks);
     events = events_of(image);
     if (events > 0) {
         struct origin origin = {image, image->entry - image->base, 0, {{NULL, 0}}};
 
-        found(LEAK, &origin, "%s %s: left %zu events", image->name, when, events);
+        found(LEAK, &origin, "%s %s: left %zu of its events", image->name, when, events);
     }
 }
 

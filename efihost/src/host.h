@@ -246,6 +246,7 @@ size_t findings_count(void);
 const char *finding_name(enum finding kind);
 void write_findings(FILE *file);
 void found_access(uint64_t address, uint64_t instruction, bool write);
+void stop_at_access(uint64_t instruction);
 void look_for_leaks(struct image *image, const char *when);
 
 /* ---- report.c ---- */

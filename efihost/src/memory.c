@@ -202,6 +202,8 @@ static void found_bad_free(void *block)
         found(FREE_NOT_LIVE, &origin,
               "FreePool of 0x%lx, a block of %lu bytes that %s freed; made by %s", NUMBER(block),
               freed->size, origin_text(&freed->freed), origin_text(&freed->made));
+    else if (block == NULL)
+        found(FREE_NOT_LIVE, &origin, "FreePool of a null pointer");
     else
         found(FREE_NOT_LIVE, &origin, "FreePool of 0x%lx, where no block begins", NUMBER(block));
 }
