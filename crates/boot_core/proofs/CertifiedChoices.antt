@@ -36,7 +36,7 @@ use Rattle.boot_core.proofs.Soundness.{first_sound, stays_sound}
 
 -- ---- what is shown of each call
 
--- There is a certificate exactly where something holds, and then a request, whose pages a number of 64 bits tells.
+-- There is a certificate exactly where something holds, and then a request, whose pages a number of 64 bits holds.
 record Certifies (Chosen : Type 0) (asked : Option Request) (told : Option CertificateValue) : Type 0 where
   carried : (is_some told ≡ true) ↔ Chosen
   requested : is_some told ≡ true → (r : Request) × (asked ≡ Some r) × (r.pages < 2 ^ 64)
@@ -59,7 +59,7 @@ best_some : (m : List Page) (r : Request) (start : ℕ) (told : Option Certifica
 best_some m r start None best = absurd best
 best_some m r start (Some c) best = refl
 
--- no proper memory has so many pages that a number of 64 bits doesn't tell them
+-- a number of 64 bits holds the number of pages of a proper memory
 few_pages : (m : List Page) (r : Request) (start : ℕ) → IsProperMemory m → IsPermittedStart m r start → r.pages < 2 ^ 64
 few_pages m r start proper is = elim (cases_lt page_count r.pages) [
   | inl large ↦ absurd (no_such_page m (start + page_count) (page_at m (start + page_count)) proper (omega arith) refl (is.conventional (start + page_count) (omega arith) (omega (arith, large))))

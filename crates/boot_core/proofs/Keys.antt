@@ -50,7 +50,7 @@ module _ (S : Setting) (permits : Permits S.chosen) where
   keys_rise old [] (r ∷ replies) new sound run = absurd run
   keys_rise old (c ∷ calls) [] new sound run = absurd run
 
-  -- so many calls have changed a type where the key is higher by so many, and the other way round
+  -- a number of calls have changed a type where the key is higher by that number, and the other way round
   pub key_counts : {A : Type 0} (old : State) (calls : List (Call A)) (replies : List (Reply A)) (new : State) (run : CallRunBy S old calls replies new) (n : ℕ) → AreSound old.parts → ChangesTypes S old calls replies new run n ↔ (new.parts.book.key ≡ old.parts.book.key + n)
   key_counts old [] [] new run n sound =
       let same : new.parts.book.key ≡ old.parts.book.key = ap (λ (s : State). s.parts.book.key) run in

@@ -17,7 +17,7 @@ use Rattle.boot_core.specs.MapCalls.{refused_map, map_bytes, room_for_map, Answe
 use Rattle.boot_core.specs.Steps.{WhileOpen, MapStep, Step}
 use Rattle.boot_core.specs.Laws.{used_size}
 
--- a buffer as long as what is used of one of so many bytes fits where that one fits
+-- a buffer as long as what is used of another fits where that one fits
 fits_too : (needed size : ℕ) → leb needed (cond (leb needed size) needed 0) ≡ leb needed size
 fits_too needed size = elim (cases_lt size needed) [
   | inl short ↦ ap (λ (room : ℕ). leb needed room) (cond-false (leb needed size) needed 0 (lt-leb needed size short)) ∙ lt-leb needed 0 (omega arith) ∙ sym (lt-leb needed size short)
@@ -38,7 +38,7 @@ used_bytes b size buffer long = elim (cases_lt size (map_size b)) [
       ∙ sym (cond-true _ _ _ (le-leb (map_size b) size fits))
 ]
 
--- What is answered through a call where the buffer is as long as what is used of one of so many bytes.
+-- What is answered through a call where the buffer is as long as what is used of another.
 pub answers_map : (b : Book) (size : ℕ) (buffer after : List ℕ) (told : MapReply) → length buffer ≡ room_for_map b size → told ≡ map_reply b (length buffer) → after ≡ buffer_with_map b buffer → AnswersMap b size told after
 answers_map b size buffer after told long e written = inl (
   e ∙ ap (map_reply b) long ∙ rw (fits_too (map_size b) size) refl,
@@ -49,12 +49,12 @@ answers_map b size buffer after told long e written = inl (
 pub written_back : (n : ℕ) (slice old : List ℕ) → n ≡ length slice → take n (slice ++ old) ≡ slice
 written_back n slice old e = take-append-le n slice old (omega arith) ∙ take_all n slice (omega arith)
 
--- each reply tells the size
+-- each reply has the size
 pub told_size : (fits : Bool) (size key : ℕ) (told : MapReply) → told ≡ cond fits (record { status = Success; size = size; key = key; descriptor_size = record_size; version = descriptor_version }) (record { status = BufferTooSmall; size = size; key = 0; descriptor_size = 0; version = 0 }) → told.size ≡ size
 told_size true size key told e = ap (λ (r : MapReply). r.size) e
 told_size false size key told e = ap (λ (r : MapReply). r.size) e
 
--- a successful reply tells the key
+-- a successful reply has the key
 told_if : (fits : Bool) (size key : ℕ) (told : MapReply) → told ≡ cond fits (record { status = Success; size = size; key = key; descriptor_size = record_size; version = descriptor_version }) (record { status = BufferTooSmall; size = size; key = 0; descriptor_size = 0; version = 0 }) → told.status ≡ Success → told.key ≡ key
 told_if true size key told e s = ap (λ (r : MapReply). r.key) e
 told_if false size key told e s = let short = ap (λ (r : MapReply). r.status) e in absurd (cc)
@@ -73,7 +73,7 @@ told_directly false old new buffer told after h s = (told_if (leb (map_size old.
 
 -- ---- a buffer of the caller's
 
--- the bytes that are used stand in the front of the buffer
+-- the bytes that are used are the front of the buffer
 pub front_used : (b : Book) (buffer : List ℕ) (told : MapReply) → told ≡ map_reply b (length buffer) → take (used_size told.status told.size) (buffer_with_map b buffer) ≡ map_bytes b (length buffer)
 front_used b buffer told e = elim (cases_lt (length buffer) (map_size b)) [
   | inl short ↦

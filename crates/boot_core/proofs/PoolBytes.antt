@@ -40,7 +40,7 @@ Laid block es new = (k : ℕ) → byte_at k new ≡ laid_over block k (byte_at k
 same_bytes : (block : Option (ℕ × List ℕ)) (es new : List Extent) → block ≡ None → new ≡ es → Laid block es new
 same_bytes block es new none e k = ap (byte_at k) e ∙ sym (ap (λ (o : Option (ℕ × List ℕ)). laid_over o k (byte_at k es)) none)
 
--- what a result tells of a block, with its bytes
+-- what a result has of a block, with its bytes
 abbrev block_told : {R : Type 0} → (R → ℕ) → List ℕ → Result R Status → Option (ℕ × List ℕ)
 block_told address bytes (Ok told) = Some (address told, bytes)
 block_told address bytes (Err e) = None
@@ -97,7 +97,7 @@ list_bytes old new handle guid (Err other) sound h k = absurd h
 
 -- ---- a step
 
--- what the replies tell of blocks
+-- what the replies have of blocks
 told_pool : (A : Type 0) (p : Parts) (t size : ℕ) (result : Result Answer Status) → lays {A = A} p (call.AllocatePool t size) (reply.AllocatePool result) ≡ block_told (λ (block : Answer). block.0) (replicate size 0) result
 told_pool A p t size (Ok block) = refl
 told_pool A p t size (Err e) = refl
@@ -120,14 +120,14 @@ told_free : (A : Type 0) (address : ℕ) (result : Result (Unit {0}) Status) →
 told_free A address (Ok done) = refl
 told_free A address (Err e) = refl
 
--- a service that leaves all parts and tells an error, or goes by a rule
+-- a service that leaves all parts and returns an error, or goes by a rule
 changed : {A R : Type 0} (exited : Bool) (old new : Parts) (c : Call A) (answer : Reply A) (tell : Result R Status → Reply A) (Rule : Result R Status → Type 0) (k : ℕ) → byte_after old c (tell (Err status.Unsupported)) k ≡ byte_at k old.pools →
     ((result : Result R Status) → Rule result → byte_at k new.pools ≡ byte_after old c (tell result) k) → Serves exited old new answer tell Rule → byte_at k new.pools ≡ byte_after old c answer k
 changed true old new c answer tell Rule k leaves f (result, told, h) =
     ap (λ (p : Parts). byte_at k p.pools) h.1 ∙ sym leaves ∙ sym (ap (λ a. byte_after old c a k) (told ∙ ap tell h.0))
 changed false old new c answer tell Rule k leaves f (result, told, h) = f result h ∙ sym (ap (λ a. byte_after old c a k) told)
 
--- by what a reply tells of a block
+-- by what a reply has of a block
 laid_by : (old new : Parts) (block told : Option (ℕ × List ℕ)) (k : ℕ) → told ≡ block → Laid block old.pools new.pools → byte_at k new.pools ≡ laid_over told k (byte_at k old.pools)
 laid_by old new block told k e h = h k ∙ sym (ap (λ (o : Option (ℕ × List ℕ)). laid_over o k (byte_at k old.pools)) e)
 

@@ -14,7 +14,7 @@ use Rattle.boot_replies.specs.Told.{told_status}
 use Rattle.boot_core.specs.Steps.{WhileOpen, ReadStep, Step}
 use Rattle.boot_core.specs.Laws.{read_size}
 
--- what a call tells, with the bytes that were used, and the buffer after them
+-- what a call returns, with the bytes that were used, and the buffer after them
 abbrev IsTold : List Extent → ℕ → List ℕ → List ℕ → List ℕ → Status → Type 0
 IsTold es address buffer after used status = AnswersRead es address (length buffer) status used × (after ≡ used ++ drop (length used) buffer)
 

@@ -5,7 +5,7 @@ use Rattle.page_ranges.specs.declared.statuses.Status.TheVariants as status
 use Rattle.boot_core.specs.Machines.{Parts}
 use Rattle.boot_core.specs.Steps.{WhileOpen}
 
--- what a call is told when it begins
+-- what a call receives when it begins
 abbrev pub Begun : Bool → Result (Unit {0}) Status → Type 0
 Begun exited begun = begun ≡ cond exited (Err status.Unsupported) (Ok tt)
 

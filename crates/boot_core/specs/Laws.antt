@@ -36,11 +36,13 @@ AnyStepLaw A = (ds : List Meaning) (old : State) (c : Call A) (answer : Reply A)
 abbrev pub AnyRunLaw : Type 0 → Type 0
 AnyRunLaw A = (ds : List Meaning) (old : State) (calls : List (Call A)) (replies : List (Reply A)) (new : State) → CallRun ds old calls replies new → CallRunBy (any_starts ds) old calls replies new
 
--- The parts are sound after calls on a valid machine, however starts are chosen among the permitted ones.
+-- The parts are sound after calls on a valid machine, however starts are chosen among the permitted
+-- ones.
 abbrev pub SoundLaw : Setting → Type 0 → Type 0
 SoundLaw S A = (machine : MachineValue) (calls : List (Call A)) (replies : List (Reply A)) (new : State) → IsMachine machine → CallRunBy S (first_state machine) calls replies new → AreSound new.parts
 
--- The lists of the protocol services are proper after any calls, however starts are chosen and whatever the drivers answer.
+-- The lists of the protocol services are proper after any calls, however starts are chosen and
+-- whatever the drivers answer.
 abbrev pub ProperListsLaw : Setting → Type 0 → Type 0
 ProperListsLaw S A = (machine : MachineValue) (calls : List (Call A)) (replies : List (Reply A)) (new : State) → CallRunBy S (first_state machine) calls replies new → AreProperLists new.parts.lists
 
@@ -59,7 +61,7 @@ abbrev pub ChangesNoType : {A : Type 0} (S : Setting) (old : State) (calls : Lis
 ChangesNoType S old (c ∷ calls) (answer ∷ replies) new (next, step, run) = HaveSameTypes old.parts.book.memory next.parts.book.memory × ChangesNoType S next calls replies new run
 ChangesNoType S old calls replies new run = Unit {0}
 
--- so many calls of the run change the type of a page
+-- how many calls of the run change the type of a page
 abbrev pub ChangesTypes : {A : Type 0} (S : Setting) (old : State) (calls : List (Call A)) (replies : List (Reply A)) (new : State) → CallRunBy S old calls replies new → ℕ → Type 0
 ChangesTypes S old (c ∷ calls) (answer ∷ replies) new (next, step, run) n =
     (HaveSameTypes old.parts.book.memory next.parts.book.memory × ChangesTypes S next calls replies new run n) ⊎ ((¬ HaveSameTypes old.parts.book.memory next.parts.book.memory) × ((others : ℕ) × (n ≡ others + 1) × ChangesTypes S next calls replies new run others))
@@ -75,12 +77,13 @@ abbrev pub TellsKey : {A : Type 0} → Reply A → ℕ → Type 0
 TellsKey (reply.GetMemoryMap told bytes) key = (told.status ≡ Success) × (told.key ≡ key)
 TellsKey answer key = ⊥
 
--- GetMemoryMap told the key, through a call or of a buffer of the caller's.
+-- GetMemoryMap returned the key, through a call or of a buffer of the caller's.
 abbrev pub GivesKey : Setting → Type 0 → State → ℕ → State → Type 0
 GivesKey S A old key new =
     ((size : ℕ) × (answer : Reply A) × StepBy S old (call.GetMemoryMap size) answer new × TellsKey answer key) ⊎ ((buffer after : List ℕ) × (told : MapReply) × MapStep old buffer told after new × (told.status ≡ Success) × (told.key ≡ key))
 
--- Before an exit, a key that GetMemoryMap told is accepted exactly where no call since has changed the type of a page.
+-- Before an exit, a key that GetMemoryMap returned is accepted exactly where no call since has
+-- changed the type of a page.
 abbrev pub KeyLaw : Setting → Type 0 → Type 0
 KeyLaw S A = (first old : State) (key : ℕ) (calls : List (Call A)) (replies : List (Reply A)) (new : State) (run : CallRunBy S old calls replies new) (answer : Reply A) (after : State) →
     AreSound first.parts → GivesKey S A first key old → new.exited ≡ false → StepBy S new (call.ExitBootServices key) answer after →
@@ -93,8 +96,8 @@ abbrev pub used_size : Status → ℕ → ℕ
 used_size Success size = size
 used_size status size = 0
 
--- GetMemoryMap with a buffer of the caller's is a step of the machine, with the reply that a call tells and the front of the
--- buffer; the rest of the buffer is as it was.
+-- GetMemoryMap with a buffer of the caller's is a step of the machine, with the reply that a call
+-- returns and the front of the buffer; the rest of the buffer is as it was.
 abbrev pub MapStepLaw : Type 0 → Type 0
 MapStepLaw A = (ds : List Meaning) (old : State) (buffer : List ℕ) (told : MapReply) (after : List ℕ) (new : State) (used : Vec ℕ A) →
     MapStep old buffer told after new → used.items ≡ take (used_size told.status told.size) after →
@@ -105,19 +108,21 @@ abbrev pub read_size : Status → ℕ → ℕ
 read_size Success size = size
 read_size status size = 0
 
--- A read into a buffer of the caller's is a step of the machine, with the status that a call tells and the whole buffer where it
--- succeeds; else the buffer is as it was.
+-- A read into a buffer of the caller's is a step of the machine, with the status that a call
+-- returns and the whole buffer where it succeeds; else the buffer is as it was.
 abbrev pub ReadStepLaw : Type 0 → Type 0
 ReadStepLaw A = (ds : List Meaning) (old : State) (address : ℕ) (buffer : List ℕ) (status : Status) (after : List ℕ) (new : State) (used : Vec ℕ A) →
     ReadStep old address buffer status after new → used.items ≡ take (read_size status (length buffer)) after →
     Step ds old (call.PoolRead address (length buffer)) (reply.PoolRead status used) new × (after ≡ used.items ++ drop (length used.items) buffer)
 
--- After calls on a valid machine whose numbers fit their fields, each entry of the memory map is one that a record can spell.
+-- After calls on a valid machine whose numbers fit their fields, each entry of the memory map is
+-- one that a record can spell.
 abbrev pub RecordEntriesLaw : Type 0 → Type 0
 RecordEntriesLaw A = (ds : List Meaning) (machine : MachineValue) (calls : List (Call A)) (replies : List (Reply A)) (new : State) → IsMachine machine → AllByRecursion HasRecordNumbers machine.runs → AllByRecursion NamesTypes calls →
     CallRun ds (first_state machine) calls replies new → AllByRecursion IsRecordEntry (memory_map new.parts.book.memory)
 
--- After calls on a valid machine the memory map has an entry for each run of the machine and two for each call, or fewer.
+-- After calls on a valid machine the memory map has an entry for each run of the machine and two
+-- for each call, or fewer.
 abbrev pub MapGrowthLaw : Setting → Type 0 → Type 0
 MapGrowthLaw S A = (machine : MachineValue) (calls : List (Call A)) (replies : List (Reply A)) (new : State) → IsMachine machine → CallRunBy S (first_state machine) calls replies new →
     length (memory_map new.parts.book.memory) ≤ length machine.runs + 2 * length calls
@@ -129,7 +134,7 @@ abbrev pub bytes_left : Option (List ℕ) → ℕ
 bytes_left None = 0
 bytes_left (Some bytes) = length bytes
 
--- the address of the block that a reply tells
+-- the address of the block that a reply has
 abbrev pub told_block : {A : Type 0} → Reply A → Option ℕ
 told_block (reply.AllocatePool (Ok block)) = Some block.0
 told_block (reply.LocateHandleBuffer (Ok told)) = Some told.address
@@ -147,7 +152,8 @@ abbrev pub handles_of : Option (List ℕ) → List ℕ
 handles_of None = []
 handles_of (Some handles) = handles
 
--- from which address on a call lays bytes in the pool, and which: the zeros of a new block, those of a write, or a list
+-- from which address on a call lays bytes in the pool, and which: the zeros of a new block, those
+-- of a write, or a list
 abbrev pub lays : {A : Type 0} → Parts → Call A → Reply A → Option (ℕ × List ℕ)
 lays p (call.AllocatePool t size) answer = option_map (λ address. (address, replicate size 0)) (told_block answer)
 lays p (call.PoolWrite address bytes) answer = cond (is_done answer) (Some (address, bytes)) None
@@ -160,17 +166,18 @@ abbrev pub gives_back : {A : Type 0} → Call A → Reply A → Option ℕ
 gives_back (call.FreePool address) answer = cond (is_done answer) (Some address) None
 gives_back c answer = None
 
--- what stands at an address once bytes are laid, if any are
+-- what is at an address once bytes are laid, if any are
 abbrev pub laid_over : Option (ℕ × List ℕ) → ℕ → Option ℕ → Option ℕ
 laid_over None k old = old
 laid_over (Some (address, bytes)) k old = laid address bytes k old
 
--- what stands at an address once the block at another is given back, if one is
+-- what is at an address once the block at another is given back, if one is
 abbrev pub left_by : Option ℕ → List Extent → ℕ → Option ℕ
 left_by None es k = byte_at k es
 left_by (Some address) es k = cond (is_among address (bytes_left (tail_at address es)) k) None (byte_at k es)
 
--- What stands at an address after a call: what it lays there, and else what stood there, but for a block that it gives back.
+-- What is at an address after a call: what it lays there, and else what was there, but for a block
+-- that it gives back.
 abbrev pub byte_after : {A : Type 0} → Parts → Call A → Reply A → ℕ → Option ℕ
 byte_after p c answer k = laid_over (lays p c answer) k (left_by (gives_back c answer) p.pools k)
 
@@ -178,12 +185,12 @@ byte_after p c answer k = laid_over (lays p c answer) k (left_by (gives_back c a
 abbrev pub PoolBytesLaw : Type 0 → Type 0
 PoolBytesLaw A = (ds : List Meaning) (old : State) (c : Call A) (answer : Reply A) (new : State) → AreSound old.parts → Step ds old c answer new → (k : ℕ) → byte_at k new.parts.pools ≡ byte_after old.parts c answer k
 
--- A read that succeeds gives the bytes that stand at its addresses.
+-- A read that succeeds gives the bytes at its addresses.
 abbrev pub ReadBytesLaw : Type 0 → Type 0
 ReadBytesLaw A = (ds : List Meaning) (old : State) (address size : ℕ) (bytes : Vec ℕ A) (new : State) → AreSound old.parts → Step ds old (call.PoolRead address size) (reply.PoolRead Success bytes) new →
     (length bytes.items ≡ size) × ((i : ℕ) → i < size → byte_at (address + i) old.parts.pools ≡ first_of (drop i bytes.items))
 
--- no call of the run changes what stands at an address of the pool
+-- no call of the run changes what is at an address of the pool
 abbrev pub LeavesByte : {A : Type 0} (ds : List Meaning) (old : State) (calls : List (Call A)) (replies : List (Reply A)) (new : State) → CallRun ds old calls replies new → ℕ → Type 0
 LeavesByte ds old (c ∷ calls) (answer ∷ replies) new (next, step, run) k = (byte_after old.parts c answer k ≡ byte_at k old.parts.pools) × LeavesByte ds next calls replies new run k
 LeavesByte ds old calls replies new run k = Unit {0}
@@ -196,7 +203,8 @@ LastBytesLaw A = (ds : List Meaning) (first old : State) (c : Call A) (answer : 
 
 -- ---- certificates
 
--- The certificate of a reply, where it has one, is accepted by the checker with the memory map before the call.
+-- The certificate of a reply, where it has one, is accepted by the checker with the memory map
+-- before the call.
 abbrev pub IsAcceptedReply : {A : Type 0} → State → Call A → Reply A → Type 0
 IsAcceptedReply old c answer = IfSome (certified old.parts.book.granule c answer) (λ told. IsAccepted (memory_map old.parts.book.memory) told.0 told.1)
 
@@ -213,8 +221,8 @@ AcceptanceLaw A = (ds : List Meaning) (machine : MachineValue) (calls : List (Ca
 abbrev pub HasNewExtent : Parts → Parts → Type 0
 HasNewExtent old new = length new.pools ≡ length old.pools + 1
 
--- A call places pages by choice: AllocatePages that names no address, where it succeeds, and each call for a block of the pool,
--- where the block is in a new extent.
+-- A call places pages by choice: AllocatePages that names no address, where it succeeds, and each
+-- call for a block of the pool, where the block is in a new extent.
 abbrev pub PlacesByChoice : {A : Type 0} → Parts → Call A → Reply A → Parts → Type 0
 PlacesByChoice old (call.AllocatePages kind t pages memory) (reply.AllocatePages (Ok placed)) new = kind < fixed_address
 PlacesByChoice old (call.AllocatePool t size) answer new = HasNewExtent old new
@@ -222,7 +230,8 @@ PlacesByChoice old (call.LocateHandleBuffer search guid key) answer new = HasNew
 PlacesByChoice old (call.OpenProtocolInformation handle guid) answer new = HasNewExtent old new
 PlacesByChoice old c answer new = ⊥
 
--- The reply carries a certificate exactly where the call placed pages by choice, and then it tells which request that is for.
+-- The reply carries a certificate exactly where the call placed pages by choice, and then it says
+-- which request that is for.
 pub record CertifiesChoice {A : Type 0} (old : State) (c : Call A) (answer : Reply A) (new : State) : Type 0 where
   pub carried : (is_some (certificate_in answer) ≡ true) ↔ PlacesByChoice old.parts c answer new.parts
   pub requested : is_some (certified old.parts.book.granule c answer) ≡ is_some (certificate_in answer)
@@ -232,6 +241,7 @@ abbrev pub AllCertifyChoices : {A : Type 0} (ds : List Meaning) (old : State) (c
 AllCertifyChoices ds old (c ∷ calls) (answer ∷ replies) new (next, step, run) = CertifiesChoice old c answer next × AllCertifyChoices ds next calls replies new run
 AllCertifyChoices ds old calls replies new run = Unit {0}
 
--- On a valid machine the calls of a run that place pages by choice are exactly those whose replies carry certificates.
+-- On a valid machine the calls of a run that place pages by choice are exactly those whose replies
+-- carry certificates.
 abbrev pub CertificateLaw : Type 0 → Type 0
 CertificateLaw A = (ds : List Meaning) (machine : MachineValue) (calls : List (Call A)) (replies : List (Reply A)) (new : State) (run : CallRun ds (first_state machine) calls replies new) → IsMachine machine → AllCertifyChoices ds (first_state machine) calls replies new run

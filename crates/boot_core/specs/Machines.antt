@@ -9,7 +9,8 @@ use Rattle.pool_services.specs.Extents.{Extent, AreExtents}
 use Rattle.pool_services.specs.PoolRules.{OwnsExtents}
 use Rattle.protocol_services.specs.Lists.{Lists, most_given, no_lists}
 
--- what the services work on: the memory with its key, the extents of the pool, and the lists of the protocol services
+-- what the services work on: the memory with its key, the extents of the pool, and the lists of the
+-- protocol services
 pub record Parts : Type 0 where
   pub book : Book
   pub pools : List Extent
@@ -29,8 +30,8 @@ all_calls = 0x80000000
 abbrev pub first_state : MachineValue → State
 first_state machine = record { parts = record { book = new_book machine.granule (pages_of machine.runs); pools = []; lists = no_lists }; exited = false; calls_left = all_calls }
 
--- What the calls so far can have brought: the key is one more than these at most, and numbers, stamps, registrations and the
--- counts of open items follow them too.
+-- What the calls so far can have brought: the key is one more than these at most, and numbers,
+-- stamps, registrations and the counts of open items follow them too.
 pub record FollowsCalls (p : Parts) (calls_left : ℕ) : Type 0 where
   pub key : p.book.key + calls_left ≤ all_calls + 1
   pub numbers : p.lists.handles.last_number + most_given * calls_left ≤ most_given * all_calls
@@ -38,8 +39,8 @@ pub record FollowsCalls (p : Parts) (calls_left : ℕ) : Type 0 where
   pub registrations : length p.lists.registrations + calls_left ≤ all_calls
   pub counts : AllByRecursion (λ o. o.count + calls_left ≤ all_calls) p.lists.opens
 
--- The memory is proper, what AllocatePages placed in it fills whole granules, the extents stand apart, and the pages of the pool
--- are theirs.
+-- The memory is proper, what AllocatePages placed in it fills whole granules, the extents are
+-- apart, and the pages of the pool are theirs.
 pub record AreSound (p : Parts) : Type 0 where
   pub proper : IsProperMemory p.book.memory
   pub granules : IsInGranules p.book

@@ -12,7 +12,7 @@ use Rattle.map_keys.specs.Records.{records}
 abbrev pub refused_map : Status → MapReply
 refused_map status = record { status = status; size = 0; key = 0; descriptor_size = 0; version = 0 }
 
--- the bytes of a buffer of so many that are used: the records of the map, where it fits
+-- the bytes that are used of a buffer of a size: the records of the map, where it fits
 abbrev pub map_bytes : Book → ℕ → List ℕ
 map_bytes b room = if nat_le (map_size b) room then records (memory_map b.memory) else []
 
@@ -20,8 +20,8 @@ map_bytes b room = if nat_le (map_size b) room then records (memory_map b.memory
 abbrev pub room_for_map : Book → ℕ → ℕ
 room_for_map b room = if nat_le (map_size b) room then map_size b else 0
 
--- What is answered of a buffer of so many bytes, with the bytes that are used of it. Memory for the core's own buffer may run
--- out where the map has entries and fits, and nowhere else.
+-- What is answered of a buffer of a size, with the bytes that are used of it. Memory for the core's
+-- own buffer may run out where the map has entries and fits, and nowhere else.
 abbrev pub AnswersMap : Book → ℕ → MapReply → List ℕ → Type 0
 AnswersMap b room told bytes =
     ((told ≡ map_reply b room) × (bytes ≡ map_bytes b room)) ⊎ ((0 < map_size b) × (map_size b ≤ room) × (told ≡ refused_map OutOfResources) × (bytes ≡ []))

@@ -62,7 +62,8 @@ OnLists Rule old new = Rule new.lists × (new.book ≡ old.book) × (new.pools �
 
 -- ---- before the exit and after it
 
--- Before the exit a service goes by its rule. After it, it answers a refusal and leaves all parts as they were.
+-- Before the exit a service goes by its rule. After it, it answers a refusal and leaves all parts
+-- as they were.
 abbrev pub WhileOpen : Bool → Parts → Parts → Type 0 → Type 0 → Type 0
 WhileOpen true old new Rule Refusal = Refusal × (new ≡ old)
 WhileOpen false old new Rule Refusal = Rule
@@ -71,7 +72,7 @@ WhileOpen false old new Rule Refusal = Rule
 abbrev pub Serves : {A R : Type 0} → Bool → Parts → Parts → Reply A → (Result R Status → Reply A) → (Result R Status → Type 0) → Type 0
 Serves {R = R} exited old new answer tell Rule = (result : Result R Status) × (answer ≡ tell result) × WhileOpen exited old new (Rule result) (result ≡ Err Unsupported)
 
--- what a service does whose reply tells something and the bytes that are used of a buffer
+-- what a service does whose reply has a value and the bytes that are used of a buffer
 abbrev pub ServesBytes : {A T : Type 0} → Bool → Parts → Parts → Reply A → (T → Vec ℕ A → Reply A) → (T → List ℕ → Type 0) → T → Type 0
 ServesBytes {A = A} {T = T} exited old new answer tell Rule refused =
     (told : T) × (bytes : Vec ℕ A) × (answer ≡ tell told bytes) × WhileOpen exited old new (Rule told bytes.items) ((told ≡ refused) × (bytes.items ≡ []))
@@ -122,7 +123,7 @@ Answers S exited old (call.DisconnectController handle driver) answer new = Serv
 Answers S exited old (call.LocateDevicePath guid address) answer new = Serves exited old new answer reply.LocateDevicePath (λ result. (result ≡ located old.lists.handles old.pools guid address) × (new ≡ old))
 Answers S exited old (call.ExitBootServices key) answer new = Serves exited old new answer reply.ExitBootServices (λ result. Exits old.book.key key result × (new ≡ old))
 
--- whether the boot services have ended after a reply: they had, or it tells of an exit
+-- whether the boot services have ended after a reply: they had, or it is that of an exit
 abbrev pub exited_after : {A : Type 0} → Bool → Reply A → Bool
 exited_after exited (reply.ExitBootServices (Ok done)) = true
 exited_after exited answer = exited
@@ -147,15 +148,15 @@ Step ds old c answer new = StepBy (best_starts ds) old c answer new
 abbrev pub StepAny : {A : Type 0} → List Meaning → State → Call A → Reply A → State → Type 0
 StepAny ds old c answer new = StepBy (any_starts ds) old c answer new
 
--- What GetMemoryMap does with a buffer of the caller's: its reply, the buffer after it, and the machine, which is as it was but
--- for one call less.
+-- What GetMemoryMap does with a buffer of the caller's: its reply, the buffer after it, and the
+-- machine, which is as it was but for one call less.
 pub record MapStep (old : State) (buffer : List ℕ) (told : MapReply) (after : List ℕ) (new : State) : Type 0 where
   pub answers : WhileOpen old.exited old.parts new.parts ((told ≡ map_reply old.parts.book (length buffer)) × (after ≡ buffer_with_map old.parts.book buffer) × (new.parts ≡ old.parts)) ((told ≡ refused_map Unsupported) × (after ≡ buffer))
   pub exited : new.exited ≡ old.exited
   pub calls_left : IsCounted old new
 
--- What a read does with a buffer of the caller's: its status, the buffer after it, and the machine, which is as it was but for
--- one call less.
+-- What a read does with a buffer of the caller's: its status, the buffer after it, and the machine,
+-- which is as it was but for one call less.
 pub record ReadStep (old : State) (address : ℕ) (buffer : List ℕ) (status : Status) (after : List ℕ) (new : State) : Type 0 where
   pub answers : WhileOpen old.exited old.parts new.parts ((result : Result (Unit {0}) Status) × (status ≡ told_status result) × ReadsPool old.parts.pools address buffer result after × (new.parts ≡ old.parts)) ((status ≡ Unsupported) × (after ≡ buffer))
   pub exited : new.exited ≡ old.exited

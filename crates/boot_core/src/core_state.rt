@@ -67,7 +67,7 @@ impl<D: Driver, A: Allocator + Copy> Core<D, A> {
         })
     }
 
-    /// Leaves so many calls and no more. It is for tests alone, of what comes after the last call.
+    /// Leaves a number of calls and no more. It is for tests alone, of what comes after the last call.
     pub fn leave_calls(&mut self, calls: u64)
         requires { calls ≤ self.old.state.calls_left }
         ensures parts { self.new.state.parts ≡ self.old.state.parts }
@@ -100,9 +100,9 @@ impl<D: Driver, A: Allocator + Copy> Core<D, A> {
         }
     }
 
-    /// AllocatePages: so many `pages` of the type `mtype`, anywhere (kind 0), up to the byte at the address
-    /// `memory` (1), or at that address (2). For a type that stands in granules they begin at a granule
-    /// and are rounded up to whole ones. The reply tells their address, and for kinds 0 and 1 the
+    /// AllocatePages: `pages` pages of the type `mtype`, anywhere (kind 0), up to the byte at the address
+    /// `memory` (1), or at that address (2). For a type that fills granules they begin at a granule
+    /// and are rounded up to whole ones. The reply has their address, and for kinds 0 and 1 the
     /// certificate of their place.
     ///
     /// INVALID_PARAMETER: another kind, a type that no request may name, or no pages. NOT_FOUND: the
@@ -118,7 +118,7 @@ impl<D: Driver, A: Allocator + Copy> Core<D, A> {
         })
     }
 
-    /// FreePages: so many `pages` from the address `memory` on are conventional again, and with them the rest
+    /// FreePages: `pages` pages from the address `memory` on are conventional again, and with them the rest
     /// of the granules that the first and the last of them lie in.
     ///
     /// INVALID_PARAMETER: an unaligned address, no pages, or a range past the last page. NOT_FOUND: one
@@ -136,7 +136,7 @@ impl<D: Driver, A: Allocator + Copy> Core<D, A> {
 
     /// GetMemoryMap: the memory map, in the front of the buffer.
     ///
-    /// BUFFER_TOO_SMALL: the buffer has fewer bytes than the map takes, which the reply tells.
+    /// BUFFER_TOO_SMALL: the buffer has fewer bytes than the map takes, which the reply has.
     pub fn get_memory_map(&mut self, buffer: &mut [u8]) -> MapReply
         requires { 0 < self.old.state.calls_left }
         ensures step { MapStep self.old.state buffer.old result buffer.new self.new.state }
@@ -148,7 +148,7 @@ impl<D: Driver, A: Allocator + Copy> Core<D, A> {
         }
     }
 
-    // GetMemoryMap with a buffer of its own in the place of one of so many bytes.
+    // GetMemoryMap with a buffer of its own in place of one of a given size.
     fn get_map_bytes(&mut self, size: u64) -> Reply<A>
         requires { 0 < self.old.state.calls_left }
         ensures step { Step (map D.meaning self.old.drivers) self.old.state (Call.GetMemoryMap size) result self.new.state }
@@ -166,7 +166,7 @@ impl<D: Driver, A: Allocator + Copy> Core<D, A> {
         }
     }
 
-    /// AllocatePool: a block of so many bytes, all 0, of the type `mtype`.
+    /// AllocatePool: a block of a number of bytes, all 0, of the type `mtype`.
     pub fn allocate_pool(&mut self, mtype: u32, size: u64) -> Reply<A>
         requires { 0 < self.old.state.calls_left }
         ensures step { Step (map D.meaning self.old.drivers) self.old.state (Call.AllocatePool mtype size) result self.new.state }
@@ -204,7 +204,7 @@ impl<D: Driver, A: Allocator + Copy> Core<D, A> {
         }
     }
 
-    // The same with a buffer of its own in the place of one of so many bytes.
+    // The same with a buffer of its own in place of one of a given size.
     fn get_pool_bytes(&mut self, address: u64, size: u64) -> Reply<A>
         requires { 0 < self.old.state.calls_left }
         ensures step { Step (map D.meaning self.old.drivers) self.old.state (Call.PoolRead address size) result self.new.state }
@@ -238,7 +238,7 @@ impl<D: Driver, A: Allocator + Copy> Core<D, A> {
     }
 
     /// InstallProtocolInterface: an interface of a GUID, with a value, on a handle, on a new one for
-    /// handle 0. The reply tells the handle, and the events of the registrations for the GUID.
+    /// handle 0. The reply has the handle, and the events of the registrations for the GUID.
     pub fn install_protocol_interface(
         &mut self,
         handle: u64,
@@ -288,7 +288,7 @@ impl<D: Driver, A: Allocator + Copy> Core<D, A> {
     }
 
     /// ReinstallProtocolInterface: gives the interface of a GUID another value in its place, after the
-    /// drivers that have it open are stopped, and connects the handle. The reply tells the events.
+    /// drivers that have it open are stopped, and connects the handle. The reply has the events.
     pub fn reinstall(&mut self, handle: u64, guid: Uuid, old_value: u64, new_value: u64) -> Reply<A>
         requires { 0 < self.old.state.calls_left }
         ensures step { Step (map D.meaning self.old.drivers) self.old.state (Call.ReinstallProtocolInterface handle guid old_value new_value) result self.new.state }
@@ -307,7 +307,7 @@ impl<D: Driver, A: Allocator + Copy> Core<D, A> {
     }
 
     /// RegisterProtocolNotify: an event for the interfaces of a GUID that are installed from now on. The
-    /// reply tells the key of the registration.
+    /// reply has the key of the registration.
     pub fn register_protocol_notify(&mut self, guid: Uuid, event: u64) -> Reply<A>
         requires { 0 < self.old.state.calls_left }
         ensures step { Step (map D.meaning self.old.drivers) self.old.state (Call.RegisterProtocolNotify guid event) result self.new.state }
@@ -320,7 +320,7 @@ impl<D: Driver, A: Allocator + Copy> Core<D, A> {
     }
 
     /// LocateHandle: all handles (search 0), the handle that is next for a registration's key, which is
-    /// taken (1), or those that carry a GUID (2), where a buffer of so many bytes has room for them, 8
+    /// taken (1), or those that carry a GUID (2), where a buffer of this size has room for them, 8
     /// bytes each.
     pub fn locate_handle(&mut self, search: u32, guid: Uuid, key: u64, size: u64) -> Reply<A>
         requires { 0 < self.old.state.calls_left }
@@ -381,7 +381,7 @@ impl<D: Driver, A: Allocator + Copy> Core<D, A> {
         })
     }
 
-    /// OpenProtocol: the value of an interface, and who has it open for which controller, and how.
+    /// OpenProtocol: the value of an interface, and which agent has it open for which controller, and how.
     pub fn open_protocol(
         &mut self,
         handle: u64,
@@ -456,7 +456,7 @@ impl<D: Driver, A: Allocator + Copy> Core<D, A> {
     }
 
     /// ConnectController: starts drivers on a handle, those first that are named, and where `recursive` is
-    /// set on the handles that this makes. The reply tells the events.
+    /// set on the handles that this makes. The reply has the events.
     pub fn connect_controller(&mut self, handle: u64, named: &[u64], recursive: bool) -> Reply<A>
         requires { 0 < self.old.state.calls_left }
         ensures step { Step (map D.meaning self.old.drivers) self.old.state (Call.ConnectController handle named.now recursive) result self.new.state }

@@ -36,7 +36,7 @@ pub fn sound_law<A: Allocator>()
 {}
 
 /// After any calls each open item names live handles, each interface is held by one item at most, for
-/// a driver or exclusively, and no GUID stands twice on a handle, however starts are chosen and
+/// a driver or exclusively, and no GUID occurs twice on a handle, however starts are chosen and
 /// whatever the drivers answer.
 pub fn proper_lists_law<A: Allocator>()
     ensures best { (ds : List Meaning) → ProperListsLaw (best_starts ds) A }
@@ -49,7 +49,7 @@ pub fn pool_bytes_law<A: Allocator>()
     ensures { PoolBytesLaw A }
 {}
 
-/// A read gives the bytes that stand at its addresses.
+/// A read gives the bytes at its addresses.
 pub fn read_bytes_law<A: Allocator>()
     ensures { ReadBytesLaw A }
 {}

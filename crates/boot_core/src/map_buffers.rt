@@ -8,7 +8,7 @@ use page_ranges::Status;
 use page_services::PageBook;
 use std::alloc::{AllocError, Allocator};
 
-/// GetMemoryMap with a buffer made for it in the place of one of so many bytes: its reply, and the
+/// GetMemoryMap with a buffer made for it in place of one of a given size: its reply, and the
 /// bytes that are used. OUT_OF_RESOURCES: there is no memory for the buffer.
 pub fn map_in_buffer<A: Allocator + Copy>(book: &PageBook<A>, size: u64) -> (MapReply, Vec<u8, A>)
     ensures { AnswersMap book.now size result.0 result.1.items }
@@ -25,7 +25,7 @@ pub fn map_in_buffer<A: Allocator + Copy>(book: &PageBook<A>, size: u64) -> (Map
     }
 }
 
-/// A buffer as long as the map, where the map has entries and fits into so many bytes; else an
+/// A buffer as long as the map, where the map has entries and fits into a number of bytes; else an
 /// empty one.
 fn room_for_map<A: Allocator + Copy>(
     book: &PageBook<A>,
@@ -42,7 +42,7 @@ fn room_for_map<A: Allocator + Copy>(
     vec![in alloc; 0u8; needed as usize]
 }
 
-/// How many bytes the map takes: what is told where there is no buffer.
+/// How many bytes the map takes: what is returned where there is no buffer.
 fn map_size<A: Allocator + Copy>(book: &PageBook<A>) -> u64
     ensures { result ≡ map_size book.now }
 {

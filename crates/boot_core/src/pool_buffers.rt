@@ -7,7 +7,7 @@ use page_ranges::Status;
 use pool_services::Pools;
 use std::alloc::Allocator;
 
-/// The bytes from an address on, so many, all of which one block must have, and the status of the
+/// A number of bytes from an address on, all of which one block must have, and the status of the
 /// read. OUT_OF_RESOURCES: there is no memory for the buffer.
 pub fn read_bytes<A: Allocator + Copy>(
     alloc: A,
@@ -30,7 +30,7 @@ pub fn read_bytes<A: Allocator + Copy>(
     }
 }
 
-/// The status that a result is told as.
+/// The status that a result is returned as.
 pub fn told_status(answer: Result<(), Status>) -> Status
     ensures { result ≡ told_status answer }
 {

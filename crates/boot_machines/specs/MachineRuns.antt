@@ -4,8 +4,8 @@ use Rattle.page_ranges.specs.declared.ranges.Owner.TheVariants.{Given}
 use Rattle.page_ranges.specs.declared.ranges.Run.{Run}
 use Rattle.page_ranges.specs.MemoryTypes.{page_count, conventional, has_runtime, is_machine_type}
 
--- a nonempty run of pages that exist, of the machine's own and of a type that a machine may have; a conventional
--- one lacks RUNTIME
+-- a nonempty run of pages that exist, of the machine's own and of a type that a machine may have; a
+-- conventional one lacks RUNTIME
 pub record IsMachineRun (r : Run) : Type 0 where
   pub some : 0 < r.range.pages
   pub within : r.range.first + r.range.pages ≤ page_count

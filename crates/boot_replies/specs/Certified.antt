@@ -25,7 +25,8 @@ abbrev pub list_request : ℕ → ℕ → Option ℕ → Option Request
 list_request granule size count =
     option_and_then (λ n. extent_request granule list_type (size * n)) count
 
--- the request that a call on a machine with a granule leaves to the service to place: for the pool that of a new extent
+-- the request that a call on a machine with a granule leaves to the service to place: for the pool
+-- that of a new extent
 abbrev pub left_request : {A : Type 0} → ℕ → Call A → Reply A → Option Request
 left_request granule (call.AllocatePages kind t pages memory) answer =
     placement_request granule kind t pages memory
@@ -48,7 +49,8 @@ certificate_in (reply.LocateHandleBuffer (Ok told)) = told.certificate
 certificate_in (reply.OpenProtocolInformation (Ok told)) = told.certificate
 certificate_in answer = None
 
--- the certificate of the reply to a call on a machine with a granule, and the request that it is for
+-- the certificate of the reply to a call on a machine with a granule, and the request that it is
+-- for
 abbrev pub certified : {A : Type 0} → ℕ → Call A → Reply A → Option (Request × CertificateValue)
 certified granule c answer =
     option_and_then
@@ -64,7 +66,8 @@ may_be_certified granule (call.LocateHandleBuffer search guid key) = true
 may_be_certified granule (call.OpenProtocolInformation handle guid) = true
 may_be_certified granule c = false
 
--- the memory map, where certificates are asked for and the reply to the call on a machine with a granule may carry one
+-- the memory map, where certificates are asked for and the reply to the call on a machine with a
+-- granule may carry one
 abbrev pub map_before : {A : Type 0} → Bool → ℕ → List Descriptor → Call A
     → Option (List Descriptor)
 map_before true granule entries c = if may_be_certified granule c then Some entries else None

@@ -24,6 +24,7 @@ abbrev pub held_at : Global → Ptr → Held → Fml
 held_at alloc p None = ftrue
 held_at alloc p (Some r) = block_of the_row alloc p r
 
--- what the caller gives up with p: any core that lies there in a block of its own; with a null pointer nothing
+-- what the caller gives up with p: any core that lies there in a block of its own; with a null
+-- pointer nothing
 abbrev pub freed_at : Global → Ptr → Fml
 freed_at alloc p = if_non_null p (fex Rafkudin (block_of the_row alloc p))

@@ -30,7 +30,7 @@ whole_map true old new size told bytes h s = let refused = ap (λ (r : MapReply)
 whole_map false old new size told bytes (inl h, same) s = all_used (leb (map_size old.book) size) (map_size old.book) old.book.key told bytes (records (memory_map old.book.memory)) h.0 h.1 s
 whole_map false old new size told bytes (inr h, same) s = let refused = ap (λ (r : MapReply). r.status) h.2 in absurd (cc)
 
--- the bytes that a successful GetMemoryMap tells are the records of the memory map
+-- the bytes that a successful GetMemoryMap returns are the records of the memory map
 pub told_bytes : {A : Type 0} (drivers : List Meaning) (old : State) (size : ℕ) (told : MapReply) (bytes : Vec ℕ A) (new : State) → Step drivers old (call.GetMemoryMap size) (reply.GetMemoryMap told bytes) new → told.status ≡ Success → bytes.items ≡ records (memory_map old.parts.book.memory)
 told_bytes {A = A} drivers old size told bytes new step success =
     let (told', bytes', e, h) = step.answers in

@@ -57,7 +57,7 @@ use Rattle.boot_trace.specs.TraceRuns.{Prints, PrintsAll, Wrote, most_lines}
 
 -- ---- the states of a run
 
--- A state that so many lines at most came before: its parts are sound, and its map can be told in blocks and in records.
+-- A state that at most a number of lines came before: its parts are sound, and its map can be printed in blocks and in records.
 record IsReached (lines : ℕ) (s : State) : Type 0 where
   sound : AreSound s.parts
   typed : HasMachineTypes s.parts.book.memory

@@ -158,7 +158,7 @@ one_byte rest left next b e t = let h = rw e at t in (h.0, h.1)
 -- ---- where the trace's bytes are known
 
 module _ (A : Type 0) (ds : List Meaning) (certify : Bool) (o : Option (List ℕ)) (old : State) (before : Option (List ℕ)) where
-  -- so many lines have been read, if the bytes are known
+  -- a number of lines have been read, if the bytes are known
   abbrev pub AtLineIf : ℕ → State → Option (List ℕ) → Option (List ℕ) → Type 0
   AtLineIf count new after left = IfSome o (λ bytes. AtLine A ds certify bytes count old new before after left)
 

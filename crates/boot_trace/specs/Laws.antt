@@ -24,7 +24,8 @@ use Rattle.reply_texts.specs.CallText.{CarriesEntries, certificate_text}
 use Rattle.reply_texts.specs.PrintedText.{reply_text}
 use Rattle.boot_trace.specs.TraceRuns.{PrintsAll, Wrote, most_lines}
 
--- what is said of a line with this number: what it asks for, the state before it, its text and the state after it
+-- what is said of a line with this number: what it asks for, the state before it, its text and the
+-- state after it
 abbrev pub OfLine : Type 0 → Type 1
 OfLine A = ℕ → Result (Option (TraceCall A)) TraceFault → State → List ℕ → State → Type 0
 
@@ -40,8 +41,9 @@ OfRun A ds certify Is = (file bytes : List ℕ) (machine : ListedMachine) (count
 
 -- ---- certificates
 
--- What a call prints is the lines of its reply and, where that carries a certificate, a block: of the memory map before the call,
--- the call's request and the certificate. The block is read back as these, and its check answers that it is accepted.
+-- What a call prints is the lines of its reply and, where that carries a certificate, a block: of
+-- the memory map before the call, the call's request and the certificate. The block is read back as
+-- these, and its check answers that it is accepted.
 abbrev pub PrintsAcceptedBlock : (A : Type 0) → List Meaning → OfLine A
 PrintsAcceptedBlock A ds number (Ok (Some (trace_call.Service c))) old text new =
     (answer : Reply A) × (entries : List Descriptor) × Step ds old c answer new × (text ≡ reply_text number entries answer ++ certificate_text (memory_map old.parts.book.memory) (certified old.parts.book.granule c answer)) ×
@@ -54,7 +56,8 @@ PrintedBlocksLaw A = (ds : List Meaning) → OfRun A ds true (PrintsAcceptedBloc
 
 -- ---- memory maps
 
--- The bytes that a GetMemoryMap wrote are read as the memory map, and the lines of its entries are printed.
+-- The bytes that a GetMemoryMap wrote are read as the memory map, and the lines of its entries are
+-- printed.
 abbrev pub PrintsReadMap : (A : Type 0) → List Meaning → OfLine A
 PrintsReadMap A ds number (Ok (Some (trace_call.Service (call.GetMemoryMap size)))) old text new =
     (told : MapReply) × (bytes : Vec ℕ A) × Step ds old (call.GetMemoryMap size) (reply.GetMemoryMap told bytes) new ×
@@ -65,7 +68,8 @@ PrintsReadMap A ds number asks old text new = Unit {0}
 abbrev pub PrintedMapsLaw : Type 0 → Type 0
 PrintedMapsLaw A = (ds : List Meaning) (certify : Bool) → OfRun A ds certify (PrintsReadMap A ds)
 
--- The entries that a successful GetMemoryMap carries are those of the memory map, where records can spell them.
+-- The entries that a successful GetMemoryMap carries are those of the memory map, where records can
+-- spell them.
 abbrev pub MapEntriesLaw : Type 0 → Type 0
 MapEntriesLaw A = (ds : List Meaning) (old : State) (size : ℕ) (told : MapReply) (bytes : Vec ℕ A) (new : State) (entries : List Descriptor) →
     AllByRecursion IsRecordEntry (memory_map old.parts.book.memory) → Step ds old (call.GetMemoryMap size) (reply.GetMemoryMap told bytes) new → told.status ≡ Success →

@@ -16,8 +16,9 @@ use Rattle.reply_texts.specs.CallText.{PrintsCall}
 use Rattle.reply_texts.specs.PrintedText.{list_text}
 use Rattle.trace_lines.specs.TraceLine.{line_of}
 
--- What a line asks for prints this text, and takes the machine from one state to another: a call, by a step of the
--- machine with the reply that is printed; a listing and a skipped line leave it as it is.
+-- What a line asks for prints this text, and takes the machine from one state to another: a call,
+-- by a step of the machine with the reply that is printed; a listing and a skipped line leave it as
+-- it is.
 abbrev pub Prints : (A : Type 0) → List Meaning → Bool → ℕ → Result (Option (TraceCall A)) TraceFault → State → List ℕ → State → Type 0
 Prints A ds certify number (Ok None) old text new = (text ≡ []) × (new ≡ old)
 Prints A ds certify number (Ok (Some trace_call.List)) old text new = (text ≡ list_text number (memory_map old.parts.book.memory)) × (new ≡ old)
@@ -34,8 +35,8 @@ abbrev pub MakesCall : (A : Type 0) → List Meaning → Result (Option (TraceCa
 MakesCall A ds (Ok (Some (trace_call.Service c))) old new = (answer : Reply A) × Step ds old c answer new
 MakesCall A ds asks old new = ⊥
 
--- Why a line that is read so stops a run, and how it leaves the machine: as it was, or, where memory ran out, perhaps
--- after the call was made.
+-- Why a line that is read so stops a run, and how it leaves the machine: as it was, or, where
+-- memory ran out, perhaps after the call was made.
 abbrev pub StopsAt : (A : Type 0) → List Meaning → Bool → RunFault → ℕ → Result (Option (TraceCall A)) TraceFault → State → State → Type 0
 StopsAt A ds certify (fault.Line n e) number asks old new = (n ≡ number) × (asks ≡ Err e) × (new ≡ old)
 StopsAt A ds certify fault.NoCallsLeft number asks old new = AsksForCall A asks × (old.calls_left ≡ 0) × (new ≡ old)
@@ -47,7 +48,7 @@ abbrev pub PrintsAll : Type 0 → List Meaning → Bool → ℕ → List (List �
 PrintsAll A ds certify number [] old text new = (text ≡ []) × (new ≡ old)
 PrintsAll A ds certify number (line ∷ lines) old text new = (mid : State) × (first : List ℕ) × (rest : List ℕ) × Prints A ds certify number (line_of line) old first mid × PrintsAll A ds certify (number + 1) lines mid rest new × (text ≡ first ++ rest)
 
--- The text of the first so many lines of the bytes was written, and nothing else.
+-- The text of a number of first lines of the bytes was written, and nothing else.
 pub record Wrote (A : Type 0) (ds : List Meaning) (certify : Bool) (bytes : List ℕ) (count : ℕ) (old new : State) (before after : Option (List ℕ)) : Type 0 where
   pub text : List ℕ
   pub prints : PrintsAll A ds certify 1 (take count (lines_of bytes)) old text new
@@ -57,14 +58,14 @@ pub record Wrote (A : Type 0) (ds : List Meaning) (certify : Bool) (bytes : List
 abbrev pub most_lines : ℕ
 most_lines = 1000000
 
--- the line that so many lines stand before
+-- the line that a number of lines come before
 pub record HasLine (bytes : List ℕ) (count : ℕ) (line : List ℕ) : Type 0 where
   pub front : List (List ℕ)
   pub rest : List (List ℕ)
   pub whole : lines_of bytes ≡ front ++ line ∷ rest
   pub counted : length front ≡ count
 
--- The text of the first so many lines was written whole, and of the text of the next a front.
+-- The text of a number of first lines was written whole, and of the text of the next a front.
 pub record WroteFront (A : Type 0) (ds : List Meaning) (certify : Bool) (bytes : List ℕ) (count : ℕ) (old new : State) (before after : Option (List ℕ)) : Type 0 where
   pub mid : State
   pub middle : Option (List ℕ)
@@ -76,14 +77,16 @@ pub record WroteFront (A : Type 0) (ds : List Meaning) (certify : Bool) (bytes :
   pub taken : ℕ
   pub written : Appends middle after (take taken text)
 
--- The text of the first so many lines was written; the next line's call may have been made, and nothing of it is written.
+-- The text of a number of first lines was written; the next line's call may have been made, and
+-- nothing of it is written.
 pub record WroteBefore (A : Type 0) (ds : List Meaning) (certify : Bool) (bytes : List ℕ) (count : ℕ) (old new : State) (before after : Option (List ℕ)) : Type 0 where
   pub mid : State
   pub whole : Wrote A ds certify bytes count old mid before after
   pub next : (new ≡ mid) ⊎ ((line : List ℕ) × HasLine bytes count line × MakesCall A ds (line_of line) mid new)
 
--- How a run on a trace of known bytes ends. What is written is the text of all its lines, or of those before the one
--- that stopped the run, and the machine is in the state after their calls. No line after the last that may be is looked at.
+-- How a run on a trace of known bytes ends. What is written is the text of all its lines, or of
+-- those before the one that stopped the run, and the machine is in the state after their calls. No
+-- line after the last that may be is looked at.
 abbrev pub Ends : Type 0 → List Meaning → Bool → List ℕ → State → State → Option (List ℕ) → Option (List ℕ) → Result (Unit {0}) RunFault → Type 0
 Ends A ds certify bytes old new before after (Ok done) = (length (lines_of bytes) ≤ most_lines) × Wrote A ds certify bytes (length (lines_of bytes)) old new before after
 Ends A ds certify bytes old new before after (Err (fault.Line number e)) = (count : ℕ) × (count < most_lines) × (number ≡ count + 1) × ((line : List ℕ) × HasLine bytes count line × (line_of {A = A} line ≡ Err e)) × Wrote A ds certify bytes count old new before after

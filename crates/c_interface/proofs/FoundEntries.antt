@@ -7,7 +7,7 @@ use Rattle.page_ranges.specs.MemoryMap.{memory_map}
 use Rattle.page_ranges.specs.MemoryTypes.{page_count}
 use Rattle.page_ranges.proofs.Blocks.{entry_within}
 
--- a list in three parts: an element, and what stands before and behind it
+-- a list in three parts: an element, and what comes before and behind it
 record Parted (ds : List Descriptor) (d : Descriptor) : Type 0 where
   front : List Descriptor
   rest : List Descriptor

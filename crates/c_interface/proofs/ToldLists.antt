@@ -1,4 +1,4 @@
--- Values that are laid into a buffer one after another, and what is told of handles.
+-- Values that are laid into a buffer one after another, and what is returned of handles.
 use Rattle.std.proofs.Common.{◌≡◌, ℕ, zero, suc, ◌<◌, ◌+◌, List, [], ◌∷◌, ◌++◌, length, take, drop, map, get_or, slice_index_or, slice_set, Some, None, refl, sym, ap, subst, ◌∙◌, arith, inl, inr, Bool, true, false, nat_le, leb-true, leb-false, min}
 use Rattle.std.proofs.Math.Nat.{min-eq_left, min-eq_right}
 use Rattle.std.proofs.Math.ListN.{drop_of_length-le}

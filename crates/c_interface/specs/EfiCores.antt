@@ -14,8 +14,8 @@ use Rattle.c_interface.specs.declared.efi_core.LastBlock.{LastBlock}
 use Rattle.c_interface.specs.declared.efi_core.LastBlock.TheVariants as block
 use Rattle.c_interface.specs.Replies.{events_in}
 
--- the core, whether the certificates of its placements are kept as blocks of text, and what the last call left to be asked for:
--- its reply and its block
+-- the core, whether the certificates of its placements are kept as blocks of text, and what the
+-- last call left to be asked for: its reply and its block
 pub record EfiCoreValue : Type 0 where
   pub core : CoreValue TableDriver
   pub certifies : Bool
@@ -30,8 +30,9 @@ table_meaning d = record { version = d.version; supports = λ s. list_all (is_fr
 abbrev pub meanings : EfiCoreValue → List Meaning
 meanings c = map table_meaning c.core.drivers
 
--- What is left of a call, where the memory map before it was kept and its reply carries a certificate for a request: their
--- block. Where no map was kept, or there is no certificate, nothing is left. Memory may run out where certificates are kept.
+-- What is left of a call, where the memory map before it was kept and its reply carries a
+-- certificate for a request: their block. Where no map was kept, or there is no certificate,
+-- nothing is left. Memory may run out where certificates are kept.
 abbrev pub LeavesBlock : Bool → Option (List Descriptor) → Option (Request × CertificateValue) → LastBlock → Type 0
 LeavesBlock certifies kept told block.OutOfMemory = certifies ≡ true
 LeavesBlock certifies (Some entries) (Some (r, certificate)) (block.Text bytes) = bytes.items ≡ block_text entries r certificate
@@ -39,7 +40,7 @@ LeavesBlock certifies kept told (block.Text bytes) = ⊥
 LeavesBlock certifies (Some entries) (Some told) block.Nothing = ⊥
 LeavesBlock certifies kept told block.Nothing = Unit {0}
 
--- the events that a reply tells, if there is one
+-- the events that a reply has, if there is one
 abbrev pub events_if : Option (Reply Global) → List ℕ
 events_if None = []
 events_if (Some answer) = events_in answer

@@ -12,12 +12,13 @@ use Rattle.c_machines.specs.MachineRecords.{IsTold}
 use Rattle.c_interface.specs.declared.efi_core.LastBlock.TheVariants as block
 use Rattle.c_interface.specs.EfiCores.{EfiCoreValue}
 
--- the status that a fault is told as
+-- the status that a fault is returned as
 abbrev pub fault_status : MachineFault → ℕ
 fault_status Invalid = status_number InvalidParameter
 fault_status OutOfMemory = status_number OutOfResources
 
--- The core is that of the machine that the records tell, with the drivers of the tables, before any call. It keeps no certificates.
+-- The core is that of the machine that the records describe, with the drivers of the tables, before
+-- any call. It keeps no certificates.
 pub record IsToldCore (size : ℕ) (records : List ℕ) (granule : ℕ) (tables : List DriverTable) (c : EfiCoreValue) : Type 0 where
   pub machine : MachineValue
   pub is_told : IsTold size records granule machine
@@ -28,8 +29,9 @@ pub record IsToldCore (size : ℕ) (records : List ℕ) (granule : ℕ) (tables 
   pub last : c.last ≡ None
   pub block : c.block ≡ block.Nothing
 
--- What is made: the core that is told. INVALID_PARAMETER says that the records tell no machine, or that the tables are none of
--- drivers; else memory ran out, which it may only where the tables are those of drivers.
+-- What is made: the core that the records and tables describe. INVALID_PARAMETER says that the
+-- records describe no machine, or that the tables are none of drivers; else memory ran out, which
+-- it may only where the tables are those of drivers.
 abbrev pub MakesCore : ℕ → List ℕ → ℕ → List DriverTable → Result EfiCoreValue ℕ → Type 0
 MakesCore size records granule tables (Ok c) = IsToldCore size records granule tables c
 MakesCore size records granule tables (Err status) =

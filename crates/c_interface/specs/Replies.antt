@@ -1,11 +1,11 @@
--- What a reply tells a caller in C: a status, numbers in places of the caller's, events.
+-- What a caller in C gets of a reply: a status, numbers in variables of the caller's, events.
 use Rattle.std.specs.Prelude.{ℕ, List, [], Option, Some, None, Result, Ok, Err}
 use Rattle.page_ranges.specs.declared.statuses.Status.{Status}
 use Rattle.page_ranges.specs.declared.statuses.Status.TheVariants.{Success}
 use Rattle.boot_replies.specs.declared.replies.Reply.{Reply}
 use Rattle.boot_replies.specs.declared.replies.Reply.TheVariants as reply
 
--- the status that a result is told as
+-- the status that a result is returned as
 abbrev pub told_status : {R : Type 0} → Result R Status → Status
 told_status (Ok done) = Success
 told_status (Err status) = status
@@ -37,7 +37,8 @@ status_in (reply.DisconnectController result) = told_status result
 status_in (reply.LocateDevicePath result) = told_status result
 status_in (reply.ExitBootServices result) = told_status result
 
--- the number that a reply tells: an address, a handle, a registration's key or the value of an interface
+-- the number that a reply has: an address, a handle, a registration's key or the value of an
+-- interface
 abbrev pub number_in : {A : Type 0} → Reply A → Option ℕ
 number_in (reply.AllocatePages (Ok placed)) = Some placed.address
 number_in (reply.AllocatePool (Ok block)) = Some block.0
@@ -49,8 +50,8 @@ number_in (reply.OpenProtocol (Ok value)) = value
 number_in (reply.HandleProtocol (Ok value)) = Some value
 number_in answer = None
 
--- the two numbers that a reply tells: how many items are in a block of the pool, and its address; or a handle, and the address
--- behind the nodes that its device path matched
+-- the two numbers that a reply has: how many items are in a block of the pool, and its address; or
+-- a handle, and the address behind the nodes that its device path matched
 abbrev pub numbers_in : {A : Type 0} → Reply A → Option (ℕ × ℕ)
 numbers_in (reply.LocateHandleBuffer (Ok told)) = Some (told.count, told.address)
 numbers_in (reply.OpenProtocolInformation (Ok told)) = Some (told.count, told.address)
@@ -65,7 +66,7 @@ events_in (reply.ReinstallProtocolInterface (Ok events)) = events.items
 events_in (reply.ConnectController (Ok events)) = events.items
 events_in answer = []
 
--- what stands in the caller's place: the number that is told, else what stood there
+-- what is in the caller's variable: the number that is returned, else what was there
 abbrev pub told_or : {T : Type 0} → T → Option T → T
 told_or old (Some told) = told
 told_or old None = old

@@ -39,21 +39,22 @@ pub record IsSpent (old new : EfiCoreValue) : Type 0 where
   pub spent : old.core.state.calls_left ≡ 0
   pub core : new ≡ forgotten old
 
--- The status of a call, what it tells in the caller's places, and how it leaves the core: it is a step of the core and the status
--- is that of the reply; or no call could be made, and the places are as they were.
+-- The status of a call, what it writes to the caller's variables, and how it leaves the core: it is
+-- a step of the core and the status is that of the reply; or no call could be made, and the places
+-- are as they were.
 abbrev pub Answers : EfiCoreValue → Call Global → ℕ → (Reply Global → Type 0) → Type 0 → EfiCoreValue → Type 0
 Answers old c status Tells Keeps new =
     ((answer : Reply Global) × Serves old c answer new × (status ≡ status_number (status_in answer)) × Tells answer) ⊎ (IsSpent old new × (status ≡ aborted) × Keeps)
 
--- a call that tells its status alone
+-- a call that returns its status alone
 abbrev pub AnswersStatus : EfiCoreValue → Call Global → ℕ → EfiCoreValue → Type 0
 AnswersStatus old c status new = Answers old c status (λ answer. Unit {0}) (Unit {0}) new
 
--- a call that tells a number in the caller's place, where it succeeds with one
+-- a call that returns a number in the caller's variable, where it succeeds with one
 abbrev pub AnswersNumber : EfiCoreValue → Call Global → ℕ → ℕ → ℕ → EfiCoreValue → Type 0
 AnswersNumber old c before status after new = Answers old c status (λ answer. after ≡ told_or before (number_in answer)) (after ≡ before) new
 
--- a call that tells two numbers in the caller's places, where it succeeds
+-- a call that returns two numbers in the caller's variables, where it succeeds
 abbrev pub AnswersNumbers : EfiCoreValue → Call Global → ℕ × ℕ → ℕ → ℕ × ℕ → EfiCoreValue → Type 0
 AnswersNumbers old c before status after new = Answers old c status (λ answer. after ≡ told_or before (numbers_in answer)) (after ≡ before) new
 
@@ -63,7 +64,7 @@ AnswersNumbers old c before status after new = Answers old c status (λ answer. 
 abbrev pub most_handles : ℕ
 most_handles = 4096
 
--- the bytes of a buffer for so many handles, 8 for each, as far as so many can be live
+-- the bytes of a buffer for a number of handles, 8 for each, as far as that many can be live
 abbrev pub handle_bytes : ℕ → ℕ
 handle_bytes room = min room most_handles * 8
 
@@ -73,7 +74,8 @@ told_size Success size = Some size
 told_size BufferTooSmall size = Some size
 told_size status size = None
 
--- LocateHandle tells the bytes that the handles take in the caller's place, and the handles in the caller's buffer.
+-- LocateHandle writes the bytes that the handles take to the caller's variable, and the handles to
+-- the caller's buffer.
 abbrev pub TellsHandles : ℕ → List ℕ → ℕ → List ℕ → Reply Global → Type 0
 TellsHandles size buffer new_size new_buffer (reply.LocateHandle told) = (new_size ≡ told_or size (told_size told.status told.size)) × (new_buffer ≡ laid told.handles.items buffer)
 TellsHandles size buffer new_size new_buffer answer = ⊥
@@ -82,8 +84,8 @@ TellsHandles size buffer new_size new_buffer answer = ⊥
 abbrev pub AnswersHandles : EfiCoreValue → Call Global → ℕ → List ℕ → ℕ → ℕ → List ℕ → EfiCoreValue → Type 0
 AnswersHandles old c size buffer status new_size new_buffer new = Answers old c status (TellsHandles size buffer new_size new_buffer) ((new_size ≡ size) × (new_buffer ≡ buffer)) new
 
--- ProtocolsPerHandle: its status, how many GUIDs there are in the caller's place, and the GUIDs in the caller's buffer. A buffer with
--- no room for all of them is too small, and is left.
+-- ProtocolsPerHandle: its status, how many GUIDs there are in the caller's variable, and the GUIDs
+-- in the caller's buffer. A buffer with no room for all of them is too small, and is left.
 abbrev pub TellsGuids : ℕ → List Guid → ℕ → ℕ → List Guid → Reply Global → Type 0
 TellsGuids count buffer status new_count new_buffer (reply.ProtocolsPerHandle (Ok guids)) =
     (new_count ≡ length guids.items)
@@ -96,7 +98,7 @@ abbrev pub AnswersGuids : EfiCoreValue → Call Global → ℕ → List Guid →
 AnswersGuids old c count buffer status new_count new_buffer new =
     ((answer : Reply Global) × Serves old c answer new × TellsGuids count buffer status new_count new_buffer answer) ⊎ (IsSpent old new × (status ≡ aborted) × (new_count ≡ count) × (new_buffer ≡ buffer))
 
--- so many interfaces are too many to be installed at once
+-- the count is of too many interfaces to be installed at once
 abbrev pub too_many : ℕ
 too_many = 17
 
@@ -109,13 +111,15 @@ pub record MapPlaces : Type 0 where
   pub descriptor_size : ℕ
   pub version : ℕ
 
--- What GetMemoryMap tells in these places: where the buffer is too small all but the key, so that a caller can make a larger one.
+-- What GetMemoryMap writes to these variables: where the buffer is too small all but the key, so
+-- that a caller can make a larger one.
 abbrev pub told_places : MapReply → Status → MapPlaces → MapPlaces
 told_places told Success before = record { size = told.size; key = told.key; descriptor_size = record_size; version = descriptor_version }
 told_places told BufferTooSmall before = record { size = told.size; key = before.key; descriptor_size = record_size; version = descriptor_version }
 told_places told status before = before
 
--- what a call leaves that fills a buffer of the caller's: neither a reply nor a block to be asked for
+-- what a call leaves that fills a buffer of the caller's: neither a reply nor a block to be asked
+-- for
 pub record LeavesNothing (old new : EfiCoreValue) : Type 0 where
   pub drivers : new.core.drivers ≡ old.core.drivers
   pub certifies : new.certifies ≡ old.certifies
@@ -136,8 +140,8 @@ AnswersRead old address buffer status after new =
 
 -- ---- what is asked for after a call
 
--- The block of the last call in the caller's buffer, its bytes in the caller's place; where the buffer is too small the bytes
--- that are needed, and where there is no block neither.
+-- The block of the last call in the caller's buffer, its bytes in the caller's variable; where the
+-- buffer is too small the bytes that are needed, and where there is no block neither.
 abbrev pub TellsBlock : LastBlock → List ℕ → ℕ → ℕ → List ℕ → ℕ → Type 0
 TellsBlock block.Nothing buffer size status new_buffer new_size = (status ≡ status_number NotFound) × (new_buffer ≡ buffer) × (new_size ≡ size)
 TellsBlock block.OutOfMemory buffer size status new_buffer new_size = (status ≡ status_number OutOfResources) × (new_buffer ≡ buffer) × (new_size ≡ size)

@@ -145,7 +145,7 @@ impl EfiCore {
         status
     }
 
-    /// The same for a call that tells a number: where it succeeds with one it is put in the place.
+    /// The same for a call that returns a number: where it succeeds with one it is put in the caller's variable.
     pub(crate) fn answer_number(&mut self, call: &Call, place: &mut u64) -> u64
         ensures { AnswersNumber self.old call.now place.old result place.new self.new }
     {
@@ -156,7 +156,7 @@ impl EfiCore {
         status
     }
 
-    /// The same for a call that tells two numbers.
+    /// The same for a call that returns two numbers.
     pub(crate) fn answer_numbers(&mut self, call: &Call, first: &mut u64, second: &mut u64) -> u64
         ensures { AnswersNumbers self.old call.now (first.old, second.old) result (first.new, second.new) self.new }
     {
@@ -189,11 +189,11 @@ impl EfiCore {
         }
     }
 
-    /// The block of the certificate of the last call, in the front of a buffer; its bytes are told in
+    /// The block of the certificate of the last call, in the front of a buffer; its length is written to
     /// a place.
     ///
     /// NOT_FOUND: the last call left no block. OUT_OF_RESOURCES: memory ran out for it.
-    /// BUFFER_TOO_SMALL: the place tells the bytes that are needed.
+    /// BUFFER_TOO_SMALL: the variable has the bytes that are needed.
     pub fn block(&self, buffer: &mut [u8], size: &mut u64) -> u64
         ensures { TellsBlock self.now.block buffer.old size.old result buffer.new size.new }
     {

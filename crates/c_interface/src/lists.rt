@@ -1,4 +1,4 @@
-//! The services that take or tell a list.
+//! The services that take or return a list.
 ghost use Rattle.std.specs.Prelude.{◌≡◌, length, map, take};
 ghost use Rattle.boot_calls.specs.declared.calls.Call.TheVariants as call;
 ghost use Rattle.c_interface.specs.Buffers.{laid};
@@ -71,7 +71,7 @@ impl EfiCore {
         Status::Success.number()
     }
 
-    /// InstallMultipleProtocolInterfaces. The place `handle` has the handle, 0 for a new one, and is told it.
+    /// InstallMultipleProtocolInterfaces. The place `handle` has the handle, 0 for a new one, and receives it.
     /// This takes no memory but the core's: a list that is too long is refused by its first interfaces.
     pub fn install_multiple(&mut self, handle: &mut u64, interfaces: &[Interface]) -> u64
         ensures { AnswersNumber self.old (call.InstallMultipleProtocolInterfaces handle.old (map interface_in interfaces.now)) handle.old result handle.new self.new }
@@ -108,7 +108,7 @@ impl EfiCore {
     }
 }
 
-/// The bytes of a buffer for so many handles, as far as so many can be live.
+/// The bytes of a buffer for a number of handles, as far as that many can be live.
 fn handle_bytes(room: usize) -> u64
     ensures { result ≡ handle_bytes room }
 {

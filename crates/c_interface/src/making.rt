@@ -10,11 +10,11 @@ use page_ranges::Status;
 use std::alloc::Global;
 
 impl EfiCore {
-    /// The core of a machine before any call. Its memory is told by records (EFI_MEMORY_DESCRIPTOR) of
+    /// The core of a machine before any call. Its memory is described by records (EFI_MEMORY_DESCRIPTOR) of
     /// `descriptor_size` bytes each, its granule is 1 or 16 pages, and the value of a driver binding
     /// interface is the place of its driver among the tables.
     ///
-    /// The error is a number of EFI_STATUS. INVALID_PARAMETER: the records tell no machine, or the tables
+    /// The error is a number of EFI_STATUS. INVALID_PARAMETER: the records describe no machine, or the tables
     /// are none of drivers, which is found before memory is taken. OUT_OF_RESOURCES: memory ran out.
     pub fn make(
         alloc: Global,
@@ -43,7 +43,7 @@ impl EfiCore {
     }
 }
 
-/// The status that a fault is told as.
+/// The status that a fault is returned as.
 fn fault_status(fault: MachineFault) -> u64
     ensures { result ≡ fault_status fault }
 {

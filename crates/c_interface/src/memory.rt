@@ -15,7 +15,7 @@ const VERSION: u32 = 1;
 
 impl EfiCore {
     /// AllocatePages. The place `memory` has the highest address that is asked for, or the very address,
-    /// and is told the address of the pages.
+    /// and receives the address of the pages.
     pub fn allocate_pages(&mut self, kind: u32, mtype: u32, pages: u64, memory: &mut u64) -> u64
         ensures { AnswersNumber self.old (call.AllocatePages kind mtype pages memory.old) memory.old result memory.new self.new }
     {
@@ -35,7 +35,7 @@ impl EfiCore {
         self.answer(&Call::FreePages { memory, pages })
     }
 
-    /// GetMemoryMap. The places are told the bytes that the map takes, its key, the bytes of a record and
+    /// GetMemoryMap. The caller's variables receive the bytes that the map takes, its key, the bytes of a record and
     /// their version; where the buffer is too small all but the key.
     pub fn get_memory_map(
         &mut self,
@@ -92,7 +92,7 @@ impl EfiCore {
         self.tell(reply)
     }
 
-    /// AllocatePool. The place `buffer` is told the block's address.
+    /// AllocatePool. `*buffer` receives the block's address.
     pub fn allocate_pool(&mut self, mtype: u32, size: u64, buffer: &mut u64) -> u64
         ensures { AnswersNumber self.old (call.AllocatePool mtype size) buffer.old result buffer.new self.new }
     {

@@ -9,7 +9,7 @@ use boot_core::Call;
 use c_machines::Guid;
 
 impl EfiCore {
-    /// InstallProtocolInterface. The place `handle` has the handle, 0 for a new one, and is told it.
+    /// InstallProtocolInterface. The place `handle` has the handle, 0 for a new one, and receives it.
     pub fn install_protocol_interface(
         &mut self,
         handle: &mut u64,
@@ -60,7 +60,7 @@ impl EfiCore {
         })
     }
 
-    /// RegisterProtocolNotify. The place `registration` is told the registration's key.
+    /// RegisterProtocolNotify. `*registration` receives the registration's key.
     pub fn register_protocol_notify(
         &mut self,
         guid: &Guid,
@@ -73,7 +73,7 @@ impl EfiCore {
         self.answer_number(&Call::RegisterProtocolNotify { guid, event }, registration)
     }
 
-    /// LocateHandleBuffer. The places are told how many handles there are, and the address of their block
+    /// LocateHandleBuffer. The caller's variables receive how many handles there are, and the address of their block
     /// of the pool.
     pub fn locate_handle_buffer(
         &mut self,
@@ -93,7 +93,7 @@ impl EfiCore {
         )
     }
 
-    /// LocateProtocol. The place `interface` is told the interface's value.
+    /// LocateProtocol. `*interface` receives the interface's value.
     pub fn locate_protocol(&mut self, guid: &Guid, key: u64, interface: &mut u64) -> u64
         ensures { AnswersNumber self.old (call.LocateProtocol (guid_in guid.now) key) interface.old result interface.new self.new }
     {
@@ -101,7 +101,7 @@ impl EfiCore {
         self.answer_number(&Call::LocateProtocol { guid, key }, interface)
     }
 
-    /// OpenProtocol. The place `interface` is told the interface's value, but by TEST_PROTOCOL.
+    /// OpenProtocol. `*interface` receives the interface's value, but by TEST_PROTOCOL.
     pub fn open_protocol(
         &mut self,
         handle: u64,
@@ -137,7 +137,7 @@ impl EfiCore {
         })
     }
 
-    /// OpenProtocolInformation. The places are told how many open items there are, and the address of
+    /// OpenProtocolInformation. The caller's variables receive how many open items there are, and the address of
     /// their block of the pool.
     pub fn open_protocol_information(
         &mut self,
@@ -156,7 +156,7 @@ impl EfiCore {
         )
     }
 
-    /// HandleProtocol. The place `interface` is told the interface's value.
+    /// HandleProtocol. `*interface` receives the interface's value.
     pub fn handle_protocol(&mut self, handle: u64, guid: &Guid, interface: &mut u64) -> u64
         ensures { AnswersNumber self.old (call.HandleProtocol handle (guid_in guid.now)) interface.old result interface.new self.new }
     {
@@ -171,8 +171,8 @@ impl EfiCore {
         self.answer(&Call::DisconnectController { handle, driver })
     }
 
-    /// LocateDevicePath. The place `path` has the path's address in the pool, and is told the address behind
-    /// the nodes that matched; the place `device` is told the handle.
+    /// LocateDevicePath. The place `path` has the path's address in the pool, and receives the address behind
+    /// the nodes that matched; `*device` receives the handle.
     pub fn locate_device_path(&mut self, guid: &Guid, path: &mut u64, device: &mut u64) -> u64
         ensures { AnswersNumbers self.old (call.LocateDevicePath (guid_in guid.now) path.old) (device.old, path.old) result (device.new, path.new) self.new }
     {

@@ -1,11 +1,11 @@
-//! What replies tell.
+//! What replies have.
 ghost use Rattle.std.specs.Prelude.{◌≡◌};
 ghost use Rattle.c_interface.specs.Replies.{told_status, status_in, number_in, numbers_in, events_in};
 
 use boot_core::Reply;
 use page_ranges::Status;
 
-/// The status that a result is told as.
+/// The status that a result is returned as.
 fn told_status<R>(told: &Result<R, Status>) -> Status
     ensures { result ≡ told_status told.now }
 {
@@ -47,7 +47,7 @@ pub(crate) fn status_in(reply: &Reply) -> Status
     }
 }
 
-/// The number that a reply tells: an address, a handle, a registration's key or the value of an
+/// The number that a reply has: an address, a handle, a registration's key or the value of an
 /// interface.
 pub(crate) fn number_in(reply: &Reply) -> Option<u64>
     ensures { result ≡ number_in reply.now }
@@ -65,7 +65,7 @@ pub(crate) fn number_in(reply: &Reply) -> Option<u64>
     }
 }
 
-/// The two numbers that a reply tells: how many items are in a block of the pool, and its address; or
+/// The two numbers that a reply has: how many items are in a block of the pool, and its address; or
 /// a handle, and the address behind the nodes that its device path matched.
 pub(crate) fn numbers_in(reply: &Reply) -> Option<(u64, u64)>
     ensures { result ≡ numbers_in reply.now }

@@ -1,4 +1,4 @@
--- The machine that records tell.
+-- The machine that records describe.
 use Rattle.std.proofs.Common.{◌≡◌, ℕ, true, List, Option, Some, None, IsSome, IfSome, ◌↔◌, IsPermutation, sym, subst}
 use Rattle.std.specs.List.Sorted.{IsNonDecreasingBy}
 use Rattle.std.specs.Option.{ok_or}
@@ -16,7 +16,7 @@ module _ (size : ℕ) (bytes : List ℕ) (granule : ℕ) (runs : List Run) (reco
   told : IsTold size bytes granule (of granule runs)
   told = record { records = records; runs = same; order = order; granule = λ i. granule }
 
-  -- a machine that is told is this one
+  -- a machine that is described is this one
   one_machine : (m : MachineValue) → IsMachine m → IsTold size bytes granule m → IsMachine (of granule runs)
   one_machine m is t =
       let one : runs ≡ m.runs = one_order runs m.runs (rising runs order) is.runs.runs (permuted runs m.runs (IsPermutation-trans runs (runs_in size bytes) m.runs (IsPermutation-sym (runs_in size bytes) runs same) t.runs)) in

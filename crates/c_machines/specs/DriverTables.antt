@@ -10,7 +10,7 @@ use Rattle.c_machines.specs.declared.faults.MachineFault.{MachineFault}
 use Rattle.c_machines.specs.declared.faults.MachineFault.TheVariants.{Invalid, OutOfMemory}
 use Rattle.c_machines.specs.Guids.{guid_in, interface_in}
 
--- a driver as C tells it
+-- a driver as C describes it
 pub record ToldDriver : Type 0 where
   pub version : ℕ
   pub needs : List (List ℕ)
@@ -18,7 +18,7 @@ pub record ToldDriver : Type 0 where
   pub children : List (List (List ℕ × ℕ))
   pub stops : Bool
 
--- what C tells of a driver
+-- what C passes of a driver
 abbrev pub told : TableDriver → ToldDriver
 told d = record { version = d.version; needs = d.needs.items; opens = d.plan.opens; children = d.plan.children; stops = d.stops }
 
@@ -42,11 +42,12 @@ fits t = nat_le t.needs_count 8 && nat_le t.opens_count 8 && nat_le t.children_c
 abbrev pub most_drivers : ℕ
 most_drivers = 64
 
--- The tables are at most so many, and no count in them is above the length of its array.
+-- The tables are at most the limit, and no count in them is above the length of its array.
 abbrev pub are_tables : List DriverTable → Bool
 are_tables ts = nat_le (length ts) most_drivers && list_all fits ts
 
--- What is read of tables: their drivers, in their order. Where they are none, Invalid; only where they are some may memory run out.
+-- What is read of tables: their drivers, in their order. Where they are none, Invalid; only where
+-- they are some may memory run out.
 abbrev pub ReadsDrivers : List DriverTable → Result (Vec TableDriver Global) MachineFault → Type 0
 ReadsDrivers ts (Ok drivers) = (are_tables ts ≡ true) × (map told drivers.items ≡ map driver_in ts)
 ReadsDrivers ts (Err Invalid) = are_tables ts ≡ false

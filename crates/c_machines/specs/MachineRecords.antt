@@ -19,7 +19,7 @@ use Rattle.c_machines.specs.declared.faults.MachineFault.TheVariants.{Invalid, O
 abbrev pub least_size : ℕ
 least_size = 40
 
--- the number of so many bytes at a place, the lowest byte first
+-- the number that bytes at an offset are, the lowest byte first
 abbrev pub number_at : ℕ → ℕ → List ℕ → ℕ
 number_at at n bytes = little_number n (drop at bytes)
 
@@ -31,7 +31,7 @@ start_in bytes = number_at 8 8 bytes
 abbrev pub is_aligned : List ℕ → Bool
 is_aligned bytes = start_in bytes % page_size == 0
 
--- the run that a record tells, the machine's own
+-- the run that a record describes, the machine's own
 abbrev pub run_in : List ℕ → Run
 run_in bytes = record { range = record { first = start_in bytes / page_size; pages = number_at 24 8 bytes }; mtype = number_at 0 4 bytes; attributes = number_at 32 8 bytes; owner = Given }
 
@@ -45,16 +45,17 @@ most_records = 65536
 abbrev pub records_in : ℕ → List ℕ → List (List ℕ)
 records_in size bytes = first_chunks size (length bytes / size) bytes
 
--- The bytes are a whole number of records of that size, which is none too small, at most so many, and each starts where a page
--- begins.
+-- The bytes are a whole number of records of that size, which is none too small, there are no more
+-- than the limit, and each starts where a page begins.
 abbrev pub are_records : ℕ → List ℕ → Bool
 are_records size bytes = nat_le least_size size && (length bytes % size == 0) && nat_le (length bytes / size) most_records && list_all is_aligned (records_in size bytes)
 
--- the runs that records tell, in their order
+-- the runs that records describe, in their order
 abbrev pub runs_in : ℕ → List ℕ → List Run
 runs_in size bytes = map run_in (records_in size bytes)
 
--- What is read of bytes: the runs that they tell. Where they are no records, Invalid or out of memory.
+-- What is read of bytes: the runs that they describe. Where they are no records, Invalid or out of
+-- memory.
 abbrev pub ReadsRuns : ℕ → List ℕ → Result (Vec Run Global) MachineFault → Type 0
 ReadsRuns size bytes (Ok runs) = (are_records size bytes ≡ true) × (runs.items ≡ runs_in size bytes)
 ReadsRuns size bytes (Err Invalid) = are_records size bytes ≡ false
@@ -62,14 +63,15 @@ ReadsRuns size bytes (Err OutOfMemory) = Unit {0}
 
 -- ---- the machine
 
--- The machine has the runs that the records tell, by ascending page, and the granule.
+-- The machine has the runs that the records describe, by ascending page, and the granule.
 pub record IsTold (size : ℕ) (bytes : List ℕ) (g : ℕ) (m : MachineValue) : Type 0 where
   pub records : are_records size bytes ≡ true
   pub runs : IsPermutation (runs_in size bytes) m.runs
   pub order : IsNonDecreasingBy (λ (r : Run). r.range.first) m.runs
   pub granule : m.granule ≡ g
 
--- What is made of bytes: the machine that they tell. Where they tell none, Invalid or out of memory.
+-- What is made of bytes: the machine that they describe. Where they describe none, Invalid or out
+-- of memory.
 abbrev pub MakesMachine : ℕ → List ℕ → ℕ → Result MachineValue MachineFault → Type 0
 MakesMachine size bytes granule (Ok m) = IsTold size bytes granule m
 MakesMachine size bytes granule (Err Invalid) = (m : MachineValue) → IsMachine m → ¬ IsTold size bytes granule m

@@ -24,7 +24,7 @@ const MOST_CHILDREN: usize = 8;
 /// The most interfaces of a child.
 const MOST_INTERFACES: usize = 4;
 
-/// A child of a driver: the first interfaces of an array, so many.
+/// A child of a driver: the first interfaces of an array, as many as its count says.
 #[repr(C)]
 #[derive(Clone, Copy, Debug, PartialEq, Eq)]
 pub struct Child {
@@ -116,7 +116,7 @@ fn driver_in(table: &DriverTable) -> Option<TableDriver>
     })
 }
 
-/// The first GUIDs, so many; None where there are fewer.
+/// The first GUIDs, as many as the count says; None where there are fewer.
 fn guids_in(guids: &[Guid; 8], count: u64) -> Option<ArrayVec<Uuid, MOST_GUIDS>>
     ensures { option_map (λ list. list.items) result ≡ (if nat_le count 8 then Some (map guid_in (take count guids.now)) else None) }
 {
@@ -144,7 +144,7 @@ fn child_in(child: &Child) -> Option<ArrayVec<(Uuid, u64), MOST_INTERFACES>>
     Some(list)
 }
 
-/// The first children, so many; None where there are fewer, or one of them is none.
+/// The first children, as many as the count says; None where there are fewer, or one of them is none.
 fn children_in(
     children: &[Child; 8],
     count: u64,

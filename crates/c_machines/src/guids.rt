@@ -21,7 +21,7 @@ pub struct Interface {
 }
 
 impl Guid {
-    /// The GUID that C was told.
+    /// The GUID that C receives.
     pub fn new(guid: &Uuid) -> Guid
         ensures { result ≡ standard_guid guid.now }
     {
@@ -30,7 +30,7 @@ impl Guid {
         }
     }
 
-    /// The GUID that C tells.
+    /// The GUID that C passes.
     pub fn uuid(&self) -> Uuid
         ensures { result ≡ swap_fields self.now.bytes }
     {

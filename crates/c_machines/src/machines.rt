@@ -14,11 +14,11 @@ pub const LEAST_SIZE: usize = 40;
 /// The most records of a machine.
 pub const MOST_RECORDS: usize = 65_536;
 
-/// The machine of some records, in any order, with a granule of so many pages. A record is an
-/// EFI_MEMORY_DESCRIPTOR, and what stands behind it up to the descriptor size.
+/// The machine of some records, in any order, with a granule of a number of pages. A record is an
+/// EFI_MEMORY_DESCRIPTOR, and what lies behind it up to the descriptor size.
 ///
 /// Invalid where the descriptor size is below 40, the bytes are no whole number of records or more than
-/// 65,536 of them, a PhysicalStart lies within a page, or the runs that they tell are no machine's.
+/// 65,536 of them, a PhysicalStart lies within a page, or the runs that they describe are no machine's.
 pub fn machine_of(
     alloc: Global,
     records: &[u8],
@@ -32,7 +32,7 @@ pub fn machine_of(
     Machine::new(runs, granule).ok_or(MachineFault::Invalid)
 }
 
-/// The runs that records tell, in their order.
+/// The runs that records describe, in their order.
 fn runs_of(alloc: Global, records: &[u8], size: usize) -> Result<Vec<Run>, MachineFault>
     ensures { ReadsRuns size records.now result }
 {
@@ -49,7 +49,7 @@ fn runs_of(alloc: Global, records: &[u8], size: usize) -> Result<Vec<Run>, Machi
     Ok(runs)
 }
 
-/// The run that a record tells, None where its start lies within a page.
+/// The run that a record describes, None where its start lies within a page.
 fn run_in(bytes: &[u8]) -> Option<Run>
     requires { least_size ≤ length bytes.now }
     ensures { result ≡ (if is_aligned bytes.now then Some (run_in bytes.now) else None) }

@@ -22,16 +22,17 @@ pub record IsVerdict (bytes : List ℕ) (accepted : Bool) : Type 0 where
   pub block : block_said bytes ≡ Ok (map, request, certificate)
   pub accepts : IsTrue accepted ↔ IsAccepted map request certificate
 
--- What is written, whatever is read: one of the two lines; on a fault nothing, but for a write that fails: then a front of one.
+-- What is written, whatever is read: one of the two lines; on a fault nothing, but for a write that
+-- fails: then a front of one.
 abbrev pub Writes : Option (List ℕ) → Option (List ℕ) → Result Bool BlockFault → Type 0
 Writes before after (Ok accepted) = Appends before after (verdict_text accepted)
 Writes before after (Err fault.Write) =
     (accepted : Bool) × ((taken : ℕ) × Appends before after (take taken (verdict_text accepted)))
 Writes before after (Err e) = Keeps before after
 
--- What the answer says of known bytes: whether the block is accepted, or the first line that is not as stated. A read
--- fault comes from a source that can fail alone. A write that fails has written a front of the block's own verdict.
--- Memory may run out at any time.
+-- What the answer says of known bytes: whether the block is accepted, or the first line that is not
+-- as stated. A read fault comes from a source that can fail alone. A write that fails has written a
+-- front of the block's own verdict. Memory may run out at any time.
 abbrev pub Judges : Bool → List ℕ → Option (List ℕ) → Option (List ℕ) → Result Bool BlockFault
     → Type 0
 Judges can_fail bytes before after (Ok accepted) = IsVerdict bytes accepted

@@ -44,7 +44,8 @@ pub record HasBlockNumbers (entries : List Descriptor) (r : Request) (c : Certif
   pub bounds_fit : AllByRecursion HasBoundNumbers c.bounds
   pub answer_fits : c.answer < 2 ^ 64
 
--- The text of a block that has no more lines than a block may have is read back as the map, the request and the certificate that it was made of.
+-- The text of a block that has no more lines than a block may have is read back as the map, the
+-- request and the certificate that it was made of.
 abbrev pub BlockReadBackLaw : Type 0
 BlockReadBackLaw =
     (entries : List Descriptor) (r : Request) (c : CertificateValue) → HasBlockNumbers entries r c
@@ -57,14 +58,15 @@ SaysAccepted (Ok accepted) = IsTrue accepted
 SaysAccepted (Err (fault.Line number)) = ⊥
 SaysAccepted (Err e) = Unit {0}
 
--- The text of a block is read back as the map, the request and the certificate that it was made of, and its check answers that it is accepted.
+-- The text of a block is read back as the map, the request and the certificate that it was made of,
+-- and its check answers that it is accepted.
 pub record IsAcceptedBlock (entries : List Descriptor) (r : Request) (c : CertificateValue) : Type 0 where
   pub read_back : block_said (block_text entries r c) ≡ Ok (entries, r, c)
   pub judged : (can_fail : Bool) (before after : Option (List ℕ)) (answer : Result Bool BlockFault)
       → Judges can_fail (block_text entries r c) before after answer → SaysAccepted answer
 
--- So it is of each certificate that is accepted, where the numbers of the entries and of the request fit, and where the block has no
--- more lines than it may have with a bound for each entry.
+-- So it is of each certificate that is accepted, where the numbers of the entries and of the
+-- request fit, and where the block has no more lines than it may have with a bound for each entry.
 abbrev pub AcceptedBlockLaw : Type 0
 AcceptedBlockLaw =
     (entries : List Descriptor) (r : Request) (c : CertificateValue) → IsAccepted entries r c

@@ -61,7 +61,8 @@ request_of (word ∷ mtype ∷ pages ∷ limit ∷ granule ∷ []) = do
   request_with word mtype pages limit 16
 request_of words = None
 
--- `FIRST PAGES COUNT TOP`, a bound with the lowest price and the highest start at it, or `FIRST PAGES none`
+-- `FIRST PAGES COUNT TOP`, a bound with the lowest price and the highest start at it, or `FIRST
+-- PAGES none`
 abbrev pub bound_of : List (List ℕ) → Option Bound
 bound_of (first ∷ pages ∷ count ∷ top ∷ []) = do
   f ← number_of first

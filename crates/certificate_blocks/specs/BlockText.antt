@@ -11,7 +11,8 @@ use Rattle.text_lines.specs.Printed.{hexadecimal, space, line_feed}
 abbrev pub entry_words : Descriptor → List (List ℕ)
 entry_words d = decimal d.mtype ∷ decimal d.first ∷ decimal d.pages ∷ hexadecimal d.attributes ∷ []
 
--- what a bound's line says of the starts in its entry: the lowest price and the highest start at it, or that there is none
+-- what a bound's line says of the starts in its entry: the lowest price and the highest start at
+-- it, or that there is none
 abbrev pub least_words : Option (ℕ × ℕ) → List (List ℕ)
 least_words (Some (count, top)) = decimal count ∷ decimal top ∷ []
 least_words None = codes "none" ∷ []

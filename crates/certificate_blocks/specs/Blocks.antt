@@ -16,7 +16,8 @@ pub record LinesLeft : Type 0 where
   pub number : ℕ
   pub lines : List (List ℕ)
 
--- a value and the lines that are left after it, or the number of the first line that is not as stated
+-- a value and the lines that are left after it, or the number of the first line that is not as
+-- stated
 abbrev pub Reading : Type 0 → Type 0
 Reading A = LinesLeft → Result (A × LinesLeft) ℕ
 
@@ -101,6 +102,7 @@ abbrev pub value_read : {A : Type 0} → Result (A × LinesLeft) ℕ → Result 
 value_read (Ok (x, left)) = Ok x
 value_read (Err number) = Err number
 
--- the map, the request and the certificate that bytes say, or the number of the first line that is not as stated
+-- the map, the request and the certificate that bytes say, or the number of the first line that is
+-- not as stated
 abbrev pub block_said : List ℕ → Result (List Descriptor × Request × CertificateValue) ℕ
 block_said bytes = value_read (block (record { number = 1; lines = lines_of bytes }))

@@ -160,7 +160,7 @@ begin_append rs [] ms (n ∷ ns) ks b c = absurd b
 begin_append rs (l ∷ ls) ms [] ks b c = absurd b
 begin_append rs (l ∷ ls) ms (n ∷ ns) ks b c = (b.0, begin_append (rs ++ l) ls ms ns ks b.1 (subst (λ xs. BeginIn xs ms ks) (sym (append_assoc rs l (runs_in ls))) c))
 
--- so many begin in the leaves behind them as before
+-- as many begin in the leaves behind them as before
 pub begin_kept : (old new : List Run) (ls : List (List Run)) (ns : List ℕ) (gone come : ℕ) → GrowsBy old new (runs_in ls) gone come → BeginIn old ls ns → BeginIn new ls ns
 begin_kept old new [] [] gone come g b = tt
 begin_kept old new [] (n ∷ ns) gone come g b = b

@@ -8,7 +8,7 @@ use Rattle.page_ranges.specs.Runs.{pages_of, AreRuns}
 use Rattle.page_ranges.proofs.RunMaps.{runs_join, map_of_last, map_joined, map_apart}
 use Rattle.descriptor_table.specs.Tables.{entry_of}
 
--- so many pages of a run's type and attributes, from its first page on
+-- a number of pages of a run's type and attributes, from its first page on
 abbrev block_from : Run → ℕ → Descriptor
 block_from r n = record { mtype = r.mtype; first = r.range.first; pages = n; attributes = r.attributes }
 

@@ -85,7 +85,7 @@ module _ (ls : List (List Run)) (i : ℕ) (before : List Run) (t : AreLast (runs
   no_list [] e = refl
   no_list (r ∷ rs) e = absurd (omega arith)
 
-  -- no runs stand before them
+  -- no runs come before them
   pub all_entries : length before ≡ 0 → map_of rest ≡ drop (entry_count (runs_in (take i ls))) (map_of (runs_in ls))
   all_entries e =
       let none : runs_in (take i ls) ≡ [] = t.parts ∙ ap (λ xs. xs ++ before) (t.some e) ∙ no_list before e in

@@ -55,7 +55,7 @@ module _ (rs : List Run) (low high : ℕ) where
 
 -- ---- what follows for a table
 
--- The runs of a table in three parts. What stands before the middle ends below a range, and what stands behind it begins above
+-- The runs of a table in three parts. What comes before the middle ends below a range, and what comes behind it begins above
 -- the range.
 pub record AreCut (rs : List Run) (range : PageRange) (before_runs old behind_runs : List Run) : Type 0 where
   pub parts : rs ≡ before_runs ++ (old ++ behind_runs)

@@ -31,18 +31,21 @@ AreLeaves ls = AllByRecursion IsLeaf ls
 abbrev pub entry_count : List Run → ℕ
 entry_count rs = length (memory_map (pages_of rs))
 
--- So many entries begin in each of some leaves that come behind runs: by so many the map grows with the leaf.
+-- How many entries begin in each of some leaves that come behind runs: by that many the map grows
+-- with the leaf.
 abbrev pub BeginIn : List Run → List (List Run) → List ℕ → Type 0
 BeginIn rs [] [] = Unit {0}
 BeginIn rs [] (n ∷ ns) = ⊥
 BeginIn rs (l ∷ ls) [] = ⊥
 BeginIn rs (l ∷ ls) (n ∷ ns) = (entry_count (rs ++ l) ≡ entry_count rs + n) × BeginIn (rs ++ l) ls ns
 
--- Runs give way to others: the map of the others, and of any runs that come behind, has so many entries less and so many more.
+-- Runs give way to others: the map of the others, and of any runs that come behind, has a number of
+-- entries less and a number more.
 abbrev pub GrowsBy : List Run → List Run → List Run → ℕ → ℕ → Type 0
 GrowsBy old new behind less more = (m n : List Run) → behind ≡ m ++ n → entry_count (new ++ m) + less ≡ entry_count (old ++ m) + more
 
--- A table in leaves, the number of entries of its map, how many of them begin in each leaf, and how many runs each leaf has.
+-- A table in leaves, the number of entries of its map, how many of them begin in each leaf, and how
+-- many runs each leaf has.
 pub record IsLeafTable (ls : List (List Run)) (count : ℕ) (ns ms : List ℕ) : Type 0 where
   pub table : IsTable (runs_in ls) count
   pub leaves : AreLeaves ls

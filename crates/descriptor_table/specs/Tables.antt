@@ -32,7 +32,8 @@ pub record IsTable (rs : List Run) (count : ℕ) : Type 0 where
   pub proper : IsProperMemory (pages_of rs)
   pub entries : count ≡ length (memory_map (pages_of rs))
 
--- the answer to which run holds a page: a maximal run of the memory with the page in it, or none where the page is absent
+-- the answer to which run holds a page: a maximal run of the memory with the page in it, or none
+-- where the page is absent
 abbrev pub HoldsPage : List Page → ℕ → Option Run → Type 0
 HoldsPage m k None = page_at m k ≡ None
 HoldsPage m k (Some r) = Contains (runs_of m) r × IsInRun r k
@@ -42,8 +43,8 @@ abbrev pub IsBlockBelow : List Page → ℕ → Option Descriptor → Type 0
 IsBlockBelow m zero o = o ≡ None
 IsBlockBelow m (suc k) o = IsBlockAt m k o
 
--- Between two indices are all runs that share a page with a range or touch it: those before end below it, and those after
--- begin above it.
+-- Between two indices are all runs that share a page with a range or touch it: those before end
+-- below it, and those after begin above it.
 pub record IsWindow (rs : List Run) (range : PageRange) (low high : ℕ) : Type 0 where
   pub order : low ≤ high
   pub bound : high ≤ length rs

@@ -5,7 +5,7 @@ abbrev pub total : List ℕ → ℕ
 total [] = 0
 total (n ∷ ns) = n + total ns
 
--- The first sums are those of the numbers that stand in their groups.
+-- The first sums are those of the numbers in their groups.
 pub record AreGroupSums (ns sums : List ℕ) : Type 0 where
   pub within : total ns < 2 ^ 63
   pub bound : 64 * length sums ≤ length ns

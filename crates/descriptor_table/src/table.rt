@@ -48,7 +48,7 @@ impl<A: Allocator> Model for RunTable<A> {
 }
 
 impl<A: Allocator + Copy> RunTable<A> {
-    /// The memory that runs stand for. Touching runs that are alike become one.
+    /// The memory that runs represent. Touching runs that are alike become one.
     pub fn from_runs(alloc: A, runs: &[Run]) -> Result<RunTable<A>, AllocError>
         requires runs { AreRuns runs.now }
         requires proper { IsProperMemory (pages_of runs.now) }

@@ -82,7 +82,7 @@ impl<A: Allocator + Copy> Tally<A> {
         Ok(Tally { numbers, sums })
     }
 
-    /// The numbers once others stand in the place of those between two indices.
+    /// The numbers once others take the place of those between two indices.
     #[tactic(auto, using(crate::proofs::Tallied::kept_sums))]
     pub(crate) fn with_part(
         &self,

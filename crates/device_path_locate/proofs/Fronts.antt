@@ -73,7 +73,7 @@ has_front (n ∷ ns) (m ∷ ms) a b h =
 
 -- ---- the first instance
 
--- a node that may stand in a path and is no end of an instance has another type
+-- a node that may be in a path and is no end of an instance has another type
 plain_node : (n : Node) → is_inner n ≡ true → same_bytes n end_of_instance ≡ false → has_end_type n ≡ false
 plain_node n i e = elim (cases_Bool (has_end_type n)) [
   | inl c ↦ let z : false ≡ true = rw (c, e) at i in absurd cc

@@ -5,7 +5,8 @@ use Rattle.std.specs.List.{AllByRecursion, concat}
 use Rattle.std.specs.Option.{option_map}
 use Rattle.device_path_locate.specs.declared.spans.PathSpan.{PathSpan}
 
--- A node is its bytes: a type, a subtype, a length in 2 bytes that counts all of them, and the rest.
+-- A node is its bytes: a type, a subtype, a length in 2 bytes that counts all of them, and the
+-- rest.
 abbrev pub Node : Type 0
 Node = List ℕ
 
@@ -30,7 +31,8 @@ abbrev pub has_end_type : Node → Bool
 has_end_type [] = false
 has_end_type (type ∷ bytes) = type == 0x7f
 
--- what may come before the end of the entire path: a node of another type, or the end of an instance
+-- what may come before the end of the entire path: a node of another type, or the end of an
+-- instance
 abbrev pub is_inner : Node → Bool
 is_inner n = not (has_end_type n) || same_bytes n end_of_instance
 
@@ -38,7 +40,8 @@ is_inner n = not (has_end_type n) || same_bytes n end_of_instance
 abbrev pub nodes_from : Node → Option (List Node) → Option (List Node)
 nodes_from n behind = cond (same_bytes n end_of_path) (Some []) (cond (is_inner n) (option_map (λ ns. n ∷ ns) behind) None)
 
--- The nodes up to the end of the entire path, if it comes, where a number of bytes at the front are passed over.
+-- The nodes up to the end of the entire path, if it comes, where a number of bytes at the front are
+-- passed over.
 abbrev pub nodes_behind : ℕ → List ℕ → Option (List Node)
 nodes_behind zero (type ∷ subtype ∷ low ∷ high ∷ bytes) =
     cond (nat_lt (told_length low high) 4) None
@@ -46,7 +49,8 @@ nodes_behind zero (type ∷ subtype ∷ low ∷ high ∷ bytes) =
 nodes_behind (suc k) (byte ∷ bytes) = nodes_behind k bytes
 nodes_behind k bytes = None
 
--- The nodes of the path that some bytes begin with, if they begin with one: all before the end of the entire path.
+-- The nodes of the path that some bytes begin with, if they begin with one: all before the end of
+-- the entire path.
 abbrev pub path_in : List ℕ → Option (List Node)
 path_in bytes = nodes_behind 0 bytes
 
@@ -65,7 +69,8 @@ span_of ns = record { first_instance = size_of (first_instance ns); whole = size
 
 -- ---- paths by their bytes
 
--- A node that may come before the end of the entire path. Its length field counts its bytes, the header's too.
+-- A node that may come before the end of the entire path. Its length field counts its bytes, the
+-- header's too.
 pub record IsPathNode (n : Node) : Type 0 where
   pub header : 4 ≤ length n
   pub told : told_length (slice_index n 2) (slice_index n 3) ≡ length n

@@ -12,7 +12,8 @@ use Rattle.device_path_locate.specs.DevicePaths.{Node, first_instance, path_in, 
 abbrev pub device_path_guid : List ℕ
 device_path_guid = 0x09 ∷ 0x57 ∷ 0x6e ∷ 0x91 ∷ 0x6d ∷ 0x3f ∷ 0x11 ∷ 0xd2 ∷ 0x8e ∷ 0x39 ∷ 0x00 ∷ 0xa0 ∷ 0xc9 ∷ 0x69 ∷ 0x72 ∷ 0x3b ∷ []
 
--- the nodes of the path at an address, if there is one: in the bytes of a live block, from the address on
+-- the nodes of the path at an address, if there is one: in the bytes of a live block, from the
+-- address on
 abbrev pub path_at : ℕ → List Extent → Option (List Node)
 path_at address es = option_and_then path_in (tail_at address es)
 
@@ -46,7 +47,8 @@ abbrev pub longest : List (ℕ × ℕ) → Option (ℕ × ℕ)
 longest [] = None
 longest (m ∷ ms) = longer_of m (longest ms)
 
--- The longest match of some nodes, of equally long ones that of the lowest handle, among the handles that carry a GUID.
+-- The longest match of some nodes, of equally long ones that of the lowest handle, among the
+-- handles that carry a GUID.
 abbrev pub best_match : HandleTable → List Extent → List ℕ → List Node → Option (ℕ × ℕ)
 best_match t es guid nodes = longest (filter_map (match_of t es nodes) (holders_of t guid))
 
@@ -59,7 +61,8 @@ abbrev pub located_by : HandleTable → List Extent → List ℕ → ℕ → Opt
 located_by t es guid address None = Err InvalidParameter
 located_by t es guid address (Some path) = answer_at address (best_match t es guid (first_instance path))
 
--- What LocateDevicePath returns for a GUID and the address of a path, of which the first instance is looked at.
+-- What LocateDevicePath returns for a GUID and the address of a path, of which the first instance
+-- is looked at.
 abbrev pub located : HandleTable → List Extent → List ℕ → ℕ → Result (ℕ × ℕ) Status
 located t es guid address = located_by t es guid address (path_at address es)
 

@@ -23,7 +23,7 @@ pub fn device_path_guid() -> Uuid
     ])
 }
 
-/// The bytes of all nodes of the path at an address, if one stands there.
+/// The bytes of all nodes of the path at an address, if there is one.
 fn whole_at<A: Allocator + Copy>(pools: &Pools<A>, address: u64) -> Option<&[u8]>
     ensures { option_map (λ s. s.now) result ≡ whole_bytes (path_at address pools.now) }
 {
@@ -32,7 +32,7 @@ fn whole_at<A: Allocator + Copy>(pools: &Pools<A>, address: u64) -> Option<&[u8]
     Some(&bytes[..span.whole])
 }
 
-/// The bytes of the first instance of the path at an address, if one stands there.
+/// The bytes of the first instance of the path at an address, if there is one.
 fn first_instance_at<A: Allocator + Copy>(pools: &Pools<A>, address: u64) -> Option<&[u8]>
     ensures nodes { option_map (λ s. s.now) result ≡ option_map (λ path. concat (first_instance path)) (path_at address pools.now) }
     ensures within { IfSome result (λ s. address + length s.now < 2 ^ 64) }
@@ -116,10 +116,10 @@ fn best_match<A: Allocator + Copy>(
 /// LocateDevicePath: the handle that carries a GUID and whose device path leads furthest along the
 /// path at an address, and the address behind the nodes of that path that it matches. All nodes of
 /// the handle's path must be the first of those before the end of the path's first instance. Of
-/// equally long ones the lowest handle is answered. Every path is read as its bytes stand in the
+/// equally long ones the lowest handle is answered. Every path is read as its bytes lie in the
 /// pool now. This takes no memory.
 ///
-/// INVALID_PARAMETER: no path stands at the address. NOT_FOUND: no handle's path matches.
+/// INVALID_PARAMETER: there is no path at the address. NOT_FOUND: no handle's path matches.
 pub fn locate<A: Allocator + Copy>(
     handles: &Handles<A>,
     pools: &Pools<A>,
@@ -159,7 +159,7 @@ fn is_path_of_any<A: Allocator + Copy>(handles: &Handles<A>, pools: &Pools<A>, a
 }
 
 /// Whether one of some pairs of GUID and value is a device path that a live handle has already, with
-/// the same bytes, ends of instances among them. A value at which no path stands is passed over.
+/// the same bytes, ends of instances among them. A value at which there is no path is passed over.
 /// This takes no memory.
 pub fn has_path_installed<A: Allocator + Copy>(
     handles: &Handles<A>,

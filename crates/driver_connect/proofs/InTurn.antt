@@ -82,7 +82,7 @@ idle c (a ∷ agents) p h = elim (cases_Bool (is_supported c p a)) [
   | inr e ↦ let r = idle c agents p (rw e at h) in rw e (r.0, (e, r.1))
 ]
 
--- so many drivers are started or left
+-- all drivers are started or left
 pub fewer : (c : Site) (agents : List Agent) (p : Progress) → length (pass c agents p).starts + length (pass c agents p).left ≡ length agents
 fewer c [] p = refl
 fewer c (a ∷ agents) p = elim (cases_Bool (is_supported c p a)) [

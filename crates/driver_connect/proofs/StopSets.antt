@@ -173,7 +173,7 @@ managers_are_items t (o ∷ os) s q h = elim (cases_Bool (same_pair q (pair_of o
   ])
 ]
 
--- so many rounds are enough
+-- this many rounds are enough
 enough : (k : ℕ) (t : HandleTable) (opens : List OpenRecord) (s : List (ℕ × ℕ)) → missing s opens ≤ k → round t opens (rounds k t opens s) ≡ rounds k t opens s
 enough zero t opens s l = elim (join_or_none s (managers_of_made t opens s) opens (managers_are_items t opens s)) [
   | inl e ↦ e

@@ -18,13 +18,14 @@ abbrev pub for_each : (ℕ → Progress → Progress) → List ℕ → Progress 
 for_each f [] p = p
 for_each f (n ∷ ns) p = for_each f ns (f n p)
 
--- A handle is connected, and then, so many levels below it, each handle that this made, with all below it before the next.
+-- A handle is connected, and then, a number of levels below it, each handle that this made, with
+-- all below it before the next.
 abbrev pub connected : ℕ → Site → List ℕ → Progress → Progress
 connected zero c named p = (starts_on c named p).progress
 connected (suc k) c named p =
     for_each (λ n q. connected k (site c.drivers c.registrations n) [] q) (made_after p.handles.last_number (starts_on c named p).progress.handles) (starts_on c named p).progress
 
--- each of some handles is connected, so many levels deep, with no driver named
+-- each of some handles is connected, a number of levels deep, with no driver named
 abbrev pub each_connected : ℕ → List Meaning → List Registration → List ℕ → Progress → Progress
 each_connected k ds rs ns p = for_each (λ n q. connected k (site ds rs n) [] q) ns p
 
@@ -32,7 +33,7 @@ each_connected k ds rs ns p = for_each (λ n q. connected k (site ds rs n) [] q)
 abbrev pub levels_below : Bool → ℕ
 levels_below recursive = cond recursive 7 0
 
--- so many drivers may be named
+-- how many drivers may be named
 abbrev pub max_named : ℕ
 max_named = 16
 
@@ -42,8 +43,9 @@ connect_refused t handle named = not (is_live t handle) || nat_lt max_named (len
 abbrev pub first_progress : HandleTable → List OpenRecord → Progress
 first_progress t opens = record { handles = t; opens = opens; events = [] }
 
--- What ConnectController answers, and what it leaves. Where a start on the handle is carried out, its events are answered; otherwise
--- all stays. Where the call is valid, OUT_OF_RESOURCES means out of memory.
+-- What ConnectController answers, and what it leaves. Where a start on the handle is carried out,
+-- its events are answered; otherwise all stays. Where the call is valid, OUT_OF_RESOURCES means out
+-- of memory.
 abbrev pub Connects : Site → List ℕ → Bool → HandleTable → List OpenRecord → Result (List ℕ) Status → HandleTable → List OpenRecord → Type 0
 Connects c named recursive t opens (Ok events) new_t new_opens =
     (connect_refused t c.controller named ≡ false)

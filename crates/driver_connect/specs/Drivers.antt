@@ -51,7 +51,8 @@ is_free protocols guid = list_any (λ v. same_guid v.guid guid && not v.held) pr
 abbrev pub driver_binding : List ℕ
 driver_binding = 0x18 ∷ 0xa0 ∷ 0x31 ∷ 0xab ∷ 0xb4 ∷ 0x43 ∷ 0x4d ∷ 0x1a ∷ 0xa5 ∷ 0xc0 ∷ 0x0c ∷ 0x09 ∷ 0x26 ∷ 0x1e ∷ 0x9f ∷ 0x71 ∷ []
 
--- A driver handle carries the driver binding protocol with a value below the number of drivers. The value is the driver's place.
+-- A driver handle carries the driver binding protocol with a value below the number of drivers. The
+-- value is the driver's place.
 abbrev pub driver_of : List Meaning → HandleTable → ℕ → Option ℕ
 driver_of ds t n = kept_if (λ v. nat_lt v (length ds)) (value_at t n driver_binding)
 

@@ -57,7 +57,8 @@ VersionsLaw =
     Ascending IsNotLower (by_version [] agents)
     × ((v : ℕ) → filter (λ a. a.version == v) (by_version [] agents) ≡ filter (λ a. a.version == v) agents)
 
--- A start on the handle is carried out exactly where, before all of them, one of the drivers is ready.
+-- A start on the handle is carried out exactly where, before all of them, one of the drivers is
+-- ready.
 abbrev pub ReadyLaw : Type 0
 ReadyLaw = (c : Site) (named : List ℕ) (p : Progress) → is_any_carried_out (starts_on c named p).starts ≡ is_any_ready c.drivers p.handles p.opens c.controller named
 

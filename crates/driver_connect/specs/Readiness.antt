@@ -1,4 +1,5 @@
--- Drivers that would be started on a handle, and their starts carried out, on the lists as they are.
+-- Drivers that would be started on a handle, and their starts carried out, on the lists as they
+-- are.
 use Rattle.std.specs.Prelude.{ℕ, ◌&&◌, not, Bool, cond, List}
 use Rattle.std.specs.List.{list_any}
 use Rattle.guid_handles.specs.HandleTables.{HandleTable, same_guid}
@@ -19,6 +20,7 @@ is_ready ds t protocols n a =
 abbrev pub is_any_ready : List Meaning → HandleTable → List OpenRecord → ℕ → List ℕ → Bool
 is_any_ready ds t opens n named = list_any (is_ready ds t (protocols_on t opens n) n) (agents_for ds t named)
 
--- A protocol on a handle, as it is shown once some open items are left and the interface of a GUID there has another value and no item.
+-- A protocol on a handle, as it is shown once some open items are left and the interface of a GUID
+-- there has another value and no item.
 abbrev pub protocol_after : List OpenRecord → ℕ → List ℕ → ℕ → ProtocolView → ProtocolView
 protocol_after opens n guid value v = record { guid = v.guid; value = cond (same_guid v.guid guid) value v.value; held = not (same_guid v.guid guid) && has_holder opens n v.guid }

@@ -21,14 +21,14 @@ started_in turns = agents_of (filter (λ t. t.is_started) turns)
 abbrev pub left_in : List Turn → List Agent
 left_in turns = agents_of (filter (λ t. not t.is_started) turns)
 
--- In a pass over a list of drivers each has its turn, in the order of the list. It is started exactly where it is supported on
--- the lists as the starts before its turn left them.
+-- In a pass over a list of drivers each has its turn, in the order of the list. It is started
+-- exactly where it is supported on the lists as the starts before its turn left them.
 pub record IsPass (c : Site) (agents : List Agent) (p : Progress) (turns : List Turn) : Type 0 where
   pub all : agents_of turns ≡ agents
   pub exact : (before : List Turn) (t : Turn) (behind : List Turn) → turns ≡ before ++ t ∷ behind → t.is_started ≡ is_supported c (after_starts c (started_in before) p) t.agent
 
--- Passes follow each other: the first goes over all drivers of a list, each other over those that the one before it left. Each
--- starts a driver, and none that the last one leaves is supported.
+-- Passes follow each other: the first goes over all drivers of a list, each other over those that
+-- the one before it left. Each starts a driver, and none that the last one leaves is supported.
 abbrev pub ArePasses : Site → List Agent → Progress → List (List Turn) → Type 0
 ArePasses c agents p [] = AllByRecursion (λ a. is_supported c p a ≡ false) agents
 ArePasses c agents p (turns ∷ passes) = IsPass c agents p turns × (0 < length (started_in turns)) × ArePasses c (left_in turns) (after_starts c (started_in turns) p) passes

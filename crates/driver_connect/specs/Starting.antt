@@ -85,7 +85,8 @@ has_twice (g ∷ gs) = has_guid gs g || has_twice gs
 abbrev pub is_child : List (List ℕ × ℕ) → Bool
 is_child pairs = not (length pairs == 0) && not (has_guid_twice pairs)
 
--- A plan can be carried out: it opens some GUIDs, each once, that are on the handle and not held, and there may be its children.
+-- A plan can be carried out: it opens some GUIDs, each once, that are on the handle and not held,
+-- and there may be its children.
 abbrev pub can_start : HandleTable → List ProtocolView → Plan → Bool
 can_start t protocols plan =
     not (length plan.opens == 0)
@@ -180,7 +181,7 @@ abbrev pub pass : Site → List Agent → Progress → Passed
 pass c [] p = record { starts = []; left = []; progress = p }
 pass c (a ∷ agents) p = joined (starts_of a (turn c p a)) (left_of a (turn c p a)) (pass c agents (after_turn c p a))
 
--- Passes over those that are left, up to one that starts none, so many at most.
+-- Passes over those that are left, up to one that starts none, at most a number of them.
 abbrev pub passes : ℕ → Site → List Agent → Progress → Passed
 passes zero c agents p = record { starts = []; left = agents; progress = p }
 passes (suc k) c agents p =

@@ -57,8 +57,8 @@ abbrev pub rounds : ℕ → HandleTable → List OpenRecord → List (ℕ × ℕ
 rounds zero t opens set = set
 rounds (suc k) t opens set = rounds k t opens (round t opens set)
 
--- The stop set of some pairs: as many rounds as there are handles and open items make it of them. Its handles are those that its
--- pairs made.
+-- The stop set of some pairs: as many rounds as there are handles and open items make it of them.
+-- Its handles are those that its pairs made.
 abbrev pub stop_set : HandleTable → List OpenRecord → List (ℕ × ℕ) → List (ℕ × ℕ)
 stop_set t opens pairs = rounds (length t.handles + length opens) t opens (with_pairs [] pairs)
 
@@ -77,7 +77,8 @@ may_stop ds t opens p = may_stop_if_any ds (driver_of ds t p.1) (sight_of t open
 abbrev pub is_passing : ℕ → Bool
 is_passing a = (a == 0x1) || ((a == 0x2) || (a == 0x4))
 
--- an item is no obstacle to a stop: it is a passing one, it goes with its pair, or it is for a child that goes
+-- an item is no obstacle to a stop: it is a passing one, it goes with its pair, or it is for a
+-- child that goes
 abbrev pub is_no_obstacle : HandleTable → List (ℕ × ℕ) → OpenRecord → Bool
 is_no_obstacle t set o = is_passing o.attributes || (has_pair set (pair_of o) || ((o.attributes == 0x8) && is_made_by t set o.controller))
 
@@ -93,7 +94,8 @@ abbrev pub spares_opener : HandleTable → List (ℕ × ℕ) → Option (ℕ × 
 spares_opener t set None = true
 spares_opener t set (Some o) = not (has_agent set o.0) && (not (is_made_by t set o.0) && not (is_made_by t set o.1))
 
--- A set can be stopped: each driver may be, no item is an obstacle, and the handle and the opener of the call stay.
+-- A set can be stopped: each driver may be, no item is an obstacle, and the handle and the opener
+-- of the call stay.
 abbrev pub can_be_stopped : List Meaning → HandleTable → List OpenRecord → List (ℕ × ℕ) → ℕ → Option (ℕ × ℕ) → Bool
 can_be_stopped ds t opens set handle opener =
     list_all (may_stop ds t opens) set && (is_unobstructed t opens set && (not (is_made_by t set handle) && spares_opener t set opener))
@@ -132,7 +134,8 @@ planned_stop t opens pairs = record { pairs = stop_set t opens pairs; handles = 
 abbrev pub takes_item : PlannedStop → ℕ → ℕ → ℕ → Bool
 takes_item plan handle agent controller = list_any (λ n. (handle == n) || ((agent == n) || (controller == n))) plan.handles || has_pair plan.pairs (controller, agent)
 
--- What is answered about a stop of some pairs, and what it leaves: their stop set goes, or all stays.
+-- What is answered about a stop of some pairs, and what it leaves: their stop set goes, or all
+-- stays.
 abbrev pub Stops : List Meaning → HandleTable → List OpenRecord → List (ℕ × ℕ) → ℕ → Option (ℕ × ℕ) → Bool → HandleTable → List OpenRecord → Type 0
 Stops ds t opens pairs handle opener true new_t new_opens =
     (can_be_stopped ds t opens (stop_set t opens pairs) handle opener ≡ true)
@@ -143,7 +146,8 @@ Stops ds t opens pairs handle opener false new_t new_opens =
 
 -- ---- disconnecting
 
--- a handle that is not live, or a driver other than 0 that does not carry the driver binding protocol
+-- a handle that is not live, or a driver other than 0 that does not carry the driver binding
+-- protocol
 abbrev pub disconnect_refused : HandleTable → ℕ → ℕ → Bool
 disconnect_refused t handle driver = not (is_live t handle) || (not (driver == 0) && (not (is_live t driver) || not (carries t driver_binding driver)))
 
@@ -155,7 +159,8 @@ is_meant driver p = (driver == 0) || (p.1 == driver)
 abbrev pub managers_meant : List OpenRecord → ℕ → ℕ → List (ℕ × ℕ)
 managers_meant opens handle driver = filter (is_meant driver) (managers_of opens handle)
 
--- What DisconnectController answers, and what it leaves. Where the call is valid, OUT_OF_RESOURCES means out of memory.
+-- What DisconnectController answers, and what it leaves. Where the call is valid, OUT_OF_RESOURCES
+-- means out of memory.
 abbrev pub Disconnects : List Meaning → HandleTable → List OpenRecord → ℕ → ℕ → Result (Unit {0}) Status → HandleTable → List OpenRecord → Type 0
 Disconnects ds t opens handle driver (Ok done) new_t new_opens =
     (disconnect_refused t handle driver ≡ false) × Stops ds t opens (managers_meant opens handle driver) handle None true new_t new_opens

@@ -27,8 +27,8 @@ AreSupported c (a ∷ agents) p = (is_supported c p a ≡ true) × AreSupported 
 abbrev pub times : ℕ → List Agent → ℕ
 times n agents = length (filter (λ a. a.handle == n) agents)
 
--- Some of the drivers were started one after the other, each supported when its turn came. Each was started or is left, and none
--- that is left is supported now.
+-- Some of the drivers were started one after the other, each supported when its turn came. Each was
+-- started or is left, and none that is left is supported now.
 pub record StartsInTurn (c : Site) (agents : List Agent) (p : Progress) (r : Passed) : Type 0 where
   pub order : List Agent
   pub starts : r.starts ≡ starts_in_turn c order p

@@ -38,7 +38,7 @@ fn made_after<A: Allocator + Copy>(
     Ok(made)
 }
 
-/// Connects a controller, and so many levels of the handles that are made below it. It answers
+/// Connects a controller, and a number of levels of the handles that are made below it. It answers
 /// whether a start on the controller was carried out.
 #[cycle(levels)]
 fn connect_levels<D: Driver, A: Allocator + Copy>(
@@ -71,7 +71,7 @@ fn connect_levels<D: Driver, A: Allocator + Copy>(
     Ok(is_any_carried_out(starts.as_slice()))
 }
 
-/// Connects each of some handles, with so many levels of the handles that are made below it.
+/// Connects each of some handles, with a number of levels of the handles that are made below it.
 #[cycle(levels)]
 fn connect_each<D: Driver, A: Allocator + Copy>(
     alloc: A,
@@ -98,7 +98,7 @@ fn is_refused<A: Allocator + Copy>(handles: &Handles<A>, handle: u64, named: &[u
     !handles.is_live(handle) || named.len() > MAX_NAMED
 }
 
-/// Connects a handle on copies of the lists, so many levels of handles below it too, and puts them in
+/// Connects a handle on copies of the lists, a number of levels of handles below it too, and puts them in
 /// place if a start on the handle was carried out.
 fn connect_copies<D: Driver, A: Allocator + Copy>(
     alloc: A,

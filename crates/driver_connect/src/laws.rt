@@ -51,7 +51,7 @@ pub fn nothing_carried_out_law()
     ensures { NothingCarriedOutLaw }
 {}
 
-/// A connect takes out no handle, and beside each that it makes stands the item by which the driver
+/// A connect takes out no handle, and beside each that it makes is the item by which the driver
 /// that made it has the controller open.
 pub fn makers_item_law()
     ensures { MakersItemLaw }

@@ -118,7 +118,7 @@ fn add_managers<A: Allocator + Copy>(
     add_pairs(set, managers.as_slice())
 }
 
-/// Makes so many rounds, or as many as add something. Each asks only the pairs that the one before
+/// Makes a number of rounds, or as many as add something. Each asks only the pairs that the one before
 /// it added: the managers of what older pairs made are there.
 fn add_rounds<A: Allocator + Copy>(
     alloc: A,

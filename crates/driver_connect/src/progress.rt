@@ -23,7 +23,7 @@ fn has_guid(guids: &[Uuid], guid: Uuid) -> bool
     guids.iter().any(|g| guid == *g)
 }
 
-/// Whether a GUID stands twice in a list.
+/// Whether a GUID occurs twice in a list.
 fn has_twice(guids: &[Uuid]) -> bool
     ensures { result ≡ spec.has_twice guids.now }
 {

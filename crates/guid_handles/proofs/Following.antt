@@ -91,7 +91,7 @@ one_of_stamp (z ∷ zs) a p q x y e f s = elim (cases_Bool (p z)) [
   ]
 ]
 
--- the interface that is told is found, and passes
+-- the interface that is returned is found, and passes
 told_found : (guid : List ℕ) (mark : ℕ) (listed : List Interface) (k : Interface) → Ascending AreApart listed → earliest (filter (is_after guid mark) listed) ≡ Some k
     → (find (is_at k.handle guid) listed ≡ Some k) × (is_after guid mark k ≡ true)
 told_found guid mark listed k a e =

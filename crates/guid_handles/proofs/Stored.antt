@@ -218,7 +218,7 @@ unmade_again t maker h =
 
 -- ---- slots
 
--- a key that is told stands for an interface that is found
+-- a key that is returned is that of an interface that is found
 key_told : (slots : List (Option Record)) (p : Interface → Bool) (is : List Interface) (o : Option ℕ) → HaveInterfaces slots (option_to_list o) (filter p is) → is_some o ≡ is_some (find p is)
 key_told slots p [] None h = refl
 key_told slots p [] (Some k) h = absurd h

@@ -8,15 +8,16 @@ use Rattle.guid_handles.specs.HandleTables.{HandleTable, numbers, same_guid, has
 use Rattle.guid_handles.specs.Sorting.{Ascending}
 use Rattle.guid_handles.specs.Indexes.{AreOn}
 
--- so many handles may be live
+-- how many handles may be live
 abbrev pub max_handles : ℕ
 max_handles = 4096
 
--- so many interfaces may be installed at once
+-- how many interfaces may be installed at once
 abbrev pub max_installed : ℕ
 max_installed = 16
 
--- What is true of every handle table: the numbers ascend, from 1 to the last that was given, and each interface is on a live handle.
+-- What is true of every handle table: the numbers ascend, from 1 to the last that was given, and
+-- each interface is on a live handle.
 pub record IsHandleTable (t : HandleTable) : Type 0 where
   pub ascending : Ascending (λ a b. a < b) (numbers t)
   pub given : AllByRecursion (λ n. (0 < n) × (n ≤ t.last_number)) (numbers t)
@@ -74,8 +75,9 @@ install_many_refusal t handle pairs =
     ((length pairs == 0) || (nat_lt max_installed (length pairs) || (is_dead t handle || (has_guid_twice pairs || list_any (λ p. is_taken t handle p.0) pairs))))
     (past_limit t handle)
 
--- What an installation answers, given its refusal, and the table after it: all pairs are installed and the handle is answered, or
--- the table stays. Where nothing is refused, OUT_OF_RESOURCES means out of memory.
+-- What an installation answers, given its refusal, and the table after it: all pairs are installed
+-- and the handle is answered, or the table stays. Where nothing is refused, OUT_OF_RESOURCES means
+-- out of memory.
 abbrev pub Installs : HandleTable → ℕ → List (List ℕ × ℕ) → Option Status → Result ℕ Status → HandleTable → Type 0
 Installs t handle pairs None (Ok n) new = (n ≡ handle_for t handle) × (new ≡ installed handle pairs t)
 Installs t handle pairs None (Err e) new = (e ≡ OutOfResources) × (new ≡ t)

@@ -6,7 +6,8 @@ use Rattle.std.specs.Option.{option_map, option_and_then}
 use Rattle.guid_handles.specs.declared.records.LiveHandle.{LiveHandle}
 use Rattle.guid_handles.specs.declared.records.Interface.{Interface}
 
--- The live handles by ascending number, the interfaces in order of installation, and the last number and the last stamp given.
+-- The live handles by ascending number, the interfaces in order of installation, and the last
+-- number and the last stamp given.
 pub record HandleTable : Type 0 where
   pub handles : List LiveHandle
   pub interfaces : List Interface

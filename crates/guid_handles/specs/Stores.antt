@@ -14,7 +14,8 @@ use Rattle.guid_handles.specs.Slots.{at_key, record_at, installed_until}
 abbrev pub AreApart : Interface → Interface → Type 0
 AreApart i j = (is_at j.handle j.guid i ≡ false) × ((i.stamp == j.stamp) ≡ false)
 
--- What is true of every table: each interface is one of its kind, and no stamp is higher than the last.
+-- What is true of every table: each interface is one of its kind, and no stamp is higher than the
+-- last.
 pub record IsTable (t : HandleTable) : Type 0 where
   pub proper : IsHandleTable t
   pub apart : Ascending AreApart t.interfaces
@@ -24,7 +25,8 @@ pub record IsTable (t : HandleTable) : Type 0 where
 abbrev pub HaveInterfaces : List (Option Record) → List ℕ → List Interface → Type 0
 HaveInterfaces slots keys interfaces = AllZip (λ k i. at_key slots k ≡ Some i) keys interfaces
 
--- Interfaces, and their keys in rows by handle and in groups by GUID. No slot has an interface whose key is not in its group.
+-- Interfaces, and their keys in rows by handle and in groups by GUID. No slot has an interface
+-- whose key is not in its group.
 pub record AreFiled (interfaces : List Interface) (slots : List (Option Record)) (rows : List Row) (groups : List Group) : Type 0 where
   pub by_handle : (n : ℕ) → HaveInterfaces slots (keys_on rows n) (filter (is_on n) interfaces)
   pub by_guid : (n : ℕ) (guid : List ℕ) → HaveInterfaces slots (option_to_list (key_at groups guid n)) (filter (is_at n guid) interfaces)
@@ -34,7 +36,7 @@ pub record AreFiled (interfaces : List Interface) (slots : List (Option Record))
 abbrev pub IsStamped : Record → Type 0
 IsStamped r = (0 < r.installed) × (r.installed ≤ r.interface.stamp)
 
--- the table that rows, slots and the last number and stamp stand for
+-- the table that rows, slots and the last number and stamp represent
 abbrev pub table_of : List Row → List (Option Record) → ℕ → ℕ → HandleTable
 table_of rows slots last_number last_stamp = record { handles = lives rows; interfaces = installed_until last_stamp slots; last_number = last_number; last_stamp = last_stamp }
 

@@ -164,7 +164,7 @@ impl<A: Allocator + Copy> Handles<A> {
         self.rows.keys(handle).len()
     }
 
-    /// The interface on a handle before which so many were installed on it.
+    /// The interface on a handle before which a number of others were installed on it.
     pub fn nth_interface(&self, handle: u64, at: usize) -> Option<Interface>
         ensures { result ≡ slice_get (interfaces_on self.now handle) at }
     {
@@ -287,7 +287,7 @@ impl<A: Allocator + Copy> Handles<A> {
     }
 
     /// Why `install_many` would refuse, memory aside: INVALID_PARAMETER for no pair or more than
-    /// `MAX_INSTALLED`, a handle that is neither 0 nor live, a GUID that stands twice, or one that is
+    /// `MAX_INSTALLED`, a handle that is neither 0 nor live, a GUID that occurs twice, or one that is
     /// on the handle; OUT_OF_RESOURCES where a new handle would be one too many.
     pub fn install_many_refusal(&self, handle: u64, pairs: &[(Uuid, u64)]) -> Option<Status>
         ensures { result ≡ install_many_refusal self.now handle pairs.now }
@@ -545,7 +545,7 @@ impl<A: Allocator + Copy> Handles<A> {
     }
 }
 
-/// Whether a GUID stands twice in a list.
+/// Whether a GUID occurs twice in a list.
 pub fn has_guid_twice(pairs: &[(Uuid, u64)]) -> bool
     ensures { result ≡ has_guid_twice pairs.now }
 {
@@ -557,7 +557,7 @@ pub fn has_guid_twice(pairs: &[(Uuid, u64)]) -> bool
     false
 }
 
-/// Whether a GUID stands in a list.
+/// Whether a GUID is in a list.
 fn has_guid(pairs: &[(Uuid, u64)], guid: Uuid) -> bool
     ensures { result ≡ list_any (λ p. same_guid guid p.0) pairs.now }
 {

@@ -35,8 +35,8 @@ listed d =
       stops = d.stops;
     }
 
--- What a listed driver does: it supports a controller that carries each GUID that it needs, none of them held, and its plan and
--- whether it may be stopped are always the same.
+-- What a listed driver does: it supports a controller that carries each GUID that it needs, none of
+-- them held, and its plan and whether it may be stopped are always the same.
 abbrev pub listed_meaning : ListedDriver → Meaning
 listed_meaning d =
     record {
@@ -81,8 +81,8 @@ child_of d = each_up_to 4 pair_of d
 abbrev pub children_of : Data → Option (List (List (List ℕ × ℕ)))
 children_of = each_up_to 8 child_of
 
--- The driver of a member, or its first field that is missing, of another kind or out of its range. A member that is no
--- object lacks each field.
+-- The driver of a member, or its first field that is missing, of another kind or out of its range.
+-- A member that is no object lacks each field.
 unfoldable pub member_driver : Data → Result ListedDriver DriverField
 member_driver d = do
   version ← or_fault field.Version (version_of d)

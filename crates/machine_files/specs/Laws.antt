@@ -6,8 +6,8 @@ use Rattle.boot_machines.specs.Machines.{IsMachine}
 use Rattle.machine_files.specs.DriverText.{most_drivers}
 use Rattle.machine_files.specs.MachineText.{ListedMachine, most_descriptors, machine_of}
 
--- What a file lists is a machine of at most `most_descriptors` runs, and their types and attributes fit their fields of a record. It
--- lists at most `most_drivers` drivers.
+-- What a file lists is a machine of at most `most_descriptors` runs, and their types and attributes
+-- fit their fields of a record. It lists at most `most_drivers` drivers.
 abbrev pub MachineLaw : Type 0
 MachineLaw =
     (bytes : List ℕ)

@@ -44,8 +44,8 @@ attributes_of t d =
     option_and_then (if_passes (λ attributes. not ((t == conventional) && has_runtime attributes)))
     (hexadecimal_at (field_name field.Attributes) d)
 
--- The run of a member, or its first field that is missing, of another kind or out of its range. A member that is no
--- object lacks each field.
+-- The run of a member, or its first field that is missing, of another kind or out of its range. A
+-- member that is no object lacks each field.
 unfoldable pub member_run : Data → Result Run MemberField
 member_run d = do
   t ← or_fault field.Type (member_type d)
@@ -130,7 +130,8 @@ pub record ListedMachine : Type 0 where
   pub machine : MachineValue
   pub drivers : List ListedDriver
 
--- the machine of these runs and this granule, unless runs have a page in common or the granule is none
+-- the machine of these runs and this granule, unless runs have a page in common or the granule is
+-- none
 abbrev pub machine_with : List Run → Option ℕ → Result MachineValue MachineFault
 machine_with runs granule =
     if overlap runs then Err fault.Overlap

@@ -14,15 +14,16 @@ descriptor_version = 1
 abbrev pub map_size : Book → ℕ
 map_size b = record_size * length (memory_map b.memory)
 
--- The reply to a buffer of a size in bytes: the size used, the key, the size of a record and the version; where the buffer is
--- too small, the size needed and no other field.
+-- The reply to a buffer of a size in bytes: the size used, the key, the size of a record and the
+-- version; where the buffer is too small, the size needed and no other field.
 abbrev pub map_reply : Book → ℕ → MapReply
 map_reply b room =
     if nat_le (map_size b) room
     then record { status = Success; size = map_size b; key = b.key; descriptor_size = record_size; version = descriptor_version }
     else record { status = BufferTooSmall; size = map_size b; key = 0; descriptor_size = 0; version = 0 }
 
--- The buffer after that: the records of the map in its front and the rest as it was; all of it as it was where it is too small.
+-- The buffer after that: the records of the map in its front and the rest as it was; all of it as
+-- it was where it is too small.
 abbrev pub buffer_with_map : Book → List ℕ → List ℕ
 buffer_with_map b buffer =
     if nat_le (map_size b) (length buffer)

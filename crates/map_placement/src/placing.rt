@@ -11,7 +11,7 @@ use std::alloc::Global;
 /// AllocateMaxAddress: the range ends by the byte at the address of the request.
 const ALLOCATE_MAX_ADDRESS: u32 = 1;
 
-/// Finds the best place for so many `pages` of the type `mtype` on the memory that records
+/// Finds the best place for `pages` pages of the type `mtype` on the memory that records
 /// (EFI_MEMORY_DESCRIPTOR) of `descriptor_size` bytes each state, with a granule of 1 or 16 pages: the highest
 /// of those after which the memory map has the fewest entries. The byte at the address `limit` is the last
 /// that may belong to them. The address of the first page is put into the place `address`, which a refusal

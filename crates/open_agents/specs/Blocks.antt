@@ -1,4 +1,5 @@
--- The open items at their places, and where those on each handle and of each controller are, in blocks.
+-- The open items at their places, and where those on each handle and of each controller are, in
+-- blocks.
 use Rattle.std.specs.Prelude.{◌≡◌, ℕ, ◌+◌, ◌<◌, ◌/◌, ◌==◌, ◌||◌, ◌++◌, nat_lt, not, Bool, true, false, cond, List, [], ◌∷◌, map, length, Option, Some, None, slice_index_or}
 use Rattle.std.specs.List.{filter, find, slice_get, AllByRecursion}
 use Rattle.guid_handles.specs.Sorting.{Ascending, place}
@@ -40,7 +41,7 @@ places_from k p (s ∷ ss) = cond (passes p s) (k ∷ places_from (k + 1) p ss) 
 
 -- ---- blocks
 
--- so many handles share a block
+-- how many handles share a block
 abbrev pub block_size : ℕ
 block_size = 8
 
@@ -124,7 +125,8 @@ block_of slots b = record { number = b; places = places_from 0 (is_in b) slots }
 abbrev pub are_equal : OpenRecord → OpenRecord → Bool
 are_equal o p = is_equal_item o.handle o.guid o.agent o.controller o.attributes p
 
--- Items, no two of which are equal and each of which has an agent, at their places; these places in blocks; and the agents noted.
+-- Items, no two of which are equal and each of which has an agent, at their places; these places in
+-- blocks; and the agents noted.
 pub record IsOpenStore (slots : List (Option OpenRecord)) (blocks noted : List Block) : Type 0 where
   pub in_step : (b : ℕ) → block_at blocks b ≡ block_of slots b
   pub distinct : Ascending (λ o p. are_equal p o ≡ false) (items_in slots)

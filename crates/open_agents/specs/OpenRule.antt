@@ -23,7 +23,8 @@ needs_agent a = (a == 0x20) || needs_controller a
 
 -- ---- the call
 
--- The handle is dead, an agent or a controller is missing or dead, or a child's controller is the handle itself.
+-- The handle is dead, an agent or a controller is missing or dead, or a child's controller is the
+-- handle itself.
 abbrev pub names_badly : HandleTable → ℕ → ℕ → ℕ → ℕ → Bool
 names_badly t handle agent controller a =
     not (is_live t handle)

@@ -5,7 +5,7 @@ ghost use Rattle.open_agents.specs.OpenItems as spec;
 use page_ranges::Status;
 use uuid::Uuid;
 
-/// An item of the open list: an interface, who has it open, how, and how often.
+/// An item of the open list: an interface, which agent has it open, how, and how often.
 #[derive(Clone, Copy)]
 pub struct OpenRecord {
     pub handle: u64,

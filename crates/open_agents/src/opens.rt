@@ -121,7 +121,7 @@ impl<A: Allocator + Copy> Opens<A> {
         )
     }
 
-    /// What `decide` tells, where it is known whether the handle carries the GUID.
+    /// What `decide` returns, where it is known whether the handle carries the GUID.
     pub fn decide_carried(
         &self,
         handles: &Handles<A>,

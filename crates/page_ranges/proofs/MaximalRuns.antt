@@ -53,7 +53,7 @@ firsts_from (x ∷ m) k a = go (runs_of m) (firsts_from m k a.1)
     go [] b = (a.0, tt)
     go (r ∷ rs) b = elim (cases_Bool (should_be_one_run (run_of x) r)) [ inl t ↦ rw t (a.0, b.1) | inr f ↦ rw f (a.0, b) ]
 
--- a page as a run of so many pages
+-- a page as a run of a number of pages
 abbrev run_from : ℕ → Page → Run
 run_from n x = record (run_of x) { range = record { first = x.number; pages = n } }
 
@@ -149,7 +149,7 @@ pub runs_of-pages_of : (rs : List Run) → AreMaximalRuns rs → runs_of (pages_
 runs_of-pages_of [] a = refl
 runs_of-pages_of (r ∷ rs) a = runs_of-row (pages_of rs) r.range.pages (page_in r.range.first r) a.0 ∙ ap (with_row_below_runs r.range.pages (page_in r.range.first r)) (runs_of-pages_of rs a.3) ∙ run_alone r rs a.2
 
--- two lists of maximal runs that stand for one memory are one
+-- two lists of maximal runs that represent one memory are one
 pub same_runs : (rs ss : List Run) → AreMaximalRuns rs → AreMaximalRuns ss → pages_of rs ≡ pages_of ss → rs ≡ ss
 same_runs rs ss a b e = sym (runs_of-pages_of rs a) ∙ ap runs_of e ∙ runs_of-pages_of ss b
 

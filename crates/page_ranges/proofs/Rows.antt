@@ -79,7 +79,7 @@ map-row f (suc n) x y e h = ap₂ ◌∷◌ (h x.number (omega arith) (omega ari
 
 -- ---- the map
 
--- so many pages as a block, the first of which is this one
+-- a number of pages as a block, the first of which is this one
 abbrev pub block_from : ℕ → Page → Descriptor
 block_from n x = record { mtype = x.mtype; first = x.number; pages = n; attributes = x.attributes }
 

@@ -1,4 +1,4 @@
--- Lists of runs, and the memories that they stand for.
+-- Lists of runs, and the memories that they represent.
 use Rattle.std.proofs.Common.{◌≡◌, ℕ, zero, suc, ◌+◌, ◌-◌, ◌<◌, ◌≤◌, false, List, [], ◌∷◌, ◌++◌, length, get_or, drop, Some, None, append_assoc, refl, sym, ap, ap₂, ◌∙◌, arith}
 use Rattle.std.specs.List.{AllByRecursion}
 use Rattle.std.proofs.lemmas.Grind.{flat_map-append}
@@ -74,7 +74,7 @@ pages_of-append rs ss = flat_map-append pages_of_run rs ss
 pub pages_of-last : (rs : List Run) (r : Run) → pages_of (rs ++ r ∷ []) ≡ pages_of rs ++ pages_of_run r
 pages_of-last rs r = pages_of-append rs (r ∷ []) ∙ ap (λ ys. pages_of rs ++ ys) (append-nil (pages_of_run r))
 
--- so many pages of a run, from a number on
+-- a number of pages of a run, from a page number on
 abbrev pub part : ℕ → ℕ → Run → Run
 part first pages r = record { range = record { first = first; pages = pages }; mtype = r.mtype; attributes = r.attributes; owner = r.owner }
 

@@ -5,7 +5,8 @@ use Rattle.std.specs.Prelude.{◌≡◌, ◌⊎◌, ℕ, ◌+◌, ◌-◌, ◌%�
 abbrev pub IsGranule : ℕ → Type 0
 IsGranule g = (g ≡ 1) ⊎ (g ≡ 16)
 
--- the types that stand in granules: reserved, runtime services code and data, and ACPI non-volatile storage
+-- the types that fill granules: reserved, runtime services code and data, and ACPI non-volatile
+-- storage
 abbrev pub is_granular : ℕ → Bool
 is_granular t = (t == 0) || (t == 5) || (t == 6) || (t == 10)
 

@@ -1,4 +1,5 @@
--- The memory: the list of its present pages, by ascending number. A page that the list lacks is absent.
+-- The memory: the list of its present pages, by ascending number. A page that the list lacks is
+-- absent.
 use Rattle.std.specs.Prelude.{◌≡◌, ℕ, zero, suc, ◌+◌, ◌<◌, ◌≤◌, Bool, true, false, ◌&&◌, ◌==◌, nat_le, nat_lt, List, [], ◌∷◌, map, Option, Some, None, if◌then◌else◌}
 use Rattle.std.specs.List.{AllByRecursion}
 use Rattle.page_ranges.specs.declared.ranges.Owner.{Owner}
@@ -23,7 +24,7 @@ abbrev pub page_below : List Page → ℕ → Option Page
 page_below m zero = None
 page_below m (suc k) = page_at m k
 
--- the pages stand in ascending order, each number once
+-- the pages are in ascending order, each number once
 abbrev pub IsAscending : List Page → Type 0
 IsAscending [] = Unit {0}
 IsAscending (x ∷ xs) = AllByRecursion (λ y. x.number < y.number) xs × IsAscending xs
@@ -70,14 +71,15 @@ AllInRange m range Is = (k : ℕ) → range.first ≤ k → k < range.first + ra
 abbrev pub retyped_page : ℕ → Owner → Page → Page
 retyped_page t o x = record { number = x.number; mtype = t; attributes = attributes_as t x.attributes; owner = o }
 
--- The memory once the pages of a range have a type and an owner, all other pages as before. A placement is one use of
--- it; freeing, which gives the conventional type and the owner Given, is the other.
+-- The memory once the pages of a range have a type and an owner, all other pages as before. A
+-- placement is one use of it; freeing, which gives the conventional type and the owner Given, is
+-- the other.
 abbrev pub retyped : PageRange → ℕ → Owner → List Page → List Page
 retyped range t o m = map (λ x. if is_in_range range x.number then retyped_page t o x else x) m
 
 -- ---- pages in a row
 
--- so many pages in a row, the first of which is this one
+-- a number of pages in a row, the first of which is this one
 unfoldable pub row : ℕ → Page → List Page
 row zero x = []
 row (suc n) x = x ∷ row n (record x { number = x.number + 1 })

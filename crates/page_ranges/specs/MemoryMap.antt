@@ -1,4 +1,5 @@
--- The memory map: an entry for each stretch of neighbouring pages that agree in type and attributes, whoever owns them, by ascending page.
+-- The memory map: an entry for each stretch of neighbouring pages that agree in type and
+-- attributes, whoever owns them, by ascending page.
 use Rattle.std.specs.Prelude.{◌≡◌, ℕ, ◌+◌, ◌<◌, ◌≤◌, Bool, true, false, ◌&&◌, ◌==◌, List, [], ◌∷◌, flat_map, Option, Some, None, if◌then◌else◌}
 use Rattle.std.specs.List.{AllByRecursion}
 use Rattle.page_ranges.specs.declared.ranges.Descriptor.{Descriptor}
@@ -14,7 +15,8 @@ block_of x = record { mtype = x.mtype; first = x.number; pages = 1; attributes =
 abbrev pub goes_on_in : Page → Descriptor → Bool
 goes_on_in x b = (x.number + 1 == b.first) && (x.mtype == b.mtype) && (x.attributes == b.attributes)
 
--- the blocks of a page and of the pages above it, which make these blocks: the page goes on in the first, or stands alone
+-- the blocks of a page and of the pages above it, which make these blocks: the page goes on in the
+-- first, or is alone
 abbrev pub with_page_below : Page → List Descriptor → List Descriptor
 with_page_below x [] = block_of x ∷ []
 with_page_below x (b ∷ bs) = if goes_on_in x b then record (block_of x) { pages = b.pages + 1 } ∷ bs else block_of x ∷ b ∷ bs
@@ -35,7 +37,8 @@ pub record IsIn (b : Descriptor) (k : ℕ) : Type 0 where
   pub low : b.first ≤ k
   pub high : k < b.first + b.pages
 
--- All its pages are present with its type and attributes; the page below it and the page above it are not.
+-- All its pages are present with its type and attributes; the page below it and the page above it
+-- are not.
 pub record IsMaximalBlock (m : List Page) (b : Descriptor) : Type 0 where
   pub some : 0 < b.pages
   pub all : (k : ℕ) → IsIn b k → IsLike b (page_at m k)
@@ -70,6 +73,6 @@ abbrev pub IsMap : List Descriptor → Type 0
 IsMap [] = Unit {0}
 IsMap (d ∷ ds) = IsEntry d × AllByRecursion (λ e. d.first + d.pages ≤ e.first) ds × IsApart d ds × IsMap ds
 
--- the memory that entries stand for, all of it the machine's own
+-- the memory that entries represent, all of it the machine's own
 abbrev pub memory_of : List Descriptor → List Page
 memory_of ds = flat_map (λ d. row d.pages (record { number = d.first; mtype = d.mtype; attributes = d.attributes; owner = Given })) ds

@@ -17,7 +17,8 @@ pages_below address = (address + 1) / page_size
 abbrev pub conventional : ℕ
 conventional = 7
 
--- types that no request may name: conventional, persistent and unaccepted memory, and the numbers that are no type
+-- types that no request may name: conventional, persistent and unaccepted memory, and the numbers
+-- that are no type
 abbrev pub is_bad_type : ℕ → Bool
 is_bad_type t = (t == 7) || (t == 14) || (t == 15) || (nat_le 16 t && nat_le t 0x6fffffff)
 
@@ -40,6 +41,7 @@ specific_purpose = 2 ^ 18
 abbrev pub is_specific_purpose : ℕ → Bool
 is_specific_purpose attributes = not (bit_and attributes specific_purpose == 0)
 
--- a page's attributes once it has a type: RUNTIME is on for code and data of runtime services, and off for other types
+-- a page's attributes once it has a type: RUNTIME is on for code and data of runtime services, and
+-- off for other types
 abbrev pub attributes_as : ℕ → ℕ → ℕ
 attributes_as t attributes = if (t == 5) || (t == 6) then bit_or attributes runtime else attributes - bit_and attributes runtime

@@ -1,4 +1,5 @@
--- Runs: pages in a row of one type, one set of attributes and one owner. A list of them stands for a memory.
+-- Runs: pages in a row of one type, one set of attributes and one owner. A list of them represents
+-- a memory.
 use Rattle.std.specs.Prelude.{◌≡◌, ℕ, ◌+◌, ◌≤◌, ◌<◌, Bool, true, false, ◌&&◌, ◌==◌, List, [], ◌∷◌, flat_map, if◌then◌else◌}
 use Rattle.std.specs.List.{AllByRecursion}
 use Rattle.page_ranges.specs.declared.ranges.Owner.{Owner}
@@ -25,7 +26,8 @@ abbrev pub AreRuns : List Run → Type 0
 AreRuns [] = Unit {0}
 AreRuns (r ∷ rs) = (0 < r.range.pages) × AllByRecursion (λ s. r.range.first + r.range.pages ≤ s.range.first) rs × AreRuns rs
 
--- A machine: runs in order, of the machine's own, of types that a machine may have, which make a proper memory.
+-- A machine: runs in order, of the machine's own, of types that a machine may have, which make a
+-- proper memory.
 pub record IsValidMachine (rs : List Run) : Type 0 where
   pub runs : AreRuns rs
   pub given : AllByRecursion (λ r. r.owner ≡ Given) rs
@@ -48,7 +50,8 @@ should_be_one_run r s = (r.range.first + r.range.pages == s.range.first) && (r.m
 abbrev pub run_of : Page → Run
 run_of x = record { range = record { first = x.number; pages = 1 }; mtype = x.mtype; attributes = x.attributes; owner = x.owner }
 
--- the runs of a page and of the pages above it, which make these runs: the page goes on in the first, or stands alone
+-- the runs of a page and of the pages above it, which make these runs: the page goes on in the
+-- first, or is alone
 abbrev pub with_page_below_runs : Page → List Run → List Run
 with_page_below_runs x [] = run_of x ∷ []
 with_page_below_runs x (r ∷ rs) = if should_be_one_run (run_of x) r then record (run_of x) { range = record { first = x.number; pages = r.range.pages + 1 } } ∷ rs else run_of x ∷ r ∷ rs

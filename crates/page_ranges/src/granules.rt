@@ -16,7 +16,7 @@ pub fn granule_for(mtype: MemoryType, granule: u64) -> u64
     }
 }
 
-// Whether the type of a number stands in granules.
+// Whether the type of a number fills granules.
 fn is_granular(number: u32) -> bool
     ensures { result ≡ is_granular number }
 {

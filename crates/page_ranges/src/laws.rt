@@ -6,7 +6,7 @@ pub fn maximal_blocks_law()
     ensures { MaximalBlocksLaw }
 {}
 
-/// A list that is a map is the map of the memory that it stands for.
+/// A list that is a map is the map of the memory that it represents.
 pub fn map_memory_law()
     ensures { MapMemoryLaw }
 {}

@@ -422,11 +422,11 @@ pub no_such_page : (m : List Page) (k : ℕ) (p : Option Page) → IsProperMemor
 no_such_page m k None proper high at free = free
 no_such_page m k (Some x) proper high at free = omega (arith, page_at-number m k x at, (page_at-all IsProperPage m k x proper.each at).number)
 
--- no proper memory has so many pages that their number has more than 64 bits
+-- the number of pages of a proper memory has at most 64 bits
 pub too_many : (b : Book) (t pages address : ℕ) → IsProperMemory b.memory → address < 2 ^ 64 → 2 ^ 64 ≤ whole_pages b.granule t pages → ¬ IsFree b t pages address
 too_many b t pages address proper small large free = no_such_page b.memory page_count (page_at b.memory page_count) proper (omega arith) refl (free.2 page_count (omega arith) (omega (arith, large)))
 
--- a number that is rounded and told is the rounded one, since no page number is near 64 bits
+-- a number that is rounded and returned is the rounded one, since no page number is near 64 bits
 pub rounded_told : (n g : ℕ) (told : Option ℕ) (end : ℕ) → told ≡ if_64_bits (rounded n g) → end ≡ unwrap_or told n → IsGranule g → n ≤ page_count → end ≡ rounded n g
 rounded_told n g told end e u is fits = u ∙ ap (λ o. unwrap_or o n) (e ∙ if_64_bits_some (rounded n g) (omega (arith, rounded_near n g is, fits)))
 
@@ -448,7 +448,7 @@ untold_number n e = elim (cases_lt n (2 ^ 64)) [
 ]
 
 module _ (b : Book) (t pages address granule : ℕ) (of_type : granule ≡ granule_for t b.granule) where
-  -- so many pages as fill granules are told, or are more than any memory has
+  -- the pages that fill granules are returned, or are more than any memory has
   pub told_pages : (count : ℕ) → if_64_bits (rounded pages granule) ≡ Some count → whole_pages b.granule t pages ≡ count
   told_pages count e = ap (rounded pages) (sym of_type) ∙ told_number (rounded pages granule) count e
 

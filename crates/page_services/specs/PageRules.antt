@@ -13,8 +13,8 @@ use Rattle.placement_certificate.specs.Placement.{IsPermittedStart}
 use Rattle.placement_certificate.specs.Certificates.{CertificateValue, IsTrueCertificate}
 use Rattle.page_services.specs.declared.page_book.Placed.{Placed}
 
--- the memory, the map key, which is 1 at first and one more after each call that changed some page's type, and the machine's
--- granule
+-- the memory, the map key, which is 1 at first and one more after each call that changed some
+-- page's type, and the machine's granule
 pub record Book : Type 0 where
   pub memory : List Page
   pub key : ℕ
@@ -24,7 +24,7 @@ pub record Book : Type 0 where
 abbrev pub new_book : ℕ → List Page → Book
 new_book granule m = record { memory = m; key = 1; granule = granule }
 
--- the page was placed by AllocatePages with a type that stands in granules
+-- the page was placed by AllocatePages with a type that fills granules
 abbrev pub IsInGranule : Option Page → Type 0
 IsInGranule None = ⊥
 IsInGranule (Some x) = (x.owner ≡ Pages) × (is_granular x.mtype ≡ true)
@@ -38,7 +38,7 @@ pub record IsInGranules (b : Book) : Type 0 where
   pub granule : IsGranule b.granule
   pub whole : HasWholeGranules b.granule b.memory
 
--- so many pages from the page of an address on
+-- a number of pages from the page of an address on
 abbrev pub range_from : ℕ → ℕ → PageRange
 range_from address pages = record { first = address / page_size; pages = pages }
 
@@ -51,11 +51,12 @@ changed_book range t o b = record { memory = retyped range t o b.memory; key = b
 
 -- ---- requests
 
--- so many pages once they fill granules of a type
+-- how many pages a number of them are once they fill granules of a type
 abbrev pub whole_pages : ℕ → ℕ → ℕ → ℕ
 whole_pages granule t pages = rounded pages (granule_for t granule)
 
--- the request on a machine with a granule for so many pages of a type, up to a limit: its pages fill granules of the type
+-- the request on a machine with a granule for a number of pages of a type, up to a limit: its pages
+-- fill granules of the type
 abbrev pub whole_request : ℕ → ℕ → ℕ → ℕ → Request
 whole_request granule t pages limit = record { mtype = t; pages = whole_pages granule t pages; limit = limit; granule = granule_for t granule }
 
@@ -65,7 +66,8 @@ if_counted r = option_map (λ n. r) (if_64_bits r.pages)
 
 -- ---- how a start is chosen
 
--- what is said of a memory, a request, the start that was chosen for it and the certificate that came with it
+-- what is said of a memory, a request, the start that was chosen for it and the certificate that
+-- came with it
 abbrev pub Choice : Type 1
 Choice = List Page → Request → ℕ → Option CertificateValue → Type 0
 
@@ -82,9 +84,9 @@ IsBestChoice m r p (Some c) = IsTrueCertificate m r c × (c.answer ≡ p)
 abbrev pub IsChosenPlace : {A : Type 0} → Choice → List Page → Request → Placed A → Type 0
 IsChosenPlace Chosen m r placed = (start : ℕ) × Chosen m r start placed.certificate × (placed.address ≡ start * page_size)
 
--- What is answered where pages of an owner are placed for a request, and the book after it: they stand at a start that was
--- chosen, with the type of the request and the owner. OUT_OF_RESOURCES, which leaves the book, means that memory ran out or that
--- no start is permitted.
+-- What is answered where pages of an owner are placed for a request, and the book after it: they
+-- lie at a start that was chosen, with the type of the request and the owner. OUT_OF_RESOURCES,
+-- which leaves the book, means that memory ran out or that no start is permitted.
 abbrev pub PlacesPages : {A : Type 0} → Choice → Book → Request → Owner → Result (Placed A) Status → Book → Type 0
 PlacesPages Chosen b r o (Ok placed) new = IsChosenPlace Chosen b.memory r placed × (new ≡ changed_book (range_from placed.address r.pages) r.mtype o b)
 PlacesPages Chosen b r o (Err OutOfResources) new = new ≡ b
@@ -102,31 +104,34 @@ max_address = 1
 abbrev pub fixed_address : ℕ
 fixed_address = 2
 
--- A request that some memory grants: its kind is one of the three, its type is not bad, and it asks for a page at least.
+-- A request that some memory grants: its kind is one of the three, its type is not bad, and it asks
+-- for a page at least.
 abbrev pub IsValidRequest : ℕ → ℕ → ℕ → Type 0
 IsValidRequest kind t pages = (kind ≤ fixed_address) × (is_bad_type t ≡ false) × (0 < pages)
 
--- What the service is left to place on a machine with a granule: so many pages of a type, anywhere or up to the byte at an
--- address. A call that names its address leaves no choice.
+-- What the service is left to place on a machine with a granule: a number of pages of a type,
+-- anywhere or up to the byte at an address. A call that names its address leaves no choice.
 abbrev pub placement_request : ℕ → ℕ → ℕ → ℕ → ℕ → Option Request
 placement_request granule kind t pages memory =
     if kind == any_pages
     then Some (whole_request granule t pages page_count)
     else (if kind == max_address then Some (whole_request granule t pages (pages_below memory)) else None)
 
--- Pages of a type may be allocated at an address: the address is that of a page, and of a granule of the type, and the pages
--- are conventional, with those that fill the last granule.
+-- Pages of a type may be allocated at an address: the address is that of a page, and of a granule
+-- of the type, and the pages are conventional, with those that fill the last granule.
 abbrev pub IsFree : Book → ℕ → ℕ → ℕ → Type 0
 IsFree b t pages address =
     IsAligned address × ((address / page_size) % granule_for t b.granule ≡ 0) × AllInRange b.memory (range_from address (whole_pages b.granule t pages)) IsConventional
 
--- Where the pages were placed: at the start that was chosen for the request, or else at the address that the call names.
+-- Where the pages were placed: at the start that was chosen for the request, or else at the address
+-- that the call names.
 abbrev pub IsPlaced : {A : Type 0} → Choice → Book → Option Request → ℕ → ℕ → ℕ → Placed A → Type 0
 IsPlaced Chosen b (Some r) t pages memory placed = IsChosenPlace Chosen b.memory r placed
 IsPlaced Chosen b None t pages memory placed = IsFree b t pages memory × (placed.address ≡ memory) × (placed.certificate ≡ None)
 
--- What AllocatePages answers, and the book after it. A refusal leaves the book. OUT_OF_RESOURCES means that memory ran out,
--- and for the kinds that name no address also that no start is permitted.
+-- What AllocatePages answers, and the book after it. A refusal leaves the book. OUT_OF_RESOURCES
+-- means that memory ran out, and for the kinds that name no address also that no start is
+-- permitted.
 abbrev pub AllocatesPages : {A : Type 0} → Choice → Book → ℕ → ℕ → ℕ → ℕ → Result (Placed A) Status → Book → Type 0
 AllocatesPages Chosen b kind t pages memory (Ok placed) new = IsValidRequest kind t pages × IsPlaced Chosen b (placement_request b.granule kind t pages memory) t pages memory placed × (new ≡ changed_book (range_from placed.address (whole_pages b.granule t pages)) t Pages b)
 AllocatesPages Chosen b kind t pages memory (Err InvalidParameter) new = (¬ IsValidRequest kind t pages) × (new ≡ b)
@@ -144,13 +149,14 @@ IsValidRange address pages = IsAligned address × (0 < pages) × (address / page
 abbrev pub IsAllocated : List Page → ℕ → ℕ → Type 0
 IsAllocated m address pages = AllInRange m (range_from address pages) (IsOwnedBy Pages)
 
--- the granule that a page lies in, in pages: that of its type, and a page of its own where it is absent
+-- the granule that a page lies in, in pages: that of its type, and a page of its own where it is
+-- absent
 abbrev pub granule_of : ℕ → Option Page → ℕ
 granule_of granule None = 1
 granule_of granule (Some x) = granule_for x.mtype granule
 
--- What is freed where so many pages from the one of an address on are named: these, and at each end the rest of the granule
--- that the page at that end lies in.
+-- What is freed where a number of pages from the one of an address on are named: these, and at each
+-- end the rest of the granule that the page at that end lies in.
 abbrev pub freed_range : Book → ℕ → ℕ → PageRange
 freed_range b address pages =
     let named = address / page_size in
@@ -172,16 +178,18 @@ FreesPages b address pages (Err status) new = ⊥
 abbrev pub pool_request : ℕ → ℕ → ℕ → Request
 pool_request granule t pages = whole_request granule t pages page_count
 
--- what the pool is answered that takes pages, and the book after it: they are placed with the owner Pool
+-- what the pool is answered that takes pages, and the book after it: they are placed with the owner
+-- Pool
 abbrev pub TakesForPool : {A : Type 0} → Choice → Book → ℕ → ℕ → Result (Placed A) Status → Book → Type 0
 TakesForPool Chosen b t pages result new = PlacesPages Chosen b (pool_request b.granule t pages) Pool result new
 
--- the book after the pool gave a range back: its pages are conventional; of no pages no type changes, and the key stays
+-- the book after the pool gave a range back: its pages are conventional; of no pages no type
+-- changes, and the key stays
 abbrev pub given_back : PageRange → Book → Book
 given_back range b = if range.pages == 0 then b else changed_book range conventional Given b
 
--- what the pool is answered that gives pages back, and the book after it: OUT_OF_RESOURCES, which leaves the book, means that
--- memory ran out
+-- what the pool is answered that gives pages back, and the book after it: OUT_OF_RESOURCES, which
+-- leaves the book, means that memory ran out
 abbrev pub GivesFromPool : Book → PageRange → Result (Unit {0}) Status → Book → Type 0
 GivesFromPool b range (Ok done) new = new ≡ given_back range b
 GivesFromPool b range (Err OutOfResources) new = new ≡ b

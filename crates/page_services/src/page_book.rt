@@ -26,8 +26,8 @@ const ALLOCATE_MAX_ADDRESS: u32 = 1;
 /// AllocateAddress: the range starts at the address of the request.
 const ALLOCATE_ADDRESS: u32 = 2;
 
-// The request on a machine with a granule for so many pages of a type, up to a limit. None where
-// they are more than a number of 64 bits tells once they fill granules.
+// The request on a machine with a granule for a number of pages of a type, up to a limit. None where
+// they are more than a number of 64 bits holds once they fill granules.
 fn whole_request(granule: u64, mtype: MemoryType, pages: u64, limit: u64) -> Option<Request>
     ensures { result ≡ if_counted (whole_request granule mtype pages limit) }
 {
@@ -62,7 +62,7 @@ pub fn placement_request(
     whole_request(granule, mtype, pages, limit)
 }
 
-/// The request for so many `pages` of the type `mtype` for the pool of a machine with a granule: rounded
+/// The request for `pages` pages of the type `mtype` for the pool of a machine with a granule: rounded
 /// up to the type's granule, they may lie anywhere. `None` where the rounded number has more than 64
 /// bits.
 pub fn pool_request(granule: u64, mtype: MemoryType, pages: u64) -> Option<Request>
@@ -99,8 +99,8 @@ impl<A: Allocator> Model for PageBook<A> {
 }
 
 impl<A: Allocator + Copy> PageBook<A> {
-    /// The book of a machine with a granule of so many pages, 1 or 16, and a memory in which no type has
-    /// changed. Where a page of a granule was placed by AllocatePages with a type that stands in
+    /// The book of a machine with a granule of 1 or 16 pages, and a memory in which no type has
+    /// changed. Where a page of a granule was placed by AllocatePages with a type that fills
     /// granules, all pages of the granule were.
     pub fn new(table: RunTable<A>, granule: u64) -> PageBook<A>
         requires granule { IsGranule granule }
@@ -114,14 +114,14 @@ impl<A: Allocator + Copy> PageBook<A> {
         }
     }
 
-    /// AllocatePages of the kind `kind`, for the type `mtype`, so many `pages`: anywhere (0), up to
-    /// the byte at the address `memory` (1), or at that address (2). A type that stands in granules
+    /// AllocatePages of the kind `kind`, for the type `mtype`, of a number of `pages`: anywhere (0), up to
+    /// the byte at the address `memory` (1), or at that address (2). A type that fills granules
     /// is given whole granules: the pages are rounded up to them, and start where one starts. Of the
     /// places that kinds 0 and 1 permit it takes the highest after which the memory map has the
     /// fewest entries, and answers a certificate of that.
     ///
     /// INVALID_PARAMETER: another kind, a type that no request may name, or no pages. NOT_FOUND: an
-    /// address that is not that of a page, or of a granule where the type stands in granules, or a
+    /// address that is not that of a page, or of a granule where the type fills granules, or a
     /// range there, with the pages that it is rounded up by, that is not all conventional.
     /// OUT_OF_RESOURCES: no place of kind 0 or 1, also where the pages rounded up have a number of
     /// more than 64 bits, or memory ran out. On an `Err` the book is as it was.
@@ -151,7 +151,7 @@ impl<A: Allocator + Copy> PageBook<A> {
         }
     }
 
-    // Places pages at an address: so many, and those that fill the last granule of their type.
+    // Places pages at an address: their number, and those that fill the last granule of their type.
     fn place_at(&mut self, mtype: MemoryType, pages: u64, memory: u64) -> Result<Placed<A>, Status>
         requires key { self.old.key < 2 ^ 62 }
         requires good { is_bad_type mtype ≡ false }
@@ -164,7 +164,7 @@ impl<A: Allocator + Copy> PageBook<A> {
             return Err(Status::NotFound);
         }
         let Some(pages) = rounded(pages, granule) else {
-            // No memory has so many pages: a table says of itself that it is a proper memory.
+            // No memory has that many pages: a table says of itself that it is a proper memory.
             let _ = self.table.descriptors();
             return Err(Status::NotFound);
         };
@@ -202,8 +202,8 @@ impl<A: Allocator + Copy> PageBook<A> {
         })
     }
 
-    /// FreePages of so many `pages` from the address `memory` on: they are conventional again, and at
-    /// each end so is the rest of the granule that the page there lies in, if its type stands in
+    /// FreePages of `pages` pages from the address `memory` on: they are conventional again, and at
+    /// each end so is the rest of the granule that the page there lies in, if its type fills
     /// granules.
     ///
     /// INVALID_PARAMETER: an unaligned address, no pages, or a range past the last page. NOT_FOUND:
@@ -237,7 +237,7 @@ impl<A: Allocator + Copy> PageBook<A> {
         let low = self.granule_at(range.first);
         let high = self.granule_at(end - 1);
         let first = range.first - range.first % low;
-        // A page number is far below 64 bits, so it is always told once rounded.
+        // A page number is far below 64 bits, so it always fits once rounded.
         let end = rounded(end, high).unwrap_or(end);
         PageRange {
             first,
@@ -256,7 +256,7 @@ impl<A: Allocator + Copy> PageBook<A> {
         }
     }
 
-    /// Pages of the type `mtype` for the pool: so many `pages`, rounded up to whole granules of the
+    /// Pages of the type `mtype` for the pool: `pages` of them, rounded up to whole granules of the
     /// type, at the best place of all, with a certificate of that.
     ///
     /// OUT_OF_RESOURCES: no place is permitted, or memory ran out. The book is then as it was.

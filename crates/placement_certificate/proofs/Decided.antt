@@ -30,7 +30,7 @@ pub free_is : (o : Option Page) → IsAvailable o → is_free o ≡ true
 free_is None c = absurd c.0
 free_is (Some x) c = and_from _ _ (eq-eqb x.mtype conventional c.0) (ap (λ b. not b) c.1)
 
--- so many pages from a number on
+-- a number of pages from a page number on
 abbrev are_free : List Page → ℕ → ℕ → Bool
 are_free m p zero = true
 are_free m p (suc n) = is_free (page_at m p) && are_free m (p + 1) n

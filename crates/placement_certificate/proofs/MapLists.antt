@@ -1,4 +1,4 @@
--- Lists that are maps: their entries by index, and the pages that they stand for.
+-- Lists that are maps: their entries by index, and the pages that they represent.
 use Rattle.std.proofs.Common.{◌≡◌, ℕ, zero, suc, ◌+◌, ◌-◌, ◌<◌, ◌≤◌, List, [], ◌∷◌, length, get_or, drop, Contains, Option, Some, None, inl, inr, refl, sym, ap, subst, ◌∙◌, arith}
 use Rattle.std.specs.Prelude.{slice_get}
 use Rattle.std.specs.List.{AllByRecursion}
@@ -85,7 +85,7 @@ few_entries ds a = omega (arith, entry_count ds 0 a (all_implied IsEntry (λ e. 
 
 -- ---- the pages of a map
 
--- its entries are those of the memory that it stands for
+-- its entries are those of the memory that it represents
 pub in_map : (ds : List Descriptor) (e : Descriptor) → IsMap ds → Contains ds e → Contains (memory_map (memory_of ds)) e
 in_map ds e a h = subst (λ es. Contains es e) (sym (map_of_memory_of ds a)) h
 

@@ -1,4 +1,4 @@
--- Where the best start stands in its entry.
+-- Where the best start lies in its entry.
 use Rattle.std.proofs.Common.{◌≡◌, ◌⊎◌, ◌↔◌, ℕ, zero, suc, ◌+◌, ◌-◌, ◌%◌, ◌<◌, ◌≤◌, true, false, List, length, Contains, Option, Some, None, inl, inr, true≢false, refl, sym, ◌∙◌, arith}
 use Rattle.std.proofs.lemmas.Bool.{cases_lt}
 use Rattle.page_ranges.specs.declared.ranges.Descriptor.{Descriptor}

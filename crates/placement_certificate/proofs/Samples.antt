@@ -139,7 +139,7 @@ in_granules t pages = record { mtype = t; pages = pages; limit = 2 ^ 52; granule
 proper_in_granules : IsProperRequest (in_granules 6 16)
 proper_in_granules = record { some = omega arith; good = refl; granule = inr refl; typed = refl; filled = omega arith }
 
--- data of boot services does not stand in granules
+-- data of boot services does not fill granules
 not_typed : ¬ IsProperRequest (in_granules 4 16)
 not_typed h = let f : suc zero ≡ 16 = h.typed in omega arith
 

@@ -14,12 +14,14 @@ pub record CertificateValue : Type 0 where
   pub bounds : List Bound
   pub answer : ℕ
 
--- What a bound says of the permitted starts in its entry: the best of them is `top`, at a price of `count`; or there is none.
+-- What a bound says of the permitted starts in its entry: the best of them is `top`, at a price of
+-- `count`; or there is none.
 abbrev pub IsTrueLeast : List Page → Request → Descriptor → Option (ℕ × ℕ) → Type 0
 IsTrueLeast m r e (Some (count, top)) = IsBestIn m r e top × (price m r top ≡ count)
 IsTrueLeast m r e None = (p : ℕ) → IsIn e p → ¬ IsPermittedStart m r p
 
--- A true bound of an entry has the entry's first page and pages, and says what is true of its starts.
+-- A true bound of an entry has the entry's first page and pages, and says what is true of its
+-- starts.
 pub record IsTrueBound (m : List Page) (r : Request) (e : Descriptor) (b : Bound) : Type 0 where
   pub first : b.first ≡ e.first
   pub pages : b.pages ≡ e.pages
@@ -29,7 +31,8 @@ pub record IsTrueBound (m : List Page) (r : Request) (e : Descriptor) (b : Bound
 abbrev pub conventional_entries : List Page → List Descriptor
 conventional_entries m = filter (λ e. e.mtype == conventional) (memory_map m)
 
--- A true certificate has one true bound for each conventional entry, in their order, and its answer is the best start.
+-- A true certificate has one true bound for each conventional entry, in their order, and its answer
+-- is the best start.
 pub record IsTrueCertificate (m : List Page) (r : Request) (c : CertificateValue) : Type 0 where
   pub bounds : AllZip (IsTrueBound m r) (conventional_entries m) c.bounds
   pub answer : IsBestStart m r c.answer

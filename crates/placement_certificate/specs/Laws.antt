@@ -31,20 +31,22 @@ InsideLaw = (m : List Page) (k : ℕ) → IsAscending m → (are_alike (page_bel
 abbrev pub adds : Option Page → Option Page → ℕ
 adds below above = if are_alike below above then 1 else 0
 
--- what an edge saves: 1 where the page outside it is of the type t, and shares its entry with the page inside once that has the type t too
+-- what an edge saves: 1 where the page outside it is of the type t, and shares its entry with the
+-- page inside once that has the type t too
 abbrev pub saves : ℕ → Option Page → Option Page → ℕ
 saves t (Some x) (Some y) = if (x.mtype == t) && (x.attributes == attributes_as t y.attributes) then 1 else 0
 saves t x y = 0
 
--- The price of a permitted start is the map's length, with what its two edges add and without what they save.
+-- The price of a permitted start is the map's length, with what its two edges add and without what
+-- they save.
 abbrev pub PriceLaw : Type 0
 PriceLaw = (m : List Page) (r : Request) (p : ℕ) → IsProperMemory m → IsProperRequest r → IsPermittedStart m r p →
     let end = p + r.pages in
     price m r p + (saves r.mtype (page_below m p) (page_at m p) + saves r.mtype (page_at m end) (page_below m end))
     ≡ length (memory_map m) + (adds (page_below m p) (page_at m p) + adds (page_below m end) (page_at m end))
 
--- With a granule of 1, an entry that holds a permitted start may also be placed in from its first page on, and that makes
--- the map longer by 1 at most.
+-- With a granule of 1, an entry that holds a permitted start may also be placed in from its first
+-- page on, and that makes the map longer by 1 at most.
 abbrev pub FirstPageLaw : Type 0
 FirstPageLaw = (m : List Page) (r : Request) (e : Descriptor) (p : ℕ) → r.granule ≡ 1 → IsProperMemory m → IsProperRequest r → Contains (memory_map m) e → IsIn e p → IsPermittedStart m r p →
     IsPermittedStart m r e.first × (price m r e.first ≤ length (memory_map m) + 1)
@@ -54,8 +56,8 @@ pub record IsStretch (m : List Page) (first stop : ℕ) : Type 0 where
   pub all : (k : ℕ) → first ≤ k → k < stop → IsAvailable (page_at m k)
   pub stops : ¬ IsAvailable (page_at m stop)
 
--- In a stretch a start is permitted just where it is a multiple of the granule and its pages end by the stretch's end and
--- by the limit.
+-- In a stretch a start is permitted just where it is a multiple of the granule and its pages end by
+-- the stretch's end and by the limit.
 abbrev pub StretchLaw : Type 0
 StretchLaw = (m : List Page) (r : Request) (first stop p : ℕ) → IsStretch m first stop → first ≤ p → p < stop → IsPermittedStart m r p ↔ ((p % r.granule ≡ 0) × (p + r.pages ≤ r.limit) × (p + r.pages ≤ stop))
 
@@ -63,7 +65,8 @@ StretchLaw = (m : List Page) (r : Request) (first stop p : ℕ) → IsStretch m 
 abbrev pub EndsEntry : List Page → ℕ → Type 0
 EndsEntry m k = (e : Descriptor) × Contains (memory_map m) e × (k ≡ e.first + e.pages)
 
--- A permitted start is its entry's first page, or ends where an entry ends, or costs the map's length plus 2.
+-- A permitted start is its entry's first page, or ends where an entry ends, or costs the map's
+-- length plus 2.
 abbrev pub EdgesLaw : Type 0
 EdgesLaw = (m : List Page) (r : Request) (e : Descriptor) (p : ℕ) → IsProperMemory m → IsProperRequest r → Contains (memory_map m) e → IsIn e p → IsPermittedStart m r p →
     (p ≡ e.first) ⊎ EndsEntry m (p + r.pages) ⊎ (price m r p ≡ length (memory_map m) + 2)
@@ -72,7 +75,8 @@ EdgesLaw = (m : List Page) (r : Request) (e : Descriptor) (p : ℕ) → IsProper
 abbrev pub IsHighestIn : List Page → Request → Descriptor → ℕ → Type 0
 IsHighestIn m r e p = (q : ℕ) → IsIn e q → IsPermittedStart m r q → q ≤ p
 
--- the entry's first page, a start that ends where an entry ends, or the highest permitted start in the entry
+-- the entry's first page, a start that ends where an entry ends, or the highest permitted start in
+-- the entry
 abbrev pub IsPlace : List Page → Request → Descriptor → ℕ → Type 0
 IsPlace m r e p = (p ≡ e.first) ⊎ EndsEntry m (p + r.pages) ⊎ IsHighestIn m r e p
 
@@ -80,17 +84,19 @@ IsPlace m r e p = (p ≡ e.first) ⊎ EndsEntry m (p + r.pages) ⊎ IsHighestIn 
 abbrev pub BlockEndsLaw : Type 0
 BlockEndsLaw = (m : List Page) (r : Request) (e : Descriptor) (p : ℕ) → IsProperMemory m → IsProperRequest r → Contains (memory_map m) e → IsBestIn m r e p → IsPlace m r e p
 
--- With a granule of 1 it is the entry's first page, or ends where an entry ends, since the first page is permitted where any
--- start in the entry is.
+-- With a granule of 1 it is the entry's first page, or ends where an entry ends, since the first
+-- page is permitted where any start in the entry is.
 abbrev pub FirstOrEndLaw : Type 0
 FirstOrEndLaw = (m : List Page) (r : Request) (e : Descriptor) (p : ℕ) → r.granule ≡ 1 → IsProperMemory m → IsProperRequest r → Contains (memory_map m) e → IsBestIn m r e p → (p ≡ e.first) ⊎ EndsEntry m (p + r.pages)
 
--- The best start in an entry makes the map longer by 2 at most, and with a granule of 1 by 1 at most.
+-- The best start in an entry makes the map longer by 2 at most, and with a granule of 1 by 1 at
+-- most.
 abbrev pub BestPriceLaw : Type 0
 BestPriceLaw = (m : List Page) (r : Request) (e : Descriptor) (p : ℕ) → IsProperMemory m → IsProperRequest r → Contains (memory_map m) e → IsBestIn m r e p →
     (price m r p ≤ length (memory_map m) + 2) × (r.granule ≡ 1 → price m r p ≤ length (memory_map m) + 1)
 
--- A permitted start in an entry is the best there if no permitted start at one of these places is better.
+-- A permitted start in an entry is the best there if no permitted start at one of these places is
+-- better.
 abbrev pub CandidatesLaw : Type 0
 CandidatesLaw = (m : List Page) (r : Request) (e : Descriptor) (p : ℕ) → IsProperMemory m → IsProperRequest r → Contains (memory_map m) e → IsIn e p → IsPermittedStart m r p →
     ((q : ℕ) → IsIn e q → IsPermittedStart m r q → IsPlace m r e q → (price m r p ≤ price m r q) × (price m r q ≡ price m r p → q ≤ p)) → IsBestIn m r e p

@@ -1,4 +1,4 @@
--- Where a request may stand, what the memory is then, and which start is best.
+-- Where a request may be placed, what the memory is then, and which start is best.
 use Rattle.std.specs.Prelude.{◌≡◌, ℕ, ◌+◌, ◌%◌, ◌<◌, ◌≤◌, false, List, length, Option, Some, None}
 use Rattle.page_ranges.specs.declared.ranges.Descriptor.{Descriptor}
 use Rattle.page_ranges.specs.declared.ranges.Owner.{Owner}
@@ -10,8 +10,8 @@ use Rattle.page_ranges.specs.Memory.{Page, IsConventional, AllInRange, retyped}
 use Rattle.page_ranges.specs.MemoryMap.{memory_map, IsIn}
 use Rattle.placement_certificate.specs.declared.certificates.Request.{Request}
 
--- The request is for at least one page, of a type that requests may name. Its granule is one that the type has on some
--- machine, and its pages fill whole granules.
+-- The request is for at least one page, of a type that requests may name. Its granule is one that
+-- the type has on some machine, and its pages fill whole granules.
 pub record IsProperRequest (r : Request) : Type 0 where
   pub some : 0 < r.pages
   pub good : is_bad_type r.mtype ≡ false
@@ -19,7 +19,7 @@ pub record IsProperRequest (r : Request) : Type 0 where
   pub typed : granule_for r.mtype r.granule ≡ r.granule
   pub filled : r.pages % r.granule ≡ 0
 
--- the pages of a request that stands at a start
+-- the pages of a request that is placed at a start
 abbrev pub range_at : Request → ℕ → PageRange
 range_at r p = record { first = p; pages = r.pages }
 
@@ -28,8 +28,9 @@ abbrev pub IsOrdinary : Option Page → Type 0
 IsOrdinary None = ⊥
 IsOrdinary (Some x) = is_specific_purpose x.attributes ≡ false
 
--- A permitted start: it is a multiple of the granule, the pages from there on end by the limit, and all of them are
--- conventional and of no specific purpose. All that is said of permission is said here.
+-- A permitted start: it is a multiple of the granule, the pages from there on end by the limit, and
+-- all of them are conventional and of no specific purpose. All that is said of permission is said
+-- here.
 pub record IsPermittedStart (m : List Page) (r : Request) (p : ℕ) : Type 0 where
   pub whole : p % r.granule ≡ 0
   pub within : p + r.pages ≤ r.limit

@@ -49,7 +49,8 @@ pub record IsStop (m : List Page) (e : Descriptor) (stop : ℕ) : Type 0 where
 abbrev pub multiple_to : ℕ → ℕ → ℕ
 multiple_to number granule = number - number % granule
 
--- a start in the entry is permitted just where it is a multiple of the granule and its pages end by a page number
+-- a start in the entry is permitted just where it is a multiple of the granule and its pages end by
+-- a page number
 abbrev pub PermitsUpTo : List Page → Request → Descriptor → ℕ → Type 0
 PermitsUpTo m r e end = (q : ℕ) → IsIn e q → IsPermittedStart m r q ↔ ((q % r.granule ≡ 0) × (q + r.pages ≤ end))
 
@@ -58,9 +59,9 @@ abbrev pub IsOnPage : Option Descriptor → Option Page → Type 0
 IsOnPage None o = o ≡ None
 IsOnPage (Some e) o = IsLike e o
 
--- What a search knows of the starts in an entry: a conventional one of the map of a proper memory, with how many entries
--- there are, the first multiple of the granule from the entry's first page on, up to where starts are permitted, and what
--- the page below it and one other page are.
+-- What a search knows of the starts in an entry: a conventional one of the map of a proper memory,
+-- with how many entries there are, the first multiple of the granule from the entry's first page
+-- on, up to where starts are permitted, and what the page below it and one other page are.
 pub record AreStartsIn (m : List Page) (s : EntryStarts) : Type 0 where
   pub proper : IsProperMemory m
   pub good : IsProperRequest s.request
@@ -73,7 +74,8 @@ pub record AreStartsIn (m : List Page) (s : EntryStarts) : Type 0 where
 
 -- ---- a list of entries
 
--- the next entry, if there is one, begins where an entry ends or above, and should not be one with it
+-- the next entry, if there is one, begins where an entry ends or above, and should not be one with
+-- it
 abbrev pub MayStandBelow : Descriptor → Option Descriptor → Type 0
 MayStandBelow d None = Unit {0}
 MayStandBelow d (Some e) = (d.first + d.pages ≤ e.first) × (should_be_one d e ≡ false)

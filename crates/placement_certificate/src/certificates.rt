@@ -5,7 +5,7 @@ use std::marker::Model;
 
 /// A request for pages: their type, how many they are, and the page number by which they end. The
 /// `granule`, in pages, is 1 or 16: the first page is a multiple of it, and so is `pages`. It is 16 only on
-/// machines with a granule of 16 pages, for the types that stand in granules there.
+/// machines with a granule of 16 pages, for the types that fill granules there.
 #[derive(Clone, Copy, Debug, PartialEq, Eq)]
 pub struct Request {
     pub mtype: MemoryType,

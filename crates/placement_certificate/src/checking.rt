@@ -18,7 +18,7 @@ use std::alloc::Allocator;
 
 /// Whether a list of entries is a map, a request is for some pages of a type that requests may
 /// name, in whole granules, and a certificate is true for both. The request's granule is 1 or 16, and 16
-/// only with a type that stands in granules. It takes no memory.
+/// only with a type that fills granules. It takes no memory.
 pub fn check<A: Allocator>(
     map: &[Descriptor],
     request: &Request,

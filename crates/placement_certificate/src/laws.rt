@@ -33,12 +33,12 @@ pub fn edges_law()
     ensures { EdgesLaw }
 {}
 
-/// Where a best start stands in its entry.
+/// Where a best start lies in its entry.
 pub fn block_ends_law()
     ensures { BlockEndsLaw }
 {}
 
-/// Where a best start stands in its entry, where the granule is 1.
+/// Where a best start lies in its entry, where the granule is 1.
 pub fn first_or_end_law()
     ensures { FirstOrEndLaw }
 {}

@@ -55,7 +55,7 @@ fn block_below<C: PageCursor>(cursor: &mut C, page: u64) -> Option<Descriptor>
     cursor.block_at(page - 1)
 }
 
-// Whether the pages of a request that stands at a page end by a page number.
+// Whether the pages of a request that is placed at a page end by a page number.
 #[inline(always)]
 fn fits(request: &Request, start: u64, end_by: u64) -> bool
     ensures { IsTrue result ↔ (start + request.now.pages ≤ end_by) }

@@ -22,7 +22,7 @@ use Rattle.pool_services.proofs.PoolBytes.{behind-end, holds-tail, laid-in, laid
 
 -- ---- a new block
 
--- a new block over what stood there, which was no block's
+-- a new block over what was there, which was no block's
 over : (first c size k : ℕ) (rest : Option (List ℕ)) → (address_of first c ≤ k → k ≤ address_of first c + size → rest ≡ None) →
     first_byte (cond (is_within first k (new_block c size)) (Some (drop (k - address_of first c) (replicate size 0))) rest) ≡ laid (address_of first c) (replicate size 0) k (first_byte rest)
 over first c size k rest n =
@@ -193,7 +193,7 @@ took b new_b es new t size answer granule proper owns a (good, s, put) k = by-fi
 
 -- ---- a block given back
 
--- what stands at an address once so many bytes from a start on are taken away
+-- what is at an address once a number of bytes from a start on are taken away
 abbrev cleared : ℕ → ℕ → ℕ → Option ℕ → Option ℕ
 cleared start count k old = cond (is_among start count k) None old
 

@@ -66,7 +66,7 @@ are-without cells from c (b ∷ bs) h = elim (cases_eq b.first c) [
   | inr n ↦ rw (ne_eqb b.first c n) (h.0, h.1, are-without cells (end_of b) c bs h.2)
 ]
 
--- ---- the longest run of free cells tells whether a block fits
+-- ---- the longest run of free cells decides whether a block fits
 
 same : (need a l : ℕ) → a < need → nat_le need l ≡ nat_le need (max a l)
 same need a l h = elim (cases_lt l need) [

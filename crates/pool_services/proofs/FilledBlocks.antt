@@ -59,7 +59,7 @@ live-tail t size es p a new f =
     ap (λ (j : ℕ). tail_at (address_of j p.cell) (with_new_block p size es)) (sym q)
     ∙ tail-of-one (address_of e.first p.cell) (with_new_block p size es) i y (replicate size 0) new u (block-tail (cells_in e.pages) 0 e.first p.cell size e.blocks x.blocks l)
 
--- where a new extent stands
+-- where a new extent lies
 with-at : (e : Extent) (es : List Extent) → (i : ℕ) × IsAt (with_extent e es) i e
 with-at e [] = (0, (omega arith, refl))
 with-at e (x ∷ xs) = elim (cases_lt e.first x.first) [

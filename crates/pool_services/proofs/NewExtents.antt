@@ -95,7 +95,7 @@ is-made b e t size pages placed g s p h n =
     let c = started b t size pages placed p h in
     subst IsExtent (sym n) (is-new-extent IsBestChoice best_is_permitted b t size (placed.address / page_size) placed.certificate g s c.0).0
 
--- the extents, with the new one, stand together
+-- the extents, with the new one, are apart
 pub is-new-extents : {A : Type 0} (b : Book) (es had new : List Extent) (e : Extent) (t size pages : ℕ) (placed : Placed A) → IsGranule b.granule → size ≤ max_size → pages ≡ pages_for size → AreExtents es → OwnsExtents b.memory es → IsProperMemory b.memory →
     IsChosenPlace IsBestChoice b.memory (pool_request b.granule t pages) placed → had ≡ es → e ≡ extent_at b t size placed → new ≡ with_extent e had → AreExtents new
 is-new-extents b es had new e t size pages placed g s p a owns proper h k n w =

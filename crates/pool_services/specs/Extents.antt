@@ -1,4 +1,4 @@
--- The pool: its extents, the blocks in them, and where these stand.
+-- The pool: its extents, the blocks in them, and where these lie.
 use Rattle.std.specs.Prelude.{◌≡◌, ℕ, ◌+◌, ◌-◌, ◌*◌, ◌^◌, ◌/◌, ◌≤◌, ◌<◌, ◌&&◌, ◌==◌, nat_le, Bool, cond, is_some, List, [], ◌∷◌, ◌++◌, length, drop, Option, Some, None}
 use Rattle.std.specs.List.{AllByRecursion}
 use Rattle.page_ranges.specs.declared.ranges.PageRange.{PageRange}
@@ -7,14 +7,14 @@ use Rattle.page_services.specs.PageRules.{whole_pages}
 use Rattle.raw_pool.specs.Bytes.{put}
 use Rattle.raw_pool.specs.Blocks.{Block, cells_for, end_of, lowest_fit, new_block, with_block, without_block}
 
--- an extent: so many pages in a row of one type, and the blocks that stand in its cells
+-- an extent: pages in a row of one type, and the blocks that lie in its cells
 pub record Extent : Type 0 where
   pub first : ℕ
   pub pages : ℕ
   pub mtype : ℕ
   pub blocks : List Block
 
--- where a block stands: the first page of its extent, and its first cell there
+-- where a block lies: the first page of its extent, and its first cell there
 pub record Place : Type 0 where
   pub first : ℕ
   pub cell : ℕ
@@ -35,7 +35,8 @@ pages_for size = (cells_for size + 127) / 128
 abbrev pub max_size : ℕ
 max_size = 0x100000000
 
--- the address of the block at a cell of an extent, given by its first page: 8 bytes of the cell come before the block
+-- the address of the block at a cell of an extent, given by its first page: 8 bytes of the cell
+-- come before the block
 abbrev pub address_of : ℕ → ℕ → ℕ
 address_of first cell = page_size * first + 32 * cell + 8
 
@@ -72,7 +73,8 @@ abbrev pub place_of : ℕ → List Extent → Option Place
 place_of address [] = None
 place_of address (e ∷ es) = or_else (at_cell e.first (cell_of e.first address e.blocks)) (place_of address es)
 
--- whether the empty range at an address belongs to a block: it stands anywhere from the block's address to its end
+-- whether the empty range at an address belongs to a block: it lies anywhere from the block's
+-- address to its end
 abbrev pub is_within : ℕ → ℕ → Block → Bool
 is_within first address b = nat_le (address_of first b.first) address && nat_le address (address_of first b.first + b.size)
 
@@ -104,11 +106,12 @@ begins_at first e = e.first == first
 abbrev pub with_new_block : Place → ℕ → List Extent → List Extent
 with_new_block p size es = replaced (begins_at p.first) (λ e. with_blocks (with_block (new_block p.cell size) e.blocks) e ∷ []) es
 
--- the pages of a new extent of a type for a block of a size, on a machine with a granule: they fill granules of the type
+-- the pages of a new extent of a type for a block of a size, on a machine with a granule: they fill
+-- granules of the type
 abbrev pub extent_pages : ℕ → ℕ → ℕ → ℕ
 extent_pages granule t size = whole_pages granule t (pages_for size)
 
--- an extent of so many pages of a type, which has a new block at its first cell and no other
+-- an extent of a number of pages of a type, which has a new block at its first cell and no other
 abbrev pub extent_with_block : ℕ → ℕ → ℕ → ℕ → Extent
 extent_with_block first pages t size = record { first = first; pages = pages; mtype = t; blocks = new_block 0 size ∷ [] }
 
@@ -144,7 +147,8 @@ ended p (e ∷ es) = cond (begins_at p.first e) (range_if_ended e (without_block
 abbrev pub has_tail : ℕ → Extent → Bool
 has_tail address e = is_some (tail_in e.first address e.blocks)
 
--- the blocks of an extent once bytes are written from an address on, in the block that it belongs to
+-- the blocks of an extent once bytes are written from an address on, in the block that it belongs
+-- to
 abbrev pub written_in : ℕ → ℕ → List ℕ → List Block → List Block
 written_in first address bytes [] = []
 written_in first address bytes (b ∷ bs) =
@@ -154,14 +158,16 @@ written_in first address bytes (b ∷ bs) =
 abbrev pub written : ℕ → List ℕ → List Extent → List Extent
 written address bytes es = replaced (has_tail address) (λ e. with_blocks (written_in e.first address bytes e.blocks) e ∷ []) es
 
--- ---- extents that can stand together
+-- ---- extents that are apart
 
--- blocks in order from a cell on, with all their bytes, none over another, and none past the last cell
+-- blocks in order from a cell on, with all their bytes, none over another, and none past the last
+-- cell
 abbrev pub AreBlocks : ℕ → ℕ → List Block → Type 0
 AreBlocks cells from [] = from ≤ cells
 AreBlocks cells from (b ∷ bs) = (from ≤ b.first) × (length b.bytes ≡ b.size) × AreBlocks cells (end_of b) bs
 
--- An extent has a page at least, and lies below the last page. It has a block, and its blocks stand in its cells.
+-- An extent has a page at least, and lies below the last page. It has a block, and its blocks lie
+-- in its cells.
 pub record IsExtent (e : Extent) : Type 0 where
   pub some : 0 < e.pages
   pub few : e.pages ≤ 2 ^ 21

@@ -20,7 +20,8 @@ PlacedKeepsPoolLaw Chosen A =
     (b : Book) (es : List Extent) (kind t pages memory : ℕ) (result : Result (Placed A) Status) (new : Book) →
     IsProperMemory b.memory → OwnsExtents b.memory es → AllocatesPages Chosen b kind t pages memory result new → OwnsExtents new.memory es
 
--- FreePages leaves the pages of the pool: with those that a call names it frees others, and none of the pool's.
+-- FreePages leaves the pages of the pool: with those that a call names it frees others, and none of
+-- the pool's.
 abbrev pub FreedKeepsPoolLaw : Type 0
 FreedKeepsPoolLaw =
     (b : Book) (es : List Extent) (address pages : ℕ) (result : Result (Unit {0}) Status) (new : Book) →
@@ -45,15 +46,15 @@ first_byte (Some bytes) = first_of bytes
 abbrev pub byte_at : ℕ → List Extent → Option ℕ
 byte_at address es = first_byte (tail_at address es)
 
--- whether an address is one of so many from a start on
+-- whether an address is one of a number from a start on
 abbrev pub is_among : ℕ → ℕ → ℕ → Bool
 is_among start count address = nat_le start address && nat_lt address (start + count)
 
--- what stands at an address once bytes were laid from a start on over what stood there
+-- what is at an address once bytes were laid from a start on over what was there
 abbrev pub laid : ℕ → List ℕ → ℕ → Option ℕ → Option ℕ
 laid start bytes address old = cond (is_among start (length bytes) address) (first_of (drop (address - start) bytes)) old
 
--- A read gives the bytes that stand at its addresses.
+-- A read gives the bytes at its addresses.
 abbrev pub ReadBytesLaw : Type 0
 ReadBytesLaw =
     (es : List Extent) (address : ℕ) (old new : List ℕ) (done : Unit {0}) → AreExtents es → ReadsPool es address old (Ok done) new →
@@ -65,13 +66,14 @@ WrittenBytesLaw =
     (es new : List Extent) (address : ℕ) (bytes : List ℕ) (done : Unit {0}) → AreExtents es → WritesPool es address bytes (Ok done) new →
     (k : ℕ) → byte_at k new ≡ laid address bytes k (byte_at k es)
 
--- A new block's bytes are 0 and stood in no block before; AllocatePool changes no other byte.
+-- A new block's bytes are 0 and lay in no block before; AllocatePool changes no other byte.
 abbrev pub AllocatedBytesLaw : Choice → Type 0
 AllocatedBytesLaw Chosen =
     (b new_b : Book) (es new : List Extent) (t size : ℕ) (answer : Answer) → IsGranule b.granule → IsProperMemory b.memory → OwnsExtents b.memory es → AreExtents es → AllocatesPool Chosen b es t size (Ok answer) new_b new →
     (k : ℕ) → (byte_at k new ≡ laid answer.0 (replicate size 0) k (byte_at k es)) × (is_among answer.0 size k ≡ true → byte_at k es ≡ None)
 
--- A block that is filled has the bytes that it was filled with, which stood in no block before; no other byte changes.
+-- A block that is filled has the bytes that it was filled with, which lay in no block before; no
+-- other byte changes.
 abbrev pub FilledBytesLaw : Choice → Type 0
 FilledBytesLaw Chosen =
     (b new_b : Book) (es new : List Extent) (t : ℕ) (bytes : List ℕ) (answer : Answer) → IsGranule b.granule → IsProperMemory b.memory → OwnsExtents b.memory es → AreExtents es → FillsPool Chosen b es t bytes (Ok answer) new_b new →

@@ -1,14 +1,16 @@
--- What is kept of the extents beside them, so that room, or the extent of an address, is found soon.
+-- What is kept of the extents beside them, so that room, or the extent of an address, is found
+-- soon.
 use Rattle.std.specs.Prelude.{◌≡◌, ℕ, ◌+◌, ◌-◌, ◌*◌, ◌/◌, ◌%◌, ◌≤◌, ◌<◌, ◌==◌, ◌&&◌, nat_le, slice_index, slice_index_or, Bool, true, false, List, length, Option, Some, None}
 use Rattle.raw_pool.specs.Blocks.{longest_run}
 use Rattle.pool_services.specs.declared.rooms.Room.{Room}
 use Rattle.pool_services.specs.Extents.{Extent, cells_in}
 
--- what is kept of an extent: its first page, its type, and how many cells its longest run of free cells has
+-- what is kept of an extent: its first page, its type, and how many cells its longest run of free
+-- cells has
 abbrev pub room_of : Extent → Room
 room_of e = record { first = e.first; mtype = e.mtype; longest = longest_run (cells_in e.pages) 0 e.blocks }
 
--- whether a room is of a type and has so many cells
+-- whether a room is of a type and has a number of cells
 abbrev pub serves : ℕ → ℕ → Room → Bool
 serves t cells r = (r.mtype == t) && nat_le cells r.longest
 
@@ -16,7 +18,7 @@ serves t cells r = (r.mtype == t) && nat_le cells r.longest
 abbrev pub IsRoomAt : List Room → ℕ → Room → Type 0
 IsRoomAt rs i r = (i < length rs) × (r ≡ slice_index_or rs i r)
 
--- so many rooms in a row share bounds
+-- how many rooms in a row share bounds
 abbrev pub stretch : ℕ
 stretch = 128
 
@@ -44,7 +46,7 @@ AreBoundedBut from rs bounds = (i : ℕ) (r : Room) → IsRoomAt rs i r → (fro
 abbrev pub KeepsBounds : List ℕ → List ℕ → Type 0
 KeepsBounds old new = (k : ℕ) → slice_index old k ≤ slice_index new k
 
--- there are bounds for so many rooms
+-- there are bounds for a number of rooms
 abbrev pub Covers : ℕ → ℕ → Type 0
 Covers bounds rooms = 16 * ((rooms + (stretch - 1)) / stretch) ≤ bounds
 

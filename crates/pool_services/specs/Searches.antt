@@ -34,7 +34,7 @@ IsLocated e address None = tail_in e.first address e.blocks ≡ None
 IsLocated e address (Some (cell, at)) =
     (is_some (block_at cell e.blocks) ≡ true) × (address ≡ address_of e.first cell + at) × (tail_in e.first address e.blocks ≡ tail_from at (block_at cell e.blocks))
 
--- there are bytes, so many at least
+-- there are bytes, at least a number of them
 abbrev pub HasRoom : ℕ → Option (List ℕ) → Type 0
 HasRoom count None = ⊥
 HasRoom count (Some bytes) = count ≤ length bytes
@@ -57,26 +57,28 @@ abbrev pub place : {X : Type 0} → (X → Bool) → List X → ℕ
 place p [] = 0
 place p (x ∷ xs) = cond (p x) (suc (place p xs)) 0
 
--- how many extents in order begin at or below a page, told of their rooms
+-- how many extents in order begin at or below a page, by their rooms
 abbrev pub IsCountUpTo : ℕ → List Room → ℕ → Type 0
 IsCountUpTo page rs n = (es : List Extent) → AreExtents es → rs ≡ map room_of es → n ≡ place (λ e. nat_le e.first page) es
 
--- whether an extent is of a type and has so many free cells in a row
+-- whether an extent is of a type and has a number of free cells in a row
 abbrev pub has_run : ℕ → ℕ → Extent → Bool
 has_run t cells e = (e.mtype == t) && nat_le cells (longest_run (cells_in e.pages) 0 e.blocks)
 
--- the first extent of a type that has so many free cells in a row, by its index
+-- the first extent of a type that has a number of free cells in a row, by its index
 abbrev pub IsFirstWithRoom : ℕ → ℕ → List Extent → Option ℕ → Type 0
 IsFirstWithRoom t cells es None = AllByRecursion (λ e. has_run t cells e ≡ false) es
 IsFirstWithRoom t cells es (Some i) = (e : Extent) × IsAt es i e × (has_run t cells e ≡ true) × AllByRecursion (λ e. has_run t cells e ≡ false) (take i es)
 
--- a block was taken in the extent at an index, if it has room: its address, and the extents after it
+-- a block was taken in the extent at an index, if it has room: its address, and the extents after
+-- it
 abbrev pub IsTakenIn : ℕ → ℕ → List Extent → Option ℕ → List Extent → Type 0
 IsTakenIn i size es None new = (new ≡ es) × ((e : Extent) → IsAt es i e → fit_in size e ≡ None)
 IsTakenIn i size es (Some address) new =
     (e : Extent) × (p : Place) × IsAt es i e × (fit_in size e ≡ Some p) × (address ≡ address_of p.first p.cell) × (new ≡ with_new_block p size es)
 
--- a block was taken in a live extent, if one of its type has room: its address, and the extents after it
+-- a block was taken in a live extent, if one of its type has room: its address, and the extents
+-- after it
 abbrev pub IsTakenLive : ℕ → ℕ → List Extent → Option ℕ → List Extent → Type 0
 IsTakenLive t size es None new = (new ≡ es) × (first_fit t size es ≡ None)
 IsTakenLive t size es (Some address) new = (p : Place) × (first_fit t size es ≡ Some p) × (address ≡ address_of p.first p.cell) × (new ≡ with_new_block p size es)

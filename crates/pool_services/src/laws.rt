@@ -25,7 +25,7 @@ pub fn written_keeps_pool_law()
     ensures { WrittenKeepsPoolLaw }
 {}
 
-/// A read gives the bytes that stand at its addresses.
+/// A read gives the bytes at its addresses.
 pub fn read_bytes_law()
     ensures { ReadBytesLaw }
 {}
@@ -35,12 +35,12 @@ pub fn written_bytes_law()
     ensures { WrittenBytesLaw }
 {}
 
-/// A new block's bytes are 0 and stood in no block before; AllocatePool changes no other byte.
+/// A new block's bytes are 0 and lay in no block before; AllocatePool changes no other byte.
 pub fn allocated_bytes_law()
     ensures { AllocatedBytesLaw IsBestChoice }
 {}
 
-/// A block that is filled has the bytes that it was filled with, which stood in no block before; no
+/// A block that is filled has the bytes that it was filled with, which lay in no block before; no
 /// other byte changes.
 pub fn filled_bytes_law()
     ensures { FilledBytesLaw IsBestChoice }

@@ -16,12 +16,12 @@ use raw_pool::RawPool;
 use std::alloc::{Allocator, Global};
 use std::marker::Model;
 
-/// A block may have so many bytes.
+/// Whether a block may have a number of bytes.
 const MAX_SIZE: u64 = 0x1_0000_0000;
 
 /// The request on a machine with a granule for the pages of a new extent of the type `mtype` for a block
-/// of so many bytes. `None` where no block may have so many, and where the pages that fill granules
-/// are more than a number of 64 bits tells, which those of a granule of 1 or 16 pages never are.
+/// of a number of bytes. `None` where no block may have that many, and where the pages that fill granules
+/// are more than a number of 64 bits holds, which those of a granule of 1 or 16 pages never are.
 pub fn extent_request(granule: u64, mtype: MemoryType, size: u64) -> Option<Request>
     ensures { result ≡ option_and_then if_counted (extent_request granule mtype size) }
 {
@@ -67,7 +67,7 @@ impl<A: Allocator + Copy> Pools<A> {
         }
     }
 
-    /// AllocatePool: a block of so many bytes, all 0, of the type `mtype`. Of the extents of the type it
+    /// AllocatePool: a block of a number of bytes, all 0, of the type `mtype`. Of the extents of the type it
     /// goes into the lowest that has room, at the lowest place there. If none has, new pages are
     /// placed for it, which fill granules of the type on the book's machine, and the answer has the
     /// certificate of their place beside the block's address.
@@ -97,7 +97,7 @@ impl<A: Allocator + Copy> Pools<A> {
     }
 
     /// AllocatePool for a block as long as some bytes, which it then holds. It goes where `allocate`
-    /// puts a block of so many bytes, and the answer has the same parts.
+    /// puts a block of a number of bytes, and the answer has the same parts.
     ///
     /// INVALID_PARAMETER, OUT_OF_RESOURCES: as `allocate` answers. On an `Err` all is as it was.
     pub fn allocate_filled(
@@ -111,7 +111,7 @@ impl<A: Allocator + Copy> Pools<A> {
         ensures fills { FillsPool IsBestChoice book.old self.old mtype bytes.now result book.new self.new }
         ensures owns { OwnsExtents book.new.memory self.new }
     {
-        // That the extents stand together is known where a field is named.
+        // That the extents are apart is known where a field is named.
         let _ = &self.extents;
         let answer = self.allocate(book, mtype, bytes.len() as u64)?;
         let _ = &self.extents;

@@ -37,7 +37,7 @@ fn slot(at: usize, class: usize) -> usize
     CLASSES * (at / STRETCH) + class
 }
 
-/// Whether a room is of a type and has so many cells.
+/// Whether a room is of a type and has a number of cells.
 fn serves(room: Room, mtype: MemoryType, cells: usize) -> bool
     ensures { result ≡ serves mtype cells room }
 {
@@ -118,7 +118,7 @@ fn first_in_stretch<A: Allocator>(
     None
 }
 
-/// The first room of a type that has so many cells. Bounds that led to a search in vain become as low
+/// The first room of a type that has a number of cells. Bounds that led to a search in vain become as low
 /// as they can be.
 fn first_room<A: Allocator>(
     rooms: &[Room],
@@ -172,7 +172,7 @@ fn raise_each<A: Allocator>(rooms: &[Room], bounds: &mut Vec<u32, A>, from: usiz
     }
 }
 
-/// Makes bounds at least so many.
+/// Raises bounds to a number at least.
 fn extend_bounds<A: Allocator>(bounds: &mut Vec<u32, A>, count: usize) -> Result<(), AllocError>
     ensures kept { KeepsBounds bounds.old.items bounds.new.items }
     ensures more { vec_len bounds.old ≤ vec_len bounds.new }
@@ -205,7 +205,7 @@ impl<A: Allocator + Copy> Rooms<A> {
         }
     }
 
-    /// The first room of a type that has so many cells.
+    /// The first room of a type that has a number of cells.
     pub(crate) fn first(&mut self, mtype: MemoryType, cells: usize) -> Option<usize>
         ensures first { IsFirstServing mtype cells self.old.rooms.items 0 (length self.old.rooms.items) result }
         ensures rooms { self.new.rooms ≡ self.old.rooms }

@@ -1,4 +1,5 @@
--- What the program does with its arguments: the files that it opens, what it writes, and the status that it ends with.
+-- What the program does with its arguments: the files that it opens, what it writes, and the status
+-- that it ends with.
 use Rattle.std.specs.Prelude.{◌≡◌, ◌≢◌, ◌⊎◌, ℕ, Bool, true, false, List, [], ◌∷◌, ◌++◌, Option, Some, IfSome, Result, Ok, Err, MatchResult}
 use Rattle.std.specs.declared.io.ErrorKind.{ErrorKind}
 use Rattle.std.specs.declared.io.ErrorKind.TheVariants.{OutOfMemory}
@@ -38,16 +39,16 @@ is_ok (Err e) = false
 
 -- ---- commands
 
--- How a run of the files at two paths ends. The machine file is opened first, and then the trace; a file that cannot
--- be opened is the fault of reading it, and then nothing is written.
+-- How a run of the files at two paths ends. The machine file is opened first, and then the trace; a
+-- file that cannot be opened is the fault of reading it, and then nothing is written.
 abbrev pub RunsPaths : Files → Bool → List ℕ → List ℕ → List Opening → Option (List ℕ) → Option (List ℕ) → Result (Unit {0}) Fault → Type 0
 RunsPaths files certify machine trace openings before after end =
     ((openings ≡ opening machine false) × (end ≡ Err fault.CannotReadMachine) × (after ≡ before))
     ⊎ (((openings ≡ opening machine true ++ opening trace false) × (end ≡ Err fault.CannotReadTrace) × (after ≡ before))
     ⊎ ((openings ≡ opening machine true ++ opening trace true) × IfSome (files machine) (λ file. RunsFiles certify file (files trace) before after end)))
 
--- What a command does: the files that it opens, what it writes, and its status. `check` opens none and judges the
--- input; a request for the version opens none.
+-- What a command does: the files that it opens, what it writes, and its status. `check` opens none
+-- and judges the input; a request for the version opens none.
 abbrev pub Does : Files → Option (List ℕ) → Command → List Opening → Option (List ℕ) → Option (List ℕ) → ℕ → Type 0
 Does files input (command.Run machine trace certify) openings before after status = (end : Result (Unit {0}) Fault) × (status ≡ status_of end) × RunsPaths files certify machine.now trace.now openings before after end
 Does files input command.Check openings before after status = (openings ≡ []) × ((end : Result Bool BlockFault) × (status ≡ check_status end) × Writes before after end × IfSome input (λ bytes. Judges true bytes before after end))
@@ -60,14 +61,15 @@ abbrev pub refusal_status : CommandFault → ℕ
 refusal_status (command_fault.Usage text) = usage_status
 refusal_status command_fault.OutOfMemory = 1
 
--- What the program does for the words of its command line: what their command does. For other words it opens no file
--- and writes no reply.
+-- What the program does for the words of its command line: what their command does. For other words
+-- it opens no file and writes no reply.
 abbrev pub DoesAsAsked : List (List ℕ) → Files → Option (List ℕ) → List Opening → Option (List ℕ) → Option (List ℕ) → ℕ → Type 0
 DoesAsAsked words files input openings before after status =
     (read : Result Command CommandFault) × MatchResult read
     (λ command. IsCommandOf words command × Does files input command openings before after status)
     (λ fault. IsRefusedBy words fault × (openings ≡ []) × (after ≡ before) × (status ≡ refusal_status fault))
 
--- The status where the arguments could not be read: 1 where memory ran out, else 2, since one of them is not UTF-8.
+-- The status where the arguments could not be read: 1 where memory ran out, else 2, since one of
+-- them is not UTF-8.
 abbrev pub IsLostStatus : ErrorKind → ℕ → Type 0
 IsLostStatus kind status = ((kind ≡ OutOfMemory) × (status ≡ fault_status)) ⊎ ((kind ≢ OutOfMemory) × (status ≡ usage_status))

@@ -16,13 +16,15 @@ use Rattle.program_runs.specs.declared.serve.Fault.TheVariants as fault
 abbrev pub IsRead : List ℕ → List ℕ → Type 0
 IsRead file bytes = (rest : List ℕ) × (file ≡ bytes ++ rest) × ((rest ≡ []) ⊎ (longest_file < length bytes))
 
--- the file is a machine's, and the run of a trace of known bytes on that machine, with its drivers, ends so
+-- the file is a machine's, and the run of a trace of known bytes on that machine, with its drivers,
+-- ends so
 abbrev pub RunsTrace : Bool → List ℕ → Option (List ℕ) → Option (List ℕ) → Option (List ℕ) → Result (Unit {0}) RunFault → Type 0
 RunsTrace certify file trace before after end =
     (machine : ListedMachine) × (machine_of file ≡ Ok machine) × IfSome trace (λ bytes. (new : State) × Ends Global (map listed_meaning machine.drivers) certify bytes (first_state machine.machine) new before after end)
 
--- How the program ends on a machine file and a trace, and what it wrote. It runs the trace on the machine; where there
--- is a fault before that, nothing is written. No such run ends on a trace that was not opened, or on a block.
+-- How the program ends on a machine file and a trace, and what it wrote. It runs the trace on the
+-- machine; where there is a fault before that, nothing is written. No such run ends on a trace that
+-- was not opened, or on a block.
 abbrev pub RunsFiles : Bool → List ℕ → Option (List ℕ) → Option (List ℕ) → Option (List ℕ) → Result (Unit {0}) Fault → Type 0
 RunsFiles certify file trace before after (Ok done) = RunsTrace certify file trace before after (Ok done)
 RunsFiles certify file trace before after (Err (fault.Run e)) = RunsTrace certify file trace before after (Err e)

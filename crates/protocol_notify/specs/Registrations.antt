@@ -28,8 +28,8 @@ abbrev pub with_registration : HandleTable → List ℕ → ℕ → List Registr
 with_registration t guid event rs =
     rs ++ record { key = length rs + 1; guid = guid; event = event; mark = t.last_stamp } ∷ []
 
--- the handle and the stamp of the interface that is next for a registration: of those of its GUID the one with the least stamp
--- above its mark
+-- the handle and the stamp of the interface that is next for a registration: of those of its GUID
+-- the one with the least stamp above its mark
 abbrev pub next_of : HandleTable → Registration → Option (ℕ × ℕ)
 next_of t r = next_after t r.guid r.mark
 

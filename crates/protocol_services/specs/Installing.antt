@@ -8,12 +8,14 @@ use Rattle.protocol_notify.specs.Registrations.{events_for, with_registration}
 use Rattle.boot_calls.specs.declared.replies.Installed.{Installed}
 use Rattle.protocol_services.specs.Lists.{Lists, OnHandles}
 
--- the events of pairs of GUID and value that are installed: for each in turn, those of the registrations for its GUID
+-- the events of pairs of GUID and value that are installed: for each in turn, those of the
+-- registrations for its GUID
 abbrev pub signaled : List Registration → List (List ℕ × ℕ) → List ℕ
 signaled rs pairs = flat_map (λ p. events_for rs p.0) pairs
 
--- What an installation returns, given its refusal, and the lists after it: the handle with its interfaces and the events, or a
--- refusal that leaves the lists. Where nothing is refused, OUT_OF_RESOURCES means out of memory.
+-- What an installation returns, given its refusal, and the lists after it: the handle with its
+-- interfaces and the events, or a refusal that leaves the lists. Where nothing is refused,
+-- OUT_OF_RESOURCES means out of memory.
 abbrev pub InstallsPairs : {A : Type 0} → Lists → ℕ → List (List ℕ × ℕ) → Option Status
     → Result (Installed A) Status → Lists → Type 0
 InstallsPairs l handle pairs refusal (Ok done) new =
@@ -27,8 +29,8 @@ abbrev pub or_out_of_memory : Option Status → Status
 or_out_of_memory None = OutOfResources
 or_out_of_memory (Some status) = status
 
--- A refusal of InstallMultipleProtocolInterfaces, where the path of one of the pairs is installed already or not: that is returned
--- after what is wrong with the call, and before a limit.
+-- A refusal of InstallMultipleProtocolInterfaces, where the path of one of the pairs is installed
+-- already or not: that is returned after what is wrong with the call, and before a limit.
 abbrev pub unless_path : Bool → Option Status → Option Status
 unless_path false refusal = refusal
 unless_path true (Some InvalidParameter) = Some InvalidParameter
@@ -39,7 +41,8 @@ abbrev pub many_refusal : Lists → ℕ → List (List ℕ × ℕ) → Bool → 
 many_refusal l handle pairs has_path =
     unless_path has_path (install_many_refusal l.handles handle pairs)
 
--- What RegisterProtocolNotify returns, and the lists after it: a key, or OUT_OF_RESOURCES where memory runs out.
+-- What RegisterProtocolNotify returns, and the lists after it: a key, or OUT_OF_RESOURCES where
+-- memory runs out.
 abbrev pub Registers : Lists → List ℕ → ℕ → Result ℕ Status → Lists → Type 0
 Registers l guid event (Ok key) new =
     (key ≡ length l.registrations + 1)

@@ -7,7 +7,8 @@ use Rattle.open_agents.specs.declared.items.OpenItem.{OpenItem}
 abbrev pub handle_bytes : List ℕ → List ℕ
 handle_bytes handles = flat_map (little_bytes 8) handles
 
--- the entry of an open item, of 24 bytes: agent, controller, attributes, open count (EFI_OPEN_PROTOCOL_INFORMATION_ENTRY)
+-- the entry of an open item, of 24 bytes: agent, controller, attributes, open count
+-- (EFI_OPEN_PROTOCOL_INFORMATION_ENTRY)
 abbrev pub entry_of : OpenItem → List ℕ
 entry_of i =
     little_bytes 8 i.agent ++ little_bytes 8 i.controller ++ little_bytes 4 i.attributes

@@ -36,7 +36,8 @@ pub record HasRoom (l : Lists) : Type 0 where
 abbrev pub most_given : ℕ
 most_given = 0x10000
 
--- The most numbers and stamps that a call gives; it gives one key at most, and raises each item's count by 1 at most.
+-- The most numbers and stamps that a call gives; it gives one key at most, and raises each item's
+-- count by 1 at most.
 pub record IsRaised (old new : Lists) : Type 0 where
   pub numbers : new.handles.last_number ≤ old.handles.last_number + most_given
   pub stamps : new.handles.last_stamp ≤ old.handles.last_stamp + most_given

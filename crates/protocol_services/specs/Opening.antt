@@ -32,8 +32,9 @@ abbrev pub once_opened : Lists → ℕ → List ℕ → ℕ → ℕ → ℕ → 
 once_opened l handle guid agent controller attributes =
     record l { opens = with_item handle guid agent controller attributes l.opens }
 
--- What OpenProtocol returns where so much was decided, and the lists after it. An exclusive open stops the driver that has the interface
--- open, or is refused with ACCESS_DENIED. Memory may run out there, and for a new item; agent 0 has none.
+-- What OpenProtocol returns where so much was decided, and the lists after it. An exclusive open
+-- stops the driver that has the interface open, or is refused with ACCESS_DENIED. Memory may run
+-- out there, and for a new item; agent 0 has none.
 abbrev pub OpensAs : List Meaning → Decision → Lists → ℕ → List ℕ → ℕ → ℕ → ℕ
     → Result (Option ℕ) Status → Lists → Type 0
 OpensAs ds (Refuse status) l handle guid agent controller attributes (Ok value) new = ⊥
@@ -65,8 +66,8 @@ OpensProtocol ds l handle guid agent controller attributes result new =
     OpensAs ds
     (open_rule l.handles l.opens handle guid agent controller attributes) l handle guid agent controller attributes result new
 
--- What HandleProtocol returns, and the lists after it: those of OpenProtocol by no agent and no controller. Such an open stops no driver,
--- so none is asked.
+-- What HandleProtocol returns, and the lists after it: those of OpenProtocol by no agent and no
+-- controller. Such an open stops no driver, so none is asked.
 abbrev pub HandlesProtocol : Lists → ℕ → List ℕ → Result ℕ Status → Lists → Type 0
 HandlesProtocol l handle guid (Ok value) new =
     OpensProtocol [] l handle guid 0 0 by_handle_protocol (Ok (Some value)) new
@@ -84,7 +85,8 @@ abbrev pub has_open : Lists → ℕ → List ℕ → ℕ → ℕ → Bool
 has_open l handle guid agent controller =
     carries l.handles guid handle && list_any (is_closed_by handle guid agent controller) l.opens
 
--- What CloseProtocol returns, and the lists after it: all items of the agent and the controller are gone, or a refusal leaves the lists.
+-- What CloseProtocol returns, and the lists after it: all items of the agent and the controller are
+-- gone, or a refusal leaves the lists.
 abbrev pub Closes : Lists → ℕ → List ℕ → ℕ → ℕ → Result (Unit {0}) Status → Lists → Type 0
 Closes l handle guid agent controller (Ok done) new =
     (names_none l handle agent controller ≡ false)
@@ -97,7 +99,8 @@ Closes l handle guid agent controller (Err NotFound) new =
     × (has_open l handle guid agent controller ≡ false) × (new ≡ l)
 Closes l handle guid agent controller (Err status) new = ⊥
 
--- what OpenProtocolInformation lists of the open items of an interface, in the order in which they were made
+-- what OpenProtocolInformation lists of the open items of an interface, in the order in which they
+-- were made
 abbrev pub TellsItems : {A : Type 0} → Lists → ℕ → List ℕ → Result (Vec OpenItem A) Status → Type 0
 TellsItems l handle guid (Ok items) =
     (carries l.handles guid handle ≡ true) × (items.items ≡ items_on l.opens handle guid)

@@ -27,8 +27,8 @@ holds o = is_for_driver o.attributes || is_exclusive o.attributes
 abbrev pub HoldApart : OpenRecord → OpenRecord → Type 0
 HoldApart o p = holds p ≡ true → (is_open_on p.handle p.guid o && holds o) ≡ false
 
--- The handle table is proper, with no GUID twice on a handle; each open item names live handles; and each interface is held by one
--- item at most.
+-- The handle table is proper, with no GUID twice on a handle; each open item names live handles;
+-- and each interface is held by one item at most.
 pub record AreProperLists (l : Lists) : Type 0 where
   pub table : IsHandleTable l.handles
   pub guids : Ascending AreApart l.handles.interfaces

@@ -38,7 +38,8 @@ drivers_on opens handle guid =
 abbrev pub once_freed : ℕ → List ℕ → Lists → Lists
 once_freed handle guid l = once_stopped (drivers_on l.opens handle guid) l
 
--- An interface can be freed: the drivers that have it open can be stopped, and once they are, no item keeps it.
+-- An interface can be freed: the drivers that have it open can be stopped, and once they are, no
+-- item keeps it.
 abbrev pub can_be_freed : List Meaning → Lists → ℕ → List ℕ → Bool
 can_be_freed ds l handle guid =
     can_stop ds l (drivers_on l.opens handle guid) handle None
@@ -52,8 +53,9 @@ without_opens_on handle guid l = record l { opens = without_items (is_open_on ha
 abbrev pub freed : ℕ → List ℕ → Lists → Lists
 freed handle guid l = without_opens_on handle guid (once_freed handle guid l)
 
--- What a service returns that frees an interface and then does what it is for: a refusal, ACCESS_DENIED where the interface can't be
--- freed, or what it returns. Where the call is valid, OUT_OF_RESOURCES means out of memory.
+-- What a service returns that frees an interface and then does what it is for: a refusal,
+-- ACCESS_DENIED where the interface can't be freed, or what it returns. Where the call is valid,
+-- OUT_OF_RESOURCES means out of memory.
 abbrev pub Frees : {R : Type 0} → Option Status → Bool → (R → Type 0) → Result R Status → Lists
     → Lists → Type 0
 Frees (Some refusal) can Does (Ok told) l new = ⊥

@@ -50,7 +50,8 @@ once_found search key l = cond (search == by_register_notify) (once_taken key l)
 abbrev pub handles_size : List ℕ → ℕ
 handles_size handles = 8 * length handles
 
--- What a search returns of its handles, for a buffer of a size in bytes: status, size in bytes, handles.
+-- What a search returns of its handles, for a buffer of a size in bytes: status, size in bytes,
+-- handles.
 abbrev pub TellsHandles : Option (List ℕ) → ℕ → Status → ℕ → List ℕ → Type 0
 TellsHandles found room Success size handles =
     (found ≡ Some handles) × (0 < length handles) × (size ≡ handles_size handles) × (size ≤ room)
@@ -94,12 +95,14 @@ next_of_guid l guid key =
     (λ r. cond (is_for guid r) (Some (next_handle l.handles l.registrations key)) None)
     (registration_of l.registrations key)
 
--- the handle that LocateProtocol is for: without a key, which is 0, the lowest that carries the GUID, else the next for the key
+-- the handle that LocateProtocol is for: without a key, which is 0, the lowest that carries the
+-- GUID, else the next for the key
 abbrev pub located_handle : Lists → List ℕ → ℕ → Option (Option ℕ)
 located_handle l guid key =
     cond (key == 0) (Some (first_handle (holders_of l.handles guid))) (next_of_guid l guid key)
 
--- What LocateProtocol returns, and the lists after it: the value of the interface, or a refusal that leaves the lists.
+-- What LocateProtocol returns, and the lists after it: the value of the interface, or a refusal
+-- that leaves the lists.
 abbrev pub LocatesProtocol : Lists → List ℕ → ℕ → Result ℕ Status → Lists → Type 0
 LocatesProtocol l guid key (Ok value) new =
     (n : ℕ) × (located_handle l guid key ≡ Some (Some n)) × (value_at l.handles n guid ≡ Some value)

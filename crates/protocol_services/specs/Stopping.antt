@@ -4,7 +4,8 @@ use Rattle.driver_connect.specs.Drivers.{Meaning}
 use Rattle.driver_connect.specs.Stopping.{can_be_stopped, made_by, stop_set, without_handles, without_opens}
 use Rattle.protocol_services.specs.Lists.{Lists}
 
--- whether the stop set of some pairs can be stopped, for a call on a handle, and of OpenProtocol also with its agent and controller
+-- whether the stop set of some pairs can be stopped, for a call on a handle, and of OpenProtocol
+-- also with its agent and controller
 abbrev pub can_stop : List Meaning → Lists → List (ℕ × ℕ) → ℕ → Option (ℕ × ℕ) → Bool
 can_stop ds l pairs handle opener =
     can_be_stopped ds l.handles l.opens (stop_set l.handles l.opens pairs) handle opener

@@ -26,7 +26,8 @@ abbrev pub block_at : ℕ → List Block → Option Block
 block_at cell [] = None
 block_at cell (b ∷ bs) = cond (b.first == cell) (Some b) (block_at cell bs)
 
--- the first of the given number of free cells in a row, the lowest from a cell on, where the blocks from there on are given
+-- the first of the given number of free cells in a row, the lowest from a cell on, where the blocks
+-- from there on are given
 abbrev pub lowest_fit : ℕ → ℕ → ℕ → List Block → Option ℕ
 lowest_fit cells need from [] = cond (nat_le (from + need) cells) (Some from) None
 lowest_fit cells need from (b ∷ bs) =
@@ -70,7 +71,8 @@ abbrev pub written : Bool → ℕ → ℕ → List ℕ → Pool → Pool
 written done cell at bytes p =
     cond done (record { cells = p.cells; blocks = with_bytes cell at bytes p.blocks }) p
 
--- how many cells the longest run of free cells has, of those from a cell on, where the blocks from there on are given
+-- how many cells the longest run of free cells has, of those from a cell on, where the blocks from
+-- there on are given
 abbrev pub longest_run : ℕ → ℕ → List Block → ℕ
 longest_run cells from [] = cells - from
 longest_run cells from (b ∷ bs) = max (b.first - from) (longest_run cells (end_of b) bs)

@@ -30,7 +30,8 @@ pub record IsStore (bytes marks : Bytes) (cells head : ℕ) : Type 0 where
   pub some : 0 < cells
   pub few : cells ≤ 2 ^ 28
 
--- The given number of cells were taken off the front of a free run, and are 0 now; what the list goes on with is the rest of the run, or the next run.
+-- The given number of cells were taken off the front of a free run, and are 0 now; what the list
+-- goes on with is the rest of the run, or the next run.
 pub record IsCut (old new : List ℕ) (cells head at need rest : ℕ) : Type 0 where
   pub longer : length old ≤ length new
   pub parts : (off n : ℕ) → (off + n ≤ 32 * at) ⊎ (32 * (at + word old (32 * at)) ≤ off)

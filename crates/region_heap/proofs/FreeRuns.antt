@@ -49,7 +49,7 @@ ends_none marks free units few ends k are =
     (λ lt. let old = ends k (units + 1) lt are in omega arith)
     (λ ge. let inside = free_ends marks k units are in omega arith)
 
--- the units before one were passed: of them so many right before it are free, and no run that begins earlier serves
+-- the units before one were passed: of them a number right before it are free, and no run that begins earlier serves
 abbrev pub Passed : List ℕ → ℕ → ℕ → ℕ → Type 0
 Passed marks at free units = (free ≤ units) × (free ≤ at) × AreFree marks (at - free) free × Ends marks at free units
 

@@ -65,7 +65,7 @@ module _ {M : Type 1} {𝓤 : Ura M} (𝓛 : Logic 𝓤) (b : ℕ) where
       qed 𝓛 (‵ (free_from b o (0 ∷ replicate (suc n) 0)) ∷ []) ∵ fsplit ! $ move ! (1 ∷ []) $ use1 𝓛 (raw (bytes (o + 16) (16 * suc n))) (run_out (o + 16) n) $ move ! (1 ∷ 0 ∷ []) $
       use2 𝓛 (raw (bytes o (16 + 16 * suc n))) (glues 𝓛 b o 16 (16 * suc n) refl) $ by ! (resized 𝓛 b o (16 + 16 * suc n) (16 * suc (suc n)) (omega arith))
 
-  -- memory is so many units that are free
+  -- memory is a number of units that are free
   pub run_in : (o n : ℕ) → bytes o (16 * n) ⊢ free o (replicate n 0)
   run_in o zero = qed 𝓛 (raw (bytes o (16 * 0)) ∷ []) ∵ lose ! $ nothing ! $ done !
   run_in o (suc n) =

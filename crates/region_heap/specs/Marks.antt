@@ -2,10 +2,10 @@
 use Rattle.std.specs.Prelude.{◌≡◌, ℕ, ◌+◌, ◌<◌, List, replicate, slice_index_or}
 use Rattle.raw_pool.specs.Bytes.{put}
 
--- so many units from one on are free; there is no mark 0 behind the last
+-- a number of units from one on are free; there is no mark 0 behind the last
 abbrev pub AreFree : List ℕ → ℕ → ℕ → Type 0
 AreFree marks at count = (i : ℕ) → i < count → slice_index_or marks (at + i) 1 ≡ 0
 
--- the marks once so many units from one on have a mark
+-- the marks once a number of units from one on have a mark
 abbrev pub marked : List ℕ → ℕ → ℕ → ℕ → List ℕ
 marked marks at count mark = put marks at (replicate count mark)

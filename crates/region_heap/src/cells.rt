@@ -23,7 +23,7 @@ impl Cells {
         Cells { free, marks }
     }
 
-    /// Takes units in a row that are free, so many for a block and one behind them.
+    /// Takes units in a row that are free, a number for a block and one behind them.
     pub(crate) fn take(self, units: usize) -> (Cells, Option<Block>)
         ensures place { result.0.free.place ≡ self.free.place }
         ensures block { MatchOption result.1 ((at : ℕ) → ¬ AreFree self.marks.set at (units + 1)) (λ b. AreFree self.marks.set b.at (units + 1) × (b.units ≡ units) × (b.place ≡ self.free.place) × (result.0.marks.set ≡ marked self.marks.set b.at (units + 1) 1)) }
@@ -60,7 +60,7 @@ impl Drop for Cells {
     }
 }
 
-/// Gives so many units from one on a mark.
+/// Gives a number of units from one on a mark.
 fn mark(marks: &mut RawBytes, at: usize, count: usize, mark: u8)
     requires { at + count ≤ length marks.old.set }
     ensures { marks.new.set ≡ marked marks.old.set at count mark }
@@ -68,7 +68,7 @@ fn mark(marks: &mut RawBytes, at: usize, count: usize, mark: u8)
     marks.bytes_mut()[at..at + count].fill(mark);
 }
 
-/// The first of so many units in a row that are free, and one more.
+/// The first of a number of units in a row that are free, and one more.
 fn first_free(marks: &[u8], units: usize) -> Option<usize>
     ensures { MatchOption result ((at : ℕ) → ¬ AreFree marks.now at (units + 1)) (λ at. AreFree marks.now at (units + 1)) }
 {

@@ -59,7 +59,7 @@ impl Drop for RegionHeap {
     }
 }
 
-/// The units that hold so many bytes.
+/// The units that hold a number of bytes.
 fn units_for(size: usize) -> usize
     requires { size < 2 ^ 63 }
     ensures { result ≡ units_for size }

@@ -13,7 +13,7 @@ use std::marker::Model;
 /// The size of a unit, and the alignment of each.
 pub(crate) const UNIT: usize = 16;
 
-/// Memory for a heap: so many units of 16 bytes, aligned to 16, that are its owner's alone.
+/// Memory for a heap: units of 16 bytes, aligned to 16, that are its owner's alone.
 pub struct Region {
     start: *mut u8,
     pub units: usize,
@@ -51,7 +51,7 @@ impl Model for Block {
 }
 
 impl Region {
-    /// The memory of so many units from an address on, which is aligned to 16. The caller gives it up.
+    /// The memory of a number of units from an address on, which is aligned to 16. The caller gives it up.
     pub unsafe fn from_raw_parts(start: *mut u8, units: usize) -> Region
         requires few { 16 * units < 2 ^ 63 }
         requires* memory { sem 𝓛 (bytes_at start (16 * units)) }
@@ -79,7 +79,7 @@ impl Region {
         (units, Region { start, units })
     }
 
-    /// The memory in two parts: so many units for blocks, all of them free, and room for their marks.
+    /// The memory in two parts: a number of units for blocks, all of them free, and room for their marks.
     pub(crate) fn split(self, blocks: usize) -> (Free, RawBytes)
         requires { blocks ≤ self.units }
         ensures free { (result.0.place.units ≡ blocks) × (result.0.marks ≡ replicate blocks 0) }
@@ -92,7 +92,7 @@ impl Region {
 }
 
 impl Free {
-    /// Takes so many free units from one on for a block, and the one behind them.
+    /// Takes a number of free units from one on for a block, and the one behind them.
     pub(crate) fn cut(self, at: usize, units: usize) -> (Free, Block)
         requires inside { at + units < self.place.units }
         requires free { AreFree self.marks at (units + 1) }

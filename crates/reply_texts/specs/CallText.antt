@@ -28,8 +28,8 @@ abbrev pub certificate_text : List Descriptor → Option (Request × Certificate
 certificate_text entries (Some (r, c)) = block_text entries r c
 certificate_text entries None = []
 
--- What is printed of a call with this reply, with the book before it: the reply's lines and, where certificates are asked for,
--- the block of the one that it carries.
+-- What is printed of a call with this reply, with the book before it: the reply's lines and, where
+-- certificates are asked for, the block of the one that it carries.
 abbrev pub PrintsCall : {A : Type 0} → Bool → ℕ → Book → Call A → Reply A → List ℕ → Type 0
 PrintsCall certify number before c answer text =
     (entries : List Descriptor) × CarriesEntries answer entries

@@ -56,7 +56,8 @@ map_line number told =
     ++ decimal told.key ++ codes " descriptor-size=" ++ decimal told.descriptor_size
     ++ codes " version=" ++ decimal told.version ++ line_feed
 
--- What is printed of a GetMemoryMap with this reply, of this status: on success its line and those of the entries.
+-- What is printed of a GetMemoryMap with this reply, of this status: on success its line and those
+-- of the entries.
 abbrev pub map_text : ℕ → List Descriptor → MapReply → Status → List ℕ
 map_text number entries told Success = map_line number told ++ flat_map descriptor_line entries
 map_text number entries told BufferTooSmall = size_line number verb.Map told.size

@@ -15,7 +15,8 @@ without_empty_end [] = []
 without_empty_end (x ∷ []) = if length x == 0 then [] else x ∷ []
 without_empty_end (x ∷ y ∷ parts) = x ∷ without_empty_end (y ∷ parts)
 
--- the lines, each without its line feed: what lies between line feeds, but for an empty rest after the last
+-- the lines, each without its line feed: what lies between line feeds, but for an empty rest after
+-- the last
 unfoldable pub lines_of : List ℕ → List (List ℕ)
 lines_of bytes = without_empty_end (slice_split is_line_feed bytes)
 
@@ -36,7 +37,8 @@ TakesByte old next new =
     (λ bytes. MatchOption next ((bytes ≡ []) × (new ≡ Some [])) (λ byte. (rest : List ℕ)
     × (bytes ≡ byte ∷ rest) × (new ≡ Some rest)))
 
--- The first line of the bytes was taken, and these are left; or the first line is too long, and so are the bytes taken.
+-- The first line of the bytes was taken, and these are left; or the first line is too long, and so
+-- are the bytes taken.
 abbrev pub IsFirstLine : List ℕ → List ℕ → Option (List ℕ) → Type 0
 IsFirstLine bytes line left =
     (0 < length bytes)

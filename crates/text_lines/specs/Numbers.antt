@@ -16,8 +16,8 @@ digit byte =
 abbrev pub digit_of : ℕ → ℕ → Option ℕ
 digit_of base byte = option_and_then (λ d. if nat_lt d base then Some d else None) (digit byte)
 
--- The value of digits: each counts by the power of the base that the number of digits after it gives.
--- `None` where a byte is no digit.
+-- The value of digits: each counts by the power of the base that the number of digits after it
+-- gives. `None` where a byte is no digit.
 unfoldable pub value_of_digits : ℕ → List ℕ → Option ℕ
 value_of_digits base [] = Some 0
 value_of_digits base (byte ∷ bytes) =

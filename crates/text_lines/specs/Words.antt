@@ -6,7 +6,7 @@ use Rattle.std.specs.List.{slice_split}
 abbrev pub is_blank : ℕ → Bool
 is_blank b = (b == 32) || (b == 9)
 
--- the maximal runs of bytes other than space and tab, from left to right: the parts between any two blanks that
--- aren't empty
+-- the maximal runs of bytes other than space and tab, from left to right: the parts between any two
+-- blanks that aren't empty
 abbrev pub words_of : List ℕ → List (List ℕ)
 words_of line = filter (λ word. not (length word == 0)) (slice_split is_blank line)

@@ -15,7 +15,8 @@ NamedTypesLaw A = (line : List ℕ) (c : Call A) → line_of line ≡ Ok (Some (
 abbrev pub IsGuid : List ℕ → Type 0
 IsGuid guid = (length guid ≡ 16) × AllByRecursion (λ b. b < 256) guid
 
--- the numbers of a call are of 32 and 64 bits, as its service takes them, its bytes are below 256, and its GUIDs have 16
+-- the numbers of a call are of 32 and 64 bits, as its service takes them, its bytes are below 256,
+-- and its GUIDs have 16
 abbrev pub HasCallNumbers : {A : Type 0} → Call A → Type 0
 HasCallNumbers (call.AllocatePages kind t pages memory) =
     (kind < 2 ^ 32) × (t < 2 ^ 32) × (pages < 2 ^ 64) × (memory < 2 ^ 64)
@@ -54,7 +55,8 @@ HasCallNumbers (call.DisconnectController handle driver) = (handle < 2 ^ 64) × 
 HasCallNumbers (call.LocateDevicePath guid address) = IsGuid guid × (address < 2 ^ 64)
 HasCallNumbers (call.ExitBootServices key) = key < 2 ^ 64
 
--- The numbers of a call that a line asks for are of the bits that its service takes, and its GUIDs are GUIDs.
+-- The numbers of a call that a line asks for are of the bits that its service takes, and its GUIDs
+-- are GUIDs.
 abbrev pub CallNumbersLaw : Type 0 → Type 0
 CallNumbersLaw A =
     (line : List ℕ) (c : Call A) → line_of line ≡ Ok (Some (Service c)) → HasCallNumbers c

@@ -49,7 +49,7 @@ use Rattle.region_heap.specs.contracts.memory.Region.split.Key.{name as #self}
 use Rattle.region_heap.proofs.memory.Region.split.Statement.{statement}
 use Rattle.region_heap.proofs.memory.Region.split.Code as compiled
 
--- so many bytes of which none is set
+-- a number of bytes of which none is set
 abbrev bare : Ptr → (n : ℕ) → n < 2 ^ 63 → RawBytes
 bare p n low = record { ptr = p; len = 0; room = n; set = []; ok = (refl, omega arith, low) }
 
