@@ -53,7 +53,7 @@ first_types [] a = tt
 first_types (r ∷ rs) a = all-row (λ x. is_machine_type x.mtype ≡ true) (pages_of rs) r.range.pages (page_in r.range.first r) (λ k low high. a.0) (first_types rs a.1)
 
 module _ (m : List Page) (proper : IsProperMemory m) (typed : HasMachineTypes m) where
-  with_certificate : (r : Request) (start : ℕ) (c : Option CertificateValue) → IsProperRequest r → IsBestChoice m r start c → IfSome {T = Request × CertificateValue} (option_map (λ c. (r, c)) c) (λ told. IsAccepted (memory_map m) told.0 told.1)
+  with_certificate : (r : Request) (start : ℕ) (c : Option CertificateValue) → IsProperRequest r → IsBestChoice m r start c → IfSome {T = Request × CertificateValue} (option_map (λ c. (r, c)) c) (λ returned. IsAccepted (memory_map m) returned.0 returned.1)
   with_certificate r start None good best = tt
   with_certificate r start (Some c) good best = true_accepted m r c proper typed good best.0
 
@@ -67,7 +67,7 @@ uncertified (Some r) P = tt
 
 -- the certificate of a placement is accepted with its request
 accepted_placement : {A : Type 0} (b : Book) (r : Option Request) (t pages memory : ℕ) (placed : Placed A) → IsProperMemory b.memory → HasMachineTypes b.memory → IfSome r IsProperRequest → IsPlaced IsBestChoice b r t pages memory placed →
-    IfSome {T = Request × CertificateValue} (option_and_then (λ r. option_map (λ c. (r, c)) placed.certificate) r) (λ told. IsAccepted (memory_map b.memory) told.0 told.1)
+    IfSome {T = Request × CertificateValue} (option_and_then (λ r. option_map (λ c. (r, c)) placed.certificate) r) (λ returned. IsAccepted (memory_map b.memory) returned.0 returned.1)
 accepted_placement b None t pages memory placed proper typed good h = tt
 accepted_placement b (Some r) t pages memory placed proper typed good (start, best, at) = with_certificate b.memory proper typed r start placed.certificate good best
 
@@ -88,74 +88,74 @@ counted (Some r) tell P h = counted_one r tell P h
 
 module _ (old : Parts) (proper : IsProperMemory old.book.memory) (typed : HasMachineTypes old.book.memory) (granule : IsGranule old.book.granule) where
   accepted_block : (t size : ℕ) (o : Option Place) (answer : Answer) (b : Book) (es : List Extent) → is_bad_type t ≡ false → size ≤ max_size → IsPut IsBestChoice o old.book old.pools t size answer b es →
-      IfSome {T = Request × CertificateValue} (option_and_then (λ r. option_map (λ c. (r, c)) answer.1) (extent_request old.book.granule t size)) (λ told. IsAccepted (memory_map old.book.memory) told.0 told.1)
+      IfSome {T = Request × CertificateValue} (option_and_then (λ r. option_map (λ c. (r, c)) answer.1) (extent_request old.book.granule t size)) (λ returned. IsAccepted (memory_map old.book.memory) returned.0 returned.1)
   accepted_block t size (Some p) answer b es good few (address, none, book, extents) = rw none (uncertified (extent_request old.book.granule t size) _)
   accepted_block t size None answer b es good few (start, best, at, book, extents) =
       rw (le-leb size max_size few) (with_certificate old.book.memory proper typed (pool_request old.book.granule t (pages_for size)) start answer.1 (whole_request_proper old.book.granule t (pages_for size) page_count granule good (omega arith)) best)
 
   pool_result : (A : Type 0) (t size : ℕ) (result : Result Answer Status) (b : Book) (es : List Extent) → AllocatesPool IsBestChoice old.book old.pools t size result b es →
-      IfSome (tells {A = A} old.book.granule (call.AllocatePool t size) (reply.AllocatePool result)) (λ told. IsAccepted (memory_map old.book.memory) told.0 told.1)
+      IfSome (tells {A = A} old.book.granule (call.AllocatePool t size) (reply.AllocatePool result)) (λ returned. IsAccepted (memory_map old.book.memory) returned.0 returned.1)
   pool_result A t size (Ok answer) b es (good, few, put) = accepted_block t size (first_fit t size old.pools) answer b es good few put
   pool_result A t size (Err e) b es h = uncertified (extent_request old.book.granule t size) _
 
   -- the block of a list, with the certificate of a new extent
-  list_result : {A : Type 0} (size : ℕ) (bytes : List ℕ) (told : PoolList A) (b : Book) (es : List Extent) → length bytes ≡ size * told.count → FillsPool IsBestChoice old.book old.pools list_type bytes (Ok (told.address, told.certificate)) b es →
-      IfSome {T = Request × CertificateValue} (option_and_then (λ r. option_map (λ c. (r, c)) told.certificate) (extent_request old.book.granule list_type (size * told.count))) (λ told. IsAccepted (memory_map old.book.memory) told.0 told.1)
-  list_result size bytes told b es long (placed, (good, few, put), e) =
-      subst (λ (n : ℕ). IfSome {T = Request × CertificateValue} (option_and_then (λ r. option_map (λ c. (r, c)) told.certificate) (extent_request old.book.granule list_type n)) (λ told. IsAccepted (memory_map old.book.memory) told.0 told.1)) long
-      (accepted_block list_type (length bytes) (first_fit list_type (length bytes) old.pools) (told.address, told.certificate) b placed good few put)
+  list_result : {A : Type 0} (size : ℕ) (bytes : List ℕ) (returned : PoolList A) (b : Book) (es : List Extent) → length bytes ≡ size * returned.count → FillsPool IsBestChoice old.book old.pools list_type bytes (Ok (returned.address, returned.certificate)) b es →
+      IfSome {T = Request × CertificateValue} (option_and_then (λ r. option_map (λ c. (r, c)) returned.certificate) (extent_request old.book.granule list_type (size * returned.count))) (λ returned. IsAccepted (memory_map old.book.memory) returned.0 returned.1)
+  list_result size bytes returned b es long (placed, (good, few, put), e) =
+      subst (λ (n : ℕ). IfSome {T = Request × CertificateValue} (option_and_then (λ r. option_map (λ c. (r, c)) returned.certificate) (extent_request old.book.granule list_type n)) (λ returned. IsAccepted (memory_map old.book.memory) returned.0 returned.1)) long
+      (accepted_block list_type (length bytes) (first_fit list_type (length bytes) old.pools) (returned.address, returned.certificate) b placed good few put)
 
   buffer_result : {A : Type 0} (search : ℕ) (guid : List ℕ) (key : ℕ) (result : Result (PoolList A) Status) (new : Parts) → LocatesBuffer IsBestChoice old search guid key result new →
-      IfSome (tells old.book.granule (call.LocateHandleBuffer search guid key) (reply.LocateHandleBuffer result)) (λ told. IsAccepted (memory_map old.book.memory) told.0 told.1)
-  buffer_result search guid key (Ok told) new (handles, found, some, count, filled, lists) =
-      list_result 8 (handle_bytes handles) told new.book new.pools (handle_bytes-length handles ∙ ap (λ (n : ℕ). 8 * n) (sym count)) filled
+      IfSome (tells old.book.granule (call.LocateHandleBuffer search guid key) (reply.LocateHandleBuffer result)) (λ returned. IsAccepted (memory_map old.book.memory) returned.0 returned.1)
+  buffer_result search guid key (Ok returned) new (handles, found, some, count, filled, lists) =
+      list_result 8 (handle_bytes handles) returned new.book new.pools (handle_bytes-length handles ∙ ap (λ (n : ℕ). 8 * n) (sym count)) filled
   buffer_result search guid key (Err e) new h = tt
 
-  items_result : {A : Type 0} (handle : ℕ) (guid : List ℕ) (items : List OpenItem) (told : PoolList A) (new : Parts) → told.count ≡ length items → PutsItems IsBestChoice old items told new →
-      IfSome (tells old.book.granule (call.OpenProtocolInformation handle guid) (reply.OpenProtocolInformation (Ok told))) (λ told. IsAccepted (memory_map old.book.memory) told.0 told.1)
-  items_result handle guid [] told new count h = rw h.1 (uncertified (extent_request old.book.granule list_type (24 * told.count)) _)
-  items_result handle guid (i ∷ items) told new count h = list_result 24 (item_bytes (i ∷ items)) told new.book new.pools (item_bytes-length (i ∷ items) ∙ ap (λ (n : ℕ). 24 * n) (sym count)) h.0
+  items_result : {A : Type 0} (handle : ℕ) (guid : List ℕ) (items : List OpenItem) (returned : PoolList A) (new : Parts) → returned.count ≡ length items → PutsItems IsBestChoice old items returned new →
+      IfSome (tells old.book.granule (call.OpenProtocolInformation handle guid) (reply.OpenProtocolInformation (Ok returned))) (λ returned. IsAccepted (memory_map old.book.memory) returned.0 returned.1)
+  items_result handle guid [] returned new count h = rw h.1 (uncertified (extent_request old.book.granule list_type (24 * returned.count)) _)
+  items_result handle guid (i ∷ items) returned new count h = list_result 24 (item_bytes (i ∷ items)) returned new.book new.pools (item_bytes-length (i ∷ items) ∙ ap (λ (n : ℕ). 24 * n) (sym count)) h.0
 
   opens_result : {A : Type 0} (handle : ℕ) (guid : List ℕ) (result : Result (PoolList A) Status) (new : Parts) → ListsOpens IsBestChoice old handle guid result new →
-      IfSome (tells old.book.granule (call.OpenProtocolInformation handle guid) (reply.OpenProtocolInformation result)) (λ told. IsAccepted (memory_map old.book.memory) told.0 told.1)
-  opens_result handle guid (Ok told) new h = items_result handle guid (items_on old.lists.opens handle guid) told new h.1 h.2
+      IfSome (tells old.book.granule (call.OpenProtocolInformation handle guid) (reply.OpenProtocolInformation result)) (λ returned. IsAccepted (memory_map old.book.memory) returned.0 returned.1)
+  opens_result handle guid (Ok returned) new h = items_result handle guid (items_on old.lists.opens handle guid) returned new h.1 h.2
   opens_result handle guid (Err e) new h = tt
 
 module _ {A : Type 0} (ds : List Meaning) (old : Parts) (proper : IsProperMemory old.book.memory) (typed : HasMachineTypes old.book.memory) (granule : IsGranule old.book.granule) where
-  accepted_result : (kind t pages memory : ℕ) (result : Result (Placed A) Status) (new : Parts) → AllocatesPages IsBestChoice old.book kind t pages memory result new.book → IfSome (tells old.book.granule (call.AllocatePages kind t pages memory) (reply.AllocatePages result)) (λ told. IsAccepted (memory_map old.book.memory) told.0 told.1)
+  accepted_result : (kind t pages memory : ℕ) (result : Result (Placed A) Status) (new : Parts) → AllocatesPages IsBestChoice old.book kind t pages memory result new.book → IfSome (tells old.book.granule (call.AllocatePages kind t pages memory) (reply.AllocatePages result)) (λ returned. IsAccepted (memory_map old.book.memory) returned.0 returned.1)
   accepted_result kind t pages memory (Ok placed) new (valid, at, e) =
       accepted_placement old.book (placement_request old.book.granule kind t pages memory) t pages memory placed proper typed (proper_request old.book.granule kind t pages memory granule valid.1 valid.2) at
   accepted_result kind t pages memory (Err e) new h = uncertified (placement_request old.book.granule kind t pages memory) _
 
-  accepted_pages : (exited : Bool) (kind t pages memory : ℕ) (answer : Reply A) (new : Parts) → Answers (best_starts ds) exited old (call.AllocatePages kind t pages memory) answer new → IfSome (tells old.book.granule (call.AllocatePages kind t pages memory) answer) (λ told. IsAccepted (memory_map old.book.memory) told.0 told.1)
+  accepted_pages : (exited : Bool) (kind t pages memory : ℕ) (answer : Reply A) (new : Parts) → Answers (best_starts ds) exited old (call.AllocatePages kind t pages memory) answer new → IfSome (tells old.book.granule (call.AllocatePages kind t pages memory) answer) (λ returned. IsAccepted (memory_map old.book.memory) returned.0 returned.1)
   accepted_pages true kind t pages memory answer new (result, e, h) =
       let refused : answer ≡ reply.AllocatePages (Err Unsupported) = e ∙ ap reply.AllocatePages h.0 in
-      subst (λ (a : Reply A). IfSome (tells old.book.granule (call.AllocatePages kind t pages memory) a) (λ told. IsAccepted (memory_map old.book.memory) told.0 told.1)) (sym refused) (uncertified (placement_request old.book.granule kind t pages memory) _)
+      subst (λ (a : Reply A). IfSome (tells old.book.granule (call.AllocatePages kind t pages memory) a) (λ returned. IsAccepted (memory_map old.book.memory) returned.0 returned.1)) (sym refused) (uncertified (placement_request old.book.granule kind t pages memory) _)
   accepted_pages false kind t pages memory answer new (result, e, h) =
-      subst (λ (a : Reply A). IfSome (tells old.book.granule (call.AllocatePages kind t pages memory) a) (λ told. IsAccepted (memory_map old.book.memory) told.0 told.1)) (sym e) (accepted_result kind t pages memory result new h.0)
+      subst (λ (a : Reply A). IfSome (tells old.book.granule (call.AllocatePages kind t pages memory) a) (λ returned. IsAccepted (memory_map old.book.memory) returned.0 returned.1)) (sym e) (accepted_result kind t pages memory result new h.0)
 
-  accepted_pool : (exited : Bool) (t size : ℕ) (answer : Reply A) (new : Parts) → Answers (best_starts ds) exited old (call.AllocatePool t size) answer new → IfSome (tells old.book.granule (call.AllocatePool t size) answer) (λ told. IsAccepted (memory_map old.book.memory) told.0 told.1)
+  accepted_pool : (exited : Bool) (t size : ℕ) (answer : Reply A) (new : Parts) → Answers (best_starts ds) exited old (call.AllocatePool t size) answer new → IfSome (tells old.book.granule (call.AllocatePool t size) answer) (λ returned. IsAccepted (memory_map old.book.memory) returned.0 returned.1)
   accepted_pool true t size answer new (result, e, h) =
       let refused : answer ≡ reply.AllocatePool (Err Unsupported) = e ∙ ap reply.AllocatePool h.0 in
-      subst (λ (a : Reply A). IfSome (tells old.book.granule (call.AllocatePool t size) a) (λ told. IsAccepted (memory_map old.book.memory) told.0 told.1)) (sym refused) (uncertified (extent_request old.book.granule t size) _)
+      subst (λ (a : Reply A). IfSome (tells old.book.granule (call.AllocatePool t size) a) (λ returned. IsAccepted (memory_map old.book.memory) returned.0 returned.1)) (sym refused) (uncertified (extent_request old.book.granule t size) _)
   accepted_pool false t size answer new (result, e, h) =
-      subst (λ (a : Reply A). IfSome (tells old.book.granule (call.AllocatePool t size) a) (λ told. IsAccepted (memory_map old.book.memory) told.0 told.1)) (sym e) (pool_result old proper typed granule A t size result new.book new.pools h.0)
+      subst (λ (a : Reply A). IfSome (tells old.book.granule (call.AllocatePool t size) a) (λ returned. IsAccepted (memory_map old.book.memory) returned.0 returned.1)) (sym e) (pool_result old proper typed granule A t size result new.book new.pools h.0)
 
-  accepted_buffer : (exited : Bool) (search : ℕ) (guid : List ℕ) (key : ℕ) (answer : Reply A) (new : Parts) → Answers (best_starts ds) exited old (call.LocateHandleBuffer search guid key) answer new → IfSome (tells old.book.granule (call.LocateHandleBuffer search guid key) answer) (λ told. IsAccepted (memory_map old.book.memory) told.0 told.1)
+  accepted_buffer : (exited : Bool) (search : ℕ) (guid : List ℕ) (key : ℕ) (answer : Reply A) (new : Parts) → Answers (best_starts ds) exited old (call.LocateHandleBuffer search guid key) answer new → IfSome (tells old.book.granule (call.LocateHandleBuffer search guid key) answer) (λ returned. IsAccepted (memory_map old.book.memory) returned.0 returned.1)
   accepted_buffer true search guid key answer new (result, e, h) =
       let refused : answer ≡ reply.LocateHandleBuffer (Err Unsupported) = e ∙ ap reply.LocateHandleBuffer h.0 in
-      subst (λ (a : Reply A). IfSome (tells old.book.granule (call.LocateHandleBuffer search guid key) a) (λ told. IsAccepted (memory_map old.book.memory) told.0 told.1)) (sym refused) tt
+      subst (λ (a : Reply A). IfSome (tells old.book.granule (call.LocateHandleBuffer search guid key) a) (λ returned. IsAccepted (memory_map old.book.memory) returned.0 returned.1)) (sym refused) tt
   accepted_buffer false search guid key answer new (result, e, h) =
-      subst (λ (a : Reply A). IfSome (tells old.book.granule (call.LocateHandleBuffer search guid key) a) (λ told. IsAccepted (memory_map old.book.memory) told.0 told.1)) (sym e) (buffer_result old proper typed granule search guid key result new h)
+      subst (λ (a : Reply A). IfSome (tells old.book.granule (call.LocateHandleBuffer search guid key) a) (λ returned. IsAccepted (memory_map old.book.memory) returned.0 returned.1)) (sym e) (buffer_result old proper typed granule search guid key result new h)
 
-  accepted_opens : (exited : Bool) (handle : ℕ) (guid : List ℕ) (answer : Reply A) (new : Parts) → Answers (best_starts ds) exited old (call.OpenProtocolInformation handle guid) answer new → IfSome (tells old.book.granule (call.OpenProtocolInformation handle guid) answer) (λ told. IsAccepted (memory_map old.book.memory) told.0 told.1)
+  accepted_opens : (exited : Bool) (handle : ℕ) (guid : List ℕ) (answer : Reply A) (new : Parts) → Answers (best_starts ds) exited old (call.OpenProtocolInformation handle guid) answer new → IfSome (tells old.book.granule (call.OpenProtocolInformation handle guid) answer) (λ returned. IsAccepted (memory_map old.book.memory) returned.0 returned.1)
   accepted_opens true handle guid answer new (result, e, h) =
       let refused : answer ≡ reply.OpenProtocolInformation (Err Unsupported) = e ∙ ap reply.OpenProtocolInformation h.0 in
-      subst (λ (a : Reply A). IfSome (tells old.book.granule (call.OpenProtocolInformation handle guid) a) (λ told. IsAccepted (memory_map old.book.memory) told.0 told.1)) (sym refused) tt
+      subst (λ (a : Reply A). IfSome (tells old.book.granule (call.OpenProtocolInformation handle guid) a) (λ returned. IsAccepted (memory_map old.book.memory) returned.0 returned.1)) (sym refused) tt
   accepted_opens false handle guid answer new (result, e, h) =
-      subst (λ (a : Reply A). IfSome (tells old.book.granule (call.OpenProtocolInformation handle guid) a) (λ told. IsAccepted (memory_map old.book.memory) told.0 told.1)) (sym e) (opens_result old proper typed granule handle guid result new h)
+      subst (λ (a : Reply A). IfSome (tells old.book.granule (call.OpenProtocolInformation handle guid) a) (λ returned. IsAccepted (memory_map old.book.memory) returned.0 returned.1)) (sym e) (opens_result old proper typed granule handle guid result new h)
 
-  accepted_telling : (exited : Bool) (c : Call A) (answer : Reply A) (new : Parts) → Answers (best_starts ds) exited old c answer new → IfSome (tells old.book.granule c answer) (λ told. IsAccepted (memory_map old.book.memory) told.0 told.1)
+  accepted_telling : (exited : Bool) (c : Call A) (answer : Reply A) (new : Parts) → Answers (best_starts ds) exited old c answer new → IfSome (tells old.book.granule c answer) (λ returned. IsAccepted (memory_map old.book.memory) returned.0 returned.1)
   accepted_telling exited (call.AllocatePages kind t pages memory) answer new h = accepted_pages exited kind t pages memory answer new h
   accepted_telling exited (call.AllocatePool t size) answer new h = accepted_pool exited t size answer new h
   accepted_telling exited (call.LocateHandleBuffer search guid key) answer new h = accepted_buffer exited search guid key answer new h
@@ -164,7 +164,7 @@ module _ {A : Type 0} (ds : List Meaning) (old : Parts) (proper : IsProperMemory
 
   pub accepted_reply : (exited : Bool) (calls_left : ℕ) (c : Call A) (answer : Reply A) (new : Parts) → Answers (best_starts ds) exited old c answer new → IsAcceptedReply (record { parts = old; exited = exited; calls_left = calls_left }) c answer
   accepted_reply exited n c answer new h =
-      counted (left_request old.book.granule c answer) (λ r. option_map (λ certificate. (r, certificate)) (certificate_in answer)) (λ told. IsAccepted (memory_map old.book.memory) told.0 told.1) (accepted_telling exited c answer new h)
+      counted (left_request old.book.granule c answer) (λ r. option_map (λ certificate. (r, certificate)) (certificate_in answer)) (λ returned. IsAccepted (memory_map old.book.memory) returned.0 returned.1) (accepted_telling exited c answer new h)
 
 all_accepted : {A : Type 0} (ds : List Meaning) (old : State) (calls : List (Call A)) (replies : List (Reply A)) (new : State) (run : CallRun ds old calls replies new) → AreSound old.parts → HasMachineTypes old.parts.book.memory → AllAccepted ds old calls replies new run
 all_accepted ds old (c ∷ calls) (r ∷ replies) new (next, step, run) sound typed =

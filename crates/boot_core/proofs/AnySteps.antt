@@ -52,25 +52,25 @@ while_open true old new P Q Refusal f h = h
 while_open false old new P Q Refusal f h = f h
 
 served_as : {A R : Type 0} (exited : Bool) (old new : Parts) (answer : Reply A) (tell : Result R Status → Reply A) (P Q : Result R Status → Type 0) → ((result : Result R Status) → P result → Q result) → Serves exited old new answer tell P → Serves exited old new answer tell Q
-served_as exited old new answer tell P Q f (result, told, h) = (result, told, while_open exited old new (P result) (Q result) _ (f result) h)
+served_as exited old new answer tell P Q f (result, returned, h) = (result, returned, while_open exited old new (P result) (Q result) _ (f result) h)
 
 fills_any : (b : Book) (es : List Extent) (t : ℕ) (bytes : List ℕ) (result : Result Answer Status) (new_b : Book) (new : List Extent) → FillsPool IsBestChoice b es t bytes result new_b new → FillsPool IsAnyStart b es t bytes result new_b new
 fills_any b es t bytes (Ok answer) new_b new (placed, h, e) = (placed, pool_any b es t (length bytes) (Ok answer) new_b placed h, e)
 fills_any b es t bytes (Err e) new_b new h = pool_any b es t (length bytes) (Err e) new_b new h
 
 buffer_any : {A : Type 0} (old : Parts) (search : ℕ) (guid : List ℕ) (key : ℕ) (result : Result (PoolList A) Status) (new : Parts) → LocatesBuffer IsBestChoice old search guid key result new → LocatesBuffer IsAnyStart old search guid key result new
-buffer_any old search guid key (Ok told) new (handles, found, some, count, filled, lists) = (handles, found, some, count, fills_any old.book old.pools list_type (handle_bytes handles) (Ok (told.address, told.certificate)) new.book new.pools filled, lists)
+buffer_any old search guid key (Ok returned) new (handles, found, some, count, filled, lists) = (handles, found, some, count, fills_any old.book old.pools list_type (handle_bytes handles) (Ok (returned.address, returned.certificate)) new.book new.pools filled, lists)
 buffer_any old search guid key (Err status.InvalidParameter) new h = h
 buffer_any old search guid key (Err status.NotFound) new h = h
 buffer_any old search guid key (Err status.OutOfResources) new h = h
 buffer_any old search guid key (Err other) new h = absurd h
 
-items_any : {A : Type 0} (old : Parts) (items : List OpenItem) (told : PoolList A) (new : Parts) → PutsItems IsBestChoice old items told new → PutsItems IsAnyStart old items told new
-items_any old [] told new h = h
-items_any old (i ∷ items) told new h = (fills_any old.book old.pools list_type (item_bytes (i ∷ items)) (Ok (told.address, told.certificate)) new.book new.pools h.0, h.1)
+items_any : {A : Type 0} (old : Parts) (items : List OpenItem) (returned : PoolList A) (new : Parts) → PutsItems IsBestChoice old items returned new → PutsItems IsAnyStart old items returned new
+items_any old [] returned new h = h
+items_any old (i ∷ items) returned new h = (fills_any old.book old.pools list_type (item_bytes (i ∷ items)) (Ok (returned.address, returned.certificate)) new.book new.pools h.0, h.1)
 
 opens_any : {A : Type 0} (old : Parts) (handle : ℕ) (guid : List ℕ) (result : Result (PoolList A) Status) (new : Parts) → ListsOpens IsBestChoice old handle guid result new → ListsOpens IsAnyStart old handle guid result new
-opens_any old handle guid (Ok told) new h = (h.0, h.1, items_any old (items_on old.lists.opens handle guid) told new h.2)
+opens_any old handle guid (Ok returned) new h = (h.0, h.1, items_any old (items_on old.lists.opens handle guid) returned new h.2)
 opens_any old handle guid (Err status.NotFound) new h = h
 opens_any old handle guid (Err status.OutOfResources) new h = h
 opens_any old handle guid (Err other) new h = absurd h

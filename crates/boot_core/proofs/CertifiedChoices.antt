@@ -37,25 +37,25 @@ use Rattle.boot_core.proofs.Soundness.{first_sound, stays_sound}
 -- ---- what is shown of each call
 
 -- There is a certificate exactly where something holds, and then a request, whose pages a number of 64 bits holds.
-record Certifies (Chosen : Type 0) (asked : Option Request) (told : Option CertificateValue) : Type 0 where
-  carried : (is_some told ≡ true) ↔ Chosen
-  requested : is_some told ≡ true → (r : Request) × (asked ≡ Some r) × (r.pages < 2 ^ 64)
+record Certifies (Chosen : Type 0) (asked : Option Request) (returned : Option CertificateValue) : Type 0 where
+  carried : (is_some returned ≡ true) ↔ Chosen
+  requested : is_some returned ≡ true → (r : Request) × (asked ≡ Some r) × (r.pages < 2 ^ 64)
 
-no_certificate : (told : Option CertificateValue) → told ≡ None → ¬ (is_some told ≡ true)
+no_certificate : (returned : Option CertificateValue) → returned ≡ None → ¬ (is_some returned ≡ true)
 no_certificate None e some = cc
 no_certificate (Some c) e some = cc
 
 -- without a certificate nothing was chosen
-not_chosen : (Chosen : Type 0) (asked : Option Request) (told : Option CertificateValue) → told ≡ None → ¬ Chosen → Certifies Chosen asked told
-not_chosen Chosen asked told none other = record {
-  carried = (λ some. absurd (no_certificate told none some), λ chosen. absurd (other chosen));
-  requested = λ some. absurd (no_certificate told none some);
+not_chosen : (Chosen : Type 0) (asked : Option Request) (returned : Option CertificateValue) → returned ≡ None → ¬ Chosen → Certifies Chosen asked returned
+not_chosen Chosen asked returned none other = record {
+  carried = (λ some. absurd (no_certificate returned none some), λ chosen. absurd (other chosen));
+  requested = λ some. absurd (no_certificate returned none some);
 }
 
-chosen : (Chosen : Type 0) (asked : Option Request) (told : Option CertificateValue) (r : Request) → is_some told ≡ true → Chosen → asked ≡ Some r → r.pages < 2 ^ 64 → Certifies Chosen asked told
-chosen Chosen asked told r some is e few = record { carried = (λ s. is, λ c. some); requested = λ s. (r, e, few) }
+chosen : (Chosen : Type 0) (asked : Option Request) (returned : Option CertificateValue) (r : Request) → is_some returned ≡ true → Chosen → asked ≡ Some r → r.pages < 2 ^ 64 → Certifies Chosen asked returned
+chosen Chosen asked returned r some is e few = record { carried = (λ s. is, λ c. some); requested = λ s. (r, e, few) }
 
-best_some : (m : List Page) (r : Request) (start : ℕ) (told : Option CertificateValue) → IsBestChoice m r start told → is_some told ≡ true
+best_some : (m : List Page) (r : Request) (start : ℕ) (returned : Option CertificateValue) → IsBestChoice m r start returned → is_some returned ≡ true
 best_some m r start None best = absurd best
 best_some m r start (Some c) best = refl
 
@@ -154,25 +154,25 @@ module _ {A : Type 0} (ds : List Meaning) (old : Parts) (proper : IsProperMemory
   pages_result kind t pages memory (Err e) new h = not_chosen ⊥ (placement_request old.book.granule kind t pages memory) None refl (λ h. h)
 
   -- the block of a list of items of some bytes each
-  list_result : (size : ℕ) (bytes : List ℕ) (told : PoolList A) (new : Parts) → length bytes ≡ size * told.count → FillsPool IsBestChoice old.book old.pools list_type bytes (Ok (told.address, told.certificate)) new.book new.pools →
-      Certifies (HasNewExtent old new) (list_request old.book.granule size (Some told.count)) told.certificate
-  list_result size bytes told new long h =
-      subst (λ (n : ℕ). Certifies (HasNewExtent old new) (extent_request old.book.granule list_type n) told.certificate) long (fills old.book old.pools proper bytes (told.address, told.certificate) new.book new.pools h)
+  list_result : (size : ℕ) (bytes : List ℕ) (returned : PoolList A) (new : Parts) → length bytes ≡ size * returned.count → FillsPool IsBestChoice old.book old.pools list_type bytes (Ok (returned.address, returned.certificate)) new.book new.pools →
+      Certifies (HasNewExtent old new) (list_request old.book.granule size (Some returned.count)) returned.certificate
+  list_result size bytes returned new long h =
+      subst (λ (n : ℕ). Certifies (HasNewExtent old new) (extent_request old.book.granule list_type n) returned.certificate) long (fills old.book old.pools proper bytes (returned.address, returned.certificate) new.book new.pools h)
 
   buffer_result : (search : ℕ) (guid : List ℕ) (key : ℕ) (result : Result (PoolList A) Status) (new : Parts) → LocatesBuffer IsBestChoice old search guid key result new → Shown old (call.LocateHandleBuffer search guid key) (reply.LocateHandleBuffer result) new
-  buffer_result search guid key (Ok told) new (handles, found, some, count, filled, lists) =
-      list_result 8 (handle_bytes handles) told new (handle_bytes-length handles ∙ ap (λ (n : ℕ). 8 * n) (sym count)) filled
+  buffer_result search guid key (Ok returned) new (handles, found, some, count, filled, lists) =
+      list_result 8 (handle_bytes handles) returned new (handle_bytes-length handles ∙ ap (λ (n : ℕ). 8 * n) (sym count)) filled
   buffer_result search guid key (Err status.InvalidParameter) new h = not_chosen (HasNewExtent old new) None None refl (unchanged old new h.1)
   buffer_result search guid key (Err status.NotFound) new h = not_chosen (HasNewExtent old new) None None refl (unchanged old new h.1)
   buffer_result search guid key (Err status.OutOfResources) new h = not_chosen (HasNewExtent old new) None None refl (unchanged old new h.3)
   buffer_result search guid key (Err other) new h = absurd h
 
-  items_result : (items : List OpenItem) (told : PoolList A) (new : Parts) → told.count ≡ length items → PutsItems IsBestChoice old items told new → Certifies (HasNewExtent old new) (list_request old.book.granule 24 (Some told.count)) told.certificate
-  items_result [] told new count h = not_chosen (HasNewExtent old new) (list_request old.book.granule 24 (Some told.count)) told.certificate h.1 (unchanged old new h.2)
-  items_result (i ∷ items) told new count h = list_result 24 (item_bytes (i ∷ items)) told new (item_bytes-length (i ∷ items) ∙ ap (λ (n : ℕ). 24 * n) (sym count)) h.0
+  items_result : (items : List OpenItem) (returned : PoolList A) (new : Parts) → returned.count ≡ length items → PutsItems IsBestChoice old items returned new → Certifies (HasNewExtent old new) (list_request old.book.granule 24 (Some returned.count)) returned.certificate
+  items_result [] returned new count h = not_chosen (HasNewExtent old new) (list_request old.book.granule 24 (Some returned.count)) returned.certificate h.1 (unchanged old new h.2)
+  items_result (i ∷ items) returned new count h = list_result 24 (item_bytes (i ∷ items)) returned new (item_bytes-length (i ∷ items) ∙ ap (λ (n : ℕ). 24 * n) (sym count)) h.0
 
   opens_result : (handle : ℕ) (guid : List ℕ) (result : Result (PoolList A) Status) (new : Parts) → ListsOpens IsBestChoice old handle guid result new → Shown old (call.OpenProtocolInformation handle guid) (reply.OpenProtocolInformation result) new
-  opens_result handle guid (Ok told) new h = items_result (items_on old.lists.opens handle guid) told new h.1 h.2
+  opens_result handle guid (Ok returned) new h = items_result (items_on old.lists.opens handle guid) returned new h.1 h.2
   opens_result handle guid (Err status.NotFound) new h = not_chosen (HasNewExtent old new) None None refl (unchanged old new h.1)
   opens_result handle guid (Err status.OutOfResources) new h = not_chosen (HasNewExtent old new) None None refl (unchanged old new h.2)
   opens_result handle guid (Err other) new h = absurd h
@@ -206,7 +206,7 @@ unrequested : (o : Option Request) → is_some (option_and_then none_for o) ≡ 
 unrequested None = refl
 unrequested (Some r) = refl
 
-requested_for : (o : Option Request) (told : Option CertificateValue) → (is_some told ≡ true → (r : Request) × (o ≡ Some r) × (r.pages < 2 ^ 64)) → is_some {T = Request × CertificateValue} (option_and_then (λ r. option_map (λ certificate. (r, certificate)) told) (option_and_then if_counted o)) ≡ is_some told
+requested_for : (o : Option Request) (returned : Option CertificateValue) → (is_some returned ≡ true → (r : Request) × (o ≡ Some r) × (r.pages < 2 ^ 64)) → is_some {T = Request × CertificateValue} (option_and_then (λ r. option_map (λ certificate. (r, certificate)) returned) (option_and_then if_counted o)) ≡ is_some returned
 requested_for o None h = unrequested (option_and_then if_counted o)
 requested_for o (Some c) h =
     let (r, e, few) = h refl in

@@ -10,25 +10,25 @@ use Rattle.boot_replies.specs.declared.replies.Reply.TheVariants as reply
 use Rattle.map_keys.specs.declared.memory_maps.MapReply.{MapReply}
 use Rattle.boot_core.specs.Machines.{Parts, State, AreSound}
 use Rattle.boot_core.specs.Steps.{Setting, Answers, Exits, StepBy, CallRunBy}
-use Rattle.boot_core.specs.Laws.{ChangesNoType, ChangesTypes, TellsKey, GivesKey}
+use Rattle.boot_core.specs.Laws.{ChangesNoType, ChangesTypes, ReturnsKey, GivesKey}
 use Rattle.boot_calls.specs.CallNumbers.{NamesTypes}
-use Rattle.boot_core.proofs.MapReplies.{told_key, told_directly}
+use Rattle.boot_core.proofs.MapReplies.{returned_key, returned_directly}
 use Rattle.boot_core.proofs.Outcomes.{key_rises, type_or_not, outcome}
 use Rattle.boot_core.proofs.Soundness.{stays_sound}
 
 -- what a successful reply of GetMemoryMap says of its key, and of the parts after it
-key_in : {A : Type 0} (exited : Bool) (old : Parts) (size key : ℕ) (S : Setting) (answer : Reply A) (new : Parts) → Answers S exited old (call.GetMemoryMap size) answer new → TellsKey answer key → (key ≡ old.book.key) × (new ≡ old)
-key_in exited old size key S (reply.GetMemoryMap told bytes) new (told', bytes', e, h) (success, is) =
-    let same : told ≡ told' = cc in
-    let (key_is, parts) = told_key exited old new size told' bytes'.items h (ap (λ (r : MapReply). r.status) (sym same) ∙ success) in
+key_in : {A : Type 0} (exited : Bool) (old : Parts) (size key : ℕ) (S : Setting) (answer : Reply A) (new : Parts) → Answers S exited old (call.GetMemoryMap size) answer new → ReturnsKey answer key → (key ≡ old.book.key) × (new ≡ old)
+key_in exited old size key S (reply.GetMemoryMap returned bytes) new (returned', bytes', e, h) (success, is) =
+    let same : returned ≡ returned' = cc in
+    let (key_is, parts) = returned_key exited old new size returned' bytes'.items h (ap (λ (r : MapReply). r.status) (sym same) ∙ success) in
     (sym is ∙ ap (λ (r : MapReply). r.key) same ∙ key_is, parts)
 key_in exited old size key S answer new h t = absurd t
 
 -- the key that GetMemoryMap gave is the current one
 given_key : {A : Type 0} (S : Setting) (old : State) (key : ℕ) (new : State) → GivesKey S A old key new → (key ≡ old.parts.book.key) × (new.parts ≡ old.parts)
 given_key S old key new (inl (size, answer, step, tells)) = key_in old.exited old.parts size key S answer new.parts step.answers tells
-given_key S old key new (inr (buffer, after, told, step, success, is)) =
-    let (key_is, parts) = told_directly old.exited old.parts new.parts buffer told after step.answers success in
+given_key S old key new (inr (buffer, after, returned, step, success, is)) =
+    let (key_is, parts) = returned_directly old.exited old.parts new.parts buffer returned after step.answers success in
     (sym is ∙ key_is, parts)
 
 -- what an answer to ExitBootServices says of the key

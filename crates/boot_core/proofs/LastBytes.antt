@@ -50,5 +50,5 @@ pub last_bytes : {A : Type 0} (ds : List Meaning) (first old : State) (c : Call 
     Step ds new (call.PoolRead address (length bytes)) (reply.PoolRead Success used) after → used.items ≡ bytes
 last_bytes ds first old c answer address bytes calls replies new run used after sound step lays_here leaves reads =
     let still = stays_sound (best_starts ds) best_is_permitted first.exited first.parts c answer old.parts sound step.answers in
-    let (long, told) = read_bytes ds new.exited new.parts after.parts address (length bytes) used (run_sound (best_starts ds) best_is_permitted old calls replies new still run) reads.answers in
-    same_items used.items bytes long (λ i low. sym (told i low) ∙ kept ds old calls replies new run (address + i) still (leaves i low) ∙ lies ds first old c answer address bytes sound step lays_here i low)
+    let (long, returned) = read_bytes ds new.exited new.parts after.parts address (length bytes) used (run_sound (best_starts ds) best_is_permitted old calls replies new still run) reads.answers in
+    same_items used.items bytes long (λ i low. sym (returned i low) ∙ kept ds old calls replies new run (address + i) still (leaves i low) ∙ lies ds first old c answer address bytes sound step lays_here i low)

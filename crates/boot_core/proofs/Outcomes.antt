@@ -166,8 +166,8 @@ proper_request granule kind t pages memory is good some = if_some (placement_req
 
 -- a service that leaves all parts, or goes by a rule for the book
 served : {A R : Type 0} (Fits : Type 0) (exited : Bool) (old new : Parts) (answer : Reply A) (tell : Result R Status → Reply A) (Rule : Result R Status → Type 0) → ((result : Result R Status) → Rule result → Outcome Fits old.book new.book) → Serves exited old new answer tell Rule → Outcome Fits old.book new.book
-served Fits true old new answer tell Rule f (result, told, h) = inl (ap (λ (p : Parts). p.book) h.1)
-served Fits false old new answer tell Rule f (result, told, h) = f result h
+served Fits true old new answer tell Rule f (result, returned, h) = inl (ap (λ (p : Parts). p.book) h.1)
+served Fits false old new answer tell Rule f (result, returned, h) = f result h
 
 kept : (Fits : Type 0) (old new : Parts) → new ≡ old → Outcome Fits old.book new.book
 kept Fits old new e = inl (ap (λ (p : Parts). p.book) e)
@@ -219,18 +219,18 @@ module _ (S : Setting) (permits : Permits S.chosen) where
   listed b es bytes result new_b new proper granules h = any_fits (list_type < 2 ^ 32) b new_b (omega arith) (fills_pool b es list_type bytes result new_b new proper granules h)
 
   locates_buffer : {A : Type 0} (old : Parts) (search : ℕ) (guid : List ℕ) (key : ℕ) (result : Result (PoolList A) Status) (new : Parts) → IsProperMemory old.book.memory → IsInGranules old.book → LocatesBuffer S.chosen old search guid key result new → Outcome (Unit {0}) old.book new.book
-  locates_buffer old search guid key (Ok told) new proper granules (handles, found, some, count, filled, lists) = listed old.book old.pools (handle_bytes handles) (Ok (told.address, told.certificate)) new.book new.pools proper granules filled
+  locates_buffer old search guid key (Ok returned) new proper granules (handles, found, some, count, filled, lists) = listed old.book old.pools (handle_bytes handles) (Ok (returned.address, returned.certificate)) new.book new.pools proper granules filled
   locates_buffer old search guid key (Err status.InvalidParameter) new proper granules h = kept (Unit {0}) old new h.1
   locates_buffer old search guid key (Err status.NotFound) new proper granules h = kept (Unit {0}) old new h.1
   locates_buffer old search guid key (Err status.OutOfResources) new proper granules h = kept (Unit {0}) old new h.3
   locates_buffer old search guid key (Err other) new proper granules h = absurd h
 
-  puts_items : {A : Type 0} (old : Parts) (items : List OpenItem) (told : PoolList A) (new : Parts) → IsProperMemory old.book.memory → IsInGranules old.book → PutsItems S.chosen old items told new → Outcome (Unit {0}) old.book new.book
-  puts_items old [] told new proper granules h = kept (Unit {0}) old new h.2
-  puts_items old (i ∷ items) told new proper granules h = listed old.book old.pools (item_bytes (i ∷ items)) (Ok (told.address, told.certificate)) new.book new.pools proper granules h.0
+  puts_items : {A : Type 0} (old : Parts) (items : List OpenItem) (returned : PoolList A) (new : Parts) → IsProperMemory old.book.memory → IsInGranules old.book → PutsItems S.chosen old items returned new → Outcome (Unit {0}) old.book new.book
+  puts_items old [] returned new proper granules h = kept (Unit {0}) old new h.2
+  puts_items old (i ∷ items) returned new proper granules h = listed old.book old.pools (item_bytes (i ∷ items)) (Ok (returned.address, returned.certificate)) new.book new.pools proper granules h.0
 
   lists_opens : {A : Type 0} (old : Parts) (handle : ℕ) (guid : List ℕ) (result : Result (PoolList A) Status) (new : Parts) → IsProperMemory old.book.memory → IsInGranules old.book → ListsOpens S.chosen old handle guid result new → Outcome (Unit {0}) old.book new.book
-  lists_opens old handle guid (Ok told) new proper granules h = puts_items old (items_on old.lists.opens handle guid) told new proper granules h.2
+  lists_opens old handle guid (Ok returned) new proper granules h = puts_items old (items_on old.lists.opens handle guid) returned new proper granules h.2
   lists_opens old handle guid (Err status.NotFound) new proper granules h = kept (Unit {0}) old new h.1
   lists_opens old handle guid (Err status.OutOfResources) new proper granules h = kept (Unit {0}) old new h.2
   lists_opens old handle guid (Err other) new proper granules h = absurd h

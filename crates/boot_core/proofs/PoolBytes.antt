@@ -41,11 +41,11 @@ same_bytes : (block : Option (ℕ × List ℕ)) (es new : List Extent) → block
 same_bytes block es new none e k = ap (byte_at k) e ∙ sym (ap (λ (o : Option (ℕ × List ℕ)). laid_over o k (byte_at k es)) none)
 
 -- what a result has of a block, with its bytes
-abbrev block_told : {R : Type 0} → (R → ℕ) → List ℕ → Result R Status → Option (ℕ × List ℕ)
-block_told address bytes (Ok told) = Some (address told, bytes)
-block_told address bytes (Err e) = None
+abbrev block_returned : {R : Type 0} → (R → ℕ) → List ℕ → Result R Status → Option (ℕ × List ℕ)
+block_returned address bytes (Ok returned) = Some (address returned, bytes)
+block_returned address bytes (Err e) = None
 
-allocated : (b new_b : Book) (es new : List Extent) (t size : ℕ) (result : Result Answer Status) (l : Lists) → AreSound (parts_of b es l) → AllocatesPool IsBestChoice b es t size result new_b new → Laid (block_told (λ (block : Answer). block.0) (replicate size 0) result) es new
+allocated : (b new_b : Book) (es new : List Extent) (t size : ℕ) (result : Result Answer Status) (l : Lists) → AreSound (parts_of b es l) → AllocatesPool IsBestChoice b es t size result new_b new → Laid (block_returned (λ (block : Answer). block.0) (replicate size 0) result) es new
 allocated b new_b es new t size (Ok answer) l sound h k = (took b new_b es new t size answer sound.granules.granule sound.proper sound.owned sound.extents h k).0
 allocated b new_b es new t size (Err status.InvalidParameter) l sound h k = ap (byte_at k) h.2
 allocated b new_b es new t size (Err status.OutOfResources) l sound h k = ap (byte_at k) h.3
@@ -60,18 +60,18 @@ given_back b new_b es new address (Err status.InvalidParameter) l sound h k = ap
 given_back b new_b es new address (Err status.OutOfResources) l sound h k = ap (byte_at k) h.5
 given_back b new_b es new address (Err other) l sound h k = absurd h
 
-written_bytes : (es new : List Extent) (address : ℕ) (bytes : List ℕ) (result : Result (Unit {0}) Status) (b : Book) (l : Lists) → AreSound (parts_of b es l) → WritesPool es address bytes result new → Laid (block_told (λ (done : Unit {0}). address) bytes result) es new
+written_bytes : (es new : List Extent) (address : ℕ) (bytes : List ℕ) (result : Result (Unit {0}) Status) (b : Book) (l : Lists) → AreSound (parts_of b es l) → WritesPool es address bytes result new → Laid (block_returned (λ (done : Unit {0}). address) bytes result) es new
 written_bytes es new address bytes (Ok done) b l sound h k = wrote es new address bytes done sound.extents h k
 written_bytes es new address bytes (Err status.InvalidParameter) b l sound h k = ap (byte_at k) h.1
 written_bytes es new address bytes (Err other) b l sound h k = absurd h
 
-filled_bytes : {A : Type 0} (old new : Parts) (bytes : List ℕ) (told : PoolList A) → AreSound old → FillsPool IsBestChoice old.book old.pools list_type bytes (Ok (told.address, told.certificate)) new.book new.pools → Laid (Some (told.address, bytes)) old.pools new.pools
-filled_bytes old new bytes told sound h k = (filled old.book new.book old.pools new.pools list_type bytes (told.address, told.certificate) sound.granules.granule sound.proper sound.owned sound.extents h k).0
+filled_bytes : {A : Type 0} (old new : Parts) (bytes : List ℕ) (returned : PoolList A) → AreSound old → FillsPool IsBestChoice old.book old.pools list_type bytes (Ok (returned.address, returned.certificate)) new.book new.pools → Laid (Some (returned.address, bytes)) old.pools new.pools
+filled_bytes old new bytes returned sound h k = (filled old.book new.book old.pools new.pools list_type bytes (returned.address, returned.certificate) sound.granules.granule sound.proper sound.owned sound.extents h k).0
 
 buffer_bytes : {A : Type 0} (old new : Parts) (search : ℕ) (guid : List ℕ) (key : ℕ) (result : Result (PoolList A) Status) → AreSound old → LocatesBuffer IsBestChoice old search guid key result new →
-    Laid (block_told (λ (told : PoolList A). told.address) (handle_bytes (handles_of (found_handles old.lists search guid key))) result) old.pools new.pools
-buffer_bytes old new search guid key (Ok told) sound (handles, found, some, count, filled, lists) k =
-    rw found (filled_bytes old new (handle_bytes handles) told sound filled k)
+    Laid (block_returned (λ (returned : PoolList A). returned.address) (handle_bytes (handles_of (found_handles old.lists search guid key))) result) old.pools new.pools
+buffer_bytes old new search guid key (Ok returned) sound (handles, found, some, count, filled, lists) k =
+    rw found (filled_bytes old new (handle_bytes handles) returned sound filled k)
 buffer_bytes old new search guid key (Err status.InvalidParameter) sound h k = ap (λ (p : Parts). byte_at k p.pools) h.1
 buffer_bytes old new search guid key (Err status.NotFound) sound h k = ap (λ (p : Parts). byte_at k p.pools) h.1
 buffer_bytes old new search guid key (Err status.OutOfResources) sound h k = ap (λ (p : Parts). byte_at k p.pools) h.3
@@ -84,13 +84,13 @@ nothing_laid address k o = elim (cases_lt k address) [
   | inr l ↦ laid-high address [] k o (omega (arith, l))
 ]
 
-item_list : {A : Type 0} (old new : Parts) (items : List OpenItem) (told : PoolList A) → AreSound old → PutsItems IsBestChoice old items told new → Laid (Some (told.address, item_bytes items)) old.pools new.pools
-item_list old new [] told sound h k = ap (λ (p : Parts). byte_at k p.pools) h.2 ∙ sym (nothing_laid told.address k (byte_at k old.pools))
-item_list old new (i ∷ items) told sound h k = filled_bytes old new (item_bytes (i ∷ items)) told sound h.0 k
+item_list : {A : Type 0} (old new : Parts) (items : List OpenItem) (returned : PoolList A) → AreSound old → PutsItems IsBestChoice old items returned new → Laid (Some (returned.address, item_bytes items)) old.pools new.pools
+item_list old new [] returned sound h k = ap (λ (p : Parts). byte_at k p.pools) h.2 ∙ sym (nothing_laid returned.address k (byte_at k old.pools))
+item_list old new (i ∷ items) returned sound h k = filled_bytes old new (item_bytes (i ∷ items)) returned sound h.0 k
 
 list_bytes : {A : Type 0} (old new : Parts) (handle : ℕ) (guid : List ℕ) (result : Result (PoolList A) Status) → AreSound old → ListsOpens IsBestChoice old handle guid result new →
-    Laid (block_told (λ (told : PoolList A). told.address) (item_bytes (items_on old.lists.opens handle guid)) result) old.pools new.pools
-list_bytes old new handle guid (Ok told) sound h k = item_list old new (items_on old.lists.opens handle guid) told sound h.2 k
+    Laid (block_returned (λ (returned : PoolList A). returned.address) (item_bytes (items_on old.lists.opens handle guid)) result) old.pools new.pools
+list_bytes old new handle guid (Ok returned) sound h k = item_list old new (items_on old.lists.opens handle guid) returned sound h.2 k
 list_bytes old new handle guid (Err status.NotFound) sound h k = ap (λ (p : Parts). byte_at k p.pools) h.1
 list_bytes old new handle guid (Err status.OutOfResources) sound h k = ap (λ (p : Parts). byte_at k p.pools) h.2
 list_bytes old new handle guid (Err other) sound h k = absurd h
@@ -98,38 +98,38 @@ list_bytes old new handle guid (Err other) sound h k = absurd h
 -- ---- a step
 
 -- what the replies have of blocks
-told_pool : (A : Type 0) (p : Parts) (t size : ℕ) (result : Result Answer Status) → lays {A = A} p (call.AllocatePool t size) (reply.AllocatePool result) ≡ block_told (λ (block : Answer). block.0) (replicate size 0) result
-told_pool A p t size (Ok block) = refl
-told_pool A p t size (Err e) = refl
+returned_pool : (A : Type 0) (p : Parts) (t size : ℕ) (result : Result Answer Status) → lays {A = A} p (call.AllocatePool t size) (reply.AllocatePool result) ≡ block_returned (λ (block : Answer). block.0) (replicate size 0) result
+returned_pool A p t size (Ok block) = refl
+returned_pool A p t size (Err e) = refl
 
-told_write : (A : Type 0) (p : Parts) (address : ℕ) (bytes : List ℕ) (result : Result (Unit {0}) Status) → lays {A = A} p (call.PoolWrite address bytes) (reply.PoolWrite result) ≡ block_told (λ (done : Unit {0}). address) bytes result
-told_write A p address bytes (Ok done) = refl
-told_write A p address bytes (Err e) = refl
+returned_write : (A : Type 0) (p : Parts) (address : ℕ) (bytes : List ℕ) (result : Result (Unit {0}) Status) → lays {A = A} p (call.PoolWrite address bytes) (reply.PoolWrite result) ≡ block_returned (λ (done : Unit {0}). address) bytes result
+returned_write A p address bytes (Ok done) = refl
+returned_write A p address bytes (Err e) = refl
 
-told_buffer : {A : Type 0} (p : Parts) (search : ℕ) (guid : List ℕ) (key : ℕ) (result : Result (PoolList A) Status) →
-    lays p (call.LocateHandleBuffer search guid key) (reply.LocateHandleBuffer result) ≡ block_told (λ (told : PoolList A). told.address) (handle_bytes (handles_of (found_handles p.lists search guid key))) result
-told_buffer p search guid key (Ok told) = refl
-told_buffer p search guid key (Err e) = refl
+returned_buffer : {A : Type 0} (p : Parts) (search : ℕ) (guid : List ℕ) (key : ℕ) (result : Result (PoolList A) Status) →
+    lays p (call.LocateHandleBuffer search guid key) (reply.LocateHandleBuffer result) ≡ block_returned (λ (returned : PoolList A). returned.address) (handle_bytes (handles_of (found_handles p.lists search guid key))) result
+returned_buffer p search guid key (Ok returned) = refl
+returned_buffer p search guid key (Err e) = refl
 
-told_list : {A : Type 0} (p : Parts) (handle : ℕ) (guid : List ℕ) (result : Result (PoolList A) Status) →
-    lays p (call.OpenProtocolInformation handle guid) (reply.OpenProtocolInformation result) ≡ block_told (λ (told : PoolList A). told.address) (item_bytes (items_on p.lists.opens handle guid)) result
-told_list p handle guid (Ok told) = refl
-told_list p handle guid (Err e) = refl
+returned_list : {A : Type 0} (p : Parts) (handle : ℕ) (guid : List ℕ) (result : Result (PoolList A) Status) →
+    lays p (call.OpenProtocolInformation handle guid) (reply.OpenProtocolInformation result) ≡ block_returned (λ (returned : PoolList A). returned.address) (item_bytes (items_on p.lists.opens handle guid)) result
+returned_list p handle guid (Ok returned) = refl
+returned_list p handle guid (Err e) = refl
 
-told_free : (A : Type 0) (address : ℕ) (result : Result (Unit {0}) Status) → gives_back {A = A} (call.FreePool address) (reply.FreePool result) ≡ cond (is_ok result) (Some address) None
-told_free A address (Ok done) = refl
-told_free A address (Err e) = refl
+returned_free : (A : Type 0) (address : ℕ) (result : Result (Unit {0}) Status) → gives_back {A = A} (call.FreePool address) (reply.FreePool result) ≡ cond (is_ok result) (Some address) None
+returned_free A address (Ok done) = refl
+returned_free A address (Err e) = refl
 
 -- a service that leaves all parts and returns an error, or goes by a rule
 changed : {A R : Type 0} (exited : Bool) (old new : Parts) (c : Call A) (answer : Reply A) (tell : Result R Status → Reply A) (Rule : Result R Status → Type 0) (k : ℕ) → byte_after old c (tell (Err status.Unsupported)) k ≡ byte_at k old.pools →
     ((result : Result R Status) → Rule result → byte_at k new.pools ≡ byte_after old c (tell result) k) → Serves exited old new answer tell Rule → byte_at k new.pools ≡ byte_after old c answer k
-changed true old new c answer tell Rule k leaves f (result, told, h) =
-    ap (λ (p : Parts). byte_at k p.pools) h.1 ∙ sym leaves ∙ sym (ap (λ a. byte_after old c a k) (told ∙ ap tell h.0))
-changed false old new c answer tell Rule k leaves f (result, told, h) = f result h ∙ sym (ap (λ a. byte_after old c a k) told)
+changed true old new c answer tell Rule k leaves f (result, returned, h) =
+    ap (λ (p : Parts). byte_at k p.pools) h.1 ∙ sym leaves ∙ sym (ap (λ a. byte_after old c a k) (returned ∙ ap tell h.0))
+changed false old new c answer tell Rule k leaves f (result, returned, h) = f result h ∙ sym (ap (λ a. byte_after old c a k) returned)
 
 -- by what a reply has of a block
-laid_by : (old new : Parts) (block told : Option (ℕ × List ℕ)) (k : ℕ) → told ≡ block → Laid block old.pools new.pools → byte_at k new.pools ≡ laid_over told k (byte_at k old.pools)
-laid_by old new block told k e h = h k ∙ sym (ap (λ (o : Option (ℕ × List ℕ)). laid_over o k (byte_at k old.pools)) e)
+laid_by : (old new : Parts) (block returned : Option (ℕ × List ℕ)) (k : ℕ) → returned ≡ block → Laid block old.pools new.pools → byte_at k new.pools ≡ laid_over returned k (byte_at k old.pools)
+laid_by old new block returned k e h = h k ∙ sym (ap (λ (o : Option (ℕ × List ℕ)). laid_over o k (byte_at k old.pools)) e)
 
 -- what a service on the pages does
 same_pools : (exited : Bool) (old new : Parts) (Rule Refusal : Type 0) → (Rule → new.pools ≡ old.pools) → WhileOpen exited old new Rule Refusal → new.pools ≡ old.pools
@@ -141,19 +141,19 @@ bytes_after {A = A} ds exited old (call.AllocatePages kind t pages memory) answe
 bytes_after {A = A} ds exited old (call.FreePages memory pages) answer new sound (result, e, h) k = ap (byte_at k) (same_pools exited old new _ _ (λ rule. rule.1) h)
 bytes_after {A = A} ds exited old (call.AllocatePool t size) answer new sound h k =
     changed exited old new (call.AllocatePool t size) answer reply.AllocatePool (λ result. OnBookAndPools (AllocatesPool IsBestChoice old.book old.pools t size result) old new) k refl
-    (λ result rule. laid_by old new _ _ k (told_pool A old t size result) (allocated old.book new.book old.pools new.pools t size result old.lists sound rule.0)) h
+    (λ result rule. laid_by old new _ _ k (returned_pool A old t size result) (allocated old.book new.book old.pools new.pools t size result old.lists sound rule.0)) h
 bytes_after {A = A} ds exited old (call.FreePool address) answer new sound h k =
     changed exited old new (call.FreePool address) answer reply.FreePool (λ result. OnBookAndPools (FreesPool old.book old.pools address result) old new) k refl
-    (λ result rule. given_back old.book new.book old.pools new.pools address result old.lists sound rule.0 k ∙ sym (ap (λ (o : Option ℕ). left_by o old.pools k) (told_free A address result))) h
+    (λ result rule. given_back old.book new.book old.pools new.pools address result old.lists sound rule.0 k ∙ sym (ap (λ (o : Option ℕ). left_by o old.pools k) (returned_free A address result))) h
 bytes_after {A = A} ds exited old (call.PoolWrite address bytes) answer new sound h k =
     changed exited old new (call.PoolWrite address bytes) answer reply.PoolWrite (λ result. OnPools (WritesPool old.pools address bytes result) old new) k refl
-    (λ result rule. laid_by old new _ _ k (told_write A old address bytes result) (written_bytes old.pools new.pools address bytes result old.book old.lists sound rule.0)) h
+    (λ result rule. laid_by old new _ _ k (returned_write A old address bytes result) (written_bytes old.pools new.pools address bytes result old.book old.lists sound rule.0)) h
 bytes_after {A = A} ds exited old (call.LocateHandleBuffer search guid key) answer new sound h k =
     changed exited old new (call.LocateHandleBuffer search guid key) answer reply.LocateHandleBuffer (λ result. LocatesBuffer IsBestChoice old search guid key result new) k refl
-    (λ result rule. laid_by old new _ _ k (told_buffer old search guid key result) (buffer_bytes old new search guid key result sound rule)) h
+    (λ result rule. laid_by old new _ _ k (returned_buffer old search guid key result) (buffer_bytes old new search guid key result sound rule)) h
 bytes_after {A = A} ds exited old (call.OpenProtocolInformation handle guid) answer new sound h k =
     changed exited old new (call.OpenProtocolInformation handle guid) answer reply.OpenProtocolInformation (λ result. ListsOpens IsBestChoice old handle guid result new) k refl
-    (λ result rule. laid_by old new _ _ k (told_list old handle guid result) (list_bytes old new handle guid result sound rule)) h
+    (λ result rule. laid_by old new _ _ k (returned_list old handle guid result) (list_bytes old new handle guid result sound rule)) h
 bytes_after {A = A} ds exited old c answer new sound h k = ap (byte_at k) (quiet (best_starts ds) exited old c answer new tt h).1
 
 -- ---- reads
@@ -165,9 +165,9 @@ read_rule es address size bytes b l sound (whole, here, room, is) =
 
 pub read_bytes : {A : Type 0} (ds : List Meaning) (exited : Bool) (old new : Parts) (address size : ℕ) (bytes : Vec ℕ A) → AreSound old → Answers (best_starts ds) exited old (call.PoolRead address size) (reply.PoolRead status.Success bytes) new →
     (length bytes.items ≡ size) × ((i : ℕ) → i < size → byte_at (address + i) old.pools ≡ first_of (drop i bytes.items))
-read_bytes ds true old new address size bytes sound (told, used, e, h) = let refused = h.0.0 in absurd (cc)
-read_bytes {A = A} ds false old new address size bytes sound (told, used, e, h) =
-    let success : told ≡ status.Success = cc in
+read_bytes ds true old new address size bytes sound (returned, used, e, h) = let refused = h.0.0 in absurd (cc)
+read_bytes {A = A} ds false old new address size bytes sound (returned, used, e, h) =
+    let success : returned ≡ status.Success = cc in
     let same : used ≡ bytes = cc in
-    let is : AnswersRead old.pools address size told bytes.items = subst (λ (v : Vec ℕ A). AnswersRead old.pools address size told v.items) same h.0 in
+    let is : AnswersRead old.pools address size returned bytes.items = subst (λ (v : Vec ℕ A). AnswersRead old.pools address size returned v.items) same h.0 in
     read_rule old.pools address size bytes.items old.book old.lists sound (subst (λ (s : Status). AnswersRead old.pools address size s bytes.items) success is)

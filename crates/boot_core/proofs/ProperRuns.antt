@@ -29,22 +29,22 @@ while_open false old new Rule Refusal s f h = f h
 -- a service that leaves all parts, or goes by a rule
 served : {A R : Type 0} (exited : Bool) (old new : Parts) (answer : Reply A) (tell : Result R Status → Reply A) (Rule : Result R Status → Type 0) → AreProperLists old.lists → ((result : Result R Status) → Rule result → AreProperLists new.lists)
     → Serves exited old new answer tell Rule → AreProperLists new.lists
-served exited old new answer tell Rule s f (result, told, h) = while_open exited old new (Rule result) _ s (f result) h
+served exited old new answer tell Rule s f (result, returned, h) = while_open exited old new (Rule result) _ s (f result) h
 
 locates_buffer : {A : Type 0} (S : Setting) (old : Parts) (search : ℕ) (guid : List ℕ) (key : ℕ) (result : Result (PoolList A) Status) (new : Parts) → AreProperLists old.lists → LocatesBuffer S.chosen old search guid key result new
     → AreProperLists new.lists
-locates_buffer S old search guid key (Ok told) new s (handles, found, some, count, filled, lists) = subst AreProperLists (sym lists) (found_proper search key old.lists s)
+locates_buffer S old search guid key (Ok returned) new s (handles, found, some, count, filled, lists) = subst AreProperLists (sym lists) (found_proper search key old.lists s)
 locates_buffer S old search guid key (Err status.InvalidParameter) new s h = all_stay old new s h.1
 locates_buffer S old search guid key (Err status.NotFound) new s h = all_stay old new s h.1
 locates_buffer S old search guid key (Err status.OutOfResources) new s h = all_stay old new s h.3
 locates_buffer S old search guid key (Err other) new s h = absurd h
 
-puts_items : {A : Type 0} (S : Setting) (old : Parts) (items : List OpenItem) (told : PoolList A) (new : Parts) → AreProperLists old.lists → PutsItems S.chosen old items told new → AreProperLists new.lists
-puts_items S old [] told new s h = all_stay old new s h.2
-puts_items S old (i ∷ items) told new s h = same old.lists new.lists s h.1
+puts_items : {A : Type 0} (S : Setting) (old : Parts) (items : List OpenItem) (returned : PoolList A) (new : Parts) → AreProperLists old.lists → PutsItems S.chosen old items returned new → AreProperLists new.lists
+puts_items S old [] returned new s h = all_stay old new s h.2
+puts_items S old (i ∷ items) returned new s h = same old.lists new.lists s h.1
 
 lists_opens : {A : Type 0} (S : Setting) (old : Parts) (handle : ℕ) (guid : List ℕ) (result : Result (PoolList A) Status) (new : Parts) → AreProperLists old.lists → ListsOpens S.chosen old handle guid result new → AreProperLists new.lists
-lists_opens S old handle guid (Ok told) new s h = puts_items S old (items_on old.lists.opens handle guid) told new s h.2
+lists_opens S old handle guid (Ok returned) new s h = puts_items S old (items_on old.lists.opens handle guid) returned new s h.2
 lists_opens S old handle guid (Err status.NotFound) new s h = all_stay old new s h.1
 lists_opens S old handle guid (Err status.OutOfResources) new s h = all_stay old new s h.2
 lists_opens S old handle guid (Err other) new s h = absurd h
@@ -53,10 +53,10 @@ lists_opens S old handle guid (Err other) new s h = absurd h
 stay_proper : {A : Type 0} (S : Setting) (exited : Bool) (old : Parts) (c : Call A) (answer : Reply A) (new : Parts) → AreProperLists old.lists → Answers S exited old c answer new → AreProperLists new.lists
 stay_proper S exited old (call.AllocatePages kind t pages memory) answer new s h = served exited old new answer _ _ s (λ result rule. same old.lists new.lists s rule.2) h
 stay_proper S exited old (call.FreePages memory pages) answer new s h = served exited old new answer _ _ s (λ result rule. same old.lists new.lists s rule.2) h
-stay_proper S exited old (call.GetMemoryMap size) answer new s (told, bytes, e, h) = while_open exited old new _ _ s (λ rule. all_stay old new s rule.1) h
+stay_proper S exited old (call.GetMemoryMap size) answer new s (returned, bytes, e, h) = while_open exited old new _ _ s (λ rule. all_stay old new s rule.1) h
 stay_proper S exited old (call.AllocatePool t size) answer new s h = served exited old new answer _ _ s (λ result rule. same old.lists new.lists s rule.1) h
 stay_proper S exited old (call.FreePool address) answer new s h = served exited old new answer _ _ s (λ result rule. same old.lists new.lists s rule.1) h
-stay_proper S exited old (call.PoolRead address size) answer new s (told, bytes, e, h) = while_open exited old new _ _ s (λ rule. all_stay old new s rule.1) h
+stay_proper S exited old (call.PoolRead address size) answer new s (returned, bytes, e, h) = while_open exited old new _ _ s (λ rule. all_stay old new s rule.1) h
 stay_proper S exited old (call.PoolWrite address bytes) answer new s h = served exited old new answer _ _ s (λ result rule. same old.lists new.lists s rule.2) h
 stay_proper S exited old (call.InstallProtocolInterface handle guid kind value) answer new s h =
     served exited old new answer _ _ s (λ result rule. installs_one old.lists handle guid kind value result new.lists s rule.0) h
@@ -67,8 +67,8 @@ stay_proper S exited old (call.UninstallProtocolInterface handle guid value) ans
 stay_proper S exited old (call.ReinstallProtocolInterface handle guid old_value new_value) answer new s h =
     served exited old new answer _ _ s (λ result rule. reinstalls S.drivers old.lists handle guid old_value new_value result new.lists s rule.0) h
 stay_proper S exited old (call.RegisterProtocolNotify guid event) answer new s h = served exited old new answer _ _ s (λ result rule. registers old.lists guid event result new.lists s rule.0) h
-stay_proper S exited old (call.LocateHandle search guid key size) answer new s (told, e, h) =
-    while_open exited old new _ _ s (λ rule. locates_handles old.lists search guid key size told new.lists s rule.0) h
+stay_proper S exited old (call.LocateHandle search guid key size) answer new s (returned, e, h) =
+    while_open exited old new _ _ s (λ rule. locates_handles old.lists search guid key size returned new.lists s rule.0) h
 stay_proper S exited old (call.LocateHandleBuffer search guid key) answer new s h = served exited old new answer _ _ s (λ result rule. locates_buffer S old search guid key result new s rule) h
 stay_proper S exited old (call.LocateProtocol guid key) answer new s h = served exited old new answer _ _ s (λ result rule. locates_protocol old.lists guid key result new.lists s rule.0) h
 stay_proper S exited old (call.ProtocolsPerHandle handle) answer new s h = served exited old new answer _ _ s (λ result rule. all_stay old new s rule.1) h

@@ -64,8 +64,8 @@ writes_kept old address bytes result es sound h =
 
 -- a service that leaves all parts, or goes by a rule
 served : {A R : Type 0} (exited : Bool) (old new : Parts) (answer : Reply A) (tell : Result R Status → Reply A) (Rule : Result R Status → Type 0) → AreSound old → ((result : Result R Status) → Rule result → AreSound new) → Serves exited old new answer tell Rule → AreSound new
-served true old new answer tell Rule sound f (result, told, h) = subst AreSound (sym h.1) sound
-served false old new answer tell Rule sound f (result, told, h) = f result h
+served true old new answer tell Rule sound f (result, returned, h) = subst AreSound (sym h.1) sound
+served false old new answer tell Rule sound f (result, returned, h) = f result h
 
 -- a refusal leaves all
 unchanged_kept : (old new : Parts) → AreSound old → new ≡ old → IsKept old new.book new.pools
@@ -96,18 +96,18 @@ module _ (S : Setting) (permits : Permits S.chosen) where
       kept_by _ old b es sound (fills_pool S permits old.book old.pools t bytes result b es sound.proper sound.granules h) granules extents owned
 
   pub locates_buffer_kept : {A : Type 0} (old : Parts) (search : ℕ) (guid : List ℕ) (key : ℕ) (result : Result (PoolList A) Status) (new : Parts) → AreSound old → LocatesBuffer S.chosen old search guid key result new → IsKept old new.book new.pools
-  locates_buffer_kept old search guid key (Ok told) new sound (handles, found, some, count, filled, lists) = fills_pool_kept old list_type (handle_bytes handles) (Ok (told.address, told.certificate)) new.book new.pools sound filled
+  locates_buffer_kept old search guid key (Ok returned) new sound (handles, found, some, count, filled, lists) = fills_pool_kept old list_type (handle_bytes handles) (Ok (returned.address, returned.certificate)) new.book new.pools sound filled
   locates_buffer_kept old search guid key (Err status.InvalidParameter) new sound h = unchanged_kept old new sound h.1
   locates_buffer_kept old search guid key (Err status.NotFound) new sound h = unchanged_kept old new sound h.1
   locates_buffer_kept old search guid key (Err status.OutOfResources) new sound h = unchanged_kept old new sound h.3
   locates_buffer_kept old search guid key (Err other) new sound h = absurd h
 
-  puts_items_kept : {A : Type 0} (old : Parts) (items : List OpenItem) (told : PoolList A) (new : Parts) → AreSound old → PutsItems S.chosen old items told new → IsKept old new.book new.pools
-  puts_items_kept old [] told new sound h = unchanged_kept old new sound h.2
-  puts_items_kept old (i ∷ items) told new sound h = fills_pool_kept old list_type (item_bytes (i ∷ items)) (Ok (told.address, told.certificate)) new.book new.pools sound h.0
+  puts_items_kept : {A : Type 0} (old : Parts) (items : List OpenItem) (returned : PoolList A) (new : Parts) → AreSound old → PutsItems S.chosen old items returned new → IsKept old new.book new.pools
+  puts_items_kept old [] returned new sound h = unchanged_kept old new sound h.2
+  puts_items_kept old (i ∷ items) returned new sound h = fills_pool_kept old list_type (item_bytes (i ∷ items)) (Ok (returned.address, returned.certificate)) new.book new.pools sound h.0
 
   pub lists_opens_kept : {A : Type 0} (old : Parts) (handle : ℕ) (guid : List ℕ) (result : Result (PoolList A) Status) (new : Parts) → AreSound old → ListsOpens S.chosen old handle guid result new → IsKept old new.book new.pools
-  lists_opens_kept old handle guid (Ok told) new sound h = puts_items_kept old (items_on old.lists.opens handle guid) told new sound h.2
+  lists_opens_kept old handle guid (Ok returned) new sound h = puts_items_kept old (items_on old.lists.opens handle guid) returned new sound h.2
   lists_opens_kept old handle guid (Err status.NotFound) new sound h = unchanged_kept old new sound h.1
   lists_opens_kept old handle guid (Err status.OutOfResources) new sound h = unchanged_kept old new sound h.2
   lists_opens_kept old handle guid (Err other) new sound h = absurd h

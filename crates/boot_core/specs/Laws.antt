@@ -73,14 +73,14 @@ KeyCountLaw S A = (old : State) (calls : List (Call A)) (replies : List (Reply A
     AreSound old.parts → ChangesTypes S old calls replies new run n ↔ (new.parts.book.key ≡ old.parts.book.key + n)
 
 -- the reply is of a GetMemoryMap that succeeded, with this key
-abbrev pub TellsKey : {A : Type 0} → Reply A → ℕ → Type 0
-TellsKey (reply.GetMemoryMap told bytes) key = (told.status ≡ Success) × (told.key ≡ key)
-TellsKey answer key = ⊥
+abbrev pub ReturnsKey : {A : Type 0} → Reply A → ℕ → Type 0
+ReturnsKey (reply.GetMemoryMap returned bytes) key = (returned.status ≡ Success) × (returned.key ≡ key)
+ReturnsKey answer key = ⊥
 
 -- GetMemoryMap returned the key, through a call or of a buffer of the caller's.
 abbrev pub GivesKey : Setting → Type 0 → State → ℕ → State → Type 0
 GivesKey S A old key new =
-    ((size : ℕ) × (answer : Reply A) × StepBy S old (call.GetMemoryMap size) answer new × TellsKey answer key) ⊎ ((buffer after : List ℕ) × (told : MapReply) × MapStep old buffer told after new × (told.status ≡ Success) × (told.key ≡ key))
+    ((size : ℕ) × (answer : Reply A) × StepBy S old (call.GetMemoryMap size) answer new × ReturnsKey answer key) ⊎ ((buffer after : List ℕ) × (returned : MapReply) × MapStep old buffer returned after new × (returned.status ≡ Success) × (returned.key ≡ key))
 
 -- Before an exit, a key that GetMemoryMap returned is accepted exactly where no call since has
 -- changed the type of a page.
@@ -99,9 +99,9 @@ used_size status size = 0
 -- GetMemoryMap with a buffer of the caller's is a step of the machine, with the reply that a call
 -- returns and the front of the buffer; the rest of the buffer is as it was.
 abbrev pub MapStepLaw : Type 0 → Type 0
-MapStepLaw A = (ds : List Meaning) (old : State) (buffer : List ℕ) (told : MapReply) (after : List ℕ) (new : State) (used : Vec ℕ A) →
-    MapStep old buffer told after new → used.items ≡ take (used_size told.status told.size) after →
-    Step ds old (call.GetMemoryMap (length buffer)) (reply.GetMemoryMap told used) new × (after ≡ used.items ++ drop (length used.items) buffer)
+MapStepLaw A = (ds : List Meaning) (old : State) (buffer : List ℕ) (returned : MapReply) (after : List ℕ) (new : State) (used : Vec ℕ A) →
+    MapStep old buffer returned after new → used.items ≡ take (used_size returned.status returned.size) after →
+    Step ds old (call.GetMemoryMap (length buffer)) (reply.GetMemoryMap returned used) new × (after ≡ used.items ++ drop (length used.items) buffer)
 
 -- how many bytes of a buffer a status of a read says were used: all on success
 abbrev pub read_size : Status → ℕ → ℕ
@@ -135,11 +135,11 @@ bytes_left None = 0
 bytes_left (Some bytes) = length bytes
 
 -- the address of the block that a reply has
-abbrev pub told_block : {A : Type 0} → Reply A → Option ℕ
-told_block (reply.AllocatePool (Ok block)) = Some block.0
-told_block (reply.LocateHandleBuffer (Ok told)) = Some told.address
-told_block (reply.OpenProtocolInformation (Ok told)) = Some told.address
-told_block answer = None
+abbrev pub returned_block : {A : Type 0} → Reply A → Option ℕ
+returned_block (reply.AllocatePool (Ok block)) = Some block.0
+returned_block (reply.LocateHandleBuffer (Ok returned)) = Some returned.address
+returned_block (reply.OpenProtocolInformation (Ok returned)) = Some returned.address
+returned_block answer = None
 
 -- whether a reply says that a block was given back, or written to
 abbrev pub is_done : {A : Type 0} → Reply A → Bool
@@ -155,10 +155,10 @@ handles_of (Some handles) = handles
 -- from which address on a call lays bytes in the pool, and which: the zeros of a new block, those
 -- of a write, or a list
 abbrev pub lays : {A : Type 0} → Parts → Call A → Reply A → Option (ℕ × List ℕ)
-lays p (call.AllocatePool t size) answer = option_map (λ address. (address, replicate size 0)) (told_block answer)
+lays p (call.AllocatePool t size) answer = option_map (λ address. (address, replicate size 0)) (returned_block answer)
 lays p (call.PoolWrite address bytes) answer = cond (is_done answer) (Some (address, bytes)) None
-lays p (call.LocateHandleBuffer search guid key) answer = option_map (λ address. (address, handle_bytes (handles_of (found_handles p.lists search guid key)))) (told_block answer)
-lays p (call.OpenProtocolInformation handle guid) answer = option_map (λ address. (address, item_bytes (items_on p.lists.opens handle guid))) (told_block answer)
+lays p (call.LocateHandleBuffer search guid key) answer = option_map (λ address. (address, handle_bytes (handles_of (found_handles p.lists search guid key)))) (returned_block answer)
+lays p (call.OpenProtocolInformation handle guid) answer = option_map (λ address. (address, item_bytes (items_on p.lists.opens handle guid))) (returned_block answer)
 lays p c answer = None
 
 -- the block that a call gives back
@@ -206,7 +206,7 @@ LastBytesLaw A = (ds : List Meaning) (first old : State) (c : Call A) (answer : 
 -- The certificate of a reply, where it has one, is accepted by the checker with the memory map
 -- before the call.
 abbrev pub IsAcceptedReply : {A : Type 0} → State → Call A → Reply A → Type 0
-IsAcceptedReply old c answer = IfSome (certified old.parts.book.granule c answer) (λ told. IsAccepted (memory_map old.parts.book.memory) told.0 told.1)
+IsAcceptedReply old c answer = IfSome (certified old.parts.book.granule c answer) (λ returned. IsAccepted (memory_map old.parts.book.memory) returned.0 returned.1)
 
 -- so is the certificate of each reply of the run
 abbrev pub AllAccepted : {A : Type 0} (ds : List Meaning) (old : State) (calls : List (Call A)) (replies : List (Reply A)) (new : State) → CallRun ds old calls replies new → Type 0

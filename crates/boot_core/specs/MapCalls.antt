@@ -23,5 +23,5 @@ room_for_map b room = if nat_le (map_size b) room then map_size b else 0
 -- What is answered of a buffer of a size, with the bytes that are used of it. Memory for the core's
 -- own buffer may run out where the map has entries and fits, and nowhere else.
 abbrev pub AnswersMap : Book → ℕ → MapReply → List ℕ → Type 0
-AnswersMap b room told bytes =
-    ((told ≡ map_reply b room) × (bytes ≡ map_bytes b room)) ⊎ ((0 < map_size b) × (map_size b ≤ room) × (told ≡ refused_map OutOfResources) × (bytes ≡ []))
+AnswersMap b room returned bytes =
+    ((returned ≡ map_reply b room) × (bytes ≡ map_bytes b room)) ⊎ ((0 < map_size b) × (map_size b ≤ room) × (returned ≡ refused_map OutOfResources) × (bytes ≡ []))

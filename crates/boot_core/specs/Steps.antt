@@ -11,7 +11,7 @@ use Rattle.boot_calls.specs.declared.replies.LocateReply.{LocateReply}
 use Rattle.driver_connect.specs.Drivers.{Meaning}
 use Rattle.protocol_services.specs.Lists.{Lists}
 use Rattle.protocol_services.specs.Installing.{InstallsPairs, Registers, many_refusal}
-use Rattle.protocol_services.specs.Searches.{LocatesHandles, LocatesProtocol, TellsProtocols}
+use Rattle.protocol_services.specs.Searches.{LocatesHandles, LocatesProtocol, ReturnsProtocols}
 use Rattle.protocol_services.specs.Opening.{Closes, HandlesProtocol, OpensProtocol}
 use Rattle.protocol_services.specs.Removing.{Reinstalls, Uninstalls}
 use Rattle.protocol_services.specs.Driving.{ConnectsController, DisconnectsController}
@@ -25,7 +25,7 @@ use Rattle.boot_core.specs.Machines.{Parts, State}
 use Rattle.boot_core.specs.PoolLists.{LocatesBuffer, ListsOpens}
 use Rattle.boot_core.specs.MapCalls.{refused_map, AnswersMap}
 use Rattle.boot_core.specs.PoolCalls.{AnswersRead}
-use Rattle.boot_replies.specs.Told.{told_status}
+use Rattle.boot_replies.specs.Returned.{returned_status}
 
 -- ---- what a step goes by beside the state
 
@@ -75,12 +75,12 @@ Serves {R = R} exited old new answer tell Rule = (result : Result R Status) × (
 -- what a service does whose reply has a value and the bytes that are used of a buffer
 abbrev pub ServesBytes : {A T : Type 0} → Bool → Parts → Parts → Reply A → (T → Vec ℕ A → Reply A) → (T → List ℕ → Type 0) → T → Type 0
 ServesBytes {A = A} {T = T} exited old new answer tell Rule refused =
-    (told : T) × (bytes : Vec ℕ A) × (answer ≡ tell told bytes) × WhileOpen exited old new (Rule told bytes.items) ((told ≡ refused) × (bytes.items ≡ []))
+    (returned : T) × (bytes : Vec ℕ A) × (answer ≡ tell returned bytes) × WhileOpen exited old new (Rule returned bytes.items) ((returned ≡ refused) × (bytes.items ≡ []))
 
 -- what a search for handles does
 abbrev pub ServesSearch : {A : Type 0} → Bool → Parts → Parts → Reply A → (LocateReply A → Type 0) → Type 0
 ServesSearch {A = A} exited old new answer Rule =
-    (told : LocateReply A) × (answer ≡ reply.LocateHandle told) × WhileOpen exited old new (Rule told) ((told.status ≡ Unsupported) × (told.size ≡ 0) × (told.handles.items ≡ []))
+    (returned : LocateReply A) × (answer ≡ reply.LocateHandle returned) × WhileOpen exited old new (Rule returned) ((returned.status ≡ Unsupported) × (returned.size ≡ 0) × (returned.handles.items ≡ []))
 
 -- ---- the services
 
@@ -94,7 +94,7 @@ Exits current key (Err status) = ⊥
 abbrev pub Answers : {A : Type 0} → Setting → Bool → Parts → Call A → Reply A → Parts → Type 0
 Answers S exited old (call.AllocatePages kind t pages address) answer new = Serves exited old new answer reply.AllocatePages (λ result. OnBook (AllocatesPages S.chosen old.book kind t pages address result) old new)
 Answers S exited old (call.FreePages address pages) answer new = Serves exited old new answer reply.FreePages (λ result. OnBook (FreesPages old.book address pages result) old new)
-Answers S exited old (call.GetMemoryMap size) answer new = ServesBytes exited old new answer reply.GetMemoryMap (λ told bytes. AnswersMap old.book size told bytes × (new ≡ old)) (refused_map Unsupported)
+Answers S exited old (call.GetMemoryMap size) answer new = ServesBytes exited old new answer reply.GetMemoryMap (λ returned bytes. AnswersMap old.book size returned bytes × (new ≡ old)) (refused_map Unsupported)
 Answers S exited old (call.AllocatePool t size) answer new = Serves exited old new answer reply.AllocatePool (λ result. OnBookAndPools (AllocatesPool S.chosen old.book old.pools t size result) old new)
 Answers S exited old (call.FreePool address) answer new = Serves exited old new answer reply.FreePool (λ result. OnBookAndPools (FreesPool old.book old.pools address result) old new)
 Answers S exited old (call.PoolRead address size) answer new = ServesBytes exited old new answer reply.PoolRead (λ status bytes. AnswersRead old.pools address size status bytes × (new ≡ old)) Unsupported
@@ -108,10 +108,10 @@ Answers S exited old (call.UninstallProtocolInterface handle guid value) answer 
 Answers S exited old (call.ReinstallProtocolInterface handle guid old_value new_value) answer new =
     Serves exited old new answer reply.ReinstallProtocolInterface (λ result. OnLists (Reinstalls S.drivers old.lists handle guid old_value new_value result) old new)
 Answers S exited old (call.RegisterProtocolNotify guid event) answer new = Serves exited old new answer reply.RegisterProtocolNotify (λ result. OnLists (Registers old.lists guid event result) old new)
-Answers S exited old (call.LocateHandle search guid key size) answer new = ServesSearch exited old new answer (λ told. OnLists (LocatesHandles old.lists search guid key size told) old new)
+Answers S exited old (call.LocateHandle search guid key size) answer new = ServesSearch exited old new answer (λ returned. OnLists (LocatesHandles old.lists search guid key size returned) old new)
 Answers S exited old (call.LocateHandleBuffer search guid key) answer new = Serves exited old new answer reply.LocateHandleBuffer (λ result. LocatesBuffer S.chosen old search guid key result new)
 Answers S exited old (call.LocateProtocol guid key) answer new = Serves exited old new answer reply.LocateProtocol (λ result. OnLists (LocatesProtocol old.lists guid key result) old new)
-Answers S exited old (call.ProtocolsPerHandle handle) answer new = Serves exited old new answer reply.ProtocolsPerHandle (λ result. TellsProtocols old.lists handle result × (new ≡ old))
+Answers S exited old (call.ProtocolsPerHandle handle) answer new = Serves exited old new answer reply.ProtocolsPerHandle (λ result. ReturnsProtocols old.lists handle result × (new ≡ old))
 Answers S exited old (call.OpenProtocol handle guid agent controller attributes) answer new =
     Serves exited old new answer reply.OpenProtocol (λ result. OnLists (OpensProtocol S.drivers old.lists handle guid agent controller attributes result) old new)
 Answers S exited old (call.CloseProtocol handle guid agent controller) answer new = Serves exited old new answer reply.CloseProtocol (λ result. OnLists (Closes old.lists handle guid agent controller result) old new)
@@ -150,15 +150,15 @@ StepAny ds old c answer new = StepBy (any_starts ds) old c answer new
 
 -- What GetMemoryMap does with a buffer of the caller's: its reply, the buffer after it, and the
 -- machine, which is as it was but for one call less.
-pub record MapStep (old : State) (buffer : List ℕ) (told : MapReply) (after : List ℕ) (new : State) : Type 0 where
-  pub answers : WhileOpen old.exited old.parts new.parts ((told ≡ map_reply old.parts.book (length buffer)) × (after ≡ buffer_with_map old.parts.book buffer) × (new.parts ≡ old.parts)) ((told ≡ refused_map Unsupported) × (after ≡ buffer))
+pub record MapStep (old : State) (buffer : List ℕ) (returned : MapReply) (after : List ℕ) (new : State) : Type 0 where
+  pub answers : WhileOpen old.exited old.parts new.parts ((returned ≡ map_reply old.parts.book (length buffer)) × (after ≡ buffer_with_map old.parts.book buffer) × (new.parts ≡ old.parts)) ((returned ≡ refused_map Unsupported) × (after ≡ buffer))
   pub exited : new.exited ≡ old.exited
   pub calls_left : IsCounted old new
 
 -- What a read does with a buffer of the caller's: its status, the buffer after it, and the machine,
 -- which is as it was but for one call less.
 pub record ReadStep (old : State) (address : ℕ) (buffer : List ℕ) (status : Status) (after : List ℕ) (new : State) : Type 0 where
-  pub answers : WhileOpen old.exited old.parts new.parts ((result : Result (Unit {0}) Status) × (status ≡ told_status result) × ReadsPool old.parts.pools address buffer result after × (new.parts ≡ old.parts)) ((status ≡ Unsupported) × (after ≡ buffer))
+  pub answers : WhileOpen old.exited old.parts new.parts ((result : Result (Unit {0}) Status) × (status ≡ returned_status result) × ReadsPool old.parts.pools address buffer result after × (new.parts ≡ old.parts)) ((status ≡ Unsupported) × (after ≡ buffer))
   pub exited : new.exited ≡ old.exited
   pub calls_left : IsCounted old new
 

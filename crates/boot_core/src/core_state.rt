@@ -9,7 +9,7 @@ ghost use Rattle.boot_core.specs.Machines.{all_calls, first_state, FollowsCalls}
 ghost use Rattle.boot_core.specs.Steps.{IsCounted, MapStep, ReadStep, Step, CallRun};
 
 use crate::map_buffers::{map_in_buffer, refused_map};
-use crate::pool_buffers::{read_bytes, told_status};
+use crate::pool_buffers::{read_bytes, returned_status};
 use crate::pool_lists::{list_opens, locate_buffer};
 use boot_calls::{Call, LocateReply};
 use boot_machines::Machine;
@@ -199,7 +199,7 @@ impl<D: Driver, A: Allocator + Copy> Core<D, A> {
         ensures drivers { self.new.drivers ≡ self.old.drivers }
     {
         match self.begin() {
-            Ok(()) => told_status(self.pools.read(address, buffer)),
+            Ok(()) => returned_status(self.pools.read(address, buffer)),
             Err(status) => status,
         }
     }

@@ -1,7 +1,7 @@
 //! A read of the pool's bytes with a buffer of its own.
 ghost use Rattle.std.specs.Prelude.{◌≡◌};
 ghost use Rattle.boot_core.specs.PoolCalls.{AnswersRead};
-ghost use Rattle.boot_replies.specs.Told.{told_status};
+ghost use Rattle.boot_replies.specs.Returned.{returned_status};
 
 use page_ranges::Status;
 use pool_services::Pools;
@@ -31,8 +31,8 @@ pub fn read_bytes<A: Allocator + Copy>(
 }
 
 /// The status that a result is returned as.
-pub fn told_status(answer: Result<(), Status>) -> Status
-    ensures { result ≡ told_status answer }
+pub fn returned_status(answer: Result<(), Status>) -> Status
+    ensures { result ≡ returned_status answer }
 {
     match answer {
         Ok(()) => Status::Success,

@@ -15,10 +15,10 @@ abbrev pub list_type : ℕ
 list_type = 4
 
 -- how many items a reply says are in a pool block
-abbrev pub told_count : {A : Type 0} → Reply A → Option ℕ
-told_count (reply.LocateHandleBuffer (Ok told)) = Some told.count
-told_count (reply.OpenProtocolInformation (Ok told)) = Some told.count
-told_count answer = None
+abbrev pub returned_count : {A : Type 0} → Reply A → Option ℕ
+returned_count (reply.LocateHandleBuffer (Ok returned)) = Some returned.count
+returned_count (reply.OpenProtocolInformation (Ok returned)) = Some returned.count
+returned_count answer = None
 
 -- the request on a machine with a granule for a block of items of one size in bytes
 abbrev pub list_request : ℕ → ℕ → Option ℕ → Option Request
@@ -32,9 +32,9 @@ left_request granule (call.AllocatePages kind t pages memory) answer =
     placement_request granule kind t pages memory
 left_request granule (call.AllocatePool t size) answer = extent_request granule t size
 left_request granule (call.LocateHandleBuffer search guid key) answer =
-    list_request granule 8 (told_count answer)
+    list_request granule 8 (returned_count answer)
 left_request granule (call.OpenProtocolInformation handle guid) answer =
-    list_request granule 24 (told_count answer)
+    list_request granule 24 (returned_count answer)
 left_request granule c answer = None
 
 -- the same, if its pages fit a number of 64 bits
@@ -45,8 +45,8 @@ request_for granule c answer = option_and_then if_counted (left_request granule 
 abbrev pub certificate_in : {A : Type 0} → Reply A → Option CertificateValue
 certificate_in (reply.AllocatePages (Ok placed)) = placed.certificate
 certificate_in (reply.AllocatePool (Ok block)) = block.1
-certificate_in (reply.LocateHandleBuffer (Ok told)) = told.certificate
-certificate_in (reply.OpenProtocolInformation (Ok told)) = told.certificate
+certificate_in (reply.LocateHandleBuffer (Ok returned)) = returned.certificate
+certificate_in (reply.OpenProtocolInformation (Ok returned)) = returned.certificate
 certificate_in answer = None
 
 -- the certificate of the reply to a call on a machine with a granule, and the request that it is

@@ -1,2 +1,2 @@
 pub mod Certified
-pub mod Told
+pub mod Returned

@@ -1,7 +1,7 @@
 //! The certificates that replies carry.
 ghost use Rattle.std.specs.Prelude.{◌≡◌, ◌<◌, option_and_then, option_map};
 ghost use Rattle.page_services.specs.PageRules.{if_counted};
-ghost use Rattle.boot_replies.specs.Certified.{certificate_in, certified, list_request, may_be_certified, request_for, told_count};
+ghost use Rattle.boot_replies.specs.Certified.{certificate_in, certified, list_request, may_be_certified, request_for, returned_count};
 
 use crate::replies::Reply;
 use boot_calls::Call;
@@ -27,7 +27,7 @@ pub fn certified<'a, A: Allocator>(
     call: &Call<A>,
     reply: &'a Reply<A>,
 ) -> Option<(Request, &'a Certificate<A>)>
-    ensures { option_map (λ told. (told.0, told.1.now)) result ≡ certified granule call.now reply.now }
+    ensures { option_map (λ returned. (returned.0, returned.1.now)) result ≡ certified granule call.now reply.now }
 {
     match (request_for(granule, call, reply), certificate_in(reply)) {
         (Some(request), Some(certificate)) => Some((request, certificate)),
@@ -70,23 +70,23 @@ fn request_for<A: Allocator>(granule: u64, call: &Call<A>, reply: &Reply<A>) -> 
         Call::AllocatePool { mtype, size } => {
             extent_request(granule, MemoryType::new(*mtype), *size)
         }
-        Call::LocateHandleBuffer { .. } => list_request(granule, HANDLE_SIZE, told_count(reply)),
+        Call::LocateHandleBuffer { .. } => list_request(granule, HANDLE_SIZE, returned_count(reply)),
         Call::OpenProtocolInformation { .. } => list_request(
             granule,
             ENTRY_SIZE,
-            told_count(reply),
+            returned_count(reply),
         ),
         _ => None,
     }
 }
 
 /// How many items a reply says are in a pool block.
-fn told_count<A: Allocator>(reply: &Reply<A>) -> Option<u64>
-    ensures { result ≡ told_count reply.now }
+fn returned_count<A: Allocator>(reply: &Reply<A>) -> Option<u64>
+    ensures { result ≡ returned_count reply.now }
 {
     match reply {
-        Reply::LocateHandleBuffer(Ok(told)) => Some(told.count),
-        Reply::OpenProtocolInformation(Ok(told)) => Some(told.count),
+        Reply::LocateHandleBuffer(Ok(returned)) => Some(returned.count),
+        Reply::OpenProtocolInformation(Ok(returned)) => Some(returned.count),
         _ => None,
     }
 }
@@ -108,8 +108,8 @@ fn certificate_in<A: Allocator>(reply: &Reply<A>) -> Option<&Certificate<A>>
     match reply {
         Reply::AllocatePages(Ok(placed)) => placed.certificate.as_ref(),
         Reply::AllocatePool(Ok((_, certificate))) => certificate.as_ref(),
-        Reply::LocateHandleBuffer(Ok(told)) => told.certificate.as_ref(),
-        Reply::OpenProtocolInformation(Ok(told)) => told.certificate.as_ref(),
+        Reply::LocateHandleBuffer(Ok(returned)) => returned.certificate.as_ref(),
+        Reply::OpenProtocolInformation(Ok(returned)) => returned.certificate.as_ref(),
         _ => None,
     }
 }

@@ -9,4 +9,4 @@ mod memory;
 mod place;
 mod placing;
 mod protocols;
-mod told;
+mod returned;

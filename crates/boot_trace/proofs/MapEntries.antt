@@ -20,23 +20,23 @@ held : (bytes : List ℕ) (entries ds : List Descriptor) → AllByRecursion IsRe
 held bytes entries ds fit e (inl reads) = same_entries entries ds reads.0 fit (reads.1 ∙ e)
 held bytes entries ds fit e (inr none) = absurd (none.0 ds fit (sym e))
 
-all_used : (fits : Bool) (size key : ℕ) (told : MapReply) (bytes map : List ℕ) → told ≡ cond fits (record { status = Success; size = size; key = key; descriptor_size = record_size; version = descriptor_version }) (record { status = BufferTooSmall; size = size; key = 0; descriptor_size = 0; version = 0 }) →
-    bytes ≡ cond fits map [] → told.status ≡ Success → bytes ≡ map
-all_used true size key told bytes map e used success = used
-all_used false size key told bytes map e used success = let short = ap (λ (r : MapReply). r.status) e in absurd (cc)
+all_used : (fits : Bool) (size key : ℕ) (returned : MapReply) (bytes map : List ℕ) → returned ≡ cond fits (record { status = Success; size = size; key = key; descriptor_size = record_size; version = descriptor_version }) (record { status = BufferTooSmall; size = size; key = 0; descriptor_size = 0; version = 0 }) →
+    bytes ≡ cond fits map [] → returned.status ≡ Success → bytes ≡ map
+all_used true size key returned bytes map e used success = used
+all_used false size key returned bytes map e used success = let short = ap (λ (r : MapReply). r.status) e in absurd (cc)
 
-whole_map : (exited : Bool) (old new : Parts) (size : ℕ) (told : MapReply) (bytes : List ℕ) → WhileOpen exited old new (AnswersMap old.book size told bytes × (new ≡ old)) ((told ≡ refused_map Unsupported) × (bytes ≡ [])) → told.status ≡ Success → bytes ≡ records (memory_map old.book.memory)
-whole_map true old new size told bytes h s = let refused = ap (λ (r : MapReply). r.status) h.0.0 in absurd (cc)
-whole_map false old new size told bytes (inl h, same) s = all_used (leb (map_size old.book) size) (map_size old.book) old.book.key told bytes (records (memory_map old.book.memory)) h.0 h.1 s
-whole_map false old new size told bytes (inr h, same) s = let refused = ap (λ (r : MapReply). r.status) h.2 in absurd (cc)
+whole_map : (exited : Bool) (old new : Parts) (size : ℕ) (returned : MapReply) (bytes : List ℕ) → WhileOpen exited old new (AnswersMap old.book size returned bytes × (new ≡ old)) ((returned ≡ refused_map Unsupported) × (bytes ≡ [])) → returned.status ≡ Success → bytes ≡ records (memory_map old.book.memory)
+whole_map true old new size returned bytes h s = let refused = ap (λ (r : MapReply). r.status) h.0.0 in absurd (cc)
+whole_map false old new size returned bytes (inl h, same) s = all_used (leb (map_size old.book) size) (map_size old.book) old.book.key returned bytes (records (memory_map old.book.memory)) h.0 h.1 s
+whole_map false old new size returned bytes (inr h, same) s = let refused = ap (λ (r : MapReply). r.status) h.2 in absurd (cc)
 
 -- the bytes that a successful GetMemoryMap returns are the records of the memory map
-pub told_bytes : {A : Type 0} (drivers : List Meaning) (old : State) (size : ℕ) (told : MapReply) (bytes : Vec ℕ A) (new : State) → Step drivers old (call.GetMemoryMap size) (reply.GetMemoryMap told bytes) new → told.status ≡ Success → bytes.items ≡ records (memory_map old.parts.book.memory)
-told_bytes {A = A} drivers old size told bytes new step success =
-    let (told', bytes', e, h) = step.answers in
-    let same_told : told ≡ told' = cc in
+pub returned_bytes : {A : Type 0} (drivers : List Meaning) (old : State) (size : ℕ) (returned : MapReply) (bytes : Vec ℕ A) (new : State) → Step drivers old (call.GetMemoryMap size) (reply.GetMemoryMap returned bytes) new → returned.status ≡ Success → bytes.items ≡ records (memory_map old.parts.book.memory)
+returned_bytes {A = A} drivers old size returned bytes new step success =
+    let (returned', bytes', e, h) = step.answers in
+    let same_returned : returned ≡ returned' = cc in
     let same_bytes : bytes ≡ bytes' = cc in
-    ap (λ (v : Vec ℕ A). v.items) same_bytes ∙ whole_map old.exited old.parts new.parts size told' bytes'.items h (ap (λ (r : MapReply). r.status) (sym same_told) ∙ success)
+    ap (λ (v : Vec ℕ A). v.items) same_bytes ∙ whole_map old.exited old.parts new.parts size returned' bytes'.items h (ap (λ (r : MapReply). r.status) (sym same_returned) ∙ success)
 
-pub carried : {A : Type 0} (drivers : List Meaning) (old : State) (size : ℕ) (told : MapReply) (bytes : Vec ℕ A) (new : State) (entries : List Descriptor) → AllByRecursion IsRecordEntry (memory_map old.parts.book.memory) → Step drivers old (call.GetMemoryMap size) (reply.GetMemoryMap told bytes) new → told.status ≡ Success → CarriesEntries (reply.GetMemoryMap told bytes) entries → entries ≡ memory_map old.parts.book.memory
-carried drivers old size told bytes new entries fit step success holds = held bytes.items entries (memory_map old.parts.book.memory) fit (told_bytes drivers old size told bytes new step success) holds
+pub carried : {A : Type 0} (drivers : List Meaning) (old : State) (size : ℕ) (returned : MapReply) (bytes : Vec ℕ A) (new : State) (entries : List Descriptor) → AllByRecursion IsRecordEntry (memory_map old.parts.book.memory) → Step drivers old (call.GetMemoryMap size) (reply.GetMemoryMap returned bytes) new → returned.status ≡ Success → CarriesEntries (reply.GetMemoryMap returned bytes) entries → entries ≡ memory_map old.parts.book.memory
+carried drivers old size returned bytes new entries fit step success holds = held bytes.items entries (memory_map old.parts.book.memory) fit (returned_bytes drivers old size returned bytes new step success) holds

@@ -31,7 +31,7 @@ use Rattle.boot_calls.specs.declared.calls.Call.{Call}
 use Rattle.boot_calls.specs.declared.calls.Call.TheVariants as call
 use Rattle.boot_replies.specs.declared.replies.Reply.{Reply}
 use Rattle.boot_replies.specs.declared.replies.Reply.TheVariants as reply
-use Rattle.boot_replies.specs.Certified.{left_request, list_request, request_for, certificate_in, certified, told_count}
+use Rattle.boot_replies.specs.Certified.{left_request, list_request, request_for, certificate_in, certified, returned_count}
 use Rattle.boot_replies.specs.Certified.{list_type}
 use Rattle.boot_calls.specs.CallNumbers.{NamesTypes}
 use Rattle.boot_core.specs.Machines.{State, AreSound, first_state}
@@ -51,7 +51,7 @@ use Rattle.trace_lines.specs.TraceLine.{line_of}
 use Rattle.trace_lines.proofs.LineCalls.{call_numbers, named_types}
 use Rattle.reply_texts.specs.CallText.{PrintsCall}
 use Rattle.reply_texts.specs.PrintedText.{reply_text}
-use Rattle.boot_trace.proofs.MapEntries.{told_bytes, carried}
+use Rattle.boot_trace.proofs.MapEntries.{returned_bytes, carried}
 use Rattle.boot_trace.specs.Laws.{OfLine, OfEachLine, PrintsAcceptedBlock, PrintsReadMap}
 use Rattle.boot_trace.specs.TraceRuns.{Prints, PrintsAll, Wrote, most_lines}
 
@@ -126,8 +126,8 @@ left_numbers g fits (call.AllocatePages kind t pages memory) answer (k, mtype, c
     (whole_numbers g t pages page_count fits mtype (lit< tt))
     (chosen_numbers (kind == max_address) (whole_request g t pages (pages_below memory)) None (whole_numbers g t pages (pages_below memory) fits mtype (omega arith)) tt)
 left_numbers g fits (call.AllocatePool t size) answer (mtype, few) = extent_numbers g t size fits mtype
-left_numbers g fits (call.LocateHandleBuffer search guid key) answer h = list_numbers g 8 (told_count answer) fits
-left_numbers g fits (call.OpenProtocolInformation handle guid) answer h = list_numbers g 24 (told_count answer) fits
+left_numbers g fits (call.LocateHandleBuffer search guid key) answer h = list_numbers g 8 (returned_count answer) fits
+left_numbers g fits (call.OpenProtocolInformation handle guid) answer h = list_numbers g 24 (returned_count answer) fits
 left_numbers g fits c answer h = tt
 
 counted : (r : Request) (b : Bool) → nat_lt r.pages (2 ^ 64) ≡ b → HasOtherNumbers r → IfSome (option_map (λ n. r) (cond b (Some r.pages) None)) HasRequestNumbers
@@ -152,13 +152,13 @@ module _ (ds : List Meaning) (n : ℕ) (old : State) (is : IsReached n old) (bel
   entries_fit : AllByRecursion IsRecordEntry map_before
   entries_fit = record_entries old.parts.book.memory is.sound.proper is.fields
 
-  with_block : (r : Option Request) (o : Option CertificateValue) → IfSome r HasRequestNumbers → IfSome {T = Request × CertificateValue} (option_and_then (λ r. option_map (λ c. (r, c)) o) r) (λ told. IsAccepted map_before told.0 told.1) →
-      IfSome {T = Request × CertificateValue} (option_and_then (λ r. option_map (λ c. (r, c)) o) r) (λ told. IsAcceptedBlock map_before told.0 told.1)
+  with_block : (r : Option Request) (o : Option CertificateValue) → IfSome r HasRequestNumbers → IfSome {T = Request × CertificateValue} (option_and_then (λ r. option_map (λ c. (r, c)) o) r) (λ returned. IsAccepted map_before returned.0 returned.1) →
+      IfSome {T = Request × CertificateValue} (option_and_then (λ r. option_map (λ c. (r, c)) o) r) (λ returned. IsAcceptedBlock map_before returned.0 returned.1)
   with_block None o numbers accepted = tt
   with_block (Some r) None numbers accepted = tt
   with_block (Some r) (Some c) numbers accepted = accepted_block map_before r c accepted (all_implied IsRecordEntry HasEntryNumbers entry_numbers map_before entries_fit) numbers (omega (arith, is.few))
 
-  block_of_step : {A : Type 0} (c : Call A) (answer : Reply A) (new : State) → HasCallNumbers c → Step ds old c answer new → IfSome (certified old.parts.book.granule c answer) (λ told. IsAcceptedBlock map_before told.0 told.1)
+  block_of_step : {A : Type 0} (c : Call A) (answer : Reply A) (new : State) → HasCallNumbers c → Step ds old c answer new → IfSome (certified old.parts.book.granule c answer) (λ returned. IsAcceptedBlock map_before returned.0 returned.1)
   block_of_step c answer new numbers step =
       with_block (request_for old.parts.book.granule c answer) (certificate_in answer) (request_numbers old.parts.book.granule is.sound.granules.granule c answer numbers) (accepted_reply ds old.parts is.sound.proper is.typed is.sound.granules.granule old.exited old.calls_left c answer new.parts step.answers)
 
@@ -170,19 +170,19 @@ module _ (ds : List Meaning) (n : ℕ) (old : State) (is : IsReached n old) (bel
 
   -- ---- memory maps
 
-  map_of_step : {A : Type 0} (certify : Bool) (number size : ℕ) (told : MapReply) (bytes : Vec ℕ A) (text : List ℕ) (new : State) → Step ds old (call.GetMemoryMap size) (reply.GetMemoryMap told bytes) new → PrintsCall certify number old.parts.book (call.GetMemoryMap size) (reply.GetMemoryMap told bytes) text → told.status ≡ Success →
-      ((found : Option (List Descriptor)) → ReadsRecords bytes.items found → found ≡ Some map_before) × (text ≡ reply_text number map_before (reply.GetMemoryMap told bytes))
-  map_of_step certify number size told bytes text new step (entries, carries, e) success = (
-    λ found reads. read_back map_before found entries_fit (subst (λ (bs : List ℕ). ReadsRecords bs found) (told_bytes ds old size told bytes new step success) reads),
-    e ∙ no_block certify (reply_text number entries (reply.GetMemoryMap told bytes)) ∙ ap (λ (entries : List Descriptor). reply_text number entries (reply.GetMemoryMap told bytes)) (carried ds old size told bytes new entries entries_fit step success carries),
+  map_of_step : {A : Type 0} (certify : Bool) (number size : ℕ) (returned : MapReply) (bytes : Vec ℕ A) (text : List ℕ) (new : State) → Step ds old (call.GetMemoryMap size) (reply.GetMemoryMap returned bytes) new → PrintsCall certify number old.parts.book (call.GetMemoryMap size) (reply.GetMemoryMap returned bytes) text → returned.status ≡ Success →
+      ((found : Option (List Descriptor)) → ReadsRecords bytes.items found → found ≡ Some map_before) × (text ≡ reply_text number map_before (reply.GetMemoryMap returned bytes))
+  map_of_step certify number size returned bytes text new step (entries, carries, e) success = (
+    λ found reads. read_back map_before found entries_fit (subst (λ (bs : List ℕ). ReadsRecords bs found) (returned_bytes ds old size returned bytes new step success) reads),
+    e ∙ no_block certify (reply_text number entries (reply.GetMemoryMap returned bytes)) ∙ ap (λ (entries : List Descriptor). reply_text number entries (reply.GetMemoryMap returned bytes)) (carried ds old size returned bytes new entries entries_fit step success carries),
   )
 
   map_of_line : (A : Type 0) (certify : Bool) (number : ℕ) (asks : Result (Option (TraceCall A)) TraceFault) (text : List ℕ) (new : State) → Prints A ds certify number asks old text new → PrintsReadMap A ds number asks old text new
   map_of_line A certify number (Ok (Some (trace_call.Service (call.GetMemoryMap size)))) text new (answer, step, prints) =
-      let (told, bytes, e, h) = step.answers in
-      let same : Step ds old (call.GetMemoryMap size) (reply.GetMemoryMap told bytes) new = subst (λ (a : Reply A). Step ds old (call.GetMemoryMap size) a new) e step in
-      let printed : PrintsCall certify number old.parts.book (call.GetMemoryMap size) (reply.GetMemoryMap told bytes) text = subst (λ (a : Reply A). PrintsCall certify number old.parts.book (call.GetMemoryMap size) a text) e prints in
-      (told, bytes, same, map_of_step certify number size told bytes text new same printed)
+      let (returned, bytes, e, h) = step.answers in
+      let same : Step ds old (call.GetMemoryMap size) (reply.GetMemoryMap returned bytes) new = subst (λ (a : Reply A). Step ds old (call.GetMemoryMap size) a new) e step in
+      let printed : PrintsCall certify number old.parts.book (call.GetMemoryMap size) (reply.GetMemoryMap returned bytes) text = subst (λ (a : Reply A). PrintsCall certify number old.parts.book (call.GetMemoryMap size) a text) e prints in
+      (returned, bytes, same, map_of_step certify number size returned bytes text new same printed)
   map_of_line A certify number asks text new prints = tt
 
 -- ---- each line

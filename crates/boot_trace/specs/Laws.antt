@@ -47,7 +47,7 @@ OfRun A ds certify Is = (file bytes : List ℕ) (machine : ListedMachine) (count
 abbrev pub PrintsAcceptedBlock : (A : Type 0) → List Meaning → OfLine A
 PrintsAcceptedBlock A ds number (Ok (Some (trace_call.Service c))) old text new =
     (answer : Reply A) × (entries : List Descriptor) × Step ds old c answer new × (text ≡ reply_text number entries answer ++ certificate_text (memory_map old.parts.book.memory) (certified old.parts.book.granule c answer)) ×
-    IfSome (certified old.parts.book.granule c answer) (λ told. IsAcceptedBlock (memory_map old.parts.book.memory) told.0 told.1)
+    IfSome (certified old.parts.book.granule c answer) (λ returned. IsAcceptedBlock (memory_map old.parts.book.memory) returned.0 returned.1)
 PrintsAcceptedBlock A ds number asks old text new = Unit {0}
 
 -- So it is of each call of a run with certificates.
@@ -60,8 +60,8 @@ PrintedBlocksLaw A = (ds : List Meaning) → OfRun A ds true (PrintsAcceptedBloc
 -- printed.
 abbrev pub PrintsReadMap : (A : Type 0) → List Meaning → OfLine A
 PrintsReadMap A ds number (Ok (Some (trace_call.Service (call.GetMemoryMap size)))) old text new =
-    (told : MapReply) × (bytes : Vec ℕ A) × Step ds old (call.GetMemoryMap size) (reply.GetMemoryMap told bytes) new ×
-    (told.status ≡ Success → ((found : Option (List Descriptor)) → ReadsRecords bytes.items found → found ≡ Some (memory_map old.parts.book.memory)) × (text ≡ reply_text number (memory_map old.parts.book.memory) (reply.GetMemoryMap told bytes)))
+    (returned : MapReply) × (bytes : Vec ℕ A) × Step ds old (call.GetMemoryMap size) (reply.GetMemoryMap returned bytes) new ×
+    (returned.status ≡ Success → ((found : Option (List Descriptor)) → ReadsRecords bytes.items found → found ≡ Some (memory_map old.parts.book.memory)) × (text ≡ reply_text number (memory_map old.parts.book.memory) (reply.GetMemoryMap returned bytes)))
 PrintsReadMap A ds number asks old text new = Unit {0}
 
 -- So it is of each call of a run.
@@ -71,6 +71,6 @@ PrintedMapsLaw A = (ds : List Meaning) (certify : Bool) → OfRun A ds certify (
 -- The entries that a successful GetMemoryMap carries are those of the memory map, where records can
 -- spell them.
 abbrev pub MapEntriesLaw : Type 0 → Type 0
-MapEntriesLaw A = (ds : List Meaning) (old : State) (size : ℕ) (told : MapReply) (bytes : Vec ℕ A) (new : State) (entries : List Descriptor) →
-    AllByRecursion IsRecordEntry (memory_map old.parts.book.memory) → Step ds old (call.GetMemoryMap size) (reply.GetMemoryMap told bytes) new → told.status ≡ Success →
-    CarriesEntries (reply.GetMemoryMap told bytes) entries → entries ≡ memory_map old.parts.book.memory
+MapEntriesLaw A = (ds : List Meaning) (old : State) (size : ℕ) (returned : MapReply) (bytes : Vec ℕ A) (new : State) (entries : List Descriptor) →
+    AllByRecursion IsRecordEntry (memory_map old.parts.book.memory) → Step ds old (call.GetMemoryMap size) (reply.GetMemoryMap returned bytes) new → returned.status ≡ Success →
+    CarriesEntries (reply.GetMemoryMap returned bytes) entries → entries ≡ memory_map old.parts.book.memory

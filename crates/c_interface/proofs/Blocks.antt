@@ -15,13 +15,13 @@ use Rattle.c_interface.specs.EfiCores.{LeavesBlock}
 abbrev pub entries_of : Option (Vec Descriptor Global) → Option (List Descriptor)
 entries_of kept = option_map (λ entries. entries.items) kept
 
-kept_block : {E : Type 0} (granule : ℕ) (entries : List Descriptor) (c : Call Global) (told : Option (Request × CertificateValue)) (before : Result (Option (Vec Descriptor Global)) E) (b : LastBlock) →
-    MatchResult before (λ kept. LeavesBlock true (entries_of kept) told b) (λ e. b ≡ block.OutOfMemory) → IfOk before (λ kept. entries_of kept ≡ map_before true granule entries c) → LeavesBlock true (map_before true granule entries c) told b
-kept_block granule entries c told (Ok kept) b h e = subst (λ k. LeavesBlock true k told b) e h
-kept_block granule entries c told (Err x) b h e = subst (λ k. LeavesBlock true (map_before true granule entries c) told k) (sym h) refl
+kept_block : {E : Type 0} (granule : ℕ) (entries : List Descriptor) (c : Call Global) (returned : Option (Request × CertificateValue)) (before : Result (Option (Vec Descriptor Global)) E) (b : LastBlock) →
+    MatchResult before (λ kept. LeavesBlock true (entries_of kept) returned b) (λ e. b ≡ block.OutOfMemory) → IfOk before (λ kept. entries_of kept ≡ map_before true granule entries c) → LeavesBlock true (map_before true granule entries c) returned b
+kept_block granule entries c returned (Ok kept) b h e = subst (λ k. LeavesBlock true k returned b) e h
+kept_block granule entries c returned (Err x) b h e = subst (λ k. LeavesBlock true (map_before true granule entries c) returned k) (sym h) refl
 
-pub block_left : {E : Type 0} (certifies : Bool) (granule : ℕ) (entries : List Descriptor) (c : Call Global) (told : Option (Request × CertificateValue)) (before : Result (Option (Vec Descriptor Global)) E) (b : LastBlock) →
-    (certifies ≡ true → MatchResult before (λ kept. LeavesBlock true (entries_of kept) told b) (λ e. b ≡ block.OutOfMemory)) → (certifies ≡ false → b ≡ block.Nothing) →
-    IfOk before (λ kept. entries_of kept ≡ map_before certifies granule entries c) → LeavesBlock certifies (map_before certifies granule entries c) told b
-block_left true granule entries c told before b h n e = kept_block granule entries c told before b (h refl) e
-block_left false granule entries c told before b h n e = subst (λ k. LeavesBlock false None told k) (sym (n refl)) tt
+pub block_left : {E : Type 0} (certifies : Bool) (granule : ℕ) (entries : List Descriptor) (c : Call Global) (returned : Option (Request × CertificateValue)) (before : Result (Option (Vec Descriptor Global)) E) (b : LastBlock) →
+    (certifies ≡ true → MatchResult before (λ kept. LeavesBlock true (entries_of kept) returned b) (λ e. b ≡ block.OutOfMemory)) → (certifies ≡ false → b ≡ block.Nothing) →
+    IfOk before (λ kept. entries_of kept ≡ map_before certifies granule entries c) → LeavesBlock certifies (map_before certifies granule entries c) returned b
+block_left true granule entries c returned before b h n e = kept_block granule entries c returned before b (h refl) e
+block_left false granule entries c returned before b h n e = subst (λ k. LeavesBlock false None returned k) (sym (n refl)) tt

@@ -1,4 +1,4 @@
 mod Blocks
 mod FoundEntries
 mod LongLists
-mod ToldLists
+mod ReturnedLists

@@ -22,7 +22,7 @@ no_map false granule entries handle ps qs = refl
 answers_for_more : (old new : EfiCoreValue) (handle : ℕ) (ps qs : List (List ℕ × ℕ)) (before status after : ℕ) → 16 < length ps → 16 < length qs →
     AnswersNumber old (call.InstallMultipleProtocolInterfaces handle ps) before status after new → AnswersNumber old (call.InstallMultipleProtocolInterfaces handle qs) before status after new
 answers_for_more old new handle ps qs before status after p q (inr spent) = inr spent
-answers_for_more old new handle ps qs before status after p q (inl (answer, s, e, told)) =
+answers_for_more old new handle ps qs before status after p q (inl (answer, s, e, returned)) =
     inl (
       answer,
       record {
@@ -33,7 +33,7 @@ answers_for_more old new handle ps qs before status after p q (inl (answer, s, e
         last = s.last;
       },
       e,
-      told,
+      returned,
     )
 
 -- What a call with the first interfaces of a list answers, one with the whole list answers.

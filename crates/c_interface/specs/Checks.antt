@@ -13,9 +13,9 @@ abbrev pub entry_in_c : Descriptor → MapEntry
 entry_in_c d = record { mtype = d.mtype; physical_start = d.first * page_size; number_of_pages = d.pages; attribute = d.attributes }
 
 -- the status, and the entry in the caller's variable
-abbrev pub TellsEntry : Option Descriptor → MapEntry → ℕ → MapEntry → Type 0
-TellsEntry (Some d) before status after = (status ≡ status_number Success) × (after ≡ entry_in_c d)
-TellsEntry None before status after = (status ≡ status_number NotFound) × (after ≡ before)
+abbrev pub ReturnsEntry : Option Descriptor → MapEntry → ℕ → MapEntry → Type 0
+ReturnsEntry (Some d) before status after = (status ≡ status_number Success) × (after ≡ entry_in_c d)
+ReturnsEntry None before status after = (status ≡ status_number NotFound) × (after ≡ before)
 
 -- The status of a check: whether the text's certificate is accepted; or the text is no block, and
 -- the caller's place has its first line that is wrong or missing; or memory ran out.

@@ -34,11 +34,11 @@ meanings c = map table_meaning c.core.drivers
 -- certificate for a request: their block. Where no map was kept, or there is no certificate,
 -- nothing is left. Memory may run out where certificates are kept.
 abbrev pub LeavesBlock : Bool → Option (List Descriptor) → Option (Request × CertificateValue) → LastBlock → Type 0
-LeavesBlock certifies kept told block.OutOfMemory = certifies ≡ true
+LeavesBlock certifies kept returned block.OutOfMemory = certifies ≡ true
 LeavesBlock certifies (Some entries) (Some (r, certificate)) (block.Text bytes) = bytes.items ≡ block_text entries r certificate
-LeavesBlock certifies kept told (block.Text bytes) = ⊥
-LeavesBlock certifies (Some entries) (Some told) block.Nothing = ⊥
-LeavesBlock certifies kept told block.Nothing = Unit {0}
+LeavesBlock certifies kept returned (block.Text bytes) = ⊥
+LeavesBlock certifies (Some entries) (Some returned) block.Nothing = ⊥
+LeavesBlock certifies kept returned block.Nothing = Unit {0}
 
 -- the events that a reply has, if there is one
 abbrev pub events_if : Option (Reply Global) → List ℕ

@@ -7,8 +7,8 @@ use Rattle.boot_core.specs.Machines.{first_state}
 use Rattle.c_machines.specs.declared.drivers.DriverTable.{DriverTable}
 use Rattle.c_machines.specs.declared.faults.MachineFault.{MachineFault}
 use Rattle.c_machines.specs.declared.faults.MachineFault.TheVariants.{Invalid, OutOfMemory}
-use Rattle.c_machines.specs.DriverTables.{are_tables, driver_in, told}
-use Rattle.c_machines.specs.MachineRecords.{IsTold}
+use Rattle.c_machines.specs.DriverTables.{are_tables, driver_in, returned}
+use Rattle.c_machines.specs.MachineRecords.{IsReturned}
 use Rattle.c_interface.specs.declared.efi_core.LastBlock.TheVariants as block
 use Rattle.c_interface.specs.EfiCores.{EfiCoreValue}
 
@@ -19,12 +19,12 @@ fault_status OutOfMemory = status_number OutOfResources
 
 -- The core is that of the machine that the records describe, with the drivers of the tables, before
 -- any call. It keeps no certificates.
-pub record IsToldCore (size : ℕ) (records : List ℕ) (granule : ℕ) (tables : List DriverTable) (c : EfiCoreValue) : Type 0 where
+pub record IsMadeCore (size : ℕ) (records : List ℕ) (granule : ℕ) (tables : List DriverTable) (c : EfiCoreValue) : Type 0 where
   pub machine : MachineValue
-  pub is_told : IsTold size records granule machine
+  pub is_returned : IsReturned size records granule machine
   pub state : c.core.state ≡ first_state machine
   pub are_tables : are_tables tables ≡ true
-  pub drivers : map told c.core.drivers ≡ map driver_in tables
+  pub drivers : map returned c.core.drivers ≡ map driver_in tables
   pub certifies : c.certifies ≡ false
   pub last : c.last ≡ None
   pub block : c.block ≡ block.Nothing
@@ -33,7 +33,7 @@ pub record IsToldCore (size : ℕ) (records : List ℕ) (granule : ℕ) (tables 
 -- records describe no machine, or that the tables are none of drivers; else memory ran out, which
 -- it may only where the tables are those of drivers.
 abbrev pub MakesCore : ℕ → List ℕ → ℕ → List DriverTable → Result EfiCoreValue ℕ → Type 0
-MakesCore size records granule tables (Ok c) = IsToldCore size records granule tables c
+MakesCore size records granule tables (Ok c) = IsMadeCore size records granule tables c
 MakesCore size records granule tables (Err status) =
-    ((status ≡ status_number InvalidParameter) × (((m : MachineValue) → IsMachine m → ¬ IsTold size records granule m) ⊎ (are_tables tables ≡ false)))
+    ((status ≡ status_number InvalidParameter) × (((m : MachineValue) → IsMachine m → ¬ IsReturned size records granule m) ⊎ (are_tables tables ≡ false)))
     ⊎ ((status ≡ status_number OutOfResources) × (are_tables tables ≡ true))

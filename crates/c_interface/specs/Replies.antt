@@ -6,36 +6,36 @@ use Rattle.boot_replies.specs.declared.replies.Reply.{Reply}
 use Rattle.boot_replies.specs.declared.replies.Reply.TheVariants as reply
 
 -- the status that a result is returned as
-abbrev pub told_status : {R : Type 0} → Result R Status → Status
-told_status (Ok done) = Success
-told_status (Err status) = status
+abbrev pub returned_status : {R : Type 0} → Result R Status → Status
+returned_status (Ok done) = Success
+returned_status (Err status) = status
 
 -- the status of a reply
 abbrev pub status_in : {A : Type 0} → Reply A → Status
-status_in (reply.AllocatePages result) = told_status result
-status_in (reply.FreePages result) = told_status result
-status_in (reply.GetMemoryMap told bytes) = told.status
-status_in (reply.AllocatePool result) = told_status result
-status_in (reply.FreePool result) = told_status result
+status_in (reply.AllocatePages result) = returned_status result
+status_in (reply.FreePages result) = returned_status result
+status_in (reply.GetMemoryMap returned bytes) = returned.status
+status_in (reply.AllocatePool result) = returned_status result
+status_in (reply.FreePool result) = returned_status result
 status_in (reply.PoolRead status bytes) = status
-status_in (reply.PoolWrite result) = told_status result
-status_in (reply.InstallProtocolInterface result) = told_status result
-status_in (reply.InstallMultipleProtocolInterfaces result) = told_status result
-status_in (reply.UninstallProtocolInterface result) = told_status result
-status_in (reply.ReinstallProtocolInterface result) = told_status result
-status_in (reply.RegisterProtocolNotify result) = told_status result
-status_in (reply.LocateHandle told) = told.status
-status_in (reply.LocateHandleBuffer result) = told_status result
-status_in (reply.LocateProtocol result) = told_status result
-status_in (reply.ProtocolsPerHandle result) = told_status result
-status_in (reply.OpenProtocol result) = told_status result
-status_in (reply.CloseProtocol result) = told_status result
-status_in (reply.OpenProtocolInformation result) = told_status result
-status_in (reply.HandleProtocol result) = told_status result
-status_in (reply.ConnectController result) = told_status result
-status_in (reply.DisconnectController result) = told_status result
-status_in (reply.LocateDevicePath result) = told_status result
-status_in (reply.ExitBootServices result) = told_status result
+status_in (reply.PoolWrite result) = returned_status result
+status_in (reply.InstallProtocolInterface result) = returned_status result
+status_in (reply.InstallMultipleProtocolInterfaces result) = returned_status result
+status_in (reply.UninstallProtocolInterface result) = returned_status result
+status_in (reply.ReinstallProtocolInterface result) = returned_status result
+status_in (reply.RegisterProtocolNotify result) = returned_status result
+status_in (reply.LocateHandle returned) = returned.status
+status_in (reply.LocateHandleBuffer result) = returned_status result
+status_in (reply.LocateProtocol result) = returned_status result
+status_in (reply.ProtocolsPerHandle result) = returned_status result
+status_in (reply.OpenProtocol result) = returned_status result
+status_in (reply.CloseProtocol result) = returned_status result
+status_in (reply.OpenProtocolInformation result) = returned_status result
+status_in (reply.HandleProtocol result) = returned_status result
+status_in (reply.ConnectController result) = returned_status result
+status_in (reply.DisconnectController result) = returned_status result
+status_in (reply.LocateDevicePath result) = returned_status result
+status_in (reply.ExitBootServices result) = returned_status result
 
 -- the number that a reply has: an address, a handle, a registration's key or the value of an
 -- interface
@@ -53,8 +53,8 @@ number_in answer = None
 -- the two numbers that a reply has: how many items are in a block of the pool, and its address; or
 -- a handle, and the address behind the nodes that its device path matched
 abbrev pub numbers_in : {A : Type 0} → Reply A → Option (ℕ × ℕ)
-numbers_in (reply.LocateHandleBuffer (Ok told)) = Some (told.count, told.address)
-numbers_in (reply.OpenProtocolInformation (Ok told)) = Some (told.count, told.address)
+numbers_in (reply.LocateHandleBuffer (Ok returned)) = Some (returned.count, returned.address)
+numbers_in (reply.OpenProtocolInformation (Ok returned)) = Some (returned.count, returned.address)
 numbers_in (reply.LocateDevicePath (Ok found)) = Some found
 numbers_in answer = None
 
@@ -67,6 +67,6 @@ events_in (reply.ConnectController (Ok events)) = events.items
 events_in answer = []
 
 -- what is in the caller's variable: the number that is returned, else what was there
-abbrev pub told_or : {T : Type 0} → T → Option T → T
-told_or old (Some told) = told
-told_or old None = old
+abbrev pub returned_or : {T : Type 0} → T → Option T → T
+returned_or old (Some returned) = returned
+returned_or old None = old

@@ -20,7 +20,7 @@ use Rattle.c_machines.specs.declared.guids.Guid.{Guid}
 use Rattle.c_machines.specs.Guids.{standard_guid}
 use Rattle.c_interface.specs.Buffers.{laid}
 use Rattle.c_interface.specs.EfiCores.{EfiCoreValue, LeavesBlock, forgotten, meanings}
-use Rattle.c_interface.specs.Replies.{status_in, number_in, numbers_in, told_or}
+use Rattle.c_interface.specs.Replies.{status_in, number_in, numbers_in, returned_or}
 
 -- the status of a call that is one too many: EFI_ABORTED
 abbrev pub aborted : ℕ
@@ -52,11 +52,11 @@ AnswersStatus old c status new = Answers old c status (λ answer. Unit {0}) (Uni
 
 -- a call that returns a number in the caller's variable, where it succeeds with one
 abbrev pub AnswersNumber : EfiCoreValue → Call Global → ℕ → ℕ → ℕ → EfiCoreValue → Type 0
-AnswersNumber old c before status after new = Answers old c status (λ answer. after ≡ told_or before (number_in answer)) (after ≡ before) new
+AnswersNumber old c before status after new = Answers old c status (λ answer. after ≡ returned_or before (number_in answer)) (after ≡ before) new
 
 -- a call that returns two numbers in the caller's variables, where it succeeds
 abbrev pub AnswersNumbers : EfiCoreValue → Call Global → ℕ × ℕ → ℕ → ℕ × ℕ → EfiCoreValue → Type 0
-AnswersNumbers old c before status after new = Answers old c status (λ answer. after ≡ told_or before (numbers_in answer)) (after ≡ before) new
+AnswersNumbers old c before status after new = Answers old c status (λ answer. after ≡ returned_or before (numbers_in answer)) (after ≡ before) new
 
 -- ---- lists in the caller's buffers
 
@@ -69,34 +69,34 @@ abbrev pub handle_bytes : ℕ → ℕ
 handle_bytes room = min room most_handles * 8
 
 -- the bytes that a status says a list takes
-abbrev pub told_size : Status → ℕ → Option ℕ
-told_size Success size = Some size
-told_size BufferTooSmall size = Some size
-told_size status size = None
+abbrev pub returned_size : Status → ℕ → Option ℕ
+returned_size Success size = Some size
+returned_size BufferTooSmall size = Some size
+returned_size status size = None
 
 -- LocateHandle writes the bytes that the handles take to the caller's variable, and the handles to
 -- the caller's buffer.
-abbrev pub TellsHandles : ℕ → List ℕ → ℕ → List ℕ → Reply Global → Type 0
-TellsHandles size buffer new_size new_buffer (reply.LocateHandle told) = (new_size ≡ told_or size (told_size told.status told.size)) × (new_buffer ≡ laid told.handles.items buffer)
-TellsHandles size buffer new_size new_buffer answer = ⊥
+abbrev pub ReturnsHandles : ℕ → List ℕ → ℕ → List ℕ → Reply Global → Type 0
+ReturnsHandles size buffer new_size new_buffer (reply.LocateHandle returned) = (new_size ≡ returned_or size (returned_size returned.status returned.size)) × (new_buffer ≡ laid returned.handles.items buffer)
+ReturnsHandles size buffer new_size new_buffer answer = ⊥
 
 -- LocateHandle through C
 abbrev pub AnswersHandles : EfiCoreValue → Call Global → ℕ → List ℕ → ℕ → ℕ → List ℕ → EfiCoreValue → Type 0
-AnswersHandles old c size buffer status new_size new_buffer new = Answers old c status (TellsHandles size buffer new_size new_buffer) ((new_size ≡ size) × (new_buffer ≡ buffer)) new
+AnswersHandles old c size buffer status new_size new_buffer new = Answers old c status (ReturnsHandles size buffer new_size new_buffer) ((new_size ≡ size) × (new_buffer ≡ buffer)) new
 
 -- ProtocolsPerHandle: its status, how many GUIDs there are in the caller's variable, and the GUIDs
 -- in the caller's buffer. A buffer with no room for all of them is too small, and is left.
-abbrev pub TellsGuids : ℕ → List Guid → ℕ → ℕ → List Guid → Reply Global → Type 0
-TellsGuids count buffer status new_count new_buffer (reply.ProtocolsPerHandle (Ok guids)) =
+abbrev pub ReturnsGuids : ℕ → List Guid → ℕ → ℕ → List Guid → Reply Global → Type 0
+ReturnsGuids count buffer status new_count new_buffer (reply.ProtocolsPerHandle (Ok guids)) =
     (new_count ≡ length guids.items)
     × (((length guids.items ≤ length buffer) × (status ≡ status_number Success) × (new_buffer ≡ laid (map standard_guid guids.items) buffer)) ⊎ ((length buffer < length guids.items) × (status ≡ status_number BufferTooSmall) × (new_buffer ≡ buffer)))
-TellsGuids count buffer status new_count new_buffer (reply.ProtocolsPerHandle (Err refusal)) = (status ≡ status_number refusal) × (new_count ≡ count) × (new_buffer ≡ buffer)
-TellsGuids count buffer status new_count new_buffer answer = ⊥
+ReturnsGuids count buffer status new_count new_buffer (reply.ProtocolsPerHandle (Err refusal)) = (status ≡ status_number refusal) × (new_count ≡ count) × (new_buffer ≡ buffer)
+ReturnsGuids count buffer status new_count new_buffer answer = ⊥
 
 -- ProtocolsPerHandle through C
 abbrev pub AnswersGuids : EfiCoreValue → Call Global → ℕ → List Guid → ℕ → ℕ → List Guid → EfiCoreValue → Type 0
 AnswersGuids old c count buffer status new_count new_buffer new =
-    ((answer : Reply Global) × Serves old c answer new × TellsGuids count buffer status new_count new_buffer answer) ⊎ (IsSpent old new × (status ≡ aborted) × (new_count ≡ count) × (new_buffer ≡ buffer))
+    ((answer : Reply Global) × Serves old c answer new × ReturnsGuids count buffer status new_count new_buffer answer) ⊎ (IsSpent old new × (status ≡ aborted) × (new_count ≡ count) × (new_buffer ≡ buffer))
 
 -- the count is of too many interfaces to be installed at once
 abbrev pub too_many : ℕ
@@ -113,10 +113,10 @@ pub record MapPlaces : Type 0 where
 
 -- What GetMemoryMap writes to these variables: where the buffer is too small all but the key, so
 -- that a caller can make a larger one.
-abbrev pub told_places : MapReply → Status → MapPlaces → MapPlaces
-told_places told Success before = record { size = told.size; key = told.key; descriptor_size = record_size; version = descriptor_version }
-told_places told BufferTooSmall before = record { size = told.size; key = before.key; descriptor_size = record_size; version = descriptor_version }
-told_places told status before = before
+abbrev pub returned_places : MapReply → Status → MapPlaces → MapPlaces
+returned_places returned Success before = record { size = returned.size; key = returned.key; descriptor_size = record_size; version = descriptor_version }
+returned_places returned BufferTooSmall before = record { size = returned.size; key = before.key; descriptor_size = record_size; version = descriptor_version }
+returned_places returned status before = before
 
 -- what a call leaves that fills a buffer of the caller's: neither a reply nor a block to be asked
 -- for
@@ -129,22 +129,22 @@ pub record LeavesNothing (old new : EfiCoreValue) : Type 0 where
 -- GetMemoryMap with a buffer of the caller's
 abbrev pub AnswersMap : EfiCoreValue → List ℕ → MapPlaces → ℕ → List ℕ → MapPlaces → EfiCoreValue → Type 0
 AnswersMap old buffer before status after_buffer after new =
-    ((told : MapReply) × MapStep old.core.state buffer told after_buffer new.core.state × LeavesNothing old new × (status ≡ status_number told.status) × (after ≡ told_places told told.status before))
+    ((returned : MapReply) × MapStep old.core.state buffer returned after_buffer new.core.state × LeavesNothing old new × (status ≡ status_number returned.status) × (after ≡ returned_places returned returned.status before))
     ⊎ (IsSpent old new × (status ≡ aborted) × (after_buffer ≡ buffer) × (after ≡ before))
 
 -- a read of the pool's bytes into a buffer of the caller's
 abbrev pub AnswersRead : EfiCoreValue → ℕ → List ℕ → ℕ → List ℕ → EfiCoreValue → Type 0
 AnswersRead old address buffer status after new =
-    ((told : Status) × ReadStep old.core.state address buffer told after new.core.state × LeavesNothing old new × (status ≡ status_number told))
+    ((returned : Status) × ReadStep old.core.state address buffer returned after new.core.state × LeavesNothing old new × (status ≡ status_number returned))
     ⊎ (IsSpent old new × (status ≡ aborted) × (after ≡ buffer))
 
 -- ---- what is asked for after a call
 
 -- The block of the last call in the caller's buffer, its bytes in the caller's variable; where the
 -- buffer is too small the bytes that are needed, and where there is no block neither.
-abbrev pub TellsBlock : LastBlock → List ℕ → ℕ → ℕ → List ℕ → ℕ → Type 0
-TellsBlock block.Nothing buffer size status new_buffer new_size = (status ≡ status_number NotFound) × (new_buffer ≡ buffer) × (new_size ≡ size)
-TellsBlock block.OutOfMemory buffer size status new_buffer new_size = (status ≡ status_number OutOfResources) × (new_buffer ≡ buffer) × (new_size ≡ size)
-TellsBlock (block.Text text) buffer size status new_buffer new_size =
+abbrev pub ReturnsBlock : LastBlock → List ℕ → ℕ → ℕ → List ℕ → ℕ → Type 0
+ReturnsBlock block.Nothing buffer size status new_buffer new_size = (status ≡ status_number NotFound) × (new_buffer ≡ buffer) × (new_size ≡ size)
+ReturnsBlock block.OutOfMemory buffer size status new_buffer new_size = (status ≡ status_number OutOfResources) × (new_buffer ≡ buffer) × (new_size ≡ size)
+ReturnsBlock (block.Text text) buffer size status new_buffer new_size =
     (new_size ≡ length text.items)
     × (((length text.items ≤ length buffer) × (status ≡ status_number Success) × (new_buffer ≡ laid text.items buffer)) ⊎ ((length buffer < length text.items) × (status ≡ status_number BufferTooSmall) × (new_buffer ≡ buffer)))

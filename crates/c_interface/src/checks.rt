@@ -1,7 +1,7 @@
 //! The memory map without a call, and the check of a certificate block.
 ghost use Rattle.std.specs.Prelude.{◌≡◌, length, slice_get};
 ghost use Rattle.page_ranges.specs.MemoryMap.{memory_map};
-ghost use Rattle.c_interface.specs.Checks.{ChecksBlock, TellsEntry};
+ghost use Rattle.c_interface.specs.Checks.{ChecksBlock, ReturnsEntry};
 
 use crate::efi_core::EfiCore;
 use certificate_blocks::{BlockFault, judge_block};
@@ -31,7 +31,7 @@ impl EfiCore {
     ///
     /// NOT_FOUND: there is none.
     pub fn descriptor(&self, index: usize, entry: &mut MapEntry) -> u64
-        ensures { TellsEntry (slice_get (memory_map self.now.core.state.parts.book.memory) index) entry.old result entry.new }
+        ensures { ReturnsEntry (slice_get (memory_map self.now.core.state.parts.book.memory) index) entry.old result entry.new }
     {
         // This contract says that the memory is proper, and so that an entry's address is one of 64 bits.
         let _count = self.core.descriptors();

@@ -7,7 +7,7 @@ ghost use Rattle.boot_replies.specs.Certified.{map_before};
 ghost use Rattle.c_interface.specs.Buffers.{laid};
 ghost use Rattle.c_interface.specs.EfiCores.{LeavesBlock, forgotten, last_events};
 ghost use Rattle.c_interface.specs.Replies.{status_in};
-ghost use Rattle.c_interface.specs.Served.{AnswersStatus, AnswersNumber, AnswersNumbers, TellsBlock};
+ghost use Rattle.c_interface.specs.Served.{AnswersStatus, AnswersNumber, AnswersNumbers, ReturnsBlock};
 
 use crate::buffers::lay;
 use crate::replies::{events_in, number_in, numbers_in, status_in};
@@ -195,7 +195,7 @@ impl EfiCore {
     /// NOT_FOUND: the last call left no block. OUT_OF_RESOURCES: memory ran out for it.
     /// BUFFER_TOO_SMALL: the variable has the bytes that are needed.
     pub fn block(&self, buffer: &mut [u8], size: &mut u64) -> u64
-        ensures { TellsBlock self.now.block buffer.old size.old result buffer.new size.new }
+        ensures { ReturnsBlock self.now.block buffer.old size.old result buffer.new size.new }
     {
         let text = match &self.block {
             LastBlock::Text(text) => text,

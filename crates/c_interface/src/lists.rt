@@ -2,7 +2,7 @@
 ghost use Rattle.std.specs.Prelude.{◌≡◌, length, map, take};
 ghost use Rattle.boot_calls.specs.declared.calls.Call.TheVariants as call;
 ghost use Rattle.c_interface.specs.Buffers.{laid};
-ghost use Rattle.c_interface.specs.Served.{AnswersStatus, AnswersNumber, AnswersHandles, AnswersGuids, handle_bytes, told_size, too_many};
+ghost use Rattle.c_interface.specs.Served.{AnswersStatus, AnswersNumber, AnswersHandles, AnswersGuids, handle_bytes, returned_size, too_many};
 ghost use Rattle.c_machines.specs.Guids.{guid_in, interface_in, standard_guid};
 
 use crate::buffers::lay;
@@ -44,9 +44,9 @@ impl EfiCore {
             key,
             size,
         });
-        if let Some(Reply::LocateHandle(told)) = self.last_reply() {
-            lay(buffer, told.handles.as_slice());
-            if let Some(size) = told_size(told.status, told.size) {
+        if let Some(Reply::LocateHandle(returned)) = self.last_reply() {
+            lay(buffer, returned.handles.as_slice());
+            if let Some(size) = returned_size(returned.status, returned.size) {
                 *needed = size;
             }
         }
@@ -116,8 +116,8 @@ fn handle_bytes(room: usize) -> u64
 }
 
 /// The bytes that a status says a list takes.
-fn told_size(status: Status, size: u64) -> Option<u64>
-    ensures { result ≡ told_size status size }
+fn returned_size(status: Status, size: u64) -> Option<u64>
+    ensures { result ≡ returned_size status size }
 {
     match status {
         Status::Success | Status::BufferTooSmall => Some(size),

@@ -51,22 +51,22 @@ impl EfiCore {
         if self.core.calls_left() == 0 {
             return ABORTED;
         }
-        let told = self.core.get_memory_map(buffer);
-        match told.status {
+        let returned = self.core.get_memory_map(buffer);
+        match returned.status {
             Status::Success => {
-                *size = told.size;
-                *key = told.key;
+                *size = returned.size;
+                *key = returned.key;
                 *record_size = RECORD_SIZE;
                 *version = VERSION;
             }
             Status::BufferTooSmall => {
-                *size = told.size;
+                *size = returned.size;
                 *record_size = RECORD_SIZE;
                 *version = VERSION;
             }
             _ => {}
         }
-        told.status.number()
+        returned.status.number()
     }
 
     /// Reads bytes of one pool block into a buffer, from an address on.

@@ -1,15 +1,15 @@
 //! What replies have.
 ghost use Rattle.std.specs.Prelude.{◌≡◌};
-ghost use Rattle.c_interface.specs.Replies.{told_status, status_in, number_in, numbers_in, events_in};
+ghost use Rattle.c_interface.specs.Replies.{returned_status, status_in, number_in, numbers_in, events_in};
 
 use boot_core::Reply;
 use page_ranges::Status;
 
 /// The status that a result is returned as.
-fn told_status<R>(told: &Result<R, Status>) -> Status
-    ensures { result ≡ told_status told.now }
+fn returned_status<R>(returned: &Result<R, Status>) -> Status
+    ensures { result ≡ returned_status returned.now }
 {
-    match told {
+    match returned {
         Ok(_) => Status::Success,
         Err(status) => *status,
     }
@@ -20,30 +20,30 @@ pub(crate) fn status_in(reply: &Reply) -> Status
     ensures { result ≡ status_in reply.now }
 {
     match reply {
-        Reply::AllocatePages(told) => told_status(told),
-        Reply::FreePages(told) => told_status(told),
+        Reply::AllocatePages(returned) => returned_status(returned),
+        Reply::FreePages(returned) => returned_status(returned),
         Reply::GetMemoryMap { reply, .. } => reply.status,
-        Reply::AllocatePool(told) => told_status(told),
-        Reply::FreePool(told) => told_status(told),
+        Reply::AllocatePool(returned) => returned_status(returned),
+        Reply::FreePool(returned) => returned_status(returned),
         Reply::PoolRead { status, .. } => *status,
-        Reply::PoolWrite(told) => told_status(told),
-        Reply::InstallProtocolInterface(told) => told_status(told),
-        Reply::InstallMultipleProtocolInterfaces(told) => told_status(told),
-        Reply::UninstallProtocolInterface(told) => told_status(told),
-        Reply::ReinstallProtocolInterface(told) => told_status(told),
-        Reply::RegisterProtocolNotify(told) => told_status(told),
-        Reply::LocateHandle(told) => told.status,
-        Reply::LocateHandleBuffer(told) => told_status(told),
-        Reply::LocateProtocol(told) => told_status(told),
-        Reply::ProtocolsPerHandle(told) => told_status(told),
-        Reply::OpenProtocol(told) => told_status(told),
-        Reply::CloseProtocol(told) => told_status(told),
-        Reply::OpenProtocolInformation(told) => told_status(told),
-        Reply::HandleProtocol(told) => told_status(told),
-        Reply::ConnectController(told) => told_status(told),
-        Reply::DisconnectController(told) => told_status(told),
-        Reply::LocateDevicePath(told) => told_status(told),
-        Reply::ExitBootServices(told) => told_status(told),
+        Reply::PoolWrite(returned) => returned_status(returned),
+        Reply::InstallProtocolInterface(returned) => returned_status(returned),
+        Reply::InstallMultipleProtocolInterfaces(returned) => returned_status(returned),
+        Reply::UninstallProtocolInterface(returned) => returned_status(returned),
+        Reply::ReinstallProtocolInterface(returned) => returned_status(returned),
+        Reply::RegisterProtocolNotify(returned) => returned_status(returned),
+        Reply::LocateHandle(returned) => returned.status,
+        Reply::LocateHandleBuffer(returned) => returned_status(returned),
+        Reply::LocateProtocol(returned) => returned_status(returned),
+        Reply::ProtocolsPerHandle(returned) => returned_status(returned),
+        Reply::OpenProtocol(returned) => returned_status(returned),
+        Reply::CloseProtocol(returned) => returned_status(returned),
+        Reply::OpenProtocolInformation(returned) => returned_status(returned),
+        Reply::HandleProtocol(returned) => returned_status(returned),
+        Reply::ConnectController(returned) => returned_status(returned),
+        Reply::DisconnectController(returned) => returned_status(returned),
+        Reply::LocateDevicePath(returned) => returned_status(returned),
+        Reply::ExitBootServices(returned) => returned_status(returned),
     }
 }
 
@@ -71,8 +71,8 @@ pub(crate) fn numbers_in(reply: &Reply) -> Option<(u64, u64)>
     ensures { result ≡ numbers_in reply.now }
 {
     match reply {
-        Reply::LocateHandleBuffer(Ok(told)) => Some((told.count, told.address)),
-        Reply::OpenProtocolInformation(Ok(told)) => Some((told.count, told.address)),
+        Reply::LocateHandleBuffer(Ok(returned)) => Some((returned.count, returned.address)),
+        Reply::OpenProtocolInformation(Ok(returned)) => Some((returned.count, returned.address)),
         Reply::LocateDevicePath(Ok(found)) => Some(*found),
         _ => None,
     }

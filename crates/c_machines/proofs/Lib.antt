@@ -1,4 +1,4 @@
 pub mod Elements
 pub mod Records
 pub mod RunOrder
-pub mod ToldMachine
+pub mod DescribedMachine

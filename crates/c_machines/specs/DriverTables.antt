@@ -11,7 +11,7 @@ use Rattle.c_machines.specs.declared.faults.MachineFault.TheVariants.{Invalid, O
 use Rattle.c_machines.specs.Guids.{guid_in, interface_in}
 
 -- a driver as C describes it
-pub record ToldDriver : Type 0 where
+pub record DriverRecord : Type 0 where
   pub version : ℕ
   pub needs : List (List ℕ)
   pub opens : List (List ℕ)
@@ -19,15 +19,15 @@ pub record ToldDriver : Type 0 where
   pub stops : Bool
 
 -- what C passes of a driver
-abbrev pub told : TableDriver → ToldDriver
-told d = record { version = d.version; needs = d.needs.items; opens = d.plan.opens; children = d.plan.children; stops = d.stops }
+abbrev pub returned : TableDriver → DriverRecord
+returned d = record { version = d.version; needs = d.needs.items; opens = d.plan.opens; children = d.plan.children; stops = d.stops }
 
 -- the first interfaces of the child's array, as many as its count says
 abbrev pub child_in : Child → List (List ℕ × ℕ)
 child_in c = map interface_in (take c.count c.interfaces)
 
 -- the first elements of each of the table's arrays, as many as its count says
-abbrev pub driver_in : DriverTable → ToldDriver
+abbrev pub driver_in : DriverTable → DriverRecord
 driver_in t = record { version = t.version; needs = map guid_in (take t.needs_count t.needs); opens = map guid_in (take t.opens_count t.opens); children = map child_in (take t.children_count t.children); stops = t.stops }
 
 -- the count of the child is not above the length of its array
@@ -49,6 +49,6 @@ are_tables ts = nat_le (length ts) most_drivers && list_all fits ts
 -- What is read of tables: their drivers, in their order. Where they are none, Invalid; only where
 -- they are some may memory run out.
 abbrev pub ReadsDrivers : List DriverTable → Result (Vec TableDriver Global) MachineFault → Type 0
-ReadsDrivers ts (Ok drivers) = (are_tables ts ≡ true) × (map told drivers.items ≡ map driver_in ts)
+ReadsDrivers ts (Ok drivers) = (are_tables ts ≡ true) × (map returned drivers.items ≡ map driver_in ts)
 ReadsDrivers ts (Err Invalid) = are_tables ts ≡ false
 ReadsDrivers ts (Err OutOfMemory) = are_tables ts ≡ true

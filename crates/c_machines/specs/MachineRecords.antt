@@ -64,7 +64,7 @@ ReadsRuns size bytes (Err OutOfMemory) = Unit {0}
 -- ---- the machine
 
 -- The machine has the runs that the records describe, by ascending page, and the granule.
-pub record IsTold (size : ℕ) (bytes : List ℕ) (g : ℕ) (m : MachineValue) : Type 0 where
+pub record IsReturned (size : ℕ) (bytes : List ℕ) (g : ℕ) (m : MachineValue) : Type 0 where
   pub records : are_records size bytes ≡ true
   pub runs : IsPermutation (runs_in size bytes) m.runs
   pub order : IsNonDecreasingBy (λ (r : Run). r.range.first) m.runs
@@ -73,6 +73,6 @@ pub record IsTold (size : ℕ) (bytes : List ℕ) (g : ℕ) (m : MachineValue) :
 -- What is made of bytes: the machine that they describe. Where they describe none, Invalid or out
 -- of memory.
 abbrev pub MakesMachine : ℕ → List ℕ → ℕ → Result MachineValue MachineFault → Type 0
-MakesMachine size bytes granule (Ok m) = IsTold size bytes granule m
-MakesMachine size bytes granule (Err Invalid) = (m : MachineValue) → IsMachine m → ¬ IsTold size bytes granule m
+MakesMachine size bytes granule (Ok m) = IsReturned size bytes granule m
+MakesMachine size bytes granule (Err Invalid) = (m : MachineValue) → IsMachine m → ¬ IsReturned size bytes granule m
 MakesMachine size bytes granule (Err OutOfMemory) = Unit {0}

@@ -3,7 +3,7 @@ ghost use Rattle.std.specs.Prelude.{◌≡◌, ◌&&◌, nat_le, map, take, Some
 ghost use Rattle.std.specs.Option.{option_map};
 ghost use Rattle.std.specs.List.{list_all};
 ghost use Rattle.c_machines.specs.Guids.{guid_in, interface_in};
-ghost use Rattle.c_machines.specs.DriverTables.{ReadsDrivers, are_tables, fits_child, child_in, fits, driver_in, told};
+ghost use Rattle.c_machines.specs.DriverTables.{ReadsDrivers, are_tables, fits_child, child_in, fits, driver_in, returned};
 
 use crate::faults::MachineFault;
 use crate::guids::{Guid, Interface};
@@ -103,7 +103,7 @@ pub fn table_drivers(
 
 /// The driver of a table, None where a count is above the length of its array.
 fn driver_in(table: &DriverTable) -> Option<TableDriver>
-    ensures { option_map told result ≡ (if fits table.now then Some (driver_in table.now) else None) }
+    ensures { option_map returned result ≡ (if fits table.now then Some (driver_in table.now) else None) }
 {
     let needs = guids_in(&table.needs, table.needs_count)?;
     let opens = guids_in(&table.opens, table.opens_count)?;

@@ -24,7 +24,7 @@ node_read (t ∷ s ∷ []) behind p = absurd (omega (arith, p.header))
 node_read (t ∷ s ∷ l ∷ []) behind p = absurd (omega (arith, p.header))
 node_read (t ∷ s ∷ l ∷ h ∷ rest) behind p =
     let n : Node = t ∷ s ∷ l ∷ h ∷ rest in
-    path_here t s l h (length n) (rest ++ behind) (sym p.told) p.header
+    path_here t s l h (length n) (rest ++ behind) (sym p.returned) p.header
     ∙ ap (λ (xs : List ℕ). nodes_from xs (path_in (drop (length n) (n ++ behind)))) (take_at n behind (length n) refl)
     ∙ ap (λ (xs : List ℕ). nodes_from n (path_in xs)) (drop_at n behind (length n) refl)
 
@@ -60,7 +60,7 @@ same_node n m behind rest p q e =
     sym (get_or_append_left m behind 0 2 (omega (arith, q.header))) ∙ ap (λ (xs : List ℕ). get_or xs 2 0) e ∙ get_or_append_left n rest 0 2 (omega (arith, p.header)) in
     let at3 : get_or m 3 0 ≡ get_or n 3 0 =
     sym (get_or_append_left m behind 0 3 (omega (arith, q.header))) ∙ ap (λ (xs : List ℕ). get_or xs 3 0) e ∙ get_or_append_left n rest 0 3 (omega (arith, p.header)) in
-    let z : length m ≡ length n = omega (arith, p.told, q.told, at2, at3) in
+    let z : length m ≡ length n = omega (arith, p.returned, q.returned, at2, at3) in
     let same : n ≡ m = sym (take_at n rest (length n) refl) ∙ ap (take (length n)) (sym e) ∙ take_at m behind (length n) z in
     (same, append_cancel_left n behind rest (ap (λ (xs : List ℕ). xs ++ behind) same ∙ e))
 

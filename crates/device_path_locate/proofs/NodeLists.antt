@@ -5,7 +5,7 @@ use Rattle.std.proofs.lemmas.Bool.{and_parts, cases_Bool, cases_lt}
 use Rattle.std.proofs.lemmas.Slice.Eq.{bytes_eq-Decides}
 use Rattle.std.specs.List.{concat}
 use Rattle.byteorder.specs.Endian.{little_number}
-use Rattle.device_path_locate.specs.DevicePaths.{BeginsWith, Node, end_of_path, is_inner, nodes_behind, nodes_from, path_in, same_bytes, told_length}
+use Rattle.device_path_locate.specs.DevicePaths.{BeginsWith, Node, end_of_path, is_inner, nodes_behind, nodes_from, path_in, same_bytes, returned_length}
 use Rattle.device_path_locate.specs.Reading.{IsFrontNode}
 
 -- bytes that are passed over do not matter
@@ -35,8 +35,8 @@ none_behind : (n : Node) → same_bytes n end_of_path ≡ false → nodes_from n
 none_behind n e = rw e (same_either (is_inner n) None)
 
 -- the end of a path has a length of 4 bytes
-end_told : (t s l h : ℕ) (rest : List ℕ) → same_bytes (t ∷ s ∷ l ∷ h ∷ rest) end_of_path ≡ true → l + 256 * h ≡ 4
-end_told t s l h rest e =
+end_returned : (t s l h : ℕ) (rest : List ℕ) → same_bytes (t ∷ s ∷ l ∷ h ∷ rest) end_of_path ≡ true → l + 256 * h ≡ 4
+end_returned t s l h rest e =
     let p = and_parts (nat_eq t 0x7f) (same_bytes (s ∷ l ∷ h ∷ rest) (0xff ∷ 4 ∷ 0 ∷ [])) e in
     let q = and_parts (nat_eq s 0xff) (same_bytes (l ∷ h ∷ rest) (4 ∷ 0 ∷ [])) p.1 in
     let r = and_parts (nat_eq l 4) (same_bytes (h ∷ rest) (0 ∷ [])) q.1 in
@@ -72,7 +72,7 @@ no_node (t ∷ s ∷ a ∷ b ∷ rest) n h e (inr o) =
     path_here t s a b n rest z m ∙ ap (nodes_from (take n xs)) k ∙ elim (cases_Bool (same_bytes (take n xs) end_of_path)) [
       | inl c ↦
           let d : same_bytes (t ∷ s ∷ a ∷ b ∷ take (n - 4) rest) end_of_path ≡ true = rw (take_behind n (n - 4) t s a b rest (omega arith)) at c in
-          absurd (omega (arith, end_told t s a b (take (n - 4) rest) d))
+          absurd (omega (arith, end_returned t s a b (take (n - 4) rest) d))
       | inr c ↦ none_behind (take n xs) c
     ]
 
@@ -104,14 +104,14 @@ begins n behind ns e = elim (cases_Bool (same_bytes n end_of_path)) [
 ]
 
 -- a node before some bytes that begin with a path
-begins_more : (t s l h : ℕ) (rest : List ℕ) (ms : List Node) → 4 ≤ told_length l h → told_length l h - 4 ≤ length rest → is_inner (t ∷ s ∷ l ∷ h ∷ take (told_length l h - 4) rest) ≡ true →
-    BeginsWith (drop (told_length l h - 4) rest) ms → BeginsWith (t ∷ s ∷ l ∷ h ∷ rest) ((t ∷ s ∷ l ∷ h ∷ take (told_length l h - 4) rest) ∷ ms)
+begins_more : (t s l h : ℕ) (rest : List ℕ) (ms : List Node) → 4 ≤ returned_length l h → returned_length l h - 4 ≤ length rest → is_inner (t ∷ s ∷ l ∷ h ∷ take (returned_length l h - 4) rest) ≡ true →
+    BeginsWith (drop (returned_length l h - 4) rest) ms → BeginsWith (t ∷ s ∷ l ∷ h ∷ rest) ((t ∷ s ∷ l ∷ h ∷ take (returned_length l h - 4) rest) ∷ ms)
 begins_more t s l h rest ms m k i b =
-    let d : ℕ = told_length l h - 4 in
+    let d : ℕ = returned_length l h - 4 in
     let n : Node = t ∷ s ∷ l ∷ h ∷ take d rest in
     let z : length (take d rest) ≡ d = length-take-le d rest k in
     record {
-      nodes = (record { header = omega arith; told = omega (arith, z, m); inner = i }, b.nodes);
+      nodes = (record { header = omega arith; returned = omega (arith, z, m); inner = i }, b.nodes);
       rest = b.rest;
       is =
           ap (λ (xs : List ℕ). t ∷ s ∷ l ∷ h ∷ xs) (sym (take-append-drop d rest) ∙ ap (λ (xs : List ℕ). take d rest ++ xs) b.is)
@@ -127,11 +127,11 @@ begins_behind zero [] ns e = absurd cc
 begins_behind zero (t ∷ []) ns e = absurd cc
 begins_behind zero (t ∷ s ∷ []) ns e = absurd cc
 begins_behind zero (t ∷ s ∷ l ∷ []) ns e = absurd cc
-begins_behind zero (t ∷ s ∷ l ∷ h ∷ rest) ns e = elim (cases_lt (told_length l h) 4) [
-  | inl o ↦ let z : None ≡ Some ns = rw (lt-ltb (told_length l h) 4 o) at e in absurd cc
+begins_behind zero (t ∷ s ∷ l ∷ h ∷ rest) ns e = elim (cases_lt (returned_length l h) 4) [
+  | inl o ↦ let z : None ≡ Some ns = rw (lt-ltb (returned_length l h) 4 o) at e in absurd cc
   | inr o ↦
-      let d : ℕ = told_length l h - 4 in
-      let f = rw (le-ltb (told_length l h) 4 o) at e in
+      let d : ℕ = returned_length l h - 4 in
+      let f = rw (le-ltb (returned_length l h) 4 o) at e in
       elim (begins (t ∷ s ∷ l ∷ h ∷ take d rest) (nodes_behind d rest) ns f) [
         | inl (c, z) ↦ rw z (record { nodes = tt; rest = rest; is = same_end t s l h (take d rest) rest c })
         | inr (i, ms, b, z) ↦ elim (cases_lt (length rest) d) [

@@ -11,10 +11,10 @@ use Rattle.device_path_locate.specs.DevicePaths.{Node, end_of_instance, end_of_p
 abbrev pub span_after : ℕ → Option ℕ → List Node → PathSpan
 span_after read first ns = record { first_instance = unwrap_or first (read + size_of (first_instance ns)); whole = read + size_of ns }
 
-abbrev told_span : ℕ → ℕ → Option PathSpan
-told_span a b = Some (record { first_instance = a; whole = b })
+abbrev returned_span : ℕ → ℕ → Option PathSpan
+returned_span a b = Some (record { first_instance = a; whole = b })
 
-same_span : (a b c d : ℕ) → a ≡ b → c ≡ d → told_span a c ≡ told_span b d
+same_span : (a b c d : ℕ) → a ≡ b → c ≡ d → returned_span a c ≡ returned_span b d
 same_span a b c d e f = rw (e, f) refl
 
 pub nothing_read : (path : Option (List Node)) → option_map span_of path ≡ option_map (span_after 0 None) path

@@ -11,8 +11,8 @@ abbrev pub Node : Type 0
 Node = List ℕ
 
 -- the length in a node's header, the low byte first
-abbrev pub told_length : ℕ → ℕ → ℕ
-told_length low high = low + 256 * high
+abbrev pub returned_length : ℕ → ℕ → ℕ
+returned_length low high = low + 256 * high
 
 -- the end of the entire path
 abbrev pub end_of_path : Node
@@ -44,8 +44,8 @@ nodes_from n behind = cond (same_bytes n end_of_path) (Some []) (cond (is_inner 
 -- passed over.
 abbrev pub nodes_behind : ℕ → List ℕ → Option (List Node)
 nodes_behind zero (type ∷ subtype ∷ low ∷ high ∷ bytes) =
-    cond (nat_lt (told_length low high) 4) None
-    (nodes_from (type ∷ subtype ∷ low ∷ high ∷ take (told_length low high - 4) bytes) (nodes_behind (told_length low high - 4) bytes))
+    cond (nat_lt (returned_length low high) 4) None
+    (nodes_from (type ∷ subtype ∷ low ∷ high ∷ take (returned_length low high - 4) bytes) (nodes_behind (returned_length low high - 4) bytes))
 nodes_behind (suc k) (byte ∷ bytes) = nodes_behind k bytes
 nodes_behind k bytes = None
 
@@ -73,7 +73,7 @@ span_of ns = record { first_instance = size_of (first_instance ns); whole = size
 -- header's too.
 pub record IsPathNode (n : Node) : Type 0 where
   pub header : 4 ≤ length n
-  pub told : told_length (slice_index n 2) (slice_index n 3) ≡ length n
+  pub returned : returned_length (slice_index n 2) (slice_index n 3) ≡ length n
   pub inner : is_inner n ≡ true
 
 -- the bytes of a path: those of its nodes, one behind the other, and the end of the entire path

@@ -92,9 +92,9 @@ one_of_stamp (z ∷ zs) a p q x y e f s = elim (cases_Bool (p z)) [
 ]
 
 -- the interface that is returned is found, and passes
-told_found : (guid : List ℕ) (mark : ℕ) (listed : List Interface) (k : Interface) → Ascending AreApart listed → earliest (filter (is_after guid mark) listed) ≡ Some k
+returned_found : (guid : List ℕ) (mark : ℕ) (listed : List Interface) (k : Interface) → Ascending AreApart listed → earliest (filter (is_after guid mark) listed) ≡ Some k
     → (find (is_at k.handle guid) listed ≡ Some k) × (is_after guid mark k ≡ true)
-told_found guid mark listed k a e =
+returned_found guid mark listed k a e =
     let q : Interface → Bool = is_after guid mark in
     let all : AllByRecursion (λ x. (find (is_at x.handle guid) listed ≡ Some x) × (q x ≡ true)) (filter q listed) =
     all_filtered (λ x. (find (is_at x.handle guid) listed ≡ Some x) × (q x ≡ true)) (λ x. is_of guid x ≡ true → find (is_at x.handle guid) listed ≡ Some x) q
@@ -104,12 +104,12 @@ told_found guid mark listed k a e =
 next_is : (guid : List ℕ) (mark : ℕ) (listed : List Interface) → Ascending AreApart listed → (r o : Option Interface) → IsNextOf (is_after guid mark) (λ n. find (is_at n guid) listed) r
     → earliest (filter (is_after guid mark) listed) ≡ o → r ≡ o
 next_is guid mark listed a None None h e = refl
-next_is guid mark listed a None (Some k) h e = let there = told_found guid mark listed k a e in absurd (h k.handle k there.0 there.1)
+next_is guid mark listed a None (Some k) h e = let there = returned_found guid mark listed k a e in absurd (h k.handle k there.0 there.1)
 next_is guid mark listed a (Some i) None h e =
     absurd ((found_one (λ x. is_after guid mark x ≡ true → ⊥) (is_at i.handle guid) listed i
     (unfiltered (λ x. ⊥) (is_after guid mark) listed (earliest_none (λ x. ⊥) (filter (is_after guid mark) listed) e)) h.0).1 h.1)
 next_is guid mark listed a (Some i) (Some k) h e =
-    let there = told_found guid mark listed k a e in
+    let there = returned_found guid mark listed k a e in
     let least = unfiltered (λ j. k.stamp ≤ j.stamp) (is_after guid mark) listed (earliest_least (filter (is_after guid mark) listed) k e) in
     let above : k.stamp ≤ i.stamp = (found_one (λ x. is_after guid mark x ≡ true → k.stamp ≤ x.stamp) (is_at i.handle guid) listed i least h.0).1 h.1 in
     let under : i.stamp ≤ k.stamp = h.2 k.handle k there.0 there.1 in

@@ -44,9 +44,9 @@ pub earliest_one : (P : Interface → Type 0) (is : List Interface) (n : Interfa
 earliest_one P [] n a e = cc
 earliest_one P (i ∷ is) n a e = earlier_one P i (earliest is) n a.0 (earliest_one P is n a.1) e
 
-told_of : (P : ℕ → Type 0) (o : Option Interface) (n : ℕ × ℕ) → ((i : Interface) → o ≡ Some i → P i.handle) → option_map (λ i. (i.handle, i.stamp)) o ≡ Some n → P n.0
-told_of P None n f e = absurd cc
-told_of P (Some i) n f e = subst (λ (m : ℕ × ℕ). P m.0) (same_Some (i.handle, i.stamp) n e) (f i refl)
+returned_of : (P : ℕ → Type 0) (o : Option Interface) (n : ℕ × ℕ) → ((i : Interface) → o ≡ Some i → P i.handle) → option_map (λ i. (i.handle, i.stamp)) o ≡ Some n → P n.0
+returned_of P None n f e = absurd cc
+returned_of P (Some i) n f e = subst (λ (m : ℕ × ℕ). P m.0) (same_Some (i.handle, i.stamp) n e) (f i refl)
 
 -- the next handle carries the GUID
 pub next_carries : (t : HandleTable) (guid : List ℕ) (mark : ℕ) (n : ℕ × ℕ) → next_after t guid mark ≡ Some n → carries t guid n.0 ≡ true
@@ -55,7 +55,7 @@ next_carries t guid mark n e =
     let all : AllByRecursion (λ i. carries t guid i.handle ≡ true) (filter after t.interfaces) =
     all_filtered (λ i. carries t guid i.handle ≡ true) (λ i. is_of guid i ≡ true → carries t guid i.handle ≡ true) after
     (λ i p h. h (and_parts (is_of guid i) (nat_lt mark i.stamp) p).0) t.interfaces (interfaces_carried t guid) in
-    told_of (λ m. carries t guid m ≡ true) (earliest (filter after t.interfaces)) n (λ i s. earliest_one (λ j. carries t guid j.handle ≡ true) (filter after t.interfaces) i all s) e
+    returned_of (λ m. carries t guid m ≡ true) (earliest (filter after t.interfaces)) n (λ i s. earliest_one (λ j. carries t guid j.handle ≡ true) (filter after t.interfaces) i all s) e
 
 -- ---- the handles of a GUID
 

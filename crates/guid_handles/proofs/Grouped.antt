@@ -55,16 +55,16 @@ pub none_of : {X : Type 0} (o : Option X) → is_some o ≡ false → o ≡ None
 none_of None h = refl
 none_of (Some x) h = cc
 
-pub place_told : {G : Type 0} (now : G → Group) (groups : List Group) (guid : List ℕ) (at : ℕ) (o : Option G) → AscendByGuid groups → at ≡ place (is_before guid) groups
+pub place_returned : {G : Type 0} (now : G → Group) (groups : List Group) (guid : List ℕ) (at : ℕ) (o : Option G) → AscendByGuid groups → at ≡ place (is_before guid) groups
     → option_map now o ≡ kept_if (is_group_of guid) (slice_get groups at) → is_some o ≡ true → IsPlaceOf guid groups at
-place_told now groups guid at o a e k s =
+place_returned now groups guid at o a e k s =
     let kept : is_some (kept_if (is_group_of guid) (slice_get groups at)) ≡ true = ap is_some (sym k) ∙ some_map now o ∙ s in
     let there : kept_if (is_group_of guid) (slice_get groups at) ≡ slice_get groups at = kept_one (is_group_of guid) (slice_get groups at) kept in
     (one_there groups at (ap is_some (sym there) ∙ kept), sym (found_group groups guid at a e) ∙ there, e)
 
-pub none_told : {G : Type 0} (now : G → Group) (groups : List Group) (guid : List ℕ) (at : ℕ) (o : Option G) → AscendByGuid groups → at ≡ place (is_before guid) groups
+pub none_returned : {G : Type 0} (now : G → Group) (groups : List Group) (guid : List ℕ) (at : ℕ) (o : Option G) → AscendByGuid groups → at ≡ place (is_before guid) groups
     → option_map now o ≡ kept_if (is_group_of guid) (slice_get groups at) → is_some o ≡ false → find (is_group_of guid) groups ≡ None
-none_told now groups guid at o a e k s = sym (found_group groups guid at a e) ∙ none_of (kept_if (is_group_of guid) (slice_get groups at)) (ap is_some (sym k) ∙ some_map now o ∙ s)
+none_returned now groups guid at o a e k s = sym (found_group groups guid at a e) ∙ none_of (kept_if (is_group_of guid) (slice_get groups at)) (ap is_some (sym k) ∙ some_map now o ∙ s)
 
 -- ---- one group changes
 
@@ -234,8 +234,8 @@ none_there groups guid m none k n = elim (cases_Bool (same_guid guid k)) [
     same_either false o e = refl
 
 -- the handles of a group are those that have a key in it
-pub holders_told : (groups : List Group) (guid : List ℕ) (g : Group) → Some g ≡ find (is_group_of guid) groups → length g.holders ≡ length g.keys → (n : ℕ) → list_any (λ h. h == n) g.holders ≡ is_some (key_at groups guid n)
-holders_told groups guid g e even n = any_beside n g.holders g.keys even ∙ ap (λ o. is_some (option_and_then (λ h. key_in h n) o)) e
+pub holders_returned : (groups : List Group) (guid : List ℕ) (g : Group) → Some g ≡ find (is_group_of guid) groups → length g.holders ≡ length g.keys → (n : ℕ) → list_any (λ h. h == n) g.holders ≡ is_some (key_at groups guid n)
+holders_returned groups guid g e even n = any_beside n g.holders g.keys even ∙ ap (λ o. is_some (option_and_then (λ h. key_in h n) o)) e
   where
     any_beside : (n : ℕ) (hs ks : List ℕ) → length hs ≡ length ks → list_any (λ h. h == n) hs ≡ is_some (key_beside hs ks n)
     any_beside n [] ks e = refl

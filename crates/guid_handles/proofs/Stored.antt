@@ -219,12 +219,12 @@ unmade_again t maker h =
 -- ---- slots
 
 -- a key that is returned is that of an interface that is found
-key_told : (slots : List (Option Record)) (p : Interface → Bool) (is : List Interface) (o : Option ℕ) → HaveInterfaces slots (option_to_list o) (filter p is) → is_some o ≡ is_some (find p is)
-key_told slots p [] None h = refl
-key_told slots p [] (Some k) h = absurd h
-key_told slots p (x ∷ xs) o h = elim (cases_Bool (p x)) [
+key_returned : (slots : List (Option Record)) (p : Interface → Bool) (is : List Interface) (o : Option ℕ) → HaveInterfaces slots (option_to_list o) (filter p is) → is_some o ≡ is_some (find p is)
+key_returned slots p [] None h = refl
+key_returned slots p [] (Some k) h = absurd h
+key_returned slots p (x ∷ xs) o h = elim (cases_Bool (p x)) [
   | inl t ↦ rw t (one o (rw t at h))
-  | inr f ↦ rw f (key_told slots p xs o (rw f at h))
+  | inr f ↦ rw f (key_returned slots p xs o (rw f at h))
 ]
   where
     one : (k : Option ℕ) → HaveInterfaces slots (option_to_list k) (x ∷ filter p xs) → is_some k ≡ true
@@ -340,18 +340,18 @@ module _ (rows : List Row) (slots : List (Option Record)) (groups : List Group) 
 
   -- an interface that is not there has no key
   pub unkeyed : (n : ℕ) (guid : List ℕ) → find (is_at n guid) (installed_until stamp slots) ≡ None → key_at groups guid n ≡ None
-  unkeyed n guid e = none_of (key_at groups guid n) (key_told slots (is_at n guid) (installed_until stamp slots) (key_at groups guid n) (s.filed.by_guid n guid) ∙ ap is_some e)
+  unkeyed n guid e = none_of (key_at groups guid n) (key_returned slots (is_at n guid) (installed_until stamp slots) (key_at groups guid n) (s.filed.by_guid n guid) ∙ ap is_some e)
 
   -- the handles of a GUID are those that have a key in its group
   pub by_guid : (guid hs : List ℕ) → Ascending (λ a b. a < b) hs → ((n : ℕ) → list_any (λ h. h == n) hs ≡ is_some (key_at groups guid n)) → hs ≡ holders_of (table_of rows slots number stamp) guid
   by_guid guid hs ascending those =
       let t : HandleTable = table_of rows slots number stamp in
-      let told : (n : ℕ) → list_any (λ h. h == n) hs ≡ carries t guid n =
-      λ n. those n ∙ key_told slots (is_at n guid) (installed_until stamp slots) (key_at groups guid n) (s.filed.by_guid n guid) in
-      sym (filter_same (carries t guid) (λ n. list_any (λ h. h == n) hs) (numbers t) (all_of (λ n. carries t guid n ≡ list_any (λ h. h == n) hs) (λ n. sym (told n)) (numbers t))
+      let returned : (n : ℕ) → list_any (λ h. h == n) hs ≡ carries t guid n =
+      λ n. those n ∙ key_returned slots (is_at n guid) (installed_until stamp slots) (key_at groups guid n) (s.filed.by_guid n guid) in
+      sym (filter_same (carries t guid) (λ n. list_any (λ h. h == n) hs) (numbers t) (all_of (λ n. carries t guid n ≡ list_any (λ h. h == n) hs) (λ n. sym (returned n)) (numbers t))
       ∙ those_among (numbers t) hs s.table.proper.ascending ascending
       (all_map (λ h. list_any (λ k. nat_eq k h) hs ≡ true) (λ h. list_any (λ n. nat_eq n h) (numbers t) ≡ true)
-      (λ h m. sym (live_is t h) ∙ carried_live t s.table.proper guid h (sym (told h) ∙ m)) hs (among_own hs)))
+      (λ h m. sym (live_is t h) ∙ carried_live t s.table.proper guid h (sym (returned h) ∙ m)) hs (among_own hs)))
 
   -- ---- changes
 

@@ -8,7 +8,7 @@ use Rattle.page_ranges.specs.declared.statuses.Status.TheVariants.{Success, Inva
 use Rattle.placement_certificate.specs.Certificates.{CertificateValue, IsTrueCertificate}
 use Rattle.page_services.specs.PageRules.{IsValidRequest, max_address, whole_request}
 use Rattle.boot_machines.specs.Machines.{MachineValue, IsMachine}
-use Rattle.c_machines.specs.MachineRecords.{IsTold}
+use Rattle.c_machines.specs.MachineRecords.{IsReturned}
 
 -- The address is that of the best place: that of the true certificate for a number of pages of a
 -- type on the machine's memory, up to the byte at the limit.
@@ -31,6 +31,6 @@ FindsPlace m t pages limit (Err status) = ⊥
 -- ran out.
 abbrev pub PlacesPages : ℕ → List ℕ → ℕ → ℕ → ℕ → ℕ → ℕ → ℕ → ℕ → Type 0
 PlacesPages size records granule t pages limit before status after =
-    ((m : MachineValue) × IsTold size records granule m × IsBestPlace m t pages limit after × (status ≡ status_number Success))
-    ⊎ ((((m : MachineValue) → IsMachine m → ¬ IsTold size records granule m) ⊎ (¬ IsValidRequest max_address t pages)) × (status ≡ status_number InvalidParameter) × (after ≡ before))
+    ((m : MachineValue) × IsReturned size records granule m × IsBestPlace m t pages limit after × (status ≡ status_number Success))
+    ⊎ ((((m : MachineValue) → IsMachine m → ¬ IsReturned size records granule m) ⊎ (¬ IsValidRequest max_address t pages)) × (status ≡ status_number InvalidParameter) × (after ≡ before))
     ⊎ ((status ≡ status_number OutOfResources) × (after ≡ before))

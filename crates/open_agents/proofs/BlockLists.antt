@@ -40,16 +40,16 @@ pub found_block : (blocks : List Block) (n at : ℕ) → AscendByNumber blocks �
 found_block blocks n at a e =
     ap (λ k. kept_if (is_numbered n) (slice_get blocks k)) e ∙ sym (find_split (λ k. nat_lt k.number n) (is_numbered n) blocks (numbers_split (λ k. k.number) n blocks a))
 
-pub place_told : {G : Type 0} (now : G → Block) (blocks : List Block) (n at : ℕ) (o : Option G) → AscendByNumber blocks → at ≡ place (λ k. nat_lt k.number n) blocks
+pub place_returned : {G : Type 0} (now : G → Block) (blocks : List Block) (n at : ℕ) (o : Option G) → AscendByNumber blocks → at ≡ place (λ k. nat_lt k.number n) blocks
     → option_map now o ≡ kept_if (is_numbered n) (slice_get blocks at) → is_some o ≡ true → IsPlaceOf n blocks at
-place_told now blocks n at o a e k s =
+place_returned now blocks n at o a e k s =
     let kept : is_some (kept_if (is_numbered n) (slice_get blocks at)) ≡ true = ap is_some (sym k) ∙ some_map now o ∙ s in
     let there : kept_if (is_numbered n) (slice_get blocks at) ≡ slice_get blocks at = kept_one (is_numbered n) (slice_get blocks at) kept in
     (one_there blocks at (ap is_some (sym there) ∙ kept), sym (found_block blocks n at a e) ∙ there, e)
 
-pub none_told : {G : Type 0} (now : G → Block) (blocks : List Block) (n at : ℕ) (o : Option G) → AscendByNumber blocks → at ≡ place (λ k. nat_lt k.number n) blocks
+pub none_returned : {G : Type 0} (now : G → Block) (blocks : List Block) (n at : ℕ) (o : Option G) → AscendByNumber blocks → at ≡ place (λ k. nat_lt k.number n) blocks
     → option_map now o ≡ kept_if (is_numbered n) (slice_get blocks at) → is_some o ≡ false → find (is_numbered n) blocks ≡ None
-none_told now blocks n at o a e k s = sym (found_block blocks n at a e) ∙ none_of (kept_if (is_numbered n) (slice_get blocks at)) (ap is_some (sym k) ∙ some_map now o ∙ s)
+none_returned now blocks n at o a e k s = sym (found_block blocks n at a e) ∙ none_of (kept_if (is_numbered n) (slice_get blocks at)) (ap is_some (sym k) ∙ some_map now o ∙ s)
 
 pub block_there : (blocks : List Block) (n at : ℕ) (k : Block) → IsPlaceOf n blocks at → slice_get blocks at ≡ Some k → block_at blocks n ≡ k
 block_there blocks n at k p e = ap (one_or_empty n) (p.1 ∙ e)

@@ -92,6 +92,6 @@ pub if_64_bits_none : (n : ℕ) → 2 ^ 64 ≤ n → if_64_bits n ≡ None
 if_64_bits_none n large = cond-false _ _ _ (le-ltb n (2 ^ 64) large)
 
 -- a sum, if there is one, has at most 64 bits, and no more is known of it
-pub checked_64_bits : (told : Option ℕ) (n : ℕ) → SomeIff told (n < 2 ^ 64) n → told ≡ if_64_bits n
+pub checked_64_bits : (returned : Option ℕ) (n : ℕ) → SomeIff returned (n < 2 ^ 64) n → returned ≡ if_64_bits n
 checked_64_bits None n not_small = sym (if_64_bits_none n (omega arith))
 checked_64_bits (Some m) n is = ap Some is.1 ∙ sym (if_64_bits_some n is.0)

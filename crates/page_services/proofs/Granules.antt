@@ -427,16 +427,16 @@ pub too_many : (b : Book) (t pages address : ℕ) → IsProperMemory b.memory �
 too_many b t pages address proper small large free = no_such_page b.memory page_count (page_at b.memory page_count) proper (omega arith) refl (free.2 page_count (omega arith) (omega (arith, large)))
 
 -- a number that is rounded and returned is the rounded one, since no page number is near 64 bits
-pub rounded_told : (n g : ℕ) (told : Option ℕ) (end : ℕ) → told ≡ if_64_bits (rounded n g) → end ≡ unwrap_or told n → IsGranule g → n ≤ page_count → end ≡ rounded n g
-rounded_told n g told end e u is fits = u ∙ ap (λ o. unwrap_or o n) (e ∙ if_64_bits_some (rounded n g) (omega (arith, rounded_near n g is, fits)))
+pub rounded_returned : (n g : ℕ) (returned : Option ℕ) (end : ℕ) → returned ≡ if_64_bits (rounded n g) → end ≡ unwrap_or returned n → IsGranule g → n ≤ page_count → end ≡ rounded n g
+rounded_returned n g returned end e u is fits = u ∙ ap (λ o. unwrap_or o n) (e ∙ if_64_bits_some (rounded n g) (omega (arith, rounded_near n g is, fits)))
 
 -- ---- places that were chosen or named
 
 pub chosen_granules : (b : Book) (r : Request) (p : ℕ) (o : Owner) → IsProperRequest r → r.granule ≡ granule_for r.mtype b.granule → IsPermittedStart b.memory r p → IsInGranules b → IsInGranules (changed_book (record { first = p; pages = r.pages }) r.mtype o b)
 chosen_granules b r p o proper e permitted is = taken_granules b (record { first = p; pages = r.pages }) r.mtype o (subst (λ g. p % g ≡ 0) e permitted.whole) (subst (λ g. r.pages % g ≡ 0) e proper.filled) permitted.conventional is
 
-told_number : (n m : ℕ) → if_64_bits n ≡ Some m → n ≡ m
-told_number n m e = elim (cases_lt n (2 ^ 64)) [
+returned_number : (n m : ℕ) → if_64_bits n ≡ Some m → n ≡ m
+returned_number n m e = elim (cases_lt n (2 ^ 64)) [
   | inl small ↦ same_Some n m (sym (if_64_bits_some n small) ∙ e)
   | inr large ↦ let none : None ≡ Some m = sym (if_64_bits_none n large) ∙ e in absurd cc
 ]
@@ -449,16 +449,16 @@ untold_number n e = elim (cases_lt n (2 ^ 64)) [
 
 module _ (b : Book) (t pages address granule : ℕ) (of_type : granule ≡ granule_for t b.granule) where
   -- the pages that fill granules are returned, or are more than any memory has
-  pub told_pages : (count : ℕ) → if_64_bits (rounded pages granule) ≡ Some count → whole_pages b.granule t pages ≡ count
-  told_pages count e = ap (rounded pages) (sym of_type) ∙ told_number (rounded pages granule) count e
+  pub returned_pages : (count : ℕ) → if_64_bits (rounded pages granule) ≡ Some count → whole_pages b.granule t pages ≡ count
+  returned_pages count e = ap (rounded pages) (sym of_type) ∙ returned_number (rounded pages granule) count e
 
   pub named_granules : (count : ℕ) → if_64_bits (rounded pages granule) ≡ Some count → (address / page_size) % granule ≡ 0 → AllInRange b.memory (range_from address count) IsConventional → IsInGranules b → IsInGranules (changed_book (range_from address count) t Pages b)
   named_granules count e start free is =
       let filled : whole_pages b.granule t pages % granule_for t b.granule ≡ 0 = rounded_fills pages (granule_for t b.granule) (granule_for_granule t b.granule is.granule) in
-      taken_granules b (range_from address count) t Pages (subst (λ g. (address / page_size) % g ≡ 0) of_type start) (subst (λ n. n % granule_for t b.granule ≡ 0) (told_pages count e) filled) free is
+      taken_granules b (range_from address count) t Pages (subst (λ g. (address / page_size) % g ≡ 0) of_type start) (subst (λ n. n % granule_for t b.granule ≡ 0) (returned_pages count e) filled) free is
 
   pub not_free : (count : ℕ) → if_64_bits (rounded pages granule) ≡ Some count → ¬ AllInRange b.memory (range_from address count) IsConventional → ¬ IsFree b t pages address
-  not_free count e taken free = taken (subst (λ n. AllInRange b.memory (range_from address n) IsConventional) (told_pages count e) free.2)
+  not_free count e taken free = taken (subst (λ n. AllInRange b.memory (range_from address n) IsConventional) (returned_pages count e) free.2)
 
   pub never_free : if_64_bits (rounded pages granule) ≡ None → IsProperMemory b.memory → address < 2 ^ 64 → ¬ IsFree b t pages address
   never_free e proper small = too_many b t pages address proper small (subst (λ g. 2 ^ 64 ≤ rounded pages g) of_type (untold_number (rounded pages granule) e))

@@ -308,9 +308,9 @@ located-at cells first address c bs h l u s n =
 abbrev extent : ℕ → ℕ → ℕ → List Block → Extent
 extent first pages t bs = record { first = first; pages = pages; mtype = t; blocks = bs }
 
-pub room-told : (cells first address c at count : ℕ) (r : Bool) (bs : List Block) → AreBlocks cells 0 bs → tail_in first address bs ≡ tail_from at (block_at c bs) → r ≡ holds_range at count (block_at c bs) →
+pub room-returned : (cells first address c at count : ℕ) (r : Bool) (bs : List Block) → AreBlocks cells 0 bs → tail_in first address bs ≡ tail_from at (block_at c bs) → r ≡ holds_range at count (block_at c bs) →
     (IsTrue r → HasRoom count (tail_in first address bs)) × (HasRoom count (tail_in first address bs) → IsTrue r)
-room-told cells first address c at count r bs h t e = (
+room-returned cells first address c at count r bs h t e = (
   λ u. rw t (has-room cells 0 c at count (block_at c bs) bs h refl (sym e ∙ u)),
   λ u. e ∙ room-holds cells 0 c at count (block_at c bs) bs h refl (rw t at u),
 )

@@ -123,26 +123,26 @@ has-room-in address count es (Some tail) e (bytes, t, l) =
     let y : bytes ≡ tail = cc in
     omega (arith, l, ap (λ (b : List ℕ). length b) y)
 
-pub written-told : (address : ℕ) (bytes : List ℕ) (es : List Extent) (i : ℕ) (x y : Extent) (done : Bool) → AreExtents es → IsHolder es address (Some i) → x ≡ slice_index_or es i x →
+pub written-returned : (address : ℕ) (bytes : List ℕ) (es : List Extent) (i : ℕ) (x y : Extent) (done : Bool) → AreExtents es → IsHolder es address (Some i) → x ≡ slice_index_or es i x →
     (IsTrue done → HasRoom (length bytes) (tail_in x.first address x.blocks)) × (HasRoom (length bytes) (tail_in x.first address x.blocks) → IsTrue done) → y ≡ written_if done address bytes x →
     IsWrittenIn address bytes es done (set es i y)
-written-told address bytes es i x y true a h s r e =
+written-returned address bytes es i x y true a h s r e =
     let k = held-at address es i x h s in (
       in-block address (length bytes) es (tail_in x.first address x.blocks) (tail-here address es i x a k.0 k.1) (r.0 refl),
       ap (λ (z : Extent). set es i z) e ∙ written-is address bytes es i x a k.0 k.1 (r.0 refl),
     )
-written-told address bytes es i x y false a h s r e =
+written-returned address bytes es i x y false a h s r e =
     let k = held-at address es i x h s in (
       (λ u. let z : false ≡ true = r.1 (has-room-in address (length bytes) es (tail_in x.first address x.blocks) (tail-here address es i x a k.0 k.1) u) in absurd cc),
       ap (λ (z : Extent). set es i z) e ∙ set-same es i x k.0,
     )
 
-pub are-told : (address : ℕ) (bytes : List ℕ) (es : List Extent) (i : ℕ) (x y : Extent) (done : Bool) → AreExtents es → IsHolder es address (Some i) → x ≡ slice_index_or es i x →
+pub are-returned : (address : ℕ) (bytes : List ℕ) (es : List Extent) (i : ℕ) (x y : Extent) (done : Bool) → AreExtents es → IsHolder es address (Some i) → x ≡ slice_index_or es i x →
     (IsTrue done → HasRoom (length bytes) (tail_in x.first address x.blocks)) × (HasRoom (length bytes) (tail_in x.first address x.blocks) → IsTrue done) → y ≡ written_if done address bytes x → AreExtents (set es i y)
-are-told address bytes es i x y true a h s r e =
+are-returned address bytes es i x y true a h s r e =
     let k = held-at address es i x h s in
     are-set es i x y a k.0 (subst IsExtent (sym e) (is-written x address bytes (is-extent es i x a k.0) (r.0 refl))) (ap (λ (z : Extent). z.first) e) (ap (λ (z : Extent). z.pages) e)
-are-told address bytes es i x y false a h s r e = are-kept es i x y a (held-at address es i x h s).0 e
+are-returned address bytes es i x y false a h s r e = are-kept es i x y a (held-at address es i x h s).0 e
 
 pub not-in-block : (address count : ℕ) (es : List Extent) → tail_at address es ≡ None → ¬ IsInBlock address count es
 not-in-block address count es e (bytes, t, l) = let z : Some bytes ≡ None = sym t ∙ e in absurd cc
@@ -191,8 +191,8 @@ pub some-left : (e : Extent) (bs : List Block) → 0 < length bs → (range_if_e
 some-left e [] l = absurd (omega arith)
 some-left e (b ∷ bs) l = (refl, refl)
 
-pub given-told : (es : List Extent) (i c : ℕ) (x y : Extent) → AreExtents es → IsGivable i c es → x ≡ slice_index_or es i x → y ≡ with_blocks (without_block c x.blocks) x → IsGivenIn i c es (set es i y)
-given-told es i c x y a (e, h, b, n) s d =
+pub given-returned : (es : List Extent) (i c : ℕ) (x y : Extent) → AreExtents es → IsGivable i c es → x ≡ slice_index_or es i x → y ≡ with_blocks (without_block c x.blocks) x → IsGivenIn i c es (set es i y)
+given-returned es i c x y a (e, h, b, n) s d =
     let g : IsAt es i x = (h.0, s) in
     let same : e ≡ x = same-at es i e x h g in
     let bx : is_some (block_at c x.blocks) ≡ true = subst (λ (z : Extent). is_some (block_at c z.blocks) ≡ true) same b in

@@ -65,20 +65,20 @@ rooms-within rs es n e l = omega (arith, l, ap (λ (zs : List Room). length zs) 
 
 -- ---- the first that serves
 
-none-told : (t cells : ℕ) (es : List Extent) (n : ℕ) → NoneServes t cells (map room_of es) 0 n → AllByRecursion (λ (e : Extent). has_run t cells e ≡ false) (take n es)
-none-told t cells [] zero h = tt
-none-told t cells [] (suc n) h = tt
-none-told t cells (e ∷ es) zero h = tt
-none-told t cells (e ∷ es) (suc n) h = (
+none-returned : (t cells : ℕ) (es : List Extent) (n : ℕ) → NoneServes t cells (map room_of es) 0 n → AllByRecursion (λ (e : Extent). has_run t cells e ≡ false) (take n es)
+none-returned t cells [] zero h = tt
+none-returned t cells [] (suc n) h = tt
+none-returned t cells (e ∷ es) zero h = tt
+none-returned t cells (e ∷ es) (suc n) h = (
   h 0 (room_of e) (omega arith) (omega arith) (omega arith, refl),
-  none-told t cells es n (λ k q l u r. h (suc k) q (omega arith) (omega (arith, u)) (omega (arith, r.0), r.1)),
+  none-returned t cells es n (λ k q l u r. h (suc k) q (omega arith) (omega (arith, u)) (omega (arith, r.0), r.1)),
 )
 
-all-told : (t cells : ℕ) (es : List Extent) → NoneServes t cells (map room_of es) 0 (length (map room_of es)) → AllByRecursion (λ (e : Extent). has_run t cells e ≡ false) es
-all-told t cells [] h = tt
-all-told t cells (e ∷ es) h = (
+all-returned : (t cells : ℕ) (es : List Extent) → NoneServes t cells (map room_of es) 0 (length (map room_of es)) → AllByRecursion (λ (e : Extent). has_run t cells e ≡ false) es
+all-returned t cells [] h = tt
+all-returned t cells (e ∷ es) h = (
   h 0 (room_of e) (omega arith) (omega arith) (omega arith, refl),
-  all-told t cells es (λ k q l u r. h (suc k) q (omega arith) (omega (arith, u)) (omega (arith, r.0), r.1)),
+  all-returned t cells es (λ k q l u r. h (suc k) q (omega arith) (omega (arith, u)) (omega (arith, r.0), r.1)),
 )
 
 extent-at : (es : List Extent) (i : ℕ) (r : Room) → IsRoomAt (map room_of es) i r → (e : Extent) × IsAt es i e × (room_of e ≡ r)
@@ -86,21 +86,21 @@ extent-at [] i r h = absurd (omega (arith, h.0))
 extent-at (e ∷ es) zero r h = (e, (omega arith, refl), sym h.1)
 extent-at (e ∷ es) (suc i) r h = let (x, a, q) = extent-at es i r (omega (arith, h.0), h.1) in (x, (omega (arith, a.0), a.1), q)
 
-told : (t cells : ℕ) (es : List Extent) (o : Option ℕ) → IsFirstServing t cells (map room_of es) 0 (length (map room_of es)) o → IsFirstWithRoom t cells es o
-told t cells es None h = all-told t cells es h
-told t cells es (Some i) (r, a, s, n) =
+returned : (t cells : ℕ) (es : List Extent) (o : Option ℕ) → IsFirstServing t cells (map room_of es) 0 (length (map room_of es)) o → IsFirstWithRoom t cells es o
+returned t cells es None h = all-returned t cells es h
+returned t cells es (Some i) (r, a, s, n) =
     let (e, x, q) = extent-at es i r a in
-    (e, x, ap (λ (z : Room). serves t cells z) q ∙ s, none-told t cells es i n)
+    (e, x, ap (λ (z : Room). serves t cells z) q ∙ s, none-returned t cells es i n)
 
-pub first-told : (t size cells : ℕ) (o : Option ℕ) (rs : List Room) (es : List Extent) → rs ≡ map room_of es → cells ≡ cells_for size → IsFirstServing t cells rs 0 (length rs) o → IsFirstWithRoom t (cells_for size) es o
-first-told t size cells o rs es e c h =
-    told t (cells_for size) es o (subst (λ (zs : List Room). IsFirstServing t (cells_for size) zs 0 (length zs) o) e (subst (λ (k : ℕ). IsFirstServing t k rs 0 (length rs) o) c h))
+pub first-returned : (t size cells : ℕ) (o : Option ℕ) (rs : List Room) (es : List Extent) → rs ≡ map room_of es → cells ≡ cells_for size → IsFirstServing t cells rs 0 (length rs) o → IsFirstWithRoom t (cells_for size) es o
+first-returned t size cells o rs es e c h =
+    returned t (cells_for size) es o (subst (λ (zs : List Room). IsFirstServing t (cells_for size) zs 0 (length zs) o) e (subst (λ (k : ℕ). IsFirstServing t k rs 0 (length rs) o) c h))
 
 pub first-none : (t size cells : ℕ) (rs : List Room) (es : List Extent) → rs ≡ map room_of es → cells ≡ cells_for size → IsFirstServing t cells rs 0 (length rs) None → IsFirstWithRoom t (cells_for size) es None
-first-none t size cells rs es e c h = first-told t size cells None rs es e c h
+first-none t size cells rs es e c h = first-returned t size cells None rs es e c h
 
 pub first-some : (t size cells i : ℕ) (rs : List Room) (es : List Extent) → rs ≡ map room_of es → cells ≡ cells_for size → IsFirstServing t cells rs 0 (length rs) (Some i) → IsFirstWithRoom t (cells_for size) es (Some i)
-first-some t size cells i rs es e c h = first-told t size cells (Some i) rs es e c h
+first-some t size cells i rs es e c h = first-returned t size cells (Some i) rs es e c h
 
 -- ---- one changes, comes or goes
 

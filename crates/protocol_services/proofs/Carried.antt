@@ -20,21 +20,21 @@ first_one P (y ∷ ys) x a e = subst P (sym (same_Some x y e)) a.0
 pub first_carries : (t : HandleTable) (guid : List ℕ) (n : ℕ) → Some n ≡ slice_get (holders_of t guid) 0 → carries t guid n ≡ true
 first_carries t guid n e = first_one (λ m. carries t guid m ≡ true) (holders_of t guid) n (holders_carry t guid) e
 
-handle_told : (P : ℕ → Type 0) (o : Option (ℕ × ℕ)) (n : ℕ) → ((m : ℕ × ℕ) → o ≡ Some m → P m.0) → option_map (λ m. m.0) o ≡ Some n → P n
-handle_told P None n f e = absurd cc
-handle_told P (Some m) n f e = subst P (same_Some m.0 n e) (f m refl)
+handle_returned : (P : ℕ → Type 0) (o : Option (ℕ × ℕ)) (n : ℕ) → ((m : ℕ × ℕ) → o ≡ Some m → P m.0) → option_map (λ m. m.0) o ≡ Some n → P n
+handle_returned P None n f e = absurd cc
+handle_returned P (Some m) n f e = subst P (same_Some m.0 n e) (f m refl)
 
-next_told : (t : HandleTable) (guid : List ℕ) (o : Option Registration) (x : Option ℕ) (n : ℕ) → option_and_then (λ r. cond (is_for guid r) (Some x) None) o ≡ Some x
+next_returned : (t : HandleTable) (guid : List ℕ) (o : Option Registration) (x : Option ℕ) (n : ℕ) → option_and_then (λ r. cond (is_for guid r) (Some x) None) o ≡ Some x
     → option_map (λ m. m.0) (option_and_then (next_of t) o) ≡ Some n → carries t guid n ≡ true
-next_told t guid None x n g e = absurd cc
-next_told t guid (Some r) x n g e = elim (cases_Bool (is_for guid r)) [
+next_returned t guid None x n g e = absurd cc
+next_returned t guid (Some r) x n g e = elim (cases_Bool (is_for guid r)) [
   | inl k ↦
       subst (λ (k : List ℕ). carries t k n ≡ true) (same_guid-true r.guid guid k)
-      (handle_told (λ m. carries t r.guid m ≡ true) (next_of t r) n (next_carries t r.guid r.mark) e)
+      (handle_returned (λ m. carries t r.guid m ≡ true) (next_of t r) n (next_carries t r.guid r.mark) e)
   | inr k ↦ let none = rw k at g in absurd cc
 ]
 
 -- the next handle for a key of a GUID carries it
 pub next_one_carries : (l : Lists) (guid : List ℕ) (key n : ℕ) → next_of_guid l guid key ≡ Some (next_handle l.handles l.registrations key) → next_handle l.handles l.registrations key ≡ Some n
     → carries l.handles guid n ≡ true
-next_one_carries l guid key n g e = next_told l.handles guid (registration_of l.registrations key) (next_handle l.handles l.registrations key) n g e
+next_one_carries l guid key n g e = next_returned l.handles guid (registration_of l.registrations key) (next_handle l.handles l.registrations key) n g e

@@ -130,9 +130,9 @@ none_left None h = refl
 none_left (Some status) h = absurd (h status refl)
 
 -- nothing was refused
-pub not_refused : (l m : Lists) (handle : ℕ) (guid : List ℕ) (value : ℕ) (told : Option Status) → m ≡ l → told ≡ removal_refusal m.handles handle guid value → ((status : Status) → told ≡ Some status → ⊥)
+pub not_refused : (l m : Lists) (handle : ℕ) (guid : List ℕ) (value : ℕ) (returned : Option Status) → m ≡ l → returned ≡ removal_refusal m.handles handle guid value → ((status : Status) → returned ≡ Some status → ⊥)
     → removal_refusal l.handles handle guid value ≡ None
-not_refused l m handle guid value told same e h = rw (← same) (sym e ∙ none_left told h)
+not_refused l m handle guid value returned same e h = rw (← same) (sym e ∙ none_left returned h)
 
 value_there : (value : ℕ) (o : Option Interface) → is_value value (option_map (λ i. i.value) o) ≡ true → is_some o ≡ true
 value_there value None h = cc
@@ -254,7 +254,7 @@ replaced_where_idle ds l new plan handle guid value (Ok events) p none n proper 
 replaced_where_idle ds l new plan handle guid value (Err status) p none n proper e = tt
 
 pub replaced_or_not_raised : {R : Type 0} {E : Type 0} (l new : Lists) (handle : ℕ) (guid : List ℕ) (value : ℕ) (result : Result R E) → OnOk result (new ≡ replaced handle guid value (freed handle guid l)) → OnErr result (new ≡ l) → IsRaised l new
-replaced_or_not_raised l new handle guid value (Ok told) n same = replaced_raised l new handle guid value n
+replaced_or_not_raised l new handle guid value (Ok returned) n same = replaced_raised l new handle guid value n
 replaced_or_not_raised l new handle guid value (Err status) n same = rw same (stays_raised l)
 
 -- a copy in which an interface was freed and has another value

@@ -25,11 +25,11 @@ use Rattle.protocol_services.proofs.ProperStarts.{IsProper, connected_comes}
 
 -- ---- freeing
 
-frees : {R : Type 0} (refusal : Option Status) (can : Bool) (Does : R → Type 0) (result : Result R Status) (old new : Lists) → AreProperLists old → ((told : R) → refusal ≡ None → can ≡ true → Does told → AreProperLists new)
+frees : {R : Type 0} (refusal : Option Status) (can : Bool) (Does : R → Type 0) (result : Result R Status) (old new : Lists) → AreProperLists old → ((returned : R) → refusal ≡ None → can ≡ true → Does returned → AreProperLists new)
     → Frees refusal can Does result old new → AreProperLists new
-frees (Some r) can Does (Ok told) old new s f h = absurd h
+frees (Some r) can Does (Ok returned) old new s f h = absurd h
 frees (Some r) can Does (Err e) old new s f h = same old new s h.1
-frees None can Does (Ok told) old new s f h = f told refl h.0 h.1
+frees None can Does (Ok returned) old new s f h = f returned refl h.0 h.1
 frees None can Does (Err status.AccessDenied) old new s f h = same old new s h.1
 frees None can Does (Err status.OutOfResources) old new s f h = same old new s h
 frees None can Does (Err e) old new s f h = absurd h
@@ -67,7 +67,7 @@ uninstalled_proper n guid l s =
 pub uninstalls : (ds : List Meaning) (old : Lists) (n : ℕ) (guid : List ℕ) (value : ℕ) (result : Result (Unit {0}) Status) (new : Lists) → AreProperLists old → Uninstalls ds old n guid value result new → AreProperLists new
 uninstalls ds old n guid value result new s h =
     frees (removal_refusal old.handles n guid value) (can_be_freed ds old n guid) (λ done. new ≡ uninstalled n guid (freed n guid old)) result old new s
-    (λ told r can e. subst AreProperLists (sym e) (uninstalled_proper n guid (freed n guid old) (freed_proper n guid old s))) h
+    (λ returned r can e. subst AreProperLists (sym e) (uninstalled_proper n guid (freed n guid old) (freed_proper n guid old s))) h
 
 replaced_proper : (n : ℕ) (guid : List ℕ) (value : ℕ) (l : Lists) → AreProperLists l → IsProper (replaced n guid value l).handles (replaced n guid value l).opens
 replaced_proper n guid value l s = record {

@@ -120,8 +120,8 @@ searched_proper : (st : Status) (search key : ℕ) (l : Lists) → AreProperList
 searched_proper status.Success search key l s = found_proper search key l s
 searched_proper st search key l s = s
 
-pub locates_handles : {A : Type 0} (old : Lists) (search : ℕ) (guid : List ℕ) (key room : ℕ) (told : LocateReply A) (new : Lists) → AreProperLists old → LocatesHandles old search guid key room told new → AreProperLists new
-locates_handles old search guid key room told new s h = subst AreProperLists (sym h.1) (searched_proper told.status search key old s)
+pub locates_handles : {A : Type 0} (old : Lists) (search : ℕ) (guid : List ℕ) (key room : ℕ) (returned : LocateReply A) (new : Lists) → AreProperLists old → LocatesHandles old search guid key room returned new → AreProperLists new
+locates_handles old search guid key room returned new s h = subst AreProperLists (sym h.1) (searched_proper returned.status search key old s)
 
 pub locates_protocol : (old : Lists) (guid : List ℕ) (key : ℕ) (result : Result ℕ Status) (new : Lists) → AreProperLists old → LocatesProtocol old guid key result new → AreProperLists new
 locates_protocol old guid key (Ok value) new s h =

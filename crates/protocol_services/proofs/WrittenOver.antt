@@ -12,10 +12,10 @@ written_whole (x ∷ xs) [] e = absurd (omega (arith, e))
 written_whole (x ∷ xs) (y ∷ out) e = ap (λ r. x ∷ r) (written_whole xs out (omega (arith, e)))
 
 -- What a look-up gave the length of is written over a list of that length.
-pub told_whole : {X : Type 0} (live : Bool) (xs : List X) (count len : ℕ) (told : Option ℕ) (out new : List X) → Some count ≡ cond live (Some (length xs)) None → told ≡ cond live (Some (length xs)) None
-    → len ≡ count → length out ≡ len → (IsSome told → new ≡ written_over xs out) → (live ≡ true) × (take len (new ++ drop (length new) out) ≡ xs)
-told_whole false xs count len told out new a b c d f = absurd cc
-told_whole true xs count len told out new a b c d f =
+pub returned_whole : {X : Type 0} (live : Bool) (xs : List X) (count len : ℕ) (returned : Option ℕ) (out new : List X) → Some count ≡ cond live (Some (length xs)) None → returned ≡ cond live (Some (length xs)) None
+    → len ≡ count → length out ≡ len → (IsSome returned → new ≡ written_over xs out) → (live ≡ true) × (take len (new ++ drop (length new) out) ≡ xs)
+returned_whole false xs count len returned out new a b c d f = absurd cc
+returned_whole true xs count len returned out new a b c d f =
     let n : len ≡ length xs = c ∙ same_Some count (length xs) a in
     let same : new ≡ xs = f (rw b refl) ∙ written_whole xs out (d ∙ n) in
     (refl, rw (same, n) (take-append_seam xs (drop (length xs) out)))

@@ -101,10 +101,10 @@ Closes l handle guid agent controller (Err status) new = ⊥
 
 -- what OpenProtocolInformation lists of the open items of an interface, in the order in which they
 -- were made
-abbrev pub TellsItems : {A : Type 0} → Lists → ℕ → List ℕ → Result (Vec OpenItem A) Status → Type 0
-TellsItems l handle guid (Ok items) =
+abbrev pub ReturnsItems : {A : Type 0} → Lists → ℕ → List ℕ → Result (Vec OpenItem A) Status → Type 0
+ReturnsItems l handle guid (Ok items) =
     (carries l.handles guid handle ≡ true) × (items.items ≡ items_on l.opens handle guid)
-TellsItems l handle guid (Err NotFound) = carries l.handles guid handle ≡ false
-TellsItems l handle guid (Err OutOfResources) =
+ReturnsItems l handle guid (Err NotFound) = carries l.handles guid handle ≡ false
+ReturnsItems l handle guid (Err OutOfResources) =
     (carries l.handles guid handle ≡ true) × (0 < length (items_on l.opens handle guid))
-TellsItems l handle guid (Err status) = ⊥
+ReturnsItems l handle guid (Err status) = ⊥

@@ -58,9 +58,9 @@ freed handle guid l = without_opens_on handle guid (once_freed handle guid l)
 -- OUT_OF_RESOURCES means out of memory.
 abbrev pub Frees : {R : Type 0} → Option Status → Bool → (R → Type 0) → Result R Status → Lists
     → Lists → Type 0
-Frees (Some refusal) can Does (Ok told) l new = ⊥
+Frees (Some refusal) can Does (Ok returned) l new = ⊥
 Frees (Some refusal) can Does (Err status) l new = (status ≡ refusal) × (new ≡ l)
-Frees None can Does (Ok told) l new = (can ≡ true) × Does told
+Frees None can Does (Ok returned) l new = (can ≡ true) × Does returned
 Frees None can Does (Err AccessDenied) l new = (can ≡ false) × (new ≡ l)
 Frees None can Does (Err OutOfResources) l new = new ≡ l
 Frees None can Does (Err status) l new = ⊥

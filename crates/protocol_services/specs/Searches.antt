@@ -52,23 +52,23 @@ handles_size handles = 8 * length handles
 
 -- What a search returns of its handles, for a buffer of a size in bytes: status, size in bytes,
 -- handles.
-abbrev pub TellsHandles : Option (List ℕ) → ℕ → Status → ℕ → List ℕ → Type 0
-TellsHandles found room Success size handles =
+abbrev pub ReturnsHandles : Option (List ℕ) → ℕ → Status → ℕ → List ℕ → Type 0
+ReturnsHandles found room Success size handles =
     (found ≡ Some handles) × (0 < length handles) × (size ≡ handles_size handles) × (size ≤ room)
-TellsHandles found room InvalidParameter size handles = (found ≡ None) × (size ≡ 0) × (handles ≡ [])
-TellsHandles found room NotFound size handles = (found ≡ Some []) × (size ≡ 0) × (handles ≡ [])
-TellsHandles found room BufferTooSmall size handles =
+ReturnsHandles found room InvalidParameter size handles = (found ≡ None) × (size ≡ 0) × (handles ≡ [])
+ReturnsHandles found room NotFound size handles = (found ≡ Some []) × (size ≡ 0) × (handles ≡ [])
+ReturnsHandles found room BufferTooSmall size handles =
     (whole : List ℕ) × (found ≡ Some whole) × (size ≡ handles_size whole) × (room < size)
     × (handles ≡ [])
-TellsHandles found room OutOfResources size handles =
+ReturnsHandles found room OutOfResources size handles =
     (whole : List ℕ) × (found ≡ Some whole) × (0 < length whole) × (handles_size whole ≤ room)
     × (size ≡ 0) × (handles ≡ [])
-TellsHandles found room status size handles = ⊥
+ReturnsHandles found room status size handles = ⊥
 
 -- what a search returns
 abbrev pub FindsHandles : {A : Type 0} → Lists → ℕ → List ℕ → ℕ → ℕ → LocateReply A → Type 0
-FindsHandles l search guid key room told =
-    TellsHandles (found_handles l search guid key) room told.status told.size told.handles.items
+FindsHandles l search guid key room returned =
+    ReturnsHandles (found_handles l search guid key) room returned.status returned.size returned.handles.items
 
 -- the lists after a search with this status
 abbrev pub after_search : Status → ℕ → ℕ → Lists → Lists
@@ -78,8 +78,8 @@ after_search status search key l = l
 -- What LocateHandle returns, and the lists after it.
 abbrev pub LocatesHandles : {A : Type 0} → Lists → ℕ → List ℕ → ℕ → ℕ → LocateReply A → Lists
     → Type 0
-LocatesHandles l search guid key room told new =
-    FindsHandles l search guid key room told × (new ≡ after_search told.status search key l)
+LocatesHandles l search guid key room returned new =
+    FindsHandles l search guid key room returned × (new ≡ after_search returned.status search key l)
 
 -- ---- LocateProtocol
 
@@ -115,9 +115,9 @@ LocatesProtocol l guid key (Err status) new = ⊥
 -- ---- ProtocolsPerHandle
 
 -- what ProtocolsPerHandle returns: the GUIDs on a live handle, in order of installation
-abbrev pub TellsProtocols : {A : Type 0} → Lists → ℕ → Result (Vec (List ℕ) A) Status → Type 0
-TellsProtocols l handle (Ok guids) =
+abbrev pub ReturnsProtocols : {A : Type 0} → Lists → ℕ → Result (Vec (List ℕ) A) Status → Type 0
+ReturnsProtocols l handle (Ok guids) =
     (is_live l.handles handle ≡ true) × (guids.items ≡ guids_on l.handles handle)
-TellsProtocols l handle (Err InvalidParameter) = is_live l.handles handle ≡ false
-TellsProtocols l handle (Err OutOfResources) = is_live l.handles handle ≡ true
-TellsProtocols l handle (Err status) = ⊥
+ReturnsProtocols l handle (Err InvalidParameter) = is_live l.handles handle ≡ false
+ReturnsProtocols l handle (Err OutOfResources) = is_live l.handles handle ≡ true
+ReturnsProtocols l handle (Err status) = ⊥

@@ -3,7 +3,7 @@ ghost use Rattle.std.specs.Prelude.{◌≡◌, ◌==◌, [], ◌∷◌, true, fa
 ghost use Rattle.guid_handles.specs.HandleTables.{carries, value_at};
 ghost use Rattle.protocol_services.specs.Lists.{HasRoom, IsRaised};
 ghost use Rattle.open_agents.specs.OpenRule.{has_equal, open_rule};
-ghost use Rattle.protocol_services.specs.Opening.{Closes, HandlesProtocol, OpensAs, OpensProtocol, TellsItems, names_none, test_protocol};
+ghost use Rattle.protocol_services.specs.Opening.{Closes, HandlesProtocol, OpensAs, OpensProtocol, ReturnsItems, names_none, test_protocol};
 
 use crate::protocols::Protocols;
 use driver_connect::{Driver, StopPlan};
@@ -88,7 +88,7 @@ impl<A: Allocator + Copy> Protocols<A> {
         ensures raised { IsRaised self.old self.new }
     {
         match self.opens.add(handle, guid, agent, controller, attributes) {
-            Ok(()) => Ok(told_value(value, attributes)),
+            Ok(()) => Ok(returned_value(value, attributes)),
             Err(_) => Err(Status::OutOfResources),
         }
     }
@@ -113,7 +113,7 @@ impl<A: Allocator + Copy> Protocols<A> {
             .opens
             .add_new(handle, guid, agent, controller, attributes)
         {
-            Ok(()) => Ok(told_value(value, attributes)),
+            Ok(()) => Ok(returned_value(value, attributes)),
             Err(_) => Err(Status::OutOfResources),
         }
     }
@@ -150,7 +150,7 @@ impl<A: Allocator + Copy> Protocols<A> {
             Ok(false) => return Err(Status::AccessDenied),
             Err(_) => return Err(Status::OutOfResources),
         }
-        let value = told_value(self.handles.interface(handle, guid), attributes);
+        let value = returned_value(self.handles.interface(handle, guid), attributes);
         // The new item is none that the stop takes out. It comes first, as it may take memory.
         match self.opens.add(handle, guid, opener.0, opener.1, attributes) {
             Ok(()) => {
@@ -222,7 +222,7 @@ impl<A: Allocator + Copy> Protocols<A> {
     ///
     /// NOT_FOUND: the handle is not live, or does not carry the GUID. OUT_OF_RESOURCES: memory ran out.
     pub fn items(&self, handle: u64, guid: Uuid) -> Result<Vec<OpenItem, A>, Status>
-        ensures { TellsItems self.now handle guid result }
+        ensures { ReturnsItems self.now handle guid result }
     {
         if self.handles.interface(handle, guid).is_none() {
             return Err(Status::NotFound);
@@ -235,7 +235,7 @@ impl<A: Allocator + Copy> Protocols<A> {
 }
 
 /// What OpenProtocol returns of the value of an interface.
-fn told_value(value: Option<u64>, attributes: u32) -> Option<u64>
+fn returned_value(value: Option<u64>, attributes: u32) -> Option<u64>
     ensures { result ≡ cond (attributes == test_protocol) None value }
 {
     if attributes == TEST_PROTOCOL {

@@ -3,7 +3,7 @@ ghost use Rattle.std.specs.Prelude.{◌≡◌, ◌≢◌, true, [], Some, IsSome
 ghost use Rattle.guid_handles.specs.HandleTables.{carries, value_at};
 ghost use Rattle.protocol_notify.specs.Registrations.{next_handle};
 ghost use Rattle.protocol_services.specs.Lists.{IsRaised};
-ghost use Rattle.protocol_services.specs.Searches.{FindsHandles, LocatesHandles, LocatesProtocol, TellsHandles, TellsProtocols, by_register_notify, next_listed, next_of_guid, once_found};
+ghost use Rattle.protocol_services.specs.Searches.{FindsHandles, LocatesHandles, LocatesProtocol, ReturnsHandles, ReturnsProtocols, by_register_notify, next_listed, next_of_guid, once_found};
 
 use crate::protocols::Protocols;
 use boot_calls::LocateReply;
@@ -33,23 +33,23 @@ impl<A: Allocator + Copy> Protocols<A> {
         ensures { FindsHandles self.now search guid key room result }
     {
         match search {
-            ALL_HANDLES => told(self.alloc, self.handles.all(), room),
+            ALL_HANDLES => returned(self.alloc, self.handles.all(), room),
             BY_REGISTER_NOTIFY => self.find_next(key, room),
-            BY_PROTOCOL => told(self.alloc, self.handles.by_protocol(guid), room),
+            BY_PROTOCOL => returned(self.alloc, self.handles.by_protocol(guid), room),
             _ => refused(self.alloc, Status::InvalidParameter, 0),
         }
     }
 
     /// The handle that is next for a key, as a search returns it.
     fn find_next(&self, key: u64, room: u64) -> LocateReply<A>
-        ensures { TellsHandles
+        ensures { ReturnsHandles
             (next_listed self.now key) room result.status result.size result.handles.items }
     {
         if self.registrations.guid_of(key).is_none() {
             return refused(self.alloc, Status::InvalidParameter, 0);
         }
         match self.registrations.next(&self.handles, key) {
-            Some(handle) => told(self.alloc, &[handle], room),
+            Some(handle) => returned(self.alloc, &[handle], room),
             None => refused(self.alloc, Status::NotFound, 0),
         }
     }
@@ -139,7 +139,7 @@ impl<A: Allocator + Copy> Protocols<A> {
     ///
     /// INVALID_PARAMETER: the handle is not live. OUT_OF_RESOURCES: memory ran out.
     pub fn protocols_of(&self, handle: u64) -> Result<Vec<Uuid, A>, Status>
-        ensures { TellsProtocols self.now handle result }
+        ensures { ReturnsProtocols self.now handle result }
     {
         let Some(count) = self.handles.protocols_of(handle, &mut []) else {
             return Err(Status::InvalidParameter);
@@ -161,8 +161,8 @@ fn no_guids<A: Allocator>(alloc: A, count: usize) -> Result<Vec<Uuid, A>, AllocE
 }
 
 /// The handles that a search is for, as it returns them.
-fn told<A: Allocator + Copy>(alloc: A, handles: &[u64], room: u64) -> LocateReply<A>
-    ensures { TellsHandles (Some handles.now) room result.status result.size result.handles.items }
+fn returned<A: Allocator + Copy>(alloc: A, handles: &[u64], room: u64) -> LocateReply<A>
+    ensures { ReturnsHandles (Some handles.now) room result.status result.size result.handles.items }
 {
     let size = handles.len() as u64 * HANDLE_SIZE;
     if handles.is_empty() {

@@ -56,47 +56,47 @@ pub enum Services {
 }
 
 /// What a call of some services returns, if one may still be made.
-pub fn told_by<D: Driver>(
+pub fn returned_by<D: Driver>(
     rt: &(impl AllocGlobal + Abort),
     core: &mut Core<D>,
     services: Services,
     call: Call,
-) -> Told {
+) -> Returned {
     if core.calls_left() == 0 {
         panic!(rt; "no calls left");
     }
     let reply = core.call(&call);
-    told_of(rt, services, &reply)
+    returned_of(rt, services, &reply)
 }
 
 /// What a reply of some services returns.
-fn told_of(rt: &(impl AllocGlobal + Abort), services: Services, reply: &Reply) -> Told {
+fn returned_of(rt: &(impl AllocGlobal + Abort), services: Services, reply: &Reply) -> Returned {
     match services {
-        Services::Installing => installing::told_of(rt, reply),
-        Services::Searching => searching::told_of(rt, reply),
-        Services::Opening => opening::told_of(rt, reply),
-        Services::Listing => listing::told_of(rt, reply),
-        Services::Driving => boxed_drivers::told_of(rt, reply),
+        Services::Installing => installing::returned_of(rt, reply),
+        Services::Searching => searching::returned_of(rt, reply),
+        Services::Opening => opening::returned_of(rt, reply),
+        Services::Listing => listing::returned_of(rt, reply),
+        Services::Driving => boxed_drivers::returned_of(rt, reply),
     }
 }
 
 /// What a service returns: its status, and numbers.
 #[derive(Drop)]
-pub struct Told {
+pub struct Returned {
     pub status: Status,
     pub numbers: Vec<u64>,
 }
 
 /// A reply with the given numbers.
-pub fn tell(rt: &(impl AllocGlobal + Abort), status: Status, numbers: &[u64]) -> Told {
-    Told {
+pub fn tell(rt: &(impl AllocGlobal + Abort), status: Status, numbers: &[u64]) -> Returned {
+    Returned {
         status,
         numbers: Vec::from_slice(rt.alloc(), numbers).expect(rt, "memory"),
     }
 }
 
 /// A reply with one number, or a refusal.
-pub fn tell_one(rt: &(impl AllocGlobal + Abort), answer: Result<u64, Status>) -> Told {
+pub fn tell_one(rt: &(impl AllocGlobal + Abort), answer: Result<u64, Status>) -> Returned {
     match answer {
         Ok(number) => tell(rt, Status::Success, &[number]),
         Err(status) => tell(rt, status, &[]),
@@ -109,10 +109,10 @@ pub fn assert_tells(
     core: &mut Core<TableDriver>,
     services: Services,
     call: Call,
-    plain: Told,
+    plain: Returned,
 ) -> Status {
-    let told = told_by(rt, core, services, call);
-    assert!(rt; told.status == plain.status);
-    assert!(rt; told.numbers.as_slice() == plain.numbers.as_slice());
+    let returned = returned_by(rt, core, services, call);
+    assert!(rt; returned.status == plain.status);
+    assert!(rt; returned.numbers.as_slice() == plain.numbers.as_slice());
     plain.status
 }

@@ -20,7 +20,7 @@ kept None c entries = refl
 kept (Some r) c entries = refl
 
 -- a map that is always kept
-always : (told : Option (Request × CertificateValue)) (entries : List Descriptor) → block_after (Some entries) told ≡ certificate_text entries told
+always : (returned : Option (Request × CertificateValue)) (entries : List Descriptor) → block_after (Some entries) returned ≡ certificate_text entries returned
 always None entries = refl
 always (Some (r, c)) entries = refl
 
@@ -37,11 +37,11 @@ block_kept true g entries c answer = refl
 pub prints_call : {A : Type 0} (certify : Bool) (number : ℕ) (before : Book) (c : Call A) (answer : Reply A) (front text : List ℕ) (map : Option (List Descriptor)) (entries : List Descriptor) → CarriesEntries answer entries → front ≡ [] → map ≡ map_before certify before.granule (memory_map before.memory) c → text ≡ front ++ (reply_text number entries answer ++ block_after map (certified before.granule c answer)) → PrintsCall certify number before c answer text
 prints_call certify number before c answer front text map entries carries none kept e =
     let line = reply_text number entries answer in
-    let told = certified before.granule c answer in (
+    let returned = certified before.granule c answer in (
       entries,
       carries,
       e
-          ∙ ap (λ (f : List ℕ). f ++ (line ++ block_after map told)) none
-          ∙ ap (λ (m : Option (List Descriptor)). line ++ block_after m told) kept
+          ∙ ap (λ (f : List ℕ). f ++ (line ++ block_after map returned)) none
+          ∙ ap (λ (m : Option (List Descriptor)). line ++ block_after m returned) kept
           ∙ ap (λ (block : List ℕ). line ++ block) (block_kept certify before.granule (memory_map before.memory) c answer),
     )

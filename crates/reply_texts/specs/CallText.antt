@@ -20,7 +20,7 @@ HoldsEntries bytes entries =
 
 -- the entries of the memory map that a reply carries: those that its bytes hold
 abbrev pub CarriesEntries : {A : Type 0} → Reply A → List Descriptor → Type 0
-CarriesEntries (reply.GetMemoryMap told bytes) entries = HoldsEntries bytes.items entries
+CarriesEntries (reply.GetMemoryMap returned bytes) entries = HoldsEntries bytes.items entries
 CarriesEntries answer entries = entries ≡ []
 
 -- the block of a certificate with the request that it is for and the memory map before the call
@@ -37,5 +37,5 @@ PrintsCall certify number before c answer text =
 
 -- the block, where the map before the call was kept
 abbrev pub block_after : Option (List Descriptor) → Option (Request × CertificateValue) → List ℕ
-block_after (Some entries) told = certificate_text entries told
-block_after None told = []
+block_after (Some entries) returned = certificate_text entries returned
+block_after None returned = []

@@ -10,7 +10,7 @@ use Rattle.map_keys.specs.declared.memory_maps.MapReply.{MapReply}
 use Rattle.boot_replies.specs.declared.replies.Reply.{Reply}
 use Rattle.boot_replies.specs.declared.replies.Reply.TheVariants as reply
 use Rattle.boot_replies.specs.declared.replies.PoolList.{PoolList}
-use Rattle.boot_replies.specs.Told.{told_status}
+use Rattle.boot_replies.specs.Returned.{returned_status}
 use Rattle.boot_calls.specs.declared.replies.Installed.{Installed}
 use Rattle.boot_calls.specs.declared.replies.LocateReply.{LocateReply}
 use Rattle.reply_texts.specs.ListTexts.{events_text, guids_text, numbers_text}
@@ -51,17 +51,17 @@ descriptor_line d =
 
 -- the line of a memory map that was written
 abbrev pub map_line : ℕ → MapReply → List ℕ
-map_line number told =
-    reply_start number verb.Map ++ codes " SUCCESS size=" ++ decimal told.size ++ codes " key="
-    ++ decimal told.key ++ codes " descriptor-size=" ++ decimal told.descriptor_size
-    ++ codes " version=" ++ decimal told.version ++ line_feed
+map_line number returned =
+    reply_start number verb.Map ++ codes " SUCCESS size=" ++ decimal returned.size ++ codes " key="
+    ++ decimal returned.key ++ codes " descriptor-size=" ++ decimal returned.descriptor_size
+    ++ codes " version=" ++ decimal returned.version ++ line_feed
 
 -- What is printed of a GetMemoryMap with this reply, of this status: on success its line and those
 -- of the entries.
 abbrev pub map_text : ℕ → List Descriptor → MapReply → Status → List ℕ
-map_text number entries told Success = map_line number told ++ flat_map descriptor_line entries
-map_text number entries told BufferTooSmall = size_line number verb.Map told.size
-map_text number entries told status = status_line number verb.Map (status_of status)
+map_text number entries returned Success = map_line number returned ++ flat_map descriptor_line entries
+map_text number entries returned BufferTooSmall = size_line number verb.Map returned.size
+map_text number entries returned status = status_line number verb.Map (status_of status)
 
 -- the line of a read of the pool's bytes with this status: on success the bytes
 abbrev pub read_line : ℕ → List ℕ → Status → List ℕ
@@ -70,18 +70,18 @@ read_line number bytes status = status_line number verb.Read (status_of status)
 
 -- the line of a reply that says how a call ended, and nothing else
 abbrev pub result_line : ℕ → Verb → Result (Unit {0}) Status → List ℕ
-result_line number v result = status_line number v (status_of (told_status result))
+result_line number v result = status_line number v (status_of (returned_status result))
 
 -- the line of a reply with fields, or of a refusal
-abbrev pub told_line : {R : Type 0} → (R → List ℕ) → ℕ → Verb → Result R Status → List ℕ
-told_line fields number v (Ok told) =
-    reply_start number v ++ codes " SUCCESS " ++ fields told ++ line_feed
-told_line fields number v (Err status) = status_line number v (status_of status)
+abbrev pub returned_line : {R : Type 0} → (R → List ℕ) → ℕ → Verb → Result R Status → List ℕ
+returned_line fields number v (Ok returned) =
+    reply_start number v ++ codes " SUCCESS " ++ fields returned ++ line_feed
+returned_line fields number v (Err status) = status_line number v (status_of status)
 
 -- the fields of an installation
 abbrev pub installed_fields : {A : Type 0} → Installed A → List ℕ
-installed_fields told =
-    codes "handle=" ++ decimal told.handle ++ codes " events=" ++ events_text told.events.items
+installed_fields returned =
+    codes "handle=" ++ decimal returned.handle ++ codes " events=" ++ events_text returned.events.items
 
 -- the field of the events that are signaled
 abbrev pub events_field : {A : Type 0} → Vec ℕ A → List ℕ
@@ -89,8 +89,8 @@ events_field events = codes "events=" ++ events_text events.items
 
 -- the fields of a list in a pool block
 abbrev pub pool_list_fields : {A : Type 0} → PoolList A → List ℕ
-pool_list_fields told =
-    codes "count=" ++ decimal told.count ++ codes " address=" ++ hexadecimal told.address
+pool_list_fields returned =
+    codes "count=" ++ decimal returned.count ++ codes " address=" ++ hexadecimal returned.address
 
 -- the field of an interface
 abbrev pub interface_field : ℕ → List ℕ
@@ -111,49 +111,49 @@ path_fields found = codes "handle=" ++ decimal found.0 ++ codes " address=" ++ h
 -- the line of an open, which may have no interface
 abbrev pub opened_line : ℕ → Result (Option ℕ) Status → List ℕ
 opened_line number (Ok None) = status_line number verb.Open (status_of Success)
-opened_line number (Ok (Some value)) = told_line interface_field number verb.Open (Ok value)
+opened_line number (Ok (Some value)) = returned_line interface_field number verb.Open (Ok value)
 opened_line number (Err status) = status_line number verb.Open (status_of status)
 
 -- the fields of a search that found handles: their size, and the handles
 abbrev pub handles_fields : {A : Type 0} → LocateReply A → List ℕ
-handles_fields told =
-    codes "size=" ++ decimal told.size ++ codes " handles=" ++ numbers_text told.handles.items
+handles_fields returned =
+    codes "size=" ++ decimal returned.size ++ codes " handles=" ++ numbers_text returned.handles.items
 
 -- the line of a search for handles, of this status
 abbrev pub located_line : {A : Type 0} → ℕ → LocateReply A → Status → List ℕ
-located_line number told Success = told_line handles_fields number verb.Locate (Ok told)
-located_line number told BufferTooSmall = size_line number verb.Locate told.size
-located_line number told status = status_line number verb.Locate (status_of status)
+located_line number returned Success = returned_line handles_fields number verb.Locate (Ok returned)
+located_line number returned BufferTooSmall = size_line number verb.Locate returned.size
+located_line number returned status = status_line number verb.Locate (status_of status)
 
 -- what is printed of a reply of the protocol services
 abbrev pub protocol_text : {A : Type 0} → ℕ → Reply A → List ℕ
 protocol_text number (reply.InstallProtocolInterface result) =
-    told_line installed_fields number verb.Install result
+    returned_line installed_fields number verb.Install result
 protocol_text number (reply.InstallMultipleProtocolInterfaces result) =
-    told_line installed_fields number verb.InstallMany result
+    returned_line installed_fields number verb.InstallMany result
 protocol_text number (reply.UninstallProtocolInterface result) =
     result_line number verb.Uninstall result
 protocol_text number (reply.ReinstallProtocolInterface result) =
-    told_line events_field number verb.Reinstall result
+    returned_line events_field number verb.Reinstall result
 protocol_text number (reply.RegisterProtocolNotify result) =
-    told_line registration_field number verb.Notify result
-protocol_text number (reply.LocateHandle told) = located_line number told told.status
+    returned_line registration_field number verb.Notify result
+protocol_text number (reply.LocateHandle returned) = located_line number returned returned.status
 protocol_text number (reply.LocateHandleBuffer result) =
-    told_line pool_list_fields number verb.LocateBuffer result
+    returned_line pool_list_fields number verb.LocateBuffer result
 protocol_text number (reply.LocateProtocol result) =
-    told_line interface_field number verb.LocateProtocol result
+    returned_line interface_field number verb.LocateProtocol result
 protocol_text number (reply.ProtocolsPerHandle result) =
-    told_line guids_field number verb.Protocols result
+    returned_line guids_field number verb.Protocols result
 protocol_text number (reply.OpenProtocol result) = opened_line number result
 protocol_text number (reply.CloseProtocol result) = result_line number verb.Close result
 protocol_text number (reply.OpenProtocolInformation result) =
-    told_line pool_list_fields number verb.Information result
+    returned_line pool_list_fields number verb.Information result
 protocol_text number (reply.HandleProtocol result) =
-    told_line interface_field number verb.HandleProtocol result
+    returned_line interface_field number verb.HandleProtocol result
 protocol_text number (reply.ConnectController result) =
-    told_line events_field number verb.Connect result
+    returned_line events_field number verb.Connect result
 protocol_text number (reply.DisconnectController result) = result_line number verb.Disconnect result
-protocol_text number (reply.LocateDevicePath result) = told_line path_fields number verb.Path result
+protocol_text number (reply.LocateDevicePath result) = returned_line path_fields number verb.Path result
 protocol_text number answer = []
 
 -- what is printed of a reply that carries these entries
@@ -163,7 +163,7 @@ reply_text number entries (reply.AllocatePages (Ok placed)) =
 reply_text number entries (reply.AllocatePages (Err status)) =
     status_line number verb.Pages (status_of status)
 reply_text number entries (reply.FreePages result) = result_line number verb.FreePages result
-reply_text number entries (reply.GetMemoryMap told bytes) = map_text number entries told told.status
+reply_text number entries (reply.GetMemoryMap returned bytes) = map_text number entries returned returned.status
 reply_text number entries (reply.AllocatePool (Ok block)) =
     value_line number verb.Pool (codes "address") block.0
 reply_text number entries (reply.AllocatePool (Err status)) =

@@ -1,6 +1,6 @@
 //! The lines of replies of the protocol services.
 ghost use Rattle.std.specs.Prelude.{◌≡◌, ◌++◌, Ok, OnOk, string_bytes};
-ghost use Rattle.reply_texts.specs.PrintedText.{events_field, guids_field, handles_fields, installed_fields, interface_field, located_line, opened_line, path_fields, pool_list_fields, protocol_text, registration_field, told_line};
+ghost use Rattle.reply_texts.specs.PrintedText.{events_field, guids_field, handles_fields, installed_fields, interface_field, located_line, opened_line, path_fields, pool_list_fields, protocol_text, registration_field, returned_line};
 
 use crate::list_texts::{print_events, print_guids, print_numbers};
 use crate::replies::{print_result, print_size, print_status};
@@ -34,7 +34,7 @@ pub(crate) fn print_protocols<A: Allocator>(
             print_signaled(text, number, Verb::Reinstall, result)
         }
         Reply::RegisterProtocolNotify(result) => print_registration(text, number, *result),
-        Reply::LocateHandle(told) => print_located(text, number, told),
+        Reply::LocateHandle(returned) => print_located(text, number, returned),
         Reply::LocateHandleBuffer(result) => {
             print_pool_list(text, number, Verb::LocateBuffer, result)
         }
@@ -67,14 +67,14 @@ fn print_installed<A: Allocator>(
     done: &Result<Installed<A>, Status>,
 ) -> Result<(), AllocError>
     ensures { OnOk result
-        (string_bytes text.new ≡ string_bytes text.old ++ told_line installed_fields number verb done.now) }
+        (string_bytes text.new ≡ string_bytes text.old ++ returned_line installed_fields number verb done.now) }
 {
     match done {
-        Ok(told) => {
+        Ok(returned) => {
             let verb = verb.name();
-            let handle = told.handle;
+            let handle = returned.handle;
             write!(text, "{number} {verb} SUCCESS handle={handle} events=")?;
-            print_events(text, told.events.as_slice())?;
+            print_events(text, returned.events.as_slice())?;
             writeln!(text)
         }
         Err(status) => print_status(text, number, verb, *status),
@@ -89,7 +89,7 @@ fn print_signaled<A: Allocator>(
     done: &Result<Vec<u64, A>, Status>,
 ) -> Result<(), AllocError>
     ensures { OnOk result
-        (string_bytes text.new ≡ string_bytes text.old ++ told_line events_field number verb done.now) }
+        (string_bytes text.new ≡ string_bytes text.old ++ returned_line events_field number verb done.now) }
 {
     match done {
         Ok(events) => {
@@ -110,13 +110,13 @@ fn print_pool_list<A: Allocator>(
     done: &Result<PoolList<A>, Status>,
 ) -> Result<(), AllocError>
     ensures { OnOk result
-        (string_bytes text.new ≡ string_bytes text.old ++ told_line pool_list_fields number verb done.now) }
+        (string_bytes text.new ≡ string_bytes text.old ++ returned_line pool_list_fields number verb done.now) }
 {
     match done {
-        Ok(told) => {
+        Ok(returned) => {
             let verb = verb.name();
-            let count = told.count;
-            let address = told.address;
+            let count = returned.count;
+            let address = returned.address;
             writeln!(
                 text,
                 "{number} {verb} SUCCESS count={count} address=0x{address:x}"
@@ -134,7 +134,7 @@ fn print_interface<A: Allocator>(
     done: Result<u64, Status>,
 ) -> Result<(), AllocError>
     ensures { OnOk result
-        (string_bytes text.new ≡ string_bytes text.old ++ told_line interface_field number verb done) }
+        (string_bytes text.new ≡ string_bytes text.old ++ returned_line interface_field number verb done) }
 {
     match done {
         Ok(value) => {
@@ -167,7 +167,7 @@ fn print_registration<A: Allocator>(
     done: Result<u64, Status>,
 ) -> Result<(), AllocError>
     ensures { OnOk result
-        (string_bytes text.new ≡ string_bytes text.old ++ told_line registration_field number Verb.Notify done) }
+        (string_bytes text.new ≡ string_bytes text.old ++ returned_line registration_field number Verb.Notify done) }
 {
     match done {
         Ok(key) => {
@@ -185,7 +185,7 @@ fn print_protocols_on<A: Allocator>(
     done: &Result<Vec<Uuid, A>, Status>,
 ) -> Result<(), AllocError>
     ensures { OnOk result
-        (string_bytes text.new ≡ string_bytes text.old ++ told_line guids_field number Verb.Protocols done.now) }
+        (string_bytes text.new ≡ string_bytes text.old ++ returned_line guids_field number Verb.Protocols done.now) }
 {
     match done {
         Ok(guids) => {
@@ -205,7 +205,7 @@ fn print_path<A: Allocator>(
     done: Result<(u64, u64), Status>,
 ) -> Result<(), AllocError>
     ensures { OnOk result
-        (string_bytes text.new ≡ string_bytes text.old ++ told_line path_fields number Verb.Path done) }
+        (string_bytes text.new ≡ string_bytes text.old ++ returned_line path_fields number Verb.Path done) }
 {
     match done {
         Ok((handle, address)) => {
@@ -224,15 +224,15 @@ fn print_handles<A: Allocator>(
     text: &mut String<A>,
     number: u64,
     verb: Verb,
-    told: &LocateReply<A>,
+    returned: &LocateReply<A>,
 ) -> Result<(), AllocError>
     ensures { OnOk result
-        (string_bytes text.new ≡ string_bytes text.old ++ told_line handles_fields number verb (Ok told.now)) }
+        (string_bytes text.new ≡ string_bytes text.old ++ returned_line handles_fields number verb (Ok returned.now)) }
 {
     let verb = verb.name();
-    let size = told.size;
+    let size = returned.size;
     write!(text, "{number} {verb} SUCCESS size={size} handles=")?;
-    print_numbers(text, told.handles.as_slice())?;
+    print_numbers(text, returned.handles.as_slice())?;
     writeln!(text)
 }
 
@@ -240,14 +240,14 @@ fn print_handles<A: Allocator>(
 fn print_located<A: Allocator>(
     text: &mut String<A>,
     number: u64,
-    told: &LocateReply<A>,
+    returned: &LocateReply<A>,
 ) -> Result<(), AllocError>
     ensures { OnOk result
-        (string_bytes text.new ≡ string_bytes text.old ++ located_line number told.now told.now.status) }
+        (string_bytes text.new ≡ string_bytes text.old ++ located_line number returned.now returned.now.status) }
 {
-    match told.status {
-        Status::Success => print_handles(text, number, Verb::Locate, told),
-        Status::BufferTooSmall => print_size(text, number, Verb::Locate, told.size),
+    match returned.status {
+        Status::Success => print_handles(text, number, Verb::Locate, returned),
+        Status::BufferTooSmall => print_size(text, number, Verb::Locate, returned.size),
         status => print_status(text, number, Verb::Locate, status),
     }
 }

@@ -45,7 +45,7 @@ pub fn reply_of(rt: &impl Abort, core: &mut Core<TableDriver>, call: Call) -> Re
 }
 
 /// The address at which a reply says that pages were placed.
-pub fn address_told(reply: &Reply) -> Option<u64> {
+pub fn address_returned(reply: &Reply) -> Option<u64> {
     match reply {
         Reply::AllocatePages(Ok(placed)) => Some(placed.address),
         _ => None,
@@ -53,7 +53,7 @@ pub fn address_told(reply: &Reply) -> Option<u64> {
 }
 
 /// The status of a reply.
-pub fn status_told(reply: &Reply) -> Status {
+pub fn status_returned(reply: &Reply) -> Status {
     match reply {
         Reply::AllocatePages(Err(status)) => *status,
         Reply::FreePages(Err(status)) => *status,
@@ -73,7 +73,7 @@ fn best_fit_high(rt: HostRuntime) {
         memory: 0,
     };
     let replies = replies_of(&rt, &mut core, &[anywhere]);
-    assert_eq!(rt; replies.first().and_then(address_told), Some(0x7f6000));
+    assert_eq!(rt; replies.first().and_then(address_returned), Some(0x7f6000));
     assert_eq!(rt; core.descriptors(), 5);
 }
 
@@ -114,7 +114,7 @@ fn replies_in_order(rt: HostRuntime) {
     let replies = replies_of(&rt, &mut core, &CALLS);
     assert_eq!(rt; replies.len(), STATUSES.len());
     for (status, reply) in STATUSES.iter().zip(replies.iter()) {
-        assert_eq!(rt; status_told(reply), *status);
+        assert_eq!(rt; status_returned(reply), *status);
     }
     assert_eq!(rt; core.calls_left(), 0x8000_0000 - 6);
 }

@@ -1,6 +1,6 @@
 //! Placements and frees on maps of real firmware. After each call the map is compared with a plain list of
 //! stretches.
-use super::call_lists::{address_told, reply_of, status_told};
+use super::call_lists::{address_returned, reply_of, status_returned};
 use super::firmware_maps::maps;
 use super::granules::{border_above, border_below, freed_change, granule_of};
 use super::stretches::{
@@ -194,10 +194,10 @@ fn place(
         memory: drawn.memory,
     };
     let reply = reply_of(rt, core, allocate);
-    match address_told(&reply) {
+    match address_returned(&reply) {
         Some(address) => Some(placed_change(rt, stretches, drawn, address)),
         None => {
-            assert_eq!(rt; status_told(&reply), refusal_of(stretches, drawn));
+            assert_eq!(rt; status_returned(&reply), refusal_of(stretches, drawn));
             None
         }
     }
@@ -209,7 +209,7 @@ fn freed(rt: &impl Abort, core: &mut Core<TableDriver>, first: u64, end: u64) ->
         memory: first.saturating_mul(PAGE_SIZE),
         pages: end.saturating_sub(first),
     };
-    status_told(&reply_of(rt, core, free))
+    status_returned(&reply_of(rt, core, free))
 }
 
 /// Frees pages, and judges the reply.

@@ -1,6 +1,6 @@
 //! Requests that take much memory, and are served: each service may return OUT_OF_RESOURCES, and none may return it
 //! for what is large alone.
-use super::call_lists::{address_told, replies_of, reply_of, status_told};
+use super::call_lists::{address_returned, replies_of, reply_of, status_returned};
 use super::{Given, core_of, core_of_runs, run_of};
 use boot_core::{Call, Core, Reply};
 use driver_connect::TableDriver;
@@ -41,12 +41,12 @@ fn assert_served(
     address: u64,
 ) {
     let placed = reply_of(rt, core, allocate);
-    assert_eq!(rt; address_told(&placed), Some(address));
+    assert_eq!(rt; address_returned(&placed), Some(address));
     let free = Call::FreePages {
         memory: address,
         pages,
     };
-    assert_eq!(rt; status_told(&reply_of(rt, core, free)), Status::Success);
+    assert_eq!(rt; status_returned(&reply_of(rt, core, free)), Status::Success);
     assert_eq!(rt; core.descriptors(), 1);
 }
 
@@ -83,7 +83,7 @@ fn core_of_most(rt: &(impl AllocGlobal + Abort)) -> Core<TableDriver> {
 }
 
 /// The bytes of a memory map in a reply, if they are as many as it says.
-fn bytes_told(reply: &Reply) -> Option<&[u8]> {
+fn bytes_returned(reply: &Reply) -> Option<&[u8]> {
     match reply {
         Reply::GetMemoryMap { reply, bytes } if reply.size == bytes.len() as u64 => {
             Some(bytes.as_slice())
@@ -114,9 +114,9 @@ fn many_descriptors(rt: HostRuntime) {
         memory: 0,
     };
     let placed = reply_of(&rt, &mut core, allocate);
-    assert_eq!(rt; address_told(&placed), Some(0x1fff_e000));
+    assert_eq!(rt; address_returned(&placed), Some(0x1fff_e000));
     let map = reply_of(&rt, &mut core, Call::GetMemoryMap { size });
-    let bytes = bytes_told(&map).expect(&rt, "bytes");
+    let bytes = bytes_returned(&map).expect(&rt, "bytes");
     assert_eq!(rt; bytes.len() as u64, size);
     assert_records(&rt, &core, bytes);
 }
@@ -149,6 +149,6 @@ fn many_calls(rt: HostRuntime) {
     let replies = replies_of(&rt, &mut core, calls.as_slice());
     assert_eq!(rt; replies.len(), 2 * PAIRS);
     for reply in &replies {
-        assert_eq!(rt; status_told(reply), Status::Success);
+        assert_eq!(rt; status_returned(reply), Status::Success);
     }
 }

@@ -189,7 +189,7 @@ fn give(rt: &(impl AllocGlobal + Abort), core: &mut Core<TableDriver>, block: &B
     };
     for answer in [Ok(()), Err(Status::InvalidParameter)] {
         match reply_to(rt, core, &free) {
-            Reply::FreePool(told) => assert_eq!(rt; told, answer),
+            Reply::FreePool(returned) => assert_eq!(rt; returned, answer),
             _ => panic!(rt; "another reply"),
         }
     }

@@ -145,8 +145,8 @@ impl Counts {
 /// Asserts that some bytes are read as the plain reader does, and returns what it read.
 fn assert_same(rt: &impl Abort, bytes: &[u8]) -> Option<(usize, usize)> {
     let spans = plain_spans(bytes);
-    let told = read_path(bytes).map(|span| (span.first_instance, span.whole));
-    assert_eq!(rt; told, spans, "{bytes:?}");
+    let returned = read_path(bytes).map(|span| (span.first_instance, span.whole));
+    assert_eq!(rt; returned, spans, "{bytes:?}");
     spans
 }
 

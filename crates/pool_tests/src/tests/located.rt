@@ -259,7 +259,7 @@ fn paths_of_live_handles(rt: HostRuntime) {
     let handles = handles_of(&rt, blocks.as_slice());
     for (places, there) in INSTALLED {
         let pairs = pairs_at(&rt, blocks.as_slice(), places);
-        let told = has_path_installed(&handles, &pools, pairs.as_slice());
-        assert_eq!(rt; told, *there, "{places:?}");
+        let returned = has_path_installed(&handles, &pools, pairs.as_slice());
+        assert_eq!(rt; returned, *there, "{places:?}");
     }
 }

@@ -58,16 +58,16 @@ fn assert_step(rt: &impl Abort, book: &mut PageBook, pools: &mut Pools, step: &S
 {
     match step {
         Step::Pool(mtype, size, answer) => {
-            let told = allocate(rt, book, pools, *mtype, *size);
-            assert_eq!(rt; told, *answer, "{size} bytes");
+            let returned = allocate(rt, book, pools, *mtype, *size);
+            assert_eq!(rt; returned, *answer, "{size} bytes");
         }
         Step::Free(address, answer) => {
-            let told = free(rt, book, pools, *address);
-            assert_eq!(rt; told, *answer, "{address:#x}");
+            let returned = free(rt, book, pools, *address);
+            assert_eq!(rt; returned, *answer, "{address:#x}");
         }
         Step::Write(address, bytes, fits) => {
-            let told = write(book, pools, *address, bytes);
-            assert_eq!(rt; told, *fits, "{address:#x}");
+            let returned = write(book, pools, *address, bytes);
+            assert_eq!(rt; returned, *fits, "{address:#x}");
         }
         Step::Read(address, bytes, fits) => assert_read(rt, pools, *address, bytes, *fits),
         Step::Map(entries) => assert_map(rt, book, *entries),

@@ -1,5 +1,5 @@
 //! A core with drivers in boxes, which may be of several kinds.
-use super::{Services, Told, guid, small_machine, tell, told_by};
+use super::{Services, Returned, guid, small_machine, tell, returned_by};
 use arrayvec::ArrayVec;
 use boot_core::{Call, CallHandles, Core, Reply};
 use driver_connect::{Driver, StartPlan, TableDriver, View, driver_binding};
@@ -58,7 +58,7 @@ fn table(needed: Uuid) -> TableDriver {
 }
 
 /// What a connect or a disconnect returns: its status.
-pub fn told_of(rt: &(impl AllocGlobal + Abort), reply: &Reply) -> Told {
+pub fn returned_of(rt: &(impl AllocGlobal + Abort), reply: &Reply) -> Returned {
     match reply {
         Reply::ConnectController(Ok(_)) | Reply::DisconnectController(Ok(())) => {
             tell(rt, Status::Success, &[])
@@ -78,8 +78,8 @@ fn assert_served<D: Driver>(
     call: Call,
     is_served: bool,
 ) {
-    let told = told_by(rt, core, services, call);
-    assert!(rt; (told.status == Status::Success) == is_served);
+    let returned = returned_by(rt, core, services, call);
+    assert!(rt; (returned.status == Status::Success) == is_served);
 }
 
 /// Installs an interface on a new handle.

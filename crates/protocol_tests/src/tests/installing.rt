@@ -1,7 +1,7 @@
 //! Drawn installations and registrations.
 use super::draws::Draws;
 use super::plain_lists::{self, Lists};
-use super::{Services, Told, assert_tells, guid, tell, tell_one};
+use super::{Services, Returned, assert_tells, guid, tell, tell_one};
 use boot_core::{Call, CallPairs, Core, Reply};
 use driver_connect::TableDriver;
 use page_ranges::Status;
@@ -26,18 +26,18 @@ fn target(draws: &mut Draws, lists: &Lists) -> u64 {
 }
 
 /// The handle and the events of an installation.
-fn told_installed(rt: &(impl AllocGlobal + Abort), handle: u64, events: &[u64]) -> Told {
+fn returned_installed(rt: &(impl AllocGlobal + Abort), handle: u64, events: &[u64]) -> Returned {
     let mut reply = tell(rt, Status::Success, &[handle]);
     reply.numbers.extend_from_slice(events).expect(rt, "memory");
     reply
 }
 
 /// What an installation or a registration returns.
-pub fn told_of(rt: &(impl AllocGlobal + Abort), reply: &Reply) -> Told {
+pub fn returned_of(rt: &(impl AllocGlobal + Abort), reply: &Reply) -> Returned {
     match reply {
         Reply::InstallProtocolInterface(Ok(done))
         | Reply::InstallMultipleProtocolInterfaces(Ok(done)) => {
-            told_installed(rt, done.handle, done.events.as_slice())
+            returned_installed(rt, done.handle, done.events.as_slice())
         }
         Reply::InstallProtocolInterface(Err(status))
         | Reply::InstallMultipleProtocolInterfaces(Err(status)) => tell(rt, *status, &[]),

@@ -1,15 +1,15 @@
 //! Lists in pool blocks.
-use super::{Services, Told, assert_tells, tell, told_by};
+use super::{Services, Returned, assert_tells, tell, returned_by};
 use boot_core::{Call, Core, PoolList, Reply};
 use driver_connect::TableDriver;
 use page_ranges::Status;
 use std::process::Abort;
 
 /// What a call on a list in a pool block returns: its count and its address, or the bytes of the block.
-pub fn told_of(rt: &(impl AllocGlobal + Abort), reply: &Reply) -> Told {
+pub fn returned_of(rt: &(impl AllocGlobal + Abort), reply: &Reply) -> Returned {
     match reply {
         Reply::LocateHandleBuffer(list) | Reply::OpenProtocolInformation(list) => {
-            told_list(rt, list)
+            returned_list(rt, list)
         }
         Reply::PoolRead { status, bytes } => tell_bytes(rt, *status, bytes.as_slice()),
         Reply::FreePool(Ok(())) => tell(rt, Status::Success, &[]),
@@ -18,7 +18,7 @@ pub fn told_of(rt: &(impl AllocGlobal + Abort), reply: &Reply) -> Told {
     }
 }
 
-fn told_list(rt: &(impl AllocGlobal + Abort), list: &Result<PoolList, Status>) -> Told {
+fn returned_list(rt: &(impl AllocGlobal + Abort), list: &Result<PoolList, Status>) -> Returned {
     match list {
         Ok(list) => tell(rt, Status::Success, &[list.count, list.address]),
         Err(status) => tell(rt, *status, &[]),
@@ -26,12 +26,12 @@ fn told_list(rt: &(impl AllocGlobal + Abort), list: &Result<PoolList, Status>) -
 }
 
 /// A reply with bytes.
-fn tell_bytes(rt: &(impl AllocGlobal + Abort), status: Status, bytes: &[u8]) -> Told {
-    let mut told = tell(rt, status, &[]);
+fn tell_bytes(rt: &(impl AllocGlobal + Abort), status: Status, bytes: &[u8]) -> Returned {
+    let mut returned = tell(rt, status, &[]);
     for byte in bytes {
-        told.numbers.push(*byte as u64).expect(rt, "memory");
+        returned.numbers.push(*byte as u64).expect(rt, "memory");
     }
-    told
+    returned
 }
 
 /// Asserts that a call returns a list of these bytes, in items of the given size, or is refused with a status. The list's
@@ -44,7 +44,7 @@ pub fn assert_list(
     status: Status,
     bytes: &[u8],
 ) -> Status {
-    let list = told_by(rt, core, Services::Listing, call);
+    let list = returned_by(rt, core, Services::Listing, call);
     assert!(rt; list.status == status);
     if status == Status::Success {
         let count = number_at(rt, &list, 0);
@@ -55,8 +55,8 @@ pub fn assert_list(
 }
 
 /// A number of a reply.
-fn number_at(rt: &impl Abort, told: &Told, at: usize) -> u64 {
-    match told.numbers.get(at) {
+fn number_at(rt: &impl Abort, returned: &Returned, at: usize) -> u64 {
+    match returned.numbers.get(at) {
         Some(number) => *number,
         None => panic!(rt; "too few numbers"),
     }

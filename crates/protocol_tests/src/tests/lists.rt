@@ -32,8 +32,8 @@ fn install(
 /// Asserts what installations return.
 pub fn assert_installs(rt: &impl Abort, handles: &mut Handles, rows: &[Installation]) {
     for (handle, byte, kind, value, answer) in rows {
-        let told = install(rt, handles, *handle, *byte, *kind, *value);
-        assert!(rt; told == *answer);
+        let returned = install(rt, handles, *handle, *byte, *kind, *value);
+        assert!(rt; returned == *answer);
     }
 }
 

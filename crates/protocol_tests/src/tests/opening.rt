@@ -2,7 +2,7 @@
 use super::draws::Draws;
 use super::listing::assert_list;
 use super::plain_lists::{Item, Lists};
-use super::{Services, Told, assert_tells, guid, plain_opens, tell};
+use super::{Services, Returned, assert_tells, guid, plain_opens, tell};
 use boot_core::{Call, Core, Reply};
 use driver_connect::TableDriver;
 use page_ranges::Status;
@@ -54,7 +54,7 @@ fn like_open(draws: &mut Draws, lists: &Lists) -> Item {
 }
 
 /// What an open, a close or a look at a value returns.
-pub fn told_of(rt: &(impl AllocGlobal + Abort), reply: &Reply) -> Told {
+pub fn returned_of(rt: &(impl AllocGlobal + Abort), reply: &Reply) -> Returned {
     match reply {
         Reply::OpenProtocol(Ok(Some(value))) | Reply::HandleProtocol(Ok(value)) => {
             tell(rt, Status::Success, &[*value])
@@ -139,6 +139,6 @@ pub fn information(
         Some(_) => Status::Success,
         None => Status::NotFound,
     };
-    let bytes = plain_opens::items_told(rt, lists, open.handle, open.guid);
+    let bytes = plain_opens::items_returned(rt, lists, open.handle, open.guid);
     assert_list(rt, core, call, 24, status, bytes.as_slice())
 }

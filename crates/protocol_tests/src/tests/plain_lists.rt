@@ -1,5 +1,5 @@
 //! Handles, interfaces and registrations in plain lists; each search walks along one.
-use super::{Told, tell, tell_one};
+use super::{Returned, tell, tell_one};
 use page_ranges::Status;
 use std::process::Abort;
 
@@ -182,7 +182,7 @@ pub fn install(
     handle: u64,
     kind: u32,
     pairs: &[(u8, u64)],
-) -> Told {
+) -> Returned {
     if kind != 0 || lists.is_bad(handle, pairs) {
         return tell(rt, Status::InvalidParameter, &[]);
     }
@@ -196,7 +196,7 @@ pub fn install(
 }
 
 /// Registers an event, and returns the key.
-pub fn register(rt: &(impl AllocGlobal + Abort), lists: &mut Lists, guid: u8, event: u64) -> Told {
+pub fn register(rt: &(impl AllocGlobal + Abort), lists: &mut Lists, guid: u8, event: u64) -> Returned {
     let key = (lists.registrations.len() as u64).saturating_add(1);
     let mark = lists.last_stamp;
     lists
@@ -223,7 +223,7 @@ fn holders(rt: &(impl AllocGlobal + Abort), lists: &Lists, guid: u8) -> Vec<u64>
 }
 
 /// Some handles where they fit into a buffer of this size; else a refusal, with the size where they are too many.
-fn fitted(rt: &(impl AllocGlobal + Abort), handles: &[u64], room: u64) -> Told {
+fn fitted(rt: &(impl AllocGlobal + Abort), handles: &[u64], room: u64) -> Returned {
     let size = (handles.len() as u64).saturating_mul(8);
     if handles.is_empty() {
         tell(rt, Status::NotFound, &[])
@@ -235,7 +235,7 @@ fn fitted(rt: &(impl AllocGlobal + Abort), handles: &[u64], room: u64) -> Told {
 }
 
 /// The handle that a key meets next, which is taken if it fits.
-fn locate_next(rt: &(impl AllocGlobal + Abort), lists: &mut Lists, key: u64, room: u64) -> Told {
+fn locate_next(rt: &(impl AllocGlobal + Abort), lists: &mut Lists, key: u64, room: u64) -> Returned {
     let Some(registration) = lists.registration(key) else {
         return tell(rt, Status::InvalidParameter, &[]);
     };
@@ -257,7 +257,7 @@ pub fn locate(
     guid: u8,
     key: u64,
     room: u64,
-) -> Told {
+) -> Returned {
     match search {
         0 => fitted(rt, lists.handles.as_slice(), room),
         1 => locate_next(rt, lists, key, room),
@@ -297,7 +297,7 @@ pub fn locate_protocol(
     lists: &mut Lists,
     guid: u8,
     key: u64,
-) -> Told {
+) -> Returned {
     if key == 0 {
         tell_one(rt, lowest_value(lists, guid))
     } else {
@@ -306,7 +306,7 @@ pub fn locate_protocol(
 }
 
 /// The bytes of the GUIDs on a handle.
-pub fn protocols(rt: &(impl AllocGlobal + Abort), lists: &Lists, handle: u64) -> Told {
+pub fn protocols(rt: &(impl AllocGlobal + Abort), lists: &Lists, handle: u64) -> Returned {
     if !lists.is_live(handle) {
         return tell(rt, Status::InvalidParameter, &[]);
     }

@@ -1,6 +1,6 @@
 //! The open table on plain lists.
 use super::plain_lists::{Item, Lists};
-use super::{Told, tell, tell_one};
+use super::{Returned, tell, tell_one};
 use page_ranges::Status;
 use std::process::Abort;
 
@@ -124,7 +124,7 @@ fn add(rt: &impl Abort, items: &mut Vec<Item>, open: &Item) {
 }
 
 /// Opens an interface, and returns its value.
-pub fn open(rt: &(impl AllocGlobal + Abort), lists: &mut Lists, open: &Item) -> Told {
+pub fn open(rt: &(impl AllocGlobal + Abort), lists: &mut Lists, open: &Item) -> Returned {
     if let Some(status) = refusal(lists, open) {
         return tell(rt, status, &[]);
     }
@@ -141,7 +141,7 @@ pub fn handle_protocol(
     lists: &Lists,
     handle: u64,
     guid: u8,
-) -> Told {
+) -> Returned {
     if !lists.is_live(handle) {
         return tell(rt, Status::InvalidParameter, &[]);
     }
@@ -149,7 +149,7 @@ pub fn handle_protocol(
 }
 
 /// Closes what an agent and a controller have open on an interface.
-pub fn close(rt: &(impl AllocGlobal + Abort), lists: &mut Lists, closed: &Item) -> Told {
+pub fn close(rt: &(impl AllocGlobal + Abort), lists: &mut Lists, closed: &Item) -> Returned {
     if !lists.is_live(closed.handle)
         || !lists.is_live(closed.agent)
         || lists.is_dead(closed.controller)
@@ -180,7 +180,7 @@ fn items_but(rt: &(impl AllocGlobal + Abort), items: &[Item], closed: &Item) -> 
 }
 
 /// The bytes of the open items on an interface.
-pub fn items_told(
+pub fn items_returned(
     rt: &(impl AllocGlobal + Abort),
     lists: &Lists,
     handle: u64,

@@ -3,7 +3,7 @@ use super::draws::Draws;
 use super::listing::assert_list;
 use super::plain_lists::{self, Lists};
 use super::plain_opens::push_bytes;
-use super::{Services, Told, assert_tells, guid, tell, tell_one};
+use super::{Services, Returned, assert_tells, guid, tell, tell_one};
 use boot_core::{Call, Core, Reply};
 use driver_connect::TableDriver;
 use page_ranges::Status;
@@ -39,13 +39,13 @@ fn drawn_search(draws: &mut Draws) -> u32 {
 }
 
 /// What a search returns.
-pub fn told_of(rt: &(impl AllocGlobal + Abort), reply: &Reply) -> Told {
+pub fn returned_of(rt: &(impl AllocGlobal + Abort), reply: &Reply) -> Returned {
     match reply {
         Reply::LocateHandle(found) => {
-            told_handles(rt, found.status, found.size, found.handles.as_slice())
+            returned_handles(rt, found.status, found.size, found.handles.as_slice())
         }
         Reply::LocateProtocol(value) => tell_one(rt, *value),
-        Reply::ProtocolsPerHandle(Ok(guids)) => told_guids(rt, guids.as_slice()),
+        Reply::ProtocolsPerHandle(Ok(guids)) => returned_guids(rt, guids.as_slice()),
         Reply::ProtocolsPerHandle(Err(status)) => tell(rt, *status, &[]),
         _ => panic!(rt; "another reply"),
     }
@@ -73,12 +73,12 @@ pub fn locate(
 }
 
 /// What LocateHandle returns: the handles, or the size that they need.
-fn told_handles(
+fn returned_handles(
     rt: &(impl AllocGlobal + Abort),
     status: Status,
     size: u64,
     handles: &[u64],
-) -> Told {
+) -> Returned {
     let count = handles.len() as u64;
     match status {
         Status::Success => assert!(rt; size == count.saturating_mul(8)),
@@ -138,7 +138,7 @@ pub fn locate_protocol(
 }
 
 /// The byte of each GUID, all of whose bytes are that one.
-fn told_guids(rt: &(impl AllocGlobal + Abort), guids: &[Uuid]) -> Told {
+fn returned_guids(rt: &(impl AllocGlobal + Abort), guids: &[Uuid]) -> Returned {
     let mut reply = tell(rt, Status::Success, &[]);
     for name in guids {
         let byte = name.as_bytes()[0];

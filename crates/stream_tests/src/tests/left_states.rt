@@ -154,10 +154,10 @@ fn has_memory(rt: &(impl AllocGlobal + Abort), memory: u64) -> bool {
         return true;
     }
     assert!(rt; left.end == Err(RunFault::OutOfMemory));
-    let told = left_with(rt, left.written);
+    let returned = left_with(rt, left.written);
     let next = left_with(rt, left.written.saturating_add(1));
-    assert!(rt; left.written == told.written);
-    assert!(rt; are_alike(left, told) || are_alike(left, next));
+    assert!(rt; left.written == returned.written);
+    assert!(rt; are_alike(left, returned) || are_alike(left, next));
     false
 }
 

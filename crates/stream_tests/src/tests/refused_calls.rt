@@ -13,20 +13,20 @@ enum Refused {
 
 /// What a call printed, whether memory was refused to it, and what the lines behind it printed.
 #[derive(Clone, Copy)]
-struct Told {
+struct Returned {
     call: u64,
     was_refused: bool,
     after: u64,
 }
 
 /// Makes a call for which memory is refused, and then the lines behind it, for which none is.
-fn told_of(
+fn returned_of(
     rt: &(impl AllocGlobal + Abort),
     before: &str,
     call: &str,
     after: &str,
     refused: Refused,
-) -> Told {
+) -> Returned {
     let lines_heap = Refusing::new(rt.alloc());
     let heap = Refusing::new(rt.alloc());
     let mut core = core_on(rt, &heap);
@@ -36,12 +36,12 @@ fn told_of(
         Refused::One(number) => heap.refuse(number),
         Refused::From(number) => heap.refuse_from(number),
     }
-    let told = printed(rt, &lines_heap, &mut core, call);
+    let returned = printed(rt, &lines_heap, &mut core, call);
     let was_refused = heap.has_refused();
     heap.refuse(0);
     assert!(rt; core.calls_left().checked_add(1) == Some(left));
-    Told {
-        call: told,
+    Returned {
+        call: returned,
         was_refused,
         after: printed(rt, &lines_heap, &mut core, after),
     }
@@ -85,12 +85,12 @@ fn plain_of(rt: &(impl AllocGlobal + Abort), (before, call, reply): (&str, &str,
 }
 
 /// Asserts that a call was served whole, or else was out of memory and left all as it was. Returns whether it was served.
-fn is_served(rt: &impl Abort, told: Told, plain: Plain) -> bool {
-    if told.call == plain.reply {
-        assert!(rt; told.after == plain.with);
+fn is_served(rt: &impl Abort, returned: Returned, plain: Plain) -> bool {
+    if returned.call == plain.reply {
+        assert!(rt; returned.after == plain.with);
         return true;
     }
-    assert!(rt; told.call == plain.refusal && told.after == plain.without);
+    assert!(rt; returned.call == plain.refusal && returned.after == plain.without);
     false
 }
 
@@ -103,15 +103,15 @@ fn is_refused(
     plain: Plain,
     number: u64,
 ) -> bool {
-    let told = told_of(rt, before, call, QUESTIONS, Refused::From(number));
-    assert!(rt; is_served(rt, told, plain) != told.was_refused);
-    let one = told_of(rt, before, call, QUESTIONS, Refused::One(number));
+    let returned = returned_of(rt, before, call, QUESTIONS, Refused::From(number));
+    assert!(rt; is_served(rt, returned, plain) != returned.was_refused);
+    let one = returned_of(rt, before, call, QUESTIONS, Refused::One(number));
     assert!(rt; is_served(rt, one, plain) || one.was_refused);
-    if told.was_refused {
-        let again = told_of(rt, before, call, call, Refused::From(number));
+    if returned.was_refused {
+        let again = returned_of(rt, before, call, call, Refused::From(number));
         assert!(rt; again.after == plain.reply);
     }
-    told.was_refused
+    returned.was_refused
 }
 
 /// More allocations than any of the calls asks for.

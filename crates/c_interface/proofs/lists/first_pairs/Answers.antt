@@ -1,5 +1,5 @@
 use Rattle.std.proofs.Common.{◌∙◌, arith}
-use Rattle.c_interface.proofs.ToldLists.{pairs_more}
+use Rattle.c_interface.proofs.ReturnedLists.{pairs_more}
 use Rattle.c_interface.proofs.lists.first_pairs.Goals as goal
 
 pub loop-interface-preserved : goal.loop-interface-preserved

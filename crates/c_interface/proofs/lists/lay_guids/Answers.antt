@@ -1,7 +1,7 @@
 use Rattle.std.proofs.Common.{◌≡◌, ◌∙◌, ap, map, length, arith, min}
 use Rattle.std.proofs.Math.Nat.{min-le_left, min-le_right}
 use Rattle.c_machines.specs.Guids.{standard_guid}
-use Rattle.c_interface.proofs.ToldLists.{guid_laid, laid_whole, length_guids}
+use Rattle.c_interface.proofs.ReturnedLists.{guid_laid, laid_whole, length_guids}
 use Rattle.c_interface.proofs.lists.lay_guids.Goals as goal
 
 pub loop-index-preserved : goal.loop-index-preserved

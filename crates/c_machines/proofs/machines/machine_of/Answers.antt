@@ -1,7 +1,7 @@
 use Rattle.std.proofs.Common.{rules, IsPermutation, List, subst}
 use Rattle.std.proofs.lemmas.List.Sorted.{IsNonDecreasingBy-from_sort_by_key}
 use Rattle.page_ranges.specs.declared.ranges.Run.{Run}
-use Rattle.c_machines.proofs.ToldMachine.{made}
+use Rattle.c_machines.proofs.DescribedMachine.{made}
 use Rattle.c_machines.proofs.machines.machine_of.Goals as goal
 
 pub returns : goal.returns

@@ -1,11 +1,11 @@
 use Rattle.std.proofs.Common.{sym, ◌∙◌}
-use Rattle.guid_handles.proofs.Grouped.{place_told, none_told}
+use Rattle.guid_handles.proofs.Grouped.{place_returned, none_returned}
 use Rattle.guid_handles.proofs.groups.place_of.Goals as goal
 
 pub returns-then-is_some-clause-there : goal.returns-then-is_some-clause-there
 returns-then-is_some-clause-there g c =
-    place_told _ _ c.args.guid _ c.group_if.result c.requires c.count_before-at.ensures.place c.group_if.ensures (sym c.is_some.ensures ∙ c.if-is_some.true)
+    place_returned _ _ c.args.guid _ c.group_if.result c.requires c.count_before-at.ensures.place c.group_if.ensures (sym c.is_some.ensures ∙ c.if-is_some.true)
 
 pub returns-else-is_some-clause-none : goal.returns-else-is_some-clause-none
 returns-else-is_some-clause-none g c =
-    none_told _ _ c.args.guid _ c.group_if.result c.requires c.count_before-at.ensures.place c.group_if.ensures (sym c.is_some.ensures ∙ c.if-is_some.false)
+    none_returned _ _ c.args.guid _ c.group_if.result c.requires c.count_before-at.ensures.place c.group_if.ensures (sym c.is_some.ensures ∙ c.if-is_some.false)

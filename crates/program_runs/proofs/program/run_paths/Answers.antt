@@ -5,11 +5,11 @@ use Rattle.program_runs.proofs.program.run_paths.Goals as goal
 
 pub returns-in_default-open : goal.returns-in_default-open
 returns-in_default-open g c =
-    (opening c.args.machine.now true ++ opening c.args.trace.now false, both_opened _ _ _ _ _ c.in-Ok.ensures.told c.in_default-open.ensures.told, inr (inl (refl, refl, refl)))
+    (opening c.args.machine.now true ++ opening c.args.trace.now false, both_opened _ _ _ _ _ c.in-Ok.ensures.returned c.in_default-open.ensures.returned, inr (inl (refl, refl, refl)))
 
 pub returns : goal.returns
 returns g c = (
   opening c.args.machine.now true ++ opening c.args.trace.now true,
-  both_opened _ _ _ _ _ c.in-Ok.ensures.told c.in-Ok-open.ensures.told,
+  both_opened _ _ _ _ _ c.in-Ok.ensures.returned c.in-Ok-open.ensures.returned,
   inr (inr (refl, ran_on_files c.args.certify _ _ _ (g.O.OpenFiles.bytes_at c.args.files.now c.args.machine.now) _ (g.O.OpenFiles.bytes_at c.args.files.now c.args.trace.now) _ c.in-Ok.ensures.bytes (rw c.in-Ok.ensures.kept at c.in-Ok-open.ensures.bytes) c.run_files.ensures)),
 )

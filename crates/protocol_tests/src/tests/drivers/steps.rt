@@ -143,11 +143,11 @@ fn connect_one<D: Driver, A: Allocator + Copy>(
 
 fn assert_events<A: Allocator + Copy>(
     rt: &impl Abort,
-    told: &Result<Vec<u64, A>, Status>,
+    returned: &Result<Vec<u64, A>, Status>,
     status: Status,
     events: &[u64],
 ) {
-    match told {
+    match returned {
         Ok(signaled) => {
             assert!(rt; Status::Success == status);
             assert!(rt; signaled.as_slice() == events);
@@ -201,10 +201,10 @@ pub fn status_of<D: Driver, A: Allocator + Copy>(
 ) -> Status {
     match step {
         Step::Connect(handle, named, recursive, _, _) => {
-            status_told(connect_one(rt, alloc, lists, drivers, *handle, named, *recursive))
+            status_returned(connect_one(rt, alloc, lists, drivers, *handle, named, *recursive))
         }
         Step::Disconnect(handle, driver, _) => {
-            status_told(disconnect_one(alloc, lists, drivers, *handle, *driver))
+            status_returned(disconnect_one(alloc, lists, drivers, *handle, *driver))
         }
         Step::Stop(pairs, handle, _) => {
             match stop_pairs(alloc, lists, drivers, pairs, *handle) {
@@ -216,8 +216,8 @@ pub fn status_of<D: Driver, A: Allocator + Copy>(
     }
 }
 
-fn status_told<T: Drop>(told: Result<T, Status>) -> Status {
-    match told {
+fn status_returned<T: Drop>(returned: Result<T, Status>) -> Status {
+    match returned {
         Ok(_) => Status::Success,
         Err(status) => status,
     }
@@ -303,16 +303,16 @@ pub fn assert_step<D: Driver, A: Allocator + Copy>(
 ) {
     match step {
         Step::Connect(handle, named, recursive, status, events) => {
-            let told = connect_one(rt, alloc, lists, drivers, *handle, named, *recursive);
-            assert_events(rt, &told, *status, events);
+            let returned = connect_one(rt, alloc, lists, drivers, *handle, named, *recursive);
+            assert_events(rt, &returned, *status, events);
         }
         Step::Disconnect(handle, driver, status) => {
-            let told = disconnect_one(alloc, lists, drivers, *handle, *driver);
-            assert!(rt; status_told(told) == *status, "{handle} {driver}");
+            let returned = disconnect_one(alloc, lists, drivers, *handle, *driver);
+            assert!(rt; status_returned(returned) == *status, "{handle} {driver}");
         }
         Step::Stop(pairs, handle, stopped) => {
-            let told = stop_pairs(alloc, lists, drivers, pairs, *handle);
-            assert!(rt; told.ok() == Some(*stopped));
+            let returned = stop_pairs(alloc, lists, drivers, pairs, *handle);
+            assert!(rt; returned.ok() == Some(*stopped));
         }
         _ => prepare(rt, alloc, lists, step),
     }

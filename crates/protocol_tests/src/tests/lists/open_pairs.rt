@@ -81,8 +81,8 @@ fn assert_letters(
     assert!(rt; letters.len() == SECOND.len());
     let (handle, byte, agent, controller) = call;
     for (attributes, letter) in SECOND.iter().zip(letters.iter()) {
-        let told = opens.decide(handles, handle, guid(byte), agent, controller, *attributes);
-        assert!(rt; told == decision_of(rt, *letter), "{handle} {attributes}");
+        let returned = opens.decide(handles, handle, guid(byte), agent, controller, *attributes);
+        assert!(rt; returned == decision_of(rt, *letter), "{handle} {attributes}");
     }
 }
 

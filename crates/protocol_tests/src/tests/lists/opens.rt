@@ -37,8 +37,8 @@ const OF_EXCLUSIVE: [Row; 7] = [
 /// Asserts what is decided about opens of the first interface.
 fn assert_decides(rt: &impl Abort, handles: &Handles, opens: &Opens, rows: &[Row]) {
     for (agent, controller, attributes, decision) in rows {
-        let told = opens.decide(handles, 1, guid(1), *agent, *controller, *attributes);
-        assert!(rt; told == *decision);
+        let returned = opens.decide(handles, 1, guid(1), *agent, *controller, *attributes);
+        assert!(rt; returned == *decision);
     }
 }
 

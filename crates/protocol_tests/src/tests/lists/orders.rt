@@ -114,8 +114,8 @@ const ROWS: [Row; 12] = [
 
 /// Installs an interface.
 fn install_one(rt: &impl Abort, handles: &mut Handles, handle: u64, byte: u8) {
-    let told = install(rt, handles, handle, byte, 0, 0);
-    assert!(rt; told.is_ok());
+    let returned = install(rt, handles, handle, byte, 0, 0);
+    assert!(rt; returned.is_ok());
 }
 
 /// Asserts the stamp of the interface that was installed last on a handle.

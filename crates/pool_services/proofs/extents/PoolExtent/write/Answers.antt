@@ -1,5 +1,5 @@
 use Rattle.std.proofs.Common.{length, sym, ◌∙◌}
-use Rattle.pool_services.proofs.CellBlocks.{written-kept, room-told, extent-written}
+use Rattle.pool_services.proofs.CellBlocks.{written-kept, room-returned, extent-written}
 use Rattle.pool_services.proofs.extents.PoolExtent.write.Goals as goal
 
 pub invariant_of-self : goal.invariant_of-self
@@ -12,7 +12,7 @@ pub returns-in-Some-clause-written : goal.returns-in-Some-clause-written
 returns-in-Some-clause-written g c =
     let b = rw (← c.self.view_is) at c.requires.extent.blocks in
     let n = rw (← c.self.view_is) at (c.in-Some.ensures) in
-    rw (← c.self.view_is) (room-told _ c.self.inside.range.first c.args.address c.in-Some.cell c.in-Some.at (length c.args.bytes.now) c.write.result c.self.inside.region.blocks b n.2 c.write.ensures.written)
+    rw (← c.self.view_is) (room-returned _ c.self.inside.range.first c.args.address c.in-Some.cell c.in-Some.at (length c.args.bytes.now) c.write.result c.self.inside.region.blocks b n.2 c.write.ensures.written)
 
 pub returns-in-Some-clause-extent : goal.returns-in-Some-clause-extent
 returns-in-Some-clause-extent g c =

@@ -2,7 +2,7 @@ use Rattle.std.proofs.Common.{◌≡◌, true, is_some, subst, arith}
 use Rattle.pool_services.specs.Extents.{Extent}
 use Rattle.raw_pool.specs.Blocks.{block_at}
 use Rattle.pool_services.proofs.ExtentLists.{is-extent}
-use Rattle.pool_services.proofs.ExtentChanges.{same-at, given-told, are-given, is-left}
+use Rattle.pool_services.proofs.ExtentChanges.{same-at, given-returned, are-given, is-left}
 use Rattle.pool_services.proofs.RoomLists.{rooms-set}
 use Rattle.pool_services.proofs.Reached.{rooms-reach}
 use Rattle.pool_services.proofs.pools.Pools.give_in.Goals as goal
@@ -27,7 +27,7 @@ invariant_of-self g c = (
 )
 
 pub returns : goal.returns
-returns g c = rw (← c.self.view_is) (given-told c.self.inside.extents.items c.args.at c.args.cell c.index_mut-extent.result.now c.give.new.self c.self.invariant.0 (rw (← c.self.view_is) at c.requires) c.index_mut-extent.ensures.value c.give.ensures)
+returns g c = rw (← c.self.view_is) (given-returned c.self.inside.extents.items c.args.at c.args.cell c.index_mut-extent.result.now c.give.new.self c.self.invariant.0 (rw (← c.self.view_is) at c.requires) c.index_mut-extent.ensures.value c.give.ensures)
 
 pub index_mut-extent-requires : goal.index_mut-extent-requires
 index_mut-extent-requires g c =

@@ -9,8 +9,8 @@ returns-in-Ok-add-clause-opens g c =
     let l : Lists = record { handles = c.self.inside.handles; opens = c.self.inside.opens; registrations = c.self.inside.registrations } in
     rw (← c.self.view_is)
     (opened_stopped (map g.D.Driver.meaning c.args.drivers.now) l (record { handles = c.carry_out.new.handles; opens = c.carry_out.new.opens; registrations = l.registrations }) c.in-Ok.plan c.args.pair c.args.handle c.args.guid c.args.opener
-    c.args.attributes c.in-Ok-true.field-0 c.told_value-value.result c.add.new.self c.in-Ok.ensures c.in-Ok-true.ensures c.in-Ok-true.field-0-test c.in-Ok-add.ensures.ok
-    (rw c.carry_out.ensures.handles (rw c.carry_out.ensures.opens refl)) (rw c.interface.ensures.value at c.told_value-value.ensures))
+    c.args.attributes c.in-Ok-true.field-0 c.returned_value-value.result c.add.new.self c.in-Ok.ensures c.in-Ok-true.ensures c.in-Ok-true.field-0-test c.in-Ok-add.ensures.ok
+    (rw c.carry_out.ensures.handles (rw c.carry_out.ensures.opens refl)) (rw c.interface.ensures.value at c.returned_value-value.ensures))
 
 pub returns-in-Ok-add-clause-raised : goal.returns-in-Ok-add-clause-raised
 returns-in-Ok-add-clause-raised g c =

@@ -4,6 +4,6 @@ use Rattle.page_ranges.specs.declared.statuses.Status.{Status}
 use Rattle.page_ranges.specs.declared.statuses.Status.TheVariants.{Success}
 
 -- the status of a result
-abbrev pub told_status : Result (Unit {0}) Status → Status
-told_status (Ok done) = Success
-told_status (Err status) = status
+abbrev pub returned_status : Result (Unit {0}) Status → Status
+returned_status (Ok done) = Success
+returned_status (Err status) = status

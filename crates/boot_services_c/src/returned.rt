@@ -2,9 +2,9 @@
 ghost use Rattle.std.specs.Prelude.{◌≡◌, length, slice_get};
 ghost use Rattle.page_ranges.specs.MemoryMap.{memory_map};
 ghost use Rattle.c_interface.specs.Buffers.{laid};
-ghost use Rattle.c_interface.specs.Checks.{ChecksBlock, TellsEntry};
+ghost use Rattle.c_interface.specs.Checks.{ChecksBlock, ReturnsEntry};
 ghost use Rattle.c_interface.specs.EfiCores.{last_events};
-ghost use Rattle.c_interface.specs.Served.{TellsBlock};
+ghost use Rattle.c_interface.specs.Served.{ReturnsBlock};
 ghost use Rattle.boot_services_c.specs.Versions.{version};
 
 use crate::handle::Rafkudin;
@@ -37,7 +37,7 @@ pub extern "C" fn RafkudinCertify(core: &mut Rafkudin, certify: bool)
 /// OUT_OF_RESOURCES: memory ran out for it.
 #[unsafe(no_mangle)]
 pub extern "C" fn RafkudinCertificate(core: &mut Rafkudin, text: &mut [u8], length: &mut u64) -> u64
-    ensures told { TellsBlock core.old.core.block text.old length.old result text.new length.new }
+    ensures returned { ReturnsBlock core.old.core.block text.old length.old result text.new length.new }
     ensures kept { core.new.core ≡ core.old.core }
 {
     core.held().block(text, length)
@@ -79,7 +79,7 @@ pub extern "C" fn RafkudinDescriptors(core: &mut Rafkudin) -> usize
 /// NOT_FOUND: there is none.
 #[unsafe(no_mangle)]
 pub extern "C" fn RafkudinDescriptor(core: &mut Rafkudin, index: usize, entry: &mut MapEntry) -> u64
-    ensures told { TellsEntry (slice_get (memory_map core.old.core.core.state.parts.book.memory) index) entry.old result entry.new }
+    ensures returned { ReturnsEntry (slice_get (memory_map core.old.core.core.state.parts.book.memory) index) entry.old result entry.new }
     ensures kept { core.new.core ≡ core.old.core }
 {
     core.held().descriptor(index, entry)
