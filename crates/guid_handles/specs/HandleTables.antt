@@ -86,4 +86,5 @@ is_after guid mark i = is_of guid i && nat_lt mark i.stamp
 
 -- the handle and the stamp of the interface of a GUID with the least stamp above a mark
 abbrev pub next_after : HandleTable → List ℕ → ℕ → Option (ℕ × ℕ)
-next_after t guid mark = option_map (λ i. (i.handle, i.stamp)) (earliest (filter (is_after guid mark) t.interfaces))
+next_after t guid mark =
+    option_map (λ i. (i.handle, i.stamp)) (earliest (filter (is_after guid mark) t.interfaces))

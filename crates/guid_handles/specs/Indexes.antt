@@ -1,5 +1,5 @@
 -- The keys of interfaces: by handle in rows, and by GUID in groups.
-use Rattle.std.specs.Prelude.{◌≡◌, ℕ, ◌<◌, ◌==◌, nat_eq, nat_lt, Bool, true, cond, List, [], ◌∷◌, map, length, Option, None, Some}
+use Rattle.std.specs.Prelude.{◌≡◌, ℕ, ◌<◌, ◌==◌, ◌&&◌, nat_eq, nat_lt, Bool, true, cond, List, [], ◌∷◌, map, length, Option, None, Some}
 use Rattle.std.specs.List.{find, list_any, AllByRecursion, slice_get}
 use Rattle.std.specs.Option.{option_and_then}
 use Rattle.std.specs.declared.cmp.Ordering.TheVariants.{Less}
@@ -41,7 +41,8 @@ keys_on rows n = keys_of (find (is_row_of n) rows)
 
 -- the place of the row of a handle
 abbrev pub IsRowPlace : ℕ → List Row → ℕ → Type 0
-IsRowPlace n rows at = (at < length rows) × (find (is_row_of n) rows ≡ slice_get rows at) × (at ≡ place (λ r. nat_lt r.live.number n) rows)
+IsRowPlace n rows at = (at < length rows) × (find (is_row_of n) rows ≡ slice_get rows at)
+    × (at ≡ place (λ r. nat_lt r.live.number n) rows)
 
 -- the keys of one handle change, and nothing else of the rows
 pub record ChangesKeys (n : ℕ) (f : List ℕ → List ℕ) (old new : List Row) : Type 0 where
@@ -89,17 +90,32 @@ pub record AreGroups (groups : List Group) : Type 0 where
 
 -- the place of the group of a GUID
 abbrev pub IsPlaceOf : List ℕ → List Group → ℕ → Type 0
-IsPlaceOf guid groups at = (at < length groups) × (find (is_group_of guid) groups ≡ slice_get groups at) × (at ≡ place (is_before guid) groups)
+IsPlaceOf guid groups at = (at < length groups)
+    × (find (is_group_of guid) groups ≡ slice_get groups at) × (at ≡ place (is_before guid) groups)
 
 -- the key of the interface of a GUID on a handle
 abbrev pub key_at : List Group → List ℕ → ℕ → Option ℕ
 key_at groups guid n = option_and_then (λ g. key_in g n) (find (is_group_of guid) groups)
 
+-- the key beside one handle becomes another or goes, and no other does
+abbrev pub SetsKeyIn : ℕ → Option ℕ → Group → Group → Type 0
+SetsKeyIn handle key old new = (n : ℕ) → key_in new n ≡ cond (handle == n) key (key_in old n)
+
+-- the key of one GUID on one handle becomes another or goes, and no other does
+abbrev pub SetsKey : List ℕ → ℕ → Option ℕ → List Group → List Group → Type 0
+SetsKey guid handle key old new = (k : List ℕ) (n : ℕ)
+    → key_at new k n ≡ cond ((handle == n) && same_guid guid k) key (key_at old k n)
+
+-- each key is the same
+abbrev pub HaveSameKeys : List Group → List Group → Type 0
+HaveSameKeys old new = (k : List ℕ) (n : ℕ) → key_at new k n ≡ key_at old k n
+
 -- ---- pairs and interfaces
 
 -- each interface is on a handle of these numbers
 abbrev pub AreOn : List ℕ → List Interface → Type 0
-AreOn numbers interfaces = AllByRecursion (λ i. list_any (λ n. nat_eq n i.handle) numbers ≡ true) interfaces
+AreOn numbers interfaces =
+    AllByRecursion (λ i. list_any (λ n. nat_eq n i.handle) numbers ≡ true) interfaces
 
 -- none of the GUIDs of some pairs is on a handle
 abbrev pub AreAbsent : ℕ → List (List ℕ × ℕ) → List Interface → Type 0

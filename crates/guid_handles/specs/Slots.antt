@@ -19,7 +19,8 @@ at_keys slots keys = filter_map (at_key slots) keys
 
 -- a record with another value and stamp
 abbrev pub with_stamp : ℕ → ℕ → Record → Record
-with_stamp value stamp r = record r { interface = record r.interface { value = value; stamp = stamp } }
+with_stamp value stamp r =
+    record r { interface = record r.interface { value = value; stamp = stamp } }
 
 -- the interface in a slot, if it was installed with a stamp
 abbrev pub picked : ℕ → Option Record → List Interface

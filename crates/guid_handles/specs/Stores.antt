@@ -27,10 +27,14 @@ HaveInterfaces slots keys interfaces = AllZip (λ k i. at_key slots k ≡ Some i
 
 -- Interfaces, and their keys in rows by handle and in groups by GUID. No slot has an interface
 -- whose key is not in its group.
-pub record AreFiled (interfaces : List Interface) (slots : List (Option Record)) (rows : List Row) (groups : List Group) : Type 0 where
+pub record AreFiled (interfaces : List Interface) (slots : List (Option Record)) (rows : List Row)
+    (groups : List Group) : Type 0 where
   pub by_handle : (n : ℕ) → HaveInterfaces slots (keys_on rows n) (filter (is_on n) interfaces)
-  pub by_guid : (n : ℕ) (guid : List ℕ) → HaveInterfaces slots (option_to_list (key_at groups guid n)) (filter (is_at n guid) interfaces)
-  pub in_group : (key : ℕ) (i : Interface) → at_key slots key ≡ Some i → key_at groups i.guid i.handle ≡ Some key
+  pub by_guid : (n : ℕ) (guid : List ℕ)
+      → HaveInterfaces slots (option_to_list (key_at groups guid n))
+      (filter (is_at n guid) interfaces)
+  pub in_group : (key : ℕ) (i : Interface) → at_key slots key ≡ Some i
+      → key_at groups i.guid i.handle ≡ Some key
 
 -- an interface was installed with a stamp, from 1 on, and has that one or a later one
 abbrev pub IsStamped : Record → Type 0
@@ -38,10 +42,16 @@ IsStamped r = (0 < r.installed) × (r.installed ≤ r.interface.stamp)
 
 -- the table that rows, slots and the last number and stamp represent
 abbrev pub table_of : List Row → List (Option Record) → ℕ → ℕ → HandleTable
-table_of rows slots last_number last_stamp = record { handles = lives rows; interfaces = installed_until last_stamp slots; last_number = last_number; last_stamp = last_stamp }
+table_of rows slots last_number last_stamp = record {
+  handles = lives rows;
+  interfaces = installed_until last_stamp slots;
+  last_number = last_number;
+  last_stamp = last_stamp;
+}
 
 -- A table in rows, slots and groups.
-pub record IsStore (rows : List Row) (slots : List (Option Record)) (groups : List Group) (last_number last_stamp : ℕ) : Type 0 where
+pub record IsStore (rows : List Row) (slots : List (Option Record)) (groups : List Group)
+    (last_number last_stamp : ℕ) : Type 0 where
   pub table : IsTable (table_of rows slots last_number last_stamp)
   pub filed : AreFiled (installed_until last_stamp slots) slots rows groups
   pub stamped : (key : ℕ) (r : Record) → record_at slots key ≡ Some r → IsStamped r

@@ -3,7 +3,7 @@ ghost use Rattle.std.specs.Prelude.{◌≡◌, ◌<◌, ◌≤◌, ◌==◌, ◌
 ghost use Rattle.std.specs.List.{find, list_any};
 ghost use Rattle.guid_handles.specs.HandleTables.{same_guid};
 ghost use Rattle.guid_handles.specs.Sorting.{Ascending, place, kept_if};
-ghost use Rattle.guid_handles.specs.Indexes.{AscendByGuid, IsPlaceOf, is_before, is_group_of, key_at, key_in};
+ghost use Rattle.guid_handles.specs.Indexes.{AscendByGuid, IsPlaceOf, SetsKey, is_before, is_group_of, key_at, key_in};
 
 use crate::guid_group::GuidGroup;
 use std::alloc::{AllocError, Allocator};
@@ -46,7 +46,8 @@ fn group_if<A: Allocator + Copy>(
     at: usize,
     guid: Uuid,
 ) -> Option<&GuidGroup<A>>
-    ensures { option_map (λ g. g.now) result ≡ kept_if (is_group_of guid) (slice_get groups.now at) }
+    ensures { option_map (λ g. g.now) result
+        ≡ kept_if (is_group_of guid) (slice_get groups.now at) }
 {
     let group = groups.get(at)?;
     if group.guid() == guid {
@@ -117,7 +118,8 @@ impl<A: Allocator + Copy> Groups<A> {
     /// The handles that carry a GUID, ascending.
     pub(crate) fn holders(&self, guid: Uuid) -> &[u64]
         ensures ascending { Ascending (λ a b. a < b) result.now }
-        ensures those { (n : ℕ) → list_any (λ h. h == n) result.now ≡ is_some (key_at self.now guid n) }
+        ensures those { (n : ℕ)
+            → list_any (λ h. h == n) result.now ≡ is_some (key_at self.now guid n) }
     {
         match group_of(self.groups.as_slice(), guid) {
             Some(group) => group.holders(),
@@ -129,7 +131,7 @@ impl<A: Allocator + Copy> Groups<A> {
     /// were.
     fn make(&mut self, guid: Uuid, handle: u64, key: usize) -> Result<(), AllocError>
         requires { find (is_group_of guid) self.old ≡ None }
-        ensures ok { OnOk result ((k : List ℕ) (n : ℕ) → key_at self.new k n ≡ cond ((handle == n) && same_guid guid k) (Some key) (key_at self.old k n)) }
+        ensures ok { OnOk result (SetsKey guid handle (Some key) self.old self.new) }
         ensures err { OnErr result (self.new ≡ self.old) }
     {
         let at = count_before(self.groups.as_slice(), guid);
@@ -144,7 +146,7 @@ impl<A: Allocator + Copy> Groups<A> {
     fn add_at(&mut self, at: usize, guid: Uuid, handle: u64, key: usize) -> Result<(), AllocError>
         requires place { IsPlaceOf guid self.old at }
         requires absent { key_at self.old guid handle ≡ None }
-        ensures ok { OnOk result ((k : List ℕ) (n : ℕ) → key_at self.new k n ≡ cond ((handle == n) && same_guid guid k) (Some key) (key_at self.old k n)) }
+        ensures ok { OnOk result (SetsKey guid handle (Some key) self.old self.new) }
         ensures err { OnErr result (self.new ≡ self.old) }
     {
         self.groups[at].add(handle, key)?;
@@ -154,7 +156,7 @@ impl<A: Allocator + Copy> Groups<A> {
     /// Adds the key of an interface that is not there. On an `Err` the groups are as they were.
     pub(crate) fn add(&mut self, guid: Uuid, handle: u64, key: usize) -> Result<(), AllocError>
         requires { key_at self.old guid handle ≡ None }
-        ensures ok { OnOk result ((k : List ℕ) (n : ℕ) → key_at self.new k n ≡ cond ((handle == n) && same_guid guid k) (Some key) (key_at self.old k n)) }
+        ensures ok { OnOk result (SetsKey guid handle (Some key) self.old self.new) }
         ensures err { OnErr result (self.new ≡ self.old) }
     {
         match place_of(self.groups.as_slice(), guid) {
@@ -166,7 +168,7 @@ impl<A: Allocator + Copy> Groups<A> {
     /// Takes out a handle from the group at a place.
     fn remove_at(&mut self, at: usize, guid: Uuid, handle: u64)
         requires { IsPlaceOf guid self.old at }
-        ensures { (k : List ℕ) (n : ℕ) → key_at self.new k n ≡ cond ((handle == n) && same_guid guid k) None (key_at self.old k n) }
+        ensures { SetsKey guid handle None self.old self.new }
     {
         self.groups[at].remove(handle);
         if self.groups[at].is_empty() {
@@ -176,7 +178,7 @@ impl<A: Allocator + Copy> Groups<A> {
 
     /// Takes out the key of the interface of a GUID on a handle.
     pub(crate) fn remove(&mut self, guid: Uuid, handle: u64)
-        ensures { (k : List ℕ) (n : ℕ) → key_at self.new k n ≡ cond ((handle == n) && same_guid guid k) None (key_at self.old k n) }
+        ensures { SetsKey guid handle None self.old self.new }
     {
         if let Some(at) = place_of(self.groups.as_slice(), guid) {
             self.remove_at(at, guid, handle);

@@ -1,7 +1,7 @@
 //! The interfaces of one GUID.
 ghost use Rattle.std.specs.Prelude.{◌≡◌, ◌<◌, ◌==◌, ◌≤◌, ℕ, [], true, cond, length, None, Some, IfOk, OnOk, OnErr};
 ghost use Rattle.guid_handles.specs.Sorting.{Ascending};
-ghost use Rattle.guid_handles.specs.Indexes.{key_in};
+ghost use Rattle.guid_handles.specs.Indexes.{SetsKeyIn, key_in};
 
 use crate::room::insert_with_room;
 use crate::searches::{count_less, is_number_at, nth_key};
@@ -102,7 +102,7 @@ impl<A: Allocator + Copy> GuidGroup<A> {
         requires { key_in self.old handle ≡ None }
         ensures guid { self.new.guid ≡ self.old.guid }
         ensures held { OnOk result (0 < length self.new.holders) }
-        ensures ok { OnOk result ((n : ℕ) → key_in self.new n ≡ cond (handle == n) (Some key) (key_in self.old n)) }
+        ensures ok { OnOk result (SetsKeyIn handle (Some key) self.old self.new) }
         ensures err { OnErr result (self.new ≡ self.old) }
     {
         let at = count_less(self.holders.as_slice(), handle);
@@ -115,7 +115,7 @@ impl<A: Allocator + Copy> GuidGroup<A> {
     /// Takes a handle out.
     pub(crate) fn remove(&mut self, handle: u64)
         ensures guid { self.new.guid ≡ self.old.guid }
-        ensures keys { (n : ℕ) → key_in self.new n ≡ cond (handle == n) None (key_in self.old n) }
+        ensures keys { SetsKeyIn handle None self.old self.new }
     {
         let at = count_less(self.holders.as_slice(), handle);
         if is_number_at(self.holders.as_slice(), at, handle) {

@@ -8,7 +8,7 @@ use std::alloc::{AllocError, Allocator};
 use std::marker::Model;
 use std::mem;
 
-/// So many keys of a handle take no memory beside their row.
+/// How many keys of a handle take no memory beside its row.
 const INLINE_KEYS: usize = 4;
 
 /// That the type of a small vector with an allocator fits in memory. Each call of such a vector

@@ -3,7 +3,7 @@ ghost use Rattle.std.specs.Prelude.{◌≡◌, ◌≢◌, ◌+◌, ◌-◌, ◌<
 ghost use Rattle.std.specs.List.{find, filter, list_any, AllByRecursion};
 ghost use Rattle.guid_handles.specs.HandleTables.{numbers, same_guid, has_number, is_live, is_on, is_at, maker_of, interface_at, value_at, carries, holders_of, interfaces_on, guids_on, written_over, earliest, is_after, next_after};
 ghost use Rattle.guid_handles.specs.HandleChanges.{IsHandleTable, max_handles, max_installed, has_guid_twice, is_dead, is_taken, past_limit, refusal, with_interfaces, with_handle, install_refusal, install_many_refusal, Installs, without_handle, without_interface, with_value};
-ghost use Rattle.guid_handles.specs.Indexes.{AreAbsent, ChangesKeys, is_row_of, key_at};
+ghost use Rattle.guid_handles.specs.Indexes.{AreAbsent, ChangesKeys, HaveSameKeys, SetsKey, is_row_of, key_at};
 ghost use Rattle.guid_handles.specs.Slots.{record_at, with_stamp};
 
 use crate::groups::Groups;
@@ -16,10 +16,10 @@ use std::alloc::{AllocError, Allocator, Global};
 use std::marker::Model;
 use uuid::Uuid;
 
-/// So many handles may be live.
+/// The most handles that may be live.
 pub const MAX_HANDLES: usize = 4096;
 
-/// So many interfaces may be installed by one call.
+/// The most interfaces that one call may install.
 pub const MAX_INSTALLED: usize = 16;
 
 /// The handle table: the live handles and the protocol interfaces on them. Each interface is kept
@@ -56,9 +56,9 @@ fn file_key<A: Allocator + Copy>(
     requires live { is_some (find (is_row_of handle) rows.old) ≡ true }
     requires absent { key_at groups.old guid handle ≡ None }
     ensures rows { OnOk result (ChangesKeys handle (λ ks. ks ++ key ∷ []) rows.old rows.new) }
-    ensures groups { OnOk result ((k : List ℕ) (n : ℕ) → key_at groups.new k n ≡ cond ((handle == n) && same_guid guid k) (Some key) (key_at groups.old k n)) }
+    ensures groups { OnOk result (SetsKey guid handle (Some key) groups.old groups.new) }
     ensures rows_stay { OnErr result (rows.new ≡ rows.old) }
-    ensures groups_stay { OnErr result ((k : List ℕ) (n : ℕ) → key_at groups.new k n ≡ key_at groups.old k n) }
+    ensures groups_stay { OnErr result (HaveSameKeys groups.old groups.new) }
 {
     groups.add(guid, handle, key)?;
     if let Err(error) = rows.push_key(handle, key) {
@@ -70,8 +70,10 @@ fn file_key<A: Allocator + Copy>(
 
 /// Gives the interface at a key a value and a stamp.
 fn restamp<A: Allocator>(records: &mut Slab<Record, A>, key: usize, value: u64, stamp: u64)
-    ensures changed { record_at records.new.slots key ≡ option_map (with_stamp value stamp) (record_at records.old.slots key) }
-    ensures others { (j : ℕ) → j ≢ key → record_at records.new.slots j ≡ record_at records.old.slots j }
+    ensures changed { record_at records.new.slots key
+        ≡ option_map (with_stamp value stamp) (record_at records.old.slots key) }
+    ensures others { (j : ℕ) → j ≢ key
+        → record_at records.new.slots j ≡ record_at records.old.slots j }
 {
     if let Some(record) = records.get_mut(key) {
         record.interface.value = value;
@@ -82,7 +84,8 @@ fn restamp<A: Allocator>(records: &mut Slab<Record, A>, key: usize, value: u64, 
 impl<A: Allocator + Copy> Handles<A> {
     /// No handles. This takes no memory.
     pub fn new(alloc: A) -> Handles<A>
-        ensures { result ≡ record { handles = []; interfaces = []; last_number = 0; last_stamp = 0 } }
+        ensures { result
+            ≡ record { handles = []; interfaces = []; last_number = 0; last_stamp = 0 } }
     {
         Handles {
             rows: Rows::new(alloc),
@@ -164,7 +167,7 @@ impl<A: Allocator + Copy> Handles<A> {
         self.rows.keys(handle).len()
     }
 
-    /// The interface on a handle before which a number of others were installed on it.
+    /// The interface at a place among those on a handle, in order of installation.
     pub fn nth_interface(&self, handle: u64, at: usize) -> Option<Interface>
         ensures { result ≡ slice_get (interfaces_on self.now handle) at }
     {
@@ -181,7 +184,7 @@ impl<A: Allocator + Copy> Handles<A> {
         self.interface_count(handle) != 0
     }
 
-    /// Writes the GUIDs on a handle in order of installation, as many as fit, and answers how many
+    /// Writes the GUIDs on a handle in order of installation, as many as fit, and returns how many
     /// there are.
     fn write_all(&self, handle: u64, guids: &mut [Uuid]) -> usize
         ensures count { result ≡ length (guids_on self.now handle) }
@@ -190,11 +193,13 @@ impl<A: Allocator + Copy> Handles<A> {
         write_guids(&self.records, self.rows.keys(handle), guids)
     }
 
-    /// Writes the GUIDs on a live handle in order of installation, as many as fit, and answers how
+    /// Writes the GUIDs on a live handle in order of installation, as many as fit, and returns how
     /// many there are.
     pub fn protocols_of(&self, handle: u64, guids: &mut [Uuid]) -> Option<usize>
-        ensures count { result ≡ cond (is_live self.now handle) (Some (length (guids_on self.now handle))) None }
-        ensures written { IsSome result → guids.new ≡ written_over (guids_on self.now handle) guids.old }
+        ensures count { result
+            ≡ cond (is_live self.now handle) (Some (length (guids_on self.now handle))) None }
+        ensures written { IsSome result
+            → guids.new ≡ written_over (guids_on self.now handle) guids.old }
         ensures none { IfNone result (guids.new ≡ guids.old) }
     {
         if self.is_live(handle) {
@@ -274,9 +279,9 @@ impl<A: Allocator + Copy> Handles<A> {
         }
     }
 
-    /// Why `install` would refuse, memory aside: INVALID_PARAMETER for a kind other than 0, a handle
-    /// that is neither 0 nor live, or a GUID that is on the handle; OUT_OF_RESOURCES where a new
-    /// handle would be one too many.
+    /// Why `install` would refuse, memory aside: INVALID_PARAMETER for a kind other than 0, a
+    /// handle that is neither 0 nor live, or a GUID that is on the handle; OUT_OF_RESOURCES where a
+    /// new handle would be one too many.
     pub fn install_refusal(&self, handle: u64, guid: Uuid, kind: u32) -> Option<Status>
         ensures { result ≡ install_refusal self.now handle guid kind }
     {
@@ -287,8 +292,8 @@ impl<A: Allocator + Copy> Handles<A> {
     }
 
     /// Why `install_many` would refuse, memory aside: INVALID_PARAMETER for no pair or more than
-    /// `MAX_INSTALLED`, a handle that is neither 0 nor live, a GUID that occurs twice, or one that is
-    /// on the handle; OUT_OF_RESOURCES where a new handle would be one too many.
+    /// `MAX_INSTALLED`, a handle that is neither 0 nor live, a GUID that is there twice, or one
+    /// that is on the handle; OUT_OF_RESOURCES where a new handle would be one too many.
     pub fn install_many_refusal(&self, handle: u64, pairs: &[(Uuid, u64)]) -> Option<Status>
         ensures { result ≡ install_many_refusal self.now handle pairs.now }
     {
@@ -332,9 +337,13 @@ impl<A: Allocator + Copy> Handles<A> {
 
     /// Takes back the interface of a GUID on a handle, which was installed last, and its stamp.
     fn take_back(&mut self, handle: u64, guid: Uuid)
-        requires newest { AllByRecursion (λ i. i.stamp < self.old.last_stamp) (filter (λ i. not (is_at handle guid i)) self.old.interfaces) }
+        requires newest { AllByRecursion (λ i. i.stamp < self.old.last_stamp)
+            (filter (λ i. not (is_at handle guid i)) self.old.interfaces) }
         requires some { 0 < self.old.last_stamp }
-        ensures { self.new ≡ record self.old { interfaces = filter (λ i. not (is_at handle guid i)) self.old.interfaces; last_stamp = self.old.last_stamp - 1 } }
+        ensures { self.new ≡ record self.old {
+          interfaces = filter (λ i. not (is_at handle guid i)) self.old.interfaces;
+          last_stamp = self.old.last_stamp - 1;
+        } }
     {
         self.take_out(handle, guid);
         self.last_stamp -= 1;
@@ -361,11 +370,12 @@ impl<A: Allocator + Copy> Handles<A> {
         Ok(())
     }
 
-    /// Makes a handle without interfaces, and answers its number.
+    /// Makes a handle without interfaces, and returns its number.
     fn make_bare(&mut self, maker: Option<(u64, u64)>) -> Result<u64, AllocError>
         requires room { length self.old.handles < max_handles }
         requires numbers { self.old.last_number < 2 ^ 62 }
-        ensures ok { IfOk result (λ n. (n ≡ self.old.last_number + 1) × (self.new ≡ with_handle maker self.old)) }
+        ensures ok { IfOk result (λ n. (n ≡ self.old.last_number + 1)
+            × (self.new ≡ with_handle maker self.old)) }
         ensures proper { IsHandleTable self.old }
         ensures err { OnErr result (self.new ≡ self.old) }
     {
@@ -378,9 +388,12 @@ impl<A: Allocator + Copy> Handles<A> {
     /// Takes back the handle that was made last, which has no interfaces, and its number.
     fn unmake(&mut self)
         requires bare { list_any (is_on self.old.last_number) self.old.interfaces ≡ false }
-        requires lower { AllByRecursion (λ n. n < self.old.last_number) (filter (λ n. not (n == self.old.last_number)) (numbers self.old)) }
+        requires lower { AllByRecursion (λ n. n < self.old.last_number)
+            (filter (λ n. not (n == self.old.last_number)) (numbers self.old)) }
         requires some { 0 < self.old.last_number }
-        ensures { self.new ≡ record (without_handle self.old.last_number self.old) { last_number = self.old.last_number - 1 } }
+        ensures { self.new ≡ record (without_handle self.old.last_number self.old) {
+          last_number = self.old.last_number - 1;
+        } }
     {
         self.remove_bare(self.last_number);
         self.last_number -= 1;
@@ -396,7 +409,8 @@ impl<A: Allocator + Copy> Handles<A> {
         requires once { has_guid_twice pairs.now ≡ false }
         requires numbers { self.old.last_number < 2 ^ 62 }
         requires stamps { self.old.last_stamp < 2 ^ 62 }
-        ensures ok { IfOk result (λ n. (n ≡ self.old.last_number + 1) × (self.new ≡ with_interfaces n pairs.now (with_handle maker self.old))) }
+        ensures ok { IfOk result (λ n. (n ≡ self.old.last_number + 1)
+            × (self.new ≡ with_interfaces n pairs.now (with_handle maker self.old))) }
         ensures err { OnErr result (self.new ≡ self.old) }
     {
         let number = self.make_bare(maker)?;
@@ -432,12 +446,13 @@ impl<A: Allocator + Copy> Handles<A> {
         }
     }
 
-    /// Installs an interface on a handle, on a new one for handle 0, and answers the handle. The
+    /// Installs an interface on a handle, on a new one for handle 0, and returns the handle. The
     /// kind of interface must be 0 (EFI_NATIVE_INTERFACE). On an `Err` the table is as it was.
     pub fn install(&mut self, handle: u64, guid: Uuid, kind: u32, value: u64) -> Result<u64, Status>
         requires numbers { self.old.last_number < 2 ^ 62 }
         requires stamps { self.old.last_stamp < 2 ^ 62 }
-        ensures installs { Installs self.old handle ((guid, value) ∷ []) (install_refusal self.old handle guid kind) result self.new }
+        ensures installs { Installs self.old handle ((guid, value) ∷ [])
+            (install_refusal self.old handle guid kind) result self.new }
         ensures numbers { self.new.last_number ≤ self.old.last_number + 1 }
         ensures stamps { self.new.last_stamp ≤ self.old.last_stamp + 1 }
     {
@@ -448,11 +463,12 @@ impl<A: Allocator + Copy> Handles<A> {
     }
 
     /// Installs all of some interfaces, pairs of GUID and value, on a handle, on a new one for
-    /// handle 0, and answers the handle. On an `Err` the table is as it was.
+    /// handle 0, and returns the handle. On an `Err` the table is as it was.
     pub fn install_many(&mut self, handle: u64, pairs: &[(Uuid, u64)]) -> Result<u64, Status>
         requires numbers { self.old.last_number < 2 ^ 62 }
         requires stamps { self.old.last_stamp < 2 ^ 62 }
-        ensures installs { Installs self.old handle pairs.now (install_many_refusal self.old handle pairs.now) result self.new }
+        ensures installs { Installs self.old handle pairs.now
+            (install_many_refusal self.old handle pairs.now) result self.new }
         ensures numbers { self.new.last_number ≤ self.old.last_number + 1 }
         ensures stamps { self.new.last_stamp ≤ self.old.last_stamp + max_installed }
     {
@@ -475,7 +491,9 @@ impl<A: Allocator + Copy> Handles<A> {
         requires once { has_guid_twice pairs.now ≡ false }
         requires numbers { self.old.last_number < 2 ^ 62 }
         requires stamps { self.old.last_stamp < 2 ^ 62 }
-        ensures ok { IfOk result (λ n. (n ≡ self.old.last_number + 1) × (self.new ≡ with_interfaces n pairs.now (with_handle (Some (controller, agent)) self.old))) }
+        ensures ok { IfOk result (λ n. (n ≡ self.old.last_number + 1)
+            × (self.new
+            ≡ with_interfaces n pairs.now (with_handle (Some (controller, agent)) self.old))) }
         ensures err { OnErr result (self.new ≡ self.old) }
     {
         self.install_on_new(Some((controller, agent)), pairs)
@@ -483,7 +501,9 @@ impl<A: Allocator + Copy> Handles<A> {
 
     /// Takes out an interface, and leaves its handle.
     fn take_out(&mut self, handle: u64, guid: Uuid)
-        ensures { self.new ≡ record self.old { interfaces = filter (λ i. not (is_at handle guid i)) self.old.interfaces } }
+        ensures { self.new ≡ record self.old {
+          interfaces = filter (λ i. not (is_at handle guid i)) self.old.interfaces;
+        } }
     {
         if let Some(key) = self.groups.key(guid, handle) {
             self.rows.remove_key(handle, key);
@@ -492,7 +512,8 @@ impl<A: Allocator + Copy> Handles<A> {
         }
     }
 
-    /// Takes out the interface of a GUID on a handle. A handle that is left without interfaces goes.
+    /// Takes out the interface of a GUID on a handle. A handle that is left without interfaces
+    /// goes.
     pub fn remove(&mut self, handle: u64, guid: Uuid)
         requires { carries self.old guid handle ≡ true }
         ensures { self.new ≡ without_interface handle guid self.old }
@@ -514,7 +535,8 @@ impl<A: Allocator + Copy> Handles<A> {
     /// Takes out the interface on a handle that was installed first, if there is one.
     fn take_first(&mut self, handle: u64)
         ensures others { without_handle handle self.new ≡ without_handle handle self.old }
-        ensures fewer { length (interfaces_on self.new handle) ≤ length (interfaces_on self.old handle) - 1 }
+        ensures fewer { length (interfaces_on self.new handle)
+            ≤ length (interfaces_on self.old handle) - 1 }
     {
         if let Some(interface) = self.nth_interface(handle, 0) {
             self.take_out(handle, interface.guid);
@@ -545,7 +567,7 @@ impl<A: Allocator + Copy> Handles<A> {
     }
 }
 
-/// Whether a GUID occurs twice in a list.
+/// Whether a GUID is in a list twice.
 pub fn has_guid_twice(pairs: &[(Uuid, u64)]) -> bool
     ensures { result ≡ has_guid_twice pairs.now }
 {

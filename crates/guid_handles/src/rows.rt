@@ -131,7 +131,8 @@ impl<A: Allocator + Copy> Rows<A> {
         }
     }
 
-    /// Adds a key behind the others of the handle at a place. On an `Err` the rows are as they were.
+    /// Adds a key behind the others of the handle at a place. On an `Err` the rows are as they
+    /// were.
     fn push_key_at(&mut self, at: usize, number: u64, key: usize) -> Result<(), AllocError>
         requires { IsRowPlace number self.old at }
         ensures ok { OnOk result (ChangesKeys number (λ ks. ks ++ key ∷ []) self.old self.new) }

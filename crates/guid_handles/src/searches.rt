@@ -56,14 +56,15 @@ fn put_guid(out: &mut [Uuid], at: usize, guid: Uuid)
     }
 }
 
-/// Writes the GUIDs at keys, as many as fit, and answers how many there are.
+/// Writes the GUIDs at keys, as many as fit, and returns how many there are.
 pub(crate) fn write_guids<A: Allocator>(
     records: &Slab<Record, A>,
     keys: &[usize],
     out: &mut [Uuid],
 ) -> usize
     ensures count { result ≡ length (map (λ i. i.guid) (at_keys records.now.slots keys.now)) }
-    ensures written { out.new ≡ written_over (map (λ i. i.guid) (at_keys records.now.slots keys.now)) out.old }
+    ensures written { out.new
+        ≡ written_over (map (λ i. i.guid) (at_keys records.now.slots keys.now)) out.old }
 {
     let mut count = 0;
     for at in 0..keys.len() {
@@ -92,7 +93,8 @@ pub(crate) fn find_after<A: Allocator>(
     keys: &[usize],
     mark: u64,
 ) -> Option<Interface>
-    ensures { result ≡ earliest (filter (λ i. nat_lt mark i.stamp) (at_keys records.now.slots keys.now)) }
+    ensures { result
+        ≡ earliest (filter (λ i. nat_lt mark i.stamp) (at_keys records.now.slots keys.now)) }
 {
     let mut best = None;
     for at in (0..keys.len()).rev() {
