@@ -8,6 +8,7 @@ ghost use Rattle.guid_handles.specs.Slots.{record_at, with_stamp};
 
 use crate::groups::Groups;
 use crate::records::{Interface, LiveHandle, Record};
+use crate::room::make_slot;
 use crate::rows::Rows;
 use crate::searches::{find_after, interface_at, nth_key, write_guids};
 use page_ranges::Status;
@@ -317,7 +318,7 @@ impl<A: Allocator + Copy> Handles<A> {
         ensures below { AllByRecursion (λ i. i.stamp ≤ self.old.last_stamp) self.old.interfaces }
         ensures err { OnErr result (self.new ≡ self.old) }
     {
-        self.records.reserve(1)?;
+        make_slot(&mut self.records)?;
         let key = self.records.vacant_key();
         file_key(&mut self.rows, &mut self.groups, handle, guid, key)?;
         let stamp = self.last_stamp + 1;

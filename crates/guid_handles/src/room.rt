@@ -1,8 +1,39 @@
-//! Vectors that have room.
-ghost use Rattle.std.specs.Prelude.{◌≡◌, ◌<◌, ◌≤◌, [], ◌∷◌, ◌++◌, vec_len, vec_capacity};
+//! Room in vectors and in a slab.
+ghost use Rattle.std.specs.Prelude.{◌≡◌, ◌<◌, ◌≤◌, [], ◌∷◌, ◌++◌, vec_len, vec_capacity, OnOk, ◌+◌, ◌/◌};
 ghost use Rattle.std.specs.List.{insert};
+ghost use Rattle.slab.specs.Slab.{HasRoomFor};
 
-use std::alloc::Allocator;
+use slab::Slab;
+use std::alloc::{AllocError, Allocator};
+
+/// How many items more a full row gets room for: half as many as it has, and four.
+fn items_added(len: usize) -> usize
+    ensures { result ≡ len / 2 + 4 }
+{
+    len / 2 + 4
+}
+
+/// Makes room for one more item, if there is none.
+pub(crate) fn make_room<T: Drop, A: Allocator>(items: &mut Vec<T, A>) -> Result<(), AllocError>
+    ensures items { items.new.items ≡ items.old.items }
+    ensures room { OnOk result (vec_len items.new < vec_capacity items.new) }
+{
+    if items.len() < items.capacity() {
+        return Ok(());
+    }
+    items.reserve_exact(items_added(items.len()))
+}
+
+/// Makes room for one more value, if there is none.
+pub(crate) fn make_slot<T: Drop, A: Allocator>(slab: &mut Slab<T, A>) -> Result<(), AllocError>
+    ensures room { OnOk result (HasRoomFor slab.new 1) }
+    ensures rest_kept { slab.new ≡ record slab.old { capacity = slab.new.capacity } }
+{
+    if slab.len() < slab.capacity() {
+        return Ok(());
+    }
+    slab.reserve_exact(items_added(slab.len()))
+}
 
 /// Appends an item, for which there is room.
 pub(crate) fn push_with_room<T: Drop, A: Allocator>(items: &mut Vec<T, A>, item: T)

@@ -7,7 +7,7 @@ ghost use Rattle.guid_handles.specs.Indexes.{lives, row_numbers, keys_on, is_row
 
 use crate::handle_row::HandleRow;
 use crate::records::LiveHandle;
-use crate::room::push_with_room;
+use crate::room::{make_room, push_with_room};
 use crate::searches::{count_less, is_number_at};
 use std::alloc::{AllocError, Allocator};
 use std::marker::Model;
@@ -103,7 +103,7 @@ impl<A: Allocator + Copy> Rows<A> {
         ensures err { OnErr result (self.new ≡ self.old) }
     {
         let row = HandleRow::new(*self.numbers.allocator(), live)?;
-        self.rows.reserve(1)?;
+        make_room(&mut self.rows)?;
         self.numbers.push(live.number)?;
         push_with_room(&mut self.rows, row);
         Ok(())

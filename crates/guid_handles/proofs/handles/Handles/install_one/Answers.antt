@@ -12,7 +12,7 @@ file_key-requires-clause-absent g c = unkeyed _ _ _ _ _ c.self.invariant c.args.
 
 pub invariant_of-self-2 : goal.invariant_of-self-2
 invariant_of-self-2 g c =
-    let same = ap (λ (s : Slab Record). s.slots) c.reserve.ensures.rest_kept in
+    let same = ap (λ (s : Slab Record). s.slots) c.make_slot.ensures.rest_kept in
     let key = c.insert_reserved.ensures.key ∙ sym c.vacant_key-key.ensures.value in
     (stored_more _ _ _ _ _ c.self.invariant _ _ _ c.args.handle c.args.guid c.args.value _ (rw (← c.self.view_is) at c.requires.live) (rw (← c.self.view_is) at c.requires.absent)
     (rw same at c.vacant_key-key.ensures.vacant) (rw key at c.insert_reserved.ensures.updates.changed) (rw (key, same) at c.insert_reserved.ensures.updates.others)
@@ -20,7 +20,7 @@ invariant_of-self-2 g c =
 
 pub returns-clause-ok : goal.returns-clause-ok
 returns-clause-ok g c =
-    let same = ap (λ (s : Slab Record). s.slots) c.reserve.ensures.rest_kept in
+    let same = ap (λ (s : Slab Record). s.slots) c.make_slot.ensures.rest_kept in
     let key = c.insert_reserved.ensures.key ∙ sym c.vacant_key-key.ensures.value in
     rw (← c.self.view_is)
     (stored_more _ _ _ _ _ c.self.invariant _ _ _ c.args.handle c.args.guid c.args.value _ (rw (← c.self.view_is) at c.requires.live) (rw (← c.self.view_is) at c.requires.absent)
