@@ -98,7 +98,11 @@ fn run_from(runs: &[Run], page: u64, index: usize) -> Option<Run>
 /// How many leaves begin at a page or below it, found by steps from a leaf on where that is not far
 /// below.
 #[inline(always)]
-fn count_leaves_by_from<A: Allocator + Copy>(leaves: &[Leaf<A>], page: u64, start: usize) -> usize
+pub(crate) fn count_leaves_by_from<A: Allocator + Copy>(
+    leaves: &[Leaf<A>],
+    page: u64,
+    start: usize,
+) -> usize
     requires leaves { AreLeaves leaves.now }
     requires runs { AreRuns (runs_in leaves.now) }
     ensures bound { result ≤ length leaves.now }

@@ -9,11 +9,12 @@ ghost use Rattle.descriptor_table.specs.Leaves.{leaf_at, runs_in, AreLeaves, Are
 ghost use Rattle.descriptor_table.specs.Tables.{EndBy, IsWindow};
 
 use crate::beginnings::{begun_in, runs_before};
+use crate::cursors::count_leaves_by_from;
 use crate::cuts::push_retyped;
 use crate::entries::count_entries;
-use crate::leaf_searches::{count_leaves_below, count_leaves_by};
+use crate::leaf_searches::count_leaves_below;
 use crate::leaves::{LEAF_SIZE, Leaf, leaves_of, runs_of_leaves, sizes_of};
-use crate::searches::{count_beginning_by, count_ending_below};
+use crate::searches::{count_beginning_by_from, count_ending_below};
 use crate::tallies::Tally;
 use arrayvec::ArrayVec;
 use page_ranges::{MemoryType, Owner, PageRange, Run};
@@ -32,43 +33,53 @@ fn window_of(runs: &[Run], range: PageRange) -> (usize, usize)
     ensures { IsWindow runs.now range result.0 result.1 }
 {
     let low = count_ending_below(runs, range.first);
-    let high = count_beginning_by(runs, range.first + range.pages);
+    let high = count_beginning_by_from(runs, range.first + range.pages, low);
     (low, high)
 }
 
 /// Takes a leaf beside another with it, where the two have few runs: they are joined then.
 fn with_neighbour<A: Allocator + Copy>(
     leaves: &[Leaf<A>],
+    sizes: &Tally<A>,
     range: PageRange,
     low: usize,
     high: usize,
 ) -> (usize, usize)
-    requires { AreLeavesNear leaves.now range low high }
+    requires near { AreLeavesNear leaves.now range low high }
+    requires sizes { sizes.now ≡ map length leaves.now }
     ensures { AreLeavesNear leaves.now range result.0 result.1 }
 {
     if high - low != 1 {
         return (low, high);
     }
-    let count = leaves[low].runs().len();
-    if high < leaves.len() && count + leaves[high].runs().len() <= JOINED_SIZE {
+    let count = sizes.number(low);
+    if high < leaves.len() && count + sizes.number(high) <= JOINED_SIZE {
         return (low, high + 1);
     }
-    if low > 0 && count + leaves[low - 1].runs().len() <= JOINED_SIZE {
+    if low > 0 && count + sizes.number(low - 1) <= JOINED_SIZE {
         return (low - 1, high);
     }
     (low, high)
 }
 
 /// The indices between which leaves have all runs that share a page with a range or touch it.
-fn leaves_near<A: Allocator + Copy>(leaves: &[Leaf<A>], range: PageRange) -> (usize, usize)
+fn leaves_near<A: Allocator + Copy>(
+    leaves: &[Leaf<A>],
+    sizes: &Tally<A>,
+    range: PageRange,
+) -> (usize, usize)
     requires leaves { AreLeaves leaves.now }
+    requires sizes { sizes.now ≡ map length leaves.now }
     requires runs { AreRuns (runs_in leaves.now) }
     requires within { range.first + range.pages ≤ page_count }
     ensures { AreLeavesNear leaves.now range result.0 result.1 }
 {
-    let below = count_leaves_below(leaves, range.first);
-    let high = count_leaves_by(leaves, range.first + range.pages);
-    with_neighbour(leaves, range, below.saturating_sub(1), high)
+    if leaves.len() == 1 {
+        return (0, 1);
+    }
+    let low = count_leaves_below(leaves, range.first).saturating_sub(1);
+    let high = count_leaves_by_from(leaves, range.first + range.pages, low);
+    with_neighbour(leaves, sizes, range, low, high)
 }
 
 /// Puts parts in the place of a window of `runs`, which are the runs of leaves next to each other, and
@@ -262,7 +273,7 @@ pub(crate) fn retype_runs<A: Allocator + Copy>(
     ensures pages { IfOk result (λ n. pages_of (runs_in leaves.new.items) ≡ retyped range mtype owner (pages_of (runs_in leaves.old.items))) }
     ensures err { OnErr result ((leaves.new.items ≡ leaves.old.items) × (begun.new ≡ begun.old) × (sizes.new ≡ sizes.old)) }
 {
-    let near = leaves_near(leaves.as_slice(), range);
+    let near = leaves_near(leaves.as_slice(), sizes, range);
     if near.1 - near.0 == 1 {
         let changed = retype_in_leaf(leaves, begun, sizes, entries, near.0, range, mtype, owner);
         if let Some(entries) = changed {

@@ -36,6 +36,23 @@ pub(crate) fn count_beginning_by(runs: &[Run], page: u64) -> usize
     )
 }
 
+/// The same count, found by steps from an index on, before which all runs begin so.
+pub(crate) fn count_beginning_by_from(runs: &[Run], page: u64, start: usize) -> usize
+    requires runs { AreRuns runs.now }
+    requires bound { start ≤ length runs.now }
+    requires before { AllWithin (λ r. r.range.first ≤ page) runs.now 0 start }
+    ensures bound { result ≤ length runs.now }
+    ensures by { AllWithin (λ r. r.range.first ≤ page) runs.now 0 result }
+    ensures above { AllWithin (λ r. page < r.range.first) runs.now result (length runs.now) }
+{
+    for index in start..runs.len() {
+        if page < runs[index].range.first {
+            return index;
+        }
+    }
+    runs.len()
+}
+
 /// The run that holds a page.
 pub(crate) fn run_holding(runs: &[Run], page: u64) -> Option<Run>
     requires { AreRuns runs.now }

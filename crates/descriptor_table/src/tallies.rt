@@ -105,6 +105,15 @@ impl<A: Allocator + Copy> Tally<A> {
         Ok(Tally { numbers: all, sums })
     }
 
+    /// The number at an index.
+    pub(crate) fn number(&self, index: usize) -> usize
+        requires { index < length self.now }
+        ensures value { result ≡ slice_index_or self.now index 0 }
+        ensures small { result < 2 ^ 8 }
+    {
+        self.numbers[index] as usize
+    }
+
     /// Makes a number so much less and so much more.
     pub(crate) fn change(&mut self, index: usize, less: usize, more: usize)
         requires bound { index < length self.old }

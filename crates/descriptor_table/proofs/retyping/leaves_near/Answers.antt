@@ -1,9 +1,10 @@
-use Rattle.std.proofs.Common.{◌≡◌, ℕ, ◌+◌, ◌<◌, ◌≤◌, [], List, take, length, inl, inr, subst, arith}
+use Rattle.std.proofs.Common.{◌≡◌, ℕ, ◌+◌, ◌<◌, ◌≤◌, [], ◌∷◌, List, take, length, inl, inr, subst, arith}
 use Rattle.std.proofs.lemmas.Bool.{cases_lt}
 use Rattle.std.specs.List.{AllByRecursion, AllWithin}
+use Rattle.page_ranges.specs.declared.ranges.PageRange.{PageRange}
 use Rattle.page_ranges.specs.declared.ranges.Run.{Run}
 use Rattle.page_ranges.specs.Runs.{AreRuns}
-use Rattle.descriptor_table.specs.Leaves.{first_page, runs_in, AreLeaves}
+use Rattle.descriptor_table.specs.Leaves.{first_page, runs_in, AreLeaves, AreLeavesNear}
 use Rattle.descriptor_table.proofs.LeafLists.{leaves_end_below, leaves_begin_above}
 use Rattle.descriptor_table.proofs.retyping.leaves_near.Goals as goal
 
@@ -22,14 +23,23 @@ in_order ls low high first end h up below above = elim (cases_lt high low) [
   | inr m ↦ m
 ]
 
-pub with_neighbour-requires : goal.with_neighbour-requires
-with_neighbour-requires g c =
-    let low = c.count_leaves_below-below in
-    let high = c.count_leaves_by-high in
+-- in a table of one leaf that leaf has all runs
+one_near : (ls : List (List Run)) (range : PageRange) → length ls ≡ 1 → AreLeavesNear ls range 0 1
+one_near [] range e = absurd (omega arith)
+one_near (l ∷ []) range e = record { order = omega arith; bound = omega arith; below = tt; above = tt }
+one_near (l ∷ m ∷ ls) range e = absurd (omega arith)
+
+pub returns-then-leaves-eq1 : goal.returns-then-leaves-eq1
+returns-then-leaves-eq1 g c = one_near c.args.leaves.now c.args.range (omega arith)
+
+pub with_neighbour-requires-clause-near : goal.with_neighbour-requires-clause-near
+with_neighbour-requires-clause-near g c =
+    let low = c.count_leaves_below in
+    let high = c.count_leaves_by_from-high in
     let order = in_order c.args.leaves.now low.result high.result c.args.range.first (c.args.range.first + c.args.range.pages) low.ensures.bound (omega arith) low.ensures.below high.ensures.above in
     record {
       order = omega arith;
       bound = omega arith;
-      below = but_last c.args.leaves.now low.result c.saturating_sub.result c.args.range.first c.requires.leaves c.requires.runs (omega arith) low.ensures.below (λ e. omega arith) (λ l. omega arith);
+      below = but_last c.args.leaves.now low.result c.saturating_sub-low.result c.args.range.first c.requires.leaves c.requires.runs (omega arith) low.ensures.below (λ e. omega arith) (λ l. omega arith);
       above = leaves_begin_above c.args.leaves.now high.result (c.args.range.first + c.args.range.pages) c.requires.runs (λ k d m u. high.ensures.above k d m u);
     }

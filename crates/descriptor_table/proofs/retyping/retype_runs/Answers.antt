@@ -8,3 +8,6 @@ leaves_near-near-requires-clause-runs g c = rw c.as_slice.ensures.value (table_r
 
 pub leaves_near-near-requires-clause-within : goal.leaves_near-near-requires-clause-within
 leaves_near-near-requires-clause-within g c = present_within _ c.args.range c.requires.table.table.proper c.requires.some c.requires.present
+
+pub leaves_near-near-requires-clause-sizes : goal.leaves_near-near-requires-clause-sizes
+leaves_near-near-requires-clause-sizes g c = rw c.as_slice.ensures.value c.requires.table.sizes
