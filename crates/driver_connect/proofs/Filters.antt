@@ -1,5 +1,5 @@
 -- Filters one after the other, and loops over what they leave out.
-use Rattle.std.proofs.Common.{◌≡◌, ℕ, ◌==◌, ◌||◌, not, Bool, List, [], ◌∷◌, ◌++◌, inl, inr, refl, sym, ap, ◌∙◌}
+use Rattle.std.proofs.Common.{◌≡◌, ℕ, zero, suc, ◌-◌, ◌<◌, ◌≤◌, ◌==◌, ◌||◌, not, Bool, List, [], ◌∷◌, ◌++◌, length, drop, get_or, arith, inl, inr, refl, sym, ap, ◌∙◌}
 use Rattle.std.specs.List.{filter, list_any}
 use Rattle.std.proofs.lemmas.Bool.{cases_Bool}
 use Rattle.guid_handles.specs.HandleTables.{HandleTable}
@@ -33,9 +33,42 @@ left_out_more takes ys y (x ∷ xs) =
       ]
     ]
 
+-- those that one more takes out, before the others
+pub left_out_first : {X Y : Type 0} (takes : Y → X → Bool) (y : Y) (ys : List Y) (xs : List X)
+    → filter (λ x. not (takes y x)) (filter (λ x. not (list_any (λ z. takes z x) ys)) xs) ≡ filter (λ x. not (list_any (λ z. takes z x) (y ∷ ys))) xs
+left_out_first takes y ys [] = refl
+left_out_first takes y ys (x ∷ xs) = elim (cases_Bool (list_any (λ z. takes z x) ys)) [
+  | inl h ↦ elim (cases_Bool (takes y x)) [
+    | inl k ↦ rw h (rw k (left_out_first takes y ys xs))
+    | inr k ↦ rw h (rw k (left_out_first takes y ys xs))
+  ]
+  | inr h ↦ elim (cases_Bool (takes y x)) [
+    | inl k ↦ rw h (rw k (left_out_first takes y ys xs))
+    | inr k ↦ rw h (rw k (ap (λ r. x ∷ r) (left_out_first takes y ys xs)))
+  ]
+]
+
 pub left_out_none : {X Y : Type 0} (takes : Y → X → Bool) (xs : List X) → filter (λ x. not (list_any (λ z. takes z x) [])) xs ≡ xs
 left_out_none takes [] = refl
 left_out_none takes (x ∷ xs) = ap (λ r. x ∷ r) (left_out_none takes xs)
+
+-- ---- lists from a place on
+
+pub none_left : (ns : List ℕ) → drop (length ns) ns ≡ []
+none_left [] = refl
+none_left (n ∷ ns) = none_left ns
+
+left_from : (ns : List ℕ) (k : ℕ) → k < length ns → drop k ns ≡ get_or ns k 0 ∷ drop (suc k) ns
+left_from [] k l = absurd (omega arith)
+left_from (n ∷ ns) zero l = refl
+left_from (n ∷ ns) (suc k) l = left_from ns k (omega arith)
+
+left_at : (ns : List ℕ) (at : ℕ) → 0 < at → at ≤ length ns → drop (at - 1) ns ≡ get_or ns (at - 1) 0 ∷ drop at ns
+left_at ns at z l =
+    let next : suc (at - 1) ≡ at = omega (arith, z) in
+    left_from ns (at - 1) (omega (arith, z, l)) ∙ ap (λ k. get_or ns (at - 1) 0 ∷ drop k ns) next
+
+-- ---- handles, items and pairs that go
 
 pub handles_none : (t : HandleTable) → t ≡ without_handles [] t
 handles_none t = rw (left_out_none (λ k h. h.number == k) t.handles) (rw (left_out_none (λ k i. i.handle == k) t.interfaces) refl)
@@ -46,13 +79,30 @@ names_none opens = sym (left_out_none names opens)
 pub pairs_none : (opens : List OpenRecord) → opens ≡ without_pairs [] opens
 pairs_none opens = sym (left_out_none (λ q o. same_pair (pair_of o) q) opens)
 
-pub handles_more : (ns : List ℕ) (n : ℕ) (t : HandleTable) → without_handle n (without_handles ns t) ≡ without_handles (ns ++ n ∷ []) t
-handles_more ns n t =
-    rw (left_out_more (λ k h. h.number == k) ns n t.handles)
-    (rw (left_out_more (λ k i. i.handle == k) ns n t.interfaces) refl)
+handles_first : (n : ℕ) (ns : List ℕ) (t : HandleTable) → without_handle n (without_handles ns t) ≡ without_handles (n ∷ ns) t
+handles_first n ns t =
+    rw (left_out_first (λ k h. h.number == k) n ns t.handles)
+    (rw (left_out_first (λ k i. i.handle == k) n ns t.interfaces) refl)
 
-pub names_more : (ns : List ℕ) (n : ℕ) (opens : List OpenRecord) → without_items (names n) (without_items (names_any ns) opens) ≡ without_items (names_any (ns ++ n ∷ [])) opens
-names_more ns n opens = left_out_more names ns n opens
+names_first : (n : ℕ) (ns : List ℕ) (opens : List OpenRecord) → without_items (names n) (without_items (names_any ns) opens) ≡ without_items (names_any (n ∷ ns)) opens
+names_first n ns opens = left_out_first names n ns opens
+
+-- the last of some handles that has not gone goes
+pub handles_before : (ns : List ℕ) (at : ℕ) (t old new : HandleTable) → 0 < at → at ≤ length ns → old ≡ without_handles (drop at ns) t → new ≡ without_handle (get_or ns (at - 1) 0) old
+    → new ≡ without_handles (drop (at - 1) ns) t
+handles_before ns at t old new z l e f =
+    f
+    ∙ ap (without_handle (get_or ns (at - 1) 0)) e
+    ∙ handles_first (get_or ns (at - 1) 0) (drop at ns) t
+    ∙ ap (λ ms. without_handles ms t) (sym (left_at ns at z l))
+
+pub names_before : (ns : List ℕ) (at : ℕ) (opens old new : List OpenRecord) → 0 < at → at ≤ length ns → old ≡ without_items (names_any (drop at ns)) opens → new ≡ without_items (names (get_or ns (at - 1) 0)) old
+    → new ≡ without_items (names_any (drop (at - 1) ns)) opens
+names_before ns at opens old new z l e f =
+    f
+    ∙ ap (without_items (names (get_or ns (at - 1) 0))) e
+    ∙ names_first (get_or ns (at - 1) 0) (drop at ns) opens
+    ∙ ap (λ ms. without_items (names_any ms) opens) (sym (left_at ns at z l))
 
 same_as_pair : (p : ℕ × ℕ) (o : OpenRecord) → not (is_of_pair p.0 p.1 o) ≡ not (same_pair (pair_of o) p)
 same_as_pair p o = elim (cases_Bool (o.controller == p.0)) [

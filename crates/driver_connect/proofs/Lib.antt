@@ -12,6 +12,8 @@ pub mod NoPairs
 pub mod PlannedStops
 pub mod AfterStops
 pub mod StopSets
+pub mod PairMembers
+pub mod ManagedPairs
 pub mod NewPairs
 pub mod Left
 pub mod Idle

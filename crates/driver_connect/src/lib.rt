@@ -6,6 +6,8 @@ mod candidates;
 mod connecting;
 mod driver;
 mod laws;
+mod managed;
+mod pair_set;
 mod pairs;
 mod progress;
 mod protocols;

@@ -1,9 +1,12 @@
 //! Pairs of a controller and the agent of a driver, and the stop set of some.
-ghost use Rattle.std.specs.Prelude.{◌≡◌, ◌+◌, ◌≤◌, IfOk, OnOk, length, drop, vec_len};
+ghost use Rattle.std.specs.Prelude.{◌≡◌, ◌≤◌, IfOk, OnOk, length, drop};
 ghost use Rattle.driver_connect.specs.Stopping as spec;
+ghost use Rattle.driver_connect.specs.Managed.{all_managed as managed_all};
 
+use crate::managed::{Managed, all_managed, managers_among};
+use crate::pair_set::PairSet;
 use guid_handles::Handles;
-use open_agents::{OpenRecord, Opens, is_for_driver};
+use open_agents::Opens;
 use std::alloc::{AllocError, Allocator};
 
 /// Whether a pair is among some.
@@ -13,28 +16,15 @@ pub(crate) fn has_pair(pairs: &[(u64, u64)], pair: (u64, u64)) -> bool
     pairs.iter().any(|p| pair.0 == p.0 && pair.1 == p.1)
 }
 
-/// Adds a pair to others, unless it is there.
-fn add_pair<A: Allocator>(
-    pairs: &mut Vec<(u64, u64), A>,
-    pair: (u64, u64),
-) -> Result<(), AllocError>
-    ensures { OnOk result (pairs.new.items ≡ spec.with_pair pairs.old.items pair) }
-{
-    if !has_pair(pairs.as_slice(), pair) {
-        pairs.push(pair)?;
-    }
-    Ok(())
-}
-
-/// Adds each of some pairs to others, unless it is there.
-fn add_pairs<A: Allocator>(
-    pairs: &mut Vec<(u64, u64), A>,
+/// Adds each of some pairs to a set, unless it is there.
+fn add_pairs<A: Allocator + Copy>(
+    set: &mut PairSet<A>,
     more: &[(u64, u64)],
 ) -> Result<(), AllocError>
-    ensures { OnOk result (pairs.new.items ≡ spec.with_pairs pairs.old.items more.now) }
+    ensures { OnOk result (set.new ≡ spec.with_pairs set.old more.now) }
 {
     for pair in more {
-        add_pair(pairs, *pair)?;
+        set.add(*pair)?;
     }
     Ok(())
 }
@@ -42,13 +32,13 @@ fn add_pairs<A: Allocator>(
 /// Whether a live handle's maker is among some pairs.
 pub(crate) fn is_made_by<A: Allocator + Copy>(
     handles: &Handles<A>,
-    pairs: &[(u64, u64)],
+    pairs: &PairSet<A>,
     handle: u64,
 ) -> bool
     ensures { result ≡ spec.is_made_by handles.now pairs.now handle }
 {
     match handles.maker(handle) {
-        Some(maker) => has_pair(pairs, maker),
+        Some(maker) => pairs.has(maker),
         None => false,
     }
 }
@@ -57,7 +47,7 @@ pub(crate) fn is_made_by<A: Allocator + Copy>(
 pub(crate) fn made_by<A: Allocator + Copy>(
     alloc: A,
     handles: &Handles<A>,
-    pairs: &[(u64, u64)],
+    pairs: &PairSet<A>,
 ) -> Result<Vec<u64, A>, AllocError>
     ensures { IfOk result (λ v. v.items ≡ spec.made_by handles.now pairs.now) }
 {
@@ -71,50 +61,34 @@ pub(crate) fn made_by<A: Allocator + Copy>(
     Ok(made)
 }
 
-/// Whether an item makes its pair manage a handle that some pairs made.
-fn manages_made<A: Allocator + Copy>(
-    handles: &Handles<A>,
-    pairs: &[(u64, u64)],
-    o: &OpenRecord,
-) -> bool
-    ensures { result ≡ spec.manages_made handles.now pairs.now o.now }
-{
-    is_for_driver(o.attributes) && is_made_by(handles, pairs, o.controller)
-}
-
-/// The pairs that manage a handle that some pairs made.
+/// The pairs that manage a handle that some pairs made, by all that manage made handles.
 fn managers_of_made<A: Allocator + Copy>(
     alloc: A,
     handles: &Handles<A>,
     opens: &Opens<A>,
+    managed: &[Managed],
     pairs: &[(u64, u64)],
 ) -> Result<Vec<(u64, u64), A>, AllocError>
+    requires { managed.now ≡ managed_all handles.now opens.now }
     ensures { IfOk result (λ v. v.items ≡ spec.managers_of_made handles.now opens.now pairs.now) }
 {
-    let mut found = Vec::new(alloc);
-    let slots = opens.slots();
-    for slot in slots {
-        if let Some(o) = slot {
-            if manages_made(handles, pairs, o) {
-                found.push((o.controller, o.agent))?;
-            }
-        }
-    }
-    Ok(found)
+    managers_among(alloc, managed, pairs)
 }
 
 /// Adds the managers of the handles that the pairs of a set from a place on made.
 fn add_managers<A: Allocator + Copy>(
     alloc: A,
-    set: &mut Vec<(u64, u64), A>,
+    set: &mut PairSet<A>,
     handles: &Handles<A>,
     opens: &Opens<A>,
+    managed: &[Managed],
     from: usize,
 ) -> Result<(), AllocError>
-    requires { from ≤ vec_len set.old }
-    ensures { OnOk result (set.new.items ≡ spec.with_pairs set.old.items (spec.managers_of_made handles.now opens.now (drop from set.old.items))) }
+    requires managed { managed.now ≡ managed_all handles.now opens.now }
+    requires place { from ≤ length set.old }
+    ensures { OnOk result (set.new ≡ spec.with_pairs set.old (spec.managers_of_made handles.now opens.now (drop from set.old))) }
 {
-    let managers = managers_of_made(alloc, handles, opens, &set.as_slice()[from..])?;
+    let managers = managers_of_made(alloc, handles, opens, managed, &set.as_slice()[from..])?;
     add_pairs(set, managers.as_slice())
 }
 
@@ -122,17 +96,19 @@ fn add_managers<A: Allocator + Copy>(
 /// it added: the managers of what older pairs made are there.
 fn add_rounds<A: Allocator + Copy>(
     alloc: A,
-    set: &mut Vec<(u64, u64), A>,
+    set: &mut PairSet<A>,
     handles: &Handles<A>,
     opens: &Opens<A>,
+    managed: &[Managed],
     count: usize,
 ) -> Result<(), AllocError>
-    ensures { OnOk result (set.new.items ≡ spec.rounds count handles.now opens.now set.old.items) }
+    requires { managed.now ≡ managed_all handles.now opens.now }
+    ensures { OnOk result (set.new ≡ spec.rounds count handles.now opens.now set.old) }
 {
     let mut asked = 0;
     for k in 0..count {
         let before = set.len();
-        add_managers(alloc, set, handles, opens, asked)?;
+        add_managers(alloc, set, handles, opens, managed, asked)?;
         if set.len() == before {
             return Ok(());
         }
@@ -147,16 +123,18 @@ pub(crate) fn stop_set<A: Allocator + Copy>(
     handles: &Handles<A>,
     opens: &Opens<A>,
     pairs: &[(u64, u64)],
-) -> Result<Vec<(u64, u64), A>, AllocError>
-    ensures { IfOk result (λ v. v.items ≡ spec.stop_set handles.now opens.now pairs.now) }
+) -> Result<PairSet<A>, AllocError>
+    ensures { IfOk result (λ set. set ≡ spec.stop_set handles.now opens.now pairs.now) }
 {
-    let mut set = Vec::new(alloc);
+    let mut set = PairSet::new(alloc);
     add_pairs(&mut set, pairs)?;
+    let managed = all_managed(alloc, handles, opens)?;
     add_rounds(
         alloc,
         &mut set,
         handles,
         opens,
+        managed.as_slice(),
         handles.all().len() + opens.len(),
     )?;
     Ok(set)

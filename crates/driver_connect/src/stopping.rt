@@ -6,7 +6,8 @@ ghost use Rattle.driver_connect.specs.Stopping as spec;
 
 use crate::agents::{driver_binding, driver_of, may_stop_at};
 use crate::driver::Driver;
-use crate::pairs::{has_pair, is_made_by, made_by, stop_set};
+use crate::pair_set::PairSet;
+use crate::pairs::{is_made_by, made_by, stop_set};
 use crate::protocols::protocols_on;
 use crate::view::View;
 use guid_handles::Handles;
@@ -61,7 +62,7 @@ fn may_all_stop<D: Driver, A: Allocator + Copy>(
 /// Whether an item on a handle that goes is no obstacle to a stop.
 fn is_no_obstacle<A: Allocator + Copy>(
     handles: &Handles<A>,
-    set: &[(u64, u64)],
+    set: &PairSet<A>,
     o: &OpenRecord,
 ) -> bool
     ensures { result ≡ spec.is_no_obstacle handles.now set.now o.now }
@@ -69,7 +70,7 @@ fn is_no_obstacle<A: Allocator + Copy>(
     matches!(
         o.attributes,
         BY_HANDLE_PROTOCOL | GET_PROTOCOL | TEST_PROTOCOL
-    ) || has_pair(set, (o.controller, o.agent))
+    ) || set.has((o.controller, o.agent))
         || (o.attributes == BY_CHILD_CONTROLLER && is_made_by(handles, set, o.controller))
 }
 
@@ -77,7 +78,7 @@ fn is_no_obstacle<A: Allocator + Copy>(
 fn is_unobstructed<A: Allocator + Copy>(
     handles: &Handles<A>,
     opens: &Opens<A>,
-    set: &[(u64, u64)],
+    set: &PairSet<A>,
 ) -> bool
     ensures { result ≡ spec.is_unobstructed handles.now opens.now set.now }
 {
@@ -102,14 +103,14 @@ fn has_agent(pairs: &[(u64, u64)], agent: u64) -> bool
 /// Whether the agent and the controller of a call of OpenProtocol stay.
 fn spares_opener<A: Allocator + Copy>(
     handles: &Handles<A>,
-    set: &[(u64, u64)],
+    set: &PairSet<A>,
     opener: Option<(u64, u64)>,
 ) -> bool
     ensures { result ≡ spec.spares_opener handles.now set.now opener }
 {
     match opener {
         Some((agent, controller)) => {
-            !has_agent(set, agent)
+            !has_agent(set.as_slice(), agent)
                 && !is_made_by(handles, set, agent)
                 && !is_made_by(handles, set, controller)
         }
@@ -123,28 +124,29 @@ fn can_be_stopped<D: Driver, A: Allocator + Copy>(
     drivers: &[D],
     handles: &Handles<A>,
     opens: &Opens<A>,
-    set: &[(u64, u64)],
+    set: &PairSet<A>,
     handle: u64,
     opener: Option<(u64, u64)>,
 ) -> Result<bool, AllocError>
     ensures { IfOk result (λ b. b ≡ spec.can_be_stopped (map D.meaning drivers.now) handles.now opens.now set.now handle opener) }
 {
     Ok(
-        may_all_stop(alloc, drivers, handles, opens, set)?
+        may_all_stop(alloc, drivers, handles, opens, set.as_slice())?
             && is_unobstructed(handles, opens, set)
             && !is_made_by(handles, set, handle)
             && spares_opener(handles, set, opener),
     )
 }
 
-/// Takes out handles with their interfaces, and the items that name them.
+/// Takes out handles with their interfaces, and the items that name them. Of ascending handles the
+/// last goes first, so that few are left behind one that goes.
 fn take_handles<A: Allocator + Copy>(handles: &mut Handles<A>, opens: &mut Opens<A>, made: &[u64])
     ensures handles { handles.new ≡ spec.without_handles made.now handles.old }
     ensures opens { opens.new ≡ without_items (spec.names_any made.now) opens.old }
 {
-    for n in made {
-        handles.remove_handle(*n);
-        opens.drop_handle(*n);
+    for at in (0..made.len()).rev() {
+        handles.remove_handle(made[at]);
+        opens.drop_handle(made[at]);
     }
 }
 
@@ -170,7 +172,7 @@ fn names_any(handles: &[u64], handle: u64, agent: u64, controller: u64) -> bool
 /// that these made.
 #[derive(Drop)]
 pub struct StopPlan<A: Allocator = Global> {
-    pairs: Vec<(u64, u64), A>,
+    pairs: PairSet<A>,
     handles: Vec<u64, A>,
 }
 
@@ -179,7 +181,7 @@ impl<A: Allocator> Model for StopPlan<A> {
 
     ghost Value = { PlannedStop };
 
-    ghost view = { λ p. record { pairs = p.pairs.items; handles = p.handles.items } };
+    ghost view = { λ p. record { pairs = p.pairs; handles = p.handles.items } };
 }
 
 impl<A: Allocator + Copy> StopPlan<A> {
@@ -194,12 +196,12 @@ impl<A: Allocator + Copy> StopPlan<A> {
     {
         if pairs.is_empty() {
             return Ok(StopPlan {
-                pairs: Vec::new(alloc),
+                pairs: PairSet::new(alloc),
                 handles: Vec::new(alloc),
             });
         }
         let pairs = stop_set(alloc, handles, opens, pairs)?;
-        let handles = made_by(alloc, handles, pairs.as_slice())?;
+        let handles = made_by(alloc, handles, &pairs)?;
         Ok(StopPlan { pairs, handles })
     }
 
@@ -215,7 +217,7 @@ impl<A: Allocator + Copy> StopPlan<A> {
         ensures { result ≡ spec.takes_item self.now handle agent controller }
     {
         names_any(self.handles.as_slice(), handle, agent, controller)
-            || has_pair(self.pairs.as_slice(), (controller, agent))
+            || self.pairs.has((controller, agent))
     }
 
     /// Whether the pairs can be stopped, for a call on a handle, and of OpenProtocol also with its agent
@@ -231,18 +233,10 @@ impl<A: Allocator + Copy> StopPlan<A> {
     ) -> Result<bool, AllocError>
         ensures { IfOk result (λ b. b ≡ spec.can_be_stopped (map D.meaning drivers.now) handles.now opens.now self.now.pairs handle opener) }
     {
-        if self.pairs.is_empty() {
+        if self.pairs.as_slice().is_empty() {
             return Ok(true);
         }
-        can_be_stopped(
-            alloc,
-            drivers,
-            handles,
-            opens,
-            self.pairs.as_slice(),
-            handle,
-            opener,
-        )
+        can_be_stopped(alloc, drivers, handles, opens, &self.pairs, handle, opener)
     }
 
     /// Takes out the handles with their interfaces, the items that name them, and those of the pairs.

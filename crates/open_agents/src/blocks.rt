@@ -20,7 +20,7 @@ pub(crate) fn block_of(handle: u64) -> u64
 
 /// Blocks by ascending numbers. Those without items are not kept.
 #[derive(Drop)]
-pub(crate) struct Blocks<A: Allocator> {
+pub struct Blocks<A: Allocator> {
     blocks: Vec<PlaceBlock<A>, A>,
 }
 
@@ -80,7 +80,7 @@ fn place_of<A: Allocator + Copy>(blocks: &[PlaceBlock<A>], number: u64) -> Optio
 
 impl<A: Allocator + Copy> Blocks<A> {
     /// No blocks. This takes no memory.
-    pub(crate) fn new(alloc: A) -> Blocks<A>
+    pub fn new(alloc: A) -> Blocks<A>
         ensures { result ≡ [] }
     {
         Blocks {
@@ -100,7 +100,7 @@ impl<A: Allocator + Copy> Blocks<A> {
     }
 
     /// The places of the items in a block.
-    pub(crate) fn places(&self, number: u64) -> &[usize]
+    pub fn places(&self, number: u64) -> &[usize]
         ensures { result.now ≡ (block_at self.now number).places }
     {
         match place_of(self.blocks.as_slice(), number) {
@@ -132,7 +132,7 @@ impl<A: Allocator + Copy> Blocks<A> {
     }
 
     /// Appends the place of an item to a block. On an `Err` the blocks are as they were.
-    pub(crate) fn push(&mut self, number: u64, place: usize) -> Result<(), AllocError>
+    pub fn push(&mut self, number: u64, place: usize) -> Result<(), AllocError>
         ensures ok { OnOk result (ChangesBlock number (with_last place) self.old self.new) }
         ensures err { OnErr result (self.new ≡ self.old) }
     {

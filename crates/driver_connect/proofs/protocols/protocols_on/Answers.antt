@@ -1,7 +1,6 @@
-use Rattle.std.proofs.Common.{add-one, ◌≡◌, ◌∙◌, ◌++◌, ◌∷◌, [], ℕ, zero, suc, List, Option, Some, None, drop, map, refl, sym, ap, append_assoc}
+use Rattle.std.proofs.Common.{add-one, ◌≡◌, ◌∙◌, ◌∷◌, [], ℕ, zero, suc, List, Some, None, drop, refl, sym, ap, append_assoc}
 use Rattle.std.specs.List.{slice_get}
 use Rattle.std.proofs.lemmas.Option.{same_Some}
-use Rattle.driver_connect.specs.Drivers.{protocol_view}
 use Rattle.driver_connect.proofs.protocols.protocols_on.Goals as goal
 use Rattle.driver_connect.proofs.protocols.protocols_on.Goals.{in-Some+in_ok-push, in_default}
 
