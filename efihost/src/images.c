@@ -7,12 +7,15 @@
 #define APPLICATION 10U
 
 static struct image *images;
+static uint64_t lowest = UINT64_MAX, highest; /* of all images that there ever were */
 
 /* The live image with an address in it, or NULL. */
 struct image *image_at(uint64_t address)
 {
     static struct image *recent;
 
+    if (address < lowest || address >= highest)
+        return NULL;
     if (recent != NULL && !recent->gone && address - recent->base < recent->size)
         return recent;
     for (struct image *image = images; image != NULL; image = image->next)
@@ -116,6 +119,8 @@ EFI_STATUS load_image(EFI_HANDLE parent, const void *path, const uint8_t *data, 
     status = install_image(image);
     image->next = images;
     images = image;
+    lowest = image->base < lowest ? image->base : lowest;
+    highest = image->base + image->size > highest ? image->base + image->size : highest;
     host.call = call;
     *loaded = image;
     return status;

@@ -5,7 +5,7 @@
 #include <string.h>
 
 #define SLOTS 65536U
-#define FREED 512U
+#define FREED 256U
 
 static struct block *slots[SLOTS];
 static struct run *runs;

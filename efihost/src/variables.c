@@ -131,7 +131,8 @@ static EFI_STATUS EFIAPI GetVariable(const CHAR16 *name, const EFI_GUID *guid,
     if (value == NULL && it->size != 0)
         return EFI_INVALID_PARAMETER;
     *size = it->size;
-    memcpy(value, it->value, it->size);
+    if (it->size != 0)
+        memcpy(value, it->value, it->size);
     return EFI_SUCCESS;
 }
 
@@ -178,7 +179,8 @@ static EFI_STATUS set_variable(const CHAR16 *name, const EFI_GUID *guid, uint32_
     if (size > MOST_VALUE - it->size)
         return EFI_OUT_OF_RESOURCES;
     it->value = must(realloc(it->value, it->size + size + 1));
-    memcpy(it->value + it->size, value, size);
+    if (size != 0)
+        memcpy(it->value + it->size, value, size);
     it->size += size;
     it->attributes = attributes;
     return EFI_SUCCESS;
