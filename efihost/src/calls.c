@@ -96,8 +96,9 @@ static bool behind_call(const struct image *image, uint64_t address)
            (at[-6] == 0xff && (at[-5] & 0x38) == 0x10);
 }
 
-/* The callers' callers: words of the stack that point behind a call instruction of an image. */
-static void walk(struct origin *origin, uint64_t caller)
+/* The callers' callers: words of the stack that point behind a call instruction of an image. It reads
+ * all of the stack, which a sanitizer would not have. */
+__attribute__((no_sanitize_address)) static void walk(struct origin *origin, uint64_t caller)
 {
     const uint64_t *at;
     size_t count = 0;

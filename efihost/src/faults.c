@@ -56,7 +56,8 @@ static bool found_in_machine(uint64_t address, uint64_t instruction, bool write,
     return true;
 }
 
-static void print_stack(const ucontext_t *context)
+/* Words of the stack that are in images; a sanitizer would not have it read all of the stack. */
+__attribute__((no_sanitize_address)) static void print_stack(const ucontext_t *context)
 {
     uint64_t at = (uint64_t)context->uc_mcontext.gregs[REG_RSP] & ~7ULL;
     unsigned shown = 0;
@@ -64,9 +65,8 @@ static void print_stack(const ucontext_t *context)
     if (at < host.stack || at >= host.stack_end)
         return;
     for (unsigned i = 0; i < 400 && at < host.stack_end && shown < 12; i++, at += 8) {
-        uint64_t word;
+        uint64_t word = *(const uint64_t *)POINTER(at);
 
-        memcpy(&word, POINTER(at), sizeof word);
         if (image_at(word) != NULL && shown++ < 12)
             fprintf(stderr, "efihost:   on the stack: %s\n", where(word));
     }
