@@ -9,6 +9,9 @@ use crate::slot::Slot;
 use std::alloc::{AllocError, Allocator};
 use std::mem::ManuallyDrop;
 
+/// The units in front of a heap that hold the heap itself.
+const HEAD: usize = 4;
+
 /// A heap in a region of memory. A `&` to it is the allocator of one thread's collections.
 pub struct RegionHeap {
     slot: Slot,
@@ -24,6 +27,17 @@ impl RegionHeap {
         RegionHeap {
             slot: Slot::new(Cells::new(free, marks, blocks)),
         }
+    }
+
+    /// A heap that lies in its own region, for good. None where the region has no room for it.
+    pub fn lasting(region: Region) -> Option<&'static RegionHeap> {
+        let (units, region) = region.with_units();
+        if units < HEAD {
+            return None;
+        }
+        let (front, rest) = region.cut(HEAD, units - HEAD);
+        let heap = Box::new(RegionHeap::new(front), RegionHeap::new(rest)).ok()?;
+        Some(Box::leak(heap))
     }
 
     // The slot is empty only while one of these two runs, and neither calls what could come back here.

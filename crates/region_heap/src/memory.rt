@@ -14,6 +14,8 @@ use std::marker::Model;
 pub(crate) const UNIT: usize = 16;
 
 /// Memory for a heap: units of 16 bytes, aligned to 16, that are its owner's alone.
+#[repr(C)]
+#[derive(Drop)]
 pub struct Region {
     start: *mut u8,
     pub units: usize,
@@ -77,6 +79,25 @@ impl Region {
     {
         let Region { start, units } = self;
         (units, Region { start, units })
+    }
+
+    /// The memory in two parts of so many units each.
+    pub(crate) fn cut(self, front: usize, rest: usize) -> (Region, Region)
+        requires { front + rest ≡ self.units }
+        ensures { (result.0.units ≡ front) × (result.1.units ≡ rest) }
+    {
+        let Region { start, units: _ } = self;
+        let behind = unsafe { start.add(UNIT * front) };
+        (
+            Region {
+                start,
+                units: front,
+            },
+            Region {
+                start: behind,
+                units: rest,
+            },
+        )
     }
 
     /// The memory in two parts: a number of units for blocks, all of them free, and room for their marks.

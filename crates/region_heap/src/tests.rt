@@ -44,3 +44,13 @@ fn two_heaps_share_nothing(rt: HostRuntime) {
     assert!(rt; has_room(&one, 240));
     assert!(rt; !has_room(&other, 128));
 }
+
+#[test]
+fn a_heap_lies_in_its_own_region(rt: HostRuntime) {
+    let region = Region::within(&rt.alloc(), 21).expect(&rt, "memory");
+    let heap = RegionHeap::lasting(region).expect(&rt, "four units");
+    assert!(rt; has_room(heap, 240));
+    assert!(rt; !has_room(heap, 241));
+    let region = Region::within(&rt.alloc(), 3).expect(&rt, "memory");
+    assert!(rt; RegionHeap::lasting(region).is_none());
+}
