@@ -20,7 +20,7 @@ use Rattle.placement_certificate.proofs.Accepted.{true_accepted}
 use Rattle.map_keys.specs.Records.{IsRecordEntry}
 use Rattle.page_services.specs.declared.page_book.Placed.{Placed}
 use Rattle.page_services.specs.PageRules.{Book, IsBestChoice, IsPlaced, if_counted, placement_request, pool_request, AllocatesPages}
-use Rattle.page_services.proofs.Choices.{best_is_permitted}
+use Rattle.page_services.proofs.Choices.{best_is_permitted, returned_is_true}
 use Rattle.page_services.proofs.Granules.{whole_request_proper}
 use Rattle.pool_services.specs.Extents.{Extent, Place, first_fit, max_size, pages_for}
 use Rattle.pool_services.specs.PoolRules.{Answer, AllocatesPool, FillsPool, IsPut, extent_request}
@@ -36,7 +36,7 @@ use Rattle.boot_replies.specs.declared.replies.Reply.{Reply}
 use Rattle.boot_replies.specs.declared.replies.Reply.TheVariants as reply
 use Rattle.boot_machines.specs.MachineRuns.{HasRecordNumbers}
 use Rattle.boot_machines.specs.Machines.{IsMachine, MachineValue}
-use Rattle.boot_core.specs.Machines.{Parts, State, AreSound, first_state}
+use Rattle.boot_core.specs.Machines.{Parts, State, AreSound, first_state_with}
 use Rattle.boot_replies.specs.Certified.{certificate_in, left_request}
 use Rattle.boot_core.specs.PoolLists.{LocatesBuffer, ListsOpens, PutsItems}
 use Rattle.boot_replies.specs.Certified.{list_type}
@@ -52,10 +52,10 @@ pub first_types : (rs : List Run) → AllByRecursion (λ r. is_machine_type r.mt
 first_types [] a = tt
 first_types (r ∷ rs) a = all-row (λ x. is_machine_type x.mtype ≡ true) (pages_of rs) r.range.pages (page_in r.range.first r) (λ k low high. a.0) (first_types rs a.1)
 
-module _ (m : List Page) (proper : IsProperMemory m) (typed : HasMachineTypes m) where
-  with_certificate : (r : Request) (start : ℕ) (c : Option CertificateValue) → IsProperRequest r → IsBestChoice m r start c → IfSome {T = Request × CertificateValue} (option_map (λ c. (r, c)) c) (λ returned. IsAccepted (memory_map m) returned.0 returned.1)
+module _ (b : Book) (proper : IsProperMemory b.memory) (typed : HasMachineTypes b.memory) where
+  with_certificate : (r : Request) (start : ℕ) (c : Option CertificateValue) → IsProperRequest r → IsBestChoice b r start c → IfSome {T = Request × CertificateValue} (option_map (λ c. (r, c)) c) (λ returned. IsAccepted (memory_map b.memory) returned.0 returned.1)
   with_certificate r start None good best = tt
-  with_certificate r start (Some c) good best = true_accepted m r c proper typed good best.0
+  with_certificate r start (Some c) good best = true_accepted b.memory r c proper typed good (returned_is_true b r start c best)
 
 -- a reply without a certificate
 abbrev none_for : Request → Option (Request × CertificateValue)
@@ -69,7 +69,7 @@ uncertified (Some r) P = tt
 accepted_placement : {A : Type 0} (b : Book) (r : Option Request) (t pages memory : ℕ) (placed : Placed A) → IsProperMemory b.memory → HasMachineTypes b.memory → IfSome r IsProperRequest → IsPlaced IsBestChoice b r t pages memory placed →
     IfSome {T = Request × CertificateValue} (option_and_then (λ r. option_map (λ c. (r, c)) placed.certificate) r) (λ returned. IsAccepted (memory_map b.memory) returned.0 returned.1)
 accepted_placement b None t pages memory placed proper typed good h = tt
-accepted_placement b (Some r) t pages memory placed proper typed good (start, best, at) = with_certificate b.memory proper typed r start placed.certificate good best
+accepted_placement b (Some r) t pages memory placed proper typed good (start, best, at) = with_certificate b proper typed r start placed.certificate good best
 
 -- the certificate of a reply, with the request that the call leaves to the service
 abbrev tells : {A : Type 0} → ℕ → Call A → Reply A → Option (Request × CertificateValue)
@@ -91,7 +91,7 @@ module _ (old : Parts) (proper : IsProperMemory old.book.memory) (typed : HasMac
       IfSome {T = Request × CertificateValue} (option_and_then (λ r. option_map (λ c. (r, c)) answer.1) (extent_request old.book.granule t size)) (λ returned. IsAccepted (memory_map old.book.memory) returned.0 returned.1)
   accepted_block t size (Some p) answer b es good few (address, none, book, extents) = rw none (uncertified (extent_request old.book.granule t size) _)
   accepted_block t size None answer b es good few (start, best, at, book, extents) =
-      rw (le-leb size max_size few) (with_certificate old.book.memory proper typed (pool_request old.book.granule t (pages_for size)) start answer.1 (whole_request_proper old.book.granule t (pages_for size) page_count granule good (omega arith)) best)
+      rw (le-leb size max_size few) (with_certificate old.book proper typed (pool_request old.book.granule t (pages_for size)) start answer.1 (whole_request_proper old.book.granule t (pages_for size) page_count granule good (omega arith)) best)
 
   pool_result : (A : Type 0) (t size : ℕ) (result : Result Answer Status) (b : Book) (es : List Extent) → AllocatesPool IsBestChoice old.book old.pools t size result b es →
       IfSome (tells {A = A} old.book.granule (call.AllocatePool t size) (reply.AllocatePool result)) (λ returned. IsAccepted (memory_map old.book.memory) returned.0 returned.1)
@@ -175,8 +175,8 @@ all_accepted ds old [] [] new run sound typed = tt
 all_accepted ds old [] (r ∷ replies) new run sound typed = tt
 all_accepted ds old (c ∷ calls) [] new run sound typed = tt
 
-pub accepted_run : {A : Type 0} (ds : List Meaning) (machine : MachineValue) (calls : List (Call A)) (replies : List (Reply A)) (new : State) (run : CallRun ds (first_state machine) calls replies new) → IsMachine machine → AllAccepted ds (first_state machine) calls replies new run
-accepted_run ds machine calls replies new run valid = all_accepted ds (first_state machine) calls replies new run (first_sound machine valid) (first_types machine.runs valid.runs.mtypes)
+pub accepted_run : {A : Type 0} (ds : List Meaning) (certifies : Bool) (machine : MachineValue) (calls : List (Call A)) (replies : List (Reply A)) (new : State) (run : CallRun ds (first_state_with certifies machine) calls replies new) → IsMachine machine → AllAccepted ds (first_state_with certifies machine) calls replies new run
+accepted_run ds certifies machine calls replies new run valid = all_accepted ds (first_state_with certifies machine) calls replies new run (first_sound certifies machine valid) (first_types machine.runs valid.runs.mtypes)
 
 -- ---- records
 
@@ -189,5 +189,5 @@ entries_after ds old (c ∷ calls) (r ∷ replies) new (next, step, run) sound f
 entries_after ds old [] (r ∷ replies) new run sound fields names = absurd run
 entries_after ds old (c ∷ calls) [] new run sound fields names = absurd run
 
-pub entries_of_run : {A : Type 0} (ds : List Meaning) (machine : MachineValue) (calls : List (Call A)) (replies : List (Reply A)) (new : State) → IsMachine machine → AllByRecursion HasRecordNumbers machine.runs → AllByRecursion NamesTypes calls → CallRun ds (first_state machine) calls replies new → AllByRecursion IsRecordEntry (memory_map new.parts.book.memory)
-entries_of_run ds machine calls replies new valid numbers names run = entries_after ds (first_state machine) calls replies new run (first_sound machine valid) (first_fields machine.runs numbers) names
+pub entries_of_run : {A : Type 0} (ds : List Meaning) (certifies : Bool) (machine : MachineValue) (calls : List (Call A)) (replies : List (Reply A)) (new : State) → IsMachine machine → AllByRecursion HasRecordNumbers machine.runs → AllByRecursion NamesTypes calls → CallRun ds (first_state_with certifies machine) calls replies new → AllByRecursion IsRecordEntry (memory_map new.parts.book.memory)
+entries_of_run ds certifies machine calls replies new valid numbers names run = entries_after ds (first_state_with certifies machine) calls replies new run (first_sound certifies machine valid) (first_fields machine.runs numbers) names

@@ -22,7 +22,7 @@ use Rattle.boot_replies.specs.Certified.{list_type}
 use Rattle.boot_core.specs.Steps.{best_starts, any_starts, OnBook, OnBookAndPools, WhileOpen, Serves, Answers, Step, StepAny, CallRunBy, CallRun}
 
 placed_any : {A : Type 0} (b : Book) (r : Option Request) (t pages memory : ℕ) (placed : Placed A) → IsPlaced IsBestChoice b r t pages memory placed → IsPlaced IsAnyStart b r t pages memory placed
-placed_any b (Some r) t pages memory placed (start, chosen, at) = (start, best_is_permitted b.memory r start placed.certificate chosen, at)
+placed_any b (Some r) t pages memory placed (start, chosen, at) = (start, best_is_permitted b r start placed.certificate chosen, at)
 placed_any b None t pages memory placed h = h
 
 allocates_any : {A : Type 0} (b : Book) (kind t pages memory : ℕ) (result : Result (Placed A) Status) (new : Book) → AllocatesPages IsBestChoice b kind t pages memory result new → AllocatesPages IsAnyStart b kind t pages memory result new
@@ -39,7 +39,7 @@ allocates_any b kind t pages memory (Err status.AlreadyStarted) new h = absurd h
 
 put_any : (b : Book) (es : List Extent) (t size : ℕ) (o : Option Place) (answer : Answer) (new_b : Book) (new : List Extent) → IsPut IsBestChoice o b es t size answer new_b new → IsPut IsAnyStart o b es t size answer new_b new
 put_any b es t size (Some p) answer new_b new h = h
-put_any b es t size None answer new_b new (start, chosen, at, book, extents) = (start, best_is_permitted b.memory (pool_request b.granule t (pages_for size)) start answer.1 chosen, at, book, extents)
+put_any b es t size None answer new_b new (start, chosen, at, book, extents) = (start, best_is_permitted b (pool_request b.granule t (pages_for size)) start answer.1 chosen, at, book, extents)
 
 pool_any : (b : Book) (es : List Extent) (t size : ℕ) (result : Result Answer Status) (new_b : Book) (new : List Extent) → AllocatesPool IsBestChoice b es t size result new_b new → AllocatesPool IsAnyStart b es t size result new_b new
 pool_any b es t size (Ok answer) new_b new h = (h.0, h.1, put_any b es t size (first_fit t size es) answer new_b new h.2)

@@ -5,6 +5,7 @@ use Rattle.open_agents.specs.declared.items.OpenRecord.{OpenRecord}
 use Rattle.protocol_services.specs.Lists.{Lists, HasRoom, IsRaised}
 use Rattle.protocol_services.specs.Driving.{HasRoomToConnect}
 use Rattle.protocol_services.specs.Removing.{HasRoomToReinstall}
+use Rattle.page_services.specs.PageRules.{certifying}
 use Rattle.boot_machines.specs.Machines.{MachineValue}
 use Rattle.boot_core.specs.Machines.{Parts, CoreValue, FollowsCalls, all_calls, first_state}
 
@@ -52,6 +53,16 @@ has_room_to_connect p n follows = record { numbers = omega (arith, follows.numbe
 
 pub has_room_to_reinstall : (p : Parts) (n : ℕ) → FollowsCalls p (n + 1) → HasRoomToReinstall p.lists
 has_room_to_reinstall p n follows = record { numbers = omega (arith, follows.numbers); stamps = omega (arith, follows.stamps) }
+
+-- whether certificates are returned or not
+pub certifying_follows : (certifies : Bool) (p : Parts) (n : ℕ) → FollowsCalls p n → FollowsCalls (record { book = certifying certifies p.book; pools = p.pools; lists = p.lists }) n
+certifying_follows certifies p n is = record {
+  key = is.key;
+  numbers = is.numbers;
+  stamps = is.stamps;
+  registrations = is.registrations;
+  counts = is.counts;
+}
 
 -- before any call
 pub first_follows : (machine : MachineValue) → FollowsCalls (first_state machine).parts all_calls

@@ -16,3 +16,4 @@ pub mod Acceptances
 pub mod CertifiedChoices
 pub mod Growth
 pub mod LongLists
+pub mod PutItems

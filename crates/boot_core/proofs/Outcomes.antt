@@ -70,6 +70,7 @@ pub record IsChanged (Fits : Type 0) (old new : Book) : Type 0 where
   pub typed : HasMachineTypes old.memory → HasMachineTypes new.memory
   pub fields : Fits → HaveFields old.memory → HaveFields new.memory
   pub grows : length (memory_map new.memory) ≤ length (memory_map old.memory) + 2
+  pub certifies : new.certifies ≡ old.certifies
 
 abbrev pub Outcome : Type 0 → Book → Book → Type 0
 Outcome Fits old new = (new ≡ old) ⊎ IsChanged Fits old new
@@ -85,6 +86,7 @@ allocated b range t o proper good some free =
       typed = retyped-typed range t o (machine_type t (inl good)) b.memory;
       fields = λ fits. retyped-fields range t o fits b.memory;
       grows = two_more range t o b.memory proper.ascending;
+      certifies = refl;
     }
 
 freed : (Fits : Type 0) (b : Book) (range : PageRange) (o : Owner) → (¬ (o ≡ Given)) → IsProperMemory b.memory → 0 < range.pages → IsOwnedBy o (page_at b.memory range.first) → IsChanged Fits b (changed_book range conventional Given b)
@@ -98,6 +100,7 @@ freed Fits b range o placed proper some owned =
       typed = retyped-typed range conventional Given (machine_type conventional (inr refl)) b.memory;
       fields = λ fits. retyped-fields range conventional Given (omega arith) b.memory;
       grows = two_more range conventional Given b.memory proper.ascending;
+      certifies = refl;
     }
 
 pub frees : (Fits : Type 0) (b : Book) (address pages : ℕ) (result : Result (Unit {0}) Status) (new : Book) → IsProperMemory b.memory → IsInGranules b → FreesPages b address pages result new → Outcome Fits b new
@@ -150,6 +153,10 @@ module _ (Fits : Type 0) (old new : Book) where
   map_grows (inl e) = omega (arith, ap (λ (b : Book). length (memory_map b.memory)) e)
   map_grows (inr changed) = changed.grows
 
+  pub stays_certifying : Outcome Fits old new → new.certifies ≡ old.certifies
+  stays_certifying (inl e) = ap (λ (b : Book). b.certifies) e
+  stays_certifying (inr changed) = changed.certifies
+
   -- either no type changes, nor the key, or both do
   pub type_or_not : Outcome Fits old new → (HaveSameTypes old.memory new.memory × (new.key ≡ old.key)) ⊎ ((¬ HaveSameTypes old.memory new.memory) × (new.key ≡ old.key + 1))
   type_or_not (inl e) = inl (λ n. ap (λ (b : Book). type_at b.memory n) (sym e), ap (λ (b : Book). b.key) e)
@@ -175,14 +182,14 @@ kept Fits old new e = inl (ap (λ (p : Parts). p.book) e)
 -- types that fit by themselves
 any_fits : (Fits : Type 0) (old new : Book) → Fits → Outcome Fits old new → Outcome (Unit {0}) old new
 any_fits Fits old new fits (inl e) = inl e
-any_fits Fits old new fits (inr changed) = inr (record { up = changed.up; proper = changed.proper; differs = changed.differs; typed = changed.typed; fields = λ u. changed.fields fits; grows = changed.grows })
+any_fits Fits old new fits (inr changed) = inr (record { up = changed.up; proper = changed.proper; differs = changed.differs; typed = changed.typed; fields = λ u. changed.fields fits; grows = changed.grows; certifies = changed.certifies })
 
 module _ (S : Setting) (permits : Permits S.chosen) where
   first_is_free : {A : Type 0} (b : Book) (r : Option Request) (t pages memory : ℕ) (placed : Placed A) → 0 < whole_pages b.granule t pages → IfSome r IsProperRequest → IsPlaced S.chosen b r t pages memory placed → IsConventional (page_at b.memory (placed.address / page_size))
   first_is_free b None t pages memory placed some good (free, e, none) = subst (λ (a : ℕ). IsConventional (page_at b.memory (a / page_size))) (sym e) (free.2 (memory / page_size) (omega arith) (omega (arith, some)))
   first_is_free b (Some r) t pages memory placed some good (start, chosen, e) =
       let first : placed.address / page_size ≡ start = omega (arith, e) in
-      subst (λ (k : ℕ). IsConventional (page_at b.memory k)) (sym first) ((permits b.memory r start placed.certificate chosen).conventional start (omega arith) (omega (arith, good.some)))
+      subst (λ (k : ℕ). IsConventional (page_at b.memory k)) (sym first) ((permits b r start placed.certificate chosen).conventional start (omega arith) (omega (arith, good.some)))
 
   pub allocates : {A : Type 0} (b : Book) (kind t pages memory : ℕ) (result : Result (Placed A) Status) (new : Book) → IsProperMemory b.memory → IsInGranules b → AllocatesPages S.chosen b kind t pages memory result new → Outcome (t < 2 ^ 32) b new
   allocates b kind t pages memory (Ok placed) new proper granules (valid, at, e) =
@@ -200,7 +207,7 @@ module _ (S : Setting) (permits : Permits S.chosen) where
   put b es t size (Some p) answer new_b new proper granules good (address, none, same, rest) = inl same
   put b es t size None answer new_b new proper granules good (start, chosen, address, e, rest) =
       let request : Request = pool_request b.granule t (pages_for size) in
-      let start_is = permits b.memory request start answer.1 chosen in
+      let start_is = permits b request start answer.1 chosen in
       let some : 0 < request.pages = whole_pages_some b.granule t (pages_for size) granules.granule (omega arith) in
       subst (Outcome (t < 2 ^ 32) b) (sym e) (inr (allocated b (record { first = start; pages = extent_pages b.granule t size }) t Pool proper good some (start_is.conventional start (omega arith) (omega (arith, some)))))
 

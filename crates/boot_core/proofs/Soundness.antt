@@ -3,7 +3,7 @@ use Rattle.std.proofs.Common.{◌≡◌, ℕ, ◌+◌, ◌≤◌, Bool, true, fa
 use Rattle.page_ranges.specs.declared.statuses.Status.{Status}
 use Rattle.page_ranges.specs.declared.statuses.Status.TheVariants as status
 use Rattle.page_services.specs.declared.page_book.Placed.{Placed}
-use Rattle.page_services.specs.PageRules.{Book, IsInGranules, AllocatesPages, FreesPages}
+use Rattle.page_services.specs.PageRules.{Book, IsInGranules, AllocatesPages, FreesPages, certifying}
 use Rattle.page_services.proofs.Choices.{Permits}
 use Rattle.page_services.proofs.Granules.{allocates_granules, frees_granules}
 use Rattle.pool_services.specs.Extents.{Extent, AreExtents}
@@ -15,7 +15,7 @@ use Rattle.boot_calls.specs.declared.calls.Call.{Call}
 use Rattle.boot_calls.specs.declared.calls.Call.TheVariants as call
 use Rattle.boot_replies.specs.declared.replies.Reply.{Reply}
 use Rattle.boot_machines.specs.Machines.{IsMachine, MachineValue}
-use Rattle.boot_core.specs.Machines.{Parts, State, AreSound, first_state}
+use Rattle.boot_core.specs.Machines.{Parts, State, AreSound, first_state_with}
 use Rattle.open_agents.specs.declared.items.OpenItem.{OpenItem}
 use Rattle.open_agents.specs.OpenItems.{items_on}
 use Rattle.protocol_services.specs.ListBytes.{handle_bytes, item_bytes}
@@ -139,9 +139,18 @@ module _ (S : Setting) (permits : Permits S.chosen) where
   run_sound old [] (r ∷ replies) new sound run = absurd run
   run_sound old (c ∷ calls) [] new sound run = absurd run
 
--- a machine before any call
-pub first_sound : (machine : MachineValue) → IsMachine machine → AreSound (first_state machine).parts
-first_sound machine valid = record { proper = valid.runs.proper; granules = record { granule = valid.granule; whole = machine-granules machine.granule machine.runs valid.runs }; extents = tt; owned = given-keeps machine.runs valid.runs }
+-- whether certificates are returned or not
+pub certifying_sound : (certifies : Bool) (p : Parts) → AreSound p → AreSound (parts_of (certifying certifies p.book) p.pools p.lists)
+certifying_sound certifies p is = record {
+  proper = is.proper;
+  granules = record { granule = is.granules.granule; whole = is.granules.whole };
+  extents = is.extents;
+  owned = is.owned;
+}
 
-pub sound_after : {A : Type 0} (S : Setting) → Permits S.chosen → (machine : MachineValue) (calls : List (Call A)) (replies : List (Reply A)) (new : State) → IsMachine machine → CallRunBy S (first_state machine) calls replies new → AreSound new.parts
-sound_after S permits machine calls replies new valid run = run_sound S permits (first_state machine) calls replies new (first_sound machine valid) run
+-- a machine before any call
+pub first_sound : (certifies : Bool) (machine : MachineValue) → IsMachine machine → AreSound (first_state_with certifies machine).parts
+first_sound certifies machine valid = record { proper = valid.runs.proper; granules = record { granule = valid.granule; whole = machine-granules machine.granule machine.runs valid.runs }; extents = tt; owned = given-keeps machine.runs valid.runs }
+
+pub sound_after : {A : Type 0} (S : Setting) → Permits S.chosen → (certifies : Bool) (machine : MachineValue) (calls : List (Call A)) (replies : List (Reply A)) (new : State) → IsMachine machine → CallRunBy S (first_state_with certifies machine) calls replies new → AreSound new.parts
+sound_after S permits certifies machine calls replies new valid run = run_sound S permits (first_state_with certifies machine) calls replies new (first_sound certifies machine valid) run

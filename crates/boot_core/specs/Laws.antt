@@ -24,27 +24,37 @@ use Rattle.boot_replies.specs.declared.replies.Reply.TheVariants as reply
 use Rattle.boot_calls.specs.CallNumbers.{NamesTypes}
 use Rattle.boot_machines.specs.MachineRuns.{HasRecordNumbers}
 use Rattle.boot_machines.specs.Machines.{IsMachine, MachineValue}
-use Rattle.boot_core.specs.Machines.{Parts, State, AreSound, first_state}
+use Rattle.boot_core.specs.Machines.{Parts, State, AreSound, first_state_with}
 use Rattle.boot_replies.specs.Certified.{certificate_in, certified}
 use Rattle.boot_core.specs.Steps.{Setting, any_starts, MapStep, ReadStep, Step, StepAny, StepBy, CallRun, CallRunBy}
 
 -- A step with the best start is a step with any permitted start.
 abbrev pub AnyStepLaw : Type 0 → Type 0
-AnyStepLaw A = (ds : List Meaning) (old : State) (c : Call A) (answer : Reply A) (new : State) → Step ds old c answer new → StepAny ds old c answer new
+AnyStepLaw A =
+    (ds : List Meaning) (old : State) (c : Call A) (answer : Reply A) (new : State)
+    → Step ds old c answer new → StepAny ds old c answer new
 
 -- A run with the best starts is a run with any permitted starts.
 abbrev pub AnyRunLaw : Type 0 → Type 0
-AnyRunLaw A = (ds : List Meaning) (old : State) (calls : List (Call A)) (replies : List (Reply A)) (new : State) → CallRun ds old calls replies new → CallRunBy (any_starts ds) old calls replies new
+AnyRunLaw A =
+    (ds : List Meaning) (old : State) (calls : List (Call A)) (replies : List (Reply A)) (new : State)
+    → CallRun ds old calls replies new → CallRunBy (any_starts ds) old calls replies new
 
 -- The parts are sound after calls on a valid machine, however starts are chosen among the permitted
 -- ones.
 abbrev pub SoundLaw : Setting → Type 0 → Type 0
-SoundLaw S A = (machine : MachineValue) (calls : List (Call A)) (replies : List (Reply A)) (new : State) → IsMachine machine → CallRunBy S (first_state machine) calls replies new → AreSound new.parts
+SoundLaw S A =
+    (certifies : Bool) (machine : MachineValue) (calls : List (Call A)) (replies : List (Reply A)) (new : State)
+    → IsMachine machine → CallRunBy S (first_state_with certifies machine) calls replies new
+    → AreSound new.parts
 
 -- The lists of the protocol services are proper after any calls, however starts are chosen and
 -- whatever the drivers answer.
 abbrev pub ProperListsLaw : Setting → Type 0 → Type 0
-ProperListsLaw S A = (machine : MachineValue) (calls : List (Call A)) (replies : List (Reply A)) (new : State) → CallRunBy S (first_state machine) calls replies new → AreProperLists new.parts.lists
+ProperListsLaw S A =
+    (certifies : Bool) (machine : MachineValue) (calls : List (Call A)) (replies : List (Reply A)) (new : State)
+    → CallRunBy S (first_state_with certifies machine) calls replies new
+    → AreProperLists new.parts.lists
 
 -- ---- keys
 
@@ -57,20 +67,27 @@ abbrev pub HaveSameTypes : List Page → List Page → Type 0
 HaveSameTypes m n = (k : ℕ) → type_at m k ≡ type_at n k
 
 -- no call of the run changes the type of any page
-abbrev pub ChangesNoType : {A : Type 0} (S : Setting) (old : State) (calls : List (Call A)) (replies : List (Reply A)) (new : State) → CallRunBy S old calls replies new → Type 0
-ChangesNoType S old (c ∷ calls) (answer ∷ replies) new (next, step, run) = HaveSameTypes old.parts.book.memory next.parts.book.memory × ChangesNoType S next calls replies new run
+abbrev pub ChangesNoType : {A : Type 0} (S : Setting) (old : State) (calls : List (Call A)) (replies : List (Reply A)) (new : State)
+    → CallRunBy S old calls replies new → Type 0
+ChangesNoType S old (c ∷ calls) (answer ∷ replies) new (next, step, run) =
+    HaveSameTypes old.parts.book.memory next.parts.book.memory
+    × ChangesNoType S next calls replies new run
 ChangesNoType S old calls replies new run = Unit {0}
 
 -- how many calls of the run change the type of a page
-abbrev pub ChangesTypes : {A : Type 0} (S : Setting) (old : State) (calls : List (Call A)) (replies : List (Reply A)) (new : State) → CallRunBy S old calls replies new → ℕ → Type 0
+abbrev pub ChangesTypes : {A : Type 0} (S : Setting) (old : State) (calls : List (Call A)) (replies : List (Reply A)) (new : State)
+    → CallRunBy S old calls replies new → ℕ → Type 0
 ChangesTypes S old (c ∷ calls) (answer ∷ replies) new (next, step, run) n =
-    (HaveSameTypes old.parts.book.memory next.parts.book.memory × ChangesTypes S next calls replies new run n) ⊎ ((¬ HaveSameTypes old.parts.book.memory next.parts.book.memory) × ((others : ℕ) × (n ≡ others + 1) × ChangesTypes S next calls replies new run others))
+    (HaveSameTypes old.parts.book.memory next.parts.book.memory × ChangesTypes S next calls replies new run n)
+    ⊎ ((¬ HaveSameTypes old.parts.book.memory next.parts.book.memory) × ((others : ℕ) × (n ≡ others + 1) × ChangesTypes S next calls replies new run others))
 ChangesTypes S old calls replies new run n = n ≡ 0
 
 -- The key counts exactly the calls that change the type of a page.
 abbrev pub KeyCountLaw : Setting → Type 0 → Type 0
-KeyCountLaw S A = (old : State) (calls : List (Call A)) (replies : List (Reply A)) (new : State) (run : CallRunBy S old calls replies new) (n : ℕ) →
-    AreSound old.parts → ChangesTypes S old calls replies new run n ↔ (new.parts.book.key ≡ old.parts.book.key + n)
+KeyCountLaw S A =
+    (old : State) (calls : List (Call A)) (replies : List (Reply A)) (new : State) (run : CallRunBy S old calls replies new) (n : ℕ) →
+    AreSound old.parts
+    → ChangesTypes S old calls replies new run n ↔ (new.parts.book.key ≡ old.parts.book.key + n)
 
 -- the reply is of a GetMemoryMap that succeeded, with this key
 abbrev pub ReturnsKey : {A : Type 0} → Reply A → ℕ → Type 0
@@ -85,8 +102,10 @@ GivesKey S A old key new =
 -- Before an exit, a key that GetMemoryMap returned is accepted exactly where no call since has
 -- changed the type of a page.
 abbrev pub KeyLaw : Setting → Type 0 → Type 0
-KeyLaw S A = (first old : State) (key : ℕ) (calls : List (Call A)) (replies : List (Reply A)) (new : State) (run : CallRunBy S old calls replies new) (answer : Reply A) (after : State) →
-    AreSound first.parts → GivesKey S A first key old → new.exited ≡ false → StepBy S new (call.ExitBootServices key) answer after →
+KeyLaw S A =
+    (first old : State) (key : ℕ) (calls : List (Call A)) (replies : List (Reply A)) (new : State) (run : CallRunBy S old calls replies new) (answer : Reply A) (after : State) →
+    AreSound first.parts → GivesKey S A first key old → new.exited ≡ false
+    → StepBy S new (call.ExitBootServices key) answer after →
     (answer ≡ reply.ExitBootServices (Ok tt)) ↔ ChangesNoType S old calls replies new run
 
 -- ---- memory maps
@@ -97,11 +116,13 @@ used_size Success size = size
 used_size status size = 0
 
 -- GetMemoryMap with a buffer of the caller's is a step of the machine, with the reply that a call
--- returns and the front of the buffer; the rest of the buffer is as it was.
+-- tells and the front of the buffer; the rest of the buffer is as it was.
 abbrev pub MapStepLaw : Type 0 → Type 0
-MapStepLaw A = (ds : List Meaning) (old : State) (buffer : List ℕ) (returned : MapReply) (after : List ℕ) (new : State) (used : Vec ℕ A) →
+MapStepLaw A =
+    (ds : List Meaning) (old : State) (buffer : List ℕ) (returned : MapReply) (after : List ℕ) (new : State) (used : Vec ℕ A) →
     MapStep old buffer returned after new → used.items ≡ take (used_size returned.status returned.size) after →
-    Step ds old (call.GetMemoryMap (length buffer)) (reply.GetMemoryMap returned used) new × (after ≡ used.items ++ drop (length used.items) buffer)
+    Step ds old (call.GetMemoryMap (length buffer)) (reply.GetMemoryMap returned used) new
+    × (after ≡ used.items ++ drop (length used.items) buffer)
 
 -- how many bytes of a buffer a status of a read says were used: all on success
 abbrev pub read_size : Status → ℕ → ℕ
@@ -111,20 +132,29 @@ read_size status size = 0
 -- A read into a buffer of the caller's is a step of the machine, with the status that a call
 -- returns and the whole buffer where it succeeds; else the buffer is as it was.
 abbrev pub ReadStepLaw : Type 0 → Type 0
-ReadStepLaw A = (ds : List Meaning) (old : State) (address : ℕ) (buffer : List ℕ) (status : Status) (after : List ℕ) (new : State) (used : Vec ℕ A) →
-    ReadStep old address buffer status after new → used.items ≡ take (read_size status (length buffer)) after →
-    Step ds old (call.PoolRead address (length buffer)) (reply.PoolRead status used) new × (after ≡ used.items ++ drop (length used.items) buffer)
+ReadStepLaw A =
+    (ds : List Meaning) (old : State) (address : ℕ) (buffer : List ℕ) (status : Status) (after : List ℕ) (new : State) (used : Vec ℕ A) →
+    ReadStep old address buffer status after new
+    → used.items ≡ take (read_size status (length buffer)) after →
+    Step ds old (call.PoolRead address (length buffer)) (reply.PoolRead status used) new
+    × (after ≡ used.items ++ drop (length used.items) buffer)
 
 -- After calls on a valid machine whose numbers fit their fields, each entry of the memory map is
 -- one that a record can spell.
 abbrev pub RecordEntriesLaw : Type 0 → Type 0
-RecordEntriesLaw A = (ds : List Meaning) (machine : MachineValue) (calls : List (Call A)) (replies : List (Reply A)) (new : State) → IsMachine machine → AllByRecursion HasRecordNumbers machine.runs → AllByRecursion NamesTypes calls →
-    CallRun ds (first_state machine) calls replies new → AllByRecursion IsRecordEntry (memory_map new.parts.book.memory)
+RecordEntriesLaw A =
+    (ds : List Meaning) (certifies : Bool) (machine : MachineValue) (calls : List (Call A)) (replies : List (Reply A)) (new : State)
+    → IsMachine machine → AllByRecursion HasRecordNumbers machine.runs
+    → AllByRecursion NamesTypes calls →
+    CallRun ds (first_state_with certifies machine) calls replies new
+    → AllByRecursion IsRecordEntry (memory_map new.parts.book.memory)
 
 -- After calls on a valid machine the memory map has an entry for each run of the machine and two
 -- for each call, or fewer.
 abbrev pub MapGrowthLaw : Setting → Type 0 → Type 0
-MapGrowthLaw S A = (machine : MachineValue) (calls : List (Call A)) (replies : List (Reply A)) (new : State) → IsMachine machine → CallRunBy S (first_state machine) calls replies new →
+MapGrowthLaw S A =
+    (certifies : Bool) (machine : MachineValue) (calls : List (Call A)) (replies : List (Reply A)) (new : State)
+    → IsMachine machine → CallRunBy S (first_state_with certifies machine) calls replies new →
     length (memory_map new.parts.book.memory) ≤ length machine.runs + 2 * length calls
 
 -- ---- the pool's bytes
@@ -155,10 +185,13 @@ handles_of (Some handles) = handles
 -- from which address on a call lays bytes in the pool, and which: the zeros of a new block, those
 -- of a write, or a list
 abbrev pub lays : {A : Type 0} → Parts → Call A → Reply A → Option (ℕ × List ℕ)
-lays p (call.AllocatePool t size) answer = option_map (λ address. (address, replicate size 0)) (returned_block answer)
+lays p (call.AllocatePool t size) answer =
+    option_map (λ address. (address, replicate size 0)) (returned_block answer)
 lays p (call.PoolWrite address bytes) answer = cond (is_done answer) (Some (address, bytes)) None
-lays p (call.LocateHandleBuffer search guid key) answer = option_map (λ address. (address, handle_bytes (handles_of (found_handles p.lists search guid key)))) (returned_block answer)
-lays p (call.OpenProtocolInformation handle guid) answer = option_map (λ address. (address, item_bytes (items_on p.lists.opens handle guid))) (returned_block answer)
+lays p (call.LocateHandleBuffer search guid key) answer =
+    option_map (λ address. (address, handle_bytes (handles_of (found_handles p.lists search guid key)))) (returned_block answer)
+lays p (call.OpenProtocolInformation handle guid) answer =
+    option_map (λ address. (address, item_bytes (items_on p.lists.opens handle guid))) (returned_block answer)
 lays p c answer = None
 
 -- the block that a call gives back
@@ -174,48 +207,68 @@ laid_over (Some (address, bytes)) k old = laid address bytes k old
 -- what is at an address once the block at another is given back, if one is
 abbrev pub left_by : Option ℕ → List Extent → ℕ → Option ℕ
 left_by None es k = byte_at k es
-left_by (Some address) es k = cond (is_among address (bytes_left (tail_at address es)) k) None (byte_at k es)
+left_by (Some address) es k =
+    cond (is_among address (bytes_left (tail_at address es)) k) None (byte_at k es)
 
--- What is at an address after a call: what it lays there, and else what was there, but for a block
--- that it gives back.
+-- What is at an address after a call: what it lays there, and else what was there, but for a
+-- block that it gives back.
 abbrev pub byte_after : {A : Type 0} → Parts → Call A → Reply A → ℕ → Option ℕ
 byte_after p c answer k = laid_over (lays p c answer) k (left_by (gives_back c answer) p.pools k)
 
 -- So each call leaves the bytes of the pool.
 abbrev pub PoolBytesLaw : Type 0 → Type 0
-PoolBytesLaw A = (ds : List Meaning) (old : State) (c : Call A) (answer : Reply A) (new : State) → AreSound old.parts → Step ds old c answer new → (k : ℕ) → byte_at k new.parts.pools ≡ byte_after old.parts c answer k
+PoolBytesLaw A =
+    (ds : List Meaning) (old : State) (c : Call A) (answer : Reply A) (new : State)
+    → AreSound old.parts → Step ds old c answer new → (k : ℕ)
+    → byte_at k new.parts.pools ≡ byte_after old.parts c answer k
 
 -- A read that succeeds gives the bytes at its addresses.
 abbrev pub ReadBytesLaw : Type 0 → Type 0
-ReadBytesLaw A = (ds : List Meaning) (old : State) (address size : ℕ) (bytes : Vec ℕ A) (new : State) → AreSound old.parts → Step ds old (call.PoolRead address size) (reply.PoolRead Success bytes) new →
-    (length bytes.items ≡ size) × ((i : ℕ) → i < size → byte_at (address + i) old.parts.pools ≡ first_of (drop i bytes.items))
+ReadBytesLaw A =
+    (ds : List Meaning) (old : State) (address size : ℕ) (bytes : Vec ℕ A) (new : State)
+    → AreSound old.parts
+    → Step ds old (call.PoolRead address size) (reply.PoolRead Success bytes) new →
+    (length bytes.items ≡ size)
+    × ((i : ℕ) → i < size → byte_at (address + i) old.parts.pools ≡ first_of (drop i bytes.items))
 
 -- no call of the run changes what is at an address of the pool
-abbrev pub LeavesByte : {A : Type 0} (ds : List Meaning) (old : State) (calls : List (Call A)) (replies : List (Reply A)) (new : State) → CallRun ds old calls replies new → ℕ → Type 0
-LeavesByte ds old (c ∷ calls) (answer ∷ replies) new (next, step, run) k = (byte_after old.parts c answer k ≡ byte_at k old.parts.pools) × LeavesByte ds next calls replies new run k
+abbrev pub LeavesByte : {A : Type 0} (ds : List Meaning) (old : State) (calls : List (Call A)) (replies : List (Reply A)) (new : State)
+    → CallRun ds old calls replies new → ℕ → Type 0
+LeavesByte ds old (c ∷ calls) (answer ∷ replies) new (next, step, run) k =
+    (byte_after old.parts c answer k ≡ byte_at k old.parts.pools)
+    × LeavesByte ds next calls replies new run k
 LeavesByte ds old calls replies new run k = Unit {0}
 
 -- A read gives the bytes that were last laid at its addresses.
 abbrev pub LastBytesLaw : Type 0 → Type 0
-LastBytesLaw A = (ds : List Meaning) (first old : State) (c : Call A) (answer : Reply A) (address : ℕ) (bytes : List ℕ) (calls : List (Call A)) (replies : List (Reply A)) (new : State) (run : CallRun ds old calls replies new) (used : Vec ℕ A) (after : State) →
-    AreSound first.parts → Step ds first c answer old → lays first.parts c answer ≡ Some (address, bytes) → ((i : ℕ) → i < length bytes → LeavesByte ds old calls replies new run (address + i)) →
-    Step ds new (call.PoolRead address (length bytes)) (reply.PoolRead Success used) after → used.items ≡ bytes
+LastBytesLaw A =
+    (ds : List Meaning) (first old : State) (c : Call A) (answer : Reply A) (address : ℕ) (bytes : List ℕ) (calls : List (Call A)) (replies : List (Reply A)) (new : State) (run : CallRun ds old calls replies new) (used : Vec ℕ A) (after : State) →
+    AreSound first.parts → Step ds first c answer old
+    → lays first.parts c answer ≡ Some (address, bytes)
+    → ((i : ℕ) → i < length bytes → LeavesByte ds old calls replies new run (address + i)) →
+    Step ds new (call.PoolRead address (length bytes)) (reply.PoolRead Success used) after
+    → used.items ≡ bytes
 
 -- ---- certificates
 
 -- The certificate of a reply, where it has one, is accepted by the checker with the memory map
 -- before the call.
 abbrev pub IsAcceptedReply : {A : Type 0} → State → Call A → Reply A → Type 0
-IsAcceptedReply old c answer = IfSome (certified old.parts.book.granule c answer) (λ returned. IsAccepted (memory_map old.parts.book.memory) returned.0 returned.1)
+IsAcceptedReply old c answer =
+    IfSome (certified old.parts.book.granule c answer) (λ returned. IsAccepted (memory_map old.parts.book.memory) returned.0 returned.1)
 
 -- so is the certificate of each reply of the run
-abbrev pub AllAccepted : {A : Type 0} (ds : List Meaning) (old : State) (calls : List (Call A)) (replies : List (Reply A)) (new : State) → CallRun ds old calls replies new → Type 0
-AllAccepted ds old (c ∷ calls) (answer ∷ replies) new (next, step, run) = IsAcceptedReply old c answer × AllAccepted ds next calls replies new run
+abbrev pub AllAccepted : {A : Type 0} (ds : List Meaning) (old : State) (calls : List (Call A)) (replies : List (Reply A)) (new : State)
+    → CallRun ds old calls replies new → Type 0
+AllAccepted ds old (c ∷ calls) (answer ∷ replies) new (next, step, run) =
+    IsAcceptedReply old c answer × AllAccepted ds next calls replies new run
 AllAccepted ds old calls replies new run = Unit {0}
 
 -- On a valid machine the checker accepts each certificate of a run.
 abbrev pub AcceptanceLaw : Type 0 → Type 0
-AcceptanceLaw A = (ds : List Meaning) (machine : MachineValue) (calls : List (Call A)) (replies : List (Reply A)) (new : State) (run : CallRun ds (first_state machine) calls replies new) → IsMachine machine → AllAccepted ds (first_state machine) calls replies new run
+AcceptanceLaw A =
+    (ds : List Meaning) (certifies : Bool) (machine : MachineValue) (calls : List (Call A)) (replies : List (Reply A)) (new : State) (run : CallRun ds (first_state_with certifies machine) calls replies new)
+    → IsMachine machine → AllAccepted ds (first_state_with certifies machine) calls replies new run
 
 -- the pool has one extent more
 abbrev pub HasNewExtent : Parts → Parts → Type 0
@@ -224,24 +277,32 @@ HasNewExtent old new = length new.pools ≡ length old.pools + 1
 -- A call places pages by choice: AllocatePages that names no address, where it succeeds, and each
 -- call for a block of the pool, where the block is in a new extent.
 abbrev pub PlacesByChoice : {A : Type 0} → Parts → Call A → Reply A → Parts → Type 0
-PlacesByChoice old (call.AllocatePages kind t pages memory) (reply.AllocatePages (Ok placed)) new = kind < fixed_address
+PlacesByChoice old (call.AllocatePages kind t pages memory) (reply.AllocatePages (Ok placed)) new =
+    kind < fixed_address
 PlacesByChoice old (call.AllocatePool t size) answer new = HasNewExtent old new
 PlacesByChoice old (call.LocateHandleBuffer search guid key) answer new = HasNewExtent old new
 PlacesByChoice old (call.OpenProtocolInformation handle guid) answer new = HasNewExtent old new
 PlacesByChoice old c answer new = ⊥
 
--- The reply carries a certificate exactly where the call placed pages by choice, and then it says
--- which request that is for.
-pub record CertifiesChoice {A : Type 0} (old : State) (c : Call A) (answer : Reply A) (new : State) : Type 0 where
-  pub carried : (is_some (certificate_in answer) ≡ true) ↔ PlacesByChoice old.parts c answer new.parts
+-- The reply carries a certificate exactly where certificates are returned and the call placed pages
+-- by choice, and then it says which request that is for.
+pub record CertifiesChoice {A : Type 0} (certifies : Bool) (old : State) (c : Call A) (answer : Reply A) (new : State) : Type 0 where
+  pub carried : (is_some (certificate_in answer) ≡ true) ↔ ((certifies ≡ true) × PlacesByChoice old.parts c answer new.parts)
   pub requested : is_some (certified old.parts.book.granule c answer) ≡ is_some (certificate_in answer)
 
 -- so does each call of the run
-abbrev pub AllCertifyChoices : {A : Type 0} (ds : List Meaning) (old : State) (calls : List (Call A)) (replies : List (Reply A)) (new : State) → CallRun ds old calls replies new → Type 0
-AllCertifyChoices ds old (c ∷ calls) (answer ∷ replies) new (next, step, run) = CertifiesChoice old c answer next × AllCertifyChoices ds next calls replies new run
-AllCertifyChoices ds old calls replies new run = Unit {0}
+abbrev pub AllCertifyChoices : {A : Type 0} (certifies : Bool) (ds : List Meaning) (old : State) (calls : List (Call A)) (replies : List (Reply A)) (new : State)
+    → CallRun ds old calls replies new → Type 0
+AllCertifyChoices certifies ds old (c ∷ calls) (answer ∷ replies) new (next, step, run) =
+    CertifiesChoice certifies old c answer next
+    × AllCertifyChoices certifies ds next calls replies new run
+AllCertifyChoices certifies ds old calls replies new run = Unit {0}
 
--- On a valid machine the calls of a run that place pages by choice are exactly those whose replies
--- carry certificates.
+-- On a valid machine, where certificates are returned, the calls of a run that place pages by
+-- choice are exactly those whose replies carry certificates; where they are not, no reply carries
+-- one.
 abbrev pub CertificateLaw : Type 0 → Type 0
-CertificateLaw A = (ds : List Meaning) (machine : MachineValue) (calls : List (Call A)) (replies : List (Reply A)) (new : State) (run : CallRun ds (first_state machine) calls replies new) → IsMachine machine → AllCertifyChoices ds (first_state machine) calls replies new run
+CertificateLaw A =
+    (ds : List Meaning) (certifies : Bool) (machine : MachineValue) (calls : List (Call A)) (replies : List (Reply A)) (new : State)
+    (run : CallRun ds (first_state_with certifies machine) calls replies new) → IsMachine machine →
+    AllCertifyChoices certifies ds (first_state_with certifies machine) calls replies new run

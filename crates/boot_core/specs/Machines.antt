@@ -4,7 +4,7 @@ use Rattle.std.specs.List.{AllByRecursion}
 use Rattle.page_ranges.specs.Memory.{IsProperMemory}
 use Rattle.page_ranges.specs.Runs.{pages_of}
 use Rattle.boot_machines.specs.Machines.{MachineValue}
-use Rattle.page_services.specs.PageRules.{Book, IsInGranules, new_book}
+use Rattle.page_services.specs.PageRules.{Book, IsInGranules, certifying, new_book}
 use Rattle.pool_services.specs.Extents.{Extent, AreExtents}
 use Rattle.pool_services.specs.PoolRules.{OwnsExtents}
 use Rattle.protocol_services.specs.Lists.{Lists, most_given, no_lists}
@@ -26,9 +26,33 @@ pub record State : Type 0 where
 abbrev pub all_calls : ℕ
 all_calls = 0x80000000
 
--- the state of a machine before any call
+-- the state of a machine before any call, where certificates are returned
 abbrev pub first_state : MachineValue → State
-first_state machine = record { parts = record { book = new_book machine.granule (pages_of machine.runs); pools = []; lists = no_lists }; exited = false; calls_left = all_calls }
+first_state machine = record {
+  parts = record {
+    book = new_book machine.granule (pages_of machine.runs);
+    pools = [];
+    lists = no_lists;
+  };
+  exited = false;
+  calls_left = all_calls;
+}
+
+-- the same state, where certificates are returned or not
+abbrev pub certifying_state : Bool → State → State
+certifying_state certifies s = record {
+  parts = record {
+    book = certifying certifies s.parts.book;
+    pools = s.parts.pools;
+    lists = s.parts.lists;
+  };
+  exited = s.exited;
+  calls_left = s.calls_left;
+}
+
+-- the state of a machine before any call, where certificates are returned or not
+abbrev pub first_state_with : Bool → MachineValue → State
+first_state_with certifies machine = certifying_state certifies (first_state machine)
 
 -- What the calls so far can have brought: the key is one more than these at most, and numbers,
 -- stamps, registrations and the counts of open items follow them too.
@@ -39,7 +63,7 @@ pub record FollowsCalls (p : Parts) (calls_left : ℕ) : Type 0 where
   pub registrations : length p.lists.registrations + calls_left ≤ all_calls
   pub counts : AllByRecursion (λ o. o.count + calls_left ≤ all_calls) p.lists.opens
 
--- The memory is proper, what AllocatePages placed in it fills whole granules, the extents are
+-- The memory is proper, what AllocatePages placed in it fills whole granules, the extents stand
 -- apart, and the pages of the pool are theirs.
 pub record AreSound (p : Parts) : Type 0 where
   pub proper : IsProperMemory p.book.memory

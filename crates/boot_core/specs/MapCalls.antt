@@ -20,8 +20,9 @@ map_bytes b room = if nat_le (map_size b) room then records (memory_map b.memory
 abbrev pub room_for_map : Book → ℕ → ℕ
 room_for_map b room = if nat_le (map_size b) room then map_size b else 0
 
--- What is answered of a buffer of a size, with the bytes that are used of it. Memory for the core's
--- own buffer may run out where the map has entries and fits, and nowhere else.
+-- What is answered of a buffer of a size, with the bytes that are used of it. Memory for the
+-- core's own buffer may run out where the map has entries and fits, and nowhere else.
 abbrev pub AnswersMap : Book → ℕ → MapReply → List ℕ → Type 0
 AnswersMap b room returned bytes =
-    ((returned ≡ map_reply b room) × (bytes ≡ map_bytes b room)) ⊎ ((0 < map_size b) × (map_size b ≤ room) × (returned ≡ refused_map OutOfResources) × (bytes ≡ []))
+    ((returned ≡ map_reply b room) × (bytes ≡ map_bytes b room))
+    ⊎ ((0 < map_size b) × (map_size b ≤ room) × (returned ≡ refused_map OutOfResources) × (bytes ≡ []))

@@ -8,7 +8,10 @@ use Rattle.pool_services.specs.PoolRules.{IsInBlock}
 -- What is answered of a read of a number of bytes from an address on, with the bytes. Memory for
 -- the core's own buffer may run out where there are bytes to be read, and nowhere else.
 abbrev pub AnswersRead : List Extent → ℕ → ℕ → Status → List ℕ → Type 0
-AnswersRead es address size Success bytes = (whole : List ℕ) × (tail_at address es ≡ Some whole) × (size ≤ length whole) × (bytes ≡ take size whole)
+AnswersRead es address size Success bytes =
+    (whole : List ℕ) × (tail_at address es ≡ Some whole) × (size ≤ length whole)
+    × (bytes ≡ take size whole)
 AnswersRead es address size InvalidParameter bytes = (¬ IsInBlock address size es) × (bytes ≡ [])
-AnswersRead es address size OutOfResources bytes = (0 < size) × IsInBlock address size es × (bytes ≡ [])
+AnswersRead es address size OutOfResources bytes =
+    (0 < size) × IsInBlock address size es × (bytes ≡ [])
 AnswersRead es address size status bytes = ⊥

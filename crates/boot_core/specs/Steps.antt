@@ -69,16 +69,21 @@ WhileOpen true old new Rule Refusal = Refusal × (new ≡ old)
 WhileOpen false old new Rule Refusal = Rule
 
 -- what a service does whose reply carries a result
-abbrev pub Serves : {A R : Type 0} → Bool → Parts → Parts → Reply A → (Result R Status → Reply A) → (Result R Status → Type 0) → Type 0
-Serves {R = R} exited old new answer tell Rule = (result : Result R Status) × (answer ≡ tell result) × WhileOpen exited old new (Rule result) (result ≡ Err Unsupported)
+abbrev pub Serves : {A R : Type 0} → Bool → Parts → Parts → Reply A → (Result R Status → Reply A)
+    → (Result R Status → Type 0) → Type 0
+Serves {R = R} exited old new answer tell Rule =
+    (result : Result R Status) × (answer ≡ tell result)
+    × WhileOpen exited old new (Rule result) (result ≡ Err Unsupported)
 
 -- what a service does whose reply has a value and the bytes that are used of a buffer
-abbrev pub ServesBytes : {A T : Type 0} → Bool → Parts → Parts → Reply A → (T → Vec ℕ A → Reply A) → (T → List ℕ → Type 0) → T → Type 0
+abbrev pub ServesBytes : {A T : Type 0} → Bool → Parts → Parts → Reply A → (T → Vec ℕ A → Reply A)
+    → (T → List ℕ → Type 0) → T → Type 0
 ServesBytes {A = A} {T = T} exited old new answer tell Rule refused =
     (returned : T) × (bytes : Vec ℕ A) × (answer ≡ tell returned bytes) × WhileOpen exited old new (Rule returned bytes.items) ((returned ≡ refused) × (bytes.items ≡ []))
 
 -- what a search for handles does
-abbrev pub ServesSearch : {A : Type 0} → Bool → Parts → Parts → Reply A → (LocateReply A → Type 0) → Type 0
+abbrev pub ServesSearch : {A : Type 0} → Bool → Parts → Parts → Reply A → (LocateReply A → Type 0)
+    → Type 0
 ServesSearch {A = A} exited old new answer Rule =
     (returned : LocateReply A) × (answer ≡ reply.LocateHandle returned) × WhileOpen exited old new (Rule returned) ((returned.status ≡ Unsupported) × (returned.size ≡ 0) × (returned.handles.items ≡ []))
 
@@ -92,13 +97,20 @@ Exits current key (Err status) = ⊥
 
 -- what a call answers and how it leaves the parts
 abbrev pub Answers : {A : Type 0} → Setting → Bool → Parts → Call A → Reply A → Parts → Type 0
-Answers S exited old (call.AllocatePages kind t pages address) answer new = Serves exited old new answer reply.AllocatePages (λ result. OnBook (AllocatesPages S.chosen old.book kind t pages address result) old new)
-Answers S exited old (call.FreePages address pages) answer new = Serves exited old new answer reply.FreePages (λ result. OnBook (FreesPages old.book address pages result) old new)
-Answers S exited old (call.GetMemoryMap size) answer new = ServesBytes exited old new answer reply.GetMemoryMap (λ returned bytes. AnswersMap old.book size returned bytes × (new ≡ old)) (refused_map Unsupported)
-Answers S exited old (call.AllocatePool t size) answer new = Serves exited old new answer reply.AllocatePool (λ result. OnBookAndPools (AllocatesPool S.chosen old.book old.pools t size result) old new)
-Answers S exited old (call.FreePool address) answer new = Serves exited old new answer reply.FreePool (λ result. OnBookAndPools (FreesPool old.book old.pools address result) old new)
-Answers S exited old (call.PoolRead address size) answer new = ServesBytes exited old new answer reply.PoolRead (λ status bytes. AnswersRead old.pools address size status bytes × (new ≡ old)) Unsupported
-Answers S exited old (call.PoolWrite address bytes) answer new = Serves exited old new answer reply.PoolWrite (λ result. OnPools (WritesPool old.pools address bytes result) old new)
+Answers S exited old (call.AllocatePages kind t pages address) answer new =
+    Serves exited old new answer reply.AllocatePages (λ result. OnBook (AllocatesPages S.chosen old.book kind t pages address result) old new)
+Answers S exited old (call.FreePages address pages) answer new =
+    Serves exited old new answer reply.FreePages (λ result. OnBook (FreesPages old.book address pages result) old new)
+Answers S exited old (call.GetMemoryMap size) answer new =
+    ServesBytes exited old new answer reply.GetMemoryMap (λ returned bytes. AnswersMap old.book size returned bytes × (new ≡ old)) (refused_map Unsupported)
+Answers S exited old (call.AllocatePool t size) answer new =
+    Serves exited old new answer reply.AllocatePool (λ result. OnBookAndPools (AllocatesPool S.chosen old.book old.pools t size result) old new)
+Answers S exited old (call.FreePool address) answer new =
+    Serves exited old new answer reply.FreePool (λ result. OnBookAndPools (FreesPool old.book old.pools address result) old new)
+Answers S exited old (call.PoolRead address size) answer new =
+    ServesBytes exited old new answer reply.PoolRead (λ status bytes. AnswersRead old.pools address size status bytes × (new ≡ old)) Unsupported
+Answers S exited old (call.PoolWrite address bytes) answer new =
+    Serves exited old new answer reply.PoolWrite (λ result. OnPools (WritesPool old.pools address bytes result) old new)
 Answers S exited old (call.InstallProtocolInterface handle guid kind value) answer new =
     Serves exited old new answer reply.InstallProtocolInterface (λ result. OnLists (InstallsPairs old.lists handle ((guid, value) ∷ []) (install_refusal old.lists.handles handle guid kind) result) old new)
 Answers S exited old (call.InstallMultipleProtocolInterfaces handle pairs) answer new =
@@ -107,21 +119,32 @@ Answers S exited old (call.UninstallProtocolInterface handle guid value) answer 
     Serves exited old new answer reply.UninstallProtocolInterface (λ result. OnLists (Uninstalls S.drivers old.lists handle guid value result) old new)
 Answers S exited old (call.ReinstallProtocolInterface handle guid old_value new_value) answer new =
     Serves exited old new answer reply.ReinstallProtocolInterface (λ result. OnLists (Reinstalls S.drivers old.lists handle guid old_value new_value result) old new)
-Answers S exited old (call.RegisterProtocolNotify guid event) answer new = Serves exited old new answer reply.RegisterProtocolNotify (λ result. OnLists (Registers old.lists guid event result) old new)
-Answers S exited old (call.LocateHandle search guid key size) answer new = ServesSearch exited old new answer (λ returned. OnLists (LocatesHandles old.lists search guid key size returned) old new)
-Answers S exited old (call.LocateHandleBuffer search guid key) answer new = Serves exited old new answer reply.LocateHandleBuffer (λ result. LocatesBuffer S.chosen old search guid key result new)
-Answers S exited old (call.LocateProtocol guid key) answer new = Serves exited old new answer reply.LocateProtocol (λ result. OnLists (LocatesProtocol old.lists guid key result) old new)
-Answers S exited old (call.ProtocolsPerHandle handle) answer new = Serves exited old new answer reply.ProtocolsPerHandle (λ result. ReturnsProtocols old.lists handle result × (new ≡ old))
+Answers S exited old (call.RegisterProtocolNotify guid event) answer new =
+    Serves exited old new answer reply.RegisterProtocolNotify (λ result. OnLists (Registers old.lists guid event result) old new)
+Answers S exited old (call.LocateHandle search guid key size) answer new =
+    ServesSearch exited old new answer (λ returned. OnLists (LocatesHandles old.lists search guid key size returned) old new)
+Answers S exited old (call.LocateHandleBuffer search guid key) answer new =
+    Serves exited old new answer reply.LocateHandleBuffer (λ result. LocatesBuffer S.chosen old search guid key result new)
+Answers S exited old (call.LocateProtocol guid key) answer new =
+    Serves exited old new answer reply.LocateProtocol (λ result. OnLists (LocatesProtocol old.lists guid key result) old new)
+Answers S exited old (call.ProtocolsPerHandle handle) answer new =
+    Serves exited old new answer reply.ProtocolsPerHandle (λ result. ReturnsProtocols old.lists handle result × (new ≡ old))
 Answers S exited old (call.OpenProtocol handle guid agent controller attributes) answer new =
     Serves exited old new answer reply.OpenProtocol (λ result. OnLists (OpensProtocol S.drivers old.lists handle guid agent controller attributes result) old new)
-Answers S exited old (call.CloseProtocol handle guid agent controller) answer new = Serves exited old new answer reply.CloseProtocol (λ result. OnLists (Closes old.lists handle guid agent controller result) old new)
-Answers S exited old (call.OpenProtocolInformation handle guid) answer new = Serves exited old new answer reply.OpenProtocolInformation (λ result. ListsOpens S.chosen old handle guid result new)
-Answers S exited old (call.HandleProtocol handle guid) answer new = Serves exited old new answer reply.HandleProtocol (λ result. OnLists (HandlesProtocol old.lists handle guid result) old new)
+Answers S exited old (call.CloseProtocol handle guid agent controller) answer new =
+    Serves exited old new answer reply.CloseProtocol (λ result. OnLists (Closes old.lists handle guid agent controller result) old new)
+Answers S exited old (call.OpenProtocolInformation handle guid) answer new =
+    Serves exited old new answer reply.OpenProtocolInformation (λ result. ListsOpens S.chosen old handle guid result new)
+Answers S exited old (call.HandleProtocol handle guid) answer new =
+    Serves exited old new answer reply.HandleProtocol (λ result. OnLists (HandlesProtocol old.lists handle guid result) old new)
 Answers S exited old (call.ConnectController handle named recursive) answer new =
     Serves exited old new answer reply.ConnectController (λ result. OnLists (ConnectsController S.drivers old.lists handle named recursive result) old new)
-Answers S exited old (call.DisconnectController handle driver) answer new = Serves exited old new answer reply.DisconnectController (λ result. OnLists (DisconnectsController S.drivers old.lists handle driver result) old new)
-Answers S exited old (call.LocateDevicePath guid address) answer new = Serves exited old new answer reply.LocateDevicePath (λ result. (result ≡ located old.lists.handles old.pools guid address) × (new ≡ old))
-Answers S exited old (call.ExitBootServices key) answer new = Serves exited old new answer reply.ExitBootServices (λ result. Exits old.book.key key result × (new ≡ old))
+Answers S exited old (call.DisconnectController handle driver) answer new =
+    Serves exited old new answer reply.DisconnectController (λ result. OnLists (DisconnectsController S.drivers old.lists handle driver result) old new)
+Answers S exited old (call.LocateDevicePath guid address) answer new =
+    Serves exited old new answer reply.LocateDevicePath (λ result. (result ≡ located old.lists.handles old.pools guid address) × (new ≡ old))
+Answers S exited old (call.ExitBootServices key) answer new =
+    Serves exited old new answer reply.ExitBootServices (λ result. Exits old.book.key key result × (new ≡ old))
 
 -- whether the boot services have ended after a reply: they had, or it is that of an exit
 abbrev pub exited_after : {A : Type 0} → Bool → Reply A → Bool
@@ -163,11 +186,14 @@ pub record ReadStep (old : State) (address : ℕ) (buffer : List ℕ) (status : 
   pub calls_left : IsCounted old new
 
 -- the machine may go from one state to another by the calls, with these replies in order
-abbrev pub CallRunBy : {A : Type 0} → Setting → State → List (Call A) → List (Reply A) → State → Type 0
+abbrev pub CallRunBy : {A : Type 0} → Setting → State → List (Call A) → List (Reply A) → State
+    → Type 0
 CallRunBy S old [] [] new = new ≡ old
-CallRunBy S old (c ∷ calls) (answer ∷ replies) new = (next : State) × StepBy S old c answer next × CallRunBy S next calls replies new
+CallRunBy S old (c ∷ calls) (answer ∷ replies) new =
+    (next : State) × StepBy S old c answer next × CallRunBy S next calls replies new
 CallRunBy S old calls replies new = ⊥
 
 -- a run of calls in which each start is the best
-abbrev pub CallRun : {A : Type 0} → List Meaning → State → List (Call A) → List (Reply A) → State → Type 0
+abbrev pub CallRun : {A : Type 0} → List Meaning → State → List (Call A) → List (Reply A) → State
+    → Type 0
 CallRun ds old calls replies new = CallRunBy (best_starts ds) old calls replies new

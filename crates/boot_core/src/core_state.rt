@@ -5,7 +5,7 @@ ghost use Rattle.page_ranges.specs.MemoryMap.{memory_map};
 ghost use Rattle.protocol_services.specs.Driving.{HasRoomToConnect};
 ghost use Rattle.protocol_services.specs.Lists.{HasRoom};
 ghost use Rattle.protocol_services.specs.Removing.{HasRoomToReinstall};
-ghost use Rattle.boot_core.specs.Machines.{all_calls, first_state, FollowsCalls};
+ghost use Rattle.boot_core.specs.Machines.{all_calls, certifying_state, first_state, FollowsCalls};
 ghost use Rattle.boot_core.specs.Steps.{IsCounted, MapStep, ReadStep, Step, CallRun};
 
 use crate::map_buffers::{map_in_buffer, refused_map};
@@ -51,8 +51,8 @@ impl<D, A: Allocator> Model for Core<D, A> {
 }
 
 impl<D: Driver, A: Allocator + Copy> Core<D, A> {
-    /// The core of a machine, before any call. The value of a driver binding interface is the place of its
-    /// driver among the drivers.
+    /// The core of a machine, before any call; it returns certificates. The value of a driver binding
+    /// interface is the place of its driver among the drivers.
     pub fn new(alloc: A, machine: Machine<A>, drivers: Vec<D, A>) -> Result<Core<D, A>, AllocError>
         ensures { IfOk result (λ c. c ≡ record { state = first_state machine; drivers = drivers.items }) }
     {
@@ -65,6 +65,14 @@ impl<D: Driver, A: Allocator + Copy> Core<D, A> {
             exited: false,
             calls_left: CALLS,
         })
+    }
+
+    /// Returns a certificate with each place that it chooses from now on, or returns none. The places are
+    /// the same either way, and only a certificate takes memory.
+    pub fn certify(&mut self, certifies: bool)
+        ensures { self.new ≡ record { state = certifying_state certifies self.old.state; drivers = self.old.drivers } }
+    {
+        self.book.certify(certifies);
     }
 
     /// Leaves a number of calls and no more. It is for tests alone, of what comes after the last call.
@@ -103,7 +111,7 @@ impl<D: Driver, A: Allocator + Copy> Core<D, A> {
     /// AllocatePages: `pages` pages of the type `mtype`, anywhere (kind 0), up to the byte at the address
     /// `memory` (1), or at that address (2). For a type that fills granules they begin at a granule
     /// and are rounded up to whole ones. The reply has their address, and for kinds 0 and 1 the
-    /// certificate of their place.
+    /// certificate of their place, where the core returns certificates.
     ///
     /// INVALID_PARAMETER: another kind, a type that no request may name, or no pages. NOT_FOUND: the
     /// pages cannot be had at the address. OUT_OF_RESOURCES: no place of kind 0 or 1, or memory ran out.

@@ -93,8 +93,9 @@ pub fn acceptance_law<A: Allocator>()
     ensures { AcceptanceLaw A }
 {}
 
-/// On a valid machine a reply carries a certificate exactly where its call placed pages by choice: where
-/// AllocatePages that names no address succeeds, and where a block of the pool is in a new extent.
+/// On a valid machine a reply carries a certificate exactly where certificates are returned and its call
+/// placed pages by choice: where AllocatePages that names no address succeeds, and where a block of
+/// the pool is in a new extent.
 pub fn certificate_law<A: Allocator>()
     ensures { CertificateLaw A }
 {}

@@ -198,7 +198,7 @@ module _ {A : Type 0} (Chosen : Choice) (permits : Permits Chosen) where
   was_free b None t pages memory placed whole (free, at, rest) = subst (WasFree b t pages) (sym at) (free.1, free.2)
   was_free b (Some r) t pages memory placed whole (start, chosen, at) =
       let (limit, e) = whole r refl in
-      permitted_free b r t pages limit start placed.address e (permits b.memory r start placed.certificate chosen) at
+      permitted_free b r t pages limit start placed.address e (permits b r start placed.certificate chosen) at
 
   pub allocates_granules : (b new : Book) (kind t pages memory : ℕ) (result : Result (Placed A) Status) → AllocatesPages Chosen b kind t pages memory result new → IsInGranules b → IsInGranules new
   allocates_granules b new kind t pages memory (Ok placed) (valid, at, e) is =
@@ -215,7 +215,7 @@ module _ {A : Type 0} (Chosen : Choice) (permits : Permits Chosen) where
   pub places_granules : (b new : Book) (r : Request) (result : Result (Placed A) Status) → PlacesPages Chosen b r Pool result new → IsInGranules b → IsInGranules new
   places_granules b new r (Ok placed) ((start, chosen, at), e) is =
       let first : placed.address / page_size ≡ start = omega arith in
-      subst IsInGranules (sym e) (subst (λ n. IsInGranules (changed_book (record { first = n; pages = r.pages }) r.mtype Pool b)) (sym first) (placed_granules b r start (permits b.memory r start placed.certificate chosen) is))
+      subst IsInGranules (sym e) (subst (λ n. IsInGranules (changed_book (record { first = n; pages = r.pages }) r.mtype Pool b)) (sym first) (placed_granules b r start (permits b r start placed.certificate chosen) is))
   places_granules b new r (Err status.OutOfResources) e is = subst IsInGranules (sym e) is
   places_granules b new r (Err other) h is = absurd h
 

@@ -1,5 +1,5 @@
 -- The rules of AllocatePages, of FreePages and of the pool's pages on a memory.
-use Rattle.std.specs.Prelude.{◌≡◌, ℕ, ◌+◌, ◌-◌, ◌*◌, ◌<◌, ◌≤◌, ◌/◌, ◌%◌, ◌==◌, true, false, List, Option, Some, None, Result, Ok, Err, option_map, if◌then◌else◌}
+use Rattle.std.specs.Prelude.{◌≡◌, ℕ, ◌+◌, ◌-◌, ◌*◌, ◌<◌, ◌≤◌, ◌/◌, ◌%◌, ◌==◌, Bool, true, false, List, Option, Some, None, Result, Ok, Err, option_map, if◌then◌else◌}
 use Rattle.page_ranges.specs.declared.ranges.Owner.{Owner}
 use Rattle.page_ranges.specs.declared.ranges.Owner.TheVariants.{Given, Pages, Pool}
 use Rattle.page_ranges.specs.declared.ranges.PageRange.{PageRange}
@@ -13,16 +13,23 @@ use Rattle.placement_certificate.specs.Placement.{IsPermittedStart}
 use Rattle.placement_certificate.specs.Certificates.{CertificateValue, IsTrueCertificate}
 use Rattle.page_services.specs.declared.page_book.Placed.{Placed}
 
--- the memory, the map key, which is 1 at first and one more after each call that changed some
--- page's type, and the machine's granule
+-- the memory, the map key, which is 1 at first and one more after each call that changed the type
+-- of a page, the granule of the machine, and whether certificates are returned
 pub record Book : Type 0 where
   pub memory : List Page
   pub key : ℕ
   pub granule : ℕ
+  pub certifies : Bool
 
--- the book of a machine with a granule and a memory in which no type has changed
+-- the book of a machine with a granule and a memory in which no type has changed, which returns
+-- certificates
 abbrev pub new_book : ℕ → List Page → Book
-new_book granule m = record { memory = m; key = 1; granule = granule }
+new_book granule m = record { memory = m; key = 1; granule = granule; certifies = true }
+
+-- the same book, where certificates are returned or not
+abbrev pub certifying : Bool → Book → Book
+certifying certifies b =
+    record { memory = b.memory; key = b.key; granule = b.granule; certifies = certifies }
 
 -- the page was placed by AllocatePages with a type that fills granules
 abbrev pub IsInGranule : Option Page → Type 0
@@ -31,7 +38,8 @@ IsInGranule (Some x) = (x.owner ≡ Pages) × (is_granular x.mtype ≡ true)
 
 -- Where one page of a granule was so placed, all of its pages were.
 abbrev pub HasWholeGranules : ℕ → List Page → Type 0
-HasWholeGranules granule m = (k j : ℕ) → k / granule ≡ j / granule → IsInGranule (page_at m k) → IsInGranule (page_at m j)
+HasWholeGranules granule m =
+    (k j : ℕ) → k / granule ≡ j / granule → IsInGranule (page_at m k) → IsInGranule (page_at m j)
 
 -- the book's granule is one that a machine may have, and the pages so placed fill whole granules
 pub record IsInGranules (b : Book) : Type 0 where
@@ -47,7 +55,12 @@ IsAligned address = address % page_size ≡ 0
 
 -- the book after a call that gave the pages of a range another type
 abbrev pub changed_book : PageRange → ℕ → Owner → Book → Book
-changed_book range t o b = record { memory = retyped range t o b.memory; key = b.key + 1; granule = b.granule }
+changed_book range t o b = record {
+  memory = retyped range t o b.memory;
+  key = b.key + 1;
+  granule = b.granule;
+  certifies = b.certifies;
+}
 
 -- ---- requests
 
@@ -58,7 +71,8 @@ whole_pages granule t pages = rounded pages (granule_for t granule)
 -- the request on a machine with a granule for a number of pages of a type, up to a limit: its pages
 -- fill granules of the type
 abbrev pub whole_request : ℕ → ℕ → ℕ → ℕ → Request
-whole_request granule t pages limit = record { mtype = t; pages = whole_pages granule t pages; limit = limit; granule = granule_for t granule }
+whole_request granule t pages limit =
+    record { mtype = t; pages = whole_pages granule t pages; limit = limit; granule = granule_for t granule }
 
 -- a request, if the number of its pages has at most 64 bits: no memory has more
 abbrev pub if_counted : Request → Option Request
@@ -66,29 +80,35 @@ if_counted r = option_map (λ n. r) (if_64_bits r.pages)
 
 -- ---- how a start is chosen
 
--- what is said of a memory, a request, the start that was chosen for it and the certificate that
--- came with it
+-- what is said of a book, a request, the start that is chosen for it and the certificate that is
+-- returned with it
 abbrev pub Choice : Type 1
-Choice = List Page → Request → ℕ → Option CertificateValue → Type 0
+Choice = Book → Request → ℕ → Option CertificateValue → Type 0
 
 -- any permitted start
 abbrev pub IsAnyStart : Choice
-IsAnyStart m r p certificate = IsPermittedStart m r p
+IsAnyStart b r p returned = IsPermittedStart b.memory r p
 
--- the best start, with the true certificate
+-- the best start, which is the answer of the true certificate; that is returned with it where the
+-- book returns certificates
 abbrev pub IsBestChoice : Choice
-IsBestChoice m r p None = ⊥
-IsBestChoice m r p (Some c) = IsTrueCertificate m r c × (c.answer ≡ p)
+IsBestChoice b r p returned =
+    (c : CertificateValue) × IsTrueCertificate b.memory r c × (c.answer ≡ p)
+    × (returned ≡ (if b.certifies then Some c else None))
 
 -- The pages were placed at a start that was chosen for a request.
-abbrev pub IsChosenPlace : {A : Type 0} → Choice → List Page → Request → Placed A → Type 0
-IsChosenPlace Chosen m r placed = (start : ℕ) × Chosen m r start placed.certificate × (placed.address ≡ start * page_size)
+abbrev pub IsChosenPlace : {A : Type 0} → Choice → Book → Request → Placed A → Type 0
+IsChosenPlace Chosen b r placed =
+    (start : ℕ) × Chosen b r start placed.certificate × (placed.address ≡ start * page_size)
 
 -- What is answered where pages of an owner are placed for a request, and the book after it: they
--- lie at a start that was chosen, with the type of the request and the owner. OUT_OF_RESOURCES,
+-- stand at a start that was chosen, with the type of the request and the owner. OUT_OF_RESOURCES,
 -- which leaves the book, means that memory ran out or that no start is permitted.
-abbrev pub PlacesPages : {A : Type 0} → Choice → Book → Request → Owner → Result (Placed A) Status → Book → Type 0
-PlacesPages Chosen b r o (Ok placed) new = IsChosenPlace Chosen b.memory r placed × (new ≡ changed_book (range_from placed.address r.pages) r.mtype o b)
+abbrev pub PlacesPages : {A : Type 0} → Choice → Book → Request → Owner → Result (Placed A) Status
+    → Book → Type 0
+PlacesPages Chosen b r o (Ok placed) new =
+    IsChosenPlace Chosen b r placed
+    × (new ≡ changed_book (range_from placed.address r.pages) r.mtype o b)
 PlacesPages Chosen b r o (Err OutOfResources) new = new ≡ b
 PlacesPages Chosen b r o (Err status) new = ⊥
 
@@ -121,29 +141,39 @@ placement_request granule kind t pages memory =
 -- of the type, and the pages are conventional, with those that fill the last granule.
 abbrev pub IsFree : Book → ℕ → ℕ → ℕ → Type 0
 IsFree b t pages address =
-    IsAligned address × ((address / page_size) % granule_for t b.granule ≡ 0) × AllInRange b.memory (range_from address (whole_pages b.granule t pages)) IsConventional
+    IsAligned address × ((address / page_size) % granule_for t b.granule ≡ 0)
+    × AllInRange b.memory (range_from address (whole_pages b.granule t pages)) IsConventional
 
 -- Where the pages were placed: at the start that was chosen for the request, or else at the address
 -- that the call names.
 abbrev pub IsPlaced : {A : Type 0} → Choice → Book → Option Request → ℕ → ℕ → ℕ → Placed A → Type 0
-IsPlaced Chosen b (Some r) t pages memory placed = IsChosenPlace Chosen b.memory r placed
-IsPlaced Chosen b None t pages memory placed = IsFree b t pages memory × (placed.address ≡ memory) × (placed.certificate ≡ None)
+IsPlaced Chosen b (Some r) t pages memory placed = IsChosenPlace Chosen b r placed
+IsPlaced Chosen b None t pages memory placed =
+    IsFree b t pages memory × (placed.address ≡ memory) × (placed.certificate ≡ None)
 
 -- What AllocatePages answers, and the book after it. A refusal leaves the book. OUT_OF_RESOURCES
 -- means that memory ran out, and for the kinds that name no address also that no start is
 -- permitted.
-abbrev pub AllocatesPages : {A : Type 0} → Choice → Book → ℕ → ℕ → ℕ → ℕ → Result (Placed A) Status → Book → Type 0
-AllocatesPages Chosen b kind t pages memory (Ok placed) new = IsValidRequest kind t pages × IsPlaced Chosen b (placement_request b.granule kind t pages memory) t pages memory placed × (new ≡ changed_book (range_from placed.address (whole_pages b.granule t pages)) t Pages b)
-AllocatesPages Chosen b kind t pages memory (Err InvalidParameter) new = (¬ IsValidRequest kind t pages) × (new ≡ b)
-AllocatesPages Chosen b kind t pages memory (Err NotFound) new = IsValidRequest kind t pages × (kind ≡ fixed_address) × (¬ IsFree b t pages memory) × (new ≡ b)
-AllocatesPages Chosen b kind t pages memory (Err OutOfResources) new = IsValidRequest kind t pages × (kind ≡ fixed_address → IsFree b t pages memory) × (new ≡ b)
+abbrev pub AllocatesPages : {A : Type 0} → Choice → Book → ℕ → ℕ → ℕ → ℕ → Result (Placed A) Status
+    → Book → Type 0
+AllocatesPages Chosen b kind t pages memory (Ok placed) new =
+    IsValidRequest kind t pages
+    × IsPlaced Chosen b (placement_request b.granule kind t pages memory) t pages memory placed
+    × (new ≡ changed_book (range_from placed.address (whole_pages b.granule t pages)) t Pages b)
+AllocatesPages Chosen b kind t pages memory (Err InvalidParameter) new =
+    (¬ IsValidRequest kind t pages) × (new ≡ b)
+AllocatesPages Chosen b kind t pages memory (Err NotFound) new =
+    IsValidRequest kind t pages × (kind ≡ fixed_address) × (¬ IsFree b t pages memory) × (new ≡ b)
+AllocatesPages Chosen b kind t pages memory (Err OutOfResources) new =
+    IsValidRequest kind t pages × (kind ≡ fixed_address → IsFree b t pages memory) × (new ≡ b)
 AllocatesPages Chosen b kind t pages memory (Err status) new = ⊥
 
 -- ---- FreePages
 
 -- A range that a memory may have: aligned, not empty, and not past the last page.
 abbrev pub IsValidRange : ℕ → ℕ → Type 0
-IsValidRange address pages = IsAligned address × (0 < pages) × (address / page_size + pages ≤ page_count)
+IsValidRange address pages =
+    IsAligned address × (0 < pages) × (address / page_size + pages ≤ page_count)
 
 -- each page of the range was placed by AllocatePages
 abbrev pub IsAllocated : List Page → ℕ → ℕ → Type 0
@@ -161,15 +191,20 @@ abbrev pub freed_range : Book → ℕ → ℕ → PageRange
 freed_range b address pages =
     let named = address / page_size in
     let first = named - named % granule_of b.granule (page_at b.memory named) in
-    let end = rounded (named + pages) (granule_of b.granule (page_below b.memory (named + pages))) in
+    let end =
+    rounded (named + pages) (granule_of b.granule (page_below b.memory (named + pages))) in
     record { first = first; pages = end - first }
 
 -- what FreePages answers, and the book after it; a refusal leaves the book
 abbrev pub FreesPages : Book → ℕ → ℕ → Result (Unit {0}) Status → Book → Type 0
-FreesPages b address pages (Ok done) new = IsValidRange address pages × IsAllocated b.memory address pages × (new ≡ changed_book (freed_range b address pages) conventional Given b)
+FreesPages b address pages (Ok done) new =
+    IsValidRange address pages × IsAllocated b.memory address pages
+    × (new ≡ changed_book (freed_range b address pages) conventional Given b)
 FreesPages b address pages (Err InvalidParameter) new = (¬ IsValidRange address pages) × (new ≡ b)
-FreesPages b address pages (Err NotFound) new = IsValidRange address pages × (¬ IsAllocated b.memory address pages) × (new ≡ b)
-FreesPages b address pages (Err OutOfResources) new = IsValidRange address pages × IsAllocated b.memory address pages × (new ≡ b)
+FreesPages b address pages (Err NotFound) new =
+    IsValidRange address pages × (¬ IsAllocated b.memory address pages) × (new ≡ b)
+FreesPages b address pages (Err OutOfResources) new =
+    IsValidRange address pages × IsAllocated b.memory address pages × (new ≡ b)
 FreesPages b address pages (Err status) new = ⊥
 
 -- ---- the pages of the pool
@@ -180,8 +215,10 @@ pool_request granule t pages = whole_request granule t pages page_count
 
 -- what the pool is answered that takes pages, and the book after it: they are placed with the owner
 -- Pool
-abbrev pub TakesForPool : {A : Type 0} → Choice → Book → ℕ → ℕ → Result (Placed A) Status → Book → Type 0
-TakesForPool Chosen b t pages result new = PlacesPages Chosen b (pool_request b.granule t pages) Pool result new
+abbrev pub TakesForPool : {A : Type 0} → Choice → Book → ℕ → ℕ → Result (Placed A) Status → Book
+    → Type 0
+TakesForPool Chosen b t pages result new =
+    PlacesPages Chosen b (pool_request b.granule t pages) Pool result new
 
 -- the book after the pool gave a range back: its pages are conventional; of no pages no type
 -- changes, and the key stays

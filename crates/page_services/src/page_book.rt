@@ -1,11 +1,11 @@
 //! The book of a machine's pages.
-ghost use Rattle.std.specs.Prelude.{◌≡◌, false, ◌+◌, ◌*◌, ◌<◌, ◌≤◌, ◌^◌, MatchResult, Err, option_and_then};
+ghost use Rattle.std.specs.Prelude.{◌≡◌, false, ◌+◌, ◌*◌, ◌<◌, ◌≤◌, ◌^◌, IfSome, MatchResult, Err, option_and_then};
 ghost use Rattle.page_ranges.specs.declared.ranges.Owner.TheVariants.{Given, Pool};
 ghost use Rattle.page_ranges.specs.MemoryTypes.{conventional, is_bad_type, page_count, page_size};
 ghost use Rattle.page_ranges.specs.Memory.{page_at, IsPresent, IsOwnedBy, AllInRange};
 ghost use Rattle.page_ranges.specs.Granules.{IsGranule, granule_for};
 ghost use Rattle.placement_certificate.specs.Placement.{IsProperRequest};
-ghost use Rattle.page_services.specs.PageRules.{AllocatesPages, IsBestChoice, PlacesPages, FreesPages, HasWholeGranules, IsInGranules, TakesForPool, GivesFromPool, changed_book, fixed_address, freed_range, granule_of, if_counted, new_book, placement_request, pool_request, whole_pages, whole_request};
+ghost use Rattle.page_services.specs.PageRules.{AllocatesPages, IsBestChoice, PlacesPages, FreesPages, HasWholeGranules, IsInGranules, TakesForPool, GivesFromPool, certifying, changed_book, fixed_address, freed_range, granule_of, if_counted, new_book, placement_request, pool_request, whole_pages, whole_request};
 
 use descriptor_table::RunTable;
 use page_ranges::{
@@ -13,7 +13,7 @@ use page_ranges::{
     type_for_alloc,
 };
 use placement_certificate::{Certificate, Request};
-use placement_chooser::choose;
+use placement_chooser::{best_start, choose};
 use std::alloc::{Allocator, Global};
 use std::marker::Model;
 
@@ -76,16 +76,18 @@ pub fn pool_request(granule: u64, mtype: MemoryType, pages: u64) -> Option<Reque
 pub struct Placed<A: Allocator = Global> {
     /// The address of the first page.
     pub address: u64,
-    /// Why it is the best start, where the service chose it.
+    /// Why it is the best start, where the book chose it and returns certificates.
     pub certificate: Option<Certificate<A>>,
 }
 
-/// The memory of a machine, how often the type of a page has changed in it, and the machine's granule.
+/// The memory of a machine, how often the type of a page has changed in it, the machine's granule, and
+/// whether certificates are returned.
 #[derive(Drop)]
 pub struct PageBook<A: Allocator = Global> {
     table: RunTable<A>,
     key: u64,
     granule: u64,
+    certifies: bool,
 }
 
 impl<A: Allocator> Model for PageBook<A> {
@@ -93,15 +95,15 @@ impl<A: Allocator> Model for PageBook<A> {
 
     ghost Value = { Book };
 
-    ghost view = { λ b. record { memory = b.table; key = b.key; granule = b.granule } };
+    ghost view = { λ b. record { memory = b.table; key = b.key; granule = b.granule; certifies = b.certifies } };
 
-    ghost invariant = { λ b. IsInGranules (record { memory = b.table; key = b.key; granule = b.granule }) };
+    ghost invariant = { λ b. IsInGranules (record { memory = b.table; key = b.key; granule = b.granule; certifies = b.certifies }) };
 }
 
 impl<A: Allocator + Copy> PageBook<A> {
     /// The book of a machine with a granule of 1 or 16 pages, and a memory in which no type has
-    /// changed. Where a page of a granule was placed by AllocatePages with a type that fills
-    /// granules, all pages of the granule were.
+    /// changed. It returns certificates. Where a page of a granule was placed by AllocatePages with a
+    /// type that fills granules, all pages of the granule were.
     pub fn new(table: RunTable<A>, granule: u64) -> PageBook<A>
         requires granule { IsGranule granule }
         requires whole { HasWholeGranules granule table }
@@ -111,14 +113,23 @@ impl<A: Allocator + Copy> PageBook<A> {
             table,
             key: 1,
             granule,
+            certifies: true,
         }
+    }
+
+    /// Returns a certificate with each place that it chooses from now on, or returns none. A place is the
+    /// same either way, and only a certificate takes memory.
+    pub fn certify(&mut self, certifies: bool)
+        ensures { self.new ≡ certifying certifies self.old }
+    {
+        self.certifies = certifies;
     }
 
     /// AllocatePages of the kind `kind`, for the type `mtype`, of a number of `pages`: anywhere (0), up to
     /// the byte at the address `memory` (1), or at that address (2). A type that fills granules
     /// is given whole granules: the pages are rounded up to them, and start where one starts. Of the
     /// places that kinds 0 and 1 permit it takes the highest after which the memory map has the
-    /// fewest entries, and answers a certificate of that.
+    /// fewest entries, with a certificate of that where certificates are returned.
     ///
     /// INVALID_PARAMETER: another kind, a type that no request may name, or no pages. NOT_FOUND: an
     /// address that is not that of a page, or of a granule where the type fills granules, or a
@@ -187,10 +198,9 @@ impl<A: Allocator + Copy> PageBook<A> {
         requires granule { request.granule ≡ granule_for request.mtype self.old.granule }
         ensures { PlacesPages IsBestChoice self.old request owner result self.new }
     {
-        let Ok(Some(certificate)) = choose(self.table.allocator(), &self.table, &request) else {
+        let Some((first, certificate)) = self.best_place(&request) else {
             return Err(Status::OutOfResources);
         };
-        let first = certificate.answer;
         let range = PageRange {
             first,
             pages: request.pages,
@@ -198,8 +208,23 @@ impl<A: Allocator + Copy> PageBook<A> {
         self.change(range, request.mtype, owner)?;
         Ok(Placed {
             address: first * PAGE_SIZE,
-            certificate: Some(certificate),
+            certificate,
         })
+    }
+
+    // The best start for a request, and its certificate where certificates are returned. None where
+    // no start is permitted, or where memory ran out for a certificate.
+    fn best_place(&self, request: &Request) -> Option<(u64, Option<Certificate<A>>)>
+        requires { IsProperRequest request.now }
+        ensures { IfSome result (λ best. IsBestChoice self.now request.now best.0 best.1) }
+    {
+        if !self.certifies {
+            return Some((best_start(&self.table, request)?, None));
+        }
+        let Ok(Some(certificate)) = choose(self.table.allocator(), &self.table, request) else {
+            return None;
+        };
+        Some((certificate.answer, Some(certificate)))
     }
 
     /// FreePages of `pages` pages from the address `memory` on: they are conventional again, and at
@@ -257,7 +282,7 @@ impl<A: Allocator + Copy> PageBook<A> {
     }
 
     /// Pages of the type `mtype` for the pool: `pages` of them, rounded up to whole granules of the
-    /// type, at the best place of all, with a certificate of that.
+    /// type, at the best place of all, with a certificate of that where certificates are returned.
     ///
     /// OUT_OF_RESOURCES: no place is permitted, or memory ran out. The book is then as it was.
     pub fn take_for_pool(&mut self, mtype: MemoryType, pages: u64) -> Result<Placed<A>, Status>

@@ -46,14 +46,14 @@ same-pages granule kind t pages memory r e = elim (cases_Bool (kind == any_pages
   ]
 ]
 
-chosen-free : {A : Type 0} (Chosen : Choice) → Permits Chosen → (m : List Page) (r : Request) (placed : Placed A) → IsChosenPlace Chosen m r placed → AllInRange m (range_from placed.address r.pages) IsConventional
-chosen-free Chosen permits m r placed (start, c, a) =
+chosen-free : {A : Type 0} (Chosen : Choice) → Permits Chosen → (b : Book) (r : Request) (placed : Placed A) → IsChosenPlace Chosen b r placed → AllInRange b.memory (range_from placed.address r.pages) IsConventional
+chosen-free Chosen permits b r placed (start, c, a) =
     let s : start ≡ placed.address / page_size = omega (arith, a) in
-    subst (λ (n : ℕ). AllInRange m (record { first = n; pages = r.pages }) IsConventional) s (permits m r start placed.certificate c).conventional
+    subst (λ (n : ℕ). AllInRange b.memory (record { first = n; pages = r.pages }) IsConventional) s (permits b r start placed.certificate c).conventional
 
 placed-free : {A : Type 0} (Chosen : Choice) → Permits Chosen → (b : Book) (o : Option Request) (t pages memory : ℕ) (placed : Placed A) → ((r : Request) → o ≡ Some r → r.pages ≡ whole_pages b.granule t pages) → IsPlaced Chosen b o t pages memory placed →
     AllInRange b.memory (range_from placed.address (whole_pages b.granule t pages)) IsConventional
-placed-free Chosen permits b (Some r) t pages memory placed same h = subst (λ (n : ℕ). AllInRange b.memory (range_from placed.address n) IsConventional) (same r refl) (chosen-free Chosen permits b.memory r placed h)
+placed-free Chosen permits b (Some r) t pages memory placed same h = subst (λ (n : ℕ). AllInRange b.memory (range_from placed.address n) IsConventional) (same r refl) (chosen-free Chosen permits b r placed h)
 placed-free Chosen permits b None t pages memory placed same (f, a, n) = subst (λ (at : ℕ). AllInRange b.memory (range_from at (whole_pages b.granule t pages)) IsConventional) (sym a) f.2
 
 pub placed-keeps : {A : Type 0} (Chosen : Choice) → Permits Chosen → (b : Book) (es : List Extent) (kind t pages memory : ℕ) (result : Result (Placed A) Status) (new : Book) →

@@ -65,16 +65,16 @@ whole : (start : ℕ) → (start * page_size) / page_size ≡ start
 whole start = omega arith
 
 -- the page of the address that was answered is the start that was chosen
-pub is-start : {A : Type 0} (b : Book) (t pages : ℕ) (placed : Placed A) → IsChosenPlace IsBestChoice b.memory (pool_request b.granule t pages) placed →
-    IsBestChoice b.memory (pool_request b.granule t pages) (placed.address / page_size) placed.certificate × (placed.address ≡ (placed.address / page_size) * page_size)
+pub is-start : {A : Type 0} (b : Book) (t pages : ℕ) (placed : Placed A) → IsChosenPlace IsBestChoice b (pool_request b.granule t pages) placed →
+    IsBestChoice b (pool_request b.granule t pages) (placed.address / page_size) placed.certificate × (placed.address ≡ (placed.address / page_size) * page_size)
 is-start b t pages placed (start, c, a) =
     let w : placed.address / page_size ≡ start = ap (λ (n : ℕ). n / page_size) a ∙ whole start in
-    (subst (λ (n : ℕ). IsBestChoice b.memory (pool_request b.granule t pages) n placed.certificate) (sym w) c, a ∙ ap (λ (n : ℕ). n * page_size) (sym w))
+    (subst (λ (n : ℕ). IsBestChoice b (pool_request b.granule t pages) n placed.certificate) (sym w) c, a ∙ ap (λ (n : ℕ). n * page_size) (sym w))
 
-pub is-new-extent : (Chosen : Choice) → Permits Chosen → (b : Book) (t size first : ℕ) (c : Option CertificateValue) → IsGranule b.granule → size ≤ max_size → Chosen b.memory (pool_request b.granule t (pages_for size)) first c →
+pub is-new-extent : (Chosen : Choice) → Permits Chosen → (b : Book) (t size first : ℕ) (c : Option CertificateValue) → IsGranule b.granule → size ≤ max_size → Chosen b (pool_request b.granule t (pages_for size)) first c →
     IsExtent (new_extent b.granule first t size) × AllInRange b.memory (range_of (new_extent b.granule first t size)) IsConventional
 is-new-extent Chosen permits b t size first c g s h =
-    let p = permits b.memory (pool_request b.granule t (pages_for size)) first c h in
+    let p = permits b (pool_request b.granule t (pages_for size)) first c h in
     (is-new b.granule first t size g s p.within, p.conventional)
 
 -- ---- what is known once the pages are taken and the extent is among the others
@@ -85,19 +85,19 @@ extent_at b t size placed = new_extent b.granule (placed.address / page_size) t 
 
 -- the best start for a new extent of a type, which is the page of the address that was answered
 abbrev Started : {A : Type 0} → Book → ℕ → ℕ → Placed A → Type 0
-Started b t size placed = IsBestChoice b.memory (pool_request b.granule t (pages_for size)) (placed.address / page_size) placed.certificate × (placed.address ≡ (placed.address / page_size) * page_size)
+Started b t size placed = IsBestChoice b (pool_request b.granule t (pages_for size)) (placed.address / page_size) placed.certificate × (placed.address ≡ (placed.address / page_size) * page_size)
 
-started : {A : Type 0} (b : Book) (t size pages : ℕ) (placed : Placed A) → pages ≡ pages_for size → IsChosenPlace IsBestChoice b.memory (pool_request b.granule t pages) placed → Started b t size placed
-started b t size pages placed p h = subst (λ (n : ℕ). IsBestChoice b.memory (pool_request b.granule t n) (placed.address / page_size) placed.certificate × (placed.address ≡ (placed.address / page_size) * page_size)) p (is-start b t pages placed h)
+started : {A : Type 0} (b : Book) (t size pages : ℕ) (placed : Placed A) → pages ≡ pages_for size → IsChosenPlace IsBestChoice b (pool_request b.granule t pages) placed → Started b t size placed
+started b t size pages placed p h = subst (λ (n : ℕ). IsBestChoice b (pool_request b.granule t n) (placed.address / page_size) placed.certificate × (placed.address ≡ (placed.address / page_size) * page_size)) p (is-start b t pages placed h)
 
-pub is-made : {A : Type 0} (b : Book) (e : Extent) (t size pages : ℕ) (placed : Placed A) → IsGranule b.granule → size ≤ max_size → pages ≡ pages_for size → IsChosenPlace IsBestChoice b.memory (pool_request b.granule t pages) placed → e ≡ extent_at b t size placed → IsExtent e
+pub is-made : {A : Type 0} (b : Book) (e : Extent) (t size pages : ℕ) (placed : Placed A) → IsGranule b.granule → size ≤ max_size → pages ≡ pages_for size → IsChosenPlace IsBestChoice b (pool_request b.granule t pages) placed → e ≡ extent_at b t size placed → IsExtent e
 is-made b e t size pages placed g s p h n =
     let c = started b t size pages placed p h in
     subst IsExtent (sym n) (is-new-extent IsBestChoice best_is_permitted b t size (placed.address / page_size) placed.certificate g s c.0).0
 
 -- the extents, with the new one, are apart
 pub is-new-extents : {A : Type 0} (b : Book) (es had new : List Extent) (e : Extent) (t size pages : ℕ) (placed : Placed A) → IsGranule b.granule → size ≤ max_size → pages ≡ pages_for size → AreExtents es → OwnsExtents b.memory es → IsProperMemory b.memory →
-    IsChosenPlace IsBestChoice b.memory (pool_request b.granule t pages) placed → had ≡ es → e ≡ extent_at b t size placed → new ≡ with_extent e had → AreExtents new
+    IsChosenPlace IsBestChoice b (pool_request b.granule t pages) placed → had ≡ es → e ≡ extent_at b t size placed → new ≡ with_extent e had → AreExtents new
 is-new-extents b es had new e t size pages placed g s p a owns proper h k n w =
     let c = started b t size pages placed p h in
     let x = is-new-extent IsBestChoice best_is_permitted b t size (placed.address / page_size) placed.certificate g s c.0 in
@@ -111,7 +111,7 @@ taken-book b new_b t size pages placed p f = f ∙ ap (λ (z : ℕ). changed_boo
 
 -- the pages of the pool are those of the extents, with the new one
 pub owns-new : {A : Type 0} (b new_b : Book) (es had new : List Extent) (e : Extent) (t size pages : ℕ) (placed : Placed A) → IsGranule b.granule → size ≤ max_size → pages ≡ pages_for size → OwnsExtents b.memory es → IsProperMemory b.memory →
-    IsChosenPlace IsBestChoice b.memory (pool_request b.granule t pages) placed → new_b ≡ changed_book (range_from placed.address (pool_request b.granule t pages).pages) t Pool b → had ≡ es → e ≡ extent_at b t size placed → new ≡ with_extent e had →
+    IsChosenPlace IsBestChoice b (pool_request b.granule t pages) placed → new_b ≡ changed_book (range_from placed.address (pool_request b.granule t pages).pages) t Pool b → had ≡ es → e ≡ extent_at b t size placed → new ≡ with_extent e had →
     OwnsExtents new_b.memory new
 owns-new b new_b es had new e t size pages placed g s p owns proper h f k n w =
     let c = started b t size pages placed p h in
@@ -125,7 +125,7 @@ at-start address start a = omega (arith, a)
 
 -- the block was put into a new extent
 pub is-put : {A : Type 0} (b new_b : Book) (es had new : List Extent) (e : Extent) (t size pages : ℕ) (placed : Placed A) → pages ≡ pages_for size → first_fit t size es ≡ None →
-    IsChosenPlace IsBestChoice b.memory (pool_request b.granule t pages) placed → new_b ≡ changed_book (range_from placed.address (pool_request b.granule t pages).pages) t Pool b → had ≡ es → e ≡ extent_at b t size placed → new ≡ with_extent e had →
+    IsChosenPlace IsBestChoice b (pool_request b.granule t pages) placed → new_b ≡ changed_book (range_from placed.address (pool_request b.granule t pages).pages) t Pool b → had ≡ es → e ≡ extent_at b t size placed → new ≡ with_extent e had →
     IsPut IsBestChoice (first_fit t size es) b es t size (placed.address + 8, placed.certificate) new_b new
 is-put b new_b es had new e t size pages placed p none h f k n w =
     let c = started b t size pages placed p h in

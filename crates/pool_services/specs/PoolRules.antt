@@ -49,7 +49,7 @@ IsPutAt p b es size answer new_b new_es = (answer.0 ≡ address_of p.first p.cel
 -- start that was chosen.
 abbrev pub IsPutInNew : Choice → Book → List Extent → ℕ → ℕ → Answer → Book → List Extent → Type 0
 IsPutInNew Chosen b es t size answer new_b new_es =
-    (start : ℕ) × Chosen b.memory (pool_request b.granule t (pages_for size)) start answer.1 × (answer.0 ≡ address_of start 0)
+    (start : ℕ) × Chosen b (pool_request b.granule t (pages_for size)) start answer.1 × (answer.0 ≡ address_of start 0)
     × (new_b ≡ changed_book (record { first = start; pages = extent_pages b.granule t size }) t Pool b) × (new_es ≡ with_extent (new_extent b.granule start t size) es)
 
 abbrev pub IsPut : Choice → Option Place → Book → List Extent → ℕ → ℕ → Answer → Book → List Extent → Type 0

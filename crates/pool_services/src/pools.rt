@@ -70,7 +70,7 @@ impl<A: Allocator + Copy> Pools<A> {
     /// AllocatePool: a block of a number of bytes, all 0, of the type `mtype`. Of the extents of the type it
     /// goes into the lowest that has room, at the lowest place there. If none has, new pages are
     /// placed for it, which fill granules of the type on the book's machine, and the answer has the
-    /// certificate of their place beside the block's address.
+    /// certificate of their place beside the block's address, where the book returns certificates.
     ///
     /// INVALID_PARAMETER: a type that no request may name. OUT_OF_RESOURCES: more than 2^32 bytes; or
     /// new pages are needed, and no place is permitted or memory ran out. On an `Err` all is as it was.

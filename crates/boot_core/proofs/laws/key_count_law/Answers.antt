@@ -7,4 +7,4 @@ pub returns-clause-best : goal.returns-clause-best
 returns-clause-best g c = λ ds old calls replies new run n proper. key_counts (best_starts ds) best_is_permitted old calls replies new run n proper
 
 pub returns-clause-any : goal.returns-clause-any
-returns-clause-any g c = λ ds old calls replies new run n proper. key_counts (any_starts ds) (λ m r p certificate h. h) old calls replies new run n proper
+returns-clause-any g c = λ ds old calls replies new run n proper. key_counts (any_starts ds) (λ b r p returned h. h) old calls replies new run n proper

@@ -1,5 +1,5 @@
 -- One search and no second tactic after it: a body that is wrong is then refused sooner.
-use Rattle.std.proofs.Common.{◌≡◌, ◌∙◌, ℕ, List, [], ap, rules, subst, sym}
+use Rattle.std.proofs.Common.{◌≡◌, ◌∙◌, ℕ, true, List, [], ap, rules, subst, sym}
 use Rattle.page_ranges.specs.Granules.{IsGranule}
 use Rattle.page_ranges.specs.Runs.{pages_of}
 use Rattle.page_ranges.specs.Memory.{Page}
@@ -21,7 +21,7 @@ invariant_of-result g c =
     ap (λ (b : Book). parts_of b c.new-2.result c.new-3.result) book ∙ ap (λ (es : List Extent). parts_of (first_state machine).parts.book es c.new-3.result) c.new-2.ensures ∙ ap (parts_of (first_state machine).parts.book []) c.new-3.ensures in
     let valid : IsMachine machine = record { runs = c.runs.ensures.valid; granule = subst IsGranule c.granule.ensures.granule c.granule.ensures.valid } in (
       subst (λ (p : Parts). FollowsCalls p all_calls) (sym is) (first_follows machine),
-      subst AreSound (sym is) (first_sound machine valid),
+      subst AreSound (sym is) (first_sound true machine valid),
     )
 
 pub new-requires-clause-whole : goal.new-requires-clause-whole
