@@ -12,7 +12,7 @@ use Rattle.boot_calls.specs.declared.calls.Call.TheVariants as call
 use Rattle.boot_replies.specs.declared.replies.Reply.{Reply}
 use Rattle.boot_replies.specs.declared.replies.Reply.TheVariants as reply
 use Rattle.boot_replies.specs.Certified.{certified}
-use Rattle.boot_core.specs.Machines.{State, first_state}
+use Rattle.boot_core.specs.Machines.{State, first_state_with}
 use Rattle.boot_core.specs.Steps.{Step}
 use Rattle.machine_files.specs.MachineText.{ListedMachine, machine_of}
 use Rattle.trace_lines.specs.declared.faults.TraceFault.{TraceFault}
@@ -30,14 +30,20 @@ abbrev pub OfLine : Type 0 → Type 1
 OfLine A = ℕ → Result (Option (TraceCall A)) TraceFault → State → List ℕ → State → Type 0
 
 -- it holds of each of the lines that printed the text
-abbrev pub OfEachLine : (A : Type 0) (ds : List Meaning) (certify : Bool) (Is : OfLine A) (number : ℕ) (lines : List (List ℕ)) (old : State) (text : List ℕ) (new : State) → PrintsAll A ds certify number lines old text new → Type 0
+abbrev pub OfEachLine : (A : Type 0) (ds : List Meaning) (certify : Bool) (Is : OfLine A) (number : ℕ) (lines : List (List ℕ)) (old : State) (text : List ℕ) (new : State)
+    → PrintsAll A ds certify number lines old text new → Type 0
 OfEachLine A ds certify Is number [] old text new done = Unit {0}
-OfEachLine A ds certify Is number (line ∷ lines) old text new (mid, first, rest, prints, more, whole) = Is number (line_of line) old first mid × OfEachLine A ds certify Is (number + 1) lines mid rest new more
+OfEachLine A ds certify Is number (line ∷ lines) old text new (mid, first, rest, prints, more, whole) =
+    Is number (line_of line) old first mid
+    × OfEachLine A ds certify Is (number + 1) lines mid rest new more
 
--- it holds of each line whose text a run on a machine file and a trace wrote
+-- it holds of each line whose text a run on a machine file and a trace wrote, whether the core
+-- returns certificates or not
 abbrev pub OfRun : (A : Type 0) → List Meaning → Bool → OfLine A → Type 0
-OfRun A ds certify Is = (file bytes : List ℕ) (machine : ListedMachine) (count : ℕ) (new : State) (before after : Option (List ℕ)) (wrote : Wrote A ds certify bytes count (first_state machine.machine) new before after) →
-    machine_of file ≡ Ok machine → count ≤ most_lines → OfEachLine A ds certify Is 1 (take count (lines_of bytes)) (first_state machine.machine) wrote.text new wrote.prints
+OfRun A ds certify Is =
+    (certifies : Bool) (file bytes : List ℕ) (machine : ListedMachine) (count : ℕ) (new : State) (before after : Option (List ℕ)) (wrote : Wrote A ds certify bytes count (first_state_with certifies machine.machine) new before after) →
+    machine_of file ≡ Ok machine → count ≤ most_lines
+    → OfEachLine A ds certify Is 1 (take count (lines_of bytes)) (first_state_with certifies machine.machine) wrote.text new wrote.prints
 
 -- ---- certificates
 
@@ -71,6 +77,10 @@ PrintedMapsLaw A = (ds : List Meaning) (certify : Bool) → OfRun A ds certify (
 -- The entries that a successful GetMemoryMap carries are those of the memory map, where records can
 -- spell them.
 abbrev pub MapEntriesLaw : Type 0 → Type 0
-MapEntriesLaw A = (ds : List Meaning) (old : State) (size : ℕ) (returned : MapReply) (bytes : Vec ℕ A) (new : State) (entries : List Descriptor) →
-    AllByRecursion IsRecordEntry (memory_map old.parts.book.memory) → Step ds old (call.GetMemoryMap size) (reply.GetMemoryMap returned bytes) new → returned.status ≡ Success →
-    CarriesEntries (reply.GetMemoryMap returned bytes) entries → entries ≡ memory_map old.parts.book.memory
+MapEntriesLaw A =
+    (ds : List Meaning) (old : State) (size : ℕ) (returned : MapReply) (bytes : Vec ℕ A) (new : State) (entries : List Descriptor) →
+    AllByRecursion IsRecordEntry (memory_map old.parts.book.memory)
+    → Step ds old (call.GetMemoryMap size) (reply.GetMemoryMap returned bytes) new
+    → returned.status ≡ Success →
+    CarriesEntries (reply.GetMemoryMap returned bytes) entries
+    → entries ≡ memory_map old.parts.book.memory

@@ -19,10 +19,14 @@ use Rattle.trace_lines.specs.TraceLine.{line_of}
 -- What a line asks for prints this text, and takes the machine from one state to another: a call,
 -- by a step of the machine with the reply that is printed; a listing and a skipped line leave it as
 -- it is.
-abbrev pub Prints : (A : Type 0) → List Meaning → Bool → ℕ → Result (Option (TraceCall A)) TraceFault → State → List ℕ → State → Type 0
+abbrev pub Prints : (A : Type 0) → List Meaning → Bool → ℕ
+    → Result (Option (TraceCall A)) TraceFault → State → List ℕ → State → Type 0
 Prints A ds certify number (Ok None) old text new = (text ≡ []) × (new ≡ old)
-Prints A ds certify number (Ok (Some trace_call.List)) old text new = (text ≡ list_text number (memory_map old.parts.book.memory)) × (new ≡ old)
-Prints A ds certify number (Ok (Some (trace_call.Service c))) old text new = (answer : Reply A) × Step ds old c answer new × PrintsCall certify number old.parts.book c answer text
+Prints A ds certify number (Ok (Some trace_call.List)) old text new =
+    (text ≡ list_text number (memory_map old.parts.book.memory)) × (new ≡ old)
+Prints A ds certify number (Ok (Some (trace_call.Service c))) old text new =
+    (answer : Reply A) × Step ds old c answer new
+    × PrintsCall certify number old.parts.book c answer text
 Prints A ds certify number (Err e) old text new = ⊥
 
 -- the line asks for a call
@@ -31,22 +35,32 @@ AsksForCall A (Ok (Some (trace_call.Service c))) = Unit {0}
 AsksForCall A asks = ⊥
 
 -- the line's call takes the machine from one state to another
-abbrev pub MakesCall : (A : Type 0) → List Meaning → Result (Option (TraceCall A)) TraceFault → State → State → Type 0
-MakesCall A ds (Ok (Some (trace_call.Service c))) old new = (answer : Reply A) × Step ds old c answer new
+abbrev pub MakesCall : (A : Type 0) → List Meaning → Result (Option (TraceCall A)) TraceFault
+    → State → State → Type 0
+MakesCall A ds (Ok (Some (trace_call.Service c))) old new =
+    (answer : Reply A) × Step ds old c answer new
 MakesCall A ds asks old new = ⊥
 
 -- Why a line that is read so stops a run, and how it leaves the machine: as it was, or, where
 -- memory ran out, perhaps after the call was made.
-abbrev pub StopsAt : (A : Type 0) → List Meaning → Bool → RunFault → ℕ → Result (Option (TraceCall A)) TraceFault → State → State → Type 0
-StopsAt A ds certify (fault.Line n e) number asks old new = (n ≡ number) × (asks ≡ Err e) × (new ≡ old)
-StopsAt A ds certify fault.NoCallsLeft number asks old new = AsksForCall A asks × (old.calls_left ≡ 0) × (new ≡ old)
-StopsAt A ds certify fault.OutOfMemory number asks old new = (new ≡ old) ⊎ MakesCall A ds asks old new
+abbrev pub StopsAt : (A : Type 0) → List Meaning → Bool → RunFault → ℕ
+    → Result (Option (TraceCall A)) TraceFault → State → State → Type 0
+StopsAt A ds certify (fault.Line n e) number asks old new =
+    (n ≡ number) × (asks ≡ Err e) × (new ≡ old)
+StopsAt A ds certify fault.NoCallsLeft number asks old new =
+    AsksForCall A asks × (old.calls_left ≡ 0) × (new ≡ old)
+StopsAt A ds certify fault.OutOfMemory number asks old new =
+    (new ≡ old) ⊎ MakesCall A ds asks old new
 StopsAt A ds certify e number asks old new = ⊥
 
 -- The lines, the first of which has this number, print this text, one after another.
-abbrev pub PrintsAll : Type 0 → List Meaning → Bool → ℕ → List (List ℕ) → State → List ℕ → State → Type 0
+abbrev pub PrintsAll : Type 0 → List Meaning → Bool → ℕ → List (List ℕ) → State → List ℕ → State
+    → Type 0
 PrintsAll A ds certify number [] old text new = (text ≡ []) × (new ≡ old)
-PrintsAll A ds certify number (line ∷ lines) old text new = (mid : State) × (first : List ℕ) × (rest : List ℕ) × Prints A ds certify number (line_of line) old first mid × PrintsAll A ds certify (number + 1) lines mid rest new × (text ≡ first ++ rest)
+PrintsAll A ds certify number (line ∷ lines) old text new =
+    (mid : State) × (first : List ℕ) × (rest : List ℕ)
+    × Prints A ds certify number (line_of line) old first mid
+    × PrintsAll A ds certify (number + 1) lines mid rest new × (text ≡ first ++ rest)
 
 -- The text of a number of first lines of the bytes was written, and nothing else.
 pub record Wrote (A : Type 0) (ds : List Meaning) (certify : Bool) (bytes : List ℕ) (count : ℕ) (old new : State) (before after : Option (List ℕ)) : Type 0 where
@@ -87,11 +101,25 @@ pub record WroteBefore (A : Type 0) (ds : List Meaning) (certify : Bool) (bytes 
 -- How a run on a trace of known bytes ends. What is written is the text of all its lines, or of
 -- those before the one that stopped the run, and the machine is in the state after their calls. No
 -- line after the last that may be is looked at.
-abbrev pub Ends : Type 0 → List Meaning → Bool → List ℕ → State → State → Option (List ℕ) → Option (List ℕ) → Result (Unit {0}) RunFault → Type 0
-Ends A ds certify bytes old new before after (Ok done) = (length (lines_of bytes) ≤ most_lines) × Wrote A ds certify bytes (length (lines_of bytes)) old new before after
-Ends A ds certify bytes old new before after (Err (fault.Line number e)) = (count : ℕ) × (count < most_lines) × (number ≡ count + 1) × ((line : List ℕ) × HasLine bytes count line × (line_of {A = A} line ≡ Err e)) × Wrote A ds certify bytes count old new before after
-Ends A ds certify bytes old new before after (Err fault.TooManyLines) = (most_lines < length (lines_of bytes)) × Wrote A ds certify bytes most_lines old new before after
-Ends A ds certify bytes old new before after (Err fault.NoCallsLeft) = (count : ℕ) × (count < most_lines) × ((line : List ℕ) × HasLine bytes count line × AsksForCall A (line_of line)) × (new.calls_left ≡ 0) × Wrote A ds certify bytes count old new before after
-Ends A ds certify bytes old new before after (Err fault.Read) = (count : ℕ) × (count ≤ most_lines) × Wrote A ds certify bytes count old new before after
-Ends A ds certify bytes old new before after (Err fault.Write) = (count : ℕ) × (count < most_lines) × WroteFront A ds certify bytes count old new before after
-Ends A ds certify bytes old new before after (Err fault.OutOfMemory) = (count : ℕ) × (count < most_lines) × WroteBefore A ds certify bytes count old new before after
+abbrev pub Ends : Type 0 → List Meaning → Bool → List ℕ → State → State → Option (List ℕ)
+    → Option (List ℕ) → Result (Unit {0}) RunFault → Type 0
+Ends A ds certify bytes old new before after (Ok done) =
+    (length (lines_of bytes) ≤ most_lines)
+    × Wrote A ds certify bytes (length (lines_of bytes)) old new before after
+Ends A ds certify bytes old new before after (Err (fault.Line number e)) =
+    (count : ℕ) × (count < most_lines) × (number ≡ count + 1)
+    × ((line : List ℕ) × HasLine bytes count line × (line_of {A = A} line ≡ Err e))
+    × Wrote A ds certify bytes count old new before after
+Ends A ds certify bytes old new before after (Err fault.TooManyLines) =
+    (most_lines < length (lines_of bytes))
+    × Wrote A ds certify bytes most_lines old new before after
+Ends A ds certify bytes old new before after (Err fault.NoCallsLeft) =
+    (count : ℕ) × (count < most_lines)
+    × ((line : List ℕ) × HasLine bytes count line × AsksForCall A (line_of line))
+    × (new.calls_left ≡ 0) × Wrote A ds certify bytes count old new before after
+Ends A ds certify bytes old new before after (Err fault.Read) =
+    (count : ℕ) × (count ≤ most_lines) × Wrote A ds certify bytes count old new before after
+Ends A ds certify bytes old new before after (Err fault.Write) =
+    (count : ℕ) × (count < most_lines) × WroteFront A ds certify bytes count old new before after
+Ends A ds certify bytes old new before after (Err fault.OutOfMemory) =
+    (count : ℕ) × (count < most_lines) × WroteBefore A ds certify bytes count old new before after

@@ -7,6 +7,7 @@ mod granules;
 mod large_requests;
 mod pool_loads;
 mod stretches;
+mod uncertified;
 
 use boot_core::{Core, Machine};
 use driver_connect::TableDriver;

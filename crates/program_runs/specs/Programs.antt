@@ -41,7 +41,8 @@ is_ok (Err e) = false
 
 -- How a run of the files at two paths ends. The machine file is opened first, and then the trace; a
 -- file that cannot be opened is the fault of reading it, and then nothing is written.
-abbrev pub RunsPaths : Files → Bool → List ℕ → List ℕ → List Opening → Option (List ℕ) → Option (List ℕ) → Result (Unit {0}) Fault → Type 0
+abbrev pub RunsPaths : Files → Bool → List ℕ → List ℕ → List Opening → Option (List ℕ)
+    → Option (List ℕ) → Result (Unit {0}) Fault → Type 0
 RunsPaths files certify machine trace openings before after end =
     ((openings ≡ opening machine false) × (end ≡ Err fault.CannotReadMachine) × (after ≡ before))
     ⊎ (((openings ≡ opening machine true ++ opening trace false) × (end ≡ Err fault.CannotReadTrace) × (after ≡ before))
@@ -49,10 +50,16 @@ RunsPaths files certify machine trace openings before after end =
 
 -- What a command does: the files that it opens, what it writes, and its status. `check` opens none
 -- and judges the input; a request for the version opens none.
-abbrev pub Does : Files → Option (List ℕ) → Command → List Opening → Option (List ℕ) → Option (List ℕ) → ℕ → Type 0
-Does files input (command.Run machine trace certify) openings before after status = (end : Result (Unit {0}) Fault) × (status ≡ status_of end) × RunsPaths files certify machine.now trace.now openings before after end
-Does files input command.Check openings before after status = (openings ≡ []) × ((end : Result Bool BlockFault) × (status ≡ check_status end) × Writes before after end × IfSome input (λ bytes. Judges true bytes before after end))
-Does files input command.Version openings before after status = (openings ≡ []) × PrintsVersion before after status
+abbrev pub Does : Files → Option (List ℕ) → Command → List Opening → Option (List ℕ)
+    → Option (List ℕ) → ℕ → Type 0
+Does files input (command.Run machine trace certify) openings before after status =
+    (end : Result (Unit {0}) Fault) × (status ≡ status_of end)
+    × RunsPaths files certify machine.now trace.now openings before after end
+Does files input command.Check openings before after status =
+    (openings ≡ [])
+    × ((end : Result Bool BlockFault) × (status ≡ check_status end) × Writes before after end × IfSome input (λ bytes. Judges true bytes before after end))
+Does files input command.Version openings before after status =
+    (openings ≡ []) × PrintsVersion before after status
 
 -- ---- words
 
@@ -63,7 +70,8 @@ refusal_status command_fault.OutOfMemory = 1
 
 -- What the program does for the words of its command line: what their command does. For other words
 -- it opens no file and writes no reply.
-abbrev pub DoesAsAsked : List (List ℕ) → Files → Option (List ℕ) → List Opening → Option (List ℕ) → Option (List ℕ) → ℕ → Type 0
+abbrev pub DoesAsAsked : List (List ℕ) → Files → Option (List ℕ) → List Opening → Option (List ℕ)
+    → Option (List ℕ) → ℕ → Type 0
 DoesAsAsked words files input openings before after status =
     (read : Result Command CommandFault) × MatchResult read
     (λ command. IsCommandOf words command × Does files input command openings before after status)
@@ -72,4 +80,6 @@ DoesAsAsked words files input openings before after status =
 -- The status where the arguments could not be read: 1 where memory ran out, else 2, since one of
 -- them is not UTF-8.
 abbrev pub IsLostStatus : ErrorKind → ℕ → Type 0
-IsLostStatus kind status = ((kind ≡ OutOfMemory) × (status ≡ fault_status)) ⊎ ((kind ≢ OutOfMemory) × (status ≡ usage_status))
+IsLostStatus kind status =
+    ((kind ≡ OutOfMemory) × (status ≡ fault_status))
+    ⊎ ((kind ≢ OutOfMemory) × (status ≡ usage_status))

@@ -3,7 +3,7 @@ use Rattle.std.specs.Prelude.{◌≡◌, ◌⊎◌, ℕ, ◌<◌, Bool, List, []
 use Rattle.std.specs.Io.KnownBytes.{Appends}
 use Rattle.std.specs.declared.alloc.Global.{Global}
 use Rattle.text_lines.specs.Printed.{line_feed}
-use Rattle.boot_core.specs.Machines.{State, first_state}
+use Rattle.boot_core.specs.Machines.{State, first_state_with}
 use Rattle.machine_files.specs.declared.faults.MachineFault.TheVariants as machine_fault
 use Rattle.boot_trace.specs.declared.faults.RunFault.{RunFault}
 use Rattle.machine_files.specs.DriverText.{listed_meaning}
@@ -14,21 +14,27 @@ use Rattle.program_runs.specs.declared.serve.Fault.TheVariants as fault
 
 -- the bytes are all of the file, or a front of it that is itself too long for a machine file
 abbrev pub IsRead : List ℕ → List ℕ → Type 0
-IsRead file bytes = (rest : List ℕ) × (file ≡ bytes ++ rest) × ((rest ≡ []) ⊎ (longest_file < length bytes))
+IsRead file bytes =
+    (rest : List ℕ) × (file ≡ bytes ++ rest) × ((rest ≡ []) ⊎ (longest_file < length bytes))
 
--- the file is a machine's, and the run of a trace of known bytes on that machine, with its drivers,
--- ends so
-abbrev pub RunsTrace : Bool → List ℕ → Option (List ℕ) → Option (List ℕ) → Option (List ℕ) → Result (Unit {0}) RunFault → Type 0
+-- The file is a machine's, and the run of a trace of known bytes on that machine, with its drivers,
+-- ends so. The core returns certificates where they are asked for.
+abbrev pub RunsTrace : Bool → List ℕ → Option (List ℕ) → Option (List ℕ) → Option (List ℕ)
+    → Result (Unit {0}) RunFault → Type 0
 RunsTrace certify file trace before after end =
-    (machine : ListedMachine) × (machine_of file ≡ Ok machine) × IfSome trace (λ bytes. (new : State) × Ends Global (map listed_meaning machine.drivers) certify bytes (first_state machine.machine) new before after end)
+    (machine : ListedMachine) × (machine_of file ≡ Ok machine) × IfSome trace (λ bytes. (new : State) × Ends Global (map listed_meaning machine.drivers) certify bytes (first_state_with certify machine.machine) new before after end)
 
 -- How the program ends on a machine file and a trace, and what it wrote. It runs the trace on the
 -- machine; where there is a fault before that, nothing is written. No such run ends on a trace that
 -- was not opened, or on a block.
-abbrev pub RunsFiles : Bool → List ℕ → Option (List ℕ) → Option (List ℕ) → Option (List ℕ) → Result (Unit {0}) Fault → Type 0
-RunsFiles certify file trace before after (Ok done) = RunsTrace certify file trace before after (Ok done)
-RunsFiles certify file trace before after (Err (fault.Run e)) = RunsTrace certify file trace before after (Err e)
-RunsFiles certify file trace before after (Err (fault.Machine e)) = ((e ≡ machine_fault.OutOfMemory) ⊎ (machine_of file ≡ Err e)) × (after ≡ before)
+abbrev pub RunsFiles : Bool → List ℕ → Option (List ℕ) → Option (List ℕ) → Option (List ℕ)
+    → Result (Unit {0}) Fault → Type 0
+RunsFiles certify file trace before after (Ok done) =
+    RunsTrace certify file trace before after (Ok done)
+RunsFiles certify file trace before after (Err (fault.Run e)) =
+    RunsTrace certify file trace before after (Err e)
+RunsFiles certify file trace before after (Err (fault.Machine e)) =
+    ((e ≡ machine_fault.OutOfMemory) ⊎ (machine_of file ≡ Err e)) × (after ≡ before)
 RunsFiles certify file trace before after (Err fault.CannotReadMachine) = after ≡ before
 RunsFiles certify file trace before after (Err fault.OutOfMemory) = after ≡ before
 RunsFiles certify file trace before after (Err fault.CannotReadTrace) = ⊥

@@ -166,6 +166,7 @@ pub fn run_files<M: Read + Drop, T: Read + Drop, W: Write>(
     let Ok(mut core) = Core::new(alloc, file.machine, file.drivers) else {
         return Err(Fault::OutOfMemory);
     };
+    core.certify(certify);
     match boot_trace::run(alloc, &mut core, trace, out, certify) {
         Ok(()) => Ok(()),
         Err(fault) => Err(Fault::Run(fault)),
