@@ -2,6 +2,7 @@
 ghost use Rattle.std.specs.Prelude.{◌≡◌, ◌<◌, Ok, Err, IfSome, MatchOption, MatchResult};
 ghost use Rattle.std.specs.Borrow.{sem};
 ghost use Rattle.c_interface.specs.Making.{MakesCore};
+ghost use Rattle.boot_services_c.specs.Blocks.{CoreHeap};
 ghost use Rattle.boot_services_c.specs.Places.{freed_at};
 
 use crate::blocks::Block;
@@ -26,8 +27,8 @@ pub extern "C" fn RafkudinMake(
     drivers: &[DriverTable],
     core: &mut Place,
 ) -> u64
-    ensures made { result ≡ 0 → MatchOption core.new.held ⊥ (λ handle. MakesCore descriptor_size records.now granule drivers.now (Ok handle.core)) }
-    ensures refused { 0 < result → MakesCore descriptor_size records.now granule drivers.now (Err result) × (core.new ≡ core.old) }
+    ensures made { result ≡ 0 → MatchOption core.new.held ⊥ (λ handle. MakesCore {A = CoreHeap} descriptor_size records.now granule drivers.now (Ok handle.core)) }
+    ensures refused { 0 < result → MakesCore {A = CoreHeap} descriptor_size records.now granule drivers.now (Err result) × (core.new ≡ core.old) }
 {
     match made(alloc, records, descriptor_size, granule, drivers) {
         Ok(place) => {
@@ -59,7 +60,7 @@ fn made(
     granule: u64,
     drivers: &[DriverTable],
 ) -> Result<Place, u64>
-    ensures { MatchResult result (λ place. MatchOption place.held ⊥ (λ handle. MakesCore descriptor_size records.now granule drivers.now (Ok handle.core))) (λ status. MakesCore descriptor_size records.now granule drivers.now (Err status)) }
+    ensures { MatchResult result (λ place. MatchOption place.held ⊥ (λ handle. MakesCore {A = CoreHeap} descriptor_size records.now granule drivers.now (Ok handle.core))) (λ status. MakesCore {A = CoreHeap} descriptor_size records.now granule drivers.now (Err status)) }
 {
     let core = EfiCore::make(alloc, records, descriptor_size, granule, drivers)?;
     pointer_to(alloc, core).ok_or(Status::OutOfResources.number())

@@ -8,7 +8,7 @@ ghost use Rattle.c_interface.specs.Served.{AnswersStatus, AnswersNumber, Answers
 
 use crate::handle::Rafkudin;
 
-/// AllocatePages, 7.2.1. `*memory` receives the address of the pages; before, it has the last byte
+/// AllocatePages, 7.2.1. The place `memory` is given the address of the pages; before, it has the last byte
 /// that may belong to them, or their address.
 ///
 /// INVALID_PARAMETER: another kind, a memory type that may not be asked for, or no pages. NOT_FOUND: the
@@ -37,10 +37,10 @@ pub extern "C" fn RafkudinFreePages(core: &mut Rafkudin, memory: u64, pages: u64
     core.held().free_pages(memory, pages)
 }
 
-/// GetMemoryMap, 7.2.3, with a buffer and its room. The caller's variables receive the bytes that the map takes, its
+/// GetMemoryMap, 7.2.3, with a buffer and its room. The places are given the bytes that the map takes, its
 /// key, and the size and the version of its descriptors.
 ///
-/// BUFFER_TOO_SMALL: the caller's variables are written too, but for the key.
+/// BUFFER_TOO_SMALL: the places are given theirs too, but for the key.
 #[unsafe(no_mangle)]
 pub extern "C" fn RafkudinGetMemoryMapInto(
     core: &mut Rafkudin,
@@ -56,7 +56,7 @@ pub extern "C" fn RafkudinGetMemoryMapInto(
         .get_memory_map(buffer, size, key, record_size, version)
 }
 
-/// AllocatePool, 7.2.4. `*buffer` receives the block's address.
+/// AllocatePool, 7.2.4. The place `buffer` is given the block's address.
 ///
 /// INVALID_PARAMETER: a memory type that may not be asked for. OUT_OF_RESOURCES: the size is above
 /// 4 GiB, or there is no place.

@@ -10,7 +10,7 @@ ghost use Rattle.c_machines.specs.Guids.{guid_in, interface_in};
 use crate::handle::Rafkudin;
 use c_machines::{Guid, Interface};
 
-/// InstallProtocolInterface, 7.3.2. The place `handle` has the handle, 0 for a new one, and receives it.
+/// InstallProtocolInterface, 7.3.2. The place `handle` has the handle, 0 for a new one, and is given it.
 ///
 /// INVALID_PARAMETER: another kind than 0, a handle that is not live, or the GUID is on it already.
 /// OUT_OF_RESOURCES: 4,096 handles are live.
@@ -63,7 +63,7 @@ pub extern "C" fn RafkudinReinstallProtocolInterface(
         .reinstall_protocol_interface(handle, guid, old_value, new_value)
 }
 
-/// RegisterProtocolNotify, 7.3.5. `*registration` receives the registration's key.
+/// RegisterProtocolNotify, 7.3.5. The place `registration` is given the registration's key.
 #[unsafe(no_mangle)]
 pub extern "C" fn RafkudinRegisterProtocolNotify(
     core: &mut Rafkudin,
@@ -81,7 +81,7 @@ pub extern "C" fn RafkudinRegisterProtocolNotify(
 /// take.
 ///
 /// INVALID_PARAMETER: another search, or a key that was never given. NOT_FOUND: nothing matches.
-/// BUFFER_TOO_SMALL: the variable is written too.
+/// BUFFER_TOO_SMALL: the place is given them too.
 #[unsafe(no_mangle)]
 pub extern "C" fn RafkudinLocateHandleInto(
     core: &mut Rafkudin,
@@ -96,7 +96,7 @@ pub extern "C" fn RafkudinLocateHandleInto(
     core.held().locate_handle(search, guid, key, needed, buffer)
 }
 
-/// HandleProtocol, 7.3.7. `*interface` receives the interface's value.
+/// HandleProtocol, 7.3.7. The place `interface` is given the interface's value.
 ///
 /// INVALID_PARAMETER: the handle is not live. UNSUPPORTED: the GUID is not on it.
 #[unsafe(no_mangle)]
@@ -111,8 +111,8 @@ pub extern "C" fn RafkudinHandleProtocol(
     core.held().handle_protocol(handle, guid, interface)
 }
 
-/// LocateDevicePath, 7.3.8. The place `path` has the path's address in the pool, and receives the address
-/// behind the nodes that matched; `*device` receives the handle.
+/// LocateDevicePath, 7.3.8. The place `path` has the path's address in the pool, and is given the address
+/// behind the nodes that matched; the place `device` is given the handle.
 ///
 /// INVALID_PARAMETER: no device path is at the address. NOT_FOUND: no handle matches.
 #[unsafe(no_mangle)]
@@ -127,7 +127,7 @@ pub extern "C" fn RafkudinLocateDevicePath(
     core.held().locate_device_path(guid, path, device)
 }
 
-/// OpenProtocol, 7.3.9. `*interface` receives the interface's value, but by TEST_PROTOCOL.
+/// OpenProtocol, 7.3.9. The place `interface` is given the interface's value, but by TEST_PROTOCOL.
 ///
 /// INVALID_PARAMETER: a handle that is not live, or other attributes. UNSUPPORTED: the GUID is not on the
 /// handle. ALREADY_STARTED: the agent has it open by driver. ACCESS_DENIED: it is open in a
@@ -165,7 +165,7 @@ pub extern "C" fn RafkudinCloseProtocol(
     core.held().close_protocol(handle, guid, agent, controller)
 }
 
-/// OpenProtocolInformation, 7.3.11. The caller's variables receive the address of the block of the pool that has the
+/// OpenProtocolInformation, 7.3.11. The places are given the address of the block of the pool that has the
 /// open items, and how many they are.
 ///
 /// NOT_FOUND: the handle is not live, or the GUID is not on it. OUT_OF_RESOURCES: there is no place.
@@ -224,7 +224,7 @@ pub extern "C" fn RafkudinProtocolsPerHandle(
     core.held().protocols_per_handle(handle, buffer, count)
 }
 
-/// LocateHandleBuffer, 7.3.15. The caller's variables receive how many handles there are, and the address of their
+/// LocateHandleBuffer, 7.3.15. The places are given how many handles there are, and the address of their
 /// block of the pool.
 ///
 /// As LocateHandle, without BUFFER_TOO_SMALL. OUT_OF_RESOURCES: there is no place.
@@ -243,7 +243,7 @@ pub extern "C" fn RafkudinLocateHandleBuffer(
         .locate_handle_buffer(search, guid, key, count, buffer)
 }
 
-/// LocateProtocol, 7.3.16. `*interface` receives the interface's value.
+/// LocateProtocol, 7.3.16. The place `interface` is given the interface's value.
 ///
 /// INVALID_PARAMETER: a key that was never given, or for another GUID. NOT_FOUND: nothing matches.
 #[unsafe(no_mangle)]
@@ -259,10 +259,10 @@ pub extern "C" fn RafkudinLocateProtocol(
 }
 
 /// InstallMultipleProtocolInterfaces, 7.3.17. The place `handle` has the handle, 0 for a new one, and is
-/// receives it.
+/// given it.
 ///
 /// INVALID_PARAMETER: no interfaces or more than 16, a handle that is not live, or a GUID that is on it
-/// already or occurs twice. ALREADY_STARTED: a live handle has this device path. OUT_OF_RESOURCES: 4,096
+/// already or is there twice. ALREADY_STARTED: a live handle has this device path. OUT_OF_RESOURCES: 4,096
 /// handles are live.
 #[unsafe(no_mangle)]
 pub extern "C" fn RafkudinInstallMultipleProtocolInterfaces(

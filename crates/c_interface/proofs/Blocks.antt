@@ -1,7 +1,6 @@
 -- What is left of a call, whether blocks are kept or not.
 use Rattle.std.proofs.Common.{◌≡◌, ℕ, Bool, true, false, List, Option, None, Result, Ok, Err, Vec, refl, sym, subst, MatchResult, IfOk}
 use Rattle.std.specs.Option.{option_map}
-use Rattle.std.specs.declared.alloc.Global.{Global}
 use Rattle.page_ranges.specs.declared.ranges.Descriptor.{Descriptor}
 use Rattle.placement_certificate.specs.declared.certificates.Request.{Request}
 use Rattle.placement_certificate.specs.Certificates.{CertificateValue}
@@ -12,15 +11,15 @@ use Rattle.c_interface.specs.declared.efi_core.LastBlock.TheVariants as block
 use Rattle.c_interface.specs.EfiCores.{LeavesBlock}
 
 -- the entries of a map that was kept
-abbrev pub entries_of : Option (Vec Descriptor Global) → Option (List Descriptor)
+abbrev pub entries_of : {A : Type 0} → Option (Vec Descriptor A) → Option (List Descriptor)
 entries_of kept = option_map (λ entries. entries.items) kept
 
-kept_block : {E : Type 0} (granule : ℕ) (entries : List Descriptor) (c : Call Global) (returned : Option (Request × CertificateValue)) (before : Result (Option (Vec Descriptor Global)) E) (b : LastBlock) →
+kept_block : {E A : Type 0} (granule : ℕ) (entries : List Descriptor) (c : Call A) (returned : Option (Request × CertificateValue)) (before : Result (Option (Vec Descriptor A)) E) (b : LastBlock A) →
     MatchResult before (λ kept. LeavesBlock true (entries_of kept) returned b) (λ e. b ≡ block.OutOfMemory) → IfOk before (λ kept. entries_of kept ≡ map_before true granule entries c) → LeavesBlock true (map_before true granule entries c) returned b
 kept_block granule entries c returned (Ok kept) b h e = subst (λ k. LeavesBlock true k returned b) e h
 kept_block granule entries c returned (Err x) b h e = subst (λ k. LeavesBlock true (map_before true granule entries c) returned k) (sym h) refl
 
-pub block_left : {E : Type 0} (certifies : Bool) (granule : ℕ) (entries : List Descriptor) (c : Call Global) (returned : Option (Request × CertificateValue)) (before : Result (Option (Vec Descriptor Global)) E) (b : LastBlock) →
+pub block_left : {E A : Type 0} (certifies : Bool) (granule : ℕ) (entries : List Descriptor) (c : Call A) (returned : Option (Request × CertificateValue)) (before : Result (Option (Vec Descriptor A)) E) (b : LastBlock A) →
     (certifies ≡ true → MatchResult before (λ kept. LeavesBlock true (entries_of kept) returned b) (λ e. b ≡ block.OutOfMemory)) → (certifies ≡ false → b ≡ block.Nothing) →
     IfOk before (λ kept. entries_of kept ≡ map_before certifies granule entries c) → LeavesBlock certifies (map_before certifies granule entries c) returned b
 block_left true granule entries c returned before b h n e = kept_block granule entries c returned before b (h refl) e

@@ -1,7 +1,6 @@
 -- InstallMultipleProtocolInterfaces of more interfaces than may be installed at once: it is refused, whatever they are.
 use Rattle.std.proofs.Common.{◌≡◌, ℕ, ◌<◌, ◌≤◌, ◌||◌, ◌==◌, nat_lt, nat_le, List, length, take, map, Bool, true, false, Option, Some, None, Result, Ok, Err, refl, sym, ◌∙◌, ap, subst, arith, inl, inr, leb-true, leb-false}
 use Rattle.std.proofs.lemmas.List.{length-map, length-take-le, take_all}
-use Rattle.std.specs.declared.alloc.Global.{Global}
 use Rattle.page_ranges.specs.declared.ranges.Descriptor.{Descriptor}
 use Rattle.boot_calls.specs.declared.calls.Call.{Call}
 use Rattle.boot_calls.specs.declared.calls.Call.TheVariants as call
@@ -14,22 +13,22 @@ use Rattle.c_interface.specs.Served.{AnswersNumber, too_many}
 
 -- ---- the call through C
 
-no_map : (certifies : Bool) (granule : ℕ) (entries : List Descriptor) (handle : ℕ) (ps qs : List (List ℕ × ℕ)) →
-    map_before {A = Global} certifies granule entries (call.InstallMultipleProtocolInterfaces handle ps) ≡ map_before {A = Global} certifies granule entries (call.InstallMultipleProtocolInterfaces handle qs)
-no_map true granule entries handle ps qs = refl
-no_map false granule entries handle ps qs = refl
+no_map : (A : Type 0) (certifies : Bool) (granule : ℕ) (entries : List Descriptor) (handle : ℕ) (ps qs : List (List ℕ × ℕ)) →
+    map_before {A = A} certifies granule entries (call.InstallMultipleProtocolInterfaces handle ps) ≡ map_before {A = A} certifies granule entries (call.InstallMultipleProtocolInterfaces handle qs)
+no_map A true granule entries handle ps qs = refl
+no_map A false granule entries handle ps qs = refl
 
-answers_for_more : (old new : EfiCoreValue) (handle : ℕ) (ps qs : List (List ℕ × ℕ)) (before status after : ℕ) → 16 < length ps → 16 < length qs →
+answers_for_more : {A : Type 0} (old new : EfiCoreValue A) (handle : ℕ) (ps qs : List (List ℕ × ℕ)) (before status after : ℕ) → 16 < length ps → 16 < length qs →
     AnswersNumber old (call.InstallMultipleProtocolInterfaces handle ps) before status after new → AnswersNumber old (call.InstallMultipleProtocolInterfaces handle qs) before status after new
 answers_for_more old new handle ps qs before status after p q (inr spent) = inr spent
-answers_for_more old new handle ps qs before status after p q (inl (answer, s, e, returned)) =
+answers_for_more {A = A} old new handle ps qs before status after p q (inl (answer, s, e, returned)) =
     inl (
       answer,
       record {
         step = step_for_more (meanings old) old.core.state new.core.state handle ps qs answer p q s.step;
         drivers = s.drivers;
         certifies = s.certifies;
-        block = rw (← no_map old.certifies _ _ handle ps qs) s.block;
+        block = rw (← no_map A old.certifies _ _ handle ps qs) s.block;
         last = s.last;
       },
       e,
@@ -37,7 +36,7 @@ answers_for_more old new handle ps qs before status after p q (inl (answer, s, e
     )
 
 -- What a call with the first interfaces of a list answers, one with the whole list answers.
-pub first_are_enough : (old new : EfiCoreValue) (handle : ℕ) (xs : List Interface) (before status after : ℕ) →
+pub first_are_enough : {A : Type 0} (old new : EfiCoreValue A) (handle : ℕ) (xs : List Interface) (before status after : ℕ) →
     AnswersNumber old (call.InstallMultipleProtocolInterfaces handle (map interface_in (take too_many xs))) before status after new →
     AnswersNumber old (call.InstallMultipleProtocolInterfaces handle (map interface_in xs)) before status after new
 first_are_enough old new handle xs before status after a =

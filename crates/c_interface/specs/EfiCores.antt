@@ -1,7 +1,6 @@
 -- A core as a caller in C has it.
 use Rattle.std.specs.Prelude.{◌≡◌, ℕ, Bool, true, List, [], map, Option, Some, None}
 use Rattle.std.specs.List.{list_all}
-use Rattle.std.specs.declared.alloc.Global.{Global}
 use Rattle.page_ranges.specs.declared.ranges.Descriptor.{Descriptor}
 use Rattle.placement_certificate.specs.declared.certificates.Request.{Request}
 use Rattle.placement_certificate.specs.Certificates.{CertificateValue}
@@ -16,24 +15,24 @@ use Rattle.c_interface.specs.Replies.{events_in}
 
 -- the core, whether the certificates of its placements are kept as blocks of text, and what the
 -- last call left to be asked for: its reply and its block
-pub record EfiCoreValue : Type 0 where
+pub record EfiCoreValue (A : Type 0) : Type 0 where
   pub core : CoreValue TableDriver
   pub certifies : Bool
-  pub last : Option (Reply Global)
-  pub block : LastBlock
+  pub last : Option (Reply A)
+  pub block : LastBlock A
 
 -- what a driver with fixed answers means
 abbrev pub table_meaning : TableDriver → Meaning
 table_meaning d = record { version = d.version; supports = λ s. list_all (is_free s.protocols) d.needs.items; plan = λ s. d.plan; may_stop = λ s. d.stops }
 
 -- what the drivers of a core mean
-abbrev pub meanings : EfiCoreValue → List Meaning
+abbrev pub meanings : {A : Type 0} → EfiCoreValue A → List Meaning
 meanings c = map table_meaning c.core.drivers
 
 -- What is left of a call, where the memory map before it was kept and its reply carries a
 -- certificate for a request: their block. Where no map was kept, or there is no certificate,
 -- nothing is left. Memory may run out where certificates are kept.
-abbrev pub LeavesBlock : Bool → Option (List Descriptor) → Option (Request × CertificateValue) → LastBlock → Type 0
+abbrev pub LeavesBlock : {A : Type 0} → Bool → Option (List Descriptor) → Option (Request × CertificateValue) → LastBlock A → Type 0
 LeavesBlock certifies kept returned block.OutOfMemory = certifies ≡ true
 LeavesBlock certifies (Some entries) (Some (r, certificate)) (block.Text bytes) = bytes.items ≡ block_text entries r certificate
 LeavesBlock certifies kept returned (block.Text bytes) = ⊥
@@ -41,14 +40,14 @@ LeavesBlock certifies (Some entries) (Some returned) block.Nothing = ⊥
 LeavesBlock certifies kept returned block.Nothing = Unit {0}
 
 -- the events that a reply has, if there is one
-abbrev pub events_if : Option (Reply Global) → List ℕ
+abbrev pub events_if : {A : Type 0} → Option (Reply A) → List ℕ
 events_if None = []
 events_if (Some answer) = events_in answer
 
 -- the events that the last call signals
-abbrev pub last_events : EfiCoreValue → List ℕ
+abbrev pub last_events : {A : Type 0} → EfiCoreValue A → List ℕ
 last_events c = events_if c.last
 
 -- a core with nothing left of a call
-abbrev pub forgotten : EfiCoreValue → EfiCoreValue
+abbrev pub forgotten : {A : Type 0} → EfiCoreValue A → EfiCoreValue A
 forgotten c = record { core = c.core; certifies = c.certifies; last = None; block = block.Nothing }

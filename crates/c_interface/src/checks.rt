@@ -6,7 +6,7 @@ ghost use Rattle.c_interface.specs.Checks.{ChecksBlock, ReturnsEntry};
 use crate::efi_core::EfiCore;
 use certificate_blocks::{BlockFault, judge_block};
 use page_ranges::{PAGE_SIZE, Status};
-use std::alloc::Global;
+use std::alloc::Allocator;
 
 /// What says something of an entry of the memory map, as EFI_MEMORY_DESCRIPTOR has it.
 #[repr(C)]
@@ -19,7 +19,7 @@ pub struct MapEntry {
     pub attribute: u64,
 }
 
-impl EfiCore {
+impl<A: Allocator + Copy> EfiCore<A> {
     /// How many entries the memory map has.
     pub fn descriptors(&self) -> usize
         ensures { result ≡ length (memory_map self.now.core.state.parts.book.memory) }
@@ -52,9 +52,9 @@ impl EfiCore {
 
 /// Judges a certificate block: SUCCESS if its certificate is accepted, ACCESS_DENIED if it is refused.
 ///
-/// INVALID_PARAMETER: the text is no block; the variable receives its first line that is wrong or missing.
+/// INVALID_PARAMETER: the text is no block; the place is given its first line that is wrong or missing.
 /// OUT_OF_RESOURCES: memory ran out.
-pub fn check_block(alloc: Global, text: &[u8], line: &mut u64) -> u64
+pub fn check_block<A: Allocator + Copy>(alloc: A, text: &[u8], line: &mut u64) -> u64
     ensures { ChecksBlock text.now line.old result line.new }
 {
     let mut verdict = Vec::new(alloc);

@@ -15,42 +15,42 @@ use boot_core::{Call, Core, Reply, certified, map_before};
 use certificate_blocks::print_block;
 use driver_connect::TableDriver;
 use page_ranges::{Descriptor, Status};
-use std::alloc::{AllocError, Global};
+use std::alloc::{AllocError, Allocator, Global};
 use std::marker::Model;
 
 /// The status of a call that is one too many (EFI_ABORTED).
 pub const ABORTED: u64 = 0x8000_0000_0000_0015;
 
 /// The block of the certificate of the last call.
-#[derive(Debug, Drop)]
-pub enum LastBlock {
+#[derive(Drop)]
+pub enum LastBlock<A: Allocator = Global> {
     /// The call placed nothing, or certificates are not kept.
     Nothing,
-    Text(Vec<u8>),
+    Text(Vec<u8, A>),
     OutOfMemory,
 }
 
 /// A core, and what its last call left to be asked for.
 #[derive(Drop)]
-pub struct EfiCore {
-    pub(crate) alloc: Global,
-    pub(crate) core: Core<TableDriver>,
+pub struct EfiCore<A: Allocator = Global> {
+    pub(crate) alloc: A,
+    pub(crate) core: Core<TableDriver, A>,
     certifies: bool,
-    last: Option<Reply>,
-    block: LastBlock,
+    last: Option<Reply<A>>,
+    block: LastBlock<A>,
 }
 
-impl Model for EfiCore {
+impl<A: Allocator> Model for EfiCore<A> {
     ghost use Rattle.c_interface.specs.EfiCores.{EfiCoreValue};
 
-    ghost Value = { EfiCoreValue };
+    ghost Value = { EfiCoreValue A };
 
     ghost view = { λ c. record { core = c.core; certifies = c.certifies; last = c.last; block = c.block } };
 }
 
-impl EfiCore {
+impl<A: Allocator + Copy> EfiCore<A> {
     /// A core before any call; it keeps no certificates.
-    pub fn new(alloc: Global, core: Core<TableDriver>) -> EfiCore
+    pub fn new(alloc: A, core: Core<TableDriver, A>) -> EfiCore<A>
         ensures { result ≡ record { core = core; certifies = false; last = None; block = LastBlock.Nothing } }
     {
         EfiCore {
@@ -79,7 +79,7 @@ impl EfiCore {
     }
 
     // The memory map before a call, where the block of its certificate is kept.
-    fn map_before(&self, call: &Call) -> Result<Option<Vec<Descriptor>>, AllocError>
+    fn map_before(&self, call: &Call<A>) -> Result<Option<Vec<Descriptor, A>>, AllocError>
         ensures { IfOk result (λ kept. option_map (λ entries. entries.items) kept ≡ map_before self.now.certifies self.now.core.state.parts.book.granule (memory_map self.now.core.state.parts.book.memory) call.now) }
     {
         map_before(self.alloc, &self.core, call, self.certifies)
@@ -89,10 +89,10 @@ impl EfiCore {
     fn block_after(
         &self,
         granule: u64,
-        before: &Result<Option<Vec<Descriptor>>, AllocError>,
-        call: &Call,
-        reply: &Reply,
-    ) -> LastBlock
+        before: &Result<Option<Vec<Descriptor, A>>, AllocError>,
+        call: &Call<A>,
+        reply: &Reply<A>,
+    ) -> LastBlock<A>
         ensures kept { self.now.certifies ≡ true → MatchResult before.now (λ kept. LeavesBlock true (option_map (λ entries. entries.items) kept) (certified granule call.now reply.now) result) (λ e. result ≡ LastBlock.OutOfMemory) }
         ensures none { self.now.certifies ≡ false → result ≡ LastBlock.Nothing }
     {
@@ -104,7 +104,7 @@ impl EfiCore {
     }
 
     // Keeps what is left of a call.
-    fn keep(&mut self, reply: Reply, block: LastBlock)
+    fn keep(&mut self, reply: Reply<A>, block: LastBlock<A>)
         ensures { self.new ≡ record { core = self.old.core; certifies = self.old.certifies; last = Some reply; block = block } }
     {
         self.last = Some(reply);
@@ -112,7 +112,7 @@ impl EfiCore {
     }
 
     /// Keeps the reply to a call that carries no certificate, and answers its status.
-    pub(crate) fn tell(&mut self, reply: Reply) -> u64
+    pub(crate) fn tell(&mut self, reply: Reply<A>) -> u64
         ensures status { result ≡ status_number (status_in reply) }
         ensures core { self.new ≡ record { core = self.old.core; certifies = self.old.certifies; last = Some reply; block = LastBlock.Nothing } }
     {
@@ -122,14 +122,14 @@ impl EfiCore {
     }
 
     /// The reply of the last call.
-    pub(crate) fn last_reply(&self) -> Option<&Reply>
+    pub(crate) fn last_reply(&self) -> Option<&Reply<A>>
         ensures { option_map (λ reply. reply.now) result ≡ self.now.last }
     {
         self.last.as_ref()
     }
 
     /// Makes a call, and answers its status as a number of EFI_STATUS.
-    pub(crate) fn answer(&mut self, call: &Call) -> u64
+    pub(crate) fn answer(&mut self, call: &Call<A>) -> u64
         ensures { AnswersStatus self.old call.now result self.new }
     {
         self.forget();
@@ -146,7 +146,7 @@ impl EfiCore {
     }
 
     /// The same for a call that returns a number: where it succeeds with one it is put in the caller's variable.
-    pub(crate) fn answer_number(&mut self, call: &Call, place: &mut u64) -> u64
+    pub(crate) fn answer_number(&mut self, call: &Call<A>, place: &mut u64) -> u64
         ensures { AnswersNumber self.old call.now place.old result place.new self.new }
     {
         let status = self.answer(call);
@@ -157,7 +157,12 @@ impl EfiCore {
     }
 
     /// The same for a call that returns two numbers.
-    pub(crate) fn answer_numbers(&mut self, call: &Call, first: &mut u64, second: &mut u64) -> u64
+    pub(crate) fn answer_numbers(
+        &mut self,
+        call: &Call<A>,
+        first: &mut u64,
+        second: &mut u64,
+    ) -> u64
         ensures { AnswersNumbers self.old call.now (first.old, second.old) result (first.new, second.new) self.new }
     {
         let status = self.answer(call);
@@ -189,11 +194,11 @@ impl EfiCore {
         }
     }
 
-    /// The block of the certificate of the last call, in the front of a buffer; its length is written to
+    /// The block of the certificate of the last call, in the front of a buffer; their number is put into
     /// a place.
     ///
     /// NOT_FOUND: the last call left no block. OUT_OF_RESOURCES: memory ran out for it.
-    /// BUFFER_TOO_SMALL: the variable has the bytes that are needed.
+    /// BUFFER_TOO_SMALL: the place is given the bytes that are needed.
     pub fn block(&self, buffer: &mut [u8], size: &mut u64) -> u64
         ensures { ReturnsBlock self.now.block buffer.old size.old result buffer.new size.new }
     {
@@ -219,13 +224,13 @@ impl EfiCore {
 }
 
 /// The block of the certificate that a reply carries, with the memory map before the call.
-fn block_of(
-    alloc: Global,
+fn block_of<A: Allocator + Copy>(
+    alloc: A,
     granule: u64,
-    before: &Result<Option<Vec<Descriptor>>, AllocError>,
-    call: &Call,
-    reply: &Reply,
-) -> LastBlock
+    before: &Result<Option<Vec<Descriptor, A>>, AllocError>,
+    call: &Call<A>,
+    reply: &Reply<A>,
+) -> LastBlock<A>
     ensures { MatchResult before.now (λ kept. LeavesBlock true (option_map (λ entries. entries.items) kept) (certified granule call.now reply.now) result) (λ e. result ≡ LastBlock.OutOfMemory) }
 {
     let Ok(before) = before else {

@@ -12,6 +12,7 @@ use arrayvec::ArrayVec;
 use boot_core::{Call, Reply};
 use c_machines::{Guid, Interface};
 use page_ranges::Status;
+use std::alloc::Allocator;
 use uuid::Uuid;
 
 /// So many interfaces are too many to be installed at once, whatever they are.
@@ -23,7 +24,7 @@ const MOST_HANDLES: usize = 4096;
 /// The bytes of a handle.
 const HANDLE_SIZE: u64 = 8;
 
-impl EfiCore {
+impl<A: Allocator + Copy> EfiCore<A> {
     /// LocateHandle with a buffer for handles. The place `needed` is given the bytes that all that match take, on
     /// SUCCESS and on BUFFER_TOO_SMALL.
     pub fn locate_handle(
@@ -71,7 +72,7 @@ impl EfiCore {
         Status::Success.number()
     }
 
-    /// InstallMultipleProtocolInterfaces. The place `handle` has the handle, 0 for a new one, and receives it.
+    /// InstallMultipleProtocolInterfaces. The place `handle` has the handle, 0 for a new one, and is given it.
     /// This takes no memory but the core's: a list that is too long is refused by its first interfaces.
     pub fn install_multiple(&mut self, handle: &mut u64, interfaces: &[Interface]) -> u64
         ensures { AnswersNumber self.old (call.InstallMultipleProtocolInterfaces handle.old (map interface_in interfaces.now)) handle.old result handle.new self.new }

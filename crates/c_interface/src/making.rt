@@ -7,9 +7,9 @@ use crate::efi_core::EfiCore;
 use boot_core::Core;
 use c_machines::{DriverTable, MachineFault, are_tables, machine_of, table_drivers};
 use page_ranges::Status;
-use std::alloc::Global;
+use std::alloc::Allocator;
 
-impl EfiCore {
+impl<A: Allocator + Copy> EfiCore<A> {
     /// The core of a machine before any call. Its memory is described by records (EFI_MEMORY_DESCRIPTOR) of
     /// `descriptor_size` bytes each, its granule is 1 or 16 pages, and the value of a driver binding
     /// interface is the place of its driver among the tables.
@@ -17,12 +17,12 @@ impl EfiCore {
     /// The error is a number of EFI_STATUS. INVALID_PARAMETER: the records describe no machine, or the tables
     /// are none of drivers, which is found before memory is taken. OUT_OF_RESOURCES: memory ran out.
     pub fn make(
-        alloc: Global,
+        alloc: A,
         records: &[u8],
         descriptor_size: usize,
         granule: u64,
         tables: &[DriverTable],
-    ) -> Result<EfiCore, u64>
+    ) -> Result<EfiCore<A>, u64>
         ensures { MakesCore descriptor_size records.now granule tables.now result }
     {
         if !are_tables(tables) {
@@ -43,7 +43,7 @@ impl EfiCore {
     }
 }
 
-/// The status that a fault is returned as.
+/// The status of a fault.
 fn fault_status(fault: MachineFault) -> u64
     ensures { result ≡ fault_status fault }
 {

@@ -6,6 +6,7 @@ ghost use Rattle.c_interface.specs.Served.{AnswersStatus, AnswersNumber, Answers
 use crate::efi_core::{ABORTED, EfiCore};
 use boot_core::Call;
 use page_ranges::Status;
+use std::alloc::Allocator;
 
 /// The bytes of a record of the memory map.
 const RECORD_SIZE: u64 = 48;
@@ -13,9 +14,9 @@ const RECORD_SIZE: u64 = 48;
 /// The version of the records (EFI_MEMORY_DESCRIPTOR_VERSION).
 const VERSION: u32 = 1;
 
-impl EfiCore {
+impl<A: Allocator + Copy> EfiCore<A> {
     /// AllocatePages. The place `memory` has the highest address that is asked for, or the very address,
-    /// and receives the address of the pages.
+    /// and is given the address of the pages.
     pub fn allocate_pages(&mut self, kind: u32, mtype: u32, pages: u64, memory: &mut u64) -> u64
         ensures { AnswersNumber self.old (call.AllocatePages kind mtype pages memory.old) memory.old result memory.new self.new }
     {
@@ -35,7 +36,7 @@ impl EfiCore {
         self.answer(&Call::FreePages { memory, pages })
     }
 
-    /// GetMemoryMap. The caller's variables receive the bytes that the map takes, its key, the bytes of a record and
+    /// GetMemoryMap. The places are given the bytes that the map takes, its key, the bytes of a record and
     /// their version; where the buffer is too small all but the key.
     pub fn get_memory_map(
         &mut self,
@@ -92,7 +93,7 @@ impl EfiCore {
         self.tell(reply)
     }
 
-    /// AllocatePool. `*buffer` receives the block's address.
+    /// AllocatePool. The place `buffer` is given the block's address.
     pub fn allocate_pool(&mut self, mtype: u32, size: u64, buffer: &mut u64) -> u64
         ensures { AnswersNumber self.old (call.AllocatePool mtype size) buffer.old result buffer.new self.new }
     {

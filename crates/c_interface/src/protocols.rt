@@ -7,9 +7,10 @@ ghost use Rattle.c_interface.specs.Served.{AnswersStatus, AnswersNumber, Answers
 use crate::efi_core::EfiCore;
 use boot_core::Call;
 use c_machines::Guid;
+use std::alloc::Allocator;
 
-impl EfiCore {
-    /// InstallProtocolInterface. The place `handle` has the handle, 0 for a new one, and receives it.
+impl<A: Allocator + Copy> EfiCore<A> {
+    /// InstallProtocolInterface. The place `handle` has the handle, 0 for a new one, and is given it.
     pub fn install_protocol_interface(
         &mut self,
         handle: &mut u64,
@@ -60,7 +61,7 @@ impl EfiCore {
         })
     }
 
-    /// RegisterProtocolNotify. `*registration` receives the registration's key.
+    /// RegisterProtocolNotify. The place `registration` is given the registration's key.
     pub fn register_protocol_notify(
         &mut self,
         guid: &Guid,
@@ -73,7 +74,7 @@ impl EfiCore {
         self.answer_number(&Call::RegisterProtocolNotify { guid, event }, registration)
     }
 
-    /// LocateHandleBuffer. The caller's variables receive how many handles there are, and the address of their block
+    /// LocateHandleBuffer. The places are given how many handles there are, and the address of their block
     /// of the pool.
     pub fn locate_handle_buffer(
         &mut self,
@@ -93,7 +94,7 @@ impl EfiCore {
         )
     }
 
-    /// LocateProtocol. `*interface` receives the interface's value.
+    /// LocateProtocol. The place `interface` is given the interface's value.
     pub fn locate_protocol(&mut self, guid: &Guid, key: u64, interface: &mut u64) -> u64
         ensures { AnswersNumber self.old (call.LocateProtocol (guid_in guid.now) key) interface.old result interface.new self.new }
     {
@@ -101,7 +102,7 @@ impl EfiCore {
         self.answer_number(&Call::LocateProtocol { guid, key }, interface)
     }
 
-    /// OpenProtocol. `*interface` receives the interface's value, but by TEST_PROTOCOL.
+    /// OpenProtocol. The place `interface` is given the interface's value, but by TEST_PROTOCOL.
     pub fn open_protocol(
         &mut self,
         handle: u64,
@@ -137,7 +138,7 @@ impl EfiCore {
         })
     }
 
-    /// OpenProtocolInformation. The caller's variables receive how many open items there are, and the address of
+    /// OpenProtocolInformation. The places are given how many open items there are, and the address of
     /// their block of the pool.
     pub fn open_protocol_information(
         &mut self,
@@ -156,7 +157,7 @@ impl EfiCore {
         )
     }
 
-    /// HandleProtocol. `*interface` receives the interface's value.
+    /// HandleProtocol. The place `interface` is given the interface's value.
     pub fn handle_protocol(&mut self, handle: u64, guid: &Guid, interface: &mut u64) -> u64
         ensures { AnswersNumber self.old (call.HandleProtocol handle (guid_in guid.now)) interface.old result interface.new self.new }
     {
@@ -171,8 +172,8 @@ impl EfiCore {
         self.answer(&Call::DisconnectController { handle, driver })
     }
 
-    /// LocateDevicePath. The place `path` has the path's address in the pool, and receives the address behind
-    /// the nodes that matched; `*device` receives the handle.
+    /// LocateDevicePath. The place `path` has the path's address in the pool, and is given the address behind
+    /// the nodes that matched; the place `device` is given the handle.
     pub fn locate_device_path(&mut self, guid: &Guid, path: &mut u64, device: &mut u64) -> u64
         ensures { AnswersNumbers self.old (call.LocateDevicePath (guid_in guid.now) path.old) (device.old, path.old) result (device.new, path.new) self.new }
     {

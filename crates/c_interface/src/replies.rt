@@ -1,11 +1,12 @@
-//! What replies have.
+//! What replies carry.
 ghost use Rattle.std.specs.Prelude.{◌≡◌};
 ghost use Rattle.c_interface.specs.Replies.{returned_status, status_in, number_in, numbers_in, events_in};
 
 use boot_core::Reply;
 use page_ranges::Status;
+use std::alloc::Allocator;
 
-/// The status that a result is returned as.
+/// The status of a result.
 fn returned_status<R>(returned: &Result<R, Status>) -> Status
     ensures { result ≡ returned_status returned.now }
 {
@@ -16,7 +17,7 @@ fn returned_status<R>(returned: &Result<R, Status>) -> Status
 }
 
 /// The status of a reply.
-pub(crate) fn status_in(reply: &Reply) -> Status
+pub(crate) fn status_in<A: Allocator>(reply: &Reply<A>) -> Status
     ensures { result ≡ status_in reply.now }
 {
     match reply {
@@ -47,9 +48,9 @@ pub(crate) fn status_in(reply: &Reply) -> Status
     }
 }
 
-/// The number that a reply has: an address, a handle, a registration's key or the value of an
+/// The number that a reply carries: an address, a handle, a registration's key or the value of an
 /// interface.
-pub(crate) fn number_in(reply: &Reply) -> Option<u64>
+pub(crate) fn number_in<A: Allocator>(reply: &Reply<A>) -> Option<u64>
     ensures { result ≡ number_in reply.now }
 {
     match reply {
@@ -65,9 +66,9 @@ pub(crate) fn number_in(reply: &Reply) -> Option<u64>
     }
 }
 
-/// The two numbers that a reply has: how many items are in a block of the pool, and its address; or
+/// The two numbers that a reply carries: how many items are in a block of the pool, and its address; or
 /// a handle, and the address behind the nodes that its device path matched.
-pub(crate) fn numbers_in(reply: &Reply) -> Option<(u64, u64)>
+pub(crate) fn numbers_in<A: Allocator>(reply: &Reply<A>) -> Option<(u64, u64)>
     ensures { result ≡ numbers_in reply.now }
 {
     match reply {
@@ -79,7 +80,7 @@ pub(crate) fn numbers_in(reply: &Reply) -> Option<(u64, u64)>
 }
 
 /// The events that a call signals.
-pub(crate) fn events_in(reply: &Reply) -> &[u64]
+pub(crate) fn events_in<A: Allocator>(reply: &Reply<A>) -> &[u64]
     ensures { result.now ≡ events_in reply.now }
 {
     match reply {

@@ -1,7 +1,6 @@
 -- What the tables of drivers mean.
 use Rattle.std.specs.Prelude.{◌≡◌, ℕ, Bool, true, false, ◌&&◌, nat_le, List, length, map, take, Result, Ok, Err}
 use Rattle.std.specs.List.{list_all}
-use Rattle.std.specs.declared.alloc.Global.{Global}
 use Rattle.std.specs.declared.vec.Vec.{Vec}
 use Rattle.driver_connect.specs.declared.table.TableDriver.{TableDriver}
 use Rattle.c_machines.specs.declared.drivers.Child.{Child}
@@ -48,7 +47,7 @@ are_tables ts = nat_le (length ts) most_drivers && list_all fits ts
 
 -- What is read of tables: their drivers, in their order. Where they are none, Invalid; only where
 -- they are some may memory run out.
-abbrev pub ReadsDrivers : List DriverTable → Result (Vec TableDriver Global) MachineFault → Type 0
+abbrev pub ReadsDrivers : {A : Type 0} → List DriverTable → Result (Vec TableDriver A) MachineFault → Type 0
 ReadsDrivers ts (Ok drivers) = (are_tables ts ≡ true) × (map returned drivers.items ≡ map driver_in ts)
 ReadsDrivers ts (Err Invalid) = are_tables ts ≡ false
 ReadsDrivers ts (Err OutOfMemory) = are_tables ts ≡ true

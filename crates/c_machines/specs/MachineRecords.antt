@@ -3,7 +3,6 @@ use Rattle.std.specs.Prelude.{◌≡◌, ℕ, ◌/◌, ◌%◌, Bool, true, fals
 use Rattle.std.specs.List.{list_all}
 use Rattle.std.specs.List.Sorted.{IsNonDecreasingBy}
 use Rattle.std.specs.Simd.{first_chunks}
-use Rattle.std.specs.declared.alloc.Global.{Global}
 use Rattle.std.specs.declared.vec.Vec.{Vec}
 use Rattle.byteorder.specs.Endian.{little_number}
 use Rattle.page_ranges.specs.declared.ranges.Owner.TheVariants.{Given}
@@ -56,7 +55,7 @@ runs_in size bytes = map run_in (records_in size bytes)
 
 -- What is read of bytes: the runs that they describe. Where they are no records, Invalid or out of
 -- memory.
-abbrev pub ReadsRuns : ℕ → List ℕ → Result (Vec Run Global) MachineFault → Type 0
+abbrev pub ReadsRuns : {A : Type 0} → ℕ → List ℕ → Result (Vec Run A) MachineFault → Type 0
 ReadsRuns size bytes (Ok runs) = (are_records size bytes ≡ true) × (runs.items ≡ runs_in size bytes)
 ReadsRuns size bytes (Err Invalid) = are_records size bytes ≡ false
 ReadsRuns size bytes (Err OutOfMemory) = Unit {0}

@@ -9,7 +9,7 @@ use crate::faults::MachineFault;
 use crate::guids::{Guid, Interface};
 use arrayvec::ArrayVec;
 use driver_connect::{StartPlan, TableDriver};
-use std::alloc::Global;
+use std::alloc::Allocator;
 use uuid::Uuid;
 
 /// The most drivers of a core.
@@ -84,10 +84,10 @@ fn do_fit(children: &[Child]) -> bool
 /// The drivers of some tables, in their order.
 ///
 /// Invalid where they are not those of drivers ([`are_tables`]), which is found before memory is taken.
-pub fn table_drivers(
-    alloc: Global,
+pub fn table_drivers<A: Allocator>(
+    alloc: A,
     drivers: &[DriverTable],
-) -> Result<Vec<TableDriver>, MachineFault>
+) -> Result<Vec<TableDriver, A>, MachineFault>
     ensures { ReadsDrivers drivers.now result }
 {
     if !are_tables(drivers) {

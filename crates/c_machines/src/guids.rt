@@ -21,7 +21,7 @@ pub struct Interface {
 }
 
 impl Guid {
-    /// The GUID that C receives.
+    /// The GUID as C has it.
     pub fn new(guid: &Uuid) -> Guid
         ensures { result ≡ standard_guid guid.now }
     {
@@ -30,7 +30,7 @@ impl Guid {
         }
     }
 
-    /// The GUID that C passes.
+    /// The GUID that C hands in.
     pub fn uuid(&self) -> Uuid
         ensures { result ≡ swap_fields self.now.bytes }
     {

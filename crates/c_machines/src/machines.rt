@@ -6,7 +6,7 @@ use crate::faults::MachineFault;
 use boot_machines::Machine;
 use byteorder::{ByteOrder, LittleEndian};
 use page_ranges::{MemoryType, Owner, PAGE_SIZE, PageRange, Run};
-use std::alloc::Global;
+use std::alloc::Allocator;
 
 /// The fewest bytes of a record: those of EFI_MEMORY_DESCRIPTOR.
 pub const LEAST_SIZE: usize = 40;
@@ -15,16 +15,16 @@ pub const LEAST_SIZE: usize = 40;
 pub const MOST_RECORDS: usize = 65_536;
 
 /// The machine of some records, in any order, with a granule of a number of pages. A record is an
-/// EFI_MEMORY_DESCRIPTOR, and what lies behind it up to the descriptor size.
+/// EFI_MEMORY_DESCRIPTOR, and what follows it up to the descriptor size.
 ///
 /// Invalid where the descriptor size is below 40, the bytes are no whole number of records or more than
 /// 65,536 of them, a PhysicalStart lies within a page, or the runs that they describe are no machine's.
-pub fn machine_of(
-    alloc: Global,
+pub fn machine_of<A: Allocator>(
+    alloc: A,
     records: &[u8],
     descriptor_size: usize,
     granule: u64,
-) -> Result<Machine, MachineFault>
+) -> Result<Machine<A>, MachineFault>
     ensures { MakesMachine descriptor_size records.now granule result }
 {
     let mut runs = runs_of(alloc, records, descriptor_size)?;
@@ -33,7 +33,7 @@ pub fn machine_of(
 }
 
 /// The runs that records describe, in their order.
-fn runs_of(alloc: Global, records: &[u8], size: usize) -> Result<Vec<Run>, MachineFault>
+fn runs_of<A: Allocator>(alloc: A, records: &[u8], size: usize) -> Result<Vec<Run, A>, MachineFault>
     ensures { ReadsRuns size records.now result }
 {
     if size < LEAST_SIZE || records.len() % size != 0 || records.len() / size > MOST_RECORDS {

@@ -6,7 +6,7 @@ use c_machines::{MachineFault, machine_of};
 use descriptor_table::RunTable;
 use page_ranges::Status;
 use page_services::PageBook;
-use std::alloc::Global;
+use std::alloc::Allocator;
 
 /// AllocateMaxAddress: the range ends by the byte at the address of the request.
 const ALLOCATE_MAX_ADDRESS: u32 = 1;
@@ -19,8 +19,8 @@ const ALLOCATE_MAX_ADDRESS: u32 = 1;
 ///
 /// The status is a number of EFI_STATUS. INVALID_PARAMETER: the records state no machine, or a type that no
 /// request may name, or no pages. OUT_OF_RESOURCES: no place is permitted, or memory ran out.
-pub fn place(
-    alloc: Global,
+pub fn place<A: Allocator + Copy>(
+    alloc: A,
     records: &[u8],
     descriptor_size: usize,
     granule: u64,
@@ -46,9 +46,9 @@ pub fn place(
 }
 
 /// The address of the best place on a machine.
-fn best_address(
-    alloc: Global,
-    machine: &Machine,
+fn best_address<A: Allocator + Copy>(
+    alloc: A,
+    machine: &Machine<A>,
     mtype: u32,
     pages: u64,
     limit: u64,

@@ -6,4 +6,4 @@ use Rattle.c_interface.specs.Served.{AnswersNumber}
 use Rattle.boot_services_c.proofs.protocols.RafkudinInstallMultipleProtocolInterfaces.Goals as goal
 
 pub returns : goal.returns
-returns c = subst (λ (core : EfiCoreValue). AnswersNumber core (call.InstallMultipleProtocolInterfaces c.args.handle.now (map interface_in c.args.interfaces.now)) c.args.handle.now c.install_multiple.result c.install_multiple.new.handle c.install_multiple.new.self) c.held.ensures.value c.install_multiple.ensures
+returns c = subst (λ (core : EfiCoreValue Global). AnswersNumber core (call.InstallMultipleProtocolInterfaces c.args.handle.now (map interface_in c.args.interfaces.now)) c.args.handle.now c.install_multiple.result c.install_multiple.new.handle c.install_multiple.new.self) c.held.ensures.value c.install_multiple.ensures

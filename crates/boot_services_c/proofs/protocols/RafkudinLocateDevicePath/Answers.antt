@@ -1,4 +1,5 @@
 use Rattle.std.proofs.Common.{subst}
+use Rattle.std.specs.declared.alloc.Global.{Global}
 use Rattle.boot_calls.specs.declared.calls.Call.TheVariants as call
 use Rattle.c_machines.specs.Guids.{guid_in}
 use Rattle.c_interface.specs.EfiCores.{EfiCoreValue}
@@ -6,4 +7,4 @@ use Rattle.c_interface.specs.Served.{AnswersNumbers}
 use Rattle.boot_services_c.proofs.protocols.RafkudinLocateDevicePath.Goals as goal
 
 pub returns : goal.returns
-returns c = subst (λ (core : EfiCoreValue). AnswersNumbers core (call.LocateDevicePath (guid_in c.args.guid.now) c.args.path.now) (c.args.device.now, c.args.path.now) c.locate_device_path.result (c.locate_device_path.new.device, c.locate_device_path.new.path) c.locate_device_path.new.self) c.held.ensures.value c.locate_device_path.ensures
+returns c = subst (λ (core : EfiCoreValue Global). AnswersNumbers core (call.LocateDevicePath (guid_in c.args.guid.now) c.args.path.now) (c.args.device.now, c.args.path.now) c.locate_device_path.result (c.locate_device_path.new.device, c.locate_device_path.new.path) c.locate_device_path.new.self) c.held.ensures.value c.locate_device_path.ensures

@@ -1,4 +1,5 @@
 use Rattle.std.proofs.Common.{subst}
+use Rattle.std.specs.declared.alloc.Global.{Global}
 use Rattle.boot_calls.specs.declared.calls.Call.TheVariants as call
 use Rattle.c_machines.specs.Guids.{guid_in}
 use Rattle.c_interface.specs.EfiCores.{EfiCoreValue}
@@ -6,4 +7,4 @@ use Rattle.c_interface.specs.Served.{AnswersNumber}
 use Rattle.boot_services_c.proofs.protocols.RafkudinOpenProtocol.Goals as goal
 
 pub returns : goal.returns
-returns c = subst (λ (core : EfiCoreValue). AnswersNumber core (call.OpenProtocol c.args.handle (guid_in c.args.guid.now) c.args.agent c.args.controller c.args.attributes) c.args.interface.now c.open_protocol.result c.open_protocol.new.interface c.open_protocol.new.self) c.held.ensures.value c.open_protocol.ensures
+returns c = subst (λ (core : EfiCoreValue Global). AnswersNumber core (call.OpenProtocol c.args.handle (guid_in c.args.guid.now) c.args.agent c.args.controller c.args.attributes) c.args.interface.now c.open_protocol.result c.open_protocol.new.interface c.open_protocol.new.self) c.held.ensures.value c.open_protocol.ensures

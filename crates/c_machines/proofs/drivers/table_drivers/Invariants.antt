@@ -5,4 +5,4 @@ use Rattle.c_machines.proofs.drivers.table_drivers.Given as goal
 
 -- the tables from this place on are left
 abbrev pub invariant-loop-driver : goal.invariant-loop-driver
-invariant-loop-driver l = AreLeft driver_in fits l.drivers (map returned l.tables.items) (drop l.driver-index l.drivers)
+invariant-loop-driver g l = AreLeft driver_in fits l.drivers (map returned l.tables.items) (drop l.driver-index l.drivers)

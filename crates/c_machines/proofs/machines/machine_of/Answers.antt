@@ -5,7 +5,7 @@ use Rattle.c_machines.proofs.DescribedMachine.{made}
 use Rattle.c_machines.proofs.machines.machine_of.Goals as goal
 
 pub returns : goal.returns
-returns c =
+returns g c =
     let sorted = c.sort_unstable_by_key.new.self.items in
     let read = c.in_ok-runs.ensures in
     let order = IsNonDecreasingBy-from_sort_by_key (λ (r : Run). r.range.first) _ c.sort_unstable_by_key.ensures.sorted (λ a r q k. search rules) in

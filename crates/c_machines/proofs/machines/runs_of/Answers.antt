@@ -6,7 +6,7 @@ use Rattle.c_machines.proofs.Records.{first_record, no_record, no_records, some_
 use Rattle.c_machines.proofs.machines.runs_of.Goals as goal
 
 pub returns-in-None-run_in : goal.returns-in-None-run_in
-returns-in-None-run_in c =
+returns-in-None-run_in g c =
     let s = c.in-Some.ensures.steps in
     let i = c.loop-record.invariant in
     let size = c.args.size in
@@ -19,7 +19,7 @@ returns-in-None-run_in c =
     (refused run_in is_aligned (records_in size bytes) c.loop-record.runs.items chunk (records_in size rest) fails (rw next at i.left))
 
 pub loop-record-preserved : goal.loop-record-preserved
-loop-record-preserved c =
+loop-record-preserved g c =
     let s = c.in-Some.ensures.steps in
     let i = c.loop-record.invariant in
     let size = c.args.size in
@@ -36,7 +36,7 @@ loop-record-preserved c =
     }
 
 pub returns : goal.returns
-returns c =
+returns g c =
     let s = c.in-None.ensures.steps in
     let i = c.loop-record.invariant in
     let rest = chunks_exact_rest c.loop-record.record-iterator in

@@ -5,8 +5,8 @@ use Rattle.c_interface.specs.Served.{ReturnsBlock}
 use Rattle.c_interface.proofs.efi_core.EfiCore.block.Goals as goal
 
 pub returns : goal.returns
-returns c =
-    let is = ap (λ (x : EfiCoreValue). x.block) (sym c.self.view_is) ∙ c.in-Text.is in
+returns g c =
+    let is = ap (λ (x : EfiCoreValue g.row.A.Denot). x.block) (sym c.self.view_is) ∙ c.in-Text.is in
     let bytes = c.in-Text.text.items in
     let long = ap length (sym c.as_slice.ensures.value) ∙ c.as_slice.ensures.len in
     let fits : length bytes ≤ length c.args.buffer.now = omega (arith, long, c.len-2.ensures, c.if-buffer-len.false) in

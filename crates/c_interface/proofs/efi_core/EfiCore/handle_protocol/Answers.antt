@@ -4,4 +4,4 @@ use Rattle.c_interface.specs.Served.{AnswersNumber}
 use Rattle.c_interface.proofs.efi_core.EfiCore.handle_protocol.Goals as goal
 
 pub returns : goal.returns
-returns c = subst (λ guid. AnswersNumber c.args.self.now (call.HandleProtocol c.args.handle guid) c.args.interface.now c.answer_number.result c.answer_number.new.place c.answer_number.new.self) c.uuid-guid.ensures c.answer_number.ensures
+returns g c = subst (λ guid. AnswersNumber c.args.self.now (call.HandleProtocol c.args.handle guid) c.args.interface.now c.answer_number.result c.answer_number.new.place c.answer_number.new.self) c.uuid-guid.ensures c.answer_number.ensures

@@ -5,7 +5,7 @@ use Rattle.c_interface.proofs.LongLists.{first_are_enough}
 use Rattle.c_interface.proofs.efi_core.EfiCore.install_multiple.Goals as goal
 
 pub returns : goal.returns
-returns c =
+returns g c =
     let before = c.args.self.now in
     let after = c.install_pairs.new.self in
     let handle = c.args.handle.now in

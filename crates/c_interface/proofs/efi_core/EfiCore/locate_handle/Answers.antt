@@ -9,7 +9,7 @@ use Rattle.c_interface.proofs.ReturnedLists.{handles_returned}
 use Rattle.c_interface.proofs.efi_core.EfiCore.locate_handle.Goals as goal
 
 pub returns-in-Some : goal.returns-in-Some
-returns-in-Some c =
+returns-in-Some g c =
     let size = c.handle_bytes-size.ensures in
     subst (λ bytes. AnswersHandles c.args.self.now (call.LocateHandle c.args.search (guid_in c.args.guid.now) c.args.key bytes) c.args.needed.now c.args.buffer.now c.answer-status.result c.in-Some.size c.lay.new.buffer c.answer-status.new.self) size
     (subst (λ guid. AnswersHandles c.args.self.now (call.LocateHandle c.args.search guid c.args.key c.handle_bytes-size.result) c.args.needed.now c.args.buffer.now c.answer-status.result c.in-Some.size c.lay.new.buffer c.answer-status.new.self) c.uuid-guid.ensures
@@ -17,7 +17,7 @@ returns-in-Some c =
     (ap (returned_or c.args.needed.now) (sym c.in-Some.is ∙ c.returned_size.ensures)) (c.lay.ensures ∙ ap (λ handles. laid handles c.args.buffer.now) c.as_slice.ensures.value)))
 
 pub returns-in_default-returned_size : goal.returns-in_default-returned_size
-returns-in_default-returned_size c =
+returns-in_default-returned_size g c =
     let size = c.handle_bytes-size.ensures in
     subst (λ bytes. AnswersHandles c.args.self.now (call.LocateHandle c.args.search (guid_in c.args.guid.now) c.args.key bytes) c.args.needed.now c.args.buffer.now c.answer-status.result c.args.needed.now c.lay.new.buffer c.answer-status.new.self) size
     (subst (λ guid. AnswersHandles c.args.self.now (call.LocateHandle c.args.search guid c.args.key c.handle_bytes-size.result) c.args.needed.now c.args.buffer.now c.answer-status.result c.args.needed.now c.lay.new.buffer c.answer-status.new.self) c.uuid-guid.ensures
