@@ -238,8 +238,9 @@ RAFKUDIN_API rafkudin_uint64 RafkudinMake(const uint8_t *records, size_t size,
 /* Frees all memory of a core, also once boot services have ended. With null it does nothing. */
 RAFKUDIN_API void RafkudinFree(struct rafkudin *core);
 
-/* Whether calls keep the certificates of their placements from now on. At first they don't: it
- * costs a copy of the memory map for each call that may place pages. */
+/* Whether calls make and keep the certificates of their placements from now on. At first they
+ * don't: it costs a list of bounds and a copy of the memory map for each call that may place
+ * pages. The places are the same either way. */
 RAFKUDIN_API void RafkudinCertify(struct rafkudin *core, bool certify);
 
 /* The certificate of the last service that was called, as the text of a certificate block

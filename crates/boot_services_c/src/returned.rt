@@ -3,7 +3,7 @@ ghost use Rattle.std.specs.Prelude.{◌≡◌, length, slice_get};
 ghost use Rattle.page_ranges.specs.MemoryMap.{memory_map};
 ghost use Rattle.c_interface.specs.Buffers.{laid};
 ghost use Rattle.c_interface.specs.Checks.{ChecksBlock, ReturnsEntry};
-ghost use Rattle.c_interface.specs.EfiCores.{last_events};
+ghost use Rattle.c_interface.specs.EfiCores.{certifying_core, last_events};
 ghost use Rattle.c_interface.specs.Served.{ReturnsBlock};
 ghost use Rattle.boot_services_c.specs.Versions.{version};
 
@@ -22,10 +22,10 @@ pub extern "C" fn RafkudinVersion() -> u32
     VERSION
 }
 
-/// Keeps the certificates of placements from now on, or keeps none.
+/// Makes and keeps the certificates of placements from now on, or makes none.
 #[unsafe(no_mangle)]
 pub extern "C" fn RafkudinCertify(core: &mut Rafkudin, certify: bool)
-    ensures { core.new.core ≡ record { core = core.old.core.core; certifies = certify; last = core.old.core.last; block = core.old.core.block } }
+    ensures { core.new.core ≡ certifying_core certify core.old.core }
 {
     core.held().certify(certify);
 }

@@ -8,7 +8,7 @@ use Rattle.certificate_blocks.specs.BlockText.{block_text}
 use Rattle.driver_connect.specs.Drivers.{Meaning, is_free}
 use Rattle.driver_connect.specs.declared.table.TableDriver.{TableDriver}
 use Rattle.boot_replies.specs.declared.replies.Reply.{Reply}
-use Rattle.boot_core.specs.Machines.{CoreValue}
+use Rattle.boot_core.specs.Machines.{CoreValue, certifying_state}
 use Rattle.c_interface.specs.declared.efi_core.LastBlock.{LastBlock}
 use Rattle.c_interface.specs.declared.efi_core.LastBlock.TheVariants as block
 use Rattle.c_interface.specs.Replies.{events_in}
@@ -20,6 +20,16 @@ pub record EfiCoreValue (A : Type 0) : Type 0 where
   pub certifies : Bool
   pub last : Option (Reply A)
   pub block : LastBlock A
+
+-- the same core, which from now on makes the certificates of its placements and keeps their blocks,
+-- or makes none
+abbrev pub certifying_core : {A : Type 0} → Bool → EfiCoreValue A → EfiCoreValue A
+certifying_core certifies c = record {
+    core = record { state = certifying_state certifies c.core.state; drivers = c.core.drivers };
+    certifies = certifies;
+    last = c.last;
+    block = c.block
+  }
 
 -- what a driver with fixed answers means
 abbrev pub table_meaning : TableDriver → Meaning

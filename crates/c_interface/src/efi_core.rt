@@ -5,7 +5,7 @@ ghost use Rattle.page_ranges.specs.Statuses.{status_number};
 ghost use Rattle.boot_replies.specs.Certified.{certified};
 ghost use Rattle.boot_replies.specs.Certified.{map_before};
 ghost use Rattle.c_interface.specs.Buffers.{laid};
-ghost use Rattle.c_interface.specs.EfiCores.{LeavesBlock, forgotten, last_events};
+ghost use Rattle.c_interface.specs.EfiCores.{LeavesBlock, certifying_core, forgotten, last_events};
 ghost use Rattle.c_interface.specs.Replies.{status_in};
 ghost use Rattle.c_interface.specs.Served.{AnswersStatus, AnswersNumber, AnswersNumbers, ReturnsBlock};
 
@@ -62,11 +62,12 @@ impl<A: Allocator + Copy> EfiCore<A> {
         }
     }
 
-    /// Keeps the blocks of the certificates of placements from now on, for which the memory map is copied
-    /// before each, or keeps none.
+    /// Makes the certificates of placements from now on and keeps their blocks, for which the memory map
+    /// is copied before each, or makes none.
     pub fn certify(&mut self, certifies: bool)
-        ensures { self.new ≡ record { core = self.old.core; certifies = certifies; last = self.old.last; block = self.old.block } }
+        ensures { self.new ≡ certifying_core certifies self.old }
     {
+        self.core.certify(certifies);
         self.certifies = certifies;
     }
 

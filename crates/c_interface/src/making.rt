@@ -37,7 +37,10 @@ impl<A: Allocator + Copy> EfiCore<A> {
             Err(fault) => return Err(fault_status(fault)),
         };
         match Core::new(alloc, machine, drivers) {
-            Ok(core) => Ok(EfiCore::new(alloc, core)),
+            Ok(mut core) => {
+                core.certify(false);
+                Ok(EfiCore::new(alloc, core))
+            }
             Err(_) => Err(Status::OutOfResources.number()),
         }
     }
