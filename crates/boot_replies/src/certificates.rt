@@ -70,7 +70,11 @@ fn request_for<A: Allocator>(granule: u64, call: &Call<A>, reply: &Reply<A>) -> 
         Call::AllocatePool { mtype, size } => {
             extent_request(granule, MemoryType::new(*mtype), *size)
         }
-        Call::LocateHandleBuffer { .. } => list_request(granule, HANDLE_SIZE, returned_count(reply)),
+        Call::LocateHandleBuffer { .. } => list_request(
+            granule,
+            HANDLE_SIZE,
+            returned_count(reply),
+        ),
         Call::OpenProtocolInformation { .. } => list_request(
             granule,
             ENTRY_SIZE,

@@ -25,11 +25,11 @@ pub record EfiCoreValue (A : Type 0) : Type 0 where
 -- or makes none
 abbrev pub certifying_core : {A : Type 0} → Bool → EfiCoreValue A → EfiCoreValue A
 certifying_core certifies c = record {
-    core = record { state = certifying_state certifies c.core.state; drivers = c.core.drivers };
-    certifies = certifies;
-    last = c.last;
-    block = c.block
-  }
+  core = record { state = certifying_state certifies c.core.state; drivers = c.core.drivers };
+  certifies = certifies;
+  last = c.last;
+  block = c.block;
+}
 
 -- what a driver with fixed answers means
 abbrev pub table_meaning : TableDriver → Meaning

@@ -1,7 +1,7 @@
 //! Drawn installations and registrations.
 use super::draws::Draws;
 use super::plain_lists::{self, Lists};
-use super::{Services, Returned, assert_tells, guid, tell, tell_one};
+use super::{Returned, Services, assert_tells, guid, tell, tell_one};
 use boot_core::{Call, CallPairs, Core, Reply};
 use driver_connect::TableDriver;
 use page_ranges::Status;

@@ -1,5 +1,5 @@
 //! Lists in pool blocks.
-use super::{Services, Returned, assert_tells, tell, returned_by};
+use super::{Returned, Services, assert_tells, returned_by, tell};
 use boot_core::{Call, Core, PoolList, Reply};
 use driver_connect::TableDriver;
 use page_ranges::Status;

@@ -2,7 +2,7 @@
 use super::draws::Draws;
 use super::listing::assert_list;
 use super::plain_lists::{Item, Lists};
-use super::{Services, Returned, assert_tells, guid, plain_opens, tell};
+use super::{Returned, Services, assert_tells, guid, plain_opens, tell};
 use boot_core::{Call, Core, Reply};
 use driver_connect::TableDriver;
 use page_ranges::Status;

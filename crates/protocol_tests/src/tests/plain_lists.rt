@@ -196,7 +196,12 @@ pub fn install(
 }
 
 /// Registers an event, and returns the key.
-pub fn register(rt: &(impl AllocGlobal + Abort), lists: &mut Lists, guid: u8, event: u64) -> Returned {
+pub fn register(
+    rt: &(impl AllocGlobal + Abort),
+    lists: &mut Lists,
+    guid: u8,
+    event: u64,
+) -> Returned {
     let key = (lists.registrations.len() as u64).saturating_add(1);
     let mark = lists.last_stamp;
     lists
@@ -235,7 +240,12 @@ fn fitted(rt: &(impl AllocGlobal + Abort), handles: &[u64], room: u64) -> Return
 }
 
 /// The handle that a key meets next, which is taken if it fits.
-fn locate_next(rt: &(impl AllocGlobal + Abort), lists: &mut Lists, key: u64, room: u64) -> Returned {
+fn locate_next(
+    rt: &(impl AllocGlobal + Abort),
+    lists: &mut Lists,
+    key: u64,
+    room: u64,
+) -> Returned {
     let Some(registration) = lists.registration(key) else {
         return tell(rt, Status::InvalidParameter, &[]);
     };

@@ -3,7 +3,7 @@ use super::draws::Draws;
 use super::listing::assert_list;
 use super::plain_lists::{self, Lists};
 use super::plain_opens::push_bytes;
-use super::{Services, Returned, assert_tells, guid, tell, tell_one};
+use super::{Returned, Services, assert_tells, guid, tell, tell_one};
 use boot_core::{Call, Core, Reply};
 use driver_connect::TableDriver;
 use page_ranges::Status;

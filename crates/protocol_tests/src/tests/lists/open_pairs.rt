@@ -82,7 +82,10 @@ fn assert_letters(
     let (handle, byte, agent, controller) = call;
     for (attributes, letter) in SECOND.iter().zip(letters.iter()) {
         let returned = opens.decide(handles, handle, guid(byte), agent, controller, *attributes);
-        assert!(rt; returned == decision_of(rt, *letter), "{handle} {attributes}");
+        assert!(rt;
+            returned == decision_of(rt, *letter),
+            "{handle} {attributes}"
+        );
     }
 }
 
