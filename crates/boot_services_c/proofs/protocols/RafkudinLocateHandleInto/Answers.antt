@@ -1,4 +1,5 @@
 use Rattle.std.proofs.Common.{length, subst}
+use Rattle.std.specs.declared.alloc.Global.{Global}
 use Rattle.boot_calls.specs.declared.calls.Call.TheVariants as call
 use Rattle.c_machines.specs.Guids.{guid_in}
 use Rattle.c_interface.specs.EfiCores.{EfiCoreValue}
