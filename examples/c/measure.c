@@ -440,19 +440,22 @@ static bool reinstall_driven(struct load *load, size_t number)
                                               handle) == RAFKUDIN_SUCCESS;
 }
 
-/* Opens the interface that the driver has open exclusively, which stops the driver. */
+/* Opens the interface that the driver has open exclusively, which stops the driver. Its agent is
+ * the controller. */
 static bool open_exclusive(struct load *load, size_t number)
 {
-    uint64_t value;
+    uint64_t handle = controller_at(number), value;
 
-    return RafkudinOpenProtocol(load->core, controller_at(number), driven_kind(load), &value,
-                                DRIVER, 0, RAFKUDIN_EXCLUSIVE) == RAFKUDIN_SUCCESS;
+    return RafkudinOpenProtocol(load->core, handle, driven_kind(load), &value, handle, 0,
+                                RAFKUDIN_EXCLUSIVE) == RAFKUDIN_SUCCESS;
 }
 
 static bool close_exclusive(struct load *load, size_t number)
 {
-    return RafkudinCloseProtocol(load->core, controller_at(number), driven_kind(load), DRIVER,
-                                 0) == RAFKUDIN_SUCCESS;
+    uint64_t handle = controller_at(number);
+
+    return RafkudinCloseProtocol(load->core, handle, driven_kind(load), handle, 0) ==
+           RAFKUDIN_SUCCESS;
 }
 
 /* Takes out the interface that the driver has open, which stops the driver. */
