@@ -1,28 +1,12 @@
 //! Calls that take memory, and calls that take none, on the machine of `heaps`.
 
 /// Calls that take memory and change the core: each the calls before it, the call, and what it prints.
-pub const CHANGING: [(&str, &str, &str); 20] = [
+pub const CHANGING: [(&str, &str, &str); 16] = [
     ("", "pages 0 4 10 0", "1 pages SUCCESS address=0x7f6000\n"),
     (
         "",
         "pages 1 6 3 0x9ffff",
         "1 pages SUCCESS address=0x9d000\n",
-    ),
-    (
-        "",
-        "pages 2 4 2 0x9e000",
-        "1 pages SUCCESS address=0x9e000\n",
-    ),
-    (
-        "pages 0 4 10 0
-pages 0 4 5 0",
-        "free-pages 0x7f1000 15",
-        "1 free-pages SUCCESS\n",
-    ),
-    (
-        "pages 0 4 10 0",
-        "free-pages 0x7f8000 2",
-        "1 free-pages SUCCESS\n",
     ),
     ("map 191", "pool 4 24", "1 pool SUCCESS address=0x7ff008\n"),
     (
@@ -31,13 +15,6 @@ pool 4 25
 write 0x7ff008 a5",
         "pool 4 4088",
         "1 pool SUCCESS address=0x7fe008\n",
-    ),
-    (
-        "pool 4 24
-pool 4 4088
-write 0x7ff008 a5",
-        "free-pool 0x7fe008",
-        "1 free-pool SUCCESS\n",
     ),
     (
         "notify 11111111-1111-1111-1111-111111111111 7",
@@ -117,6 +94,33 @@ install 0 18a031ab-b443-4d1a-a5c0-0c09261e9f71 0 0
 connect 1 0",
         "disconnect 1 0",
         "1 disconnect SUCCESS\n",
+    ),
+];
+
+/// Calls that change the core in place, and take no memory.
+pub const IN_PLACE: [(&str, &str, &str); 4] = [
+    (
+        "",
+        "pages 2 4 2 0x9e000",
+        "1 pages SUCCESS address=0x9e000\n",
+    ),
+    (
+        "pages 0 4 10 0
+pages 0 4 5 0",
+        "free-pages 0x7f1000 15",
+        "1 free-pages SUCCESS\n",
+    ),
+    (
+        "pages 0 4 10 0",
+        "free-pages 0x7f8000 2",
+        "1 free-pages SUCCESS\n",
+    ),
+    (
+        "pool 4 24
+pool 4 4088
+write 0x7ff008 a5",
+        "free-pool 0x7fe008",
+        "1 free-pool SUCCESS\n",
     ),
 ];
 

@@ -1,5 +1,5 @@
 //! Calls whose memory is refused, each allocation in turn.
-use super::call_rows::{ASKING, CHANGING, NOT_TAKING, QUESTIONS};
+use super::call_rows::{ASKING, CHANGING, IN_PLACE, NOT_TAKING, QUESTIONS};
 use super::heaps::{NO_TEXT, core_on, digest_of, printed};
 use refusing_memory::Refusing;
 use std::process::Abort;
@@ -151,10 +151,16 @@ fn questions_show_changes(rt: HostRuntime) {
     for (before, call, _reply) in &CHANGING {
         assert!(rt; answers(&rt, before, call) != answers(&rt, before, ""));
     }
+    for (before, call, _reply) in &IN_PLACE {
+        assert!(rt; answers(&rt, before, call) != answers(&rt, before, ""));
+    }
 }
 
 #[test]
 fn calls_take_no_memory(rt: HostRuntime) {
+    for row in &IN_PLACE {
+        assert!(rt; refusals(&rt, row) == 0);
+    }
     for row in &NOT_TAKING {
         assert!(rt; refusals(&rt, row) == 0);
     }
