@@ -1,14 +1,14 @@
 -- Blocks by number: which one is found, and what is found once one has changed.
 use Rattle.std.proofs.Math.ListN.{set}
-use Rattle.std.proofs.Common.{◌≡◌, ℕ, zero, suc, ◌<◌, ◌==◌, ◌++◌, not, nat_lt, Bool, true, false, cond, List, [], ◌∷◌, map, length, Option, Some, None, is_some, inl, inr, refl, sym, ap, ◌∙◌, arith, subst}
+use Rattle.std.proofs.Common.{◌≡◌, ℕ, zero, suc, ◌<◌, ◌==◌, ◌++◌, not, nat_lt, Bool, true, false, cond, List, [], ◌∷◌, map, length, Option, Some, None, is_some, inl, inr, refl, sym, ap, ◌∙◌, arith, subst, length-append}
 use Rattle.std.specs.List.{filter, find, slice_get, insert, remove, AllByRecursion}
 use Rattle.std.specs.Option.{option_map}
 use Rattle.std.proofs.lemmas.Bool.{cases_Bool, eq-eqb, ne_eqb, ltb-true}
 use Rattle.std.proofs.lemmas.Option.{same_Some}
 use Rattle.guid_handles.specs.Sorting.{Ascending, place, kept_if}
-use Rattle.guid_handles.proofs.SortedLists.{all_map, all_mapped, all_under, found_none, find_none, find_split, find_insert_other, find_insert_new, ascending_insert, map_insert, place_map, numbers_split}
+use Rattle.guid_handles.proofs.SortedLists.{all_insert, all_map, all_mapped, all_remove, all_set, all_under, found_none, find_none, find_split, find_insert_other, find_insert_new, ascending_insert, ascending_remove, map_insert, map_remove, place_map, numbers_split}
 use Rattle.guid_handles.proofs.Grouped.{find_set_new, find_set_other, kept_one, one_there, none_of, some_map, is_same, above}
-use Rattle.open_agents.specs.Blocks.{Block, IsPlaceOf, AscendByNumber, ChangesBlock, ChangesBlocks, IsFree, with_last, without_place, block_at, one_or_empty, empty_block, is_numbered}
+use Rattle.open_agents.specs.Blocks.{AreBlocks, Block, IsPlaceOf, AscendByNumber, ChangesBlock, ChangesBlocks, IsFree, with_last, without_place, block_at, one_or_empty, empty_block, is_numbered}
 
 -- ---- places in lists
 
@@ -17,22 +17,6 @@ got_all P [] zero x h e = absurd cc
 got_all P [] (suc at) x h e = absurd cc
 got_all P (y ∷ ys) zero x h e = subst P (same_Some y x e) h.0
 got_all P (y ∷ ys) (suc at) x h e = got_all P ys at x h.1 e
-
-set_long : {X : Type 0} (xs : List X) (at : ℕ) (y : X) → at < length xs → at < length (set xs at y)
-set_long [] at y l = absurd (omega arith)
-set_long (x ∷ xs) zero y l = omega arith
-set_long (x ∷ xs) (suc at) y l = omega (arith, set_long xs at y (omega arith))
-
-set_there : {X : Type 0} (xs : List X) (at : ℕ) (y : X) → at < length xs → slice_get (set xs at y) at ≡ Some y
-set_there [] at y l = absurd (omega arith)
-set_there (x ∷ xs) zero y l = refl
-set_there (x ∷ xs) (suc at) y l = set_there xs at y (omega arith)
-
-place_set : (blocks : List Block) (at : ℕ) (k new : Block) (n : ℕ) → slice_get blocks at ≡ Some k → new.number ≡ k.number → place (λ h. nat_lt h.number n) (set blocks at new) ≡ place (λ h. nat_lt h.number n) blocks
-place_set [] zero k new n e s = refl
-place_set [] (suc at) k new n e s = refl
-place_set (h ∷ hs) zero k new n e s = let r : new.number ≡ h.number = s ∙ ap (λ x. x.number) (sym (same_Some h k e)) in rw r refl
-place_set (h ∷ hs) (suc at) k new n e s = ap (λ r. cond (nat_lt h.number n) (suc r) 0) (place_set hs at k new n e s)
 
 -- ---- finding
 
@@ -123,14 +107,6 @@ numbers_set (h ∷ hs) (suc at) k new e s = ap (λ r. h.number ∷ r) (numbers_s
 pub ascend_set : (blocks : List Block) (at : ℕ) (k new : Block) → AscendByNumber blocks → slice_get blocks at ≡ Some k → new.number ≡ k.number → AscendByNumber (set blocks at new)
 ascend_set blocks at k new a e s = subst (Ascending (λ x y. x < y)) (sym (numbers_set blocks at k new e s)) a
 
--- the place of a block stays
-pub placed_set : (blocks : List Block) (n at : ℕ) (k new : Block) → IsPlaceOf n blocks at → slice_get blocks at ≡ Some k → new.number ≡ k.number → IsPlaceOf n (set blocks at new) at
-placed_set blocks n at k new p e s =
-    let same : k.number ≡ n = number_there blocks n at k p e in
-    let there : find (is_numbered n) (set blocks at new) ≡ Some new =
-    rw p.2 (find_set_new (is_numbered n) (λ h. nat_lt h.number n) (lower_other n) blocks new (subst (λ i. i < length blocks) p.2 p.0) (eq-eqb new.number n (s ∙ same))) in
-    (set_long blocks at new p.0, there ∙ sym (set_there blocks at new p.0), p.2 ∙ sym (place_set blocks at k new n e s))
-
 -- ---- a block comes or goes
 
 pub ascend_insert : (blocks : List Block) (new : Block) (at : ℕ) → AscendByNumber blocks → find (is_numbered new.number) blocks ≡ None → at ≡ place (λ k. nat_lt k.number new.number) blocks → AscendByNumber (insert blocks at new)
@@ -171,34 +147,46 @@ find_remove_own (h ∷ hs) n (suc at) k a e s =
     let f : is_numbered n h ≡ false = ne_eqb h.number n (λ w. omega (arith, l, w, s)) in
     rw f (find_remove_own hs n at k a.1 e s)
 
--- an empty block that goes changes nothing
-pub block_remove : (blocks : List Block) (n at : ℕ) (k : Block) → AscendByNumber blocks → IsPlaceOf n blocks at → slice_get blocks at ≡ Some k → k ≡ empty_block n → (m : ℕ) → block_at (remove blocks at) m ≡ block_at blocks m
-block_remove blocks n at k a p e z m =
+-- a block that goes with all that it has changes to an empty one
+pub block_goes : (blocks : List Block) (n at : ℕ) (k : Block) (f : Block → Block) → AscendByNumber blocks → IsPlaceOf n blocks at → slice_get blocks at ≡ Some k → f k ≡ empty_block n → ChangesBlock n f blocks (remove blocks at)
+block_goes blocks n at k f a p e z m =
     let same : k.number ≡ n = number_there blocks n at k p e in
     elim (cases_Bool (n == m)) [
       | inl y ↦
           let s : n ≡ m = is_same n m y in
-          rw (← s) (ap (one_or_empty n) (find_remove_own blocks n at k a e same) ∙ sym z ∙ sym (block_there blocks n at k p e))
-      | inr f ↦ ap (one_or_empty m) (find_remove_other (is_numbered m) blocks at k e (rw same f))
+          rw y (rw (← s) (ap (one_or_empty n) (find_remove_own blocks n at k a e same) ∙ sym z ∙ ap f (sym (block_there blocks n at k p e))))
+      | inr d ↦ rw d (ap (one_or_empty m) (find_remove_other (is_numbered m) blocks at k e (rw same d)))
     ]
 
-pub all_remove : {X : Type 0} (P : X → Type 0) (xs : List X) (at : ℕ) → AllByRecursion P xs → AllByRecursion P (remove xs at)
-all_remove P [] zero h = tt
-all_remove P [] (suc at) h = tt
-all_remove P (x ∷ xs) zero h = h.1
-all_remove P (x ∷ xs) (suc at) h = (h.0, all_remove P xs at h.1)
+-- ---- what is left in a block
 
-pub ascending_remove : {X : Type 0} (R : X → X → Type 0) (xs : List X) (at : ℕ) → Ascending R xs → Ascending R (remove xs at)
-ascending_remove R [] zero h = tt
-ascending_remove R [] (suc at) h = tt
-ascending_remove R (x ∷ xs) zero h = h.1
-ascending_remove R (x ∷ xs) (suc at) h = (all_remove (R x) xs at h.0, ascending_remove R xs at h.1)
+no_places : (xs : List ℕ) → length xs ≡ 0 → xs ≡ []
+no_places [] h = refl
+no_places (x ∷ xs) h = absurd (omega (arith, h))
 
-pub map_remove : {X Y : Type 0} (f : X → Y) (xs : List X) (at : ℕ) → map f (remove xs at) ≡ remove (map f xs) at
-map_remove f [] zero = refl
-map_remove f [] (suc at) = refl
-map_remove f (x ∷ xs) zero = refl
-map_remove f (x ∷ xs) (suc at) = ap (λ r. f x ∷ r) (map_remove f xs at)
+pub is_emptied : (place : ℕ) (n : ℕ) (k : Block) → k.number ≡ n → length (without_place place k).places ≡ 0 → without_place place k ≡ empty_block n
+is_emptied place n k e h = rw (e, no_places (without_place place k).places h) refl
+
+pub last_held : (place : ℕ) (places : List ℕ) → 0 < length (places ++ place ∷ [])
+last_held place places = omega (arith, length-append places (place ∷ []))
+
+pub blocks_set : (blocks : List Block) (at : ℕ) (k new : Block) → AreBlocks blocks → slice_get blocks at ≡ Some k → new.number ≡ k.number → 0 < length new.places → AreBlocks (set blocks at new)
+blocks_set blocks at k new a e s l = record {
+  ascending = ascend_set blocks at k new a.ascending e s;
+  held = all_set (λ (h : Block). 0 < length h.places) blocks at new a.held l;
+}
+
+pub blocks_insert : (blocks : List Block) (new : Block) (at : ℕ) → AreBlocks blocks → find (is_numbered new.number) blocks ≡ None → at ≡ place (λ k. nat_lt k.number new.number) blocks → 0 < length new.places → AreBlocks (insert blocks at new)
+blocks_insert blocks new at a none e l = record {
+  ascending = ascend_insert blocks new at a.ascending none e;
+  held = all_insert (λ (h : Block). 0 < length h.places) blocks at new a.held l;
+}
 
 pub ascend_remove : (blocks : List Block) (at : ℕ) → AscendByNumber blocks → AscendByNumber (remove blocks at)
 ascend_remove blocks at a = rw (map_remove (λ k. k.number) blocks at) (ascending_remove (λ x y. x < y) (map (λ k. k.number) blocks) at a)
+
+pub blocks_remove : (blocks : List Block) (at : ℕ) → AreBlocks blocks → AreBlocks (remove blocks at)
+blocks_remove blocks at a = record {
+  ascending = ascend_remove blocks at a.ascending;
+  held = all_remove (λ (h : Block). 0 < length h.places) blocks at a.held;
+}

@@ -84,6 +84,11 @@ IsPlaceOf b blocks at = (at < length blocks) × (find (is_numbered b) blocks ≡
 abbrev pub AscendByNumber : List Block → Type 0
 AscendByNumber blocks = Ascending (λ a b. a < b) (map (λ k. k.number) blocks)
 
+-- blocks by ascending numbers, none of them without places
+pub record AreBlocks (blocks : List Block) : Type 0 where
+  pub ascending : AscendByNumber blocks
+  pub held : AllByRecursion (λ k. 0 < length k.places) blocks
+
 -- ---- what changes
 
 abbrev pub with_last : ℕ → Block → Block

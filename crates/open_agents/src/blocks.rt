@@ -26,13 +26,13 @@ pub struct Blocks<A: Allocator> {
 
 impl<A: Allocator> Model for Blocks<A> {
     ghost use Rattle.std.specs.Prelude.{List};
-    ghost use Rattle.open_agents.specs.Blocks.{Block, AscendByNumber};
+    ghost use Rattle.open_agents.specs.Blocks.{AreBlocks, Block};
 
     ghost Value = { List Block };
 
     ghost view = { λ b. b.blocks.items };
 
-    ghost invariant = { λ b. AscendByNumber b.blocks.items };
+    ghost invariant = { λ b. AreBlocks b.blocks.items };
 }
 
 /// How many blocks have lower numbers.
@@ -142,23 +142,15 @@ impl<A: Allocator + Copy> Blocks<A> {
         }
     }
 
-    /// Takes a block without items out.
-    fn drop_empty(&mut self, at: usize, number: u64)
-        requires place { IsPlaceOf number self.old at }
-        ensures same { (m : ℕ) → block_at self.new m ≡ block_at self.old m }
+    /// Takes the place of an item out of the block at `at`, and with its last one the block.
+    fn remove_at(&mut self, at: usize, number: u64, place: usize)
+        requires { IsPlaceOf number self.old at }
+        ensures { ChangesBlock number (without_place place) self.old self.new }
     {
+        self.blocks[at].remove(place);
         if self.blocks[at].is_empty() {
             self.blocks.remove(at);
         }
-    }
-
-    /// Takes the place of an item out of the block at `at`.
-    fn remove_in(&mut self, at: usize, number: u64, place: usize)
-        requires { IsPlaceOf number self.old at }
-        ensures changes { ChangesBlock number (without_place place) self.old self.new }
-        ensures at { IsPlaceOf number self.new at }
-    {
-        self.blocks[at].remove(place);
     }
 
     /// Takes the place of an item out of a block.
@@ -166,8 +158,7 @@ impl<A: Allocator + Copy> Blocks<A> {
         ensures { ChangesBlock number (without_place place) self.old self.new }
     {
         if let Some(at) = place_of(self.blocks.as_slice(), number) {
-            self.remove_in(at, number, place);
-            self.drop_empty(at, number);
+            self.remove_at(at, number, place);
         }
     }
 

@@ -1,5 +1,5 @@
 //! Where the open items on some handles are that lie next to each other.
-ghost use Rattle.std.specs.Prelude.{◌≡◌, ◌==◌, not, true, IfOk, OnOk, OnErr};
+ghost use Rattle.std.specs.Prelude.{◌≡◌, ◌==◌, not, length, IfOk, OnOk, OnErr};
 ghost use Rattle.std.specs.List.{filter};
 ghost use Rattle.open_agents.specs.Blocks.{empty_block, with_last, without_place};
 
@@ -69,7 +69,7 @@ impl<A: Allocator + Copy> PlaceBlock<A> {
 
     /// Whether there are no items.
     pub(crate) fn is_empty(&self) -> bool
-        ensures { result ≡ true → self.now ≡ empty_block self.now.number }
+        ensures { result ≡ (length self.now.places == 0) }
     {
         self.places.is_empty()
     }

@@ -1,12 +1,13 @@
-use Rattle.std.proofs.Common.{refl}
+use Rattle.std.proofs.Common.{[], refl}
 use Rattle.open_agents.specs.Blocks.{empty_block, with_last}
-use Rattle.open_agents.proofs.BlockLists.{ascend_insert, block_insert}
+use Rattle.open_agents.proofs.BlockLists.{block_insert, blocks_insert, last_held}
 use Rattle.open_agents.proofs.blocks.Blocks.make.Goals as goal
 
 pub invariant_of-self-2 : goal.invariant_of-self-2
 invariant_of-self-2 g c =
+    let empty = empty_block c.args.number in
     rw (c.in_ok-insert.ensures.items, c.in_ok-block.ensures)
-    (ascend_insert _ (with_last c.args.place (empty_block c.args.number)) _ c.self.invariant (rw (← c.self.view_is) at c.requires) (rw c.as_slice.ensures.value at c.count_lower-at.ensures.place))
+    (blocks_insert _ (with_last c.args.place empty) _ c.self.invariant (rw (← c.self.view_is) at c.requires) (rw c.as_slice.ensures.value at c.count_lower-at.ensures.place) (last_held c.args.place []))
 
 pub returns-clause-ok : goal.returns-clause-ok
 returns-clause-ok g c =
