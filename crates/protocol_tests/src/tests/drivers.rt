@@ -1,5 +1,6 @@
 //! Drivers on handles, by values worked out by hand.
 mod crowds;
+mod leftovers;
 mod probes;
 mod refusals;
 pub mod steps;

@@ -9,6 +9,7 @@ use std::alloc::{AllocError, Allocator};
 use std::process::Abort;
 
 /// A call, or a look at the lists. GUIDs are written as bytes.
+#[derive(Clone, Copy)]
 pub enum Step {
     /// A handle or 0, interfaces as pairs of GUID and value, and the handle that carries them then.
     Install(u64, &'static [(u8, u64)], u64),
