@@ -1,13 +1,13 @@
 -- Rows by number: which one is found, and what the keys on handles are once one has changed.
 use Rattle.std.proofs.Math.ListN.{set}
-use Rattle.std.proofs.Common.{◌≡◌, ℕ, zero, suc, ◌<◌, ◌==◌, nat_lt, not, Bool, true, false, List, [], ◌∷◌, ◌++◌, map, length, Option, Some, None, is_some, inl, inr, refl, sym, ap, ◌∙◌, arith, subst}
+use Rattle.std.proofs.Common.{◌≡◌, ℕ, zero, suc, ◌<◌, ◌==◌, nat_lt, not, Bool, true, false, List, [], ◌∷◌, ◌++◌, map, length, Option, Some, None, IfSome, IfNone, is_some, inl, inr, refl, sym, ap, ◌∙◌, arith, subst}
 use Rattle.std.specs.List.{filter, find, slice_get, remove, AllByRecursion}
 use Rattle.std.specs.Option.{option_map}
 use Rattle.std.proofs.lemmas.Bool.{cases_Bool, eq-eqb, ne_eqb, ltb-true}
 use Rattle.std.proofs.lemmas.Option.{same_Some}
 use Rattle.guid_handles.specs.declared.records.LiveHandle.{LiveHandle}
 use Rattle.guid_handles.specs.HandleTables.{has_number}
-use Rattle.guid_handles.specs.Sorting.{Ascending, place, kept_if}
+use Rattle.guid_handles.specs.Sorting.{Ascending, IsNumberPlace, is_at_place, place, place_of_number, kept_if}
 use Rattle.guid_handles.specs.Indexes.{Row, AreNumbers, ChangesKeys, IsRowPlace, lives, row_numbers, is_row_of, keys_of, keys_on}
 use Rattle.guid_handles.proofs.SortedLists.{set_same, find_split, numbers_split, place_map, map_append, map_remove, ascending_push, ascending_remove, filter_at, filter_whole, found_none}
 use Rattle.guid_handles.proofs.Grouped.{find_set_new, find_set_other, kept_one, one_there, none_of, is_same}
@@ -53,6 +53,14 @@ row_there rows ns n at a e s =
 
 pub no_row : (rows : List Row) (ns : List ℕ) (n at : ℕ) → AreNumbers rows ns → at ≡ place (λ m. nat_lt m n) ns → is_some (kept_if (λ m. m == n) (slice_get ns at)) ≡ false → find (is_row_of n) rows ≡ None
 no_row rows ns n at a e s = sym (found_row rows ns n at a e) ∙ none_of (kept_if (is_row_of n) (slice_get rows at)) (kept_row rows ns n at false a s)
+
+pub row_if : (rows : List Row) (ns : List ℕ) (n : ℕ) (o : Option ℕ) → AreNumbers rows ns → IfSome o (IsNumberPlace n ns) → IfSome o (IsRowPlace n rows)
+row_if rows ns n None a h = tt
+row_if rows ns n (Some at) a h = row_there rows ns n at a h.0 h.1
+
+pub no_row_if : (rows : List Row) (ns : List ℕ) (n : ℕ) (o : Option ℕ) → AreNumbers rows ns → IfNone o (is_at_place n ns (place_of_number n ns) ≡ false) → IfNone o (find (is_row_of n) rows ≡ None)
+no_row_if rows ns n None a h = no_row rows ns n (place_of_number n ns) a refl h
+no_row_if rows ns n (Some at) a h = tt
 
 -- what the row at a place has is what is found
 pub live_there : (rows : List Row) (n at : ℕ) (r : Row) → IsRowPlace n rows at → slice_get rows at ≡ Some r → Some r.live ≡ find (has_number n) (lives rows)

@@ -12,7 +12,7 @@ use Rattle.std.proofs.lemmas.Bool.{cases_Bool, ne_eqb, ltb-true, ltb-false, le-l
 use Rattle.std.proofs.lemmas.Bool.Decides.{eqb_tells}
 use Rattle.std.proofs.lemmas.Option.{same_Some}
 use Rattle.guid_handles.specs.HandleTables.{written_over}
-use Rattle.guid_handles.specs.Sorting.{Ascending, place, kept_if}
+use Rattle.guid_handles.specs.Sorting.{Ascending, is_at_place, place, place_of_number, kept_if}
 
 -- ---- all items
 
@@ -305,6 +305,27 @@ less_fall n (x ∷ xs) a = (
   λ h. all_map (λ m. x < m) (λ m. nat_lt m n ≡ false) (λ m l. le-ltb m n (omega (arith, ltb-false x n h))) xs a.0,
   less_fall n xs a.1,
 )
+
+-- a number among ascending ones is at its place
+pub place_at : (n : ℕ) (ns : List ℕ) (at : ℕ) → Ascending (λ a b. a < b) ns → is_at_place n ns at ≡ true → at ≡ place_of_number n ns
+place_at n [] zero a h = absurd cc
+place_at n [] (suc at) a h = absurd cc
+place_at n (x ∷ xs) zero a h = elim (eqb_tells x n) [
+  | inl t ↦ let l : nat_lt x n ≡ false = le-ltb n x (omega (arith, t.1)) in rw l refl
+  | inr f ↦ let w = rw f.0 at h in cc
+]
+place_at n (x ∷ xs) (suc at) a h =
+    let l : nat_lt x n ≡ true = lt-ltb x n (member_at (λ m. x < m) xs at a.0 h) in
+    rw l (ap (λ k. suc k) (place_at n xs at a.1 h))
+  where
+    member_at : (P : ℕ → Type 0) (xs : List ℕ) (k : ℕ) → AllByRecursion P xs → is_at_place n xs k ≡ true → P n
+    member_at P [] zero a h = absurd cc
+    member_at P [] (suc k) a h = absurd cc
+    member_at P (y ∷ ys) zero a h = elim (eqb_tells y n) [
+      | inl t ↦ subst P t.1 a.0
+      | inr f ↦ let w = rw f.0 at h in absurd cc
+    ]
+    member_at P (y ∷ ys) (suc k) a h = member_at P ys k a.1 h
 
 -- ---- loops over a list
 

@@ -8,7 +8,7 @@ ghost use Rattle.guid_handles.specs.Indexes.{lives, row_numbers, keys_on, is_row
 use crate::handle_row::HandleRow;
 use crate::records::LiveHandle;
 use crate::room::{make_room, push_with_room};
-use crate::searches::{count_less, is_number_at};
+use crate::searches::place_of_number;
 use std::alloc::{AllocError, Allocator};
 use std::marker::Model;
 
@@ -67,12 +67,7 @@ impl<A: Allocator + Copy> Rows<A> {
         ensures there { IfSome result (IsRowPlace number self.now) }
         ensures none { IfNone result (find (is_row_of number) self.now ≡ None) }
     {
-        let at = count_less(self.numbers.as_slice(), number);
-        if is_number_at(self.numbers.as_slice(), at, number) {
-            Some(at)
-        } else {
-            None
-        }
+        place_of_number(self.numbers.as_slice(), number)
     }
 
     /// The handle of a number.
