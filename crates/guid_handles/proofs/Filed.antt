@@ -159,7 +159,8 @@ agreed is slots rows groups h n guid = decided (find (is_key_of slots guid) (key
     decided : (o : Option ℕ) → find (is_key_of slots guid) (keys_on rows n) ≡ o → find (is_key_of slots guid) (keys_on rows n) ≡ key_at groups guid n
     decided (Some key) e =
         let f = key_found slots guid (λ x. is_on n x ≡ true) (keys_on rows n) (filter (is_on n) is) key (h.by_handle n) (passed (is_on n) is) e in
-        let own : key_at groups guid n ≡ Some key = rw (← is_same f.0.handle n f.3) (rw (← same_guid-true f.0.guid guid f.2) (h.in_group key f.0 f.1)) in
+        let of_guid = subst (λ (k : List ℕ). key_at groups k f.0.handle ≡ Some key) (same_guid-true f.0.guid guid f.2) (h.in_group key f.0 f.1) in
+        let own = subst (λ (m : ℕ). key_at groups guid m ≡ Some key) (is_same f.0.handle n f.3) of_guid in
         e ∙ sym own
     decided None e =
         let none : filter (is_at n guid) is ≡ [] = none_of_guid n guid is (no_key_found slots guid (keys_on rows n) (filter (is_on n) is) (h.by_handle n) e) in

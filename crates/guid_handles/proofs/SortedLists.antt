@@ -8,7 +8,7 @@ use Rattle.std.specs.Option.{option_map}
 use Rattle.std.specs.declared.cmp.Ordering.{Ordering}
 use Rattle.std.specs.declared.cmp.Ordering.TheVariants.{Less, Equal, Greater}
 use Rattle.std.proofs.lemmas.List.Elements.{filter_more}
-use Rattle.std.proofs.lemmas.Bool.{cases_Bool, ne_eqb, ltb-true, ltb-false, le-ltb}
+use Rattle.std.proofs.lemmas.Bool.{cases_Bool, ne_eqb, ltb-true, ltb-false, le-ltb, lt-ltb}
 use Rattle.std.proofs.lemmas.Bool.Decides.{eqb_tells}
 use Rattle.std.proofs.lemmas.Option.{same_Some}
 use Rattle.guid_handles.specs.HandleTables.{written_over}
@@ -311,7 +311,7 @@ pub place_at : (n : ℕ) (ns : List ℕ) (at : ℕ) → Ascending (λ a b. a < b
 place_at n [] zero a h = absurd cc
 place_at n [] (suc at) a h = absurd cc
 place_at n (x ∷ xs) zero a h = elim (eqb_tells x n) [
-  | inl t ↦ let l : nat_lt x n ≡ false = le-ltb n x (omega (arith, t.1)) in rw l refl
+  | inl t ↦ let l : nat_lt x n ≡ false = le-ltb x n (omega (arith, t.1)) in rw l refl
   | inr f ↦ let w = rw f.0 at h in cc
 ]
 place_at n (x ∷ xs) (suc at) a h =

@@ -4,7 +4,6 @@ ghost use Rattle.std.specs.List.{filter, find};
 ghost use Rattle.guid_handles.specs.HandleTables.{written_over, earlier_of, earliest};
 ghost use Rattle.guid_handles.specs.Sorting.{Ascending, IsNumberPlace, is_at_place, place, kept_if};
 ghost use Rattle.guid_handles.specs.Slots.{at_key, at_keys, is_key_of};
-
 ghost use Rattle.guid_handles.specs.Sorting as sorting;
 
 use crate::records::{Interface, Record};
