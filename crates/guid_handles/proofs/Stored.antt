@@ -321,6 +321,18 @@ keys_without rows n m e =
       | inr f ↦ rw f.0 refl
     ]
 
+-- nothing is kept at first
+pub empty_store : IsStore [] [] [] 0 0
+empty_store = record {
+  table = record {
+    proper = record { ascending = tt; given = tt; limit = omega arith; on_live = tt };
+    apart = tt;
+    below = tt;
+  };
+  filed = record { by_handle = λ n. tt; by_guid = λ n guid. tt; in_group = λ key i e. absurd cc };
+  stamped = λ key r e. absurd cc;
+}
+
 -- ---- what is asked
 
 module _ (rows : List Row) (slots : List (Option Record)) (groups : List Group) (number stamp : ℕ) (s : IsStore rows slots groups number stamp) where

@@ -6,6 +6,7 @@ ghost use Rattle.guid_handles.specs.Sorting.{Ascending, place, kept_if};
 ghost use Rattle.guid_handles.specs.Indexes.{AscendByGuid, IsPlaceOf, SetsKey, is_before, is_group_of, key_at, key_in};
 
 use crate::guid_group::GuidGroup;
+use crate::guids::is_same_guid;
 use std::alloc::{AllocError, Allocator};
 use std::marker::Model;
 use uuid::Uuid;
@@ -50,7 +51,7 @@ fn group_if<A: Allocator + Copy>(
         ≡ kept_if (is_group_of guid) (slice_get groups.now at) }
 {
     let group = groups.get(at)?;
-    if group.guid() == guid {
+    if is_same_guid(&group.guid(), &guid) {
         Some(group)
     } else {
         None

@@ -1,11 +1,11 @@
 //! Finding numbers and interfaces.
-ghost use Rattle.std.specs.Prelude.{◌≡◌, ◌<◌, ◌≤◌, ◌==◌, is_some, false, length, nat_lt, map, slice_get, slice_set, IfSome, IfNone};
+ghost use Rattle.std.specs.Prelude.{◌≡◌, ◌<◌, ◌≤◌, ◌==◌, is_some, length, not, nat_lt, map, slice_get, slice_set};
 ghost use Rattle.std.specs.List.{filter, find};
 ghost use Rattle.guid_handles.specs.HandleTables.{written_over, earlier_of, earliest};
-ghost use Rattle.guid_handles.specs.Sorting.{Ascending, IsNumberPlace, is_at_place, place, kept_if};
+ghost use Rattle.guid_handles.specs.Sorting.{Ascending, place, kept_if};
 ghost use Rattle.guid_handles.specs.Slots.{at_key, at_keys, is_key_of};
-ghost use Rattle.guid_handles.specs.Sorting as sorting;
 
+use crate::guids::is_same_guid;
 use crate::records::{Interface, Record};
 use slab::Slab;
 use std::alloc::Allocator;
@@ -34,42 +34,14 @@ pub(crate) fn is_number_at(numbers: &[u64], at: usize, number: u64) -> bool
     }
 }
 
-/// Where a number is among ascending ones, if none between it and the last one is missing.
-fn likely_place(numbers: &[u64], number: u64) -> usize {
-    match numbers.last() {
-        Some(last) => {
-            let behind = last.wrapping_sub(number);
-            (numbers.len() as u64).wrapping_sub(1).wrapping_sub(behind) as usize
-        }
-        None => 0,
-    }
-}
-
-/// The place of a number among ascending ones.
-pub(crate) fn place_of_number(numbers: &[u64], number: u64) -> Option<usize>
-    requires { Ascending (λ a b. a < b) numbers.now }
-    ensures there { IfSome result (IsNumberPlace number numbers.now) }
-    ensures none { IfNone result (is_at_place number numbers.now (sorting.place_of_number number numbers.now) ≡ false) }
+/// Takes a number out of ascending ones.
+pub(crate) fn remove_number<A: Allocator>(numbers: &mut Vec<u64, A>, number: u64)
+    requires { Ascending (λ a b. a < b) numbers.old.items }
+    ensures { numbers.new.items ≡ filter (λ n. not (n == number)) numbers.old.items }
 {
-    let likely = likely_place(numbers, number);
-    if is_number_at(numbers, likely, number) {
-        Some(likely)
-    } else {
-        halved_place(numbers, number)
-    }
-}
-
-/// The place of a number among ascending ones, found by halving.
-fn halved_place(numbers: &[u64], number: u64) -> Option<usize>
-    requires { Ascending (λ a b. a < b) numbers.now }
-    ensures there { IfSome result (IsNumberPlace number numbers.now) }
-    ensures none { IfNone result (is_at_place number numbers.now (sorting.place_of_number number numbers.now) ≡ false) }
-{
-    let at = count_less(numbers, number);
-    if is_number_at(numbers, at, number) {
-        Some(at)
-    } else {
-        None
+    let at = count_less(numbers.as_slice(), number);
+    if is_number_at(numbers.as_slice(), at, number) {
+        numbers.remove(at);
     }
 }
 
@@ -92,7 +64,7 @@ fn is_key_of<A: Allocator>(records: &Slab<Record, A>, key: usize, guid: Uuid) ->
     ensures { result ≡ is_key_of records.now.slots guid key }
 {
     match records.get(key) {
-        Some(record) => record.interface.guid == guid,
+        Some(record) => is_same_guid(&record.interface.guid, &guid),
         None => false,
     }
 }
