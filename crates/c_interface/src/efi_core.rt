@@ -6,7 +6,7 @@ ghost use Rattle.boot_replies.specs.Certified.{certified};
 ghost use Rattle.boot_replies.specs.Certified.{map_before};
 ghost use Rattle.c_interface.specs.Buffers.{laid};
 ghost use Rattle.c_interface.specs.EfiCores.{LeavesBlock, certifying_core, forgotten, last_events};
-ghost use Rattle.c_interface.specs.Replies.{status_in};
+ghost use Rattle.c_interface.specs.Replies.{number_in, returned_or, status_in};
 ghost use Rattle.c_interface.specs.Served.{AnswersStatus, AnswersNumber, AnswersNumbers, ReturnsBlock};
 
 use crate::buffers::lay;
@@ -120,6 +120,18 @@ impl<A: Allocator + Copy> EfiCore<A> {
         let status = status_in(&reply).number();
         self.keep(reply, LastBlock::Nothing);
         status
+    }
+
+    /// The same; where the reply carries a number it is put in the caller's variable.
+    pub(crate) fn tell_number(&mut self, reply: Reply<A>, place: &mut u64) -> u64
+        ensures status { result ≡ status_number (status_in reply) }
+        ensures number { place.new ≡ returned_or place.old (number_in reply) }
+        ensures core { self.new ≡ record { core = self.old.core; certifies = self.old.certifies; last = Some reply; block = LastBlock.Nothing } }
+    {
+        if let Some(number) = number_in(&reply) {
+            *place = number;
+        }
+        self.tell(reply)
     }
 
     /// The reply of the last call.

@@ -7,7 +7,6 @@ ghost use Rattle.c_machines.specs.Guids.{guid_in, interface_in, standard_guid};
 
 use crate::buffers::lay;
 use crate::efi_core::{ABORTED, EfiCore};
-use crate::replies::number_in;
 use arrayvec::ArrayVec;
 use boot_core::{Call, Reply};
 use c_machines::{Guid, Interface};
@@ -90,10 +89,7 @@ impl<A: Allocator + Copy> EfiCore<A> {
             return ABORTED;
         }
         let reply = self.core.install_multiple(*handle, pairs);
-        if let Some(number) = number_in(&reply) {
-            *handle = number;
-        }
-        self.tell(reply)
+        self.tell_number(reply, handle)
     }
 
     /// ConnectController, with the drivers that are tried first.

@@ -4,7 +4,7 @@ ghost use Rattle.boot_calls.specs.declared.calls.Call.TheVariants as call;
 ghost use Rattle.c_machines.specs.Guids.{guid_in};
 ghost use Rattle.c_interface.specs.Served.{AnswersStatus, AnswersNumber, AnswersNumbers};
 
-use crate::efi_core::EfiCore;
+use crate::efi_core::{ABORTED, EfiCore};
 use boot_core::Call;
 use c_machines::Guid;
 use std::alloc::Allocator;
@@ -20,26 +20,26 @@ impl<A: Allocator + Copy> EfiCore<A> {
     ) -> u64
         ensures { AnswersNumber self.old (call.InstallProtocolInterface handle.old (guid_in guid.now) kind value) handle.old result handle.new self.new }
     {
-        let guid = guid.uuid();
-        let call = Call::InstallProtocolInterface {
-            handle: *handle,
-            guid,
-            kind,
-            value,
-        };
-        self.answer_number(&call, handle)
+        self.forget();
+        if self.core.calls_left() == 0 {
+            return ABORTED;
+        }
+        let reply = self
+            .core
+            .install_protocol_interface(*handle, guid.uuid(), kind, value);
+        self.tell_number(reply, handle)
     }
 
     /// UninstallProtocolInterface.
     pub fn uninstall_protocol_interface(&mut self, handle: u64, guid: &Guid, value: u64) -> u64
         ensures { AnswersStatus self.old (call.UninstallProtocolInterface handle (guid_in guid.now) value) result self.new }
     {
-        let guid = guid.uuid();
-        self.answer(&Call::UninstallProtocolInterface {
-            handle,
-            guid,
-            value,
-        })
+        self.forget();
+        if self.core.calls_left() == 0 {
+            return ABORTED;
+        }
+        let reply = self.core.uninstall(handle, guid.uuid(), value);
+        self.tell(reply)
     }
 
     /// ReinstallProtocolInterface.
@@ -98,8 +98,12 @@ impl<A: Allocator + Copy> EfiCore<A> {
     pub fn locate_protocol(&mut self, guid: &Guid, key: u64, interface: &mut u64) -> u64
         ensures { AnswersNumber self.old (call.LocateProtocol (guid_in guid.now) key) interface.old result interface.new self.new }
     {
-        let guid = guid.uuid();
-        self.answer_number(&Call::LocateProtocol { guid, key }, interface)
+        self.forget();
+        if self.core.calls_left() == 0 {
+            return ABORTED;
+        }
+        let reply = self.core.locate_protocol(guid.uuid(), key);
+        self.tell_number(reply, interface)
     }
 
     /// OpenProtocol. The place `interface` is given the interface's value, but by TEST_PROTOCOL.
@@ -114,28 +118,28 @@ impl<A: Allocator + Copy> EfiCore<A> {
     ) -> u64
         ensures { AnswersNumber self.old (call.OpenProtocol handle (guid_in guid.now) agent controller attributes) interface.old result interface.new self.new }
     {
-        let guid = guid.uuid();
-        let call = Call::OpenProtocol {
-            handle,
-            guid,
-            agent,
-            controller,
-            attributes,
-        };
-        self.answer_number(&call, interface)
+        self.forget();
+        if self.core.calls_left() == 0 {
+            return ABORTED;
+        }
+        let reply = self
+            .core
+            .open_protocol(handle, guid.uuid(), agent, controller, attributes);
+        self.tell_number(reply, interface)
     }
 
     /// CloseProtocol.
     pub fn close_protocol(&mut self, handle: u64, guid: &Guid, agent: u64, controller: u64) -> u64
         ensures { AnswersStatus self.old (call.CloseProtocol handle (guid_in guid.now) agent controller) result self.new }
     {
-        let guid = guid.uuid();
-        self.answer(&Call::CloseProtocol {
-            handle,
-            guid,
-            agent,
-            controller,
-        })
+        self.forget();
+        if self.core.calls_left() == 0 {
+            return ABORTED;
+        }
+        let reply = self
+            .core
+            .close_protocol(handle, guid.uuid(), agent, controller);
+        self.tell(reply)
     }
 
     /// OpenProtocolInformation. The places are given how many open items there are, and the address of
@@ -161,8 +165,12 @@ impl<A: Allocator + Copy> EfiCore<A> {
     pub fn handle_protocol(&mut self, handle: u64, guid: &Guid, interface: &mut u64) -> u64
         ensures { AnswersNumber self.old (call.HandleProtocol handle (guid_in guid.now)) interface.old result interface.new self.new }
     {
-        let guid = guid.uuid();
-        self.answer_number(&Call::HandleProtocol { handle, guid }, interface)
+        self.forget();
+        if self.core.calls_left() == 0 {
+            return ABORTED;
+        }
+        let reply = self.core.handle_protocol(handle, guid.uuid());
+        self.tell_number(reply, interface)
     }
 
     /// DisconnectController.

@@ -1,16 +1,17 @@
 -- What keeps rows and groups in step with the interfaces in slots.
-use Rattle.std.proofs.Common.{add-one, get_or, take, ◌+◌, ◌<◌, ◌≡◌, ◌≢◌, ℕ, zero, suc, length, arith, ◌==◌, ◌&&◌, not, Bool, true, false, cond, List, [], ◌∷◌, ◌++◌, map, Option, Some, None, inl, inr, refl, sym, ap, ◌∙◌, append-nil, subst}
+use Rattle.std.proofs.Common.{add-one, get_or, take, ◌+◌, ◌<◌, ◌≡◌, ◌≢◌, ℕ, zero, suc, length, arith, ◌==◌, ◌&&◌, not, Bool, true, false, cond, List, [], ◌∷◌, ◌++◌, map, Option, Some, None, is_some, inl, inr, refl, sym, ap, ◌∙◌, append-nil, subst}
 use Rattle.std.specs.List.{filter, find, slice_get, AllByRecursion}
 use Rattle.std.specs.Option.{option_to_list, option_and_then}
 use Rattle.std.proofs.lemmas.Bool.{and_parts, cases_Bool, cases_eq, eq-eqb, ne_eqb}
 use Rattle.std.proofs.lemmas.Option.{same_Some}
 use Rattle.guid_handles.specs.declared.records.Interface.{Interface}
 use Rattle.guid_handles.specs.declared.records.Record.{Record}
-use Rattle.guid_handles.specs.HandleTables.{same_guid, is_on, is_at}
+use Rattle.guid_handles.specs.HandleTables.{same_guid, is_on, is_of, is_at}
 use Rattle.guid_handles.specs.HandleChanges.{restamped}
 use Rattle.guid_handles.specs.Indexes.{Row, Group, ChangesKeys, keys_on, key_at}
-use Rattle.guid_handles.specs.Slots.{at_key, at_keys}
-use Rattle.guid_handles.specs.Stores.{HaveInterfaces, AreFiled}
+use Rattle.guid_handles.specs.Sorting.{kept_if}
+use Rattle.guid_handles.specs.Slots.{at_key, at_keys, is_key_of}
+use Rattle.guid_handles.specs.Stores.{HaveInterfaces, AreFiled, AgreeOnKeys}
 use Rattle.guid_handles.proofs.SortedLists.{all_of}
 use Rattle.guid_handles.proofs.Filters.{filter_swap, filter_inside, filter_append, filter_changed, passed}
 use Rattle.guid_handles.proofs.GuidOrder.{same_guid-refl, same_guid-true}
@@ -106,6 +107,64 @@ found_at slots p (x ∷ xs) (Some k) h = elim (cases_Bool (p x)) [
   | inl t ↦ let g = rw t at h in rw t (sym g.0)
   | inr f ↦ rw f (found_at slots p xs (Some k) (rw f at h))
 ]
+
+-- ---- keys by GUID
+
+kept_is : (p : Interface → Bool) (x : Interface) → is_some (kept_if p (Some x)) ≡ p x
+kept_is p x = elim (cases_Bool (p x)) [
+  | inl t ↦ rw t refl
+  | inr f ↦ rw f refl
+]
+
+key_is : (slots : List (Option Record)) (guid : List ℕ) (k : ℕ) (x : Interface) → at_key slots k ≡ Some x → is_key_of slots guid k ≡ is_of guid x
+key_is slots guid k x e = ap (λ o. is_some (kept_if (is_of guid) o)) e ∙ kept_is (is_of guid) x
+
+-- a key that is found is that of an interface of the GUID
+key_found : (slots : List (Option Record)) (guid : List ℕ) (P : Interface → Type 0) (ks : List ℕ) (xs : List Interface) (key : ℕ) → HaveInterfaces slots ks xs → AllByRecursion P xs → find (is_key_of slots guid) ks ≡ Some key
+    → (x : Interface) × (at_key slots key ≡ Some x) × (is_of guid x ≡ true) × P x
+key_found slots guid P [] [] key h a e = absurd cc
+key_found slots guid P [] (x ∷ xs) key h a e = absurd h
+key_found slots guid P (k ∷ ks) [] key h a e = absurd h
+key_found slots guid P (k ∷ ks) (x ∷ xs) key h a e = elim (cases_Bool (is_of guid x)) [
+  | inl t ↦
+      let same : k ≡ key = same_Some k key (rw (key_is slots guid k x h.0 ∙ t) at e) in
+      (x, ap (at_key slots) (sym same) ∙ h.0, t, a.0)
+  | inr f ↦ key_found slots guid P ks xs key h.1 a.1 (rw (key_is slots guid k x h.0 ∙ f) at e)
+]
+
+no_key_found : (slots : List (Option Record)) (guid : List ℕ) (ks : List ℕ) (xs : List Interface) → HaveInterfaces slots ks xs → find (is_key_of slots guid) ks ≡ None → AllByRecursion (λ x. is_of guid x ≡ false) xs
+no_key_found slots guid [] [] h e = tt
+no_key_found slots guid [] (x ∷ xs) h e = absurd h
+no_key_found slots guid (k ∷ ks) [] h e = absurd h
+no_key_found slots guid (k ∷ ks) (x ∷ xs) h e = elim (cases_Bool (is_of guid x)) [
+  | inl t ↦ let w = rw (key_is slots guid k x h.0 ∙ t) at e in cc
+  | inr f ↦ (f, no_key_found slots guid ks xs h.1 (rw (key_is slots guid k x h.0 ∙ f) at e))
+]
+
+none_of_guid : (n : ℕ) (guid : List ℕ) (is : List Interface) → AllByRecursion (λ x. is_of guid x ≡ false) (filter (is_on n) is) → filter (is_at n guid) is ≡ []
+none_of_guid n guid [] a = refl
+none_of_guid n guid (i ∷ is) a = elim (cases_Bool (is_on n i)) [
+  | inl t ↦ let b = rw t at a in rw t (rw b.0 (none_of_guid n guid is b.1))
+  | inr f ↦ rw f (none_of_guid n guid is (rw f at a))
+]
+
+no_key : (slots : List (Option Record)) (o : Option ℕ) → HaveInterfaces slots (option_to_list o) [] → o ≡ None
+no_key slots None h = refl
+no_key slots (Some k) h = absurd h
+
+-- the first key of a handle whose interface is of a GUID is the one in the GUID's group
+pub agreed : (is : List Interface) (slots : List (Option Record)) (rows : List Row) (groups : List Group) → AreFiled is slots rows groups → AgreeOnKeys slots rows groups
+agreed is slots rows groups h n guid = decided (find (is_key_of slots guid) (keys_on rows n)) refl
+  where
+    decided : (o : Option ℕ) → find (is_key_of slots guid) (keys_on rows n) ≡ o → find (is_key_of slots guid) (keys_on rows n) ≡ key_at groups guid n
+    decided (Some key) e =
+        let f = key_found slots guid (λ x. is_on n x ≡ true) (keys_on rows n) (filter (is_on n) is) key (h.by_handle n) (passed (is_on n) is) e in
+        let of_guid = subst (λ (k : List ℕ). key_at groups k f.0.handle ≡ Some key) (same_guid-true f.0.guid guid f.2) (h.in_group key f.0 f.1) in
+        let own = subst (λ (m : ℕ). key_at groups guid m ≡ Some key) (is_same f.0.handle n f.3) of_guid in
+        e ∙ sym own
+    decided None e =
+        let none : filter (is_at n guid) is ≡ [] = none_of_guid n guid is (no_key_found slots guid (keys_on rows n) (filter (is_on n) is) (h.by_handle n) e) in
+        e ∙ sym (no_key slots (key_at groups guid n) (rw none at (h.by_guid n guid)))
 
 -- ---- one more
 

@@ -6,6 +6,7 @@ pub mod Indexed
 pub mod Grouped
 pub mod Beside
 pub mod Numbered
+pub mod FiledRows
 pub mod Slotted
 pub mod Filed
 pub mod Apart

@@ -1,7 +1,8 @@
 -- Lists in order: where a test stops passing, what is found there, and what insertions, filters and changes keep.
 use Rattle.std.proofs.Math.Seq.{drop-cons}
-use Rattle.std.proofs.Math.ListN.{set}
-use Rattle.std.proofs.Common.{add-one, ◌≡◌, ◌⊎◌, ℕ, zero, suc, ◌+◌, ◌<◌, ◌≤◌, ◌==◌, ◌||◌, nat_lt, not, subst, Bool, true, false, cond, List, [], ◌∷◌, ◌++◌, map, length, take, drop, get_or, Option, Some, None, is_some, inl, inr, refl, sym, ap, ◌∙◌, arith}
+use Rattle.std.proofs.Math.ListN.{drop_of_length-le, set}
+use lib.Pointwise.{pointwise}
+use Rattle.std.proofs.Common.{add-one, ◌≡◌, ◌⊎◌, ℕ, zero, suc, ◌+◌, ◌<◌, ◌≤◌, ◌==◌, ◌||◌, nat_eq, nat_lt, not, subst, Bool, true, false, cond, List, [], ◌∷◌, ◌++◌, map, length, take, drop, get_or, Option, Some, None, is_some, inl, inr, refl, sym, ap, ◌∙◌, arith}
 use Rattle.std.specs.List.{filter, find, list_any, AllByRecursion, slice_get, insert, remove}
 use Rattle.std.specs.List.Sorted.{IsPartitionedBy, IsPartitionPoint}
 use Rattle.std.specs.Option.{option_map}
@@ -13,6 +14,12 @@ use Rattle.std.proofs.lemmas.Bool.Decides.{eqb_tells}
 use Rattle.std.proofs.lemmas.Option.{same_Some}
 use Rattle.guid_handles.specs.HandleTables.{written_over}
 use Rattle.guid_handles.specs.Sorting.{Ascending, place, kept_if}
+
+-- ---- whole lists
+
+-- lists of numbers that were compared to their ends
+pub compared_whole : (xs ys : List ℕ) (k : ℕ) → length xs ≤ k → length ys ≤ k → pointwise nat_eq (drop k xs) (drop k ys) ≡ true
+compared_whole xs ys k l m = rw (drop_of_length-le xs {i = k} l, drop_of_length-le ys {i = k} m) refl
 
 -- ---- all items
 
@@ -425,6 +432,10 @@ filter_at number n (x ∷ xs) a h = elim (cases_Bool (nat_lt (number x) n)) [
   ]
 ]
 
+map_self : (ns : List ℕ) → map (λ m. m) ns ≡ ns
+map_self [] = refl
+map_self (n ∷ ns) = ap (λ r. n ∷ r) (map_self ns)
+
 none_some : {X : Type 0} (o : Option X) → is_some o ≡ false → o ≡ None
 none_some None h = refl
 none_some (Some x) h = cc
@@ -436,6 +447,14 @@ filter_not_at number n xs a h =
     (found_none (λ x. number x == n) xs
     (find_split (λ x. nat_lt (number x) n) (λ x. number x == n) xs (numbers_split number n xs a)
     ∙ none_some (kept_if (λ x. number x == n) (slice_get xs (place (λ x. nat_lt (number x) n) xs))) h))
+
+-- numbers without one of them
+pub number_gone : (n : ℕ) (ns : List ℕ) (at : ℕ) → Ascending (λ a b. a < b) ns → at ≡ place (λ m. nat_lt m n) ns → is_some (kept_if (λ m. m == n) (slice_get ns at)) ≡ true → remove ns at ≡ filter (λ m. not (m == n)) ns
+number_gone n ns at a e s =
+    rw e (sym (filter_at (λ m. m) n ns (subst (Ascending (λ a b. a < b)) (sym (map_self ns)) a) (rw e at s)))
+
+pub number_absent : (n : ℕ) (ns : List ℕ) (at : ℕ) → Ascending (λ a b. a < b) ns → at ≡ place (λ m. nat_lt m n) ns → is_some (kept_if (λ m. m == n) (slice_get ns at)) ≡ false → ns ≡ filter (λ m. not (m == n)) ns
+number_absent n ns at a e s = sym (filter_not_at (λ m. m) n ns (subst (Ascending (λ a b. a < b)) (sym (map_self ns)) a) (rw e at s))
 
 -- ---- one takes the place of another
 

@@ -15,7 +15,7 @@ use Rattle.guid_handles.specs.HandleChanges.{IsHandleTable, max_handles, is_take
 use Rattle.guid_handles.specs.Sorting.{Ascending}
 use Rattle.guid_handles.specs.Indexes.{Row, Group, ChangesKeys, AreOn, AreAbsent, lives, is_row_of, row_numbers, keys_of, keys_on, key_at}
 use Rattle.guid_handles.specs.Slots.{at_key, at_keys, record_at, installed_until, with_stamp}
-use Rattle.guid_handles.specs.Stores.{AreApart, HaveInterfaces, IsStamped, IsStore, IsTable, table_of}
+use Rattle.guid_handles.specs.Stores.{AgreeOnKeys, AreApart, HaveInterfaces, IsStamped, IsStore, IsTable, table_of}
 use Rattle.guid_handles.proofs.SortedLists.{all_both, all_numbered, any_none, find_filter, find_push_other, those_among, filter_same, filter_whole, all_of, all_map, all_mapped, all_push, all_append, all_filter, all_filtered, any_map, any_found, any_push, any_last, any_kept, any_member, filter_map_filter, filter_shorter, map_append, ascending_filter, ascending_push, find_none, found_none}
 use Rattle.guid_handles.proofs.Filters.{filter_append, filter_inside, filter_swap, passed}
 use Rattle.guid_handles.proofs.Indexed.{restamped_handle}
@@ -25,7 +25,7 @@ use Rattle.guid_handles.proofs.Found.{among_own, carried_live, found_one, live_i
 use Rattle.guid_handles.proofs.Numbered.{find_lives, live_numbers}
 use Rattle.guid_handles.proofs.Slotted.{AreBelow, tagged, until_changed, until_later, until_less, until_more}
 use Rattle.guid_handles.proofs.Grouped.{is_same, none_of, some_map}
-use Rattle.guid_handles.proofs.Filed.{found_at, have_these, filed_changed, filed_less, filed_more, keyed_at, only_one}
+use Rattle.guid_handles.proofs.Filed.{agreed, found_at, have_these, filed_changed, filed_less, filed_more, keyed_at, only_one}
 
 -- ---- tables
 
@@ -321,12 +321,27 @@ keys_without rows n m e =
       | inr f ↦ rw f.0 refl
     ]
 
+-- nothing is kept at first
+pub empty_store : IsStore [] [] [] 0 0
+empty_store = record {
+  table = record {
+    proper = record { ascending = tt; given = tt; limit = omega arith; on_live = tt };
+    apart = tt;
+    below = tt;
+  };
+  filed = record { by_handle = λ n. tt; by_guid = λ n guid. tt; in_group = λ key i e. absurd cc };
+  stamped = λ key r e. absurd cc;
+}
+
 -- ---- what is asked
 
 module _ (rows : List Row) (slots : List (Option Record)) (groups : List Group) (number stamp : ℕ) (s : IsStore rows slots groups number stamp) where
   -- the interface at the key in its group is the one that is asked for
   pub stored_at : (n : ℕ) (guid : List ℕ) → find (is_at n guid) (installed_until stamp slots) ≡ option_and_then (at_key slots) (key_at groups guid n)
   stored_at n guid = found_at slots (is_at n guid) (installed_until stamp slots) (key_at groups guid n) (s.filed.by_guid n guid)
+
+  pub keys_agree : AgreeOnKeys slots rows groups
+  keys_agree = agreed (installed_until stamp slots) slots rows groups s.filed
 
   -- a record in a slot is among the interfaces
   pub slot_found : (key : ℕ) (i : Interface) → at_key slots key ≡ Some i → find (is_at i.handle i.guid) (installed_until stamp slots) ≡ Some i

@@ -1,5 +1,5 @@
 -- The keys of interfaces: by handle in rows, and by GUID in groups.
-use Rattle.std.specs.Prelude.{◌≡◌, ℕ, ◌<◌, ◌==◌, ◌&&◌, nat_eq, nat_lt, Bool, true, cond, List, [], ◌∷◌, map, length, Option, None, Some}
+use Rattle.std.specs.Prelude.{◌≡◌, ℕ, ◌<◌, ◌==◌, ◌&&◌, nat_eq, Bool, true, not, cond, List, [], ◌∷◌, map, length, Option, None, Some, is_some}
 use Rattle.std.specs.List.{find, list_any, AllByRecursion, slice_get}
 use Rattle.std.specs.Option.{option_and_then}
 use Rattle.std.specs.declared.cmp.Ordering.TheVariants.{Less}
@@ -8,7 +8,7 @@ use Rattle.std.specs.Cmp.Lexicographic.{slice_cmp}
 use Rattle.guid_handles.specs.declared.records.Interface.{Interface}
 use Rattle.guid_handles.specs.declared.records.LiveHandle.{LiveHandle}
 use Rattle.guid_handles.specs.HandleTables.{same_guid, has_number, is_at}
-use Rattle.guid_handles.specs.Sorting.{Ascending, place}
+use Rattle.guid_handles.specs.Sorting.{Ascending, place, kept_if}
 
 -- ---- by handle
 
@@ -23,11 +23,6 @@ lives rows = map (λ r. r.live) rows
 abbrev pub row_numbers : List Row → List ℕ
 row_numbers rows = map (λ r. r.live.number) rows
 
--- numbers beside rows: those of their handles, which ascend
-pub record AreNumbers (rows : List Row) (ns : List ℕ) : Type 0 where
-  pub numbers : ns ≡ row_numbers rows
-  pub ascending : Ascending (λ a b. a < b) ns
-
 abbrev pub is_row_of : ℕ → Row → Bool
 is_row_of n r = has_number n r.live
 
@@ -39,10 +34,35 @@ keys_of (Some r) = r.keys
 abbrev pub keys_on : List Row → ℕ → List ℕ
 keys_on rows n = keys_of (find (is_row_of n) rows)
 
--- the place of the row of a handle
-abbrev pub IsRowPlace : ℕ → List Row → ℕ → Type 0
-IsRowPlace n rows at = (at < length rows) × (find (is_row_of n) rows ≡ slice_get rows at)
-    × (at ≡ place (λ r. nat_lt r.live.number n) rows)
+-- a row that is kept, and whether its handle is gone
+pub record FiledRow : Type 0 where
+  pub row : Row
+  pub gone : Bool
+
+abbrev pub filed_number : FiledRow → ℕ
+filed_number f = f.row.live.number
+
+abbrev pub filed_numbers : List FiledRow → List ℕ
+filed_numbers fs = map filed_number fs
+
+-- the rows of the handles that are not gone
+abbrev pub rows_in : List FiledRow → List Row
+rows_in [] = []
+rows_in (f ∷ fs) = cond f.gone (rows_in fs) (f.row ∷ rows_in fs)
+
+-- rows by ascending number, and the numbers of those that are not gone
+pub record AreRows (fs : List FiledRow) (ns : List ℕ) : Type 0 where
+  pub filed : Ascending (λ a b. a < b) (filed_numbers fs)
+  pub ascending : Ascending (λ a b. a < b) ns
+  pub numbers : ns ≡ row_numbers (rows_in fs)
+
+-- a row is of a handle that is not gone
+abbrev pub is_filed_of : ℕ → FiledRow → Bool
+is_filed_of n f = has_number n f.row.live && not f.gone
+
+-- whether the row of a handle is at a place
+abbrev pub is_filed_at : ℕ → List FiledRow → ℕ → Bool
+is_filed_at n fs at = is_some (kept_if (is_filed_of n) (slice_get fs at))
 
 -- the keys of one handle change, and nothing else of the rows
 pub record ChangesKeys (n : ℕ) (f : List ℕ → List ℕ) (old new : List Row) : Type 0 where

@@ -1,6 +1,6 @@
 -- How the handle table is kept.
 use Rattle.std.specs.Prelude.{◌≡◌, ◌==◌, ◌<◌, ◌≤◌, ℕ, false, List, Option, Some}
-use Rattle.std.specs.List.{filter, AllByRecursion, AllZip}
+use Rattle.std.specs.List.{filter, find, AllByRecursion, AllZip}
 use Rattle.std.specs.Option.{option_to_list}
 use Rattle.guid_handles.specs.declared.records.Interface.{Interface}
 use Rattle.guid_handles.specs.declared.records.Record.{Record}
@@ -8,7 +8,7 @@ use Rattle.guid_handles.specs.HandleTables.{HandleTable, is_on, is_at}
 use Rattle.guid_handles.specs.HandleChanges.{IsHandleTable}
 use Rattle.guid_handles.specs.Sorting.{Ascending}
 use Rattle.guid_handles.specs.Indexes.{Row, Group, lives, keys_on, key_at}
-use Rattle.guid_handles.specs.Slots.{at_key, record_at, installed_until}
+use Rattle.guid_handles.specs.Slots.{at_key, record_at, is_key_of, installed_until}
 
 -- two interfaces are not of one GUID on one handle, and have stamps of their own
 abbrev pub AreApart : Interface → Interface → Type 0
@@ -35,6 +35,11 @@ pub record AreFiled (interfaces : List Interface) (slots : List (Option Record))
       (filter (is_at n guid) interfaces)
   pub in_group : (key : ℕ) (i : Interface) → at_key slots key ≡ Some i
       → key_at groups i.guid i.handle ≡ Some key
+
+-- the first key in a row whose interface is of a GUID is the one in the GUID's group
+abbrev pub AgreeOnKeys : List (Option Record) → List Row → List Group → Type 0
+AgreeOnKeys slots rows groups = (n : ℕ) (guid : List ℕ)
+    → find (is_key_of slots guid) (keys_on rows n) ≡ key_at groups guid n
 
 -- an interface was installed with a stamp, from 1 on, and has that one or a later one
 abbrev pub IsStamped : Record → Type 0

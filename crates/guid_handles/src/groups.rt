@@ -6,6 +6,7 @@ ghost use Rattle.guid_handles.specs.Sorting.{Ascending, place, kept_if};
 ghost use Rattle.guid_handles.specs.Indexes.{AscendByGuid, IsPlaceOf, SetsKey, is_before, is_group_of, key_at, key_in};
 
 use crate::guid_group::GuidGroup;
+use crate::guids::{is_lower_guid, is_same_guid};
 use std::alloc::{AllocError, Allocator};
 use std::marker::Model;
 use uuid::Uuid;
@@ -36,7 +37,7 @@ fn count_before<A: Allocator + Copy>(groups: &[GuidGroup<A>], guid: Uuid) -> usi
     groups.partition_point(
         |g: &GuidGroup<A>| -> bool
             ensures { result ≡ is_before guid g.now }
-        { g.guid().cmp(&guid).is_lt() },
+        { is_lower_guid(&g.guid(), &guid) },
     )
 }
 
@@ -50,7 +51,7 @@ fn group_if<A: Allocator + Copy>(
         ≡ kept_if (is_group_of guid) (slice_get groups.now at) }
 {
     let group = groups.get(at)?;
-    if group.guid() == guid {
+    if is_same_guid(&group.guid(), &guid) {
         Some(group)
     } else {
         None

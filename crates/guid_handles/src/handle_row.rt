@@ -1,34 +1,44 @@
-//! One live handle.
-ghost use Rattle.std.specs.Prelude.{◌≡◌, ◌==◌, ◌++◌, [], ◌∷◌, not, IfOk, OnOk, OnErr};
+//! The row of one handle.
+ghost use Rattle.std.specs.Prelude.{◌≡◌, ◌==◌, ◌++◌, [], ◌∷◌, not, true, false, IfOk, OnOk, OnErr};
 ghost use Rattle.std.specs.List.{filter};
+ghost use Rattle.guid_handles.specs.Indexes.{is_filed_of};
 
 use crate::handle_keys::HandleKeys;
 use crate::records::LiveHandle;
 use std::alloc::{AllocError, Allocator};
 use std::marker::Model;
 
-/// A live handle, and the keys of the interfaces on it in order of installation.
+/// A handle, and the keys of the interfaces on it in order of installation. The row of a handle that is
+/// gone may stay for a time.
 #[derive(Drop)]
 pub(crate) struct HandleRow<A: Allocator> {
     live: LiveHandle,
     keys: HandleKeys<A>,
+    gone: bool,
 }
 
 impl<A: Allocator> Model for HandleRow<A> {
-    ghost use Rattle.guid_handles.specs.Indexes.{Row};
+    ghost use Rattle.guid_handles.specs.Indexes.{FiledRow};
 
-    ghost Value = { Row };
+    ghost Value = { FiledRow };
 
-    ghost view = { λ r. record { live = r.live; keys = r.keys } };
+    ghost view = { λ r. record { row = record { live = r.live; keys = r.keys }; gone = r.gone } };
 }
 
 impl<A: Allocator + Copy> HandleRow<A> {
     /// A handle without interfaces. This takes no memory.
     pub(crate) fn new(alloc: A, live: LiveHandle) -> Result<HandleRow<A>, AllocError>
-        ensures { IfOk result (λ row. row ≡ record { live = live; keys = [] }) }
+        ensures { IfOk result (λ r. r ≡ record {
+          row = record { live = live; keys = [] };
+          gone = false;
+        }) }
     {
         let keys = HandleKeys::new(alloc)?;
-        Ok(HandleRow { live, keys })
+        Ok(HandleRow {
+            live,
+            keys,
+            gone: false,
+        })
     }
 
     /// The same handle and keys, in memory of their own.
@@ -39,27 +49,58 @@ impl<A: Allocator + Copy> HandleRow<A> {
         Ok(HandleRow {
             live: self.live,
             keys,
+            gone: self.gone,
         })
     }
 
     /// The handle.
     pub(crate) fn live(&self) -> LiveHandle
-        ensures { result ≡ self.now.live }
+        ensures { result ≡ self.now.row.live }
     {
         self.live
     }
 
+    /// The number of the handle.
+    pub(crate) fn number(&self) -> u64
+        ensures { result ≡ self.now.row.live.number }
+    {
+        self.live.number
+    }
+
+    /// Whether the handle is gone.
+    pub(crate) fn is_gone(&self) -> bool
+        ensures { result ≡ self.now.gone }
+    {
+        self.gone
+    }
+
+    /// Whether this is the row of a handle that is not gone.
+    pub(crate) fn is_of(&self, number: u64) -> bool
+        ensures { result ≡ is_filed_of number self.now }
+    {
+        self.live.number == number && !self.gone
+    }
+
+    /// Notes that the handle is gone.
+    pub(crate) fn mark_gone(&mut self)
+        ensures row { self.new.row ≡ self.old.row }
+        ensures gone { self.new.gone ≡ true }
+    {
+        self.gone = true;
+    }
+
     /// The keys.
     pub(crate) fn keys(&self) -> &[usize]
-        ensures { result.now ≡ self.now.keys }
+        ensures { result.now ≡ self.now.row.keys }
     {
         self.keys.as_slice()
     }
 
     /// Adds a key behind the others. On an `Err` the row is as it was.
     pub(crate) fn push_key(&mut self, key: usize) -> Result<(), AllocError>
-        ensures live { self.new.live ≡ self.old.live }
-        ensures ok { OnOk result (self.new.keys ≡ self.old.keys ++ key ∷ []) }
+        ensures live { self.new.row.live ≡ self.old.row.live }
+        ensures gone { self.new.gone ≡ self.old.gone }
+        ensures ok { OnOk result (self.new.row.keys ≡ self.old.row.keys ++ key ∷ []) }
         ensures err { OnErr result (self.new ≡ self.old) }
     {
         self.keys.push(key)
@@ -67,8 +108,9 @@ impl<A: Allocator + Copy> HandleRow<A> {
 
     /// Takes out a key.
     pub(crate) fn remove_key(&mut self, key: usize)
-        ensures live { self.new.live ≡ self.old.live }
-        ensures keys { self.new.keys ≡ filter (λ k. not (k == key)) self.old.keys }
+        ensures live { self.new.row.live ≡ self.old.row.live }
+        ensures gone { self.new.gone ≡ self.old.gone }
+        ensures keys { self.new.row.keys ≡ filter (λ k. not (k == key)) self.old.row.keys }
     {
         self.keys.remove(key);
     }

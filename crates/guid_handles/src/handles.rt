@@ -5,12 +5,13 @@ ghost use Rattle.guid_handles.specs.HandleTables.{numbers, same_guid, has_number
 ghost use Rattle.guid_handles.specs.HandleChanges.{IsHandleTable, max_handles, max_installed, has_guid_twice, is_dead, is_taken, past_limit, refusal, with_interfaces, with_handle, install_refusal, install_many_refusal, Installs, without_handle, without_interface, with_value};
 ghost use Rattle.guid_handles.specs.Indexes.{AreAbsent, ChangesKeys, HaveSameKeys, SetsKey, is_row_of, key_at};
 ghost use Rattle.guid_handles.specs.Slots.{record_at, with_stamp};
+ghost use Rattle.guid_handles.specs.Stores.{AgreeOnKeys};
 
 use crate::groups::Groups;
 use crate::records::{Interface, LiveHandle, Record};
 use crate::room::make_slot;
 use crate::rows::Rows;
-use crate::searches::{find_after, interface_at, nth_key, write_guids};
+use crate::searches::{find_after, find_key, interface_at, nth_key, write_guids};
 use page_ranges::Status;
 use slab::Slab;
 use std::alloc::{AllocError, Allocator, Global};
@@ -22,6 +23,9 @@ pub const MAX_HANDLES: usize = 4096;
 
 /// The most interfaces that one call may install.
 pub const MAX_INSTALLED: usize = 16;
+
+/// How many interfaces of a handle are gone through for one of a GUID.
+const FEW_KEYS: usize = 8;
 
 /// The handle table: the live handles and the protocol interfaces on them. Each interface is kept
 /// once, under a key that stays; the rows of the handles and the groups of the GUIDs have its key.
@@ -67,6 +71,26 @@ fn file_key<A: Allocator + Copy>(
         return Err(error);
     }
     Ok(())
+}
+
+/// The key of the interface of a GUID on a handle. It is looked for among the keys of the handle where
+/// these are few, else in the group of the GUID.
+fn key_of<A: Allocator + Copy>(
+    rows: &Rows<A>,
+    records: &Slab<Record, A>,
+    groups: &Groups<A>,
+    handle: u64,
+    guid: Uuid,
+) -> Option<usize>
+    requires { AgreeOnKeys records.now.slots rows.now groups.now }
+    ensures { result ≡ key_at groups.now guid handle }
+{
+    let keys = rows.keys(handle);
+    if keys.len() <= FEW_KEYS {
+        find_key(records, keys, guid)
+    } else {
+        groups.key(guid, handle)
+    }
 }
 
 /// Gives the interface at a key a value and a stamp.
@@ -140,7 +164,7 @@ impl<A: Allocator + Copy> Handles<A> {
     fn find(&self, handle: u64, guid: Uuid) -> Option<Interface>
         ensures { result ≡ interface_at self.now handle guid }
     {
-        match self.groups.key(guid, handle) {
+        match key_of(&self.rows, &self.records, &self.groups, handle, guid) {
             Some(key) => interface_at(&self.records, key),
             None => None,
         }
@@ -506,7 +530,7 @@ impl<A: Allocator + Copy> Handles<A> {
           interfaces = filter (λ i. not (is_at handle guid i)) self.old.interfaces;
         } }
     {
-        if let Some(key) = self.groups.key(guid, handle) {
+        if let Some(key) = key_of(&self.rows, &self.records, &self.groups, handle, guid) {
             self.rows.remove_key(handle, key);
             self.groups.remove(guid, handle);
             self.records.try_remove(key);
@@ -562,7 +586,7 @@ impl<A: Allocator + Copy> Handles<A> {
         ensures { self.new ≡ with_value handle guid value self.old }
     {
         self.last_stamp += 1;
-        if let Some(key) = self.groups.key(guid, handle) {
+        if let Some(key) = key_of(&self.rows, &self.records, &self.groups, handle, guid) {
             restamp(&mut self.records, key, value, self.last_stamp);
         }
     }

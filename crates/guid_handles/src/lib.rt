@@ -3,6 +3,7 @@
 
 mod groups;
 mod guid_group;
+mod guids;
 mod handle_keys;
 mod handle_row;
 mod handles;
@@ -11,5 +12,6 @@ mod room;
 mod rows;
 mod searches;
 
+pub use guids::is_same_guid;
 pub use handles::{Handles, MAX_HANDLES, MAX_INSTALLED, has_guid_twice};
 pub use records::{Interface, LiveHandle};

@@ -1,18 +1,22 @@
 //! The live handles.
-ghost use Rattle.std.specs.Prelude.{◌≡◌, ◌<◌, ◌==◌, ◌++◌, [], ◌∷◌, not, length, true, is_some, None, IfOk, OnOk, OnErr, IfSome, IfNone};
+ghost use Rattle.std.specs.Prelude.{◌≡◌, ◌<◌, ◌≤◌, ◌==◌, ◌++◌, [], ◌∷◌, not, length, nat_lt, true, false, is_some, None, slice_get, IfOk, OnOk, OnErr, IfSome, IfNone};
 ghost use Rattle.std.specs.List.{find, filter, AllByRecursion};
 ghost use Rattle.guid_handles.specs.HandleTables.{has_number};
-ghost use Rattle.guid_handles.specs.Sorting.{Ascending};
-ghost use Rattle.guid_handles.specs.Indexes.{lives, row_numbers, keys_on, is_row_of, IsRowPlace, ChangesKeys};
+ghost use Rattle.guid_handles.specs.Sorting.{Ascending, place};
+ghost use Rattle.guid_handles.specs.Indexes.{lives, row_numbers, keys_on, is_row_of, filed_number, filed_numbers, is_filed_at, rows_in, ChangesKeys};
 
 use crate::handle_row::HandleRow;
 use crate::records::LiveHandle;
 use crate::room::{make_room, push_with_room};
-use crate::searches::{count_less, is_number_at};
+use crate::searches::remove_number;
 use std::alloc::{AllocError, Allocator};
 use std::marker::Model;
 
-/// The live handles by ascending number, and beside them their numbers alone.
+/// How many rows of handles that are gone stay, beside as many as there are live handles.
+const MOST_GONE: usize = 32;
+
+/// The live handles by ascending number, and beside them their numbers alone. The row of a handle
+/// that goes stays until most rows are such rows.
 #[derive(Drop)]
 pub(crate) struct Rows<A: Allocator> {
     rows: Vec<HandleRow<A>, A>,
@@ -21,13 +25,138 @@ pub(crate) struct Rows<A: Allocator> {
 
 impl<A: Allocator> Model for Rows<A> {
     ghost use Rattle.std.specs.Prelude.{List};
-    ghost use Rattle.guid_handles.specs.Indexes.{Row, AreNumbers};
+    ghost use Rattle.guid_handles.specs.Indexes.{Row, AreRows, rows_in};
 
     ghost Value = { List Row };
 
-    ghost view = { λ r. r.rows.items };
+    ghost view = { λ r. rows_in r.rows.items };
 
-    ghost invariant = { λ r. AreNumbers r.rows.items r.numbers.items };
+    ghost invariant = { λ r. AreRows r.rows.items r.numbers.items };
+}
+
+/// How many rows have lower numbers.
+fn count_lower<A: Allocator + Copy>(rows: &[HandleRow<A>], number: u64) -> usize
+    requires { Ascending (λ a b. a < b) (filed_numbers rows.now) }
+    ensures place { result ≡ place (λ f. nat_lt (filed_number f) number) rows.now }
+    ensures bound { result ≤ length rows.now }
+{
+    rows.partition_point(
+        |r: &HandleRow<A>| -> bool
+            ensures { result ≡ nat_lt (filed_number r.now) number }
+        { r.number() < number },
+    )
+}
+
+/// Where the row of a handle is, if none between it and the last one is missing.
+fn likely_place<A: Allocator + Copy>(rows: &[HandleRow<A>], number: u64) -> usize {
+    match rows.last() {
+        Some(last) => {
+            let behind = last.number().wrapping_sub(number);
+            (rows.len() as u64).wrapping_sub(1).wrapping_sub(behind) as usize
+        }
+        None => 0,
+    }
+}
+
+/// Whether the row of a handle that is not gone is at a place.
+fn is_row_at<A: Allocator + Copy>(rows: &[HandleRow<A>], at: usize, number: u64) -> bool
+    ensures { result ≡ is_filed_at number rows.now at }
+{
+    match rows.get(at) {
+        Some(row) => row.is_of(number),
+        None => false,
+    }
+}
+
+/// The place of the row of a handle, found by halving.
+fn halved_place<A: Allocator + Copy>(rows: &[HandleRow<A>], number: u64) -> Option<usize>
+    requires { Ascending (λ a b. a < b) (filed_numbers rows.now) }
+    ensures there { IfSome result (λ at. is_filed_at number rows.now at ≡ true) }
+    ensures none { IfNone result (find (is_row_of number) (rows_in rows.now) ≡ None) }
+{
+    let at = count_lower(rows, number);
+    if is_row_at(rows, at, number) {
+        Some(at)
+    } else {
+        None
+    }
+}
+
+/// The place of the row of a handle.
+fn place_of<A: Allocator + Copy>(rows: &[HandleRow<A>], number: u64) -> Option<usize>
+    requires { Ascending (λ a b. a < b) (filed_numbers rows.now) }
+    ensures there { IfSome result (λ at. is_filed_at number rows.now at ≡ true) }
+    ensures none { IfNone result (find (is_row_of number) (rows_in rows.now) ≡ None) }
+{
+    let likely = likely_place(rows, number);
+    if is_row_at(rows, likely, number) {
+        Some(likely)
+    } else {
+        halved_place(rows, number)
+    }
+}
+
+/// Whether the last row, if there is one, has a lower number.
+fn is_above<A: Allocator + Copy>(rows: &[HandleRow<A>], number: u64) -> bool
+    requires { Ascending (λ a b. a < b) (filed_numbers rows.now) }
+    ensures { result ≡ true → AllByRecursion (λ n. n < number) (filed_numbers rows.now) }
+{
+    match rows.last() {
+        Some(last) => last.number() < number,
+        None => true,
+    }
+}
+
+/// The same rows, in memory of their own.
+fn copy_rows<A: Allocator + Copy>(
+    alloc: A,
+    rows: &[HandleRow<A>],
+) -> Result<Vec<HandleRow<A>, A>, AllocError>
+    ensures { IfOk result (λ copies. copies.items ≡ rows.now) }
+{
+    let mut copies = Vec::new(alloc);
+    copies.reserve(rows.len())?;
+    for row in rows {
+        copies.push(row.try_copy()?)?;
+    }
+    Ok(copies)
+}
+
+/// Gives up the rows of handles that are gone.
+fn drop_gone<A: Allocator + Copy>(rows: &mut Vec<HandleRow<A>, A>)
+    ensures { rows.new.items ≡ filter (λ f. not f.gone) rows.old.items }
+{
+    rows.retain(
+        |r: &HandleRow<A>| -> bool
+            ensures { result ≡ not r.now.gone }
+        { !r.is_gone() },
+    );
+}
+
+/// Gives up rows of handles that are gone where one of them has a number that is not below that of a
+/// new handle.
+fn clear_above<A: Allocator + Copy>(rows: &mut Vec<HandleRow<A>, A>, number: u64)
+    requires filed { Ascending (λ a b. a < b) (filed_numbers rows.old.items) }
+    requires live { AllByRecursion (λ n. n < number) (row_numbers (rows_in rows.old.items)) }
+    ensures same { rows_in rows.new.items ≡ rows_in rows.old.items }
+    ensures filed { Ascending (λ a b. a < b) (filed_numbers rows.new.items) }
+    ensures below { AllByRecursion (λ n. n < number) (filed_numbers rows.new.items) }
+{
+    if is_above(rows.as_slice(), number) {
+        return;
+    }
+    drop_gone(rows);
+}
+
+/// Gives up the rows of handles that are gone where these are more than others by far.
+fn tidy<A: Allocator + Copy>(rows: &mut Vec<HandleRow<A>, A>, live: usize)
+    requires { Ascending (λ a b. a < b) (filed_numbers rows.old.items) }
+    ensures same { rows_in rows.new.items ≡ rows_in rows.old.items }
+    ensures filed { Ascending (λ a b. a < b) (filed_numbers rows.new.items) }
+{
+    if rows.len() / 2 > live.saturating_add(MOST_GONE / 2) {
+        drop_gone(rows);
+    }
 }
 
 impl<A: Allocator + Copy> Rows<A> {
@@ -47,11 +176,7 @@ impl<A: Allocator + Copy> Rows<A> {
     {
         let alloc = *self.numbers.allocator();
         let numbers = Vec::from_slice(alloc, self.numbers.as_slice())?;
-        let mut rows = Vec::new(alloc);
-        rows.reserve(self.rows.len())?;
-        for row in self.rows.iter() {
-            rows.push(row.try_copy()?)?;
-        }
+        let rows = copy_rows(alloc, self.rows.as_slice())?;
         Ok(Rows { rows, numbers })
     }
 
@@ -62,24 +187,11 @@ impl<A: Allocator + Copy> Rows<A> {
         self.numbers.as_slice()
     }
 
-    /// The place of the row of a handle.
-    fn place_of(&self, number: u64) -> Option<usize>
-        ensures there { IfSome result (IsRowPlace number self.now) }
-        ensures none { IfNone result (find (is_row_of number) self.now ≡ None) }
-    {
-        let at = count_less(self.numbers.as_slice(), number);
-        if is_number_at(self.numbers.as_slice(), at, number) {
-            Some(at)
-        } else {
-            None
-        }
-    }
-
     /// The handle of a number.
     pub(crate) fn find(&self, number: u64) -> Option<LiveHandle>
         ensures { result ≡ find (has_number number) (lives self.now) }
     {
-        match self.place_of(number) {
+        match place_of(self.rows.as_slice(), number) {
             Some(at) => Some(self.rows[at].live()),
             None => None,
         }
@@ -89,7 +201,7 @@ impl<A: Allocator + Copy> Rows<A> {
     pub(crate) fn keys(&self, number: u64) -> &[usize]
         ensures { result.now ≡ keys_on self.now number }
     {
-        match self.place_of(number) {
+        match place_of(self.rows.as_slice(), number) {
             Some(at) => self.rows[at].keys(),
             None => &[],
         }
@@ -103,6 +215,7 @@ impl<A: Allocator + Copy> Rows<A> {
         ensures err { OnErr result (self.new ≡ self.old) }
     {
         let row = HandleRow::new(*self.numbers.allocator(), live)?;
+        clear_above(&mut self.rows, live.number);
         make_room(&mut self.rows)?;
         self.numbers.push(live.number)?;
         push_with_room(&mut self.rows, row);
@@ -113,9 +226,10 @@ impl<A: Allocator + Copy> Rows<A> {
     pub(crate) fn remove(&mut self, number: u64)
         ensures { self.new ≡ filter (λ r. not (is_row_of number r)) self.old }
     {
-        if let Some(at) = self.place_of(number) {
-            self.rows.remove(at);
-            self.numbers.remove(at);
+        if let Some(at) = place_of(self.rows.as_slice(), number) {
+            self.rows[at].mark_gone();
+            remove_number(&mut self.numbers, number);
+            tidy(&mut self.rows, self.numbers.len());
         }
     }
 
@@ -125,28 +239,20 @@ impl<A: Allocator + Copy> Rows<A> {
         ensures ok { OnOk result (ChangesKeys number (λ ks. ks ++ key ∷ []) self.old self.new) }
         ensures err { OnErr result (self.new ≡ self.old) }
     {
-        match self.place_of(number) {
-            Some(at) => self.push_key_at(at, number, key),
+        match place_of(self.rows.as_slice(), number) {
+            Some(at) => {
+                self.rows[at].push_key(key)?;
+                Ok(())
+            }
             None => unreachable!(),
         }
-    }
-
-    /// Adds a key behind the others of the handle at a place. On an `Err` the rows are as they
-    /// were.
-    fn push_key_at(&mut self, at: usize, number: u64, key: usize) -> Result<(), AllocError>
-        requires { IsRowPlace number self.old at }
-        ensures ok { OnOk result (ChangesKeys number (λ ks. ks ++ key ∷ []) self.old self.new) }
-        ensures err { OnErr result (self.new ≡ self.old) }
-    {
-        self.rows[at].push_key(key)?;
-        Ok(())
     }
 
     /// Takes a key of a handle out.
     pub(crate) fn remove_key(&mut self, number: u64, key: usize)
         ensures { ChangesKeys number (filter (λ k. not (k == key))) self.old self.new }
     {
-        if let Some(at) = self.place_of(number) {
+        if let Some(at) = place_of(self.rows.as_slice(), number) {
             self.rows[at].remove_key(key);
         }
     }

@@ -1,10 +1,11 @@
 //! Finding numbers and interfaces.
-ghost use Rattle.std.specs.Prelude.{◌≡◌, ◌<◌, ◌≤◌, ◌==◌, is_some, length, nat_lt, map, slice_get, slice_set};
-ghost use Rattle.std.specs.List.{filter};
+ghost use Rattle.std.specs.Prelude.{◌≡◌, ◌<◌, ◌≤◌, ◌==◌, is_some, length, not, nat_lt, map, slice_get, slice_set};
+ghost use Rattle.std.specs.List.{filter, find};
 ghost use Rattle.guid_handles.specs.HandleTables.{written_over, earlier_of, earliest};
 ghost use Rattle.guid_handles.specs.Sorting.{Ascending, place, kept_if};
-ghost use Rattle.guid_handles.specs.Slots.{at_key, at_keys};
+ghost use Rattle.guid_handles.specs.Slots.{at_key, at_keys, is_key_of};
 
+use crate::guids::is_same_guid;
 use crate::records::{Interface, Record};
 use slab::Slab;
 use std::alloc::Allocator;
@@ -33,6 +34,17 @@ pub(crate) fn is_number_at(numbers: &[u64], at: usize, number: u64) -> bool
     }
 }
 
+/// Takes a number out of ascending ones.
+pub(crate) fn remove_number<A: Allocator>(numbers: &mut Vec<u64, A>, number: u64)
+    requires { Ascending (λ a b. a < b) numbers.old.items }
+    ensures { numbers.new.items ≡ filter (λ n. not (n == number)) numbers.old.items }
+{
+    let at = count_less(numbers.as_slice(), number);
+    if is_number_at(numbers.as_slice(), at, number) {
+        numbers.remove(at);
+    }
+}
+
 /// The key at a place, if there is one.
 pub(crate) fn nth_key(keys: &[usize], at: usize) -> Option<usize>
     ensures { result ≡ slice_get keys.now at }
@@ -45,6 +57,32 @@ pub(crate) fn interface_at<A: Allocator>(records: &Slab<Record, A>, key: usize) 
     ensures { result ≡ at_key records.now.slots key }
 {
     records.get(key).map(|r| r.interface)
+}
+
+/// Whether the interface at a key is of a GUID.
+fn is_key_of<A: Allocator>(records: &Slab<Record, A>, key: usize, guid: Uuid) -> bool
+    ensures { result ≡ is_key_of records.now.slots guid key }
+{
+    match records.get(key) {
+        Some(record) => is_same_guid(&record.interface.guid, &guid),
+        None => false,
+    }
+}
+
+/// The first of some keys whose interface is of a GUID.
+pub(crate) fn find_key<A: Allocator>(
+    records: &Slab<Record, A>,
+    keys: &[usize],
+    guid: Uuid,
+) -> Option<usize>
+    ensures { result ≡ find (is_key_of records.now.slots guid) keys.now }
+{
+    for key in keys {
+        if is_key_of(records, *key, guid) {
+            return Some(*key);
+        }
+    }
+    None
 }
 
 /// Writes a GUID at a place, if there is such a place.

@@ -2,6 +2,7 @@
 ghost use Rattle.std.specs.Prelude.{◌≡◌};
 ghost use Rattle.open_agents.specs.OpenItems as spec;
 
+use guid_handles::is_same_guid;
 use page_ranges::Status;
 use uuid::Uuid;
 
@@ -42,7 +43,7 @@ pub enum Decision {
 pub(crate) fn is_open_on(o: &OpenRecord, handle: u64, guid: Uuid) -> bool
     ensures { result ≡ spec.is_open_on handle guid o.now }
 {
-    o.handle == handle && o.guid == guid
+    o.handle == handle && is_same_guid(&o.guid, &guid)
 }
 
 /// Whether an item is of a controller and an agent.

@@ -5,7 +5,7 @@ ghost use Rattle.protocol_notify.specs.Registrations as spec;
 ghost use Rattle.page_ranges.specs.declared.statuses.Status.TheVariants.{OutOfResources};
 ghost use Rattle.protocol_notify.specs.Registrations.{AreKeyedFrom, registration_of, events_for, with_registration, next_of, next_handle, taken};
 
-use guid_handles::Handles;
+use guid_handles::{Handles, is_same_guid};
 use page_ranges::Status;
 use std::alloc::{AllocError, Allocator, Global};
 use std::marker::Model;
@@ -142,7 +142,7 @@ fn registration_at(registrations: &[Registration], at: usize) -> Option<Registra
 fn is_for(r: &Registration, guid: Uuid) -> bool
     ensures { result ≡ spec.is_for guid r.now }
 {
-    r.guid == guid
+    is_same_guid(&r.guid, &guid)
 }
 
 /// The events of registrations for a GUID, among some.

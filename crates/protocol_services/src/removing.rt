@@ -1,7 +1,7 @@
 //! Taking interfaces out and putting others in their places.
 ghost use Rattle.std.specs.Prelude.{◌≡◌, ◌<◌, ◌^◌, ◌&&◌, not, true, map, [], None, IfOk, OnOk, OnErr};
 ghost use Rattle.std.specs.List.{filter, list_any};
-ghost use Rattle.guid_handles.specs.HandleTables.{carries};
+ghost use Rattle.guid_handles.specs.HandleTables.{carries, value_at};
 ghost use Rattle.guid_handles.specs.HandleChanges.{IsHandleTable};
 ghost use Rattle.open_agents.specs.OpenItems.{is_for_driver, is_open_on, keeps, without_items};
 ghost use Rattle.driver_connect.specs.Stopping.{planned_stop, takes_item, without_handles, without_opens};
@@ -26,12 +26,25 @@ fn removal_refusal<A: Allocator + Copy>(
 ) -> Option<Status>
     ensures { result ≡ spec.removal_refusal handles.now handle guid value }
 {
-    if !handles.is_live(handle) {
-        return Some(Status::InvalidParameter);
+    // The contract of this look-up says that interfaces are on live handles.
+    let _numbers = handles.all();
+    if has_value(handles, handle, guid, value) {
+        return None;
     }
+    if handles.is_live(handle) {
+        Some(Status::NotFound)
+    } else {
+        Some(Status::InvalidParameter)
+    }
+}
+
+/// Whether a handle carries a GUID with a value.
+fn has_value<A: Allocator + Copy>(handles: &Handles<A>, handle: u64, guid: Uuid, value: u64) -> bool
+    ensures { result ≡ spec.is_value value (value_at handles.now handle guid) }
+{
     match handles.interface(handle, guid) {
-        Some(v) if v == value => None,
-        _ => Some(Status::NotFound),
+        Some(v) => v == value,
+        None => false,
     }
 }
 

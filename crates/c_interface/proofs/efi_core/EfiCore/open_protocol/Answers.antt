@@ -1,7 +1,7 @@
-use Rattle.std.proofs.Common.{subst}
+use Rattle.std.proofs.Common.{rules, subst}
 use Rattle.boot_calls.specs.declared.calls.Call.TheVariants as call
 use Rattle.c_interface.specs.Served.{AnswersNumber}
 use Rattle.c_interface.proofs.efi_core.EfiCore.open_protocol.Goals as goal
 
 pub returns : goal.returns
-returns g c = subst (λ guid. AnswersNumber c.args.self.now (call.OpenProtocol c.args.handle guid c.args.agent c.args.controller c.args.attributes) c.args.interface.now c.answer_number.result c.answer_number.new.place c.answer_number.new.self) c.uuid-guid.ensures c.answer_number.ensures
+returns g c = subst (λ guid. AnswersNumber c.args.self.now (call.OpenProtocol c.args.handle guid c.args.agent c.args.controller c.args.attributes) c.args.interface.now c.tell_number.result c.tell_number.new.place c.tell_number.new.self) c.uuid.ensures (search rules)

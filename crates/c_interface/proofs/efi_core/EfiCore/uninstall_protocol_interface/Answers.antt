@@ -1,7 +1,7 @@
-use Rattle.std.proofs.Common.{subst}
+use Rattle.std.proofs.Common.{rules, subst}
 use Rattle.boot_calls.specs.declared.calls.Call.TheVariants as call
 use Rattle.c_interface.specs.Served.{AnswersStatus}
 use Rattle.c_interface.proofs.efi_core.EfiCore.uninstall_protocol_interface.Goals as goal
 
 pub returns : goal.returns
-returns g c = subst (λ guid. AnswersStatus c.args.self.now (call.UninstallProtocolInterface c.args.handle guid c.args.value) c.answer.result c.answer.new.self) c.uuid-guid.ensures c.answer.ensures
+returns g c = subst (λ guid. AnswersStatus c.args.self.now (call.UninstallProtocolInterface c.args.handle guid c.args.value) c.tell.result c.tell.new.self) c.uuid.ensures (search rules)

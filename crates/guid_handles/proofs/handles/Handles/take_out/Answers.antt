@@ -1,6 +1,9 @@
 use Rattle.std.proofs.Common.{sym}
-use Rattle.guid_handles.proofs.Stored.{stored_less, stored_kept}
+use Rattle.guid_handles.proofs.Stored.{keys_agree, stored_kept, stored_less}
 use Rattle.guid_handles.proofs.handles.Handles.take_out.Goals as goal
+
+pub key_of-requires : goal.key_of-requires
+key_of-requires g c = keys_agree _ _ _ _ _ c.self.invariant
 
 pub invariant_of-self : goal.invariant_of-self
 invariant_of-self g c =

@@ -1,11 +1,14 @@
 use Rattle.guid_handles.proofs.Grouped.{got}
-use Rattle.guid_handles.proofs.Numbered.{live_there, no_live}
+use Rattle.guid_handles.proofs.FiledRows.{filed_there, live_filed}
+use Rattle.guid_handles.proofs.Numbered.{no_live}
 use Rattle.guid_handles.proofs.rows.Rows.find.Goals as goal
 
 pub returns-in-Some : goal.returns-in-Some
 returns-in-Some g c =
-    let there = rw (← c.self.view_is) at c.in-Some.ensures.there in
-    rw (← c.self.view_is, c.live.ensures) (live_there _ c.args.number _ _ there (got _ _ _ there.0 c.index.ensures))
+    let rows = c.self.inside.rows.items in
+    let there = rw c.as_slice.ensures.value at c.in-Some.ensures.there in
+    let row = got rows c.in-Some.at _ (filed_there c.args.number rows c.in-Some.at there) c.index.ensures in
+    rw (← c.self.view_is, c.live.ensures) (live_filed c.args.number rows c.in-Some.at _ c.self.invariant.filed there row)
 
 pub returns-in-None : goal.returns-in-None
-returns-in-None g c = no_live _ c.args.number c.in-None.ensures.none
+returns-in-None g c = rw (← c.self.view_is) (no_live _ c.args.number (rw c.as_slice.ensures.value at c.in-None.ensures.none))

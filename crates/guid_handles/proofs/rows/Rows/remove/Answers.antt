@@ -1,12 +1,31 @@
-use Rattle.guid_handles.proofs.Numbered.{none_removed, numbers_remove, row_removed}
+use Rattle.std.proofs.Common.{refl}
+use Rattle.guid_handles.proofs.Grouped.{got}
+use Rattle.guid_handles.proofs.FiledRows.{filed_there, marked_ascend, rows_without}
+use Rattle.guid_handles.proofs.Numbered.{none_removed}
 use Rattle.guid_handles.proofs.rows.Rows.remove.Goals as goal
 
+pub tidy-requires : goal.tidy-requires
+tidy-requires g c =
+    let rows = c.self.inside.rows.items in
+    let there = rw c.as_slice.ensures.value at c.in-Some.ensures.there in
+    let row = got rows c.in-Some.at _ (filed_there c.args.number rows c.in-Some.at there) c.index_mut.ensures.value in
+    marked_ascend rows c.in-Some.at _ _ c.self.invariant.filed row c.mark_gone.ensures.row
+
 pub invariant_of-self : goal.invariant_of-self
-invariant_of-self g c = rw (c.remove.ensures.items, c.remove-in-Some-4.ensures.items) (numbers_remove _ _ _ c.self.invariant)
+invariant_of-self g c =
+    let rows = c.self.inside.rows.items in
+    let there = rw c.as_slice.ensures.value at c.in-Some.ensures.there in
+    let row = got rows c.in-Some.at _ (filed_there c.args.number rows c.in-Some.at there) c.index_mut.ensures.value in
+    rw c.remove_number.ensures
+    (rows_without c.args.number rows _ _ _ c.in-Some.at _ _ c.self.invariant there row c.mark_gone.ensures.row c.mark_gone.ensures.gone refl c.tidy.ensures.same c.tidy.ensures.filed).1
 
 pub returns-in-Some : goal.returns-in-Some
 returns-in-Some g c =
-    rw (← c.self.view_is, c.remove.ensures.items) (row_removed _ _ c.args.number _ c.self.invariant (rw (← c.self.view_is) at c.in-Some.ensures.there))
+    let rows = c.self.inside.rows.items in
+    let there = rw c.as_slice.ensures.value at c.in-Some.ensures.there in
+    let row = got rows c.in-Some.at _ (filed_there c.args.number rows c.in-Some.at there) c.index_mut.ensures.value in
+    rw (← c.self.view_is)
+    (rows_without c.args.number rows _ _ _ c.in-Some.at _ _ c.self.invariant there row c.mark_gone.ensures.row c.mark_gone.ensures.gone refl c.tidy.ensures.same c.tidy.ensures.filed).0
 
 pub returns-in_default : goal.returns-in_default
-returns-in_default g c = none_removed _ c.args.number c.in_default.ensures.none
+returns-in_default g c = rw (← c.self.view_is) (none_removed _ c.args.number (rw c.as_slice.ensures.value at c.in_default.ensures.none))

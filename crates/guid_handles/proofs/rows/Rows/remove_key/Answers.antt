@@ -1,19 +1,24 @@
 use Rattle.std.proofs.Common.{◌==◌, not, refl}
-use Rattle.std.specs.List.{filter}
 use Rattle.guid_handles.proofs.Grouped.{got}
-use Rattle.guid_handles.proofs.Numbered.{changes_keys, changes_none, numbers_set}
+use Rattle.guid_handles.proofs.FiledRows.{filed_changes, filed_there, rows_set}
+use Rattle.std.specs.List.{filter}
+use Rattle.guid_handles.proofs.Numbered.{changes_none}
 use Rattle.guid_handles.proofs.rows.Rows.remove_key.Goals as goal
 
 pub invariant_of-self : goal.invariant_of-self
 invariant_of-self g c =
-    let there = rw (← c.self.view_is) at c.in-Some.ensures.there in
-    numbers_set _ _ _ _ _ c.self.invariant (got _ _ _ there.0 c.index_mut.ensures.value) c.remove_key.ensures.live
+    let rows = c.self.inside.rows.items in
+    let there = rw c.as_slice.ensures.value at c.in-Some.ensures.there in
+    let row = got rows c.in-Some.at _ (filed_there c.args.number rows c.in-Some.at there) c.index_mut.ensures.value in
+    rows_set rows _ c.in-Some.at _ _ c.self.invariant row c.remove_key.ensures.live c.remove_key.ensures.gone
 
 pub returns-in-Some : goal.returns-in-Some
 returns-in-Some g c =
-    let there = rw (← c.self.view_is) at c.in-Some.ensures.there in
-    rw (← c.self.view_is)
-    (changes_keys _ c.args.number _ _ _ (filter (λ k. not (k == c.args.key))) there (got _ _ _ there.0 c.index_mut.ensures.value) c.remove_key.ensures.live c.remove_key.ensures.keys)
+    let rows = c.self.inside.rows.items in
+    let there = rw c.as_slice.ensures.value at c.in-Some.ensures.there in
+    let row = got rows c.in-Some.at _ (filed_there c.args.number rows c.in-Some.at there) c.index_mut.ensures.value in
+    rw (← c.self.view_is) (filed_changes c.args.number rows c.in-Some.at _ _ (filter (λ k. not (k == c.args.key))) c.self.invariant.filed there row c.remove_key.ensures.live c.remove_key.ensures.gone c.remove_key.ensures.keys)
 
 pub returns-in_default : goal.returns-in_default
-returns-in_default g c = changes_none _ c.args.number (filter (λ k. not (k == c.args.key))) refl c.in_default.ensures.none
+returns-in_default g c =
+    rw (← c.self.view_is) (changes_none _ c.args.number (filter (λ k. not (k == c.args.key))) refl (rw c.as_slice.ensures.value at c.in_default.ensures.none))
