@@ -11,9 +11,9 @@ PREFIX ?= /usr/local
 VERSION = 0.1.0
 
 archive = out/$(TARGET)/librafkudin.a
-libraries = rafkudin rafkudin_place
+libraries = rafkudin rafkudin_region rafkudin_place
 archives = $(libraries:%=out/$(TARGET)/lib%.a)
-headers = rafkudin.h rafkudin_null.h rafkudin_place.h rafkudin_efi_names.h
+headers = rafkudin.h rafkudin_null.h rafkudin_place.h rafkudin_region.h rafkudin_efi_names.h
 root = $(DESTDIR)$(PREFIX)
 filled = sed -e 's|@PREFIX@|$(abspath $(PREFIX))|' -e 's|@VERSION@|$(VERSION)|'
 

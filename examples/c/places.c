@@ -22,8 +22,8 @@
 static uint64_t granule;
 
 /* RafkudinPlaceIn by a region of its own. */
-static uint64_t place_in_region(const uint8_t *map, size_t size, size_t step, uint32_t type,
-                                uint64_t pages, uint64_t limit, uint64_t *address)
+static uint64_t place_alone(const uint8_t *map, size_t size, size_t step, uint32_t type,
+                            uint64_t pages, uint64_t limit, uint64_t *address)
 {
     size_t room = RAFKUDIN_PLACE_ROOM(size);
     void *region = malloc(room);
@@ -46,7 +46,7 @@ static void try_place(const uint8_t *map, size_t size, size_t step, struct rafku
     other = RafkudinAllocatePages(core, RAFKUDIN_MAX_ADDRESS, type, pages, &placed);
     HOLDS(status == other);
     HOLDS(status == RAFKUDIN_SUCCESS ? found == placed : found == 1);
-    HOLDS(place_in_region(map, size, step, type, pages, limit, &same) == status && same == found);
+    HOLDS(place_alone(map, size, step, type, pages, limit, &same) == status && same == found);
     if (other == RAFKUDIN_SUCCESS)
         HOLDS(RafkudinFreePages(core, placed, pages) == RAFKUDIN_SUCCESS);
 }
@@ -77,8 +77,8 @@ static void try_chain(const struct machine *machine)
         HOLDS(RafkudinGetMemoryMap(core, &size, map, &key, NULL, NULL) == RAFKUDIN_SUCCESS);
         status = RafkudinPlace(map, size, RAFKUDIN_DESCRIPTOR_SIZE, granule, type, 1 + 7 * at,
                                UINT64_MAX, &found);
-        HOLDS(place_in_region(map, size, RAFKUDIN_DESCRIPTOR_SIZE, type, 1 + 7 * at, UINT64_MAX,
-                              &same) == status &&
+        HOLDS(place_alone(map, size, RAFKUDIN_DESCRIPTOR_SIZE, type, 1 + 7 * at, UINT64_MAX,
+                          &same) == status &&
               same == found);
         HOLDS(status == RafkudinAllocatePages(core, RAFKUDIN_ANY_PAGES, type, 1 + 7 * at, &placed));
         HOLDS(found == placed);
