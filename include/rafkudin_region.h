@@ -23,10 +23,11 @@ RAFKUDIN_API rafkudin_uint64 RafkudinMakeInRegion(
     struct rafkudin_region region, const uint8_t *records, size_t size, size_t descriptor_size,
     rafkudin_uint64 granule, const struct rafkudin_driver *drivers, size_t driver_count,
     struct rafkudin **core);
-/* How many bytes of a region serve a core whose machine has `descriptors` descriptors and whose
- * memory map never has more than `entries` entries, on which no more than `handles` handles with 8
- * interfaces each are live, and whose pool has no more than `pool_pages` pages. Each number is
- * taken as no more than 2^32 - 1. */
+
+/* How many bytes of a region serve a core whose memory map never has more than `entries` entries,
+ * on which no more than `handles` handles with 8 interfaces each are live, and whose pool has no
+ * more than `pool_pages` pages. Each number is taken as no more than 2^32 - 1. That it serves is
+ * measured and not proved. */
 RAFKUDIN_API rafkudin_uint64 RafkudinRoom(rafkudin_uint64 entries, rafkudin_uint64 handles,
                                           rafkudin_uint64 pool_pages);
 

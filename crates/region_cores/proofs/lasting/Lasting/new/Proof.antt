@@ -1,5 +1,5 @@
 -- The value stays where the box has it; the right to give its memory back is dropped. Assumes `Logic`.
-use Rattle.std.proofs.Common.{◌≡◌, List, [], ◌∷◌, ◌++◌, refl, sym, ap, subst}
+use Rattle.std.proofs.Common.{List, [], ◌∷◌, ◌++◌, refl, sym, ap, subst}
 use mir.MapTy.{inst_fn}
 use mir.Syntax.{Args, Dict, Fn, a_type, dcons, dnil}
 use mir.Val.{Val}
