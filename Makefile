@@ -11,7 +11,9 @@ PREFIX ?= /usr/local
 VERSION = 0.1.0
 
 archive = out/$(TARGET)/librafkudin.a
-headers = rafkudin.h rafkudin_null.h rafkudin_efi_names.h
+libraries = rafkudin rafkudin_region rafkudin_place
+archives = $(libraries:%=out/$(TARGET)/lib%.a)
+headers = rafkudin.h rafkudin_null.h rafkudin_place.h rafkudin_region.h rafkudin_efi_names.h
 root = $(DESTDIR)$(PREFIX)
 filled = sed -e 's|@PREFIX@|$(abspath $(PREFIX))|' -e 's|@VERSION@|$(VERSION)|'
 
@@ -24,13 +26,15 @@ $(archive): $(wildcard crates/*/src/*.rt) crates.txt c/heap.c
 install: $(archive)
 	install -d $(root)/include $(root)/lib/pkgconfig $(root)/lib/cmake/Rafkudin
 	install -m 644 $(headers:%=include/%) $(root)/include
-	install -m 644 $(archive) $(root)/lib
-	$(filled) c/rafkudin.pc.in > $(root)/lib/pkgconfig/rafkudin.pc
+	install -m 644 $(archives) $(root)/lib
+	for library in $(libraries); do $(filled) -e "s|@LIBRARY@|$$library|" c/rafkudin.pc.in \
+	  > $(root)/lib/pkgconfig/$$library.pc || exit 1; done
 	$(filled) c/RafkudinConfig.cmake.in > $(root)/lib/cmake/Rafkudin/RafkudinConfig.cmake
 	$(filled) c/RafkudinConfigVersion.cmake.in > $(root)/lib/cmake/Rafkudin/RafkudinConfigVersion.cmake
 
 uninstall:
-	rm -f $(headers:%=$(root)/include/%) $(root)/lib/librafkudin.a $(root)/lib/pkgconfig/rafkudin.pc
+	rm -f $(headers:%=$(root)/include/%) $(libraries:%=$(root)/lib/lib%.a) \
+	  $(libraries:%=$(root)/lib/pkgconfig/%.pc)
 	rm -rf $(root)/lib/cmake/Rafkudin
 
 check:

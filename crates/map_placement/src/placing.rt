@@ -4,8 +4,9 @@ ghost use Rattle.map_placement.specs.Places.{FindsPlace, PlacesPages};
 use boot_machines::Machine;
 use c_machines::{MachineFault, machine_of};
 use descriptor_table::RunTable;
-use page_ranges::Status;
-use page_services::PageBook;
+use page_ranges::{PAGE_SIZE, Status, type_for_alloc};
+use page_services::placement_request;
+use placement_chooser::best_start;
 use std::alloc::Allocator;
 
 /// AllocateMaxAddress: the range ends by the byte at the address of the request.
@@ -55,10 +56,19 @@ fn best_address<A: Allocator + Copy>(
 ) -> Result<u64, Status>
     ensures { FindsPlace machine.now mtype pages limit result }
 {
+    let named = type_for_alloc(mtype)?;
+    if pages == 0 {
+        return Err(Status::InvalidParameter);
+    }
+    let granule = machine.granule();
     let Ok(table) = RunTable::from_runs(alloc, machine.runs()) else {
         return Err(Status::OutOfResources);
     };
-    let mut book = PageBook::new(table, machine.granule());
-    let placed = book.allocate(ALLOCATE_MAX_ADDRESS, mtype, pages, limit)?;
-    Ok(placed.address)
+    let Some(request) = placement_request(granule, ALLOCATE_MAX_ADDRESS, named, pages, limit) else {
+        return Err(Status::OutOfResources);
+    };
+    match best_start(&table, &request) {
+        Some(first) => Ok(first * PAGE_SIZE),
+        None => Err(Status::OutOfResources),
+    }
 }

@@ -1,20 +1,25 @@
-use Rattle.std.proofs.Common.{◌∙◌, ℕ, List, Ok, sym, ap, subst, arith}
+use Rattle.std.proofs.Common.{◌≡◌, ◌∙◌, ℕ, List, Some, false, sym, ap, subst, arith}
 use Rattle.page_ranges.specs.Memory.{Page}
+use Rattle.page_ranges.specs.MemoryTypes.{is_bad_type}
 use Rattle.page_ranges.specs.Runs.{pages_of}
-use Rattle.page_services.specs.PageRules.{AllocatesPages, Book, HasWholeGranules, IsBestChoice, max_address, new_book}
-use Rattle.pool_services.proofs.PoolGranules.{machine-granules}
+use Rattle.placement_chooser.specs.Starts.{IsCertifiedStart}
+use Rattle.page_services.specs.PageRules.{max_address, placement_request}
+use Rattle.page_services.proofs.Granules.{asked_request, named_type, placement_request_proper}
 use Rattle.map_placement.proofs.Found.{found}
 use Rattle.map_placement.proofs.placing.best_address.Goals as goal
 
-pub new-book-requires-clause-whole : goal.new-book-requires-clause-whole
-new-book-requires-clause-whole g c =
-    subst (λ (m : List Page). HasWholeGranules c.granule.result m) (sym (c.in-Ok.ensures ∙ ap pages_of c.runs.ensures.runs)) (machine-granules c.granule.result c.args.machine.now.runs c.runs.ensures.valid)
+pub best_start-requires : goal.best_start-requires
+best_start-requires g c =
+    let granule = c.granule-granule.result in let named = c.in_ok-named.named in
+    let asked = asked_request granule max_address named c.args.pages c.args.limit c.in-Some.request (sym c.placement_request.ensures ∙ c.in-Some.is) in
+    let (good, same) = named_type c.args.mtype named (sym c.in_ok-named.ensures) in
+    placement_request_proper granule max_address named c.args.pages c.args.limit c.in-Some.request c.granule-granule.ensures.valid (subst (λ (t : ℕ). is_bad_type t ≡ false) same good) (omega arith) asked
 
-pub allocate-requires : goal.allocate-requires
-allocate-requires g c = rw c.new-book.ensures (omega arith)
-
-pub returns : goal.returns
-returns g c =
-    let machine = c.args.machine.now in
-    let book = c.new-book.ensures ∙ ap (λ (n : ℕ). new_book n c.in-Ok.table) c.granule.ensures.granule ∙ ap (new_book machine.granule) (c.in-Ok.ensures ∙ ap pages_of c.runs.ensures.runs) in
-    found machine c.args.mtype c.args.pages c.args.limit c.in_ok-placed.placed c.allocate.new.self (subst (λ (b : Book). AllocatesPages IsBestChoice b max_address c.args.mtype c.args.pages c.args.limit (Ok c.in_ok-placed.placed) c.allocate.new.self) book c.in_ok-placed.ensures)
+pub returns-in-Some-best_start : goal.returns-in-Some-best_start
+returns-in-Some-best_start g c =
+    let machine = c.args.machine.now in let named = c.in_ok-named.named in
+    let asked = asked_request c.granule-granule.result max_address named c.args.pages c.args.limit c.in-Some.request (sym c.placement_request.ensures ∙ c.in-Some.is) in
+    let (good, same) = named_type c.args.mtype named (sym c.in_ok-named.ensures) in
+    let at_machine = subst (λ (n : ℕ). placement_request n max_address c.args.mtype c.args.pages c.args.limit ≡ Some c.in-Some.request) c.granule-granule.ensures.granule (subst (λ (t : ℕ). placement_request c.granule-granule.result max_address t c.args.pages c.args.limit ≡ Some c.in-Some.request) (sym same) asked) in
+    let memory = c.in-Ok.ensures ∙ ap pages_of c.runs.ensures.runs in
+    found machine c.args.mtype c.args.pages c.args.limit c.in-Some.request c.in-Some-best_start.first good (omega arith) at_machine (subst (λ (m : List Page). IsCertifiedStart m c.in-Some.request c.in-Some-best_start.first) memory c.in-Some-best_start.ensures.best)

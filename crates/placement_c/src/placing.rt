@@ -1,0 +1,51 @@
+//! Placing pages with no core, and judging certificates.
+ghost use Rattle.c_interface.specs.Checks.{ChecksBlock};
+ghost use Rattle.map_placement.specs.Places.{PlacesPages};
+
+use c_interface::check_block;
+use map_placement::place;
+use region_heap::{Region, RegionHeap};
+
+/// Finds the best place for pages of a type on the memory that EFI_MEMORY_DESCRIPTORs state, up to the byte at
+/// the address `limit`. The place `address` is given the address of the first page; a refusal leaves it. The
+/// region is the caller's again afterwards.
+///
+/// INVALID_PARAMETER: the records state no machine, a memory type that may not be asked for, or no pages.
+/// OUT_OF_RESOURCES: there is no place, or the region is too small.
+#[unsafe(no_mangle)]
+pub extern "C" fn RafkudinPlaceInRegion(
+    region: Region,
+    records: &[u8],
+    descriptor_size: usize,
+    granule: u64,
+    mtype: u32,
+    pages: u64,
+    limit: u64,
+    address: &mut u64,
+) -> u64
+    ensures { PlacesPages descriptor_size records.now granule mtype pages limit address.old result address.new }
+{
+    let heap = RegionHeap::new(region);
+    place(
+        &heap,
+        records,
+        descriptor_size,
+        granule,
+        mtype,
+        pages,
+        limit,
+        address,
+    )
+}
+
+/// Judges a certificate block: SUCCESS if it is accepted. The region is the caller's again afterwards.
+///
+/// ACCESS_DENIED: it is refused. INVALID_PARAMETER: it is no block; the place `line` is given its first line
+/// that is wrong or missing. OUT_OF_RESOURCES: the region is too small.
+#[unsafe(no_mangle)]
+pub extern "C" fn RafkudinCheckInRegion(region: Region, text: &[u8], line: &mut u64) -> u64
+    ensures { ChecksBlock text.now line.old result line.new }
+{
+    let heap = RegionHeap::new(region);
+    check_block(&heap, text, line)
+}

@@ -1,0 +1,45 @@
+//! Cores made.
+ghost use Rattle.std.specs.Prelude.{◌≡◌, Ok, Err, IfSome, MatchOption, MatchResult};
+ghost use Rattle.c_interface.specs.Making.{MakesCore};
+ghost use Rattle.region_cores.specs.Cores.{CoreHeap};
+
+use crate::handle::Rafkudin;
+use crate::lasting::Lasting;
+use crate::place::Place;
+use c_interface::EfiCore;
+use c_machines::{DriverTable, are_tables};
+use page_ranges::Status;
+use region_heap::{Region, RegionHeap};
+
+/// The pointer to a core that is made of EFI_MEMORY_DESCRIPTORs, a granule of 1 or 16 pages and up to 64 drivers. All
+/// that it allocates, now and in its calls, lies in the region.
+///
+/// The error is a number of EFI_STATUS. INVALID_PARAMETER: the records state no machine, or the tables are none of
+/// drivers. OUT_OF_RESOURCES: the region is too small.
+pub fn make_in(
+    region: Region,
+    records: &[u8],
+    descriptor_size: usize,
+    granule: u64,
+    drivers: &[DriverTable],
+) -> Result<Place, u64>
+    ensures { MatchResult result (λ place. MatchOption place.held ⊥ (λ handle. MakesCore {A = CoreHeap} descriptor_size records.now granule drivers.now (Ok handle.core))) (λ status. MakesCore {A = CoreHeap} descriptor_size records.now granule drivers.now (Err status)) }
+{
+    if !are_tables(drivers) {
+        return Err(Status::InvalidParameter.number());
+    }
+    let Some(heap) = RegionHeap::lasting(region) else {
+        return Err(Status::OutOfResources.number());
+    };
+    let core = EfiCore::make(heap, records, descriptor_size, granule, drivers)?;
+    pointer_to(heap, core).ok_or(Status::OutOfResources.number())
+}
+
+/// The pointer to a core that is moved to its heap; none where memory runs out.
+fn pointer_to(heap: &'static RegionHeap, core: EfiCore<&'static RegionHeap>) -> Option<Place>
+    ensures { IfSome result (λ place. MatchOption place.held ⊥ (λ handle. handle.core ≡ core.entry)) }
+{
+    let core = Box::new(heap, core).ok()?;
+    let handle = Box::new(heap, Rafkudin::new(Lasting::new(core))).ok()?;
+    Some(Place::new(Lasting::new(handle)))
+}

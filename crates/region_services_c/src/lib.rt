@@ -1,0 +1,8 @@
+//! The boot services as a library for C whose cores lie in regions of memory that their callers hand over. It has the
+//! functions of `boot_services_c`, but that what takes memory takes a region; it calls no heap.
+#![tactic(auto)]
+
+mod making;
+mod memory;
+mod protocols;
+mod questions;

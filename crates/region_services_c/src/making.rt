@@ -1,0 +1,67 @@
+//! Cores made.
+ghost use Rattle.std.specs.Prelude.{◌≡◌, ◌<◌, Ok, Err, MatchOption};
+ghost use Rattle.c_interface.specs.Making.{MakesCore};
+ghost use Rattle.region_cores.specs.Cores.{CoreHeap};
+ghost use Rattle.region_services_c.specs.Rooms.{room_for};
+
+use c_machines::DriverTable;
+use page_ranges::Status;
+use region_cores::{Place, Rafkudin, make_in};
+use region_heap::Region;
+
+/// What a core takes of its region: always, for an entry of the memory map, for a handle with 8 interfaces, and
+/// for a page of the pool.
+const BYTES_ALWAYS: u64 = 16384;
+
+const BYTES_FOR_ENTRY: u64 = 512;
+
+const BYTES_FOR_HANDLE: u64 = 4096;
+
+const BYTES_FOR_PAGE: u64 = 8192;
+
+/// The most that a number counts of each.
+const MOST: u64 = 0xffff_ffff;
+
+/// Makes a core of EFI_MEMORY_DESCRIPTORs, a granule of 1 or 16 pages and up to 64 drivers, and puts its
+/// pointer into the place `core`, which a refusal leaves as it is. All that the core allocates, now and in its
+/// calls, lies in the region.
+///
+/// INVALID_PARAMETER: the records state no machine, or the tables are none of drivers. OUT_OF_RESOURCES:
+/// the region is too small.
+#[unsafe(no_mangle)]
+pub extern "C" fn RafkudinMakeInRegion(
+    region: Region,
+    records: &[u8],
+    descriptor_size: usize,
+    granule: u64,
+    drivers: &[DriverTable],
+    core: &mut Place,
+) -> u64
+    ensures made { result ≡ 0 → MatchOption core.new.held ⊥ (λ handle. MakesCore {A = CoreHeap} descriptor_size records.now granule drivers.now (Ok handle.core)) }
+    ensures refused { 0 < result → MakesCore {A = CoreHeap} descriptor_size records.now granule drivers.now (Err result) × (core.new ≡ core.old) }
+{
+    match make_in(region, records, descriptor_size, granule, drivers) {
+        Ok(place) => {
+            *core = place;
+            Status::Success.number()
+        }
+        Err(status) => status,
+    }
+}
+
+/// How many bytes of a region serve a core whose memory map has so many entries at most, on which so many handles
+/// with 8 interfaces each are live at most, and whose pool has so many pages at most. Each number is taken as no
+/// more than 2^32 - 1.
+#[unsafe(no_mangle)]
+pub extern "C" fn RafkudinRoom(entries: u64, handles: u64, pool_pages: u64) -> u64
+    ensures { result ≡ room_for entries handles pool_pages }
+{
+    BYTES_ALWAYS
+        + BYTES_FOR_ENTRY * entries.min(MOST)
+        + BYTES_FOR_HANDLE * handles.min(MOST)
+        + BYTES_FOR_PAGE * pool_pages.min(MOST)
+}
+
+/// Ends a core. There is nothing to give back: the region is its caller's again.
+#[unsafe(no_mangle)]
+pub extern "C" fn RafkudinFree(_core: *mut Rafkudin) {}

@@ -1,0 +1,83 @@
+//! What C asks of a core beside the services.
+ghost use Rattle.std.specs.Prelude.{◌≡◌, length, slice_get};
+ghost use Rattle.page_ranges.specs.MemoryMap.{memory_map};
+ghost use Rattle.c_interface.specs.Buffers.{laid};
+ghost use Rattle.c_interface.specs.Checks.{ReturnsEntry};
+ghost use Rattle.c_interface.specs.EfiCores.{certifying_core, last_events};
+ghost use Rattle.c_interface.specs.Served.{ReturnsBlock};
+ghost use Rattle.region_services_c.specs.Versions.{version};
+
+use c_interface::MapEntry;
+use region_cores::Rafkudin;
+
+/// The version of the library, 0.1.0.
+const VERSION: u32 = 0x100;
+
+/// The version of the library: the major number in the bits from 16 on, the minor one in those from 8 on.
+#[unsafe(no_mangle)]
+pub extern "C" fn RafkudinVersion() -> u32
+    ensures { result ≡ version }
+{
+    VERSION
+}
+
+/// Makes and keeps the certificates of placements from now on, or makes none.
+#[unsafe(no_mangle)]
+pub extern "C" fn RafkudinCertify(core: &mut Rafkudin, certify: bool)
+    ensures { core.new.core ≡ certifying_core certify core.old.core }
+{
+    core.held().certify(certify);
+}
+
+/// The block of the certificate of the last service that was called, in the front of `text`; the place
+/// `length` is given its bytes.
+///
+/// NOT_FOUND: there is none. BUFFER_TOO_SMALL: the place is given the bytes that are needed.
+/// OUT_OF_RESOURCES: memory ran out for it.
+#[unsafe(no_mangle)]
+pub extern "C" fn RafkudinCertificate(core: &mut Rafkudin, text: &mut [u8], length: &mut u64) -> u64
+    ensures returned { ReturnsBlock core.old.core.block text.old length.old result text.new length.new }
+    ensures kept { core.new.core ≡ core.old.core }
+{
+    core.held().block(text, length)
+}
+
+/// How many events the last service that was called signals; the first of them are laid into `events`, as
+/// many as it has room for.
+#[unsafe(no_mangle)]
+pub extern "C" fn RafkudinEvents(core: &mut Rafkudin, events: &mut [u64]) -> usize
+    ensures count { result ≡ length (last_events core.old.core) }
+    ensures events { events.new ≡ laid (last_events core.old.core) events.old }
+    ensures kept { core.new.core ≡ core.old.core }
+{
+    core.held().events(events)
+}
+
+/// How many entries the memory map has.
+#[unsafe(no_mangle)]
+pub extern "C" fn RafkudinDescriptors(core: &mut Rafkudin) -> usize
+    ensures count { result ≡ length (memory_map core.old.core.core.state.parts.book.memory) }
+    ensures kept { core.new.core ≡ core.old.core }
+{
+    core.held().descriptors()
+}
+
+/// The entry of the memory map at an index, by ascending address.
+///
+/// NOT_FOUND: there is none.
+#[unsafe(no_mangle)]
+pub extern "C" fn RafkudinDescriptor(core: &mut Rafkudin, index: usize, entry: &mut MapEntry) -> u64
+    ensures returned { ReturnsEntry (slice_get (memory_map core.old.core.core.state.parts.book.memory) index) entry.old result entry.new }
+    ensures kept { core.new.core ≡ core.old.core }
+{
+    core.held().descriptor(index, entry)
+}
+
+/// How many calls of services may still be made: 2^31 at first.
+#[unsafe(no_mangle)]
+pub extern "C" fn RafkudinCallsLeft(core: &mut Rafkudin) -> u64
+    ensures count { result ≡ core.old.core.core.state.calls_left }
+    ensures kept { core.new.core ≡ core.old.core }
+{
+    core.held().calls_left()
+}

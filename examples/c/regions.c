@@ -1,0 +1,225 @@
+/* Cores in regions: regions of many sizes, of which the small ones are refused or run full with
+ * nothing lost; two cores that share nothing; and regions of the sizes that RafkudinRoom returns. */
+#include "points.h"
+
+#include <rafkudin_region.h>
+
+#include <stdio.h>
+#include <stdlib.h>
+#include <string.h>
+
+#define GUARD 64
+#define MOST_BLOCKS 4096
+
+/* A region between two rows of bytes that nobody may write. */
+struct guarded {
+    uint8_t *all;
+    uint8_t *region;
+    size_t room;
+};
+
+static struct guarded guarded_region(size_t room, size_t shift)
+{
+    struct guarded guarded;
+
+    guarded.all = malloc(room + 2 * GUARD + shift);
+    if (guarded.all == NULL)
+        abort();
+    memset(guarded.all, 0xa5, room + 2 * GUARD + shift);
+    guarded.region = guarded.all + GUARD + shift;
+    guarded.room = room;
+    return guarded;
+}
+
+static void free_guarded(struct guarded guarded)
+{
+    for (size_t at = 0; at < GUARD; at++)
+        HOLDS(guarded.region[-1 - (ptrdiff_t)at] == 0xa5 &&
+              guarded.region[guarded.room + at] == 0xa5);
+    free(guarded.all);
+}
+
+/* A core of a machine with so many free pages from page 1 on. */
+static uint64_t make(void *region, size_t room, uint64_t pages, struct rafkudin **core)
+{
+    uint64_t record[6] = {RAFKUDIN_CONVENTIONAL, 0x1000, 0, pages, 0xf, 0};
+
+    return RafkudinMakeIn(region, room, (const uint8_t *)record, sizeof record, sizeof record, 1,
+                          NULL, 0, core);
+}
+
+/* Places pages of one page, of two types in turn, until one is refused. */
+static size_t fill(struct rafkudin *core, uint64_t *addresses)
+{
+    size_t count = 0;
+
+    while (count < MOST_BLOCKS) {
+        size_t entries = RafkudinDescriptors(core);
+        uint64_t status;
+
+        addresses[count] = 0x1000 + 0x2000 * count;
+        status = RafkudinAllocatePages(core, RAFKUDIN_AT_ADDRESS, 1 + count % 6, 1,
+                                       &addresses[count]);
+        if (status != RAFKUDIN_SUCCESS) {
+            HOLDS(status == RAFKUDIN_OUT_OF_RESOURCES);
+            HOLDS(RafkudinDescriptors(core) == entries);
+            break;
+        }
+        count++;
+    }
+    return count;
+}
+
+/* Places pages until the region is full and frees them, many times over. After the first times, in
+ * which the core's tables come to their places, as many fit as two times before: no block is lost. */
+static void use_all(struct rafkudin *core)
+{
+    static uint64_t addresses[MOST_BLOCKS];
+    size_t count = 0, before = 0;
+
+    for (int round = 0; round < 20; round++) {
+        size_t placed = fill(core, addresses);
+
+        HOLDS(round < 8 || placed == before);
+        before = count;
+        count = placed;
+        for (size_t at = 0; at < placed; at++)
+            HOLDS(RafkudinFreePages(core, addresses[at], 1) == RAFKUDIN_SUCCESS);
+        HOLDS(RafkudinDescriptors(core) == 1);
+    }
+}
+
+/* Blocks of the pool and handles until the region is full. */
+static void use_services(struct rafkudin *core)
+{
+    static const struct rafkudin_guid disk = {{1}};
+    uint64_t address, handle, status = RAFKUDIN_SUCCESS;
+
+    for (int round = 0; round < 400 && status == RAFKUDIN_SUCCESS; round++) {
+        address = handle = 0;
+        status = RafkudinInstallProtocolInterface(core, &handle, &disk, 0, 7);
+        if (status == RAFKUDIN_SUCCESS)
+            status = RafkudinAllocatePool(core, RAFKUDIN_BOOT_SERVICES_DATA, 1000, &address);
+    }
+    HOLDS(status == RAFKUDIN_SUCCESS || status == RAFKUDIN_OUT_OF_RESOURCES);
+}
+
+static void try_sizes(void)
+{
+    size_t made = 0, refused = 0;
+
+    for (size_t room = 0; room < 20000; room += 41) {
+        struct guarded guarded = guarded_region(room, room % 19);
+        struct rafkudin *core = NULL;
+        uint64_t status = make(guarded.region, room, 100000, &core);
+
+        if (status == RAFKUDIN_SUCCESS) {
+            made++;
+            use_all(core);
+            RafkudinFree(core);
+            HOLDS(make(guarded.region, room, 100000, &core) == RAFKUDIN_SUCCESS);
+            use_services(core);
+        } else {
+            refused++;
+            HOLDS(status == RAFKUDIN_OUT_OF_RESOURCES && core == NULL);
+        }
+        free_guarded(guarded);
+    }
+    HOLDS(made > 100 && refused > 10);
+}
+
+static void try_two(void)
+{
+    static uint64_t first[MOST_BLOCKS], second[MOST_BLOCKS];
+    struct guarded one = guarded_region(100000, 0), other = guarded_region(100000, 8);
+    struct rafkudin *core = NULL, *same = NULL;
+    size_t count, again;
+
+    HOLDS(make(one.region, one.room, 100000, &core) == RAFKUDIN_SUCCESS);
+    HOLDS(make(other.region, other.room, 100000, &same) == RAFKUDIN_SUCCESS);
+    count = fill(core, first);
+    HOLDS(RafkudinDescriptors(same) == 1);
+    again = fill(same, second);
+    HOLDS(again + 1 >= count && count + 1 >= again);
+    memset(one.region, 0xff, one.room);
+    for (size_t at = 0; at < again; at++)
+        HOLDS(RafkudinFreePages(same, second[at], 1) == RAFKUDIN_SUCCESS);
+    HOLDS(RafkudinDescriptors(same) == 1);
+    memset(one.region, 0xa5, one.room);
+    free_guarded(one);
+    free_guarded(other);
+}
+
+/* A core with so many entries, handles of eight interfaces, and pages of the pool, in a region of
+ * the size that RafkudinRoom returns. */
+static void try_room(uint64_t entries, uint64_t handles, uint64_t pool_pages)
+{
+    size_t room = RafkudinRoom(entries, handles, pool_pages);
+    struct guarded guarded = guarded_region(room, 1);
+    struct rafkudin *core = NULL;
+    bool serves = make(guarded.region, room, 0x1000000, &core) == RAFKUDIN_SUCCESS;
+
+    for (uint64_t at = 0; serves && RafkudinDescriptors(core) + 2 < entries; at++) {
+        uint64_t address = 0x100000000 + 0x2000 * at;
+
+        serves = RafkudinAllocatePages(core, RAFKUDIN_AT_ADDRESS, 2, 1, &address) ==
+                 RAFKUDIN_SUCCESS;
+    }
+    for (uint64_t at = 0; serves && at < handles; at++) {
+        uint64_t handle = 0;
+
+        for (uint8_t guid = 1; serves && guid <= 8; guid++) {
+            struct rafkudin_guid name = {{guid}};
+
+            serves = RafkudinInstallProtocolInterface(core, &handle, &name, 0, at) ==
+                     RAFKUDIN_SUCCESS;
+        }
+    }
+    for (uint64_t at = 0; serves && at < pool_pages; at++) {
+        uint64_t address = 0;
+
+        serves = RafkudinAllocatePool(core, RAFKUDIN_BOOT_SERVICES_DATA, 2100, &address) ==
+                 RAFKUDIN_SUCCESS;
+    }
+    HOLDS(serves);
+    free_guarded(guarded);
+}
+
+static void try_null(void)
+{
+    uint64_t record[6] = {RAFKUDIN_CONVENTIONAL, 0x1000, 0, 16, 0xf, 0}, number = 0;
+    static uint8_t region[4096];
+    struct rafkudin *core = NULL;
+    uint8_t byte = 0;
+
+    HOLDS(make(NULL, 4096, 16, &core) == RAFKUDIN_INVALID_PARAMETER);
+    HOLDS(make(region, sizeof region, 16, NULL) == RAFKUDIN_INVALID_PARAMETER);
+    HOLDS(make(region, 0, 16, &core) == RAFKUDIN_OUT_OF_RESOURCES && core == NULL);
+    HOLDS(RafkudinPlaceIn(NULL, 4096, (const uint8_t *)record, 48, 48, 1, 4, 1, UINT64_MAX,
+                          &number) == RAFKUDIN_INVALID_PARAMETER);
+    HOLDS(RafkudinPlaceIn(region, 0, (const uint8_t *)record, 48, 48, 1, 4, 1, UINT64_MAX,
+                          &number) == RAFKUDIN_OUT_OF_RESOURCES);
+    HOLDS(RafkudinPlaceIn(region, sizeof region, (const uint8_t *)record, 48, 48, 1, 4, 1,
+                          UINT64_MAX, &number) == RAFKUDIN_SUCCESS &&
+          number == 0x10000);
+    HOLDS(RafkudinCheckIn(NULL, 4096, &byte, 1, &number) == RAFKUDIN_INVALID_PARAMETER);
+    HOLDS(RafkudinCheckIn(region, sizeof region, NULL, 0, &number) == RAFKUDIN_INVALID_PARAMETER &&
+          number == 1);
+    RafkudinFree(NULL);
+}
+
+int main(void)
+{
+    try_null();
+    try_sizes();
+    try_two();
+    for (uint64_t entries = 4; entries <= 4096; entries *= 4)
+        try_room(entries, 1, 1);
+    for (uint64_t handles = 4; handles <= 4096; handles *= 4)
+        try_room(4, handles, 1);
+    for (uint64_t pool_pages = 4; pool_pages <= 4096; pool_pages *= 4)
+        try_room(4, 1, pool_pages);
+    try_room(500, 200, 300);
+    try_room(4000, 2000, 1000);
+    return points_end("regions");
+}

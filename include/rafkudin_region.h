@@ -1,0 +1,61 @@
+/* Rafkudin in a region: cores all of whose memory is a region that their caller hands over, as a
+ * firmware's part that calls no heap.
+ *
+ * A program that includes this header is linked with librafkudin_region.a in the place of
+ * librafkudin.a. That library has the functions of rafkudin.h but RafkudinMake, in whose place
+ * RafkudinMakeIn takes a region, and RafkudinPlace and RafkudinCheck, for which rafkudin_place.h has
+ * others. It wants memcpy, memmove and memset and nothing else, and two cores share nothing.
+ * docs/C.md says how it is linked.
+ *
+ * A region is any memory, from any address on, that the library alone reads and writes while the
+ * core in it is called. Its bytes need no value. OUT_OF_RESOURCES means of all services of such a
+ * core, and of RafkudinMakeIn, that the region has no room left. */
+#ifndef RAFKUDIN_REGION_H
+#define RAFKUDIN_REGION_H
+
+#include "rafkudin_place.h"
+
+#ifdef __cplusplus
+extern "C" {
+#endif
+
+RAFKUDIN_API rafkudin_uint64 RafkudinMakeInRegion(
+    struct rafkudin_region region, const uint8_t *records, size_t size, size_t descriptor_size,
+    rafkudin_uint64 granule, const struct rafkudin_driver *drivers, size_t driver_count,
+    struct rafkudin **core);
+
+/* How many bytes of a region serve a core whose memory map never has more than `entries` entries,
+ * on which no more than `handles` handles with 8 interfaces each are live, and whose pool has no
+ * more than `pool_pages` pages. Each number is taken as no more than 2^32 - 1. That it serves is
+ * measured and not proved. */
+RAFKUDIN_API rafkudin_uint64 RafkudinRoom(rafkudin_uint64 entries, rafkudin_uint64 handles,
+                                          rafkudin_uint64 pool_pages);
+
+/* RafkudinMake in the `room` bytes of a region. After RafkudinFree, which has nothing to free, the
+ * region is its caller's again.
+ *
+ * INVALID_PARAMETER: `region` is null; and as of RafkudinMake. OUT_OF_RESOURCES: the region is too
+ * small. */
+static inline rafkudin_uint64 RafkudinMakeIn(void *region, size_t room, const uint8_t *records,
+                                             size_t size, size_t descriptor_size,
+                                             rafkudin_uint64 granule,
+                                             const struct rafkudin_driver *drivers,
+                                             size_t driver_count, struct rafkudin **core)
+{
+    rafkudin_uint64 nothing = 0;
+
+    if (region == NULL || core == NULL || (records == NULL && size != 0) ||
+        (drivers == NULL && driver_count != 0))
+        return RAFKUDIN_INVALID_PARAMETER;
+    if (records == NULL)
+        records = (const uint8_t *)(void *)&nothing;
+    if (drivers == NULL)
+        drivers = (const struct rafkudin_driver *)(void *)&nothing;
+    return RafkudinMakeInRegion(rafkudin_region_in(region, room), records, size, descriptor_size,
+                                granule, drivers, driver_count, core);
+}
+
+#ifdef __cplusplus
+}
+#endif
+#endif
