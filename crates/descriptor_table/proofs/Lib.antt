@@ -18,3 +18,5 @@ pub mod RunArrays
 pub mod Tallied
 pub mod Begun
 pub mod LaterEntries
+pub mod FreeBounds
+pub mod NoUse
