@@ -152,7 +152,10 @@ gains_little s w below r above f small a = elim (not_held s w f) [
 
 pub leaf_of_no_use : (s : Summary) (w : Wanted) (l : List Run) (goes_on ends : Bool) → may_hold s w ≡ false → w.pages < 2 ^ 64 → Allows s l → EndsFree ends l → (goes_on ≡ true → ends ≡ false) → IsLeafOfNoUse w goes_on l
 leaf_of_no_use s w l goes_on ends f small a free apart =
-    inr (λ i r at is. (gains_little s w (run_before l i) r (slice_get l (i + 1)) f small (a i r at is), λ last. elim (cases_Bool goes_on) [
-      | inl t ↦ absurd (true≢false (sym (free i last (subst IsFreeRun (sym at) is)) ∙ apart t))
-      | inr n ↦ n
-    ]))
+    inr (λ i r at is. (
+      gains_little s w (run_before l i) r (slice_get l (i + 1)) f small (a i r at is),
+      λ last. elim (cases_Bool goes_on) [
+        | inl t ↦ absurd (true≢false (sym (free i last (subst IsFreeRun (sym at) is)) ∙ apart t))
+        | inr n ↦ n
+      ],
+    ))

@@ -20,3 +20,4 @@ pub mod Begun
 pub mod LaterEntries
 pub mod FreeBounds
 pub mod NoUse
+pub mod Downward

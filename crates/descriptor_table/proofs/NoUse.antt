@@ -134,7 +134,7 @@ in_leaf ls j i h l = run_of_leaf ls j i (offset ls j + i) [] (omega (arith, ap t
 pub runs_next : (ls : List (List Run)) (j : ℕ) → j < length ls → runs_in (take (j + 1) ls) ≡ runs_in (take j ls) ++ leaf_at ls j
 runs_next ls j h = ap runs_in (take_more ls j [] h) ∙ runs_in-last (take j ls) (leaf_at ls j)
 
-offset_next : (ls : List (List Run)) (j : ℕ) → j < length ls → offset ls (j + 1) ≡ offset ls j + length (leaf_at ls j)
+pub offset_next : (ls : List (List Run)) (j : ℕ) → j < length ls → offset ls (j + 1) ≡ offset ls j + length (leaf_at ls j)
 offset_next ls j h = ap length (runs_next ls j h) ∙ length-append (runs_in (take j ls)) (leaf_at ls j)
 
 module _ (ls : List (List Run)) (leaves : AreLeaves ls) (maximal : AreMaximalRuns (runs_in ls)) (proper : IsProperMemory (pages_of (runs_in ls))) (j : ℕ) (h : j < length ls) where
@@ -173,7 +173,7 @@ module _ (ls : List (List Run)) (leaves : AreLeaves ls) (maximal : AreMaximalRun
   ]
 
   pub leaf_no_use : (w : Wanted) (goes_on : Bool) → BeginsFree goes_on (leaf_at ls (j + 1)) → IsLeafOfNoUse w goes_on l → AllByRecursion (IsOfNoUse (pages_of rs) w) (entries_of l)
-  leaf_no_use w goes_on begins no = all_entries (IsOfNoUse (pages_of rs) w) l (λ i r at free. elim no [
+  leaf_no_use w goes_on begins none = all_entries (IsOfNoUse (pages_of rs) w) l (λ i r at free. elim none [
     | inl limit ↦ inl (omega (arith, limit, get_all (λ s. first_page l ≤ s.range.first) l i r (begin_by_first l (leaf_runs ls j [] (maximal_are_runs rs maximal) h)) at))
     | inr f ↦
         let little = f i r at free in

@@ -67,3 +67,7 @@ abbrev pub IsLeafOfNoUse : Wanted → Bool → List Run → Type 0
 IsLeafOfNoUse w goes_on l =
     (w.limit ≤ first_page l)
     ⊎ ((i : ℕ) (r : Run) → slice_get l i ≡ Some r → r.mtype ≡ conventional → RunGainsLittle w (run_before l i) r (slice_get l (i + 1)) × (i + 1 ≡ length l → goes_on ≡ false))
+
+-- how many runs of a leaf are looked at: all, or none if none is of use
+abbrev pub LooksAt : Wanted → Bool → List Run → ℕ → Type 0
+LooksAt w goes_on l count = (count ≡ length l) ⊎ ((count ≡ 0) × IsLeafOfNoUse w goes_on l)

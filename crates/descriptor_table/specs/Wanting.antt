@@ -76,5 +76,5 @@ YieldsPlace w ls leaf count None = AllByRecursion (IsOfNoUse (pages_of (runs_in 
 YieldsPlace w ls leaf count (Some (l, i)) =
     (at : IsFreeAt ls l i)
     × ((passed : List Descriptor)
-      × (entries_of (runs_to ls leaf count) ≡ entries_of (runs_to ls l i) ++ entry_of at.run ∷ passed)
-      × AllByRecursion (IsOfNoUse (pages_of (runs_in ls)) w) passed)
+    × (entries_of (runs_to ls leaf count) ≡ entries_of (runs_to ls l i) ++ entry_of at.run ∷ passed)
+    × AllByRecursion (IsOfNoUse (pages_of (runs_in ls)) w) passed)

@@ -7,7 +7,7 @@ ghost use Rattle.page_ranges.specs.MemoryMap.{memory_map};
 ghost use Rattle.page_ranges.specs.Runs.{pages_of, AreMaximalRuns};
 ghost use Rattle.descriptor_table.specs.FreeLists.{IsFreeEntry};
 ghost use Rattle.descriptor_table.specs.Leaves.{leaf_at, run_before, runs_in, AreLeaves};
-ghost use Rattle.descriptor_table.specs.Summaries.{BeginsFree};
+ghost use Rattle.descriptor_table.specs.Summaries.{BeginsFree, LooksAt};
 ghost use Rattle.descriptor_table.specs.Wanting.{IsFreeAt, IsFreeEntryAt, IsLastFree, YieldsPlace, YieldsWanted};
 
 use crate::free_entries::{FreeEntry, block_above, block_below, block_of};
@@ -33,16 +33,15 @@ fn last_free(runs: &[Run]) -> Option<usize>
     None
 }
 
-/// The first runs of the leaf at an index; none where there is no such leaf.
+/// The runs of the leaf at an index; none where there is no such leaf.
 #[inline(always)]
-fn first_runs<A: Allocator + Copy>(leaves: &[Leaf<A>], leaf: usize, count: usize) -> &[Run]
-    requires { count ≤ length (leaf_at leaves.now leaf) }
-    ensures { result.now ≡ take count (leaf_at leaves.now leaf) }
+fn runs_of<A: Allocator + Copy>(leaves: &[Leaf<A>], leaf: usize) -> &[Run]
+    ensures { result.now ≡ leaf_at leaves.now leaf }
 {
-    if count == 0 {
+    if leaf >= leaves.len() {
         return &[];
     }
-    &leaves[leaf].runs()[..count]
+    leaves[leaf].runs()
 }
 
 /// Whether the leaf at an index begins with a free run.
@@ -51,6 +50,19 @@ fn begins_free<A: Allocator + Copy>(leaves: &[Leaf<A>], leaf: usize) -> bool
     ensures { BeginsFree result (leaf_at leaves.now leaf) }
 {
     leaf < leaves.len() && leaves[leaf].begins_free()
+}
+
+/// How many runs of a leaf are to be looked at: all, or none if none is of use. `goes_on` says whether
+/// a free run follows the leaf.
+#[inline(always)]
+fn runs_of_use<A: Allocator + Copy>(leaf: &Leaf<A>, wanted: &Wanted, goes_on: bool) -> usize
+    ensures { LooksAt wanted.now goes_on leaf.now result }
+{
+    if leaf.may_hold(wanted, goes_on) {
+        leaf.runs().len()
+    } else {
+        0
+    }
 }
 
 /// The highest free run that may be of use, by its leaf and its index there, of the runs of some leaves
@@ -69,7 +81,7 @@ fn next_place<A: Allocator + Copy>(
 {
     let (mut leaf, mut count) = from;
     loop {
-        if let Some(index) = last_free(first_runs(leaves, leaf, count)) {
+        if let Some(index) = last_free(&runs_of(leaves, leaf)[..count]) {
             return Some((leaf, index));
         }
         if leaf == 0 {
@@ -77,12 +89,16 @@ fn next_place<A: Allocator + Copy>(
         }
         let goes_on = begins_free(leaves, leaf);
         leaf -= 1;
-        count = if leaves[leaf].may_hold(wanted, goes_on) {
-            leaves[leaf].runs().len()
-        } else {
-            0
-        };
+        count = runs_of_use(&leaves[leaf], wanted, goes_on);
     }
+}
+
+/// One of some runs.
+#[inline(always)]
+fn run_at(runs: &[Run], index: usize) -> Option<&Run>
+    ensures { option_map (λ r. r.now) result ≡ slice_get runs.now index }
+{
+    runs.get(index)
 }
 
 /// The run below the one at an index of a leaf.
@@ -94,12 +110,13 @@ fn run_below<A: Allocator + Copy>(leaves: &[Leaf<A>], leaf: usize, index: usize)
     ensures { option_map (λ r. r.now) result ≡ run_before (runs_in leaves.now) (length (runs_in (take leaf leaves.now)) + index) }
 {
     if index > 0 {
-        return leaves[leaf].runs().get(index - 1);
+        return run_at(runs_of(leaves, leaf), index - 1);
     }
     if leaf == 0 {
         return None;
     }
-    leaves[leaf - 1].runs().last()
+    let runs = runs_of(leaves, leaf - 1);
+    run_at(runs, runs.len() - 1)
 }
 
 /// The run above it.
@@ -110,11 +127,11 @@ fn run_above<A: Allocator + Copy>(leaves: &[Leaf<A>], leaf: usize, index: usize)
     requires index { index < length (leaf_at leaves.now leaf) }
     ensures { option_map (λ r. r.now) result ≡ slice_get (runs_in leaves.now) (length (runs_in (take leaf leaves.now)) + index + 1) }
 {
-    let runs = leaves[leaf].runs();
+    let runs = runs_of(leaves, leaf);
     if index + 1 < runs.len() {
-        return runs.get(index + 1);
+        return run_at(runs, index + 1);
     }
-    leaves.get(leaf + 1)?.runs().first()
+    run_at(runs_of(leaves, leaf + 1), 0)
 }
 
 /// A free run as an entry.
@@ -126,7 +143,7 @@ fn entry_at<A: Allocator + Copy>(leaves: &[Leaf<A>], leaf: usize, index: usize) 
     requires free { IsFreeAt leaves.now leaf index }
     ensures { IsFreeEntryAt leaves.now leaf index result }
 {
-    let run = &leaves[leaf].runs()[index];
+    let run = &runs_of(leaves, leaf)[index];
     FreeEntry {
         entry: block_of(run),
         below: block_below(run_below(leaves, leaf, index), run),

@@ -102,8 +102,7 @@ impl<A: Allocator + Copy> Leaf<A> {
     pub(crate) fn may_hold(&self, wanted: &Wanted, goes_on: bool) -> bool
         ensures { result ≡ false → IsLeafOfNoUse wanted.now goes_on self.now }
     {
-        self.first < wanted.limit
-            && (self.summary.may_hold(wanted) || (goes_on && self.ends_free))
+        self.first < wanted.limit && (self.summary.may_hold(wanted) || (goes_on && self.ends_free))
     }
 }
 

@@ -19,11 +19,11 @@ loop-index-preserved c = elim c.if-eq.branch [
         | inr g ↦ joined_right old new (run_before rs i) r (slice_get rs (i + 1)) (allows_at new rs i c.loop-index.index _ _ c.index-runs-index.result r (omega arith) c.index-runs-index.is at w.run_below.ensures w.run_above.ensures w.of_free-free.ensures)
       ])
   | else-eq w ↦ λ i r h at free. rw w.summary-is (elim (cases_lt i c.loop-index.index) [
-      | inl l ↦ c.loop-index.invariant i r l at free
-      | inr g ↦
-          let same = same_run c.args.runs.now i c.loop-index.index c.index-runs-index.result r (omega arith) c.index-runs-index.is at in
-          absurd (true≢false (sym (eq-eqb c.index-runs-index.result.mtype c.conventional.result (ap (λ q. q.mtype) same ∙ free ∙ sym c.conventional.ensures)) ∙ sym c.eq.ensures ∙ w.if-eq.false))
-    ])
+    | inl l ↦ c.loop-index.invariant i r l at free
+    | inr g ↦
+        let same = same_run c.args.runs.now i c.loop-index.index c.index-runs-index.result r (omega arith) c.index-runs-index.is at in
+        absurd (true≢false (sym (eq-eqb c.index-runs-index.result.mtype c.conventional.result (ap (λ q. q.mtype) same ∙ free ∙ sym c.conventional.ensures)) ∙ sym c.eq.ensures ∙ w.if-eq.false))
+  ])
 ]
 
 pub returns : goal.returns
