@@ -82,8 +82,8 @@ impl<A: Allocator + Copy> Leaf<A> {
         ensures { self.new ≡ take low self.old ++ (parts.now ++ drop high self.old) }
     {
         replace_runs(&mut self.runs, low, high, parts);
+        self.first = self.runs[0].range.first;
         let runs = self.runs.as_slice();
-        self.first = runs[0].range.first;
         self.begins_free = begins_free(runs);
         self.ends_free = ends_free(runs);
         self.summary = summary_of(runs);

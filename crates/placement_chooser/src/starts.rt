@@ -1,7 +1,7 @@
 //! The best start of all, without a certificate.
-ghost use Rattle.std.specs.Prelude.{◌≡◌, ℕ, None, IfSome};
+ghost use Rattle.std.specs.Prelude.{◌≡◌, ◌+◌, ◌<◌, ◌≤◌, ◌^◌, ℕ, None, IfSome};
 ghost use Rattle.placement_certificate.specs.Placement.{IsProperRequest, IsPermittedStart};
-ghost use Rattle.placement_chooser.specs.Starts.{IsCertifiedStart};
+ghost use Rattle.placement_chooser.specs.Starts.{IsCertifiedStart, IsGain};
 
 use descriptor_table::{RunTable, Wanted};
 use placement_certificate::{EntrySearch, PricedStart, Request, better_of};
@@ -37,9 +37,13 @@ pub fn best_start<B: Allocator + Copy>(table: &RunTable<B>, request: &Request) -
 
 // How much a placement must gain to be better than a start, in a map of so many entries.
 #[inline(always)]
-fn gain_to_beat(entries: u64, best: Option<PricedStart>) -> u64 {
-    match best {
-        Some((price, _)) => entries + 2 - price,
-        None => 0,
-    }
+fn gain_to_beat(entries: u64, best: Option<PricedStart>) -> u64
+    requires few { entries < 2 ^ 63 }
+    requires most { IfSome best (λ b. b.0 ≤ entries + 2) }
+    ensures { IsGain entries best result }
+{
+    let Some((price, _)) = best else {
+        return 0;
+    };
+    entries + 2 - price
 }
