@@ -1,6 +1,7 @@
 -- The best start so far, as entries are taken from the highest down.
 use Rattle.std.proofs.Common.{◌≡◌, ◌⊎◌, ℕ, ◌+◌, ◌<◌, ◌≤◌, eqb, List, [], ◌∷◌, ◌++◌, filter, length, Contains, Option, Some, None, true, false, inl, inr, refl, sym, ap, subst, ◌∙◌, append_assoc, append-nil, arith}
 use Rattle.std.specs.List.{AllByRecursion}
+use Rattle.std.specs.Prelude.{IfSome}
 use Rattle.std.proofs.lemmas.Bool.{cases_Bool, eqb-true}
 use Rattle.page_ranges.specs.declared.ranges.Descriptor.{Descriptor}
 use Rattle.page_ranges.specs.MemoryTypes.{conventional}
@@ -17,7 +18,7 @@ use Rattle.placement_certificate.specs.Search.{better}
 use Rattle.placement_certificate.proofs.BestBounds.{conventional_kept}
 use Rattle.placement_certificate.proofs.Decided.{certificate_of, certificate_true, no_certificate}
 use Rattle.placement_certificate.proofs.OneCertificate.{same_best}
-use Rattle.placement_certificate.proofs.Places.{start_entry}
+use Rattle.placement_certificate.proofs.Places.{price_most, start_entry}
 use Rattle.placement_certificate.proofs.Tries.{better_cases}
 use Rattle.placement_chooser.specs.Starts.{IsCertifiedStart, IsGain}
 use Rattle.placement_chooser.proofs.Gains.{costs_too_much}
@@ -93,7 +94,7 @@ least_tried : (m : List Page) (r : Request) (e : Descriptor) (l : Option (ℕ ×
 least_tried m r e None q s i h = s q i h
 least_tried m r e (Some (c, t)) q s i h = (omega (arith, s.0.lowest q i h, s.1), λ f. s.0.highest q i h (f ∙ sym s.1))
 
-least_found : (m : List Page) (r : Request) (e : Descriptor) (l : Option (ℕ × ℕ)) → IsTrueLeast m r e l → IsFoundStart m r l
+pub least_found : (m : List Page) (r : Request) (e : Descriptor) (l : Option (ℕ × ℕ)) → IsTrueLeast m r e l → IsFoundStart m r l
 least_found m r e None s = tt
 least_found m r e (Some (c, t)) s = (s.0.permitted, s.1)
 
@@ -103,7 +104,7 @@ least_above m r e (Some (c, t)) [] s a = tt
 least_above m r e (Some (c, t)) (d ∷ es) s a = (omega (arith, a.0, s.0.in_entry.low), least_above m r e (Some (c, t)) es s a.1)
 
 -- what holds of two starts holds of the better one
-better_keeps : (P : Option (ℕ × ℕ) → Type 0) (o l : Option (ℕ × ℕ)) → P o → P l → P (better o l)
+pub better_keeps : (P : Option (ℕ × ℕ) → Type 0) (o l : Option (ℕ × ℕ)) → P o → P l → P (better o l)
 better_keeps P None l a b = b
 better_keeps P (Some (c, t)) None a b = a
 better_keeps P (Some (c, t)) (Some (d, u)) a b = elim (better_cases c t d u) [ inl new ↦ rw new.0 b | inr old ↦ rw old.0 a ]
@@ -155,6 +156,14 @@ module _ (m : List Page) (r : Request) (proper : IsProperMemory m) (good : IsPro
 
   pub none_done : (w : Wanted) (left : List Descriptor) → left ≡ conventional_entries m → w.mtype ≡ r.mtype → w.pages ≡ r.pages → w.limit ≡ r.limit → IsBestSoFar m r None w left
   none_done w left all mtype pages limit = record { done = []; all = append-nil left ∙ all; tried = λ e c. absurd (member_none e c); found = tt; above = tt; mtype = mtype; pages = pages; limit = limit }
+
+  -- the price of the better of two starts, at most
+  price_found : (n : ℕ) (o : Option (ℕ × ℕ)) → n ≡ length (memory_map m) → IsFoundStart m r o → IfSome o (λ b. b.0 ≤ n + 2)
+  price_found n None e f = tt
+  price_found n (Some (c, t)) e f = omega (arith, e, price_most m r t proper good f.0, f.1)
+
+  pub found_most : (n : ℕ) (o l b : Option (ℕ × ℕ)) (e : Descriptor) → n ≡ length (memory_map m) → b ≡ better o l → IsFoundStart m r o → IsTrueLeast m r e l → IfSome b (λ x. x.0 ≤ n + 2)
+  found_most n o l b e count is found least = price_found n b count (subst (IsFoundStart m r) (sym is) (better_keeps (IsFoundStart m r) o l found (least_found m r e l least)))
 
   module _ (o : Option (ℕ × ℕ)) (w : Wanted) (left : List Descriptor) (gain : IsGain (length (memory_map m)) o w.gain) (so_far : IsBestSoFar m r o w left) where
     left_entry : (e : Descriptor) → Contains left e → Contains (memory_map m) e × (e.mtype ≡ conventional)
