@@ -1,8 +1,8 @@
 -- The free runs of leaves from the highest down.
-use Rattle.std.proofs.Common.{◌≡◌, ◌≢◌, ℕ, zero, suc, ◌+◌, ◌-◌, ◌<◌, ◌≤◌, max, Bool, true, false, cond, eqb, List, [], ◌∷◌, ◌++◌, map, length, length-append, get_or, take, drop, filter, Option, Some, None, inl, inr, refl, sym, ap, subst, ◌∙◌, append_assoc, append-nil, arith}
+use Rattle.std.proofs.Common.{◌≡◌, ◌≢◌, ℕ, zero, suc, ◌+◌, ◌-◌, ◌<◌, ◌≤◌, Bool, true, false, cond, eqb, List, [], ◌∷◌, ◌++◌, length, get_or, take, drop, Option, Some, None, inl, inr, refl, sym, ap, subst, ◌∙◌, append_assoc, append-nil, arith}
 use Rattle.std.specs.Prelude.{slice_get}
 use Rattle.std.specs.List.{AllByRecursion}
-use Rattle.std.proofs.lemmas.Bool.{cases_eq, cases_lt, eq-eqb, ne_eqb}
+use Rattle.std.proofs.lemmas.Bool.{cases_lt, eq-eqb, ne_eqb}
 use Rattle.std.proofs.lemmas.List.{take_more, take_all, get_or_past, get_or_default, drop_more, length-take}
 use Rattle.std.proofs.lemmas.Option.{get_or_from_slice_get, slice_get_within, slice_get_past}
 use Rattle.page_ranges.specs.declared.ranges.Descriptor.{Descriptor}
@@ -15,7 +15,7 @@ use Rattle.descriptor_table.specs.declared.wanted.Wanted.{Wanted}
 use Rattle.descriptor_table.specs.Leaves.{IsPlace, leaf_at, run_before, runs_in, AreLeaves}
 use Rattle.descriptor_table.specs.Summaries.{BeginsFree, LooksAt}
 use Rattle.descriptor_table.specs.Tables.{entry_of}
-use Rattle.descriptor_table.specs.Wanting.{GainsLittle, IsFreeAt, IsLastFree, IsOfNoUse, YieldsPlace, entries_of, is_of, most_gain, runs_to}
+use Rattle.descriptor_table.specs.Wanting.{IsFreeAt, IsLastFree, IsOfNoUse, entries_of, is_of, most_gain, runs_to}
 use Rattle.descriptor_table.proofs.FreeBounds.{gain_most}
 use Rattle.descriptor_table.proofs.LaterEntries.{get_dropped}
 use Rattle.descriptor_table.proofs.LeafLists.{leaf_at as is_leaf}

@@ -1,16 +1,15 @@
 -- Bounds of the free runs among some runs.
-use Rattle.std.proofs.Common.{◌≡◌, ◌≢◌, ◌⊎◌, ℕ, ◌+◌, ◌-◌, ◌%◌, ◌^◌, ◌<◌, ◌≤◌, max, min, Bool, true, false, cond, ◌&&◌, true≢false, eqb, leb, List, get_or, length, Option, Some, None, inl, inr, refl, sym, ap, subst, ◌∙◌, arith}
+use Rattle.std.proofs.Common.{◌≡◌, ◌≢◌, ◌⊎◌, ℕ, ◌+◌, ◌-◌, ◌%◌, ◌^◌, ◌<◌, ◌≤◌, max, min, Bool, true, false, cond, true≢false, eqb, leb, List, get_or, length, Option, Some, None, inl, inr, refl, sym, ap, subst, ◌∙◌, arith}
 use Rattle.std.specs.Prelude.{slice_get, bit_or, bit_and}
 use Rattle.std.specs.Int.{bit_at}
-use Rattle.std.proofs.lemmas.Bool.{cases_Bool, cases_eq, eq-eqb, ne_eqb, leb-false, leb-true, and_left}
+use Rattle.std.proofs.lemmas.Bool.{cases_Bool, cases_eq, eq-eqb, ne_eqb, leb-false}
 use Rattle.std.proofs.lemmas.Option.{get_or_from_slice_get}
 use Rattle.std.proofs.lemmas.Nat.Bits.{bit_at_or, bit_at_and, bit_at-lt, bit_at-pow_same, bit_at_ones}
 use Rattle.page_ranges.specs.declared.ranges.Run.{Run}
-use Rattle.page_ranges.specs.MemoryTypes.{conventional}
 use Rattle.descriptor_table.specs.declared.summaries.Summary.{Summary}
 use Rattle.descriptor_table.specs.declared.wanted.Wanted.{Wanted}
-use Rattle.descriptor_table.specs.Leaves.{first_page, run_before}
-use Rattle.descriptor_table.specs.Summaries.{Allows, AllowsRun, BeginsFree, EndsFree, IsFreeRun, IsLeafOfNoUse, RunGainsLittle, bit_of, joined, may_be, may_hold, most_gained}
+use Rattle.descriptor_table.specs.Leaves.{run_before}
+use Rattle.descriptor_table.specs.Summaries.{Allows, AllowsRun, EndsFree, IsFreeRun, IsLeafOfNoUse, RunGainsLittle, bit_of, joined, may_be, may_hold, most_gained}
 use Rattle.descriptor_table.specs.Wanting.{most_gain}
 
 -- ---- bits

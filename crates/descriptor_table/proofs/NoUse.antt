@@ -1,5 +1,5 @@
 -- Free runs of leaves that are of no use.
-use Rattle.std.proofs.Common.{◌≡◌, ◌≢◌, ℕ, zero, suc, ◌+◌, ◌-◌, ◌<◌, ◌≤◌, max, Bool, true, false, cond, true≢false, eqb, List, [], ◌∷◌, ◌++◌, map, length, length-append, get_or, take, drop, filter, Option, Some, None, inl, inr, refl, sym, ap, subst, ◌∙◌, append_assoc, append-nil, arith}
+use Rattle.std.proofs.Common.{◌≡◌, ℕ, zero, suc, ◌+◌, ◌<◌, ◌≤◌, max, Bool, true, false, cond, true≢false, eqb, List, [], ◌∷◌, ◌++◌, map, length, length-append, get_or, take, filter, Option, Some, None, inl, inr, refl, sym, ap, subst, ◌∙◌, arith}
 use Rattle.std.specs.Prelude.{slice_get}
 use Rattle.std.specs.List.{AllByRecursion}
 use Rattle.std.proofs.lemmas.Bool.{cases_Bool, cases_eq, cases_lt, eqb-true, eq-eqb}
@@ -11,20 +11,18 @@ use Rattle.page_ranges.specs.declared.ranges.Run.{Run}
 use Rattle.page_ranges.specs.MemoryTypes.{conventional}
 use Rattle.page_ranges.specs.Memory.{Page, page_at, page_below, IsConventional, IsProperMemory}
 use Rattle.page_ranges.specs.MemoryMap.{memory_map, IsLike}
-use Rattle.page_ranges.specs.Cursors.{IsBlockAt}
-use Rattle.page_ranges.specs.Runs.{pages_of, AreRuns, AreMaximalRuns}
+use Rattle.page_ranges.specs.Runs.{pages_of, AreMaximalRuns}
 use Rattle.page_ranges.proofs.MaximalRuns.{maximal_are_runs}
-use Rattle.page_ranges.proofs.Members.{all_append}
 use Rattle.page_ranges.proofs.RunLists.{IsProperRun, proper_runs}
 use Rattle.descriptor_table.specs.declared.wanted.Wanted.{Wanted}
 use Rattle.descriptor_table.specs.Leaves.{first_page, leaf_at, run_before, runs_in, AreLeaves}
-use Rattle.descriptor_table.specs.Summaries.{BeginsFree, IsFreeRun, IsLeafOfNoUse, RunGainsLittle, may_be}
+use Rattle.descriptor_table.specs.Summaries.{BeginsFree, IsFreeRun, IsLeafOfNoUse, may_be}
 use Rattle.descriptor_table.specs.Tables.{entry_of, IsBlockBelow}
-use Rattle.descriptor_table.specs.Wanting.{GainsLittle, IsOfNoUse, entries_of, is_of, most_gain, runs_to}
-use Rattle.descriptor_table.proofs.FreeBounds.{may_be_most, gain_most}
+use Rattle.descriptor_table.specs.Wanting.{IsOfNoUse, entries_of, is_of, most_gain}
+use Rattle.descriptor_table.proofs.FreeBounds.{may_be_most}
 use Rattle.descriptor_table.proofs.FreeRuns.{above_touching, above_gap, above_last, below_touching, below_gap, below_first, free_run, other_run, is_free}
 use Rattle.descriptor_table.proofs.LeafLists.{begin_by_first, leaf_runs, runs_in-last, leaf_at as is_leaf}
-use Rattle.descriptor_table.proofs.LeafSizes.{run_of_leaf, sizes, total_sizes}
+use Rattle.descriptor_table.proofs.LeafSizes.{run_of_leaf, total_sizes}
 use Rattle.descriptor_table.specs.Tallies.{total}
 
 -- ---- lists

@@ -1,5 +1,5 @@
 -- The best start so far, as entries are taken from the highest down.
-use Rattle.std.proofs.Common.{◌≡◌, ◌⊎◌, ℕ, ◌+◌, ◌<◌, ◌≤◌, eqb, List, [], ◌∷◌, ◌++◌, filter, length, Contains, Option, Some, None, true, false, inl, inr, refl, sym, ap, subst, ◌∙◌, append_assoc, append-nil, arith}
+use Rattle.std.proofs.Common.{◌≡◌, ◌⊎◌, ℕ, ◌+◌, ◌≤◌, eqb, List, [], ◌∷◌, ◌++◌, filter, length, Contains, Option, Some, None, true, inl, inr, refl, sym, ap, subst, ◌∙◌, append_assoc, append-nil, arith}
 use Rattle.std.specs.List.{AllByRecursion}
 use Rattle.std.specs.Prelude.{IfSome}
 use Rattle.std.proofs.lemmas.Bool.{cases_Bool, eqb-true}
@@ -13,7 +13,7 @@ use Rattle.descriptor_table.specs.declared.wanted.Wanted.{Wanted}
 use Rattle.descriptor_table.specs.Wanting.{IsOfNoUse}
 use Rattle.placement_certificate.specs.declared.certificates.Request.{Request}
 use Rattle.placement_certificate.specs.Placement.{IsProperRequest, IsPermittedStart, price, IsBestStart}
-use Rattle.placement_certificate.specs.Certificates.{CertificateValue, IsTrueCertificate, IsTrueLeast, conventional_entries}
+use Rattle.placement_certificate.specs.Certificates.{CertificateValue, IsTrueLeast, conventional_entries}
 use Rattle.placement_certificate.specs.Search.{better}
 use Rattle.placement_certificate.proofs.BestBounds.{conventional_kept}
 use Rattle.placement_certificate.proofs.Decided.{certificate_of, certificate_true, no_certificate}

@@ -1,14 +1,14 @@
 -- What a placement in an entry gains at most, and entries of no use.
-use Rattle.std.proofs.Common.{◌≡◌, ◌≢◌, ◌⊎◌, ◌&&◌, ℕ, ◌+◌, ◌-◌, ◌<◌, ◌≤◌, max, true, false, cond, eqb, List, length, Contains, Option, Some, None, inl, inr, sym, ap, subst, ◌∙◌, arith}
-use Rattle.std.proofs.lemmas.Bool.{cases_Bool, cases_eq, cases_lt, eq-eqb, ne_eqb, and_left}
+use Rattle.std.proofs.Common.{◌≡◌, ◌≢◌, ◌&&◌, ℕ, ◌+◌, ◌<◌, ◌≤◌, max, true, false, cond, eqb, List, length, Contains, Option, Some, None, inl, inr, ap, subst, arith}
+use Rattle.std.proofs.lemmas.Bool.{cases_Bool, cases_lt, eq-eqb, ne_eqb}
 use Rattle.page_ranges.specs.declared.ranges.Descriptor.{Descriptor}
 use Rattle.page_ranges.specs.declared.ranges.Owner.TheVariants.{Pages}
 use Rattle.page_ranges.specs.MemoryTypes.{conventional, attributes_as}
-use Rattle.page_ranges.specs.Memory.{Page, page_at, page_below, IsProperMemory, IsConventional}
-use Rattle.page_ranges.specs.MemoryMap.{memory_map, IsIn, IsLike, IsMaximalBlock}
+use Rattle.page_ranges.specs.Memory.{Page, page_at, page_below, IsProperMemory}
+use Rattle.page_ranges.specs.MemoryMap.{memory_map, IsIn, IsMaximalBlock}
 use Rattle.page_ranges.proofs.Blocks.{entry_is_block}
 use Rattle.descriptor_table.specs.declared.wanted.Wanted.{Wanted}
-use Rattle.descriptor_table.specs.Wanting.{GainsLittle, IsOfNoUse, is_of, most_gain}
+use Rattle.descriptor_table.specs.Wanting.{IsOfNoUse, is_of, most_gain}
 use Rattle.placement_certificate.specs.declared.certificates.Request.{Request}
 use Rattle.placement_certificate.specs.Placement.{IsProperRequest, IsPermittedStart, price}
 use Rattle.placement_certificate.specs.Laws.{adds, saves}

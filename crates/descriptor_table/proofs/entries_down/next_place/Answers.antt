@@ -1,4 +1,4 @@
-use Rattle.std.proofs.Common.{◌-◌, take, ap, sym, ◌∙◌, arith, rules}
+use Rattle.std.proofs.Common.{◌-◌, take, ap, sym, ◌∙◌, arith}
 use Rattle.descriptor_table.specs.Leaves.{leaf_at}
 use Rattle.descriptor_table.specs.Wanting.{entries_of, runs_to}
 use Rattle.descriptor_table.proofs.Downward.{all_passed, found_in, leaf_passed, looks_bound, looks_in, none_passed}

@@ -1,4 +1,4 @@
-use Rattle.std.proofs.Common.{◌≡◌, ◌≤◌, length}
+use Rattle.std.proofs.Common.{◌≤◌, length}
 use Rattle.descriptor_table.specs.Leaves.{leaf_at}
 use Rattle.descriptor_table.specs.Wanting.{entries_of, runs_to}
 use Rattle.descriptor_table.proofs.Downward.{HasPassed}

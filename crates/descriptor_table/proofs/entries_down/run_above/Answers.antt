@@ -1,4 +1,4 @@
-use Rattle.std.proofs.Common.{ap, sym, ◌∙◌, ◌+◌, length, arith, rules}
+use Rattle.std.proofs.Common.{ap, ◌∙◌, ◌+◌, length, arith}
 use Rattle.std.specs.Prelude.{slice_get}
 use Rattle.descriptor_table.proofs.Downward.{above_inside, above_leaf}
 use Rattle.descriptor_table.proofs.entries_down.run_above.Goals as goal

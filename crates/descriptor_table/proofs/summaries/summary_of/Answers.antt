@@ -1,6 +1,5 @@
-use Rattle.std.proofs.Common.{rules, ◌≡◌, ℕ, ◌+◌, ◌<◌, ◌≤◌, length, List, Some, inl, inr, sym, ap, subst, true≢false, ◌∙◌, arith}
+use Rattle.std.proofs.Common.{◌+◌, inl, inr, sym, ap, true≢false, ◌∙◌, arith}
 use Rattle.std.specs.Prelude.{slice_get}
-use Rattle.std.specs.Option.{option_map}
 use Rattle.std.proofs.lemmas.Bool.{cases_lt, eq-eqb}
 use Rattle.std.proofs.lemmas.Option.{slice_get_within}
 use Rattle.descriptor_table.specs.Leaves.{run_before}

@@ -1,4 +1,4 @@
-use Rattle.std.proofs.Common.{◌∙◌, ◌^◌, ◌%◌, ap, arith, rules, ℕ}
+use Rattle.std.proofs.Common.{arith, rules}
 use Rattle.descriptor_table.proofs.FreeBounds.{all_bits, type_bit}
 use Rattle.descriptor_table.proofs.summaries.type_bits.Goals as goal
 

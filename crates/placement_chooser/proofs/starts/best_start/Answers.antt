@@ -1,12 +1,11 @@
-use Rattle.std.proofs.Common.{◌≡◌, ◌∷◌, ◌+◌, ◌≤◌, [], ◌++◌, length, length-append, sym, ap, refl, subst, ◌∙◌, arith, rules}
+use Rattle.std.proofs.Common.{◌+◌, sym, refl, subst, ◌∙◌, arith, rules}
 use Rattle.std.specs.List.{AllByRecursion}
 use Rattle.page_ranges.specs.Memory.{page_at, page_below}
-use Rattle.page_ranges.specs.MemoryTypes.{page_count}
 use Rattle.descriptor_table.specs.Wanting.{IsOfNoUse}
 use Rattle.placement_certificate.specs.Search.{IsOnPage}
 use Rattle.placement_certificate.proofs.BlockStarts.{few_in_map, on_page}
 use Rattle.placement_chooser.specs.Starts.{IsGain}
-use Rattle.placement_chooser.proofs.BestSoFar.{best_start_is, better_keeps, certified, found_most, least_found, no_start, none_done, one_more}
+use Rattle.placement_chooser.proofs.BestSoFar.{best_start_is, certified, found_most, no_start, none_done, one_more}
 use Rattle.placement_chooser.proofs.Entries.{below_page}
 use Rattle.placement_chooser.proofs.starts.best_start.Goals as goal
 

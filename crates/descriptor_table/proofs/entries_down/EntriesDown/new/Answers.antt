@@ -1,4 +1,4 @@
-use Rattle.std.proofs.Common.{[], ◌++◌, length, take, ap, ◌∙◌, append-nil, arith}
+use Rattle.std.proofs.Common.{length, take, ap, ◌∙◌, append-nil, arith}
 use Rattle.std.proofs.lemmas.List.{take_all}
 use Rattle.descriptor_table.specs.Leaves.{runs_in}
 use Rattle.descriptor_table.specs.Wanting.{entries_of}

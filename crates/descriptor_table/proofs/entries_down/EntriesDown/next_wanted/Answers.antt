@@ -1,4 +1,4 @@
-use Rattle.std.proofs.Common.{◌≡◌, ◌++◌, ◌∷◌, ap, sym, ◌∙◌, arith, rules}
+use Rattle.std.proofs.Common.{◌≡◌, ◌++◌, ◌∷◌, ap, sym, ◌∙◌, arith}
 use Rattle.descriptor_table.specs.Tables.{entry_of}
 use Rattle.descriptor_table.specs.Wanting.{entries_of, runs_to}
 use Rattle.descriptor_table.proofs.Downward.{too_much}

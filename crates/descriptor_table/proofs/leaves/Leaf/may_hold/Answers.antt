@@ -1,4 +1,4 @@
-use Rattle.std.proofs.Common.{true, ◌∙◌, sym, arith, rules, true≢false}
+use Rattle.std.proofs.Common.{◌∙◌, sym, true≢false}
 use Rattle.descriptor_table.proofs.FreeBounds.{leaf_of_no_use}
 use Rattle.descriptor_table.proofs.leaves.Leaf.may_hold.Goals as goal
 

@@ -1,4 +1,4 @@
-use Rattle.std.proofs.Common.{rules, arith, refl, true≢false, sym, ◌∙◌}
+use Rattle.std.proofs.Common.{arith, refl, true≢false, sym, ◌∙◌}
 use Rattle.std.specs.Option.{option_map}
 use Rattle.descriptor_table.proofs.FreeBounds.{allows_any, allows_here}
 use Rattle.descriptor_table.proofs.summaries.Summary.of_free.Goals as goal
