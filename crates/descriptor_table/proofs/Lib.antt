@@ -18,3 +18,6 @@ pub mod RunArrays
 pub mod Tallied
 pub mod Begun
 pub mod LaterEntries
+pub mod FreeBounds
+pub mod NoUse
+pub mod Downward

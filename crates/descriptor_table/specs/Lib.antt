@@ -3,3 +3,5 @@ pub mod PageTests
 pub mod FreeLists
 pub mod Leaves
 pub mod Tallies
+pub mod Wanting
+pub mod Summaries

@@ -27,7 +27,7 @@ pub struct FreeEntry {
 
 // A run as a block, its owner left out.
 #[inline(always)]
-fn block_of(run: &Run) -> Descriptor
+pub(crate) fn block_of(run: &Run) -> Descriptor
     ensures { result ≡ entry_of run.now }
 {
     Descriptor {
@@ -40,7 +40,7 @@ fn block_of(run: &Run) -> Descriptor
 
 // A block with the page just below a run, by the run that lies below.
 #[inline(always)]
-fn block_below(below: Option<&Run>, run: &Run) -> Option<Descriptor>
+pub(crate) fn block_below(below: Option<&Run>, run: &Run) -> Option<Descriptor>
     requires { IfSome (option_map (λ r. r.now) below) (λ r. r.range.first + r.range.pages ≤ page_count) }
     ensures { (rs ss : List Run) → AreMaximalRuns rs → IsProperMemory (pages_of rs) → IsPlace rs (record { before = option_map (λ r. r.now) below.entry; rest = run.now ∷ ss })
         → IsBlockBelow (pages_of rs) run.now.range.first result }
@@ -57,7 +57,7 @@ fn block_below(below: Option<&Run>, run: &Run) -> Option<Descriptor>
 
 // A block with the page just behind a run, by the run that lies above.
 #[inline(always)]
-fn block_above(run: &Run, above: Option<&Run>) -> Option<Descriptor>
+pub(crate) fn block_above(run: &Run, above: Option<&Run>) -> Option<Descriptor>
     requires { run.now.range.first + run.now.range.pages ≤ page_count }
     ensures { (rs ss : List Run) (o : Option Run) → AreMaximalRuns rs → IsProperMemory (pages_of rs) → IsPlace rs (record { before = o; rest = run.now ∷ ss }) → option_map (λ r. r.now) above.entry ≡ slice_get ss 0
         → IsBlockAt (pages_of rs) (run.now.range.first + run.now.range.pages) result }

@@ -1,8 +1,11 @@
 //! Runs in leaves.
-ghost use Rattle.std.specs.Prelude.{◌≡◌, ◌+◌, ◌-◌, ◌<◌, ◌≤◌, ◌++◌, length, map, take, drop, IfOk, OnOk, OnErr};
+ghost use Rattle.std.specs.Prelude.{◌≡◌, ◌+◌, ◌-◌, ◌<◌, ◌≤◌, ◌++◌, length, map, take, drop, false, IfOk, OnOk, OnErr};
 ghost use Rattle.descriptor_table.specs.Leaves.{first_page, runs_in, AreLeaves};
+ghost use Rattle.descriptor_table.specs.Summaries.{BeginsFree, EndsFree, IsLeafOfNoUse};
 
 use crate::run_arrays::replace_runs;
+use crate::summaries::{Summary, begins_free, ends_free, summary_of};
+use crate::wanted::Wanted;
 use arrayvec::ArrayVec;
 use page_ranges::Run;
 use std::alloc::{AllocError, Allocator, Global};
@@ -15,6 +18,10 @@ pub(crate) const LEAF_SIZE: usize = 32;
 #[derive(Drop)]
 pub(crate) struct Leaf<A: Allocator = Global> {
     first: u64,
+    // Whether the first run is free, and whether the last one is.
+    begins_free: bool,
+    ends_free: bool,
+    summary: Summary,
     runs: Box<ArrayVec<Run, LEAF_SIZE>, A>,
 }
 
@@ -22,12 +29,13 @@ impl<A: Allocator> Model for Leaf<A> {
     ghost use Rattle.std.specs.Prelude.{◌≡◌, List};
     ghost use Rattle.page_ranges.specs.declared.ranges.Run.{Run};
     ghost use Rattle.descriptor_table.specs.Leaves.{first_page};
+    ghost use Rattle.descriptor_table.specs.Summaries.{Allows, BeginsFree, EndsFree};
 
     ghost Value = { List Run };
 
     ghost view = { λ l. l.runs.value.items };
 
-    ghost invariant = { λ l. l.first ≡ first_page l.runs.value.items };
+    ghost invariant = { λ l. (l.first ≡ first_page l.runs.value.items) × BeginsFree l.begins_free l.runs.value.items × EndsFree l.ends_free l.runs.value.items × Allows l.summary l.runs.value.items };
 }
 
 impl<A: Allocator + Copy> Leaf<A> {
@@ -40,7 +48,13 @@ impl<A: Allocator + Copy> Leaf<A> {
         let first = runs[0].range.first;
         let mut leaf = Box::new(alloc, ArrayVec::new())?;
         let _filled = leaf.try_extend_from_slice(runs);
-        Ok(Leaf { first, runs: leaf })
+        Ok(Leaf {
+            first,
+            begins_free: begins_free(runs),
+            ends_free: ends_free(runs),
+            summary: summary_of(runs),
+            runs: leaf,
+        })
     }
 
     /// The first page of the first run.
@@ -69,6 +83,26 @@ impl<A: Allocator + Copy> Leaf<A> {
     {
         replace_runs(&mut self.runs, low, high, parts);
         self.first = self.runs[0].range.first;
+        let runs = self.runs.as_slice();
+        self.begins_free = begins_free(runs);
+        self.ends_free = ends_free(runs);
+        self.summary = summary_of(runs);
+    }
+
+    /// Whether the first run is free.
+    #[inline(always)]
+    pub(crate) fn begins_free(&self) -> bool
+        ensures { BeginsFree result self.now }
+    {
+        self.begins_free
+    }
+
+    /// Whether a free run may be of use. `goes_on` says whether a free run follows the leaf.
+    #[inline(always)]
+    pub(crate) fn may_hold(&self, wanted: &Wanted, goes_on: bool) -> bool
+        ensures { result ≡ false → IsLeafOfNoUse wanted.now goes_on self.now }
+    {
+        self.first < wanted.limit && (self.summary.may_hold(wanted) || (goes_on && self.ends_free))
     }
 }
 

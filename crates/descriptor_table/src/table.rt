@@ -12,6 +12,7 @@ use crate::beginnings::begun_in;
 use crate::cursors::RunCursor;
 use crate::cuts::RunList;
 use crate::entries::{MapEntries, count_entries};
+use crate::entries_down::EntriesDown;
 use crate::free_entries::FreeEntries;
 use crate::leaf_searches::{all_in_range, run_at_index, run_in_leaves};
 use crate::leaves::{Leaf, leaves_of, sizes_of};
@@ -197,5 +198,13 @@ impl<A: Allocator + Copy> RunTable<A> {
         ensures entries { result.entries ≡ filter (λ e. e.mtype == conventional) (memory_map self.now) }
     {
         FreeEntries::new(self.leaves.as_slice())
+    }
+
+    /// The conventional entries of the memory map from the highest down.
+    pub fn entries_down(&self) -> EntriesDown<'_, A>
+        ensures memory { result.memory ≡ self.now }
+        ensures entries { result.entries ≡ filter (λ e. e.mtype == conventional) (memory_map self.now) }
+    {
+        EntriesDown::new(self.leaves.as_slice())
     }
 }

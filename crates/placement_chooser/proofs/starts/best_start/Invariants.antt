@@ -1,16 +1,15 @@
-use Rattle.std.proofs.Common.{◌≡◌, ◌++◌, List, length}
-use Rattle.std.specs.List.{AllZip}
-use Rattle.page_ranges.specs.declared.ranges.Descriptor.{Descriptor}
-use Rattle.placement_certificate.specs.declared.certificates.Bound.{Bound}
-use Rattle.placement_certificate.specs.Certificates.{IsTrueBound, conventional_entries}
-use Rattle.placement_certificate.specs.Search.{IsBestOf}
+use Rattle.std.proofs.Common.{◌≡◌, length}
+use Rattle.page_ranges.specs.MemoryMap.{memory_map}
+use Rattle.placement_chooser.specs.Starts.{IsGain}
+use Rattle.placement_chooser.proofs.BestSoFar.{IsBestSoFar}
 use Rattle.placement_chooser.proofs.starts.best_start.Given as goal
 
--- the best of the bounds that the entries so far have
+-- the best of the entries that are done
 abbrev pub invariant-loop-free : goal.invariant-loop-free
 invariant-loop-free g l = record {
   memory : l.left.memory ≡ l.table;
-  best : (front : List Descriptor) × (bounds : List Bound) × (front ++ l.left.entries ≡ conventional_entries l.table) × AllZip (IsTrueBound l.table l.request) front bounds × IsBestOf l.best bounds;
+  best : IsBestSoFar l.table l.request l.best l.wanted l.left.entries;
+  gain : IsGain (length (memory_map l.table)) l.best l.wanted.gain;
   stays : l.search ≡ l.table;
 }
 
