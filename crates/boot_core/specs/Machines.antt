@@ -1,7 +1,9 @@
 -- The state of the machine that serves the calls.
 use Rattle.std.specs.Prelude.{ℕ, ◌+◌, ◌*◌, ◌≤◌, Bool, false, List, [], length}
 use Rattle.std.specs.List.{AllByRecursion}
+use Rattle.page_ranges.specs.declared.ranges.Descriptor.{Descriptor}
 use Rattle.page_ranges.specs.Memory.{IsProperMemory}
+use Rattle.page_ranges.specs.MemoryMap.{memory_map}
 use Rattle.page_ranges.specs.Runs.{pages_of}
 use Rattle.boot_machines.specs.Machines.{MachineValue}
 use Rattle.page_services.specs.PageRules.{Book, IsInGranules, certifying, new_book}
@@ -16,11 +18,18 @@ pub record Parts : Type 0 where
   pub pools : List Extent
   pub lists : Lists
 
+abbrev pub parts_of : Book → List Extent → Lists → Parts
+parts_of book pools lists = record { book = book; pools = pools; lists = lists }
+
 -- the parts, whether the boot services have ended, and how many calls may still be made
 pub record State : Type 0 where
   pub parts : Parts
   pub exited : Bool
   pub calls_left : ℕ
+
+-- the memory map of a state
+abbrev pub map_of : State → List Descriptor
+map_of s = memory_map s.parts.book.memory
 
 -- how many calls a machine serves
 abbrev pub all_calls : ℕ

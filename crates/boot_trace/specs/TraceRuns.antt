@@ -63,7 +63,8 @@ PrintsAll A ds certify number (line ∷ lines) old text new =
     × PrintsAll A ds certify (number + 1) lines mid rest new × (text ≡ first ++ rest)
 
 -- The text of a number of first lines of the bytes was written, and nothing else.
-pub record Wrote (A : Type 0) (ds : List Meaning) (certify : Bool) (bytes : List ℕ) (count : ℕ) (old new : State) (before after : Option (List ℕ)) : Type 0 where
+pub record Wrote (A : Type 0) (ds : List Meaning) (certify : Bool) (bytes : List ℕ) (count : ℕ)
+    (old new : State) (before after : Option (List ℕ)) : Type 0 where
   pub text : List ℕ
   pub prints : PrintsAll A ds certify 1 (take count (lines_of bytes)) old text new
   pub written : Appends before after text
@@ -80,7 +81,8 @@ pub record HasLine (bytes : List ℕ) (count : ℕ) (line : List ℕ) : Type 0 w
   pub counted : length front ≡ count
 
 -- The text of a number of first lines was written whole, and of the text of the next a front.
-pub record WroteFront (A : Type 0) (ds : List Meaning) (certify : Bool) (bytes : List ℕ) (count : ℕ) (old new : State) (before after : Option (List ℕ)) : Type 0 where
+pub record WroteFront (A : Type 0) (ds : List Meaning) (certify : Bool) (bytes : List ℕ)
+    (count : ℕ) (old new : State) (before after : Option (List ℕ)) : Type 0 where
   pub mid : State
   pub middle : Option (List ℕ)
   pub whole : Wrote A ds certify bytes count old mid before middle
@@ -93,10 +95,12 @@ pub record WroteFront (A : Type 0) (ds : List Meaning) (certify : Bool) (bytes :
 
 -- The text of a number of first lines was written; the next line's call may have been made, and
 -- nothing of it is written.
-pub record WroteBefore (A : Type 0) (ds : List Meaning) (certify : Bool) (bytes : List ℕ) (count : ℕ) (old new : State) (before after : Option (List ℕ)) : Type 0 where
+pub record WroteBefore (A : Type 0) (ds : List Meaning) (certify : Bool) (bytes : List ℕ)
+    (count : ℕ) (old new : State) (before after : Option (List ℕ)) : Type 0 where
   pub mid : State
   pub whole : Wrote A ds certify bytes count old mid before after
-  pub next : (new ≡ mid) ⊎ ((line : List ℕ) × HasLine bytes count line × MakesCall A ds (line_of line) mid new)
+  pub next : (new ≡ mid)
+      ⊎ ((line : List ℕ) × HasLine bytes count line × MakesCall A ds (line_of line) mid new)
 
 -- How a run on a trace of known bytes ends. What is written is the text of all its lines, or of
 -- those before the one that stopped the run, and the machine is in the state after their calls. No

@@ -25,7 +25,10 @@ pub fn run<D: Driver, A: Allocator + Copy, R: Read + Drop, W: Write>(
     writer: &mut W,
     certify: bool,
 ) -> Result<(), RunFault>
-    ensures ends { IfSome (R.remaining reader) (λ bytes. Ends A (map D.meaning core.old.drivers) certify bytes core.old.state core.new.state (W.contents writer.old) (W.contents writer.new) result) }
+    ensures ends { IfSome (R.remaining reader)
+        (λ bytes. Ends A
+        (map D.meaning core.old.drivers) certify bytes core.old.state core.new.state
+        (W.contents writer.old) (W.contents writer.new) result) }
     ensures drivers { core.new.drivers ≡ core.old.drivers }
 {
     let Ok(mut reader) = BufReader::new(alloc, reader) else {
@@ -67,9 +70,13 @@ fn run_line<D: Driver, A: Allocator + Copy>(
     text: &mut String<A>,
 ) -> Result<(), RunFault>
     requires { string_bytes text.old ≡ [] }
-    ensures ok { OnOk result (Prints A (map D.meaning core.old.drivers) certify number (line_of line.now) core.old.state (string_bytes text.new) core.new.state) }
+    ensures ok { OnOk result
+        (Prints A (map D.meaning core.old.drivers) certify number (line_of line.now) core.old.state
+        (string_bytes text.new) core.new.state) }
     ensures drivers { core.new.drivers ≡ core.old.drivers }
-    ensures err { IfErr result (λ fault. StopsAt A (map D.meaning core.old.drivers) certify fault number (line_of line.now) core.old.state core.new.state) }
+    ensures err { IfErr result
+        (λ fault. StopsAt A (map D.meaning core.old.drivers) certify fault number
+        (line_of line.now) core.old.state core.new.state) }
 {
     match read_call(alloc, line) {
         Ok(None) => Ok(()),
@@ -93,9 +100,14 @@ fn make_call<D: Driver, A: Allocator + Copy>(
     text: &mut String<A>,
 ) -> Result<(), RunFault>
     requires { string_bytes text.old ≡ [] }
-    ensures ok { OnOk result (Prints A (map D.meaning core.old.drivers) certify number (Ok (Some (TraceCall.Service call.now))) core.old.state (string_bytes text.new) core.new.state) }
+    ensures ok { OnOk result
+        (Prints A (map D.meaning core.old.drivers) certify number
+        (Ok (Some (TraceCall.Service call.now))) core.old.state
+        (string_bytes text.new) core.new.state) }
     ensures drivers { core.new.drivers ≡ core.old.drivers }
-    ensures err { IfErr result (λ fault. StopsAt A (map D.meaning core.old.drivers) certify fault number (Ok (Some (TraceCall.Service call.now))) core.old.state core.new.state) }
+    ensures err { IfErr result
+        (λ fault. StopsAt A (map D.meaning core.old.drivers) certify fault number
+        (Ok (Some (TraceCall.Service call.now))) core.old.state core.new.state) }
 {
     if core.calls_left() == 0 {
         return Err(RunFault::NoCallsLeft);

@@ -103,7 +103,8 @@ pub fn table_drivers<A: Allocator>(
 
 /// The driver of a table, None where a count is above the length of its array.
 fn driver_in(table: &DriverTable) -> Option<TableDriver>
-    ensures { option_map returned result ≡ (if fits table.now then Some (driver_in table.now) else None) }
+    ensures { option_map returned result ≡ (if fits table.now then Some (driver_in table.now)
+        else None) }
 {
     let needs = guids_in(&table.needs, table.needs_count)?;
     let opens = guids_in(&table.opens, table.opens_count)?;
@@ -118,7 +119,8 @@ fn driver_in(table: &DriverTable) -> Option<TableDriver>
 
 /// The first GUIDs, as many as the count says; None where there are fewer.
 fn guids_in(guids: &[Guid; 8], count: u64) -> Option<ArrayVec<Uuid, MOST_GUIDS>>
-    ensures { option_map (λ list. list.items) result ≡ (if nat_le count 8 then Some (map guid_in (take count guids.now)) else None) }
+    ensures { option_map (λ list. list.items) result
+        ≡ (if nat_le count 8 then Some (map guid_in (take count guids.now)) else None) }
 {
     if count > MOST_GUIDS as u64 {
         return None;
@@ -132,7 +134,8 @@ fn guids_in(guids: &[Guid; 8], count: u64) -> Option<ArrayVec<Uuid, MOST_GUIDS>>
 
 /// The interfaces of a child, None where its count is above the length of the array.
 fn child_in(child: &Child) -> Option<ArrayVec<(Uuid, u64), MOST_INTERFACES>>
-    ensures { option_map (λ list. list.items) result ≡ (if fits_child child.now then Some (child_in child.now) else None) }
+    ensures { option_map (λ list. list.items) result
+        ≡ (if fits_child child.now then Some (child_in child.now) else None) }
 {
     if child.count > MOST_INTERFACES as u64 {
         return None;
@@ -149,7 +152,9 @@ fn children_in(
     children: &[Child; 8],
     count: u64,
 ) -> Option<ArrayVec<ArrayVec<(Uuid, u64), MOST_INTERFACES>, MOST_CHILDREN>>
-    ensures { option_map (λ list. map (λ child. child.items) list.items) result ≡ (if nat_le count 8 && list_all fits_child (take count children.now) then Some (map child_in (take count children.now)) else None) }
+    ensures { option_map (λ list. map (λ child. child.items) list.items) result
+        ≡ (if nat_le count 8 && list_all fits_child (take count children.now)
+        then Some (map child_in (take count children.now)) else None) }
 {
     if count > MOST_CHILDREN as u64 {
         return None;

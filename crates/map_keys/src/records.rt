@@ -76,7 +76,8 @@ pub fn read_descriptors<A: Allocator>(
     alloc: A,
     bytes: &[u8],
 ) -> Result<Option<Vec<Descriptor, A>>, AllocError>
-    ensures { IfOk result (λ found. ReadsRecords bytes.now (option_map (λ entries. entries.items) found)) }
+    ensures { IfOk result
+        (λ found. ReadsRecords bytes.now (option_map (λ entries. entries.items) found)) }
 {
     if bytes.len() % RECORD_SIZE != 0 {
         return Ok(None);

@@ -29,7 +29,8 @@ pub fn place<A: Allocator + Copy>(
     limit: u64,
     address: &mut u64,
 ) -> u64
-    ensures { PlacesPages descriptor_size records.now granule mtype pages limit address.old result address.new }
+    ensures { PlacesPages descriptor_size records.now granule mtype pages limit address.old result
+        address.new }
 {
     let machine = match machine_of(alloc, records, descriptor_size, granule) {
         Ok(machine) => machine,

@@ -24,6 +24,10 @@ part bytes at count = take count (drop at bytes)
 unfoldable pub put : List ℕ → ℕ → List ℕ → List ℕ
 put bytes at new = take at bytes ++ new ++ drop (at + length new) bytes
 
+-- the row once bytes are written from an index on
+abbrev pub with_put : Bytes → ℕ → List ℕ → Bytes
+with_put row at new = record { set = put row.set at new; room = row.room }
+
 -- the number in the 8 bytes from a place on, the lowest byte first
 unfoldable pub word : List ℕ → ℕ → ℕ
 word bytes at = little_number 8 (part bytes at 8)

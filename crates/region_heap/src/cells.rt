@@ -26,7 +26,10 @@ impl Cells {
     /// Takes units in a row that are free, a number for a block and one behind them.
     pub(crate) fn take(self, units: usize) -> (Cells, Option<Block>)
         ensures place { result.0.free.place ≡ self.free.place }
-        ensures block { MatchOption result.1 ((at : ℕ) → ¬ AreFree self.marks.set at (units + 1)) (λ b. AreFree self.marks.set b.at (units + 1) × (b.units ≡ units) × (b.place ≡ self.free.place) × (result.0.marks.set ≡ marked self.marks.set b.at (units + 1) 1)) }
+        ensures block { MatchOption result.1 ((at : ℕ) → ¬ AreFree self.marks.set at (units + 1))
+            (λ b. AreFree self.marks.set b.at (units + 1) × (b.units ≡ units)
+            × (b.place ≡ self.free.place)
+            × (result.0.marks.set ≡ marked self.marks.set b.at (units + 1) 1)) }
         ensures same { result.1 ≡ None → result.0 ≡ self }
     {
         match first_free(self.marks.bytes(), units) {
@@ -70,7 +73,8 @@ fn mark(marks: &mut RawBytes, at: usize, count: usize, mark: u8)
 
 /// The first of a number of units in a row that are free, and one more.
 fn first_free(marks: &[u8], units: usize) -> Option<usize>
-    ensures { MatchOption result ((at : ℕ) → ¬ AreFree marks.now at (units + 1)) (λ at. AreFree marks.now at (units + 1)) }
+    ensures { MatchOption result ((at : ℕ) → ¬ AreFree marks.now at (units + 1))
+        (λ at. AreFree marks.now at (units + 1)) }
 {
     let mut free = 0;
     for (at, mark) in marks.iter().enumerate() {

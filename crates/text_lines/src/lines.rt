@@ -24,7 +24,8 @@ pub enum LineFault {
 /// The next byte, None at the end.
 pub fn next_byte<R: Read, A: Allocator>(reader: &mut BufReader<R, A>) -> io::Result<Option<u8>>
     ensures { IfOk result
-        (λ next. TakesByte (reader_remaining R.remaining reader.old) next (reader_remaining R.remaining reader.new)) }
+        (λ next. TakesByte (reader_remaining R.remaining reader.old) next
+        (reader_remaining R.remaining reader.new)) }
 {
     let next = reader.fill_buf()?.first().copied();
     if next.is_some() {
