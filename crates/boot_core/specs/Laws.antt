@@ -128,8 +128,8 @@ abbrev pub used_size : Status → ℕ → ℕ
 used_size Success size = size
 used_size status size = 0
 
--- GetMemoryMap with a buffer of the caller's is a step of the machine, with the reply that a call
--- tells and the front of the buffer; the rest of the buffer is as it was.
+-- GetMemoryMap with a buffer of the caller's is a step of the machine, with the reply of a call
+-- that returns the front of the buffer; the rest of the buffer is as it was.
 abbrev pub MapStepLaw : Type 0 → Type 0
 MapStepLaw A =
     (ds : List Meaning) (old : State) (buffer : List ℕ) (returned : MapReply) (after : List ℕ)

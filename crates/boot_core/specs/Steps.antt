@@ -71,15 +71,15 @@ WhileOpen false old new Rule Refusal = Rule
 -- what a service does whose reply carries a result
 abbrev pub Serves : {A R : Type 0} → Bool → Parts → Parts → Reply A → (Result R Status → Reply A)
     → (Result R Status → Type 0) → Type 0
-Serves {R = R} exited old new answer tell Rule =
-    (result : Result R Status) × (answer ≡ tell result)
+Serves {R = R} exited old new answer reply_with Rule =
+    (result : Result R Status) × (answer ≡ reply_with result)
     × WhileOpen exited old new (Rule result) (result ≡ Err Unsupported)
 
 -- what a service does whose reply has a value and the bytes that are used of a buffer
 abbrev pub ServesBytes : {A T : Type 0} → Bool → Parts → Parts → Reply A → (T → Vec ℕ A → Reply A)
     → (T → List ℕ → Type 0) → T → Type 0
-ServesBytes {A = A} {T = T} exited old new answer tell Rule refused =
-    (returned : T) × (bytes : Vec ℕ A) × (answer ≡ tell returned bytes)
+ServesBytes {A = A} {T = T} exited old new answer reply_with Rule refused =
+    (returned : T) × (bytes : Vec ℕ A) × (answer ≡ reply_with returned bytes)
     × WhileOpen exited old new (Rule returned bytes.items)
     ((returned ≡ refused) × (bytes.items ≡ []))
 

@@ -27,7 +27,7 @@ use std::marker::Model;
 use uuid::Uuid;
 
 /// How many calls a core serves.
-const CALLS: u64 = 0x8000_0000;
+const MAX_CALLS: u64 = 0x8000_0000;
 
 /// The boot services of a machine, with the drivers that were handed in.
 #[derive(Drop)]
@@ -41,19 +41,12 @@ pub struct Core<D = Box<dyn Driver>, A: Allocator = Global> {
 }
 
 impl<D, A: Allocator> Model for Core<D, A> {
-    ghost use Rattle.boot_core.specs.Machines.{CoreValue, AreSound, FollowsCalls, parts_of};
+    ghost use Rattle.boot_core.specs.Machines.{CoreValue, AreSound, FollowsCalls, core_of, parts_of};
 
     ghost Value = { CoreValue D };
 
-    ghost view = { λ c. record {
-      state =
-          record {
-            parts = parts_of c.book c.pools c.protocols;
-            exited = c.exited;
-            calls_left = c.calls_left;
-          };
-      drivers = c.drivers.items;
-    } };
+    ghost view = { λ c.
+        core_of (parts_of c.book c.pools c.protocols) c.exited c.calls_left c.drivers.items };
 
     ghost invariant = { λ c. FollowsCalls (parts_of c.book c.pools c.protocols) c.calls_left
         × AreSound (parts_of c.book c.pools c.protocols) };
@@ -73,7 +66,7 @@ impl<D: Driver, A: Allocator + Copy> Core<D, A> {
             protocols: Protocols::new(alloc),
             drivers,
             exited: false,
-            calls_left: CALLS,
+            calls_left: MAX_CALLS,
         })
     }
 

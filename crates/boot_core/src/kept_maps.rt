@@ -1,7 +1,6 @@
 //! The memory map before a call, for the certificate that the reply may carry.
 ghost use Rattle.std.specs.Prelude.{◌≡◌, IfOk, option_map};
-ghost use Rattle.boot_replies.specs.Certified.{map_before};
-ghost use Rattle.boot_core.specs.Machines.{map_of};
+ghost use Rattle.boot_core.specs.Machines.{kept_map, map_of};
 
 use crate::core_state::Core;
 use boot_calls::Call;
@@ -18,7 +17,7 @@ pub fn map_before<D: Driver, A: Allocator + Copy>(
     certify: bool,
 ) -> Result<Option<Vec<Descriptor, A>>, AllocError>
     ensures { IfOk result (λ kept. option_map (λ entries. entries.items) kept
-        ≡ map_before certify core.now.state.parts.book.granule (map_of core.now.state) call.now) }
+        ≡ kept_map certify core.now.state call.now) }
 {
     if certify && may_be_certified(core.granule(), call) {
         Ok(Some(entries_of(alloc, core)?))

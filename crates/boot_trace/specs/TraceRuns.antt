@@ -1,10 +1,11 @@
 -- What a trace prints, and how it leaves the machine.
-use Rattle.std.specs.Prelude.{◌≡◌, ◌⊎◌, ℕ, ◌+◌, ◌<◌, ◌≤◌, Bool, List, [], ◌∷◌, ◌++◌, length, take, Option, Some, None, Result, Ok, Err}
+use Rattle.std.specs.Prelude.{◌≡◌, ◌⊎◌, ℕ, ◌+◌, ◌<◌, ◌≤◌, Bool, List, [], ◌∷◌, ◌++◌, length, map, take, Option, Some, None, IfSome, Result, Ok, Err}
 use Rattle.std.specs.Io.KnownBytes.{Appends}
 use Rattle.page_ranges.specs.MemoryMap.{memory_map}
 use Rattle.driver_connect.specs.Drivers.{Meaning}
 use Rattle.boot_replies.specs.declared.replies.Reply.{Reply}
-use Rattle.boot_core.specs.Machines.{State}
+use Rattle.boot_calls.specs.declared.calls.Call.{Call}
+use Rattle.boot_core.specs.Machines.{CoreValue, State}
 use Rattle.boot_core.specs.Steps.{Step}
 use Rattle.trace_lines.specs.declared.lines.TraceCall.{TraceCall}
 use Rattle.trace_lines.specs.declared.lines.TraceCall.TheVariants as trace_call
@@ -28,6 +29,10 @@ Prints A ds certify number (Ok (Some (trace_call.Service c))) old text new =
     (answer : Reply A) × Step ds old c answer new
     × PrintsCall certify number old.parts.book c answer text
 Prints A ds certify number (Err e) old text new = ⊥
+
+-- a line that asks for this call
+abbrev pub asking : {A : Type 0} → Call A → Result (Option (TraceCall A)) TraceFault
+asking c = Ok (Some (trace_call.Service c))
 
 -- the line asks for a call
 abbrev pub AsksForCall : (A : Type 0) → Result (Option (TraceCall A)) TraceFault → Type 0
@@ -127,3 +132,22 @@ Ends A ds certify bytes old new before after (Err fault.Write) =
     (count : ℕ) × (count < most_lines) × WroteFront A ds certify bytes count old new before after
 Ends A ds certify bytes old new before after (Err fault.OutOfMemory) =
     (count : ℕ) × (count < most_lines) × WroteBefore A ds certify bytes count old new before after
+
+-- ---- the same of a core, with drivers that answer as its own
+
+abbrev pub CorePrints : {D : Type 0} → (A : Type 0) → (D → Meaning) → Bool → ℕ
+    → Result (Option (TraceCall A)) TraceFault → CoreValue D → List ℕ → CoreValue D → Type 0
+CorePrints A meaning certify number asks old text new =
+    Prints A (map meaning old.drivers) certify number asks old.state text new.state
+
+abbrev pub CoreStopsAt : {D : Type 0} → (A : Type 0) → (D → Meaning) → Bool → RunFault → ℕ
+    → Result (Option (TraceCall A)) TraceFault → CoreValue D → CoreValue D → Type 0
+CoreStopsAt A meaning certify fault number asks old new =
+    StopsAt A (map meaning old.drivers) certify fault number asks old.state new.state
+
+abbrev pub CoreEnds : {D : Type 0} → (A : Type 0) → (D → Meaning) → Bool → Option (List ℕ)
+    → CoreValue D → CoreValue D → Option (List ℕ) → Option (List ℕ) → Result (Unit {0}) RunFault
+    → Type 0
+CoreEnds A meaning certify bytes old new before after end =
+    IfSome bytes
+    (λ known. Ends A (map meaning old.drivers) certify known old.state new.state before after end)

@@ -1,5 +1,5 @@
 -- What the tables of drivers mean.
-use Rattle.std.specs.Prelude.{◌≡◌, ℕ, Bool, true, false, ◌&&◌, nat_le, List, length, map, take, Result, Ok, Err}
+use Rattle.std.specs.Prelude.{◌≡◌, ℕ, Bool, true, false, ◌&&◌, nat_le, List, length, map, take, Option, Some, None, Result, Ok, Err, if◌then◌else◌}
 use Rattle.std.specs.List.{list_all}
 use Rattle.std.specs.declared.vec.Vec.{Vec}
 use Rattle.driver_connect.specs.declared.table.TableDriver.{TableDriver}
@@ -48,6 +48,12 @@ driver_in t =
 -- the count of the child is not above the length of its array
 abbrev pub fits_child : Child → Bool
 fits_child c = nat_le c.count 4
+
+-- the first children of an array, as many as the count says, where each of them fits
+abbrev pub children_in : ℕ → List Child → Option (List (List (List ℕ × ℕ)))
+children_in count children =
+    if nat_le count 8 && list_all fits_child (take count children)
+    then Some (map child_in (take count children)) else None
 
 -- no count of the table is above the length of its array, and none of its children's is
 abbrev pub fits : DriverTable → Bool

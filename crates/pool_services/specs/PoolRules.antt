@@ -112,7 +112,7 @@ FreesPool b es address (Err status) new_b new_es = ⊥
 
 -- ---- the pool's bytes
 
--- So many bytes from an address on belong to one live block.
+-- This number of bytes from an address on belong to one live block.
 abbrev pub IsInBlock : ℕ → ℕ → List Extent → Type 0
 IsInBlock address count es =
     (bytes : List ℕ) × (tail_at address es ≡ Some bytes) × (count ≤ length bytes)

@@ -32,12 +32,11 @@ pub record Opening : Type 0 where
 abbrev pub Opens : Option (List Opening) → List Opening → Option (List Opening) → Type 0
 Opens old openings new = IfSome old (λ before. new ≡ Some (before ++ openings))
 
--- Some files are opened, one after another, and with them what is written goes from one text to
--- another, as the relation says.
-abbrev pub OpensAndWrites : {F W R : Type 0}
+-- The files that are opened, one after another, and what is written are as the relation says.
+abbrev pub Effects : {F W R : Type 0}
     → (List Opening → Option (List ℕ) → Option (List ℕ) → R → Type 0)
     → (F → Option (List Opening)) → F → F → (W → Option (List ℕ)) → W → W → R → Type 0
-OpensAndWrites Relation opened files_before files_after contents before after result =
+Effects Relation opened files_before files_after contents before after result =
     (openings : List Opening) × Opens (opened files_before) openings (opened files_after)
     × Relation openings (contents before) (contents after) result
 
@@ -102,11 +101,17 @@ IsLostStatus kind status =
     ((kind ≡ OutOfMemory) × (status ≡ fault_status))
     ⊎ ((kind ≢ OutOfMemory) × (status ≡ usage_status))
 
+-- the same for texts
+abbrev pub ServesTexts : {A : Type 0} → List (String A) → Files → Option (List ℕ) → List Opening
+    → Option (List ℕ) → Option (List ℕ) → ℕ → Type 0
+ServesTexts texts files input openings before after status =
+    DoesAsAsked (bytes_of texts) files input openings before after status
+
 -- What the program does for its arguments: what their words ask for; where they could not be read it
 -- opens no file and writes no reply.
-abbrev pub Serves : Files → Option (List ℕ) → Result (IntoIter (String Global) Global) Error
+abbrev pub ServesArguments : Files → Option (List ℕ) → Result (IntoIter (String Global) Global) Error
     → List Opening → Option (List ℕ) → Option (List ℕ) → ℕ → Type 0
-Serves files input arguments openings before after status =
+ServesArguments files input arguments openings before after status =
     MatchResult arguments
     (λ texts. DoesAsAsked
     (bytes_of (into_iter_items texts)) files input openings before after status)

@@ -1,7 +1,7 @@
 //! The program, from its arguments to its exit status.
 ghost use Rattle.std.specs.Prelude.{◌≡◌, ◌≤◌, IfOk, map};
 ghost use Rattle.std.specs.IoError.{error_kind};
-ghost use Rattle.program_runs.specs.Programs.{OpensAndWrites, RunsPaths, Does, DoesAsAsked, IsLostStatus, Serves, bytes_of};
+ghost use Rattle.program_runs.specs.Programs.{Effects, RunsPaths, Does, IsLostStatus, ServesArguments, ServesTexts, bytes_of};
 
 use crate::files::OpenFiles;
 use crate::serve::{
@@ -25,7 +25,7 @@ pub fn serve_arguments<O: OpenFiles, I: Read + Drop, W: Write, E: Write>(
     err: &mut E,
 ) -> u8
     ensures bound { result ≤ 3 }
-    ensures does { OpensAndWrites (Serves (O.bytes_at files.old) (I.remaining input) arguments)
+    ensures does { Effects (ServesArguments (O.bytes_at files.old) (I.remaining input) arguments)
         O.openings files.old files.new W.contents out.old out.new result }
 {
     let arguments = match arguments {
@@ -58,8 +58,8 @@ pub fn serve_texts<O: OpenFiles, I: Read + Drop, W: Write, E: Write>(
     err: &mut E,
 ) -> u8
     ensures bound { result ≤ 3 }
-    ensures does { OpensAndWrites
-        (DoesAsAsked (bytes_of texts.now) (O.bytes_at files.old) (I.remaining input))
+    ensures does { Effects
+        (ServesTexts texts.now (O.bytes_at files.old) (I.remaining input))
         O.openings files.old files.new W.contents out.old out.new result }
 {
     let Ok(words) = words_of(alloc, texts) else {
@@ -93,7 +93,7 @@ fn serve_command<O: OpenFiles, I: Read + Drop, W: Write, E: Write>(
     err: &mut E,
 ) -> u8
     ensures bound { result ≤ 3 }
-    ensures does { OpensAndWrites (Does (O.bytes_at files.old) (I.remaining input) command.now)
+    ensures does { Effects (Does (O.bytes_at files.old) (I.remaining input) command.now)
         O.openings files.old files.new W.contents out.old out.new result }
 {
     match *command {
@@ -116,7 +116,7 @@ fn run_paths<O: OpenFiles, W: Write>(
     out: &mut W,
     certify: bool,
 ) -> Result<(), Fault>
-    ensures { OpensAndWrites (RunsPaths (O.bytes_at files.old) certify machine.now trace.now)
+    ensures { Effects (RunsPaths (O.bytes_at files.old) certify machine.now trace.now)
         O.openings files.old files.new W.contents out.old out.new result }
 {
     let Ok(machine) = files.open(machine) else {

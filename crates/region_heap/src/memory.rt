@@ -82,7 +82,7 @@ impl Region {
         (units, Region { start, units })
     }
 
-    /// The memory in two parts of so many units each.
+    /// The memory in two parts, with the given numbers of units.
     pub(crate) fn cut(self, front: usize, rest: usize) -> (Region, Region)
         requires { front + rest ≡ self.units }
         ensures { (result.0.units ≡ front) × (result.1.units ≡ rest) }
