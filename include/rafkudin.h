@@ -177,7 +177,7 @@ struct rafkudin_guid {
 
 /* A protocol interface: its GUID and its value, which in a firmware is a pointer. The core follows
  * two values alone: that of a device path (09576e91-6d3f-11d2-8e39-00a0c969723b) is an address in
- * the pool, that of a driver binding (18a031ab-b443-4d1a-a5c0-0c09261e9f71) a driver's place among
+ * the pool, that of a driver binding (18a031ab-b443-4d1a-a5c0-0c09261e9f71) a driver's index among
  * those of RafkudinMake, from 0 on. */
 struct rafkudin_interface {
     struct rafkudin_guid guid;

@@ -54,7 +54,7 @@ impl<D, A: Allocator> Model for Core<D, A> {
 
 impl<D: Driver, A: Allocator + Copy> Core<D, A> {
     /// The core of a machine, before any call; it returns certificates. The value of a driver binding
-    /// interface is the place of its driver among the drivers.
+    /// interface is the index of its driver.
     pub fn new(alloc: A, machine: Machine<A>, drivers: Vec<D, A>) -> Result<Core<D, A>, AllocError>
         ensures { IfOk result
             (λ c. c ≡ record { state = first_state machine; drivers = drivers.items }) }

@@ -34,14 +34,14 @@ Reads can_fail view reading old result new =
     × (reading left ≡ Ok (view x, rest))) (IsReadFault can_fail (reading left)))
 
 -- the lines that are left of a reader's source, if its bytes are known
-abbrev pub left_of : {S A : Type 0} → (S → Option (List ℕ)) → BlockReader S A → Option LinesLeft
-left_of left reader = lines_left (left reader.source) reader.number
+abbrev pub left_in_reader : {S A : Type 0} → (S → Option (List ℕ)) → BlockReader S A → Option LinesLeft
+left_in_reader left reader = lines_left (left reader.source) reader.number
 
 -- A reader returned, seen by view, what the reading gives on the lines that were left of it.
 abbrev pub ReadsFrom : {S Z X A : Type 0} → Bool → (S → Option (List ℕ)) → Reading A → (X → A)
     → BlockReader S Z → Result X BlockFault → BlockReader S Z → Type 0
 ReadsFrom can_fail left reading view old result new =
-    Reads can_fail view reading (left_of left old) result (left_of left new)
+    Reads can_fail view reading (left_in_reader left old) result (left_in_reader left new)
 
 -- what a block says
 abbrev pub said_by : {A : Type 0} → Block A → List Descriptor × Request × CertificateValue

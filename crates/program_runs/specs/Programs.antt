@@ -91,8 +91,8 @@ DoesAsAsked words files input openings before after status =
     × (status ≡ refusal_status fault))
 
 -- the bytes of texts
-abbrev pub bytes_of : {A : Type 0} → List (String A) → List (List ℕ)
-bytes_of texts = map (λ text. string_bytes text) texts
+abbrev pub texts_as_bytes : {A : Type 0} → List (String A) → List (List ℕ)
+texts_as_bytes texts = map (λ text. string_bytes text) texts
 
 -- The status where the arguments could not be read: 1 where memory ran out, else 2, since one of
 -- them is not UTF-8.
@@ -105,7 +105,7 @@ IsLostStatus kind status =
 abbrev pub ServesTexts : {A : Type 0} → List (String A) → Files → Option (List ℕ) → List Opening
     → Option (List ℕ) → Option (List ℕ) → ℕ → Type 0
 ServesTexts texts files input openings before after status =
-    DoesAsAsked (bytes_of texts) files input openings before after status
+    DoesAsAsked (texts_as_bytes texts) files input openings before after status
 
 -- What the program does for its arguments: what their words ask for; where they could not be read it
 -- opens no file and writes no reply.
@@ -114,5 +114,5 @@ abbrev pub ServesArguments : Files → Option (List ℕ) → Result (IntoIter (S
 ServesArguments files input arguments openings before after status =
     MatchResult arguments
     (λ texts. DoesAsAsked
-    (bytes_of (into_iter_items texts)) files input openings before after status)
+    (texts_as_bytes (into_iter_items texts)) files input openings before after status)
     (λ error. (openings ≡ []) × (after ≡ before) × IsLostStatus (error_kind error) status)

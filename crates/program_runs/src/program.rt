@@ -1,7 +1,7 @@
 //! The program, from its arguments to its exit status.
 ghost use Rattle.std.specs.Prelude.{◌≡◌, ◌≤◌, IfOk, map};
 ghost use Rattle.std.specs.IoError.{error_kind};
-ghost use Rattle.program_runs.specs.Programs.{Effects, RunsPaths, Does, IsLostStatus, ServesArguments, ServesTexts, bytes_of};
+ghost use Rattle.program_runs.specs.Programs.{Effects, RunsPaths, Does, IsLostStatus, ServesArguments, ServesTexts, texts_as_bytes};
 
 use crate::files::OpenFiles;
 use crate::serve::{
@@ -74,7 +74,7 @@ pub fn serve_texts<O: OpenFiles, I: Read + Drop, W: Write, E: Write>(
 
 /// The texts as words, in their order.
 fn words_of(alloc: Global, texts: &[String]) -> Result<Vec<&str>, Fault>
-    ensures { IfOk result (λ words. map (λ word. word.now) words.items ≡ bytes_of texts.now) }
+    ensures { IfOk result (λ words. map (λ word. word.now) words.items ≡ texts_as_bytes texts.now) }
 {
     let mut words = Vec::new(alloc);
     for text in texts {

@@ -24,12 +24,12 @@ abbrev pub blocks_of : {A : Type 0} → Store A → List Block
 blocks_of s = blocks_in s.region.bytes.set s.region.marks.set
 
 -- what a block at a cell is by its header
-abbrev pub block_of : {A : Type 0} → Store A → ℕ → Block
-block_of s cell = block_in s.region.bytes.set cell
+abbrev pub block_by_header : {A : Type 0} → Store A → ℕ → Block
+block_by_header s cell = block_in s.region.bytes.set cell
 
 -- its free runs
-abbrev pub runs_in : {A : Type 0} → Store A → List FreeRun
-runs_in s = runs_of s.region.bytes s.region.marks s.cells
+abbrev pub free_runs_of : {A : Type 0} → Store A → List FreeRun
+free_runs_of s = runs_of s.region.bytes s.region.marks s.cells
 
 -- the first cell behind a free run
 abbrev pub run_end : {A : Type 0} → Store A → ℕ → ℕ
@@ -55,12 +55,12 @@ IsRunBefore s run cell =
 -- all free runs up to `last` were passed, and the run behind it begins at `next`
 abbrev pub HasPassed : {A : Type 0} → (FreeRun → Type 0) → Store A → ℕ → ℕ → Type 0
 HasPassed passes s last next =
-    Scan passes s.region.bytes.set s.cells s.head (runs_in s) last next
+    Scan passes s.region.bytes.set s.cells s.head (free_runs_of s) last next
 
 -- the first free run of at least this many cells, with what lies before it in the list
 abbrev pub IsFit : {A : Type 0} → Store A → ℕ → Option (ℕ × ℕ) → Type 0
 IsFit s need found =
-    MatchOption found (AllByRecursion (λ r. r.cells < need) (runs_in s))
+    MatchOption found (AllByRecursion (λ r. r.cells < need) (free_runs_of s))
     (λ p. HasPassed (λ r. r.cells < need) s p.0 p.1 × (p.1 < s.cells)
     × (need ≤ word s.region.bytes.set (32 * p.1)))
 

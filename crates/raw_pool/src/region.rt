@@ -59,7 +59,7 @@ impl<A: Allocator> Region<A> {
         self.bytes.len()
     }
 
-    /// Writes bytes from a place on, at most behind those that are set.
+    /// Writes bytes from an index on, at most behind those that are set.
     pub(crate) fn write(&mut self, at: usize, bytes: &[u8])
         requires { (at ≤ length self.old.bytes.set)
             × (at + length bytes.now ≤ self.old.bytes.room) }
@@ -69,7 +69,7 @@ impl<A: Allocator> Region<A> {
         self.bytes.write(at, bytes);
     }
 
-    /// Sets the given number of bytes from a place on to 0.
+    /// Sets the given number of bytes from an index on to 0.
     pub(crate) fn clear(&mut self, at: usize, count: usize)
         requires { (at ≤ length self.old.bytes.set) × (at + count ≤ self.old.bytes.room) }
         ensures bytes { self.new.bytes ≡ with_put self.old.bytes at (replicate count 0) }
@@ -78,7 +78,7 @@ impl<A: Allocator> Region<A> {
         self.bytes.clear(at, count);
     }
 
-    /// The number in the 8 bytes from a place on.
+    /// The number in the 8 bytes from an index on.
     pub(crate) fn word(&self, at: usize) -> u64
         requires { at + 8 ≤ length self.now.bytes.set }
         ensures { result ≡ word self.now.bytes.set at }
@@ -86,7 +86,7 @@ impl<A: Allocator> Region<A> {
         self.bytes.word(at)
     }
 
-    /// Writes a number into the 8 bytes from a place on.
+    /// Writes a number into the 8 bytes from an index on.
     pub(crate) fn write_word(&mut self, at: usize, number: u64)
         requires { (at ≤ length self.old.bytes.set) × (at + 8 ≤ self.old.bytes.room) }
         ensures bytes { self.new.bytes ≡ with_put self.old.bytes at (little_bytes 8 number) }

@@ -7,7 +7,7 @@ ghost use Rattle.raw_pool.specs.Bytes.{word};
 ghost use Rattle.raw_pool.specs.Blocks.{block_at, cells_for, given, holds_range, longest_run, lowest_fit, taken, written};
 ghost use Rattle.raw_pool.specs.FreeList.{link};
 ghost use Rattle.raw_pool.specs.Searches.{IsCut};
-ghost use Rattle.raw_pool.specs.Stores.{AddsRun, ChangesBytes, ChangesLinks, ChangesMarks, ChangesSet, EndsWithRun, HasPassed, IsFit, IsLaidStore, IsMarked, IsRunBefore, IsRunIn, IsWholeStore, JoinsRun, block_of, blocks_of, bytes_with_link, bytes_with_run, marks_with, pool_in};
+ghost use Rattle.raw_pool.specs.Stores.{AddsRun, ChangesBytes, ChangesLinks, ChangesMarks, ChangesSet, EndsWithRun, HasPassed, IsFit, IsLaidStore, IsMarked, IsRunBefore, IsRunIn, IsWholeStore, JoinsRun, block_by_header, blocks_of, bytes_with_link, bytes_with_run, marks_with, pool_in};
 
 use crate::region::Region;
 use std::alloc::{Allocator, Global};
@@ -199,7 +199,7 @@ impl<A: Allocator + Copy> Store<A> {
     /// Whether a block begins at a cell.
     fn is_block(&self, cell: usize) -> bool
         ensures block { block_at cell (blocks_of self.now)
-            ≡ (if result then Some (block_of self.now cell) else None) }
+            ≡ (if result then Some (block_by_header self.now cell) else None) }
         ensures marked { result ≡ true → IsMarked self.now cell }
     {
         let marks = self.region.marks();
