@@ -69,7 +69,8 @@ fn run_line<D: Driver, A: Allocator + Copy>(
 ) -> Result<(), RunFault>
     requires { string_bytes text.old ≡ [] }
     ensures ok { OnOk result
-        (CorePrints A D.meaning certify number (line_of line.now) core.old (string_bytes text.new) core.new) }
+        (CorePrints A D.meaning certify number (line_of line.now) core.old
+        (string_bytes text.new) core.new) }
     ensures drivers { core.new.drivers ≡ core.old.drivers }
     ensures err { IfErr result (λ fault.
         CoreStopsAt A D.meaning certify fault number (line_of line.now) core.old core.new) }
@@ -97,7 +98,8 @@ fn make_call<D: Driver, A: Allocator + Copy>(
 ) -> Result<(), RunFault>
     requires { string_bytes text.old ≡ [] }
     ensures ok { OnOk result
-        (CorePrints A D.meaning certify number (asking call.now) core.old (string_bytes text.new) core.new) }
+        (CorePrints A D.meaning certify number (asking call.now) core.old
+        (string_bytes text.new) core.new) }
     ensures drivers { core.new.drivers ≡ core.old.drivers }
     ensures err { IfErr result (λ fault.
         CoreStopsAt A D.meaning certify fault number (asking call.now) core.old core.new) }

@@ -34,7 +34,8 @@ Reads can_fail view reading old result new =
     × (reading left ≡ Ok (view x, rest))) (IsReadFault can_fail (reading left)))
 
 -- the lines that are left of a reader's source, if its bytes are known
-abbrev pub left_in_reader : {S A : Type 0} → (S → Option (List ℕ)) → BlockReader S A → Option LinesLeft
+abbrev pub left_in_reader : {S A : Type 0} → (S → Option (List ℕ)) → BlockReader S A
+    → Option LinesLeft
 left_in_reader left reader = lines_left (left reader.source) reader.number
 
 -- A reader returned, seen by view, what the reading gives on the lines that were left of it.

@@ -77,7 +77,8 @@ impl<A: Allocator> Model for PoolExtent<A> {
           blocks = e.region.blocks;
         } };
 
-    ghost invariant = { λ e. (e.region.cells ≡ cells_in e.range.pages) × (e.live ≡ length e.region.blocks) };
+    ghost invariant = { λ e.
+        (e.region.cells ≡ cells_in e.range.pages) × (e.live ≡ length e.region.blocks) };
 }
 
 impl<A: Allocator + Copy> PoolExtent<A> {

@@ -52,7 +52,8 @@ impl<A: Allocator> Model for Pools<A> {
 
     ghost view = { λ p. p.extents.items };
 
-    ghost invariant = { λ p. AreExtents p.extents.items × (p.rooms.rooms.items ≡ map room_of p.extents.items) };
+    ghost invariant = { λ p.
+        AreExtents p.extents.items × (p.rooms.rooms.items ≡ map room_of p.extents.items) };
 }
 
 impl<A: Allocator + Copy> Pools<A> {

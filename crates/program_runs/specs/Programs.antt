@@ -109,7 +109,8 @@ ServesTexts texts files input openings before after status =
 
 -- What the program does for its arguments: what their words ask for; where they could not be read it
 -- opens no file and writes no reply.
-abbrev pub ServesArguments : Files → Option (List ℕ) → Result (IntoIter (String Global) Global) Error
+abbrev pub ServesArguments : Files → Option (List ℕ)
+    → Result (IntoIter (String Global) Global) Error
     → List Opening → Option (List ℕ) → Option (List ℕ) → ℕ → Type 0
 ServesArguments files input arguments openings before after status =
     MatchResult arguments
