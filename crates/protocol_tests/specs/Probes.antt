@@ -6,8 +6,7 @@ use Rattle.driver_connect.specs.declared.view.ProtocolView.{ProtocolView}
 
 -- a GUID is there, and held or not
 abbrev pub has : List ProtocolView → List ℕ → Bool → Bool
-has protocols guid held =
-    list_any (λ v. same_guid v.guid guid && cond held v.held (not v.held)) protocols
+has protocols guid held = list_any (λ v. same_guid v.guid guid && cond held v.held (not v.held)) protocols
 
 -- two protocols are shown alike
 abbrev pub is_same : ProtocolView → ProtocolView → Bool

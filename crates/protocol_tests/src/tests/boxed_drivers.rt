@@ -16,14 +16,7 @@ struct FirstHandleDriver {
 impl Driver for FirstHandleDriver {
     ghost use Rattle.std.specs.Prelude.{◌==◌, false, [], ◌∷◌};
 
-    ghost meaning = { λ d.
-        record {
-          version = 7;
-          supports = λ s. s.controller == 1;
-          plan = λ s.
-              record { opens = d.opens ∷ []; children = [] };
-          may_stop = λ s. false;
-        } };
+    ghost meaning = { λ d. record { version = 7; supports = λ s. s.controller == 1; plan = λ s. record { opens = d.opens ∷ []; children = [] }; may_stop = λ s. false } };
 
     fn version(&self) -> u32 {
         7

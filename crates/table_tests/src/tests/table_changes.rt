@@ -30,13 +30,7 @@ fn machine() -> [Run; 5]
 }
 
 fn run(first: u64, pages: u64, number: u32, attributes: u64) -> Run
-    ensures { result
-        ≡ record {
-          range = record { first = first; pages = pages };
-          mtype = number;
-          attributes = attributes;
-          owner = Given;
-        } }
+    ensures { result ≡ record { range = record { first = first; pages = pages }; mtype = number; attributes = attributes; owner = Given } }
 {
     Run {
         range: PageRange { first, pages },

@@ -33,15 +33,7 @@ impl Driver for Probe {
     ghost use Rattle.std.specs.Prelude.{◌==◌, ◌&&◌, not, true};
     ghost use Rattle.protocol_tests.specs.Probes as spec;
 
-    ghost meaning = { λ d.
-        record {
-          version = d.version;
-          supports = λ s. spec.has s.protocols d.asks d.held;
-          plan = λ s. d.plan;
-          may_stop =
-              λ s. not (s.controller == d.stays_on)
-              && not (spec.has s.protocols d.stays_while_held true);
-        } };
+    ghost meaning = { λ d. record { version = d.version; supports = λ s. spec.has s.protocols d.asks d.held; plan = λ s. d.plan; may_stop = λ s. not (s.controller == d.stays_on) && not (spec.has s.protocols d.stays_while_held true) } };
 
     fn version(&self) -> u32 {
         self.version

@@ -43,14 +43,7 @@ impl Driver for Watcher {
     ghost use Rattle.std.specs.Prelude.{◌==◌, ◌&&◌, true};
     ghost use Rattle.protocol_tests.specs.Probes as spec;
 
-    ghost meaning = { λ d. record {
-      version = 1;
-      supports = λ s. (s.agent == d.agent)
-          && ((s.controller == d.controller) && spec.are_same s.protocols d.protocols.items);
-      plan =
-          λ s. d.plan;
-      may_stop = λ s. true;
-    } };
+    ghost meaning = { λ d. record { version = 1; supports = λ s. (s.agent == d.agent) && ((s.controller == d.controller) && spec.are_same s.protocols d.protocols.items); plan = λ s. d.plan; may_stop = λ s. true } };
 
     fn version(&self) -> u32 {
         1
