@@ -162,9 +162,9 @@ extern "C" {
 
 /* The most handles that are live at a time, the most driver handles that ConnectController may
  * name, and the most bytes of a pool block. */
-#define RAFKUDIN_MOST_HANDLES 4096U
-#define RAFKUDIN_MOST_DRIVERS_TO_TRY 16U
-#define RAFKUDIN_LARGEST_BLOCK 0x100000000ULL
+#define RAFKUDIN_MAX_HANDLES 4096U
+#define RAFKUDIN_MAX_DRIVERS_TO_TRY 16U
+#define RAFKUDIN_MAX_BLOCK 0x100000000ULL
 
 /* A core: the boot services of one machine. */
 struct rafkudin;
@@ -177,7 +177,7 @@ struct rafkudin_guid {
 
 /* A protocol interface: its GUID and its value, which in a firmware is a pointer. The core follows
  * two values alone: that of a device path (09576e91-6d3f-11d2-8e39-00a0c969723b) is an address in
- * the pool, that of a driver binding (18a031ab-b443-4d1a-a5c0-0c09261e9f71) a driver's place among
+ * the pool, that of a driver binding (18a031ab-b443-4d1a-a5c0-0c09261e9f71) a driver's index among
  * those of RafkudinMake, from 0 on. */
 struct rafkudin_interface {
     struct rafkudin_guid guid;
@@ -344,7 +344,7 @@ RAFKUDIN_API rafkudin_uint64 RafkudinGetMemoryMapInto(struct rafkudin *core, uin
  * address into *Buffer. Its address is 8 more than a multiple of 32. A size of 0 is allowed.
  *
  * INVALID_PARAMETER: a memory type that no request may name. OUT_OF_RESOURCES: a size above
- * RAFKUDIN_LARGEST_BLOCK, or no permitted place for new pages where they are needed. */
+ * RAFKUDIN_MAX_BLOCK, or no permitted place for new pages where they are needed. */
 RAFKUDIN_API rafkudin_uint64 RafkudinAllocatePool(struct rafkudin *core, uint32_t PoolType,
                                                   rafkudin_uint64 Size, rafkudin_uint64 *Buffer);
 
@@ -365,7 +365,7 @@ RAFKUDIN_API rafkudin_uint64 RafkudinPoolWrite(struct rafkudin *core, rafkudin_u
  * `InterfaceType` is 0, native.
  *
  * INVALID_PARAMETER: another interface type; a handle that is neither 0 nor live, or that carries
- * the GUID already. OUT_OF_RESOURCES: RAFKUDIN_MOST_HANDLES are live already. */
+ * the GUID already. OUT_OF_RESOURCES: RAFKUDIN_MAX_HANDLES are live already. */
 RAFKUDIN_API rafkudin_uint64 RafkudinInstallProtocolInterface(struct rafkudin *core,
                                                               rafkudin_uint64 *Handle,
                                                               const struct rafkudin_guid *Protocol,
@@ -378,7 +378,7 @@ RAFKUDIN_API rafkudin_uint64 RafkudinInstallProtocolInterface(struct rafkudin *c
  * INVALID_PARAMETER: no interfaces or over 16, of which no more than the first 17 are read; a
  * handle that is neither 0 nor live; a GUID that is twice among them or is on the handle;
  * ALREADY_STARTED: one of them is a device path that a live handle has already; OUT_OF_RESOURCES:
- * RAFKUDIN_MOST_HANDLES are live already. */
+ * RAFKUDIN_MAX_HANDLES are live already. */
 RAFKUDIN_API rafkudin_uint64 RafkudinInstallMultipleProtocolInterfaces(
     struct rafkudin *core, rafkudin_uint64 *Handle, const struct rafkudin_interface *interfaces,
     size_t count);
@@ -578,7 +578,7 @@ static inline rafkudin_uint64 RafkudinGetMemoryMap(struct rafkudin *core,
 }
 
 /* 7.3. *BufferSize is the buffer's size in bytes, and afterwards the bytes written, or those
- * needed. No more than 8 bytes for each of RAFKUDIN_MOST_HANDLES are ever written. To learn the
+ * needed. No more than 8 bytes for each of RAFKUDIN_MAX_HANDLES are ever written. To learn the
  * size alone it is 0, and then `Buffer` may be null. `Protocol` may be null for a search that names
  * no protocol.
  *
@@ -598,8 +598,8 @@ static inline rafkudin_uint64 RafkudinLocateHandle(struct rafkudin *core, uint32
     if (Protocol == NULL && SearchType == RAFKUDIN_BY_PROTOCOL)
         return RAFKUDIN_INVALID_PARAMETER;
     room = *BufferSize / 8;
-    if (room > RAFKUDIN_MOST_HANDLES)
-        room = RAFKUDIN_MOST_HANDLES;
+    if (room > RAFKUDIN_MAX_HANDLES)
+        room = RAFKUDIN_MAX_HANDLES;
     status =
         RafkudinLocateHandleInto(core, SearchType, Protocol == NULL ? &no_guid : Protocol,
                                  SearchKey, &needed, Buffer == NULL ? &no_handle : Buffer, room);
@@ -625,7 +625,7 @@ static inline rafkudin_uint64 RafkudinConnectController(struct rafkudin *core,
 
     if (RemainingDevicePath != 0)
         return RAFKUDIN_UNSUPPORTED;
-    while (count <= RAFKUDIN_MOST_DRIVERS_TO_TRY && drivers[count] != 0)
+    while (count <= RAFKUDIN_MAX_DRIVERS_TO_TRY && drivers[count] != 0)
         count++;
     return RafkudinConnectDrivers(core, ControllerHandle, drivers, count, Recursive);
 }

@@ -129,7 +129,7 @@ void make_disks(void)
 /* The first file system that there is, of the host or of a driver. */
 static EFI_HANDLE first_file_system(void)
 {
-    static uint64_t handles[RAFKUDIN_MOST_HANDLES];
+    static uint64_t handles[RAFKUDIN_MAX_HANDLES];
     uint64_t size = sizeof handles;
 
     if (core_locate(RAFKUDIN_BY_PROTOCOL, &file_system_guid, 0, &size, handles) != EFI_SUCCESS)

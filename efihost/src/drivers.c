@@ -35,7 +35,7 @@ static void move_up(struct bindings *all, size_t from, size_t to)
 /* All drivers: first those that the caller names, then the highest version first. */
 static void find_bindings(struct bindings *all, const EFI_HANDLE *first)
 {
-    static uint64_t handles[RAFKUDIN_MOST_HANDLES];
+    static uint64_t handles[RAFKUDIN_MAX_HANDLES];
     uint64_t size = sizeof handles;
     size_t named = 0;
 

@@ -54,7 +54,7 @@ static const void *file_path(const char *name, const void *device)
 
 static void start_drivers(void)
 {
-    static uint64_t handles[RAFKUDIN_MOST_HANDLES];
+    static uint64_t handles[RAFKUDIN_MAX_HANDLES];
     uint64_t size = sizeof handles;
 
     for (size_t i = 0; i < host.options.driver_count; i++) {

@@ -23,7 +23,7 @@ static uint64_t up(uint64_t number, uint64_t multiple)
 /* The size of the core's block for a caller's block of this size. */
 uint64_t zone_request(uint64_t size)
 {
-    if (!host.checks || size > RAFKUDIN_LARGEST_BLOCK)
+    if (!host.checks || size > RAFKUDIN_MAX_BLOCK)
         return size;
     return host.options.guard ? up(size, PAGE) + 2 * PAGE : size + 2 * MARGIN;
 }

@@ -80,7 +80,7 @@ static void get_map(struct rafkudin *core, struct map *map)
            map->key);
 }
 
-/* Sees that the map ascends and tells the loader's own pages, and says how much is free. */
+/* Sees that the map ascends and has the loader's own pages, and prints how much is free. */
 static void look_at_map(const struct map *map)
 {
     uint64_t end = 0, free_pages = 0;

@@ -10,8 +10,8 @@
 #include <string.h>
 
 #define LONGEST_FILE 67108864
-#define MOST_DESCRIPTORS 65536
-#define MOST_DRIVERS 64
+#define MAX_DESCRIPTORS 65536
+#define MAX_DRIVERS 64
 
 /* The most bytes of a hexadecimal number's text. */
 #define LONGEST_HEXADECIMAL 18
@@ -105,7 +105,7 @@ static void read_memory(struct machine *machine, const char *root)
     if (list == NULL || !json_is_list(list))
         fail("machine: no memory list");
     count = json_count(list);
-    if (count > MOST_DESCRIPTORS)
+    if (count > MAX_DESCRIPTORS)
         fail("machine: too many descriptors");
     machine->size = count * RAFKUDIN_DESCRIPTOR_SIZE;
     machine->records = grow(NULL, machine->size);
@@ -199,7 +199,7 @@ static void read_drivers(struct machine *machine, const char *root)
     if (!json_is_list(list))
         fail("machine: no driver list");
     machine->driver_count = json_count(list);
-    if (machine->driver_count > MOST_DRIVERS)
+    if (machine->driver_count > MAX_DRIVERS)
         fail("machine: too many drivers");
     machine->drivers = grow(machine->drivers, machine->driver_count * sizeof *machine->drivers);
     for (const char *item = json_first(list); item != NULL; item = json_next(item), number++)

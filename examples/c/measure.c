@@ -62,7 +62,7 @@ struct load {
     size_t count;                                /* of those held */
     struct request *requests;                    /* what is asked for, call by call */
     struct held *given;                          /* what is freed, call by call */
-    uint64_t handles[2 * RAFKUDIN_MOST_HANDLES]; /* what is looked for, call by call */
+    uint64_t handles[2 * RAFKUDIN_MAX_HANDLES]; /* what is looked for, call by call */
     struct rafkudin_guid kinds[KINDS + 1];
     uint8_t *map;
     size_t map_size;
@@ -331,7 +331,7 @@ static bool look_up_kind(struct load *load, size_t number)
 
 static bool search_kind(struct load *load, size_t number)
 {
-    static uint64_t found[RAFKUDIN_MOST_HANDLES];
+    static uint64_t found[RAFKUDIN_MAX_HANDLES];
     uint64_t size = sizeof found;
 
     return RafkudinLocateHandle(load->core, RAFKUDIN_BY_PROTOCOL, kind_of(load, number), 0, &size,
@@ -340,7 +340,7 @@ static bool search_kind(struct load *load, size_t number)
 
 static bool search_all(struct load *load, size_t number)
 {
-    static uint64_t found[RAFKUDIN_MOST_HANDLES];
+    static uint64_t found[RAFKUDIN_MAX_HANDLES];
     uint64_t size = sizeof found;
 
     (void)number;

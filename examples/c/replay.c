@@ -15,7 +15,7 @@
 #include <stdlib.h>
 #include <string.h>
 
-#define MOST_LINES 1000000
+#define MAX_LINES 1000000
 
 /* The most bytes that are read of a block at a time. */
 #define PIECE 65536
@@ -34,14 +34,14 @@ static void run_trace(struct run *run, FILE *trace)
     struct call call;
     uint64_t number = 0;
 
-    while (number < MOST_LINES && line_read(&line, trace)) {
+    while (number < MAX_LINES && line_read(&line, trace)) {
         number++;
         if (!call_read(&call, &line, number))
             continue;
         run_call(run, &call, number);
         text_write(&run->text, stdout);
     }
-    if (number == MOST_LINES && getc(trace) != EOF)
+    if (number == MAX_LINES && getc(trace) != EOF)
         fail("trace: too many lines");
     if (ferror(trace))
         fail("cannot read trace");

@@ -248,8 +248,8 @@ static void reply_notify(struct run *run, const struct call *call)
 static void reply_locate(struct run *run, const struct call *call)
 {
     uint64_t size = call->numbers[2];
-    uint64_t room = size / sizeof(uint64_t) < RAFKUDIN_MOST_HANDLES ? size / sizeof(uint64_t)
-                                                                    : RAFKUDIN_MOST_HANDLES;
+    uint64_t room = size / sizeof(uint64_t) < RAFKUDIN_MAX_HANDLES ? size / sizeof(uint64_t)
+                                                                   : RAFKUDIN_MAX_HANDLES;
     uint64_t *handles = grow(NULL, room * sizeof *handles);
     uint64_t status = RafkudinLocateHandle(run->core, (uint32_t)call->numbers[0], &call->guid,
                                            call->numbers[1], &size, handles);

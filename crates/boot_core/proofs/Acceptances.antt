@@ -72,19 +72,19 @@ accepted_placement b None t pages memory placed proper typed good h = tt
 accepted_placement b (Some r) t pages memory placed proper typed good (start, best, at) = with_certificate b proper typed r start placed.certificate good best
 
 -- the certificate of a reply, with the request that the call leaves to the service
-abbrev tells : {A : Type 0} → ℕ → Call A → Reply A → Option (Request × CertificateValue)
-tells granule c answer = option_and_then (λ r. option_map (λ certificate. (r, certificate)) (certificate_in answer)) (left_request granule c answer)
+abbrev certified_left : {A : Type 0} → ℕ → Call A → Reply A → Option (Request × CertificateValue)
+certified_left granule c answer = option_and_then (λ r. option_map (λ certificate. (r, certificate)) (certificate_in answer)) (left_request granule c answer)
 
 -- what holds of it holds too where its pages are counted
-counted_one : (r : Request) (tell : Request → Option (Request × CertificateValue)) (P : (Request × CertificateValue) → Type 0) → IfSome (tell r) P → IfSome (option_and_then tell (if_counted r)) P
-counted_one r tell P h = elim (nat_lt r.pages (2 ^ 64)) as (λ b. IfSome (option_and_then tell (option_map (λ n. r) (cond b (Some r.pages) None))) P) [
+counted_one : (r : Request) (certificate_for : Request → Option (Request × CertificateValue)) (P : (Request × CertificateValue) → Type 0) → IfSome (certificate_for r) P → IfSome (option_and_then certificate_for (if_counted r)) P
+counted_one r certificate_for P h = elim (nat_lt r.pages (2 ^ 64)) as (λ b. IfSome (option_and_then certificate_for (option_map (λ n. r) (cond b (Some r.pages) None))) P) [
   | true ↦ h
   | false ↦ tt
 ]
 
-counted : (o : Option Request) (tell : Request → Option (Request × CertificateValue)) (P : (Request × CertificateValue) → Type 0) → IfSome (option_and_then tell o) P → IfSome (option_and_then tell (option_and_then if_counted o)) P
-counted None tell P h = tt
-counted (Some r) tell P h = counted_one r tell P h
+counted : (o : Option Request) (certificate_for : Request → Option (Request × CertificateValue)) (P : (Request × CertificateValue) → Type 0) → IfSome (option_and_then certificate_for o) P → IfSome (option_and_then certificate_for (option_and_then if_counted o)) P
+counted None certificate_for P h = tt
+counted (Some r) certificate_for P h = counted_one r certificate_for P h
 
 module _ (old : Parts) (proper : IsProperMemory old.book.memory) (typed : HasMachineTypes old.book.memory) (granule : IsGranule old.book.granule) where
   accepted_block : (t size : ℕ) (o : Option Place) (answer : Answer) (b : Book) (es : List Extent) → is_bad_type t ≡ false → size ≤ max_size → IsPut IsBestChoice o old.book old.pools t size answer b es →
@@ -94,7 +94,7 @@ module _ (old : Parts) (proper : IsProperMemory old.book.memory) (typed : HasMac
       rw (le-leb size max_size few) (with_certificate old.book proper typed (pool_request old.book.granule t (pages_for size)) start answer.1 (whole_request_proper old.book.granule t (pages_for size) page_count granule good (omega arith)) best)
 
   pool_result : (A : Type 0) (t size : ℕ) (result : Result Answer Status) (b : Book) (es : List Extent) → AllocatesPool IsBestChoice old.book old.pools t size result b es →
-      IfSome (tells {A = A} old.book.granule (call.AllocatePool t size) (reply.AllocatePool result)) (λ returned. IsAccepted (memory_map old.book.memory) returned.0 returned.1)
+      IfSome (certified_left {A = A} old.book.granule (call.AllocatePool t size) (reply.AllocatePool result)) (λ returned. IsAccepted (memory_map old.book.memory) returned.0 returned.1)
   pool_result A t size (Ok answer) b es (good, few, put) = accepted_block t size (first_fit t size old.pools) answer b es good few put
   pool_result A t size (Err e) b es h = uncertified (extent_request old.book.granule t size) _
 
@@ -106,65 +106,65 @@ module _ (old : Parts) (proper : IsProperMemory old.book.memory) (typed : HasMac
       (accepted_block list_type (length bytes) (first_fit list_type (length bytes) old.pools) (returned.address, returned.certificate) b placed good few put)
 
   buffer_result : {A : Type 0} (search : ℕ) (guid : List ℕ) (key : ℕ) (result : Result (PoolList A) Status) (new : Parts) → LocatesBuffer IsBestChoice old search guid key result new →
-      IfSome (tells old.book.granule (call.LocateHandleBuffer search guid key) (reply.LocateHandleBuffer result)) (λ returned. IsAccepted (memory_map old.book.memory) returned.0 returned.1)
+      IfSome (certified_left old.book.granule (call.LocateHandleBuffer search guid key) (reply.LocateHandleBuffer result)) (λ returned. IsAccepted (memory_map old.book.memory) returned.0 returned.1)
   buffer_result search guid key (Ok returned) new (handles, found, some, count, filled, lists) =
       list_result 8 (handle_bytes handles) returned new.book new.pools (handle_bytes-length handles ∙ ap (λ (n : ℕ). 8 * n) (sym count)) filled
   buffer_result search guid key (Err e) new h = tt
 
   items_result : {A : Type 0} (handle : ℕ) (guid : List ℕ) (items : List OpenItem) (returned : PoolList A) (new : Parts) → returned.count ≡ length items → PutsItems IsBestChoice old items returned new →
-      IfSome (tells old.book.granule (call.OpenProtocolInformation handle guid) (reply.OpenProtocolInformation (Ok returned))) (λ returned. IsAccepted (memory_map old.book.memory) returned.0 returned.1)
+      IfSome (certified_left old.book.granule (call.OpenProtocolInformation handle guid) (reply.OpenProtocolInformation (Ok returned))) (λ returned. IsAccepted (memory_map old.book.memory) returned.0 returned.1)
   items_result handle guid [] returned new count h = rw h.1 (uncertified (extent_request old.book.granule list_type (24 * returned.count)) _)
   items_result handle guid (i ∷ items) returned new count h = list_result 24 (item_bytes (i ∷ items)) returned new.book new.pools (item_bytes-length (i ∷ items) ∙ ap (λ (n : ℕ). 24 * n) (sym count)) h.0
 
   opens_result : {A : Type 0} (handle : ℕ) (guid : List ℕ) (result : Result (PoolList A) Status) (new : Parts) → ListsOpens IsBestChoice old handle guid result new →
-      IfSome (tells old.book.granule (call.OpenProtocolInformation handle guid) (reply.OpenProtocolInformation result)) (λ returned. IsAccepted (memory_map old.book.memory) returned.0 returned.1)
+      IfSome (certified_left old.book.granule (call.OpenProtocolInformation handle guid) (reply.OpenProtocolInformation result)) (λ returned. IsAccepted (memory_map old.book.memory) returned.0 returned.1)
   opens_result handle guid (Ok returned) new h = items_result handle guid (items_on old.lists.opens handle guid) returned new h.1 h.2
   opens_result handle guid (Err e) new h = tt
 
 module _ {A : Type 0} (ds : List Meaning) (old : Parts) (proper : IsProperMemory old.book.memory) (typed : HasMachineTypes old.book.memory) (granule : IsGranule old.book.granule) where
-  accepted_result : (kind t pages memory : ℕ) (result : Result (Placed A) Status) (new : Parts) → AllocatesPages IsBestChoice old.book kind t pages memory result new.book → IfSome (tells old.book.granule (call.AllocatePages kind t pages memory) (reply.AllocatePages result)) (λ returned. IsAccepted (memory_map old.book.memory) returned.0 returned.1)
+  accepted_result : (kind t pages memory : ℕ) (result : Result (Placed A) Status) (new : Parts) → AllocatesPages IsBestChoice old.book kind t pages memory result new.book → IfSome (certified_left old.book.granule (call.AllocatePages kind t pages memory) (reply.AllocatePages result)) (λ returned. IsAccepted (memory_map old.book.memory) returned.0 returned.1)
   accepted_result kind t pages memory (Ok placed) new (valid, at, e) =
       accepted_placement old.book (placement_request old.book.granule kind t pages memory) t pages memory placed proper typed (proper_request old.book.granule kind t pages memory granule valid.1 valid.2) at
   accepted_result kind t pages memory (Err e) new h = uncertified (placement_request old.book.granule kind t pages memory) _
 
-  accepted_pages : (exited : Bool) (kind t pages memory : ℕ) (answer : Reply A) (new : Parts) → Answers (best_starts ds) exited old (call.AllocatePages kind t pages memory) answer new → IfSome (tells old.book.granule (call.AllocatePages kind t pages memory) answer) (λ returned. IsAccepted (memory_map old.book.memory) returned.0 returned.1)
+  accepted_pages : (exited : Bool) (kind t pages memory : ℕ) (answer : Reply A) (new : Parts) → Answers (best_starts ds) exited old (call.AllocatePages kind t pages memory) answer new → IfSome (certified_left old.book.granule (call.AllocatePages kind t pages memory) answer) (λ returned. IsAccepted (memory_map old.book.memory) returned.0 returned.1)
   accepted_pages true kind t pages memory answer new (result, e, h) =
       let refused : answer ≡ reply.AllocatePages (Err Unsupported) = e ∙ ap reply.AllocatePages h.0 in
-      subst (λ (a : Reply A). IfSome (tells old.book.granule (call.AllocatePages kind t pages memory) a) (λ returned. IsAccepted (memory_map old.book.memory) returned.0 returned.1)) (sym refused) (uncertified (placement_request old.book.granule kind t pages memory) _)
+      subst (λ (a : Reply A). IfSome (certified_left old.book.granule (call.AllocatePages kind t pages memory) a) (λ returned. IsAccepted (memory_map old.book.memory) returned.0 returned.1)) (sym refused) (uncertified (placement_request old.book.granule kind t pages memory) _)
   accepted_pages false kind t pages memory answer new (result, e, h) =
-      subst (λ (a : Reply A). IfSome (tells old.book.granule (call.AllocatePages kind t pages memory) a) (λ returned. IsAccepted (memory_map old.book.memory) returned.0 returned.1)) (sym e) (accepted_result kind t pages memory result new h.0)
+      subst (λ (a : Reply A). IfSome (certified_left old.book.granule (call.AllocatePages kind t pages memory) a) (λ returned. IsAccepted (memory_map old.book.memory) returned.0 returned.1)) (sym e) (accepted_result kind t pages memory result new h.0)
 
-  accepted_pool : (exited : Bool) (t size : ℕ) (answer : Reply A) (new : Parts) → Answers (best_starts ds) exited old (call.AllocatePool t size) answer new → IfSome (tells old.book.granule (call.AllocatePool t size) answer) (λ returned. IsAccepted (memory_map old.book.memory) returned.0 returned.1)
+  accepted_pool : (exited : Bool) (t size : ℕ) (answer : Reply A) (new : Parts) → Answers (best_starts ds) exited old (call.AllocatePool t size) answer new → IfSome (certified_left old.book.granule (call.AllocatePool t size) answer) (λ returned. IsAccepted (memory_map old.book.memory) returned.0 returned.1)
   accepted_pool true t size answer new (result, e, h) =
       let refused : answer ≡ reply.AllocatePool (Err Unsupported) = e ∙ ap reply.AllocatePool h.0 in
-      subst (λ (a : Reply A). IfSome (tells old.book.granule (call.AllocatePool t size) a) (λ returned. IsAccepted (memory_map old.book.memory) returned.0 returned.1)) (sym refused) (uncertified (extent_request old.book.granule t size) _)
+      subst (λ (a : Reply A). IfSome (certified_left old.book.granule (call.AllocatePool t size) a) (λ returned. IsAccepted (memory_map old.book.memory) returned.0 returned.1)) (sym refused) (uncertified (extent_request old.book.granule t size) _)
   accepted_pool false t size answer new (result, e, h) =
-      subst (λ (a : Reply A). IfSome (tells old.book.granule (call.AllocatePool t size) a) (λ returned. IsAccepted (memory_map old.book.memory) returned.0 returned.1)) (sym e) (pool_result old proper typed granule A t size result new.book new.pools h.0)
+      subst (λ (a : Reply A). IfSome (certified_left old.book.granule (call.AllocatePool t size) a) (λ returned. IsAccepted (memory_map old.book.memory) returned.0 returned.1)) (sym e) (pool_result old proper typed granule A t size result new.book new.pools h.0)
 
-  accepted_buffer : (exited : Bool) (search : ℕ) (guid : List ℕ) (key : ℕ) (answer : Reply A) (new : Parts) → Answers (best_starts ds) exited old (call.LocateHandleBuffer search guid key) answer new → IfSome (tells old.book.granule (call.LocateHandleBuffer search guid key) answer) (λ returned. IsAccepted (memory_map old.book.memory) returned.0 returned.1)
+  accepted_buffer : (exited : Bool) (search : ℕ) (guid : List ℕ) (key : ℕ) (answer : Reply A) (new : Parts) → Answers (best_starts ds) exited old (call.LocateHandleBuffer search guid key) answer new → IfSome (certified_left old.book.granule (call.LocateHandleBuffer search guid key) answer) (λ returned. IsAccepted (memory_map old.book.memory) returned.0 returned.1)
   accepted_buffer true search guid key answer new (result, e, h) =
       let refused : answer ≡ reply.LocateHandleBuffer (Err Unsupported) = e ∙ ap reply.LocateHandleBuffer h.0 in
-      subst (λ (a : Reply A). IfSome (tells old.book.granule (call.LocateHandleBuffer search guid key) a) (λ returned. IsAccepted (memory_map old.book.memory) returned.0 returned.1)) (sym refused) tt
+      subst (λ (a : Reply A). IfSome (certified_left old.book.granule (call.LocateHandleBuffer search guid key) a) (λ returned. IsAccepted (memory_map old.book.memory) returned.0 returned.1)) (sym refused) tt
   accepted_buffer false search guid key answer new (result, e, h) =
-      subst (λ (a : Reply A). IfSome (tells old.book.granule (call.LocateHandleBuffer search guid key) a) (λ returned. IsAccepted (memory_map old.book.memory) returned.0 returned.1)) (sym e) (buffer_result old proper typed granule search guid key result new h)
+      subst (λ (a : Reply A). IfSome (certified_left old.book.granule (call.LocateHandleBuffer search guid key) a) (λ returned. IsAccepted (memory_map old.book.memory) returned.0 returned.1)) (sym e) (buffer_result old proper typed granule search guid key result new h)
 
-  accepted_opens : (exited : Bool) (handle : ℕ) (guid : List ℕ) (answer : Reply A) (new : Parts) → Answers (best_starts ds) exited old (call.OpenProtocolInformation handle guid) answer new → IfSome (tells old.book.granule (call.OpenProtocolInformation handle guid) answer) (λ returned. IsAccepted (memory_map old.book.memory) returned.0 returned.1)
+  accepted_opens : (exited : Bool) (handle : ℕ) (guid : List ℕ) (answer : Reply A) (new : Parts) → Answers (best_starts ds) exited old (call.OpenProtocolInformation handle guid) answer new → IfSome (certified_left old.book.granule (call.OpenProtocolInformation handle guid) answer) (λ returned. IsAccepted (memory_map old.book.memory) returned.0 returned.1)
   accepted_opens true handle guid answer new (result, e, h) =
       let refused : answer ≡ reply.OpenProtocolInformation (Err Unsupported) = e ∙ ap reply.OpenProtocolInformation h.0 in
-      subst (λ (a : Reply A). IfSome (tells old.book.granule (call.OpenProtocolInformation handle guid) a) (λ returned. IsAccepted (memory_map old.book.memory) returned.0 returned.1)) (sym refused) tt
+      subst (λ (a : Reply A). IfSome (certified_left old.book.granule (call.OpenProtocolInformation handle guid) a) (λ returned. IsAccepted (memory_map old.book.memory) returned.0 returned.1)) (sym refused) tt
   accepted_opens false handle guid answer new (result, e, h) =
-      subst (λ (a : Reply A). IfSome (tells old.book.granule (call.OpenProtocolInformation handle guid) a) (λ returned. IsAccepted (memory_map old.book.memory) returned.0 returned.1)) (sym e) (opens_result old proper typed granule handle guid result new h)
+      subst (λ (a : Reply A). IfSome (certified_left old.book.granule (call.OpenProtocolInformation handle guid) a) (λ returned. IsAccepted (memory_map old.book.memory) returned.0 returned.1)) (sym e) (opens_result old proper typed granule handle guid result new h)
 
-  accepted_telling : (exited : Bool) (c : Call A) (answer : Reply A) (new : Parts) → Answers (best_starts ds) exited old c answer new → IfSome (tells old.book.granule c answer) (λ returned. IsAccepted (memory_map old.book.memory) returned.0 returned.1)
-  accepted_telling exited (call.AllocatePages kind t pages memory) answer new h = accepted_pages exited kind t pages memory answer new h
-  accepted_telling exited (call.AllocatePool t size) answer new h = accepted_pool exited t size answer new h
-  accepted_telling exited (call.LocateHandleBuffer search guid key) answer new h = accepted_buffer exited search guid key answer new h
-  accepted_telling exited (call.OpenProtocolInformation handle guid) answer new h = accepted_opens exited handle guid answer new h
-  accepted_telling exited c answer new h = tt
+  accepted_left : (exited : Bool) (c : Call A) (answer : Reply A) (new : Parts) → Answers (best_starts ds) exited old c answer new → IfSome (certified_left old.book.granule c answer) (λ returned. IsAccepted (memory_map old.book.memory) returned.0 returned.1)
+  accepted_left exited (call.AllocatePages kind t pages memory) answer new h = accepted_pages exited kind t pages memory answer new h
+  accepted_left exited (call.AllocatePool t size) answer new h = accepted_pool exited t size answer new h
+  accepted_left exited (call.LocateHandleBuffer search guid key) answer new h = accepted_buffer exited search guid key answer new h
+  accepted_left exited (call.OpenProtocolInformation handle guid) answer new h = accepted_opens exited handle guid answer new h
+  accepted_left exited c answer new h = tt
 
   pub accepted_reply : (exited : Bool) (calls_left : ℕ) (c : Call A) (answer : Reply A) (new : Parts) → Answers (best_starts ds) exited old c answer new → IsAcceptedReply (record { parts = old; exited = exited; calls_left = calls_left }) c answer
   accepted_reply exited n c answer new h =
-      counted (left_request old.book.granule c answer) (λ r. option_map (λ certificate. (r, certificate)) (certificate_in answer)) (λ returned. IsAccepted (memory_map old.book.memory) returned.0 returned.1) (accepted_telling exited c answer new h)
+      counted (left_request old.book.granule c answer) (λ r. option_map (λ certificate. (r, certificate)) (certificate_in answer)) (λ returned. IsAccepted (memory_map old.book.memory) returned.0 returned.1) (accepted_left exited c answer new h)
 
 all_accepted : {A : Type 0} (ds : List Meaning) (old : State) (calls : List (Call A)) (replies : List (Reply A)) (new : State) (run : CallRun ds old calls replies new) → AreSound old.parts → HasMachineTypes old.parts.book.memory → AllAccepted ds old calls replies new run
 all_accepted ds old (c ∷ calls) (r ∷ replies) new (next, step, run) sound typed =

@@ -51,8 +51,8 @@ while_open : (exited : Bool) (old new : Parts) (P Q Refusal : Type 0) → (P →
 while_open true old new P Q Refusal f h = h
 while_open false old new P Q Refusal f h = f h
 
-served_as : {A R : Type 0} (exited : Bool) (old new : Parts) (answer : Reply A) (tell : Result R Status → Reply A) (P Q : Result R Status → Type 0) → ((result : Result R Status) → P result → Q result) → Serves exited old new answer tell P → Serves exited old new answer tell Q
-served_as exited old new answer tell P Q f (result, returned, h) = (result, returned, while_open exited old new (P result) (Q result) _ (f result) h)
+served_as : {A R : Type 0} (exited : Bool) (old new : Parts) (answer : Reply A) (reply_with : Result R Status → Reply A) (P Q : Result R Status → Type 0) → ((result : Result R Status) → P result → Q result) → Serves exited old new answer reply_with P → Serves exited old new answer reply_with Q
+served_as exited old new answer reply_with P Q f (result, returned, h) = (result, returned, while_open exited old new (P result) (Q result) _ (f result) h)
 
 fills_any : (b : Book) (es : List Extent) (t : ℕ) (bytes : List ℕ) (result : Result Answer Status) (new_b : Book) (new : List Extent) → FillsPool IsBestChoice b es t bytes result new_b new → FillsPool IsAnyStart b es t bytes result new_b new
 fills_any b es t bytes (Ok answer) new_b new (placed, h, e) = (placed, pool_any b es t (length bytes) (Ok answer) new_b placed h, e)

@@ -38,8 +38,8 @@ use Rattle.boot_core.proofs.Soundness.{first_sound, stays_sound}
 
 -- ---- what is shown of each call
 
--- There is a certificate exactly where certificates are returned and something holds, and then a request, whose pages a number of
--- 64 bits tells.
+-- There is a certificate exactly where certificates are returned and a choice was made, and then a
+-- request for a number of pages that fits 64 bits.
 record Certifies (certifies : Bool) (Chosen : Type 0) (asked : Option Request) (returned : Option CertificateValue) : Type 0 where
   carried : (is_some returned ≡ true) ↔ ((certifies ≡ true) × Chosen)
   requested : is_some returned ≡ true → (r : Request) × (asked ≡ Some r) × (r.pages < 2 ^ 64)
@@ -177,10 +177,10 @@ module _ {A : Type 0} (ds : List Meaning) (old : Parts) (proper : IsProperMemory
   opens_result handle guid (Err other) new h = absurd h
 
   -- a service that answers by its rule, or a refusal that leaves all parts
-  served : {R : Type 0} (c : Call A) (exited : Bool) (answer : Reply A) (new : Parts) (tell : Result R Status → Reply A) (Rule : Result R Status → Type 0) →
-      ((s : Status) → new ≡ old → Shown old c (tell (Err s)) new) → ((result : Result R Status) → Rule result → Shown old c (tell result) new) → Serves exited old new answer tell Rule → Shown old c answer new
-  served c true answer new tell Rule refusal rule (result, e, h) = subst (λ (a : Reply A). Shown old c a new) (sym (e ∙ ap tell h.0)) (refusal status.Unsupported h.1)
-  served c false answer new tell Rule refusal rule (result, e, h) = subst (λ (a : Reply A). Shown old c a new) (sym e) (rule result h)
+  served : {R : Type 0} (c : Call A) (exited : Bool) (answer : Reply A) (new : Parts) (reply_with : Result R Status → Reply A) (Rule : Result R Status → Type 0) →
+      ((s : Status) → new ≡ old → Shown old c (reply_with (Err s)) new) → ((result : Result R Status) → Rule result → Shown old c (reply_with result) new) → Serves exited old new answer reply_with Rule → Shown old c answer new
+  served c true answer new reply_with Rule refusal rule (result, e, h) = subst (λ (a : Reply A). Shown old c a new) (sym (e ∙ ap reply_with h.0)) (refusal status.Unsupported h.1)
+  served c false answer new reply_with Rule refusal rule (result, e, h) = subst (λ (a : Reply A). Shown old c a new) (sym e) (rule result h)
 
   shown : (exited : Bool) (c : Call A) (answer : Reply A) (new : Parts) → Answers (best_starts ds) exited old c answer new → Shown old c answer new
   shown exited (call.AllocatePages kind t pages memory) answer new h =

@@ -26,7 +26,7 @@ key_in exited old size key S answer new h t = absurd t
 
 -- the key that GetMemoryMap gave is the current one
 given_key : {A : Type 0} (S : Setting) (old : State) (key : ℕ) (new : State) → GivesKey S A old key new → (key ≡ old.parts.book.key) × (new.parts ≡ old.parts)
-given_key S old key new (inl (size, answer, step, tells)) = key_in old.exited old.parts size key S answer new.parts step.answers tells
+given_key S old key new (inl (size, answer, step, returns_key)) = key_in old.exited old.parts size key S answer new.parts step.answers returns_key
 given_key S old key new (inr (buffer, after, returned, step, success, is)) =
     let (key_is, parts) = returned_directly old.exited old.parts new.parts buffer returned after step.answers success in
     (sym is ∙ key_is, parts)

@@ -172,9 +172,9 @@ pub proper_request : (granule kind t pages memory : ℕ) → IsGranule granule �
 proper_request granule kind t pages memory is good some = if_some (placement_request granule kind t pages memory) IsProperRequest (λ r e. placement_request_proper granule kind t pages memory r is good some e)
 
 -- a service that leaves all parts, or goes by a rule for the book
-served : {A R : Type 0} (Fits : Type 0) (exited : Bool) (old new : Parts) (answer : Reply A) (tell : Result R Status → Reply A) (Rule : Result R Status → Type 0) → ((result : Result R Status) → Rule result → Outcome Fits old.book new.book) → Serves exited old new answer tell Rule → Outcome Fits old.book new.book
-served Fits true old new answer tell Rule f (result, returned, h) = inl (ap (λ (p : Parts). p.book) h.1)
-served Fits false old new answer tell Rule f (result, returned, h) = f result h
+served : {A R : Type 0} (Fits : Type 0) (exited : Bool) (old new : Parts) (answer : Reply A) (reply_with : Result R Status → Reply A) (Rule : Result R Status → Type 0) → ((result : Result R Status) → Rule result → Outcome Fits old.book new.book) → Serves exited old new answer reply_with Rule → Outcome Fits old.book new.book
+served Fits true old new answer reply_with Rule f (result, returned, h) = inl (ap (λ (p : Parts). p.book) h.1)
+served Fits false old new answer reply_with Rule f (result, returned, h) = f result h
 
 kept : (Fits : Type 0) (old new : Parts) → new ≡ old → Outcome Fits old.book new.book
 kept Fits old new e = inl (ap (λ (p : Parts). p.book) e)

@@ -121,11 +121,11 @@ returned_free A address (Ok done) = refl
 returned_free A address (Err e) = refl
 
 -- a service that leaves all parts and returns an error, or goes by a rule
-changed : {A R : Type 0} (exited : Bool) (old new : Parts) (c : Call A) (answer : Reply A) (tell : Result R Status → Reply A) (Rule : Result R Status → Type 0) (k : ℕ) → byte_after old c (tell (Err status.Unsupported)) k ≡ byte_at k old.pools →
-    ((result : Result R Status) → Rule result → byte_at k new.pools ≡ byte_after old c (tell result) k) → Serves exited old new answer tell Rule → byte_at k new.pools ≡ byte_after old c answer k
-changed true old new c answer tell Rule k leaves f (result, returned, h) =
-    ap (λ (p : Parts). byte_at k p.pools) h.1 ∙ sym leaves ∙ sym (ap (λ a. byte_after old c a k) (returned ∙ ap tell h.0))
-changed false old new c answer tell Rule k leaves f (result, returned, h) = f result h ∙ sym (ap (λ a. byte_after old c a k) returned)
+changed : {A R : Type 0} (exited : Bool) (old new : Parts) (c : Call A) (answer : Reply A) (reply_with : Result R Status → Reply A) (Rule : Result R Status → Type 0) (k : ℕ) → byte_after old c (reply_with (Err status.Unsupported)) k ≡ byte_at k old.pools →
+    ((result : Result R Status) → Rule result → byte_at k new.pools ≡ byte_after old c (reply_with result) k) → Serves exited old new answer reply_with Rule → byte_at k new.pools ≡ byte_after old c answer k
+changed true old new c answer reply_with Rule k leaves f (result, returned, h) =
+    ap (λ (p : Parts). byte_at k p.pools) h.1 ∙ sym leaves ∙ sym (ap (λ a. byte_after old c a k) (returned ∙ ap reply_with h.0))
+changed false old new c answer reply_with Rule k leaves f (result, returned, h) = f result h ∙ sym (ap (λ a. byte_after old c a k) returned)
 
 -- by what a reply has of a block
 laid_by : (old new : Parts) (block returned : Option (ℕ × List ℕ)) (k : ℕ) → returned ≡ block → Laid block old.pools new.pools → byte_at k new.pools ≡ laid_over returned k (byte_at k old.pools)

@@ -27,9 +27,9 @@ while_open true old new Rule Refusal s f h = all_stay old new s h.1
 while_open false old new Rule Refusal s f h = f h
 
 -- a service that leaves all parts, or goes by a rule
-served : {A R : Type 0} (exited : Bool) (old new : Parts) (answer : Reply A) (tell : Result R Status → Reply A) (Rule : Result R Status → Type 0) → AreProperLists old.lists → ((result : Result R Status) → Rule result → AreProperLists new.lists)
-    → Serves exited old new answer tell Rule → AreProperLists new.lists
-served exited old new answer tell Rule s f (result, returned, h) = while_open exited old new (Rule result) _ s (f result) h
+served : {A R : Type 0} (exited : Bool) (old new : Parts) (answer : Reply A) (reply_with : Result R Status → Reply A) (Rule : Result R Status → Type 0) → AreProperLists old.lists → ((result : Result R Status) → Rule result → AreProperLists new.lists)
+    → Serves exited old new answer reply_with Rule → AreProperLists new.lists
+served exited old new answer reply_with Rule s f (result, returned, h) = while_open exited old new (Rule result) _ s (f result) h
 
 locates_buffer : {A : Type 0} (S : Setting) (old : Parts) (search : ℕ) (guid : List ℕ) (key : ℕ) (result : Result (PoolList A) Status) (new : Parts) → AreProperLists old.lists → LocatesBuffer S.chosen old search guid key result new
     → AreProperLists new.lists

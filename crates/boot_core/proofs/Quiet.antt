@@ -29,8 +29,8 @@ open_quiet : (exited : Bool) (old new : Parts) (Rule Refusal : Type 0) → (Rule
 open_quiet true old new Rule Refusal f h = same_quiet old new h.1
 open_quiet false old new Rule Refusal f h = f h
 
-served_quiet : {A R : Type 0} (exited : Bool) (old new : Parts) (answer : Reply A) (tell : Result R Status → Reply A) (Rule : Result R Status → Type 0) → ((result : Result R Status) → Rule result → IsQuiet old new) → Serves exited old new answer tell Rule → IsQuiet old new
-served_quiet exited old new answer tell Rule f (result, returned, h) = open_quiet exited old new (Rule result) _ (f result) h
+served_quiet : {A R : Type 0} (exited : Bool) (old new : Parts) (answer : Reply A) (reply_with : Result R Status → Reply A) (Rule : Result R Status → Type 0) → ((result : Result R Status) → Rule result → IsQuiet old new) → Serves exited old new answer reply_with Rule → IsQuiet old new
+served_quiet exited old new answer reply_with Rule f (result, returned, h) = open_quiet exited old new (Rule result) _ (f result) h
 
 pub quiet : {A : Type 0} (S : Setting) (exited : Bool) (old : Parts) (c : Call A) (answer : Reply A) (new : Parts) → IsQuietCall c → Answers S exited old c answer new → IsQuiet old new
 quiet S exited old (call.GetMemoryMap size) answer new q (returned, bytes, e, h) = open_quiet exited old new _ _ (λ rule. same_quiet old new rule.1) h

@@ -63,9 +63,9 @@ writes_kept old address bytes result es sound h =
     record { sound = λ l. record { proper = sound.proper; granules = sound.granules; extents = extents; owned = owned }; key = omega arith }
 
 -- a service that leaves all parts, or goes by a rule
-served : {A R : Type 0} (exited : Bool) (old new : Parts) (answer : Reply A) (tell : Result R Status → Reply A) (Rule : Result R Status → Type 0) → AreSound old → ((result : Result R Status) → Rule result → AreSound new) → Serves exited old new answer tell Rule → AreSound new
-served true old new answer tell Rule sound f (result, returned, h) = subst AreSound (sym h.1) sound
-served false old new answer tell Rule sound f (result, returned, h) = f result h
+served : {A R : Type 0} (exited : Bool) (old new : Parts) (answer : Reply A) (reply_with : Result R Status → Reply A) (Rule : Result R Status → Type 0) → AreSound old → ((result : Result R Status) → Rule result → AreSound new) → Serves exited old new answer reply_with Rule → AreSound new
+served true old new answer reply_with Rule sound f (result, returned, h) = subst AreSound (sym h.1) sound
+served false old new answer reply_with Rule sound f (result, returned, h) = f result h
 
 -- a refusal leaves all
 unchanged_kept : (old new : Parts) → AreSound old → new ≡ old → IsKept old new.book new.pools

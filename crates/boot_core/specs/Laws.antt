@@ -37,14 +37,16 @@ AnyStepLaw A =
 -- A run with the best starts is a run with any permitted starts.
 abbrev pub AnyRunLaw : Type 0 → Type 0
 AnyRunLaw A =
-    (ds : List Meaning) (old : State) (calls : List (Call A)) (replies : List (Reply A)) (new : State)
+    (ds : List Meaning) (old : State) (calls : List (Call A)) (replies : List (Reply A))
+    (new : State)
     → CallRun ds old calls replies new → CallRunBy (any_starts ds) old calls replies new
 
 -- The parts are sound after calls on a valid machine, however starts are chosen among the permitted
 -- ones.
 abbrev pub SoundLaw : Setting → Type 0 → Type 0
 SoundLaw S A =
-    (certifies : Bool) (machine : MachineValue) (calls : List (Call A)) (replies : List (Reply A)) (new : State)
+    (certifies : Bool) (machine : MachineValue) (calls : List (Call A)) (replies : List (Reply A))
+    (new : State)
     → IsMachine machine → CallRunBy S (first_state_with certifies machine) calls replies new
     → AreSound new.parts
 
@@ -52,7 +54,8 @@ SoundLaw S A =
 -- whatever the drivers answer.
 abbrev pub ProperListsLaw : Setting → Type 0 → Type 0
 ProperListsLaw S A =
-    (certifies : Bool) (machine : MachineValue) (calls : List (Call A)) (replies : List (Reply A)) (new : State)
+    (certifies : Bool) (machine : MachineValue) (calls : List (Call A)) (replies : List (Reply A))
+    (new : State)
     → CallRunBy S (first_state_with certifies machine) calls replies new
     → AreProperLists new.parts.lists
 
@@ -67,7 +70,8 @@ abbrev pub HaveSameTypes : List Page → List Page → Type 0
 HaveSameTypes m n = (k : ℕ) → type_at m k ≡ type_at n k
 
 -- no call of the run changes the type of any page
-abbrev pub ChangesNoType : {A : Type 0} (S : Setting) (old : State) (calls : List (Call A)) (replies : List (Reply A)) (new : State)
+abbrev pub ChangesNoType : {A : Type 0} (S : Setting) (old : State) (calls : List (Call A))
+    (replies : List (Reply A)) (new : State)
     → CallRunBy S old calls replies new → Type 0
 ChangesNoType S old (c ∷ calls) (answer ∷ replies) new (next, step, run) =
     HaveSameTypes old.parts.book.memory next.parts.book.memory
@@ -75,35 +79,44 @@ ChangesNoType S old (c ∷ calls) (answer ∷ replies) new (next, step, run) =
 ChangesNoType S old calls replies new run = Unit {0}
 
 -- how many calls of the run change the type of a page
-abbrev pub ChangesTypes : {A : Type 0} (S : Setting) (old : State) (calls : List (Call A)) (replies : List (Reply A)) (new : State)
+abbrev pub ChangesTypes : {A : Type 0} (S : Setting) (old : State) (calls : List (Call A))
+    (replies : List (Reply A)) (new : State)
     → CallRunBy S old calls replies new → ℕ → Type 0
 ChangesTypes S old (c ∷ calls) (answer ∷ replies) new (next, step, run) n =
-    (HaveSameTypes old.parts.book.memory next.parts.book.memory × ChangesTypes S next calls replies new run n)
-    ⊎ ((¬ HaveSameTypes old.parts.book.memory next.parts.book.memory) × ((others : ℕ) × (n ≡ others + 1) × ChangesTypes S next calls replies new run others))
+    (HaveSameTypes old.parts.book.memory next.parts.book.memory
+    × ChangesTypes S next calls replies new run n)
+    ⊎ ((¬ HaveSameTypes old.parts.book.memory next.parts.book.memory)
+    × ((others : ℕ) × (n ≡ others + 1) × ChangesTypes S next calls replies new run others))
 ChangesTypes S old calls replies new run n = n ≡ 0
 
 -- The key counts exactly the calls that change the type of a page.
 abbrev pub KeyCountLaw : Setting → Type 0 → Type 0
 KeyCountLaw S A =
-    (old : State) (calls : List (Call A)) (replies : List (Reply A)) (new : State) (run : CallRunBy S old calls replies new) (n : ℕ) →
+    (old : State) (calls : List (Call A)) (replies : List (Reply A)) (new : State)
+    (run : CallRunBy S old calls replies new) (n : ℕ) →
     AreSound old.parts
     → ChangesTypes S old calls replies new run n ↔ (new.parts.book.key ≡ old.parts.book.key + n)
 
 -- the reply is of a GetMemoryMap that succeeded, with this key
 abbrev pub ReturnsKey : {A : Type 0} → Reply A → ℕ → Type 0
-ReturnsKey (reply.GetMemoryMap returned bytes) key = (returned.status ≡ Success) × (returned.key ≡ key)
+ReturnsKey (reply.GetMemoryMap returned bytes) key =
+    (returned.status ≡ Success) × (returned.key ≡ key)
 ReturnsKey answer key = ⊥
 
 -- GetMemoryMap returned the key, through a call or of a buffer of the caller's.
 abbrev pub GivesKey : Setting → Type 0 → State → ℕ → State → Type 0
 GivesKey S A old key new =
-    ((size : ℕ) × (answer : Reply A) × StepBy S old (call.GetMemoryMap size) answer new × ReturnsKey answer key) ⊎ ((buffer after : List ℕ) × (returned : MapReply) × MapStep old buffer returned after new × (returned.status ≡ Success) × (returned.key ≡ key))
+    ((size : ℕ) × (answer : Reply A) × StepBy S old (call.GetMemoryMap size) answer new
+    × ReturnsKey answer key)
+    ⊎ ((buffer after : List ℕ) × (returned : MapReply) × MapStep old buffer returned after new
+    × (returned.status ≡ Success) × (returned.key ≡ key))
 
 -- Before an exit, a key that GetMemoryMap returned is accepted exactly where no call since has
 -- changed the type of a page.
 abbrev pub KeyLaw : Setting → Type 0 → Type 0
 KeyLaw S A =
-    (first old : State) (key : ℕ) (calls : List (Call A)) (replies : List (Reply A)) (new : State) (run : CallRunBy S old calls replies new) (answer : Reply A) (after : State) →
+    (first old : State) (key : ℕ) (calls : List (Call A)) (replies : List (Reply A)) (new : State)
+    (run : CallRunBy S old calls replies new) (answer : Reply A) (after : State) →
     AreSound first.parts → GivesKey S A first key old → new.exited ≡ false
     → StepBy S new (call.ExitBootServices key) answer after →
     (answer ≡ reply.ExitBootServices (Ok tt)) ↔ ChangesNoType S old calls replies new run
@@ -115,12 +128,14 @@ abbrev pub used_size : Status → ℕ → ℕ
 used_size Success size = size
 used_size status size = 0
 
--- GetMemoryMap with a buffer of the caller's is a step of the machine, with the reply that a call
--- tells and the front of the buffer; the rest of the buffer is as it was.
+-- GetMemoryMap with a buffer of the caller's is a step of the machine, with the reply of a call
+-- that returns the front of the buffer; the rest of the buffer is as it was.
 abbrev pub MapStepLaw : Type 0 → Type 0
 MapStepLaw A =
-    (ds : List Meaning) (old : State) (buffer : List ℕ) (returned : MapReply) (after : List ℕ) (new : State) (used : Vec ℕ A) →
-    MapStep old buffer returned after new → used.items ≡ take (used_size returned.status returned.size) after →
+    (ds : List Meaning) (old : State) (buffer : List ℕ) (returned : MapReply) (after : List ℕ)
+    (new : State) (used : Vec ℕ A) →
+    MapStep old buffer returned after new
+    → used.items ≡ take (used_size returned.status returned.size) after →
     Step ds old (call.GetMemoryMap (length buffer)) (reply.GetMemoryMap returned used) new
     × (after ≡ used.items ++ drop (length used.items) buffer)
 
@@ -133,7 +148,8 @@ read_size status size = 0
 -- returns and the whole buffer where it succeeds; else the buffer is as it was.
 abbrev pub ReadStepLaw : Type 0 → Type 0
 ReadStepLaw A =
-    (ds : List Meaning) (old : State) (address : ℕ) (buffer : List ℕ) (status : Status) (after : List ℕ) (new : State) (used : Vec ℕ A) →
+    (ds : List Meaning) (old : State) (address : ℕ) (buffer : List ℕ) (status : Status)
+    (after : List ℕ) (new : State) (used : Vec ℕ A) →
     ReadStep old address buffer status after new
     → used.items ≡ take (read_size status (length buffer)) after →
     Step ds old (call.PoolRead address (length buffer)) (reply.PoolRead status used) new
@@ -143,7 +159,8 @@ ReadStepLaw A =
 -- one that a record can spell.
 abbrev pub RecordEntriesLaw : Type 0 → Type 0
 RecordEntriesLaw A =
-    (ds : List Meaning) (certifies : Bool) (machine : MachineValue) (calls : List (Call A)) (replies : List (Reply A)) (new : State)
+    (ds : List Meaning) (certifies : Bool) (machine : MachineValue) (calls : List (Call A))
+    (replies : List (Reply A)) (new : State)
     → IsMachine machine → AllByRecursion HasRecordNumbers machine.runs
     → AllByRecursion NamesTypes calls →
     CallRun ds (first_state_with certifies machine) calls replies new
@@ -153,7 +170,8 @@ RecordEntriesLaw A =
 -- for each call, or fewer.
 abbrev pub MapGrowthLaw : Setting → Type 0 → Type 0
 MapGrowthLaw S A =
-    (certifies : Bool) (machine : MachineValue) (calls : List (Call A)) (replies : List (Reply A)) (new : State)
+    (certifies : Bool) (machine : MachineValue) (calls : List (Call A)) (replies : List (Reply A))
+    (new : State)
     → IsMachine machine → CallRunBy S (first_state_with certifies machine) calls replies new →
     length (memory_map new.parts.book.memory) ≤ length machine.runs + 2 * length calls
 
@@ -189,9 +207,12 @@ lays p (call.AllocatePool t size) answer =
     option_map (λ address. (address, replicate size 0)) (returned_block answer)
 lays p (call.PoolWrite address bytes) answer = cond (is_done answer) (Some (address, bytes)) None
 lays p (call.LocateHandleBuffer search guid key) answer =
-    option_map (λ address. (address, handle_bytes (handles_of (found_handles p.lists search guid key)))) (returned_block answer)
+    option_map
+    (λ address. (address, handle_bytes (handles_of (found_handles p.lists search guid key))))
+    (returned_block answer)
 lays p (call.OpenProtocolInformation handle guid) answer =
-    option_map (λ address. (address, item_bytes (items_on p.lists.opens handle guid))) (returned_block answer)
+    option_map (λ address. (address, item_bytes (items_on p.lists.opens handle guid)))
+    (returned_block answer)
 lays p c answer = None
 
 -- the block that a call gives back
@@ -232,7 +253,8 @@ ReadBytesLaw A =
     × ((i : ℕ) → i < size → byte_at (address + i) old.parts.pools ≡ first_of (drop i bytes.items))
 
 -- no call of the run changes what is at an address of the pool
-abbrev pub LeavesByte : {A : Type 0} (ds : List Meaning) (old : State) (calls : List (Call A)) (replies : List (Reply A)) (new : State)
+abbrev pub LeavesByte : {A : Type 0} (ds : List Meaning) (old : State) (calls : List (Call A))
+    (replies : List (Reply A)) (new : State)
     → CallRun ds old calls replies new → ℕ → Type 0
 LeavesByte ds old (c ∷ calls) (answer ∷ replies) new (next, step, run) k =
     (byte_after old.parts c answer k ≡ byte_at k old.parts.pools)
@@ -242,7 +264,9 @@ LeavesByte ds old calls replies new run k = Unit {0}
 -- A read gives the bytes that were last laid at its addresses.
 abbrev pub LastBytesLaw : Type 0 → Type 0
 LastBytesLaw A =
-    (ds : List Meaning) (first old : State) (c : Call A) (answer : Reply A) (address : ℕ) (bytes : List ℕ) (calls : List (Call A)) (replies : List (Reply A)) (new : State) (run : CallRun ds old calls replies new) (used : Vec ℕ A) (after : State) →
+    (ds : List Meaning) (first old : State) (c : Call A) (answer : Reply A) (address : ℕ)
+    (bytes : List ℕ) (calls : List (Call A)) (replies : List (Reply A)) (new : State)
+    (run : CallRun ds old calls replies new) (used : Vec ℕ A) (after : State) →
     AreSound first.parts → Step ds first c answer old
     → lays first.parts c answer ≡ Some (address, bytes)
     → ((i : ℕ) → i < length bytes → LeavesByte ds old calls replies new run (address + i)) →
@@ -255,10 +279,12 @@ LastBytesLaw A =
 -- before the call.
 abbrev pub IsAcceptedReply : {A : Type 0} → State → Call A → Reply A → Type 0
 IsAcceptedReply old c answer =
-    IfSome (certified old.parts.book.granule c answer) (λ returned. IsAccepted (memory_map old.parts.book.memory) returned.0 returned.1)
+    IfSome (certified old.parts.book.granule c answer)
+    (λ returned. IsAccepted (memory_map old.parts.book.memory) returned.0 returned.1)
 
 -- so is the certificate of each reply of the run
-abbrev pub AllAccepted : {A : Type 0} (ds : List Meaning) (old : State) (calls : List (Call A)) (replies : List (Reply A)) (new : State)
+abbrev pub AllAccepted : {A : Type 0} (ds : List Meaning) (old : State) (calls : List (Call A))
+    (replies : List (Reply A)) (new : State)
     → CallRun ds old calls replies new → Type 0
 AllAccepted ds old (c ∷ calls) (answer ∷ replies) new (next, step, run) =
     IsAcceptedReply old c answer × AllAccepted ds next calls replies new run
@@ -267,7 +293,9 @@ AllAccepted ds old calls replies new run = Unit {0}
 -- On a valid machine the checker accepts each certificate of a run.
 abbrev pub AcceptanceLaw : Type 0 → Type 0
 AcceptanceLaw A =
-    (ds : List Meaning) (certifies : Bool) (machine : MachineValue) (calls : List (Call A)) (replies : List (Reply A)) (new : State) (run : CallRun ds (first_state_with certifies machine) calls replies new)
+    (ds : List Meaning) (certifies : Bool) (machine : MachineValue) (calls : List (Call A))
+    (replies : List (Reply A)) (new : State)
+    (run : CallRun ds (first_state_with certifies machine) calls replies new)
     → IsMachine machine → AllAccepted ds (first_state_with certifies machine) calls replies new run
 
 -- the pool has one extent more
@@ -286,12 +314,16 @@ PlacesByChoice old c answer new = ⊥
 
 -- The reply carries a certificate exactly where certificates are returned and the call placed pages
 -- by choice, and then it says which request that is for.
-pub record CertifiesChoice {A : Type 0} (certifies : Bool) (old : State) (c : Call A) (answer : Reply A) (new : State) : Type 0 where
-  pub carried : (is_some (certificate_in answer) ≡ true) ↔ ((certifies ≡ true) × PlacesByChoice old.parts c answer new.parts)
-  pub requested : is_some (certified old.parts.book.granule c answer) ≡ is_some (certificate_in answer)
+pub record CertifiesChoice {A : Type 0} (certifies : Bool) (old : State) (c : Call A)
+    (answer : Reply A) (new : State) : Type 0 where
+  pub carried : (is_some (certificate_in answer) ≡ true)
+      ↔ ((certifies ≡ true) × PlacesByChoice old.parts c answer new.parts)
+  pub requested : is_some (certified old.parts.book.granule c answer)
+      ≡ is_some (certificate_in answer)
 
 -- so does each call of the run
-abbrev pub AllCertifyChoices : {A : Type 0} (certifies : Bool) (ds : List Meaning) (old : State) (calls : List (Call A)) (replies : List (Reply A)) (new : State)
+abbrev pub AllCertifyChoices : {A : Type 0} (certifies : Bool) (ds : List Meaning) (old : State)
+    (calls : List (Call A)) (replies : List (Reply A)) (new : State)
     → CallRun ds old calls replies new → Type 0
 AllCertifyChoices certifies ds old (c ∷ calls) (answer ∷ replies) new (next, step, run) =
     CertifiesChoice certifies old c answer next
@@ -303,6 +335,7 @@ AllCertifyChoices certifies ds old calls replies new run = Unit {0}
 -- one.
 abbrev pub CertificateLaw : Type 0 → Type 0
 CertificateLaw A =
-    (ds : List Meaning) (certifies : Bool) (machine : MachineValue) (calls : List (Call A)) (replies : List (Reply A)) (new : State)
+    (ds : List Meaning) (certifies : Bool) (machine : MachineValue) (calls : List (Call A))
+    (replies : List (Reply A)) (new : State)
     (run : CallRun ds (first_state_with certifies machine) calls replies new) → IsMachine machine →
     AllCertifyChoices certifies ds (first_state_with certifies machine) calls replies new run

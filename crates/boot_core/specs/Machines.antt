@@ -1,8 +1,12 @@
 -- The state of the machine that serves the calls.
-use Rattle.std.specs.Prelude.{ℕ, ◌+◌, ◌*◌, ◌≤◌, Bool, false, List, [], length}
+use Rattle.std.specs.Prelude.{ℕ, ◌+◌, ◌*◌, ◌≤◌, Bool, false, List, [], length, Option}
 use Rattle.std.specs.List.{AllByRecursion}
+use Rattle.page_ranges.specs.declared.ranges.Descriptor.{Descriptor}
 use Rattle.page_ranges.specs.Memory.{IsProperMemory}
+use Rattle.page_ranges.specs.MemoryMap.{memory_map}
 use Rattle.page_ranges.specs.Runs.{pages_of}
+use Rattle.boot_calls.specs.declared.calls.Call.{Call}
+use Rattle.boot_replies.specs.Certified.{map_before}
 use Rattle.boot_machines.specs.Machines.{MachineValue}
 use Rattle.page_services.specs.PageRules.{Book, IsInGranules, certifying, new_book}
 use Rattle.pool_services.specs.Extents.{Extent, AreExtents}
@@ -16,11 +20,23 @@ pub record Parts : Type 0 where
   pub pools : List Extent
   pub lists : Lists
 
+abbrev pub parts_of : Book → List Extent → Lists → Parts
+parts_of book pools lists = record { book = book; pools = pools; lists = lists }
+
 -- the parts, whether the boot services have ended, and how many calls may still be made
 pub record State : Type 0 where
   pub parts : Parts
   pub exited : Bool
   pub calls_left : ℕ
+
+-- the memory map of a state
+abbrev pub map_of : State → List Descriptor
+map_of s = memory_map s.parts.book.memory
+
+-- the memory map of a state, where certificates are asked for and the reply to the call may carry
+-- one
+abbrev pub kept_map : {A : Type 0} → Bool → State → Call A → Option (List Descriptor)
+kept_map certify s c = map_before certify s.parts.book.granule (map_of s) c
 
 -- how many calls a machine serves
 abbrev pub all_calls : ℕ
@@ -63,8 +79,8 @@ pub record FollowsCalls (p : Parts) (calls_left : ℕ) : Type 0 where
   pub registrations : length p.lists.registrations + calls_left ≤ all_calls
   pub counts : AllByRecursion (λ o. o.count + calls_left ≤ all_calls) p.lists.opens
 
--- The memory is proper, what AllocatePages placed in it fills whole granules, the extents stand
--- apart, and the pages of the pool are theirs.
+-- The memory is proper, what AllocatePages placed in it fills whole granules, the extents do
+-- not overlap, and the pages of the pool are theirs.
 pub record AreSound (p : Parts) : Type 0 where
   pub proper : IsProperMemory p.book.memory
   pub granules : IsInGranules p.book
@@ -75,3 +91,10 @@ pub record AreSound (p : Parts) : Type 0 where
 pub record CoreValue (D : Type 0) : Type 0 where
   pub state : State
   pub drivers : List D
+
+abbrev pub core_of : {D : Type 0} → Parts → Bool → ℕ → List D → CoreValue D
+core_of parts exited calls_left drivers =
+    record {
+      state = record { parts = parts; exited = exited; calls_left = calls_left };
+      drivers = drivers;
+    }

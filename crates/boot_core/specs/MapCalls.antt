@@ -25,4 +25,5 @@ room_for_map b room = if nat_le (map_size b) room then map_size b else 0
 abbrev pub AnswersMap : Book → ℕ → MapReply → List ℕ → Type 0
 AnswersMap b room returned bytes =
     ((returned ≡ map_reply b room) × (bytes ≡ map_bytes b room))
-    ⊎ ((0 < map_size b) × (map_size b ≤ room) × (returned ≡ refused_map OutOfResources) × (bytes ≡ []))
+    ⊎ ((0 < map_size b) × (map_size b ≤ room) × (returned ≡ refused_map OutOfResources)
+    × (bytes ≡ []))

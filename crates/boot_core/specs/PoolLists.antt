@@ -17,14 +17,18 @@ use Rattle.boot_core.specs.Machines.{Parts}
 -- the protocol services stay.
 abbrev pub PutsBytes : {A : Type 0} → Choice → Parts → List ℕ → PoolList A → Parts → Type 0
 PutsBytes Chosen old bytes returned new =
-    FillsPool Chosen old.book old.pools list_type bytes (Ok (returned.address, returned.certificate)) new.book new.pools
+    FillsPool Chosen old.book old.pools list_type bytes
+    (Ok (returned.address, returned.certificate)) new.book new.pools
 
 -- What LocateHandleBuffer answers, and the parts after it. OUT_OF_RESOURCES means that the block,
 -- or what it takes to make it, has no memory.
 abbrev pub LocatesBuffer : {A : Type 0} → Choice → Parts → ℕ → List ℕ → ℕ
     → Result (PoolList A) Status → Parts → Type 0
 LocatesBuffer Chosen old search guid key (Ok returned) new =
-    (handles : List ℕ) × (found_handles old.lists search guid key ≡ Some handles) × (0 < length handles) × (returned.count ≡ length handles) × PutsBytes Chosen old (handle_bytes handles) returned new × (new.lists ≡ once_found search key old.lists)
+    (handles : List ℕ) × (found_handles old.lists search guid key ≡ Some handles)
+    × (0 < length handles) × (returned.count ≡ length handles)
+    × PutsBytes Chosen old (handle_bytes handles) returned new
+    × (new.lists ≡ once_found search key old.lists)
 LocatesBuffer Chosen old search guid key (Err InvalidParameter) new =
     (found_handles old.lists search guid key ≡ None) × (new ≡ old)
 LocatesBuffer Chosen old search guid key (Err NotFound) new =
@@ -36,7 +40,8 @@ LocatesBuffer Chosen old search guid key (Err status) new = ⊥
 
 -- how open items are returned: without any there is no block
 abbrev pub PutsItems : {A : Type 0} → Choice → Parts → List OpenItem → PoolList A → Parts → Type 0
-PutsItems Chosen old [] returned new = (returned.address ≡ 0) × (returned.certificate ≡ None) × (new ≡ old)
+PutsItems Chosen old [] returned new =
+    (returned.address ≡ 0) × (returned.certificate ≡ None) × (new ≡ old)
 PutsItems Chosen old (i ∷ items) returned new =
     PutsBytes Chosen old (item_bytes (i ∷ items)) returned new × (new.lists ≡ old.lists)
 

@@ -6,7 +6,7 @@ ghost use Rattle.protocol_services.specs.Driving.{HasRoomToConnect};
 ghost use Rattle.protocol_services.specs.Lists.{HasRoom};
 ghost use Rattle.protocol_services.specs.Removing.{HasRoomToReinstall};
 ghost use Rattle.boot_core.specs.Machines.{all_calls, certifying_state, first_state, FollowsCalls};
-ghost use Rattle.boot_core.specs.Steps.{IsCounted, MapStep, ReadStep, Step, CallRun};
+ghost use Rattle.boot_core.specs.Steps.{IsCounted, MapStep, ReadStep, CoreStep, CallRun};
 
 use crate::map_buffers::{map_in_buffer, refused_map};
 use crate::pool_buffers::{read_bytes, returned_status};
@@ -27,7 +27,7 @@ use std::marker::Model;
 use uuid::Uuid;
 
 /// How many calls a core serves.
-const CALLS: u64 = 0x8000_0000;
+const MAX_CALLS: u64 = 0x8000_0000;
 
 /// The boot services of a machine, with the drivers that were handed in.
 #[derive(Drop)]
@@ -41,20 +41,23 @@ pub struct Core<D = Box<dyn Driver>, A: Allocator = Global> {
 }
 
 impl<D, A: Allocator> Model for Core<D, A> {
-    ghost use Rattle.boot_core.specs.Machines.{CoreValue, AreSound, FollowsCalls};
+    ghost use Rattle.boot_core.specs.Machines.{CoreValue, AreSound, FollowsCalls, core_of, parts_of};
 
     ghost Value = { CoreValue D };
 
-    ghost view = { λ c. record { state = record { parts = record { book = c.book; pools = c.pools; lists = c.protocols }; exited = c.exited; calls_left = c.calls_left }; drivers = c.drivers.items } };
+    ghost view = { λ c.
+        core_of (parts_of c.book c.pools c.protocols) c.exited c.calls_left c.drivers.items };
 
-    ghost invariant = { λ c. FollowsCalls (record { book = c.book; pools = c.pools; lists = c.protocols }) c.calls_left × AreSound (record { book = c.book; pools = c.pools; lists = c.protocols }) };
+    ghost invariant = { λ c. FollowsCalls (parts_of c.book c.pools c.protocols) c.calls_left
+        × AreSound (parts_of c.book c.pools c.protocols) };
 }
 
 impl<D: Driver, A: Allocator + Copy> Core<D, A> {
     /// The core of a machine, before any call; it returns certificates. The value of a driver binding
-    /// interface is the place of its driver among the drivers.
+    /// interface is the index of its driver.
     pub fn new(alloc: A, machine: Machine<A>, drivers: Vec<D, A>) -> Result<Core<D, A>, AllocError>
-        ensures { IfOk result (λ c. c ≡ record { state = first_state machine; drivers = drivers.items }) }
+        ensures { IfOk result
+            (λ c. c ≡ record { state = first_state machine; drivers = drivers.items }) }
     {
         let table = RunTable::from_runs(alloc, machine.runs())?;
         Ok(Core {
@@ -63,14 +66,18 @@ impl<D: Driver, A: Allocator + Copy> Core<D, A> {
             protocols: Protocols::new(alloc),
             drivers,
             exited: false,
-            calls_left: CALLS,
+            calls_left: MAX_CALLS,
         })
     }
 
     /// Returns a certificate with each place that it chooses from now on, or returns none. The places are
     /// the same either way, and only a certificate takes memory.
     pub fn certify(&mut self, certifies: bool)
-        ensures { self.new ≡ record { state = certifying_state certifies self.old.state; drivers = self.old.drivers } }
+        ensures { self.new
+            ≡ record {
+              state = certifying_state certifies self.old.state;
+              drivers = self.old.drivers;
+            } }
     {
         self.book.certify(certifies);
     }
@@ -89,7 +96,8 @@ impl<D: Driver, A: Allocator + Copy> Core<D, A> {
     // Counts a call; an `Err` is the refusal of all services once the boot services have ended.
     fn begin(&mut self) -> Result<(), Status>
         requires { 0 < self.old.state.calls_left }
-        ensures answer { result ≡ (if self.old.state.exited then Err Status.Unsupported else Ok tt) }
+        ensures answer { result
+            ≡ (if self.old.state.exited then Err Status.Unsupported else Ok tt) }
         ensures parts { self.new.state.parts ≡ self.old.state.parts }
         ensures exited { self.new.state.exited ≡ self.old.state.exited }
         ensures counted { IsCounted self.old.state self.new.state }
@@ -117,7 +125,8 @@ impl<D: Driver, A: Allocator + Copy> Core<D, A> {
     /// pages cannot be had at the address. OUT_OF_RESOURCES: no place of kind 0 or 1, or memory ran out.
     pub fn allocate_pages(&mut self, kind: u32, mtype: u32, pages: u64, memory: u64) -> Reply<A>
         requires { 0 < self.old.state.calls_left }
-        ensures step { Step (map D.meaning self.old.drivers) self.old.state (Call.AllocatePages kind mtype pages memory) result self.new.state }
+        ensures step { CoreStep D.meaning self.old
+            (Call.AllocatePages kind mtype pages memory) result self.new }
         ensures drivers { self.new.drivers ≡ self.old.drivers }
     {
         Reply::AllocatePages(match self.begin() {
@@ -133,7 +142,7 @@ impl<D: Driver, A: Allocator + Copy> Core<D, A> {
     /// of the pages was not placed by AllocatePages. OUT_OF_RESOURCES: memory ran out.
     pub fn free_pages(&mut self, memory: u64, pages: u64) -> Reply<A>
         requires { 0 < self.old.state.calls_left }
-        ensures step { Step (map D.meaning self.old.drivers) self.old.state (Call.FreePages memory pages) result self.new.state }
+        ensures step { CoreStep D.meaning self.old (Call.FreePages memory pages) result self.new }
         ensures drivers { self.new.drivers ≡ self.old.drivers }
     {
         Reply::FreePages(match self.begin() {
@@ -159,7 +168,7 @@ impl<D: Driver, A: Allocator + Copy> Core<D, A> {
     // GetMemoryMap with a buffer of its own in place of one of a given size.
     fn get_map_bytes(&mut self, size: u64) -> Reply<A>
         requires { 0 < self.old.state.calls_left }
-        ensures step { Step (map D.meaning self.old.drivers) self.old.state (Call.GetMemoryMap size) result self.new.state }
+        ensures step { CoreStep D.meaning self.old (Call.GetMemoryMap size) result self.new }
         ensures drivers { self.new.drivers ≡ self.old.drivers }
     {
         match self.begin() {
@@ -177,7 +186,7 @@ impl<D: Driver, A: Allocator + Copy> Core<D, A> {
     /// AllocatePool: a block of a number of bytes, all 0, of the type `mtype`.
     pub fn allocate_pool(&mut self, mtype: u32, size: u64) -> Reply<A>
         requires { 0 < self.old.state.calls_left }
-        ensures step { Step (map D.meaning self.old.drivers) self.old.state (Call.AllocatePool mtype size) result self.new.state }
+        ensures step { CoreStep D.meaning self.old (Call.AllocatePool mtype size) result self.new }
         ensures drivers { self.new.drivers ≡ self.old.drivers }
     {
         Reply::AllocatePool(match self.begin() {
@@ -189,7 +198,7 @@ impl<D: Driver, A: Allocator + Copy> Core<D, A> {
     /// FreePool: gives the block at an address back.
     pub fn free_pool(&mut self, address: u64) -> Reply<A>
         requires { 0 < self.old.state.calls_left }
-        ensures step { Step (map D.meaning self.old.drivers) self.old.state (Call.FreePool address) result self.new.state }
+        ensures step { CoreStep D.meaning self.old (Call.FreePool address) result self.new }
         ensures drivers { self.new.drivers ≡ self.old.drivers }
     {
         Reply::FreePool(match self.begin() {
@@ -215,7 +224,7 @@ impl<D: Driver, A: Allocator + Copy> Core<D, A> {
     // The same with a buffer of its own in place of one of a given size.
     fn get_pool_bytes(&mut self, address: u64, size: u64) -> Reply<A>
         requires { 0 < self.old.state.calls_left }
-        ensures step { Step (map D.meaning self.old.drivers) self.old.state (Call.PoolRead address size) result self.new.state }
+        ensures step { CoreStep D.meaning self.old (Call.PoolRead address size) result self.new }
         ensures drivers { self.new.drivers ≡ self.old.drivers }
     {
         let alloc = self.book.table().allocator();
@@ -236,7 +245,8 @@ impl<D: Driver, A: Allocator + Copy> Core<D, A> {
     /// INVALID_PARAMETER: they do not lie in one block.
     pub fn pool_write(&mut self, address: u64, bytes: &[u8]) -> Reply<A>
         requires { 0 < self.old.state.calls_left }
-        ensures step { Step (map D.meaning self.old.drivers) self.old.state (Call.PoolWrite address bytes.now) result self.new.state }
+        ensures step { CoreStep D.meaning self.old
+            (Call.PoolWrite address bytes.now) result self.new }
         ensures drivers { self.new.drivers ≡ self.old.drivers }
     {
         Reply::PoolWrite(match self.begin() {
@@ -255,7 +265,8 @@ impl<D: Driver, A: Allocator + Copy> Core<D, A> {
         value: u64,
     ) -> Reply<A>
         requires { 0 < self.old.state.calls_left }
-        ensures step { Step (map D.meaning self.old.drivers) self.old.state (Call.InstallProtocolInterface handle guid kind value) result self.new.state }
+        ensures step { CoreStep D.meaning self.old
+            (Call.InstallProtocolInterface handle guid kind value) result self.new }
         ensures drivers { self.new.drivers ≡ self.old.drivers }
     {
         Reply::InstallProtocolInterface(match self.begin() {
@@ -268,7 +279,8 @@ impl<D: Driver, A: Allocator + Copy> Core<D, A> {
     /// ALREADY_STARTED: one is a device path that a live handle has already.
     pub fn install_multiple(&mut self, handle: u64, pairs: &[(Uuid, u64)]) -> Reply<A>
         requires { 0 < self.old.state.calls_left }
-        ensures step { Step (map D.meaning self.old.drivers) self.old.state (Call.InstallMultipleProtocolInterfaces handle pairs.now) result self.new.state }
+        ensures step { CoreStep D.meaning self.old
+            (Call.InstallMultipleProtocolInterfaces handle pairs.now) result self.new }
         ensures drivers { self.new.drivers ≡ self.old.drivers }
     {
         Reply::InstallMultipleProtocolInterfaces(match self.begin() {
@@ -284,7 +296,8 @@ impl<D: Driver, A: Allocator + Copy> Core<D, A> {
     /// handle. The drivers that have it open are stopped first.
     pub fn uninstall(&mut self, handle: u64, guid: Uuid, value: u64) -> Reply<A>
         requires { 0 < self.old.state.calls_left }
-        ensures step { Step (map D.meaning self.old.drivers) self.old.state (Call.UninstallProtocolInterface handle guid value) result self.new.state }
+        ensures step { CoreStep D.meaning self.old
+            (Call.UninstallProtocolInterface handle guid value) result self.new }
         ensures drivers { self.new.drivers ≡ self.old.drivers }
     {
         Reply::UninstallProtocolInterface(match self.begin() {
@@ -299,7 +312,8 @@ impl<D: Driver, A: Allocator + Copy> Core<D, A> {
     /// drivers that have it open are stopped, and connects the handle. The reply has the events.
     pub fn reinstall(&mut self, handle: u64, guid: Uuid, old_value: u64, new_value: u64) -> Reply<A>
         requires { 0 < self.old.state.calls_left }
-        ensures step { Step (map D.meaning self.old.drivers) self.old.state (Call.ReinstallProtocolInterface handle guid old_value new_value) result self.new.state }
+        ensures step { CoreStep D.meaning self.old
+            (Call.ReinstallProtocolInterface handle guid old_value new_value) result self.new }
         ensures drivers { self.new.drivers ≡ self.old.drivers }
     {
         Reply::ReinstallProtocolInterface(match self.begin() {
@@ -318,7 +332,8 @@ impl<D: Driver, A: Allocator + Copy> Core<D, A> {
     /// reply has the key of the registration.
     pub fn register_protocol_notify(&mut self, guid: Uuid, event: u64) -> Reply<A>
         requires { 0 < self.old.state.calls_left }
-        ensures step { Step (map D.meaning self.old.drivers) self.old.state (Call.RegisterProtocolNotify guid event) result self.new.state }
+        ensures step { CoreStep D.meaning self.old
+            (Call.RegisterProtocolNotify guid event) result self.new }
         ensures drivers { self.new.drivers ≡ self.old.drivers }
     {
         Reply::RegisterProtocolNotify(match self.begin() {
@@ -332,7 +347,8 @@ impl<D: Driver, A: Allocator + Copy> Core<D, A> {
     /// bytes each.
     pub fn locate_handle(&mut self, search: u32, guid: Uuid, key: u64, size: u64) -> Reply<A>
         requires { 0 < self.old.state.calls_left }
-        ensures step { Step (map D.meaning self.old.drivers) self.old.state (Call.LocateHandle search guid key size) result self.new.state }
+        ensures step { CoreStep D.meaning self.old
+            (Call.LocateHandle search guid key size) result self.new }
         ensures drivers { self.new.drivers ≡ self.old.drivers }
     {
         Reply::LocateHandle(match self.begin() {
@@ -348,7 +364,8 @@ impl<D: Driver, A: Allocator + Copy> Core<D, A> {
     /// LocateHandleBuffer: the handles of such a search in a pool block, which the caller frees.
     pub fn locate_handle_buffer(&mut self, search: u32, guid: Uuid, key: u64) -> Reply<A>
         requires { 0 < self.old.state.calls_left }
-        ensures step { Step (map D.meaning self.old.drivers) self.old.state (Call.LocateHandleBuffer search guid key) result self.new.state }
+        ensures step { CoreStep D.meaning self.old
+            (Call.LocateHandleBuffer search guid key) result self.new }
         ensures drivers { self.new.drivers ≡ self.old.drivers }
     {
         Reply::LocateHandleBuffer(match self.begin() {
@@ -368,7 +385,7 @@ impl<D: Driver, A: Allocator + Copy> Core<D, A> {
     /// it, else on the handle that is next for the key, which is taken.
     pub fn locate_protocol(&mut self, guid: Uuid, key: u64) -> Reply<A>
         requires { 0 < self.old.state.calls_left }
-        ensures step { Step (map D.meaning self.old.drivers) self.old.state (Call.LocateProtocol guid key) result self.new.state }
+        ensures step { CoreStep D.meaning self.old (Call.LocateProtocol guid key) result self.new }
         ensures drivers { self.new.drivers ≡ self.old.drivers }
     {
         Reply::LocateProtocol(match self.begin() {
@@ -380,7 +397,8 @@ impl<D: Driver, A: Allocator + Copy> Core<D, A> {
     /// ProtocolsPerHandle: the GUIDs on a handle, in order of installation.
     pub fn protocols_per_handle(&mut self, handle: u64) -> Reply<A>
         requires { 0 < self.old.state.calls_left }
-        ensures step { Step (map D.meaning self.old.drivers) self.old.state (Call.ProtocolsPerHandle handle) result self.new.state }
+        ensures step { CoreStep D.meaning self.old
+            (Call.ProtocolsPerHandle handle) result self.new }
         ensures drivers { self.new.drivers ≡ self.old.drivers }
     {
         Reply::ProtocolsPerHandle(match self.begin() {
@@ -399,7 +417,8 @@ impl<D: Driver, A: Allocator + Copy> Core<D, A> {
         attributes: u32,
     ) -> Reply<A>
         requires { 0 < self.old.state.calls_left }
-        ensures step { Step (map D.meaning self.old.drivers) self.old.state (Call.OpenProtocol handle guid agent controller attributes) result self.new.state }
+        ensures step { CoreStep D.meaning self.old
+            (Call.OpenProtocol handle guid agent controller attributes) result self.new }
         ensures drivers { self.new.drivers ≡ self.old.drivers }
     {
         Reply::OpenProtocol(match self.begin() {
@@ -424,7 +443,8 @@ impl<D: Driver, A: Allocator + Copy> Core<D, A> {
         controller: u64,
     ) -> Reply<A>
         requires { 0 < self.old.state.calls_left }
-        ensures step { Step (map D.meaning self.old.drivers) self.old.state (Call.CloseProtocol handle guid agent controller) result self.new.state }
+        ensures step { CoreStep D.meaning self.old
+            (Call.CloseProtocol handle guid agent controller) result self.new }
         ensures drivers { self.new.drivers ≡ self.old.drivers }
     {
         Reply::CloseProtocol(match self.begin() {
@@ -436,7 +456,8 @@ impl<D: Driver, A: Allocator + Copy> Core<D, A> {
     /// OpenProtocolInformation: the open items of an interface in a pool block, which the caller frees.
     pub fn open_protocol_information(&mut self, handle: u64, guid: Uuid) -> Reply<A>
         requires { 0 < self.old.state.calls_left }
-        ensures step { Step (map D.meaning self.old.drivers) self.old.state (Call.OpenProtocolInformation handle guid) result self.new.state }
+        ensures step { CoreStep D.meaning self.old
+            (Call.OpenProtocolInformation handle guid) result self.new }
         ensures drivers { self.new.drivers ≡ self.old.drivers }
     {
         Reply::OpenProtocolInformation(match self.begin() {
@@ -454,7 +475,8 @@ impl<D: Driver, A: Allocator + Copy> Core<D, A> {
     /// HandleProtocol: the value of the interface of a GUID on a handle.
     pub fn handle_protocol(&mut self, handle: u64, guid: Uuid) -> Reply<A>
         requires { 0 < self.old.state.calls_left }
-        ensures step { Step (map D.meaning self.old.drivers) self.old.state (Call.HandleProtocol handle guid) result self.new.state }
+        ensures step { CoreStep D.meaning self.old
+            (Call.HandleProtocol handle guid) result self.new }
         ensures drivers { self.new.drivers ≡ self.old.drivers }
     {
         Reply::HandleProtocol(match self.begin() {
@@ -467,7 +489,8 @@ impl<D: Driver, A: Allocator + Copy> Core<D, A> {
     /// set on the handles that this makes. The reply has the events.
     pub fn connect_controller(&mut self, handle: u64, named: &[u64], recursive: bool) -> Reply<A>
         requires { 0 < self.old.state.calls_left }
-        ensures step { Step (map D.meaning self.old.drivers) self.old.state (Call.ConnectController handle named.now recursive) result self.new.state }
+        ensures step { CoreStep D.meaning self.old
+            (Call.ConnectController handle named.now recursive) result self.new }
         ensures drivers { self.new.drivers ≡ self.old.drivers }
     {
         Reply::ConnectController(match self.begin() {
@@ -481,7 +504,8 @@ impl<D: Driver, A: Allocator + Copy> Core<D, A> {
     /// DisconnectController: stops the drivers that manage a handle, or one of them if `driver` is not 0.
     pub fn disconnect_controller(&mut self, handle: u64, driver: u64) -> Reply<A>
         requires { 0 < self.old.state.calls_left }
-        ensures step { Step (map D.meaning self.old.drivers) self.old.state (Call.DisconnectController handle driver) result self.new.state }
+        ensures step { CoreStep D.meaning self.old
+            (Call.DisconnectController handle driver) result self.new }
         ensures drivers { self.new.drivers ≡ self.old.drivers }
     {
         Reply::DisconnectController(match self.begin() {
@@ -496,7 +520,8 @@ impl<D: Driver, A: Allocator + Copy> Core<D, A> {
     /// of the path at an address in the pool.
     pub fn locate_device_path(&mut self, guid: Uuid, address: u64) -> Reply<A>
         requires { 0 < self.old.state.calls_left }
-        ensures step { Step (map D.meaning self.old.drivers) self.old.state (Call.LocateDevicePath guid address) result self.new.state }
+        ensures step { CoreStep D.meaning self.old
+            (Call.LocateDevicePath guid address) result self.new }
         ensures drivers { self.new.drivers ≡ self.old.drivers }
     {
         Reply::LocateDevicePath(match self.begin() {
@@ -510,7 +535,7 @@ impl<D: Driver, A: Allocator + Copy> Core<D, A> {
     /// INVALID_PARAMETER: another key.
     pub fn exit_boot_services(&mut self, key: u64) -> Reply<A>
         requires { 0 < self.old.state.calls_left }
-        ensures step { Step (map D.meaning self.old.drivers) self.old.state (Call.ExitBootServices key) result self.new.state }
+        ensures step { CoreStep D.meaning self.old (Call.ExitBootServices key) result self.new }
         ensures drivers { self.new.drivers ≡ self.old.drivers }
     {
         Reply::ExitBootServices(match self.begin() {
@@ -526,7 +551,7 @@ impl<D: Driver, A: Allocator + Copy> Core<D, A> {
     /// The service that a call names.
     pub fn call(&mut self, call: &Call<A>) -> Reply<A>
         requires { 0 < self.old.state.calls_left }
-        ensures step { Step (map D.meaning self.old.drivers) self.old.state call.now result self.new.state }
+        ensures step { CoreStep D.meaning self.old call.now result self.new }
         ensures drivers { self.new.drivers ≡ self.old.drivers }
     {
         match call {
@@ -611,7 +636,9 @@ impl<D: Driver, A: Allocator + Copy> Core<D, A> {
     /// An `Err` means that there was no memory for the replies; then no call was made.
     pub fn run(&mut self, calls: &[Call<A>]) -> Result<Vec<Reply<A>, A>, AllocError>
         requires { length calls.now ≤ self.old.state.calls_left }
-        ensures runs { IfOk result (λ replies. CallRun (map D.meaning self.old.drivers) self.old.state calls.now replies.items self.new.state) }
+        ensures runs { IfOk result (λ replies.
+            CallRun (map D.meaning self.old.drivers) self.old.state calls.now replies.items
+            self.new.state) }
         ensures drivers { self.new.drivers ≡ self.old.drivers }
         ensures refused { OnErr result (self.new ≡ self.old) }
     {

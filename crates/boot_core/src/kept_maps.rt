@@ -1,7 +1,6 @@
 //! The memory map before a call, for the certificate that the reply may carry.
 ghost use Rattle.std.specs.Prelude.{◌≡◌, IfOk, option_map};
-ghost use Rattle.page_ranges.specs.MemoryMap.{memory_map};
-ghost use Rattle.boot_replies.specs.Certified.{map_before};
+ghost use Rattle.boot_core.specs.Machines.{kept_map, map_of};
 
 use crate::core_state::Core;
 use boot_calls::Call;
@@ -17,7 +16,8 @@ pub fn map_before<D: Driver, A: Allocator + Copy>(
     call: &Call<A>,
     certify: bool,
 ) -> Result<Option<Vec<Descriptor, A>>, AllocError>
-    ensures { IfOk result (λ kept. option_map (λ entries. entries.items) kept ≡ map_before certify core.now.state.parts.book.granule (memory_map core.now.state.parts.book.memory) call.now) }
+    ensures { IfOk result (λ kept. option_map (λ entries. entries.items) kept
+        ≡ kept_map certify core.now.state call.now) }
 {
     if certify && may_be_certified(core.granule(), call) {
         Ok(Some(entries_of(alloc, core)?))
@@ -31,7 +31,7 @@ fn entries_of<D: Driver, A: Allocator + Copy>(
     alloc: A,
     core: &Core<D, A>,
 ) -> Result<Vec<Descriptor, A>, AllocError>
-    ensures { IfOk result (λ entries. entries.items ≡ memory_map core.now.state.parts.book.memory) }
+    ensures { IfOk result (λ entries. entries.items ≡ map_of core.now.state) }
 {
     let mut entries = Vec::new(alloc);
     for entry in core.map_entries() {

@@ -3,6 +3,7 @@ ghost use Rattle.std.specs.Prelude.{◌≡◌, ◌<◌, ◌^◌};
 ghost use Rattle.page_services.specs.PageRules.{IsBestChoice};
 ghost use Rattle.pool_services.specs.PoolRules.{OwnsExtents};
 ghost use Rattle.protocol_services.specs.Lists.{IsRaised};
+ghost use Rattle.boot_core.specs.Machines.{parts_of};
 ghost use Rattle.boot_core.specs.PoolLists.{ListsOpens, LocatesBuffer};
 
 use boot_replies::{LIST_TYPE, PoolList};
@@ -29,7 +30,9 @@ pub(crate) fn locate_buffer<A: Allocator + Copy>(
     requires key { book.old.key < 2 ^ 62 }
     requires owns { OwnsExtents book.old.memory pools.old }
     ensures raised { IsRaised protocols.old protocols.new }
-    ensures locates { LocatesBuffer IsBestChoice (record { book = book.old; pools = pools.old; lists = protocols.old }) search guid key result (record { book = book.new; pools = pools.new; lists = protocols.new }) }
+    ensures locates { LocatesBuffer IsBestChoice
+        (parts_of book.old pools.old protocols.old) search guid key result
+        (parts_of book.new pools.new protocols.new) }
 {
     let found = protocols.find(search, guid, key, u64::MAX);
     if found.status != Status::Success {
@@ -62,7 +65,9 @@ pub(crate) fn list_opens<A: Allocator + Copy>(
 ) -> Result<PoolList<A>, Status>
     requires key { book.old.key < 2 ^ 62 }
     requires owns { OwnsExtents book.old.memory pools.old }
-    ensures lists { ListsOpens IsBestChoice (record { book = book.old; pools = pools.old; lists = protocols.now }) handle guid result (record { book = book.new; pools = pools.new; lists = protocols.now }) }
+    ensures lists { ListsOpens IsBestChoice
+        (parts_of book.old pools.old protocols.now) handle guid result
+        (parts_of book.new pools.new protocols.now) }
 {
     let items = protocols.items(handle, guid)?;
     if items.is_empty() {

@@ -31,8 +31,10 @@ impl<A: Allocator> Machine<A> {
     /// order, disjoint, nonempty, of the machine's own, below page 2^52 and of types that a machine
     /// may have, where conventional memory carries RUNTIME, or where the granule is neither 1 nor 16.
     pub fn new(runs: Vec<Run, A>, granule: u64) -> Option<Machine<A>>
-        ensures valid { IsSome result ↔ IsMachine (record { runs = runs.items; granule = granule }) }
-        ensures machine { IfSome result (λ machine. machine ≡ record { runs = runs.items; granule = granule }) }
+        ensures valid { IsSome result
+            ↔ IsMachine (record { runs = runs.items; granule = granule }) }
+        ensures machine { IfSome result
+            (λ machine. machine ≡ record { runs = runs.items; granule = granule }) }
     {
         if is_granule(granule) && are_machine_runs(runs.as_slice()) {
             Some(Machine { runs, granule })

@@ -54,7 +54,8 @@ certificate_in answer = None
 abbrev pub certified : {A : Type 0} → ℕ → Call A → Reply A → Option (Request × CertificateValue)
 certified granule c answer =
     option_and_then
-    (λ r. option_map (λ certificate. (r, certificate)) (certificate_in answer)) (request_for granule c answer)
+    (λ r. option_map (λ certificate. (r, certificate)) (certificate_in answer))
+    (request_for granule c answer)
 
 -- whether a reply to the call on a machine with a granule may carry a certificate
 abbrev pub may_be_certified : {A : Type 0} → ℕ → Call A → Bool

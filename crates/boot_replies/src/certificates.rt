@@ -27,7 +27,8 @@ pub fn certified<'a, A: Allocator>(
     call: &Call<A>,
     reply: &'a Reply<A>,
 ) -> Option<(Request, &'a Certificate<A>)>
-    ensures { option_map (λ returned. (returned.0, returned.1.now)) result ≡ certified granule call.now reply.now }
+    ensures { option_map (λ returned. (returned.0, returned.1.now)) result
+        ≡ certified granule call.now reply.now }
 {
     match (request_for(granule, call, reply), certificate_in(reply)) {
         (Some(request), Some(certificate)) => Some((request, certificate)),

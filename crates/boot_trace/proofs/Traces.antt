@@ -27,7 +27,7 @@ prints_more A ds certify number (l ∷ lines) line old mid new text more h p =
     let rest = prints_more A ds certify (number + 1) lines line h.0 mid new h.2 more h.4 (subst (λ (n : ℕ). Prints A ds certify n (line_of line) mid more new) next p) in
     (h.0, h.1, h.2 ++ more, h.3, rest, ap (λ (t : List ℕ). t ++ more) h.5 ∙ append_assoc h.1 h.2 more)
 
--- So many lines have been read, and their text is written; these bytes are left.
+-- This number of lines is read, and their text is written; these bytes are left.
 pub record AtLine (A : Type 0) (ds : List Meaning) (certify : Bool) (bytes : List ℕ) (count : ℕ) (old new : State) (before after left : Option (List ℕ)) : Type 0 where
   pub rest : List ℕ
   pub left_is : left ≡ Some rest

@@ -30,10 +30,12 @@ abbrev pub OfLine : Type 0 → Type 1
 OfLine A = ℕ → Result (Option (TraceCall A)) TraceFault → State → List ℕ → State → Type 0
 
 -- it holds of each of the lines that printed the text
-abbrev pub OfEachLine : (A : Type 0) (ds : List Meaning) (certify : Bool) (Is : OfLine A) (number : ℕ) (lines : List (List ℕ)) (old : State) (text : List ℕ) (new : State)
+abbrev pub OfEachLine : (A : Type 0) (ds : List Meaning) (certify : Bool) (Is : OfLine A)
+    (number : ℕ) (lines : List (List ℕ)) (old : State) (text : List ℕ) (new : State)
     → PrintsAll A ds certify number lines old text new → Type 0
 OfEachLine A ds certify Is number [] old text new done = Unit {0}
-OfEachLine A ds certify Is number (line ∷ lines) old text new (mid, first, rest, prints, more, whole) =
+OfEachLine A ds certify Is number (line ∷ lines) old text new
+    (mid, first, rest, prints, more, whole) =
     Is number (line_of line) old first mid
     × OfEachLine A ds certify Is (number + 1) lines mid rest new more
 
@@ -41,9 +43,13 @@ OfEachLine A ds certify Is number (line ∷ lines) old text new (mid, first, res
 -- returns certificates or not
 abbrev pub OfRun : (A : Type 0) → List Meaning → Bool → OfLine A → Type 0
 OfRun A ds certify Is =
-    (certifies : Bool) (file bytes : List ℕ) (machine : ListedMachine) (count : ℕ) (new : State) (before after : Option (List ℕ)) (wrote : Wrote A ds certify bytes count (first_state_with certifies machine.machine) new before after) →
+    (certifies : Bool) (file bytes : List ℕ) (machine : ListedMachine) (count : ℕ) (new : State)
+    (before after : Option (List ℕ))
+    (wrote : Wrote A ds certify bytes count
+    (first_state_with certifies machine.machine) new before after) →
     machine_of file ≡ Ok machine → count ≤ most_lines
-    → OfEachLine A ds certify Is 1 (take count (lines_of bytes)) (first_state_with certifies machine.machine) wrote.text new wrote.prints
+    → OfEachLine A ds certify Is 1 (take count (lines_of bytes))
+    (first_state_with certifies machine.machine) wrote.text new wrote.prints
 
 -- ---- certificates
 
@@ -52,8 +58,12 @@ OfRun A ds certify Is =
 -- these, and its check answers that it is accepted.
 abbrev pub PrintsAcceptedBlock : (A : Type 0) → List Meaning → OfLine A
 PrintsAcceptedBlock A ds number (Ok (Some (trace_call.Service c))) old text new =
-    (answer : Reply A) × (entries : List Descriptor) × Step ds old c answer new × (text ≡ reply_text number entries answer ++ certificate_text (memory_map old.parts.book.memory) (certified old.parts.book.granule c answer)) ×
-    IfSome (certified old.parts.book.granule c answer) (λ returned. IsAcceptedBlock (memory_map old.parts.book.memory) returned.0 returned.1)
+    (answer : Reply A) × (entries : List Descriptor) × Step ds old c answer new
+    × (text ≡ reply_text number entries answer
+    ++ certificate_text (memory_map old.parts.book.memory)
+    (certified old.parts.book.granule c answer)) ×
+    IfSome (certified old.parts.book.granule c answer)
+    (λ returned. IsAcceptedBlock (memory_map old.parts.book.memory) returned.0 returned.1)
 PrintsAcceptedBlock A ds number asks old text new = Unit {0}
 
 -- So it is of each call of a run with certificates.
@@ -66,8 +76,13 @@ PrintedBlocksLaw A = (ds : List Meaning) → OfRun A ds true (PrintsAcceptedBloc
 -- printed.
 abbrev pub PrintsReadMap : (A : Type 0) → List Meaning → OfLine A
 PrintsReadMap A ds number (Ok (Some (trace_call.Service (call.GetMemoryMap size)))) old text new =
-    (returned : MapReply) × (bytes : Vec ℕ A) × Step ds old (call.GetMemoryMap size) (reply.GetMemoryMap returned bytes) new ×
-    (returned.status ≡ Success → ((found : Option (List Descriptor)) → ReadsRecords bytes.items found → found ≡ Some (memory_map old.parts.book.memory)) × (text ≡ reply_text number (memory_map old.parts.book.memory) (reply.GetMemoryMap returned bytes)))
+    (returned : MapReply) × (bytes : Vec ℕ A)
+    × Step ds old (call.GetMemoryMap size) (reply.GetMemoryMap returned bytes) new ×
+    (returned.status ≡ Success
+    → ((found : Option (List Descriptor)) → ReadsRecords bytes.items found
+    → found ≡ Some (memory_map old.parts.book.memory))
+    × (text ≡ reply_text number (memory_map old.parts.book.memory)
+    (reply.GetMemoryMap returned bytes)))
 PrintsReadMap A ds number asks old text new = Unit {0}
 
 -- So it is of each call of a run.
@@ -78,7 +93,8 @@ PrintedMapsLaw A = (ds : List Meaning) (certify : Bool) → OfRun A ds certify (
 -- spell them.
 abbrev pub MapEntriesLaw : Type 0 → Type 0
 MapEntriesLaw A =
-    (ds : List Meaning) (old : State) (size : ℕ) (returned : MapReply) (bytes : Vec ℕ A) (new : State) (entries : List Descriptor) →
+    (ds : List Meaning) (old : State) (size : ℕ) (returned : MapReply) (bytes : Vec ℕ A)
+    (new : State) (entries : List Descriptor) →
     AllByRecursion IsRecordEntry (memory_map old.parts.book.memory)
     → Step ds old (call.GetMemoryMap size) (reply.GetMemoryMap returned bytes) new
     → returned.status ≡ Success →

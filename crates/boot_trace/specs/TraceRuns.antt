@@ -1,10 +1,11 @@
 -- What a trace prints, and how it leaves the machine.
-use Rattle.std.specs.Prelude.{◌≡◌, ◌⊎◌, ℕ, ◌+◌, ◌<◌, ◌≤◌, Bool, List, [], ◌∷◌, ◌++◌, length, take, Option, Some, None, Result, Ok, Err}
+use Rattle.std.specs.Prelude.{◌≡◌, ◌⊎◌, ℕ, ◌+◌, ◌<◌, ◌≤◌, Bool, List, [], ◌∷◌, ◌++◌, length, map, take, Option, Some, None, IfSome, Result, Ok, Err}
 use Rattle.std.specs.Io.KnownBytes.{Appends}
 use Rattle.page_ranges.specs.MemoryMap.{memory_map}
 use Rattle.driver_connect.specs.Drivers.{Meaning}
 use Rattle.boot_replies.specs.declared.replies.Reply.{Reply}
-use Rattle.boot_core.specs.Machines.{State}
+use Rattle.boot_calls.specs.declared.calls.Call.{Call}
+use Rattle.boot_core.specs.Machines.{CoreValue, State}
 use Rattle.boot_core.specs.Steps.{Step}
 use Rattle.trace_lines.specs.declared.lines.TraceCall.{TraceCall}
 use Rattle.trace_lines.specs.declared.lines.TraceCall.TheVariants as trace_call
@@ -28,6 +29,10 @@ Prints A ds certify number (Ok (Some (trace_call.Service c))) old text new =
     (answer : Reply A) × Step ds old c answer new
     × PrintsCall certify number old.parts.book c answer text
 Prints A ds certify number (Err e) old text new = ⊥
+
+-- a line that asks for this call
+abbrev pub asking : {A : Type 0} → Call A → Result (Option (TraceCall A)) TraceFault
+asking c = Ok (Some (trace_call.Service c))
 
 -- the line asks for a call
 abbrev pub AsksForCall : (A : Type 0) → Result (Option (TraceCall A)) TraceFault → Type 0
@@ -63,7 +68,8 @@ PrintsAll A ds certify number (line ∷ lines) old text new =
     × PrintsAll A ds certify (number + 1) lines mid rest new × (text ≡ first ++ rest)
 
 -- The text of a number of first lines of the bytes was written, and nothing else.
-pub record Wrote (A : Type 0) (ds : List Meaning) (certify : Bool) (bytes : List ℕ) (count : ℕ) (old new : State) (before after : Option (List ℕ)) : Type 0 where
+pub record Wrote (A : Type 0) (ds : List Meaning) (certify : Bool) (bytes : List ℕ) (count : ℕ)
+    (old new : State) (before after : Option (List ℕ)) : Type 0 where
   pub text : List ℕ
   pub prints : PrintsAll A ds certify 1 (take count (lines_of bytes)) old text new
   pub written : Appends before after text
@@ -80,7 +86,8 @@ pub record HasLine (bytes : List ℕ) (count : ℕ) (line : List ℕ) : Type 0 w
   pub counted : length front ≡ count
 
 -- The text of a number of first lines was written whole, and of the text of the next a front.
-pub record WroteFront (A : Type 0) (ds : List Meaning) (certify : Bool) (bytes : List ℕ) (count : ℕ) (old new : State) (before after : Option (List ℕ)) : Type 0 where
+pub record WroteFront (A : Type 0) (ds : List Meaning) (certify : Bool) (bytes : List ℕ)
+    (count : ℕ) (old new : State) (before after : Option (List ℕ)) : Type 0 where
   pub mid : State
   pub middle : Option (List ℕ)
   pub whole : Wrote A ds certify bytes count old mid before middle
@@ -93,10 +100,12 @@ pub record WroteFront (A : Type 0) (ds : List Meaning) (certify : Bool) (bytes :
 
 -- The text of a number of first lines was written; the next line's call may have been made, and
 -- nothing of it is written.
-pub record WroteBefore (A : Type 0) (ds : List Meaning) (certify : Bool) (bytes : List ℕ) (count : ℕ) (old new : State) (before after : Option (List ℕ)) : Type 0 where
+pub record WroteBefore (A : Type 0) (ds : List Meaning) (certify : Bool) (bytes : List ℕ)
+    (count : ℕ) (old new : State) (before after : Option (List ℕ)) : Type 0 where
   pub mid : State
   pub whole : Wrote A ds certify bytes count old mid before after
-  pub next : (new ≡ mid) ⊎ ((line : List ℕ) × HasLine bytes count line × MakesCall A ds (line_of line) mid new)
+  pub next : (new ≡ mid)
+      ⊎ ((line : List ℕ) × HasLine bytes count line × MakesCall A ds (line_of line) mid new)
 
 -- How a run on a trace of known bytes ends. What is written is the text of all its lines, or of
 -- those before the one that stopped the run, and the machine is in the state after their calls. No
@@ -123,3 +132,22 @@ Ends A ds certify bytes old new before after (Err fault.Write) =
     (count : ℕ) × (count < most_lines) × WroteFront A ds certify bytes count old new before after
 Ends A ds certify bytes old new before after (Err fault.OutOfMemory) =
     (count : ℕ) × (count < most_lines) × WroteBefore A ds certify bytes count old new before after
+
+-- ---- the same of a core, with drivers that answer as its own
+
+abbrev pub CorePrints : {D : Type 0} → (A : Type 0) → (D → Meaning) → Bool → ℕ
+    → Result (Option (TraceCall A)) TraceFault → CoreValue D → List ℕ → CoreValue D → Type 0
+CorePrints A meaning certify number asks old text new =
+    Prints A (map meaning old.drivers) certify number asks old.state text new.state
+
+abbrev pub CoreStopsAt : {D : Type 0} → (A : Type 0) → (D → Meaning) → Bool → RunFault → ℕ
+    → Result (Option (TraceCall A)) TraceFault → CoreValue D → CoreValue D → Type 0
+CoreStopsAt A meaning certify fault number asks old new =
+    StopsAt A (map meaning old.drivers) certify fault number asks old.state new.state
+
+abbrev pub CoreEnds : {D : Type 0} → (A : Type 0) → (D → Meaning) → Bool → Option (List ℕ)
+    → CoreValue D → CoreValue D → Option (List ℕ) → Option (List ℕ) → Result (Unit {0}) RunFault
+    → Type 0
+CoreEnds A meaning certify bytes old new before after end =
+    IfSome bytes
+    (λ known. Ends A (map meaning old.drivers) certify known old.state new.state before after end)

@@ -1,6 +1,7 @@
 //! The lines of a listing of the memory map.
-ghost use Rattle.std.specs.Prelude.{◌≡◌, ◌++◌, OnOk, flat_map, string_bytes};
-ghost use Rattle.page_ranges.specs.MemoryMap.{memory_map};
+ghost use Rattle.std.specs.Prelude.{OnOk, flat_map};
+ghost use Rattle.text_lines.specs.Printed.{Gains};
+ghost use Rattle.boot_core.specs.Machines.{map_of};
 ghost use Rattle.reply_texts.specs.PrintedText.{list_text, descriptor_line};
 
 use boot_core::Core;
@@ -15,7 +16,7 @@ pub(crate) fn print_list<D: Driver, A: Allocator + Copy>(
     number: u64,
     core: &Core<D, A>,
 ) -> Result<(), AllocError>
-    ensures { OnOk result (string_bytes text.new ≡ string_bytes text.old ++ list_text number (memory_map core.now.state.parts.book.memory)) }
+    ensures { OnOk result (Gains text.old text.new (list_text number (map_of core.now.state))) }
 {
     let verb = Verb::List.name();
     let descriptors = core.descriptors();
@@ -28,7 +29,8 @@ fn print_map_entries<D: Driver, A: Allocator + Copy>(
     text: &mut String<A>,
     core: &Core<D, A>,
 ) -> Result<(), AllocError>
-    ensures { OnOk result (string_bytes text.new ≡ string_bytes text.old ++ flat_map descriptor_line (memory_map core.now.state.parts.book.memory)) }
+    ensures { OnOk result
+        (Gains text.old text.new (flat_map descriptor_line (map_of core.now.state))) }
 {
     for entry in core.map_entries() {
         print_descriptor(text, &entry)?;

@@ -1,7 +1,7 @@
 //! A trace, run.
-ghost use Rattle.std.specs.Prelude.{◌≡◌, [], Ok, Some, OnOk, IfErr, IfSome, map, string_bytes};
+ghost use Rattle.std.specs.Prelude.{◌≡◌, [], OnOk, IfErr, string_bytes};
 ghost use Rattle.trace_lines.specs.TraceLine.{line_of};
-ghost use Rattle.boot_trace.specs.TraceRuns.{Prints, StopsAt, Ends};
+ghost use Rattle.boot_trace.specs.TraceRuns.{CoreEnds, CorePrints, CoreStopsAt, asking};
 
 use crate::faults::RunFault;
 use crate::listings::print_list;
@@ -14,7 +14,7 @@ use text_lines::{LineFault, next_byte, next_line, write_text};
 use trace_lines::{TraceCall, TraceFault, read_call};
 
 /// The most lines of a trace.
-pub const MOST_LINES: u64 = 1_000_000;
+pub const MAX_LINES: u64 = 1_000_000;
 
 /// Makes the calls of a trace, and writes the reply to each before the next line is read; with
 /// `certify`, the block of a reply's certificate after it.
@@ -25,7 +25,8 @@ pub fn run<D: Driver, A: Allocator + Copy, R: Read + Drop, W: Write>(
     writer: &mut W,
     certify: bool,
 ) -> Result<(), RunFault>
-    ensures ends { IfSome (R.remaining reader) (λ bytes. Ends A (map D.meaning core.old.drivers) certify bytes core.old.state core.new.state (W.contents writer.old) (W.contents writer.new) result) }
+    ensures ends { CoreEnds A D.meaning certify (R.remaining reader) core.old core.new
+        (W.contents writer.old) (W.contents writer.new) result }
     ensures drivers { core.new.drivers ≡ core.old.drivers }
 {
     let Ok(mut reader) = BufReader::new(alloc, reader) else {
@@ -33,7 +34,7 @@ pub fn run<D: Driver, A: Allocator + Copy, R: Read + Drop, W: Write>(
     };
     let mut line = Vec::new(alloc);
     let mut text = String::new(alloc);
-    for done in 0..MOST_LINES {
+    for done in 0..MAX_LINES {
         match next_line(&mut reader, &mut line) {
             Ok(true) => {}
             Ok(false) => return Ok(()),
@@ -67,9 +68,12 @@ fn run_line<D: Driver, A: Allocator + Copy>(
     text: &mut String<A>,
 ) -> Result<(), RunFault>
     requires { string_bytes text.old ≡ [] }
-    ensures ok { OnOk result (Prints A (map D.meaning core.old.drivers) certify number (line_of line.now) core.old.state (string_bytes text.new) core.new.state) }
+    ensures ok { OnOk result
+        (CorePrints A D.meaning certify number (line_of line.now) core.old
+        (string_bytes text.new) core.new) }
     ensures drivers { core.new.drivers ≡ core.old.drivers }
-    ensures err { IfErr result (λ fault. StopsAt A (map D.meaning core.old.drivers) certify fault number (line_of line.now) core.old.state core.new.state) }
+    ensures err { IfErr result (λ fault.
+        CoreStopsAt A D.meaning certify fault number (line_of line.now) core.old core.new) }
 {
     match read_call(alloc, line) {
         Ok(None) => Ok(()),
@@ -93,9 +97,12 @@ fn make_call<D: Driver, A: Allocator + Copy>(
     text: &mut String<A>,
 ) -> Result<(), RunFault>
     requires { string_bytes text.old ≡ [] }
-    ensures ok { OnOk result (Prints A (map D.meaning core.old.drivers) certify number (Ok (Some (TraceCall.Service call.now))) core.old.state (string_bytes text.new) core.new.state) }
+    ensures ok { OnOk result
+        (CorePrints A D.meaning certify number (asking call.now) core.old
+        (string_bytes text.new) core.new) }
     ensures drivers { core.new.drivers ≡ core.old.drivers }
-    ensures err { IfErr result (λ fault. StopsAt A (map D.meaning core.old.drivers) certify fault number (Ok (Some (TraceCall.Service call.now))) core.old.state core.new.state) }
+    ensures err { IfErr result (λ fault.
+        CoreStopsAt A D.meaning certify fault number (asking call.now) core.old core.new) }
 {
     if core.calls_left() == 0 {
         return Err(RunFault::NoCallsLeft);

@@ -1,5 +1,6 @@
 -- A core as a caller in C has it.
-use Rattle.std.specs.Prelude.{◌≡◌, ℕ, Bool, true, List, [], map, Option, Some, None}
+use Rattle.std.specs.Prelude.{◌≡◌, ℕ, Bool, true, List, [], map, Option, Some, None, option_map, Result, MatchResult, Vec}
+use Rattle.std.specs.declared.alloc.AllocError.{AllocError}
 use Rattle.std.specs.List.{list_all}
 use Rattle.page_ranges.specs.declared.ranges.Descriptor.{Descriptor}
 use Rattle.placement_certificate.specs.declared.certificates.Request.{Request}
@@ -31,6 +32,11 @@ certifying_core certifies c = record {
   block = c.block;
 }
 
+-- the same core, with this reply and this block as those of the last call
+abbrev pub with_last : {A : Type 0} → EfiCoreValue A → Reply A → LastBlock A → EfiCoreValue A
+with_last c answer left =
+    record { core = c.core; certifies = c.certifies; last = Some answer; block = left }
+
 -- what a driver with fixed answers means
 abbrev pub table_meaning : TableDriver → Meaning
 table_meaning d = record { version = d.version; supports = λ s. list_all (is_free s.protocols) d.needs.items; plan = λ s. d.plan; may_stop = λ s. d.stops }
@@ -48,6 +54,14 @@ LeavesBlock certifies (Some entries) (Some (r, certificate)) (block.Text bytes) 
 LeavesBlock certifies kept returned (block.Text bytes) = ⊥
 LeavesBlock certifies (Some entries) (Some returned) block.Nothing = ⊥
 LeavesBlock certifies kept returned block.Nothing = Unit {0}
+
+-- The same where certificates are kept, after the map was to be kept, for which memory may run out.
+abbrev pub KeepsBlock : {A : Type 0} → Result (Option (Vec Descriptor A)) AllocError
+    → Option (Request × CertificateValue) → LastBlock A → Type 0
+KeepsBlock before returned left =
+    MatchResult before
+    (λ kept. LeavesBlock true (option_map (λ entries. entries.items) kept) returned left)
+    (λ e. left ≡ block.OutOfMemory)
 
 -- the events that a reply has, if there is one
 abbrev pub events_if : {A : Type 0} → Option (Reply A) → List ℕ

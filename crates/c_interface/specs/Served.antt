@@ -1,6 +1,5 @@
 -- What a call through C does.
 use Rattle.std.specs.Prelude.{◌≡◌, ◌⊎◌, ℕ, ◌*◌, ◌<◌, ◌≤◌, min, List, length, map, Option, Some, None, Ok, Err}
-use Rattle.page_ranges.specs.MemoryMap.{memory_map}
 use Rattle.page_ranges.specs.Statuses.{status_number}
 use Rattle.page_ranges.specs.declared.statuses.Status.{Status}
 use Rattle.page_ranges.specs.declared.statuses.Status.TheVariants.{Success, BufferTooSmall, NotFound, OutOfResources}
@@ -12,7 +11,7 @@ use Rattle.boot_replies.specs.declared.replies.Reply.{Reply}
 use Rattle.boot_replies.specs.declared.replies.Reply.TheVariants as reply
 use Rattle.boot_replies.specs.Certified.{certified}
 use Rattle.boot_core.specs.Steps.{MapStep, ReadStep, Step}
-use Rattle.boot_replies.specs.Certified.{map_before}
+use Rattle.boot_core.specs.Machines.{kept_map}
 use Rattle.c_interface.specs.declared.efi_core.LastBlock.{LastBlock}
 use Rattle.c_interface.specs.declared.efi_core.LastBlock.TheVariants as block
 use Rattle.c_machines.specs.declared.guids.Guid.{Guid}
@@ -30,7 +29,8 @@ pub record Serves {A : Type 0} (old : EfiCoreValue A) (c : Call A) (answer : Rep
   pub step : Step (meanings old) old.core.state c answer new.core.state
   pub drivers : new.core.drivers ≡ old.core.drivers
   pub certifies : new.certifies ≡ old.certifies
-  pub block : LeavesBlock old.certifies (map_before old.certifies old.core.state.parts.book.granule (memory_map old.core.state.parts.book.memory) c) (certified old.core.state.parts.book.granule c answer) new.block
+  pub block : LeavesBlock old.certifies (kept_map old.certifies old.core.state c)
+      (certified old.core.state.parts.book.granule c answer) new.block
   pub last : new.last ≡ Some answer
 
 -- No call can be made any more: the core is as it was, with nothing left of the call before.

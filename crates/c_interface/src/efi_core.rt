@@ -1,9 +1,9 @@
 //! A core that answers a caller in C.
-ghost use Rattle.std.specs.Prelude.{◌≡◌, false, length, None, Some, true, option_map, IfOk, MatchResult};
-ghost use Rattle.page_ranges.specs.MemoryMap.{memory_map};
+ghost use Rattle.std.specs.Prelude.{◌≡◌, false, length, None, Some, true, option_map, IfOk};
+ghost use Rattle.c_interface.specs.EfiCores.{KeepsBlock, with_last};
 ghost use Rattle.page_ranges.specs.Statuses.{status_number};
 ghost use Rattle.boot_replies.specs.Certified.{certified};
-ghost use Rattle.boot_replies.specs.Certified.{map_before};
+ghost use Rattle.boot_core.specs.Machines.{kept_map};
 ghost use Rattle.c_interface.specs.Buffers.{laid};
 ghost use Rattle.c_interface.specs.EfiCores.{LeavesBlock, certifying_core, forgotten, last_events};
 ghost use Rattle.c_interface.specs.Replies.{number_in, returned_or, status_in};
@@ -81,7 +81,8 @@ impl<A: Allocator + Copy> EfiCore<A> {
 
     // The memory map before a call, where the block of its certificate is kept.
     fn map_before(&self, call: &Call<A>) -> Result<Option<Vec<Descriptor, A>>, AllocError>
-        ensures { IfOk result (λ kept. option_map (λ entries. entries.items) kept ≡ map_before self.now.certifies self.now.core.state.parts.book.granule (memory_map self.now.core.state.parts.book.memory) call.now) }
+        ensures { IfOk result (λ kept. option_map (λ entries. entries.items) kept
+            ≡ kept_map self.now.certifies self.now.core.state call.now) }
     {
         map_before(self.alloc, &self.core, call, self.certifies)
     }
@@ -94,7 +95,8 @@ impl<A: Allocator + Copy> EfiCore<A> {
         call: &Call<A>,
         reply: &Reply<A>,
     ) -> LastBlock<A>
-        ensures kept { self.now.certifies ≡ true → MatchResult before.now (λ kept. LeavesBlock true (option_map (λ entries. entries.items) kept) (certified granule call.now reply.now) result) (λ e. result ≡ LastBlock.OutOfMemory) }
+        ensures kept { self.now.certifies ≡ true
+            → KeepsBlock before.now (certified granule call.now reply.now) result }
         ensures none { self.now.certifies ≡ false → result ≡ LastBlock.Nothing }
     {
         if self.certifies {
@@ -106,7 +108,7 @@ impl<A: Allocator + Copy> EfiCore<A> {
 
     // Keeps what is left of a call.
     fn keep(&mut self, reply: Reply<A>, block: LastBlock<A>)
-        ensures { self.new ≡ record { core = self.old.core; certifies = self.old.certifies; last = Some reply; block = block } }
+        ensures { self.new ≡ with_last self.old reply block }
     {
         self.last = Some(reply);
         self.block = block;
@@ -115,7 +117,7 @@ impl<A: Allocator + Copy> EfiCore<A> {
     /// Keeps the reply to a call that carries no certificate, and answers its status.
     pub(crate) fn tell(&mut self, reply: Reply<A>) -> u64
         ensures status { result ≡ status_number (status_in reply) }
-        ensures core { self.new ≡ record { core = self.old.core; certifies = self.old.certifies; last = Some reply; block = LastBlock.Nothing } }
+        ensures core { self.new ≡ with_last self.old reply LastBlock.Nothing }
     {
         let status = status_in(&reply).number();
         self.keep(reply, LastBlock::Nothing);
@@ -244,7 +246,7 @@ fn block_of<A: Allocator + Copy>(
     call: &Call<A>,
     reply: &Reply<A>,
 ) -> LastBlock<A>
-    ensures { MatchResult before.now (λ kept. LeavesBlock true (option_map (λ entries. entries.items) kept) (certified granule call.now reply.now) result) (λ e. result ≡ LastBlock.OutOfMemory) }
+    ensures { KeepsBlock before.now (certified granule call.now reply.now) result }
 {
     let Ok(before) = before else {
         return LastBlock::OutOfMemory;

@@ -32,7 +32,13 @@ is_aligned bytes = start_in bytes % page_size == 0
 
 -- the run that a record describes, the machine's own
 abbrev pub run_in : List ℕ → Run
-run_in bytes = record { range = record { first = start_in bytes / page_size; pages = number_at 24 8 bytes }; mtype = number_at 0 4 bytes; attributes = number_at 32 8 bytes; owner = Given }
+run_in bytes =
+    record {
+      range = record { first = start_in bytes / page_size; pages = number_at 24 8 bytes };
+      mtype = number_at 0 4 bytes;
+      attributes = number_at 32 8 bytes;
+      owner = Given;
+    }
 
 -- ---- records of one size, one behind the other
 
@@ -47,7 +53,9 @@ records_in size bytes = first_chunks size (length bytes / size) bytes
 -- The bytes are a whole number of records of that size, which is none too small, there are no more
 -- than the limit, and each starts where a page begins.
 abbrev pub are_records : ℕ → List ℕ → Bool
-are_records size bytes = nat_le least_size size && (length bytes % size == 0) && nat_le (length bytes / size) most_records && list_all is_aligned (records_in size bytes)
+are_records size bytes =
+    nat_le least_size size && (length bytes % size == 0)
+    && nat_le (length bytes / size) most_records && list_all is_aligned (records_in size bytes)
 
 -- the runs that records describe, in their order
 abbrev pub runs_in : ℕ → List ℕ → List Run
@@ -73,5 +81,6 @@ pub record IsReturned (size : ℕ) (bytes : List ℕ) (g : ℕ) (m : MachineValu
 -- of memory.
 abbrev pub MakesMachine : ℕ → List ℕ → ℕ → Result MachineValue MachineFault → Type 0
 MakesMachine size bytes granule (Ok m) = IsReturned size bytes granule m
-MakesMachine size bytes granule (Err Invalid) = (m : MachineValue) → IsMachine m → ¬ IsReturned size bytes granule m
+MakesMachine size bytes granule (Err Invalid) =
+    (m : MachineValue) → IsMachine m → ¬ IsReturned size bytes granule m
 MakesMachine size bytes granule (Err OutOfMemory) = Unit {0}

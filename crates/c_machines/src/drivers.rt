@@ -1,9 +1,9 @@
 //! Drivers as C has them, in tables.
-ghost use Rattle.std.specs.Prelude.{◌≡◌, ◌&&◌, nat_le, map, take, Some, None, if◌then◌else◌};
+ghost use Rattle.std.specs.Prelude.{◌≡◌, nat_le, map, take, Some, None, if◌then◌else◌};
 ghost use Rattle.std.specs.Option.{option_map};
 ghost use Rattle.std.specs.List.{list_all};
 ghost use Rattle.c_machines.specs.Guids.{guid_in, interface_in};
-ghost use Rattle.c_machines.specs.DriverTables.{ReadsDrivers, are_tables, fits_child, child_in, fits, driver_in, returned};
+ghost use Rattle.c_machines.specs.DriverTables.{ReadsDrivers, are_tables, fits_child, child_in, children_in, fits, driver_in, returned};
 
 use crate::faults::MachineFault;
 use crate::guids::{Guid, Interface};
@@ -13,16 +13,16 @@ use std::alloc::Allocator;
 use uuid::Uuid;
 
 /// The most drivers of a core.
-pub const MOST_DRIVERS: usize = 64;
+pub const MAX_DRIVERS: usize = 64;
 
 /// The most GUIDs that a driver needs, and the most that it opens.
-const MOST_GUIDS: usize = 8;
+const MAX_GUIDS: usize = 8;
 
 /// The most children of a driver.
-const MOST_CHILDREN: usize = 8;
+const MAX_CHILDREN: usize = 8;
 
 /// The most interfaces of a child.
-const MOST_INTERFACES: usize = 4;
+const MAX_INTERFACES: usize = 4;
 
 /// A child of a driver: the first interfaces of an array, as many as its count says.
 #[repr(C)]
@@ -52,7 +52,7 @@ pub struct DriverTable {
 pub fn are_tables(drivers: &[DriverTable]) -> bool
     ensures { result ≡ are_tables drivers.now }
 {
-    drivers.len() <= MOST_DRIVERS && all_fit(drivers)
+    drivers.len() <= MAX_DRIVERS && all_fit(drivers)
 }
 
 /// Whether no count in some tables is above the length of its array.
@@ -66,9 +66,9 @@ fn all_fit(drivers: &[DriverTable]) -> bool
 fn fits(table: &DriverTable) -> bool
     ensures { result ≡ fits table.now }
 {
-    table.needs_count <= MOST_GUIDS as u64
-        && table.opens_count <= MOST_GUIDS as u64
-        && table.children_count <= MOST_CHILDREN as u64
+    table.needs_count <= MAX_GUIDS as u64
+        && table.opens_count <= MAX_GUIDS as u64
+        && table.children_count <= MAX_CHILDREN as u64
         && do_fit(&table.children[..table.children_count as usize])
 }
 
@@ -78,7 +78,7 @@ fn do_fit(children: &[Child]) -> bool
 {
     children
         .iter()
-        .all(|child| child.count <= MOST_INTERFACES as u64)
+        .all(|child| child.count <= MAX_INTERFACES as u64)
 }
 
 /// The drivers of some tables, in their order.
@@ -103,7 +103,8 @@ pub fn table_drivers<A: Allocator>(
 
 /// The driver of a table, None where a count is above the length of its array.
 fn driver_in(table: &DriverTable) -> Option<TableDriver>
-    ensures { option_map returned result ≡ (if fits table.now then Some (driver_in table.now) else None) }
+    ensures { option_map returned result ≡ (if fits table.now then Some (driver_in table.now)
+        else None) }
 {
     let needs = guids_in(&table.needs, table.needs_count)?;
     let opens = guids_in(&table.opens, table.opens_count)?;
@@ -117,10 +118,11 @@ fn driver_in(table: &DriverTable) -> Option<TableDriver>
 }
 
 /// The first GUIDs, as many as the count says; None where there are fewer.
-fn guids_in(guids: &[Guid; 8], count: u64) -> Option<ArrayVec<Uuid, MOST_GUIDS>>
-    ensures { option_map (λ list. list.items) result ≡ (if nat_le count 8 then Some (map guid_in (take count guids.now)) else None) }
+fn guids_in(guids: &[Guid; 8], count: u64) -> Option<ArrayVec<Uuid, MAX_GUIDS>>
+    ensures { option_map (λ list. list.items) result
+        ≡ (if nat_le count 8 then Some (map guid_in (take count guids.now)) else None) }
 {
-    if count > MOST_GUIDS as u64 {
+    if count > MAX_GUIDS as u64 {
         return None;
     }
     let mut list = ArrayVec::new();
@@ -131,10 +133,11 @@ fn guids_in(guids: &[Guid; 8], count: u64) -> Option<ArrayVec<Uuid, MOST_GUIDS>>
 }
 
 /// The interfaces of a child, None where its count is above the length of the array.
-fn child_in(child: &Child) -> Option<ArrayVec<(Uuid, u64), MOST_INTERFACES>>
-    ensures { option_map (λ list. list.items) result ≡ (if fits_child child.now then Some (child_in child.now) else None) }
+fn child_in(child: &Child) -> Option<ArrayVec<(Uuid, u64), MAX_INTERFACES>>
+    ensures { option_map (λ list. list.items) result
+        ≡ (if fits_child child.now then Some (child_in child.now) else None) }
 {
-    if child.count > MOST_INTERFACES as u64 {
+    if child.count > MAX_INTERFACES as u64 {
         return None;
     }
     let mut list = ArrayVec::new();
@@ -148,10 +151,11 @@ fn child_in(child: &Child) -> Option<ArrayVec<(Uuid, u64), MOST_INTERFACES>>
 fn children_in(
     children: &[Child; 8],
     count: u64,
-) -> Option<ArrayVec<ArrayVec<(Uuid, u64), MOST_INTERFACES>, MOST_CHILDREN>>
-    ensures { option_map (λ list. map (λ child. child.items) list.items) result ≡ (if nat_le count 8 && list_all fits_child (take count children.now) then Some (map child_in (take count children.now)) else None) }
+) -> Option<ArrayVec<ArrayVec<(Uuid, u64), MAX_INTERFACES>, MAX_CHILDREN>>
+    ensures { option_map (λ list. map (λ child. child.items) list.items) result
+        ≡ children_in count children.now }
 {
-    if count > MOST_CHILDREN as u64 {
+    if count > MAX_CHILDREN as u64 {
         return None;
     }
     let mut list = ArrayVec::new();

@@ -12,7 +12,7 @@ use std::alloc::Allocator;
 pub const LEAST_SIZE: usize = 40;
 
 /// The most records of a machine.
-pub const MOST_RECORDS: usize = 65_536;
+pub const MAX_RECORDS: usize = 65_536;
 
 /// The machine of some records, in any order, with a granule of a number of pages. A record is an
 /// EFI_MEMORY_DESCRIPTOR, and what follows it up to the descriptor size.
@@ -36,7 +36,7 @@ pub fn machine_of<A: Allocator>(
 fn runs_of<A: Allocator>(alloc: A, records: &[u8], size: usize) -> Result<Vec<Run, A>, MachineFault>
     ensures { ReadsRuns size records.now result }
 {
-    if size < LEAST_SIZE || records.len() % size != 0 || records.len() / size > MOST_RECORDS {
+    if size < LEAST_SIZE || records.len() % size != 0 || records.len() / size > MAX_RECORDS {
         return Err(MachineFault::Invalid);
     }
     let mut runs = Vec::with_capacity(alloc, records.len() / size)?;

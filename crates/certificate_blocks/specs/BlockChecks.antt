@@ -1,5 +1,5 @@
 -- What the check of a certificate block says.
-use Rattle.std.specs.Prelude.{◌≡◌, ◌↔◌, ℕ, Bool, List, ◌++◌, take, codes, IsTrue, Option, Result, Ok, Err, if◌then◌else◌}
+use Rattle.std.specs.Prelude.{◌≡◌, ◌↔◌, ℕ, Bool, List, ◌++◌, codes, IsTrue, Option, Result, Ok, Err, if◌then◌else◌}
 use Rattle.std.specs.Io.KnownBytes.{Appends, Keeps}
 use Rattle.page_ranges.specs.declared.ranges.Descriptor.{Descriptor}
 use Rattle.placement_certificate.specs.declared.certificates.Request.{Request}
@@ -7,7 +7,7 @@ use Rattle.placement_certificate.specs.Certificates.{CertificateValue}
 use Rattle.placement_certificate.specs.Acceptance.{IsAccepted}
 use Rattle.certificate_blocks.specs.declared.faults.BlockFault.{BlockFault}
 use Rattle.certificate_blocks.specs.declared.faults.BlockFault.TheVariants as fault
-use Rattle.text_lines.specs.Printed.{line_feed}
+use Rattle.text_lines.specs.Printed.{WritesFront, line_feed}
 use Rattle.certificate_blocks.specs.Blocks.{block_said}
 
 -- the line that is written
@@ -27,7 +27,7 @@ pub record IsVerdict (bytes : List ℕ) (accepted : Bool) : Type 0 where
 abbrev pub Writes : Option (List ℕ) → Option (List ℕ) → Result Bool BlockFault → Type 0
 Writes before after (Ok accepted) = Appends before after (verdict_text accepted)
 Writes before after (Err fault.Write) =
-    (accepted : Bool) × ((taken : ℕ) × Appends before after (take taken (verdict_text accepted)))
+    (accepted : Bool) × WritesFront before (verdict_text accepted) after
 Writes before after (Err e) = Keeps before after
 
 -- What the answer says of known bytes: whether the block is accepted, or the first line that is not
@@ -39,6 +39,6 @@ Judges can_fail bytes before after (Ok accepted) = IsVerdict bytes accepted
 Judges can_fail bytes before after (Err (fault.Line number)) = block_said bytes ≡ Err number
 Judges can_fail bytes before after (Err fault.Write) =
     (accepted : Bool) × IsVerdict bytes accepted
-    × ((taken : ℕ) × Appends before after (take taken (verdict_text accepted)))
+    × WritesFront before (verdict_text accepted) after
 Judges can_fail bytes before after (Err fault.Read) = IsTrue can_fail
 Judges can_fail bytes before after (Err fault.OutOfMemory) = Unit {0}

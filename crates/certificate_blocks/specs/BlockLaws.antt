@@ -38,7 +38,8 @@ pub record HasBoundNumbers (b : Bound) : Type 0 where
   pub least : HasLeastNumbers b.least
 
 -- the same of all that a block holds
-pub record HasBlockNumbers (entries : List Descriptor) (r : Request) (c : CertificateValue) : Type 0 where
+pub record HasBlockNumbers (entries : List Descriptor) (r : Request)
+    (c : CertificateValue) : Type 0 where
   pub entries_fit : AllByRecursion HasEntryNumbers entries
   pub request_fits : HasRequestNumbers r
   pub bounds_fit : AllByRecursion HasBoundNumbers c.bounds
@@ -60,7 +61,8 @@ SaysAccepted (Err e) = Unit {0}
 
 -- The text of a block is read back as the map, the request and the certificate that it was made of,
 -- and its check answers that it is accepted.
-pub record IsAcceptedBlock (entries : List Descriptor) (r : Request) (c : CertificateValue) : Type 0 where
+pub record IsAcceptedBlock (entries : List Descriptor) (r : Request)
+    (c : CertificateValue) : Type 0 where
   pub read_back : block_said (block_text entries r c) ≡ Ok (entries, r, c)
   pub judged : (can_fail : Bool) (before after : Option (List ℕ)) (answer : Result Bool BlockFault)
       → Judges can_fail (block_text entries r c) before after answer → SaysAccepted answer

@@ -82,6 +82,10 @@ end_from number (line ∷ lines) = Err number
 abbrev pub no_line : Reading (Unit {0})
 no_line = λ left. end_from left.number left.lines
 
+-- all lines of some bytes
+abbrev pub all_lines : List ℕ → LinesLeft
+all_lines bytes = record { number = 1; lines = lines_of bytes }
+
 -- ---- blocks
 
 -- the map, the request and the certificate of a block
@@ -105,4 +109,4 @@ value_read (Err number) = Err number
 -- the map, the request and the certificate that bytes say, or the number of the first line that is
 -- not as stated
 abbrev pub block_said : List ℕ → Result (List Descriptor × Request × CertificateValue) ℕ
-block_said bytes = value_read (block (record { number = 1; lines = lines_of bytes }))
+block_said bytes = value_read (block (all_lines bytes))

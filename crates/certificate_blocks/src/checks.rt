@@ -1,6 +1,7 @@
 //! The check of a certificate block.
-ghost use Rattle.std.specs.Prelude.{◌≡◌, ℕ, true, take, IfSome, IfErr, OnOk};
+ghost use Rattle.std.specs.Prelude.{◌≡◌, true, IfSome, IfErr, OnOk};
 ghost use Rattle.std.specs.Io.KnownBytes.{Appends};
+ghost use Rattle.text_lines.specs.Printed.{WritesFront};
 ghost use Rattle.certificate_blocks.specs.BlockChecks.{verdict_text, Judges, Writes};
 
 use crate::faults::BlockFault;
@@ -55,7 +56,7 @@ fn write_verdict<W: Write>(writer: &mut W, accepted: bool) -> Result<(), BlockFa
     ensures ok { OnOk result
         (Appends (W.contents writer.old) (W.contents writer.new) (verdict_text accepted)) }
     ensures err { IfErr result (λ fault. (fault ≡ BlockFault.Write)
-        × ((count : ℕ) × Appends (W.contents writer.old) (W.contents writer.new) (take count (verdict_text accepted)))) }
+        × WritesFront (W.contents writer.old) (verdict_text accepted) (W.contents writer.new)) }
 {
     let text = if accepted { "accepted\n" } else { "refused\n" };
     match write_text(writer, text.as_bytes()) {

@@ -1,5 +1,6 @@
 //! Certificate blocks as text.
-ghost use Rattle.std.specs.Prelude.{◌≡◌, ◌++◌, OnOk, string_bytes, flat_map};
+ghost use Rattle.std.specs.Prelude.{OnOk, flat_map};
+ghost use Rattle.text_lines.specs.Printed.{Gains};
 ghost use Rattle.certificate_blocks.specs.BlockText.{entry_words, map_lines, request_words, bound_words, bound_lines, answer_lines, printed_line, block_text};
 
 use page_ranges::Descriptor;
@@ -14,7 +15,7 @@ pub fn print_block<A: Allocator, B: Allocator>(
     certificate: &Certificate<B>,
 ) -> Result<(), AllocError>
     ensures { OnOk result
-        (string_bytes text.new ≡ string_bytes text.old ++ block_text map.now request.now certificate.now) }
+        (Gains text.old text.new (block_text map.now request.now certificate.now)) }
 {
     writeln!(text, "certificate")?;
     print_map(text, map)?;
@@ -25,8 +26,7 @@ pub fn print_block<A: Allocator, B: Allocator>(
 
 /// Appends the lines that say the map.
 fn print_map<A: Allocator>(text: &mut String<A>, map: &[Descriptor]) -> Result<(), AllocError>
-    ensures { OnOk result
-        (string_bytes text.new ≡ string_bytes text.old ++ flat_map printed_line (map_lines map.now)) }
+    ensures { OnOk result (Gains text.old text.new (flat_map printed_line (map_lines map.now))) }
 {
     let count = map.len();
     writeln!(text, "map {count}")?;
@@ -38,8 +38,7 @@ fn print_map<A: Allocator>(text: &mut String<A>, map: &[Descriptor]) -> Result<(
 
 /// Appends the line of a map entry.
 fn print_entry<A: Allocator>(text: &mut String<A>, entry: &Descriptor) -> Result<(), AllocError>
-    ensures { OnOk result
-        (string_bytes text.new ≡ string_bytes text.old ++ printed_line (entry_words entry.now)) }
+    ensures { OnOk result (Gains text.old text.new (printed_line (entry_words entry.now))) }
 {
     let mtype = entry.mtype.number();
     let first = entry.first;
@@ -50,8 +49,7 @@ fn print_entry<A: Allocator>(text: &mut String<A>, entry: &Descriptor) -> Result
 
 /// Appends the line of the request.
 fn print_request<A: Allocator>(text: &mut String<A>, request: &Request) -> Result<(), AllocError>
-    ensures { OnOk result
-        (string_bytes text.new ≡ string_bytes text.old ++ printed_line (request_words request.now)) }
+    ensures { OnOk result (Gains text.old text.new (printed_line (request_words request.now))) }
 {
     let mtype = request.mtype.number();
     let pages = request.pages;
@@ -65,7 +63,7 @@ fn print_request<A: Allocator>(text: &mut String<A>, request: &Request) -> Resul
 /// Appends the lines that say the bounds.
 fn print_bounds<A: Allocator>(text: &mut String<A>, bounds: &[Bound]) -> Result<(), AllocError>
     ensures { OnOk result
-        (string_bytes text.new ≡ string_bytes text.old ++ flat_map printed_line (bound_lines bounds.now)) }
+        (Gains text.old text.new (flat_map printed_line (bound_lines bounds.now))) }
 {
     let count = bounds.len();
     writeln!(text, "bounds {count}")?;
@@ -77,8 +75,7 @@ fn print_bounds<A: Allocator>(text: &mut String<A>, bounds: &[Bound]) -> Result<
 
 /// Appends the line of a bound.
 fn print_bound<A: Allocator>(text: &mut String<A>, bound: &Bound) -> Result<(), AllocError>
-    ensures { OnOk result
-        (string_bytes text.new ≡ string_bytes text.old ++ printed_line (bound_words bound.now)) }
+    ensures { OnOk result (Gains text.old text.new (printed_line (bound_words bound.now))) }
 {
     let first = bound.first;
     let pages = bound.pages;
@@ -90,8 +87,7 @@ fn print_bound<A: Allocator>(text: &mut String<A>, bound: &Bound) -> Result<(), 
 
 /// Appends the lines that say the answer, and that end the block.
 fn print_answer<A: Allocator>(text: &mut String<A>, answer: u64) -> Result<(), AllocError>
-    ensures { OnOk result
-        (string_bytes text.new ≡ string_bytes text.old ++ flat_map printed_line (answer_lines answer)) }
+    ensures { OnOk result (Gains text.old text.new (flat_map printed_line (answer_lines answer))) }
 {
     writeln!(text, "answer {answer}\nend")
 }

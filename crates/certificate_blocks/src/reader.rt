@@ -1,11 +1,10 @@
 //! Certificate blocks, read line by line.
-ghost use Rattle.std.specs.Prelude.{◌≡◌, IfOk, IfErr, IfSome, MatchResult, Ok, map};
+ghost use Rattle.std.specs.Prelude.{◌≡◌, IfOk, IfErr, IfSome, map};
 ghost use Rattle.std.specs.Io.BufRead.{strip_last};
-ghost use Rattle.text_lines.specs.Lines.{lines_of};
 ghost use Rattle.text_lines.specs.Words.{words_of};
 ghost use Rattle.certificate_blocks.specs.BlockLines.{name_alone, number_after, entry_of_words, request_of, bound_of};
-ghost use Rattle.certificate_blocks.specs.Blocks.{next_line, line, times, no_line, block, block_said};
-ghost use Rattle.certificate_blocks.specs.BlockReads.{lines_left, IsReadFault, Reads};
+ghost use Rattle.certificate_blocks.specs.Blocks.{next_line, line, times, no_line, block};
+ghost use Rattle.certificate_blocks.specs.BlockReads.{ReadsBlock, ReadsFrom, said_by};
 
 use crate::faults::BlockFault;
 use crate::line_words::{bound_of, entry_of_words, name_alone, number_after, request_of};
@@ -39,9 +38,8 @@ pub struct BlockReader<S: Drop, A: Allocator> {
 impl<S: ByteSource + Drop, A: Allocator + Copy> BlockReader<S, A> {
     /// Takes the next line, and returns its number.
     fn next_line(&mut self) -> Result<u64, BlockFault>
-        ensures { Reads S.can_fail (λ number. (number, self.new.line.items)) next_line
-            (lines_left (S.left self.old.source) self.old.number) result
-            (lines_left (S.left self.new.source) self.new.number) }
+        ensures { ReadsFrom S.can_fail S.left next_line
+            (λ number. (number, self.new.line.items)) self.old result self.new }
     {
         let number = self.number;
         if number > MAX_BLOCK_LINES {
@@ -63,7 +61,8 @@ impl<S: ByteSource + Drop, A: Allocator + Copy> BlockReader<S, A> {
     /// The words of the newest line.
     fn words(&self) -> Result<Vec<&[u8], A>, BlockFault>
         ensures ok { IfOk result
-            (λ words. map (λ word. word.now) words.items ≡ words_of (strip_last 13 self.now.line.items)) }
+            (λ words. map (λ word. word.now) words.items
+            ≡ words_of (strip_last 13 self.now.line.items)) }
         ensures err { IfErr result (λ fault. fault ≡ BlockFault.OutOfMemory) }
     {
         Ok(words_of(self.alloc, without_carriage_return(self.line.as_slice()))?)
@@ -71,9 +70,8 @@ impl<S: ByteSource + Drop, A: Allocator + Copy> BlockReader<S, A> {
 
     /// Reads `NAME`.
     fn name(&mut self, name: &[u8]) -> Result<(), BlockFault>
-        ensures { Reads S.can_fail (λ done. done) (line (name_alone name.now))
-            (lines_left (S.left self.old.source) self.old.number) result
-            (lines_left (S.left self.new.source) self.new.number) }
+        ensures { ReadsFrom S.can_fail S.left (line (name_alone name.now))
+            (λ done. done) self.old result self.new }
     {
         let number = self.next_line()?;
         let words = self.words()?;
@@ -82,9 +80,8 @@ impl<S: ByteSource + Drop, A: Allocator + Copy> BlockReader<S, A> {
 
     /// Reads `NAME NUMBER`.
     fn number_after(&mut self, name: &[u8]) -> Result<u64, BlockFault>
-        ensures { Reads S.can_fail (λ n. n) (line (number_after name.now))
-            (lines_left (S.left self.old.source) self.old.number) result
-            (lines_left (S.left self.new.source) self.new.number) }
+        ensures { ReadsFrom S.can_fail S.left (line (number_after name.now))
+            (λ n. n) self.old result self.new }
     {
         let number = self.next_line()?;
         let words = self.words()?;
@@ -93,9 +90,8 @@ impl<S: ByteSource + Drop, A: Allocator + Copy> BlockReader<S, A> {
 
     /// Reads a map entry.
     fn entry(&mut self) -> Result<Descriptor, BlockFault>
-        ensures { Reads S.can_fail (λ entry. entry) (line entry_of_words)
-            (lines_left (S.left self.old.source) self.old.number) result
-            (lines_left (S.left self.new.source) self.new.number) }
+        ensures { ReadsFrom S.can_fail S.left (line entry_of_words)
+            (λ entry. entry) self.old result self.new }
     {
         let number = self.next_line()?;
         let words = self.words()?;
@@ -104,9 +100,8 @@ impl<S: ByteSource + Drop, A: Allocator + Copy> BlockReader<S, A> {
 
     /// Reads the request.
     fn request(&mut self) -> Result<Request, BlockFault>
-        ensures { Reads S.can_fail (λ request. request) (line request_of)
-            (lines_left (S.left self.old.source) self.old.number) result
-            (lines_left (S.left self.new.source) self.new.number) }
+        ensures { ReadsFrom S.can_fail S.left (line request_of)
+            (λ request. request) self.old result self.new }
     {
         let number = self.next_line()?;
         let words = self.words()?;
@@ -115,9 +110,8 @@ impl<S: ByteSource + Drop, A: Allocator + Copy> BlockReader<S, A> {
 
     /// Reads a bound.
     fn bound(&mut self) -> Result<Bound, BlockFault>
-        ensures { Reads S.can_fail (λ bound. bound) (line bound_of)
-            (lines_left (S.left self.old.source) self.old.number) result
-            (lines_left (S.left self.new.source) self.new.number) }
+        ensures { ReadsFrom S.can_fail S.left (line bound_of)
+            (λ bound. bound) self.old result self.new }
     {
         let number = self.next_line()?;
         let words = self.words()?;
@@ -126,9 +120,8 @@ impl<S: ByteSource + Drop, A: Allocator + Copy> BlockReader<S, A> {
 
     /// Reads the given number of map entries.
     fn entries(&mut self, count: u64) -> Result<Vec<Descriptor, A>, BlockFault>
-        ensures { Reads S.can_fail (λ entries. entries.items) (times count (line entry_of_words))
-            (lines_left (S.left self.old.source) self.old.number) result
-            (lines_left (S.left self.new.source) self.new.number) }
+        ensures { ReadsFrom S.can_fail S.left (times count (line entry_of_words))
+            (λ entries. entries.items) self.old result self.new }
     {
         let mut entries = Vec::new(self.alloc);
         for _read in 0..count {
@@ -139,9 +132,8 @@ impl<S: ByteSource + Drop, A: Allocator + Copy> BlockReader<S, A> {
 
     /// Reads the given number of bounds.
     fn bounds(&mut self, count: u64) -> Result<Vec<Bound, A>, BlockFault>
-        ensures { Reads S.can_fail (λ bounds. bounds.items) (times count (line bound_of))
-            (lines_left (S.left self.old.source) self.old.number) result
-            (lines_left (S.left self.new.source) self.new.number) }
+        ensures { ReadsFrom S.can_fail S.left (times count (line bound_of))
+            (λ bounds. bounds.items) self.old result self.new }
     {
         let mut bounds = Vec::new(self.alloc);
         for _read in 0..count {
@@ -152,9 +144,7 @@ impl<S: ByteSource + Drop, A: Allocator + Copy> BlockReader<S, A> {
 
     /// Reads that no line is left.
     fn no_line(&mut self) -> Result<(), BlockFault>
-        ensures { Reads S.can_fail (λ done. done) no_line
-            (lines_left (S.left self.old.source) self.old.number) result
-            (lines_left (S.left self.new.source) self.new.number) }
+        ensures { ReadsFrom S.can_fail S.left no_line (λ done. done) self.old result self.new }
     {
         let number = self.number;
         match self.source.take_byte() {
@@ -166,9 +156,7 @@ impl<S: ByteSource + Drop, A: Allocator + Copy> BlockReader<S, A> {
 
     /// Reads a block.
     fn block(&mut self) -> Result<Block<A>, BlockFault>
-        ensures { Reads S.can_fail (λ b. (b.map.items, b.request, b.certificate)) block
-            (lines_left (S.left self.old.source) self.old.number) result
-            (lines_left (S.left self.new.source) self.new.number) }
+        ensures { ReadsFrom S.can_fail S.left block said_by self.old result self.new }
     {
         self.name(b"certificate")?;
         let entry_count = self.number_after(b"map")?;
@@ -192,9 +180,7 @@ pub fn read_block<A: Allocator + Copy, S: ByteSource + Drop>(
     alloc: A,
     source: S,
 ) -> Result<Block<A>, BlockFault>
-    ensures { IfSome (S.left source) (λ bytes. MatchResult result
-        (λ b. block_said bytes ≡ Ok (b.map.items, b.request, b.certificate))
-        (IsReadFault S.can_fail (block (record { number = 1; lines = lines_of bytes })))) }
+    ensures { IfSome (S.left source) (λ bytes. ReadsBlock S.can_fail bytes result) }
 {
     let mut lines = BlockReader {
         source,

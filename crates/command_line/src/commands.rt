@@ -63,7 +63,8 @@ pub fn command_of<'a>(alloc: Global, words: &'a [&'a str]) -> Result<Command<'a>
 /// The command that was found in the words.
 fn command_in<'a>(alloc: Global, matches: &ArgMatches<'a>) -> Result<Command<'a>, CommandFault>
     ensures ok { IfOk result (IsFoundCommand (subcommand_rows_of matches.now)) }
-    ensures err { IfErr result (HasReason (IsNone (IsFoundCommand (subcommand_rows_of matches.now)))) }
+    ensures err { IfErr result
+        (HasReason (IsNone (IsFoundCommand (subcommand_rows_of matches.now)))) }
 {
     if let Some(options) = matches.subcommand_matches("run") {
         return run_in(alloc, options);
@@ -77,7 +78,8 @@ fn command_in<'a>(alloc: Global, matches: &ArgMatches<'a>) -> Result<Command<'a>
 /// A trace's run, by its options.
 fn run_in<'a>(alloc: Global, options: &ArgMatches<'a>) -> Result<Command<'a>, CommandFault>
     ensures ok { IfOk result (IsNamed (codes "run") (rows_of (found_of options.now))) }
-    ensures err { IfErr result (HasReason (IsNone (IsNamed (codes "run") (rows_of (found_of options.now))))) }
+    ensures err { IfErr result
+        (HasReason (IsNone (IsNamed (codes "run") (rows_of (found_of options.now))))) }
 {
     let certify = options.get_one::<bool>("certify").unwrap_or(false);
     match (options.get_str("machine"), options.get_str("trace")) {

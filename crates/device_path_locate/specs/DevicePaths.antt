@@ -38,14 +38,17 @@ is_inner n = not (has_end_type n) || same_bytes n end_of_instance
 
 -- the nodes of a path that begins with a node, given those behind it
 abbrev pub nodes_from : Node → Option (List Node) → Option (List Node)
-nodes_from n behind = cond (same_bytes n end_of_path) (Some []) (cond (is_inner n) (option_map (λ ns. n ∷ ns) behind) None)
+nodes_from n behind =
+    cond (same_bytes n end_of_path) (Some [])
+    (cond (is_inner n) (option_map (λ ns. n ∷ ns) behind) None)
 
 -- The nodes up to the end of the entire path, if it comes, where a number of bytes at the front are
 -- passed over.
 abbrev pub nodes_behind : ℕ → List ℕ → Option (List Node)
 nodes_behind zero (type ∷ subtype ∷ low ∷ high ∷ bytes) =
     cond (nat_lt (returned_length low high) 4) None
-    (nodes_from (type ∷ subtype ∷ low ∷ high ∷ take (returned_length low high - 4) bytes) (nodes_behind (returned_length low high - 4) bytes))
+    (nodes_from (type ∷ subtype ∷ low ∷ high ∷ take (returned_length low high - 4) bytes)
+    (nodes_behind (returned_length low high - 4) bytes))
 nodes_behind (suc k) (byte ∷ bytes) = nodes_behind k bytes
 nodes_behind k bytes = None
 

@@ -11,8 +11,11 @@ PathBytesLaw = (bytes : List ℕ) (ns : List Node) → (path_in bytes ≡ Some n
 -- The nodes of one path are the first of another exactly where their bytes are.
 abbrev pub FrontBytesLaw : Type 0
 FrontBytesLaw =
-    (ns ms : List Node) → AllByRecursion IsPathNode ns → AllByRecursion IsPathNode ms → (is_front ns ms ≡ true) ↔ ((rest : List ℕ) × (concat ms ≡ concat ns ++ rest))
+    (ns ms : List Node) → AllByRecursion IsPathNode ns → AllByRecursion IsPathNode ms
+    → (is_front ns ms ≡ true) ↔ ((rest : List ℕ) × (concat ms ≡ concat ns ++ rest))
 
 -- A path that has the end of an instance matches nothing: no first instance has one.
 abbrev pub InstanceEndsLaw : Type 0
-InstanceEndsLaw = (path ns : List Node) → list_any (λ n. same_bytes n end_of_instance) path ≡ true → matched_size (first_instance ns) path ≡ None
+InstanceEndsLaw =
+    (path ns : List Node) → list_any (λ n. same_bytes n end_of_instance) path ≡ true
+    → matched_size (first_instance ns) path ≡ None

@@ -10,7 +10,9 @@ use Rattle.device_path_locate.specs.DevicePaths.{Node, first_instance, path_in, 
 
 -- EFI_DEVICE_PATH_PROTOCOL_GUID, 09576e91-6d3f-11d2-8e39-00a0c969723b
 abbrev pub device_path_guid : List ℕ
-device_path_guid = 0x09 ∷ 0x57 ∷ 0x6e ∷ 0x91 ∷ 0x6d ∷ 0x3f ∷ 0x11 ∷ 0xd2 ∷ 0x8e ∷ 0x39 ∷ 0x00 ∷ 0xa0 ∷ 0xc9 ∷ 0x69 ∷ 0x72 ∷ 0x3b ∷ []
+device_path_guid =
+    0x09 ∷ 0x57 ∷ 0x6e ∷ 0x91 ∷ 0x6d ∷ 0x3f ∷ 0x11 ∷ 0xd2
+    ∷ 0x8e ∷ 0x39 ∷ 0x00 ∷ 0xa0 ∷ 0xc9 ∷ 0x69 ∷ 0x72 ∷ 0x3b ∷ []
 
 -- the nodes of the path at an address, if there is one: in the bytes of a live block, from the
 -- address on
@@ -19,7 +21,8 @@ path_at address es = option_and_then path_in (tail_at address es)
 
 -- the path of a handle, at the value of its device path interface
 abbrev pub path_of : HandleTable → List Extent → ℕ → Option (List Node)
-path_of t es handle = option_and_then (λ value. path_at value es) (value_at t handle device_path_guid)
+path_of t es handle =
+    option_and_then (λ value. path_at value es) (value_at t handle device_path_guid)
 
 -- ---- the handle that a path leads to
 
@@ -35,7 +38,8 @@ matched_size nodes path = cond (is_front path nodes) (Some (size_of path)) None
 
 -- a handle whose path matches some nodes, with the bytes that it matches
 abbrev pub match_of : HandleTable → List Extent → List Node → ℕ → Option (ℕ × ℕ)
-match_of t es nodes handle = option_map (λ size. (handle, size)) (option_and_then (matched_size nodes) (path_of t es handle))
+match_of t es nodes handle =
+    option_map (λ size. (handle, size)) (option_and_then (matched_size nodes) (path_of t es handle))
 
 -- the longer of two matches, the first where they are equally long
 abbrev pub longer_of : ℕ × ℕ → Option (ℕ × ℕ) → Option (ℕ × ℕ)
@@ -57,9 +61,11 @@ abbrev pub answer_at : ℕ → Option (ℕ × ℕ) → Result (ℕ × ℕ) Statu
 answer_at address None = Err NotFound
 answer_at address (Some m) = Ok (m.0, address + m.1)
 
-abbrev pub located_by : HandleTable → List Extent → List ℕ → ℕ → Option (List Node) → Result (ℕ × ℕ) Status
+abbrev pub located_by : HandleTable → List Extent → List ℕ → ℕ → Option (List Node)
+    → Result (ℕ × ℕ) Status
 located_by t es guid address None = Err InvalidParameter
-located_by t es guid address (Some path) = answer_at address (best_match t es guid (first_instance path))
+located_by t es guid address (Some path) =
+    answer_at address (best_match t es guid (first_instance path))
 
 -- What LocateDevicePath returns for a GUID and the address of a path, of which the first instance
 -- is looked at.
@@ -80,8 +86,12 @@ are_same (Some bytes) (Some other) = same_bytes bytes other
 
 -- the path at an address is the path of some live handle too
 abbrev pub is_path_of_any : HandleTable → List Extent → ℕ → Bool
-is_path_of_any t es address = list_any (λ handle. are_same (whole_bytes (path_at address es)) (whole_bytes (path_of t es handle))) (holders_of t device_path_guid)
+is_path_of_any t es address =
+    list_any
+    (λ handle. are_same (whole_bytes (path_at address es)) (whole_bytes (path_of t es handle)))
+    (holders_of t device_path_guid)
 
 -- one of some pairs of GUID and value is a device path that some live handle has already
 abbrev pub has_path_installed : HandleTable → List Extent → List (List ℕ × ℕ) → Bool
-has_path_installed t es pairs = list_any (λ pair. same_guid pair.0 device_path_guid && is_path_of_any t es pair.1) pairs
+has_path_installed t es pairs =
+    list_any (λ pair. same_guid pair.0 device_path_guid && is_path_of_any t es pair.1) pairs

@@ -10,7 +10,9 @@ use Rattle.device_path_locate.specs.Locating.{best_match, longer_of, match_of, m
 -- the node at the front of some bytes, in which they do not run out
 abbrev pub IsFrontNode : List ℕ → Option Node → Type 0
 IsFrontNode bytes None = path_in bytes ≡ None
-IsFrontNode bytes (Some n) = (4 ≤ length n) × (length n ≤ length bytes) × (path_in bytes ≡ nodes_from n (path_in (drop (length n) bytes)))
+IsFrontNode bytes (Some n) =
+    (4 ≤ length n) × (length n ≤ length bytes)
+    × (path_in bytes ≡ nodes_from n (path_in (drop (length n) bytes)))
 
 -- a node of an instance: its type is not that of the ends
 pub record IsInstanceNode (n : Node) : Type 0 where
@@ -34,7 +36,8 @@ pub record IsCommonFront (a b : List ℕ) (size : ℕ) : Type 0 where
 
 -- What is found of a match, where one of fewer bytes than `from` may be passed over.
 abbrev pub IsFoundFrom : {X : Type 0} → (X → ℕ) → ℕ → Option X → Option X → Type 0
-IsFoundFrom size from whole found = (found ≡ whole) ⊎ ((found ≡ None) × IfSome whole (λ m. size m < from))
+IsFoundFrom size from whole found =
+    (found ≡ whole) ⊎ ((found ≡ None) × IfSome whole (λ m. size m < from))
 
 -- How many bytes of some nodes, given by their bytes, the path at the front of other bytes matches.
 abbrev pub IsMatched : List ℕ → List ℕ → ℕ → Option ℕ → Type 0
@@ -50,7 +53,9 @@ IsMatch t es handle bytes from found =
 
 -- The longest match of some nodes, given by their bytes.
 abbrev pub IsBestMatch : HandleTable → List Extent → List ℕ → List ℕ → Option (ℕ × ℕ) → Type 0
-IsBestMatch t es guid bytes found = (ns : List Node) → AllByRecursion IsInstanceNode ns → bytes ≡ concat ns → found ≡ best_match t es guid ns
+IsBestMatch t es guid bytes found =
+    (ns : List Node) → AllByRecursion IsInstanceNode ns → bytes ≡ concat ns
+    → found ≡ best_match t es guid ns
 
 -- how many bytes a match has, none if there is none
 abbrev pub matched_bytes : Option (ℕ × ℕ) → ℕ

@@ -34,7 +34,8 @@ fn whole_at<A: Allocator + Copy>(pools: &Pools<A>, address: u64) -> Option<&[u8]
 
 /// The bytes of the first instance of the path at an address, if there is one.
 fn first_instance_at<A: Allocator + Copy>(pools: &Pools<A>, address: u64) -> Option<&[u8]>
-    ensures nodes { option_map (λ s. s.now) result ≡ option_map (λ path. concat (first_instance path)) (path_at address pools.now) }
+    ensures nodes { option_map (λ s. s.now) result
+        ≡ option_map (λ path. concat (first_instance path)) (path_at address pools.now) }
     ensures within { IfSome result (λ s. address + length s.now < 2 ^ 64) }
 {
     let bytes = pools.tail(address)?;
@@ -139,7 +140,8 @@ pub fn locate<A: Allocator + Copy>(
 
 /// Whether the bytes of two paths, if both are there, are the same.
 fn are_same(bytes: Option<&[u8]>, other: Option<&[u8]>) -> bool
-    ensures { result ≡ are_same (option_map (λ s. s.now) bytes.entry) (option_map (λ s. s.now) other.entry) }
+    ensures { result ≡ are_same (option_map (λ s. s.now) bytes.entry)
+        (option_map (λ s. s.now) other.entry) }
 {
     match (bytes, other) {
         (Some(a), Some(b)) => a == b,

@@ -88,9 +88,17 @@ member_driver d = do
   version ← or_fault field.Version (version_of d)
   needs ← or_fault field.Needs (option_and_then guids_of (get (driver_field_name field.Needs) d))
   opens ← or_fault field.Opens (option_and_then guids_of (get (driver_field_name field.Opens) d))
-  children ← or_fault field.Children (option_and_then children_of (get (driver_field_name field.Children) d))
+  children ← or_fault field.Children
+      (option_and_then children_of (get (driver_field_name field.Children) d))
   stops ← or_fault field.Stops (option_and_then as_bool (get (driver_field_name field.Stops) d))
-  Ok (record { version = version; needs = needs; opens = opens; children = children; stops = stops })
+  Ok
+      (record {
+        version = version;
+        needs = needs;
+        opens = opens;
+        children = children;
+        stops = stops;
+      })
 
 -- the result, with its driver as a file lists it
 abbrev pub listed_result : Result TableDriver DriverField → Result ListedDriver DriverField

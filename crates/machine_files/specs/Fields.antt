@@ -42,4 +42,5 @@ each_from read n (item d ds) = do
 -- what each member of a list of limited length is read as
 abbrev pub each_up_to : {X : Type 0} → ℕ → (Data → Option X) → Data → Option (List X)
 each_up_to most read d =
-    option_and_then (λ ds. if nat_le (item_count ds) most then each_of read ds else None) (as_array d)
+    option_and_then (λ ds. if nat_le (item_count ds) most then each_of read ds else None)
+    (as_array d)

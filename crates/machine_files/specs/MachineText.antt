@@ -30,7 +30,8 @@ member_type d =
 -- the page that begins at the start
 abbrev pub first_page_of : Data → Option ℕ
 first_page_of d =
-    option_and_then (λ start. if start % page_size == 0 then Some (start / page_size) else None) (hexadecimal_at (field_name field.Start) d)
+    option_and_then (λ start. if start % page_size == 0 then Some (start / page_size) else None)
+    (hexadecimal_at (field_name field.Start) d)
 
 -- a number of pages, not 0, the last of which exists
 abbrev pub page_count_of : ℕ → Data → Option ℕ
@@ -52,7 +53,13 @@ member_run d = do
   first ← or_fault field.Start (first_page_of d)
   pages ← or_fault field.Pages (page_count_of first d)
   attributes ← or_fault field.Attributes (attributes_of t d)
-  Ok (record { range = record { first = first; pages = pages }; mtype = t; attributes = attributes; owner = Given })
+  Ok
+      (record {
+        range = record { first = first; pages = pages };
+        mtype = t;
+        attributes = attributes;
+        owner = Given;
+      })
 
 -- ---- the file
 
@@ -81,7 +88,8 @@ most_descriptors = 65536
 abbrev pub root_runs : Data → Result (List Run) MachineFault
 root_runs root = do
   list ← or_fault fault.NoMemoryList (option_and_then as_array (get (codes "memory") root))
-  if nat_lt most_descriptors (item_count list) then Err fault.TooManyDescriptors else runs_from 0 list
+  if nat_lt most_descriptors (item_count list) then Err fault.TooManyDescriptors
+      else runs_from 0 list
 
 -- a granule that a machine may have
 abbrev pub granule_of : Data → Option ℕ
@@ -135,7 +143,8 @@ pub record ListedMachine : Type 0 where
 abbrev pub machine_with : List Run → Option ℕ → Result MachineValue MachineFault
 machine_with runs granule =
     if overlap runs then Err fault.Overlap
-    else or_fault fault.Granule (option_map (λ g. record { runs = in_order runs; granule = g }) granule)
+    else or_fault fault.Granule
+    (option_map (λ g. record { runs = in_order runs; granule = g }) granule)
 
 -- the machine that a file lists, with its descriptors in any order
 unfoldable pub machine_of : List ℕ → Result ListedMachine MachineFault

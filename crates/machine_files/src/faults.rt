@@ -63,7 +63,7 @@ pub enum MachineFault {
     NoMemoryList,
     #[error("machine: too many descriptors")]
     TooManyDescriptors,
-    /// The member at a place of the memory list, from 0 on, and its first field that is missing, of
+    /// The member at an index of the memory list, from 0 on, and its first field that is missing, of
     /// another kind or out of its range.
     #[error("machine: descriptor {number}: {field}")]
     Descriptor { number: usize, field: MemberField },

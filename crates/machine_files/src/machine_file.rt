@@ -65,7 +65,8 @@ fn whole_machine(mut runs: Vec<Run>, granule: u64) -> Option<Machine>
     requires runs { AllByRecursion IsMachineRun runs.items }
     requires granule { IsGranule granule }
     ensures { result
-        ≡ (if overlap runs.items then None else Some (record { runs = in_order runs.items; granule = granule })) }
+        ≡ (if overlap runs.items then None
+        else Some (record { runs = in_order runs.items; granule = granule })) }
 {
     runs.sort_unstable_by_key(|run| run.range.first);
     Machine::new(runs, granule)
@@ -169,7 +170,8 @@ fn drivers_of(alloc: Global, list: &Value) -> Result<Vec<TableDriver>, MachineFa
 
 /// The drivers of the members, in their order.
 fn drivers_in(alloc: Global, members: &[Value]) -> Result<Vec<TableDriver>, MachineFault>
-    ensures { Gives (λ drivers. map listed drivers.items) result (drivers_from 0 (items_view members.now)) }
+    ensures { Gives (λ drivers. map listed drivers.items) result
+        (drivers_from 0 (items_view members.now)) }
 {
     let mut drivers = Vec::new(alloc);
     for (number, member) in members.iter().enumerate() {

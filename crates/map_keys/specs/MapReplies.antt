@@ -19,8 +19,20 @@ map_size b = record_size * length (memory_map b.memory)
 abbrev pub map_reply : Book → ℕ → MapReply
 map_reply b room =
     if nat_le (map_size b) room
-    then record { status = Success; size = map_size b; key = b.key; descriptor_size = record_size; version = descriptor_version }
-    else record { status = BufferTooSmall; size = map_size b; key = 0; descriptor_size = 0; version = 0 }
+    then record {
+      status = Success;
+      size = map_size b;
+      key = b.key;
+      descriptor_size = record_size;
+      version = descriptor_version;
+    }
+    else record {
+      status = BufferTooSmall;
+      size = map_size b;
+      key = 0;
+      descriptor_size = 0;
+      version = 0;
+    }
 
 -- The buffer after that: the records of the map in its front and the rest as it was; all of it as
 -- it was where it is too small.

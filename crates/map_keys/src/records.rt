@@ -12,7 +12,7 @@ use std::alloc::{AllocError, Allocator};
 /// The bytes of a record (EFI_MEMORY_DESCRIPTOR, with 8 bytes more).
 pub(crate) const RECORD_SIZE: usize = 48;
 
-/// Writes a number of 4 bytes at a place.
+/// Writes a number of 4 bytes at an index.
 fn put_u32(bytes: &mut [u8], at: usize, number: u32)
     requires { at + 4 ≤ length bytes.old }
     ensures { bytes.new ≡ take at bytes.old ++ little_bytes 4 number ++ drop (at + 4) bytes.old }
@@ -20,7 +20,7 @@ fn put_u32(bytes: &mut [u8], at: usize, number: u32)
     LittleEndian::write_u32(&mut bytes[at..], number);
 }
 
-/// Writes a number of 8 bytes at a place.
+/// Writes a number of 8 bytes at an index.
 fn put_u64(bytes: &mut [u8], at: usize, number: u64)
     requires { at + 8 ≤ length bytes.old }
     ensures { bytes.new ≡ take at bytes.old ++ little_bytes 8 number ++ drop (at + 8) bytes.old }
@@ -76,7 +76,8 @@ pub fn read_descriptors<A: Allocator>(
     alloc: A,
     bytes: &[u8],
 ) -> Result<Option<Vec<Descriptor, A>>, AllocError>
-    ensures { IfOk result (λ found. ReadsRecords bytes.now (option_map (λ entries. entries.items) found)) }
+    ensures { IfOk result
+        (λ found. ReadsRecords bytes.now (option_map (λ entries. entries.items) found)) }
 {
     if bytes.len() % RECORD_SIZE != 0 {
         return Ok(None);

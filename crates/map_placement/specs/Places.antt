@@ -15,7 +15,10 @@ use Rattle.c_machines.specs.MachineRecords.{IsReturned}
 abbrev pub IsBestPlace : MachineValue → ℕ → ℕ → ℕ → ℕ → Type 0
 IsBestPlace m t pages limit address =
     IsValidRequest max_address t pages
-    × ((certificate : CertificateValue) × IsTrueCertificate (pages_of m.runs) (whole_request m.granule t pages (pages_below limit)) certificate × (address ≡ certificate.answer * page_size))
+    × ((certificate : CertificateValue)
+    × IsTrueCertificate (pages_of m.runs)
+    (whole_request m.granule t pages (pages_below limit)) certificate
+    × (address ≡ certificate.answer * page_size))
 
 -- What is found on a machine: the address of the best place. OUT_OF_RESOURCES means that no place
 -- is permitted, or that memory ran out.
@@ -31,6 +34,9 @@ FindsPlace m t pages limit (Err status) = ⊥
 -- ran out.
 abbrev pub PlacesPages : ℕ → List ℕ → ℕ → ℕ → ℕ → ℕ → ℕ → ℕ → ℕ → Type 0
 PlacesPages size records granule t pages limit before status after =
-    ((m : MachineValue) × IsReturned size records granule m × IsBestPlace m t pages limit after × (status ≡ status_number Success))
-    ⊎ ((((m : MachineValue) → IsMachine m → ¬ IsReturned size records granule m) ⊎ (¬ IsValidRequest max_address t pages)) × (status ≡ status_number InvalidParameter) × (after ≡ before))
+    ((m : MachineValue) × IsReturned size records granule m × IsBestPlace m t pages limit after
+    × (status ≡ status_number Success))
+    ⊎ ((((m : MachineValue) → IsMachine m → ¬ IsReturned size records granule m)
+    ⊎ (¬ IsValidRequest max_address t pages)) × (status ≡ status_number InvalidParameter)
+    × (after ≡ before))
     ⊎ ((status ≡ status_number OutOfResources) × (after ≡ before))

@@ -15,7 +15,7 @@ const ALLOCATE_MAX_ADDRESS: u32 = 1;
 /// Finds the best place for `pages` pages of the type `mtype` on the memory that records
 /// (EFI_MEMORY_DESCRIPTOR) of `descriptor_size` bytes each state, with a granule of 1 or 16 pages: the highest
 /// of those after which the memory map has the fewest entries. The byte at the address `limit` is the last
-/// that may belong to them. The address of the first page is put into the place `address`, which a refusal
+/// that may belong to them. The address of the first page is put into the variable `address`, which a refusal
 /// leaves as it is.
 ///
 /// The status is a number of EFI_STATUS. INVALID_PARAMETER: the records state no machine, or a type that no
@@ -30,7 +30,8 @@ pub fn place<A: Allocator + Copy>(
     limit: u64,
     address: &mut u64,
 ) -> u64
-    ensures { PlacesPages descriptor_size records.now granule mtype pages limit address.old result address.new }
+    ensures { PlacesPages descriptor_size records.now granule mtype pages limit address.old result
+        address.new }
 {
     let machine = match machine_of(alloc, records, descriptor_size, granule) {
         Ok(machine) => machine,

@@ -69,7 +69,8 @@ AllInRange m range Is = (k : ℕ) → range.first ≤ k → k < range.first + ra
 
 -- a page once it has a type and an owner
 abbrev pub retyped_page : ℕ → Owner → Page → Page
-retyped_page t o x = record { number = x.number; mtype = t; attributes = attributes_as t x.attributes; owner = o }
+retyped_page t o x =
+    record { number = x.number; mtype = t; attributes = attributes_as t x.attributes; owner = o }
 
 -- The memory once the pages of a range have a type and an owner, all other pages as before. A
 -- placement is one use of it; freeing, which gives the conventional type and the owner Given, is

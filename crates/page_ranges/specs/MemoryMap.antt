@@ -19,7 +19,8 @@ goes_on_in x b = (x.number + 1 == b.first) && (x.mtype == b.mtype) && (x.attribu
 -- first, or is alone
 abbrev pub with_page_below : Page → List Descriptor → List Descriptor
 with_page_below x [] = block_of x ∷ []
-with_page_below x (b ∷ bs) = if goes_on_in x b then record (block_of x) { pages = b.pages + 1 } ∷ bs else block_of x ∷ b ∷ bs
+with_page_below x (b ∷ bs) =
+    if goes_on_in x b then record (block_of x) { pages = b.pages + 1 } ∷ bs else block_of x ∷ b ∷ bs
 
 abbrev pub memory_map : List Page → List Descriptor
 memory_map [] = []
@@ -54,7 +55,8 @@ AreInOrder (b ∷ bs) = AllByRecursion (λ c. b.first + b.pages ≤ c.first) bs 
 
 -- the second entry begins where the first ends, and has its type and attributes
 abbrev pub should_be_one : Descriptor → Descriptor → Bool
-should_be_one d e = (d.first + d.pages == e.first) && (d.mtype == e.mtype) && (d.attributes == e.attributes)
+should_be_one d e =
+    (d.first + d.pages == e.first) && (d.mtype == e.mtype) && (d.attributes == e.attributes)
 
 -- an entry that a map can have
 pub record IsEntry (d : Descriptor) : Type 0 where
@@ -71,8 +73,12 @@ IsApart d (e ∷ es) = should_be_one d e ≡ false
 -- a list that is a map: entries in order, no two neighbours of which should be one
 abbrev pub IsMap : List Descriptor → Type 0
 IsMap [] = Unit {0}
-IsMap (d ∷ ds) = IsEntry d × AllByRecursion (λ e. d.first + d.pages ≤ e.first) ds × IsApart d ds × IsMap ds
+IsMap (d ∷ ds) =
+    IsEntry d × AllByRecursion (λ e. d.first + d.pages ≤ e.first) ds × IsApart d ds × IsMap ds
 
 -- the memory that entries represent, all of it the machine's own
 abbrev pub memory_of : List Descriptor → List Page
-memory_of ds = flat_map (λ d. row d.pages (record { number = d.first; mtype = d.mtype; attributes = d.attributes; owner = Given })) ds
+memory_of ds =
+    flat_map
+    (λ d. row d.pages
+    (record { number = d.first; mtype = d.mtype; attributes = d.attributes; owner = Given })) ds

@@ -44,4 +44,6 @@ is_specific_purpose attributes = not (bit_and attributes specific_purpose == 0)
 -- a page's attributes once it has a type: RUNTIME is on for code and data of runtime services, and
 -- off for other types
 abbrev pub attributes_as : ℕ → ℕ → ℕ
-attributes_as t attributes = if (t == 5) || (t == 6) then bit_or attributes runtime else attributes - bit_and attributes runtime
+attributes_as t attributes =
+    if (t == 5) || (t == 6) then bit_or attributes runtime
+    else attributes - bit_and attributes runtime

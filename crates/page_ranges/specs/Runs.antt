@@ -24,7 +24,9 @@ pub record IsInRun (r : Run) (k : ℕ) : Type 0 where
 -- nonempty runs, each of which ends before those after it
 abbrev pub AreRuns : List Run → Type 0
 AreRuns [] = Unit {0}
-AreRuns (r ∷ rs) = (0 < r.range.pages) × AllByRecursion (λ s. r.range.first + r.range.pages ≤ s.range.first) rs × AreRuns rs
+AreRuns (r ∷ rs) =
+    (0 < r.range.pages) × AllByRecursion (λ s. r.range.first + r.range.pages ≤ s.range.first) rs
+    × AreRuns rs
 
 -- A machine: runs in order, of the machine's own, of types that a machine may have, which make a
 -- proper memory.
@@ -44,17 +46,28 @@ is_same_owner a b = false
 
 -- the second run begins where the first ends, and has its type, attributes and owner
 abbrev pub should_be_one_run : Run → Run → Bool
-should_be_one_run r s = (r.range.first + r.range.pages == s.range.first) && (r.mtype == s.mtype) && (r.attributes == s.attributes) && is_same_owner r.owner s.owner
+should_be_one_run r s =
+    (r.range.first + r.range.pages == s.range.first) && (r.mtype == s.mtype)
+    && (r.attributes == s.attributes) && is_same_owner r.owner s.owner
 
 -- a page as a run of its own
 abbrev pub run_of : Page → Run
-run_of x = record { range = record { first = x.number; pages = 1 }; mtype = x.mtype; attributes = x.attributes; owner = x.owner }
+run_of x =
+    record {
+      range = record { first = x.number; pages = 1 };
+      mtype = x.mtype;
+      attributes = x.attributes;
+      owner = x.owner;
+    }
 
 -- the runs of a page and of the pages above it, which make these runs: the page goes on in the
 -- first, or is alone
 abbrev pub with_page_below_runs : Page → List Run → List Run
 with_page_below_runs x [] = run_of x ∷ []
-with_page_below_runs x (r ∷ rs) = if should_be_one_run (run_of x) r then record (run_of x) { range = record { first = x.number; pages = r.range.pages + 1 } } ∷ rs else run_of x ∷ r ∷ rs
+with_page_below_runs x (r ∷ rs) =
+    if should_be_one_run (run_of x) r
+    then record (run_of x) { range = record { first = x.number; pages = r.range.pages + 1 } } ∷ rs
+    else run_of x ∷ r ∷ rs
 
 -- the maximal runs of a memory, ascending
 abbrev pub runs_of : List Page → List Run
@@ -69,4 +82,6 @@ IsApartRun r (s ∷ ss) = should_be_one_run r s ≡ false
 -- runs in order, no two neighbours of which should be one
 abbrev pub AreMaximalRuns : List Run → Type 0
 AreMaximalRuns [] = Unit {0}
-AreMaximalRuns (r ∷ rs) = (0 < r.range.pages) × AllByRecursion (λ s. r.range.first + r.range.pages ≤ s.range.first) rs × IsApartRun r rs × AreMaximalRuns rs
+AreMaximalRuns (r ∷ rs) =
+    (0 < r.range.pages) × AllByRecursion (λ s. r.range.first + r.range.pages ≤ s.range.first) rs
+    × IsApartRun r rs × AreMaximalRuns rs

@@ -1,7 +1,7 @@
 //! Ranges of pages, and what a range of a memory is.
 use crate::types::MemoryType;
 
-/// So many pages in a row, from a first page number on.
+/// A number of pages in a row, from a first page number on.
 #[derive(Clone, Copy, Debug, Default, PartialEq, Eq)]
 pub struct PageRange {
     pub first: u64,

@@ -18,9 +18,13 @@ pub record IsAccepted (ds : List Descriptor) (r : Request) (c : CertificateValue
 
 -- An accepted certificate is true in each proper memory with that map.
 abbrev pub AcceptedLaw : Type 0
-AcceptedLaw = (ds : List Descriptor) (r : Request) (c : CertificateValue) (m : List Page) → IsAccepted ds r c → IsProperMemory m → memory_map m ≡ ds → IsTrueCertificate m r c
+AcceptedLaw =
+    (ds : List Descriptor) (r : Request) (c : CertificateValue) (m : List Page) → IsAccepted ds r c
+    → IsProperMemory m → memory_map m ≡ ds → IsTrueCertificate m r c
 
 -- Each certificate that is true in a proper memory of machine types is accepted with the memory's
 -- map.
 abbrev pub TrueIsAcceptedLaw : Type 0
-TrueIsAcceptedLaw = (m : List Page) (r : Request) (c : CertificateValue) → IsProperMemory m → HasMachineTypes m → IsProperRequest r → IsTrueCertificate m r c → IsAccepted (memory_map m) r c
+TrueIsAcceptedLaw =
+    (m : List Page) (r : Request) (c : CertificateValue) → IsProperMemory m → HasMachineTypes m
+    → IsProperRequest r → IsTrueCertificate m r c → IsAccepted (memory_map m) r c

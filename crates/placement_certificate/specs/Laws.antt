@@ -25,7 +25,9 @@ MapLengthLaw = (m : List Page) → IsAscending m → length (memory_map m) ≡ c
 
 -- An edge has equal pages below and above it just where it is inside an entry.
 abbrev pub InsideLaw : Type 0
-InsideLaw = (m : List Page) (k : ℕ) → IsAscending m → (are_alike (page_below m k) (page_at m k) ≡ true) ↔ ((e : Descriptor) × Contains (memory_map m) e × (e.first < k) × (k < e.first + e.pages))
+InsideLaw =
+    (m : List Page) (k : ℕ) → IsAscending m → (are_alike (page_below m k) (page_at m k) ≡ true)
+    ↔ ((e : Descriptor) × Contains (memory_map m) e × (e.first < k) × (k < e.first + e.pages))
 
 -- what an edge adds to the price: 1 where it is inside an entry
 abbrev pub adds : Option Page → Option Page → ℕ
@@ -34,21 +36,29 @@ adds below above = if are_alike below above then 1 else 0
 -- what an edge saves: 1 where the page outside it is of the type t, and shares its entry with the
 -- page inside once that has the type t too
 abbrev pub saves : ℕ → Option Page → Option Page → ℕ
-saves t (Some x) (Some y) = if (x.mtype == t) && (x.attributes == attributes_as t y.attributes) then 1 else 0
+saves t (Some x) (Some y) =
+    if (x.mtype == t) && (x.attributes == attributes_as t y.attributes) then 1 else 0
 saves t x y = 0
 
 -- The price of a permitted start is the map's length, with what its two edges add and without what
 -- they save.
 abbrev pub PriceLaw : Type 0
-PriceLaw = (m : List Page) (r : Request) (p : ℕ) → IsProperMemory m → IsProperRequest r → IsPermittedStart m r p →
+PriceLaw =
+    (m : List Page) (r : Request) (p : ℕ) → IsProperMemory m → IsProperRequest r
+    → IsPermittedStart m r p →
     let end = p + r.pages in
-    price m r p + (saves r.mtype (page_below m p) (page_at m p) + saves r.mtype (page_at m end) (page_below m end))
-    ≡ length (memory_map m) + (adds (page_below m p) (page_at m p) + adds (page_below m end) (page_at m end))
+    price m r p
+    + (saves r.mtype (page_below m p) (page_at m p) + saves r.mtype (page_at m end)
+    (page_below m end))
+    ≡ length (memory_map m)
+    + (adds (page_below m p) (page_at m p) + adds (page_below m end) (page_at m end))
 
 -- With a granule of 1, an entry that holds a permitted start may also be placed in from its first
 -- page on, and that makes the map longer by 1 at most.
 abbrev pub FirstPageLaw : Type 0
-FirstPageLaw = (m : List Page) (r : Request) (e : Descriptor) (p : ℕ) → r.granule ≡ 1 → IsProperMemory m → IsProperRequest r → Contains (memory_map m) e → IsIn e p → IsPermittedStart m r p →
+FirstPageLaw =
+    (m : List Page) (r : Request) (e : Descriptor) (p : ℕ) → r.granule ≡ 1 → IsProperMemory m
+    → IsProperRequest r → Contains (memory_map m) e → IsIn e p → IsPermittedStart m r p →
     IsPermittedStart m r e.first × (price m r e.first ≤ length (memory_map m) + 1)
 
 -- The pages from first on are available up to stop, and the page at stop is not.
@@ -59,7 +69,10 @@ pub record IsStretch (m : List Page) (first stop : ℕ) : Type 0 where
 -- In a stretch a start is permitted just where it is a multiple of the granule and its pages end by
 -- the stretch's end and by the limit.
 abbrev pub StretchLaw : Type 0
-StretchLaw = (m : List Page) (r : Request) (first stop p : ℕ) → IsStretch m first stop → first ≤ p → p < stop → IsPermittedStart m r p ↔ ((p % r.granule ≡ 0) × (p + r.pages ≤ r.limit) × (p + r.pages ≤ stop))
+StretchLaw =
+    (m : List Page) (r : Request) (first stop p : ℕ) → IsStretch m first stop → first ≤ p
+    → p < stop → IsPermittedStart m r p
+    ↔ ((p % r.granule ≡ 0) × (p + r.pages ≤ r.limit) × (p + r.pages ≤ stop))
 
 -- some entry ends at the number
 abbrev pub EndsEntry : List Page → ℕ → Type 0
@@ -68,7 +81,9 @@ EndsEntry m k = (e : Descriptor) × Contains (memory_map m) e × (k ≡ e.first 
 -- A permitted start is its entry's first page, or ends where an entry ends, or costs the map's
 -- length plus 2.
 abbrev pub EdgesLaw : Type 0
-EdgesLaw = (m : List Page) (r : Request) (e : Descriptor) (p : ℕ) → IsProperMemory m → IsProperRequest r → Contains (memory_map m) e → IsIn e p → IsPermittedStart m r p →
+EdgesLaw =
+    (m : List Page) (r : Request) (e : Descriptor) (p : ℕ) → IsProperMemory m → IsProperRequest r
+    → Contains (memory_map m) e → IsIn e p → IsPermittedStart m r p →
     (p ≡ e.first) ⊎ EndsEntry m (p + r.pages) ⊎ (price m r p ≡ length (memory_map m) + 2)
 
 -- no permitted start in the entry is higher
@@ -82,32 +97,48 @@ IsPlace m r e p = (p ≡ e.first) ⊎ EndsEntry m (p + r.pages) ⊎ IsHighestIn 
 
 -- The best start in an entry is at one of these places.
 abbrev pub BlockEndsLaw : Type 0
-BlockEndsLaw = (m : List Page) (r : Request) (e : Descriptor) (p : ℕ) → IsProperMemory m → IsProperRequest r → Contains (memory_map m) e → IsBestIn m r e p → IsPlace m r e p
+BlockEndsLaw =
+    (m : List Page) (r : Request) (e : Descriptor) (p : ℕ) → IsProperMemory m → IsProperRequest r
+    → Contains (memory_map m) e → IsBestIn m r e p → IsPlace m r e p
 
 -- With a granule of 1 it is the entry's first page, or ends where an entry ends, since the first
 -- page is permitted where any start in the entry is.
 abbrev pub FirstOrEndLaw : Type 0
-FirstOrEndLaw = (m : List Page) (r : Request) (e : Descriptor) (p : ℕ) → r.granule ≡ 1 → IsProperMemory m → IsProperRequest r → Contains (memory_map m) e → IsBestIn m r e p → (p ≡ e.first) ⊎ EndsEntry m (p + r.pages)
+FirstOrEndLaw =
+    (m : List Page) (r : Request) (e : Descriptor) (p : ℕ) → r.granule ≡ 1 → IsProperMemory m
+    → IsProperRequest r → Contains (memory_map m) e → IsBestIn m r e p → (p ≡ e.first)
+    ⊎ EndsEntry m (p + r.pages)
 
 -- The best start in an entry makes the map longer by 2 at most, and with a granule of 1 by 1 at
 -- most.
 abbrev pub BestPriceLaw : Type 0
-BestPriceLaw = (m : List Page) (r : Request) (e : Descriptor) (p : ℕ) → IsProperMemory m → IsProperRequest r → Contains (memory_map m) e → IsBestIn m r e p →
-    (price m r p ≤ length (memory_map m) + 2) × (r.granule ≡ 1 → price m r p ≤ length (memory_map m) + 1)
+BestPriceLaw =
+    (m : List Page) (r : Request) (e : Descriptor) (p : ℕ) → IsProperMemory m → IsProperRequest r
+    → Contains (memory_map m) e → IsBestIn m r e p →
+    (price m r p ≤ length (memory_map m) + 2)
+    × (r.granule ≡ 1 → price m r p ≤ length (memory_map m) + 1)
 
 -- A permitted start in an entry is the best there if no permitted start at one of these places is
 -- better.
 abbrev pub CandidatesLaw : Type 0
-CandidatesLaw = (m : List Page) (r : Request) (e : Descriptor) (p : ℕ) → IsProperMemory m → IsProperRequest r → Contains (memory_map m) e → IsIn e p → IsPermittedStart m r p →
-    ((q : ℕ) → IsIn e q → IsPermittedStart m r q → IsPlace m r e q → (price m r p ≤ price m r q) × (price m r q ≡ price m r p → q ≤ p)) → IsBestIn m r e p
+CandidatesLaw =
+    (m : List Page) (r : Request) (e : Descriptor) (p : ℕ) → IsProperMemory m → IsProperRequest r
+    → Contains (memory_map m) e → IsIn e p → IsPermittedStart m r p →
+    ((q : ℕ) → IsIn e q → IsPermittedStart m r q → IsPlace m r e q → (price m r p ≤ price m r q)
+    × (price m r q ≡ price m r p → q ≤ p)) → IsBestIn m r e p
 
 -- Two true certificates of one request in one memory are equal, and their answer is permitted.
 abbrev pub OneCertificateLaw : Type 0
-OneCertificateLaw = (m : List Page) (r : Request) (c d : CertificateValue) → IsTrueCertificate m r c → IsTrueCertificate m r d → (c ≡ d) × IsPermittedStart m r c.answer
+OneCertificateLaw =
+    (m : List Page) (r : Request) (c d : CertificateValue) → IsTrueCertificate m r c
+    → IsTrueCertificate m r d → (c ≡ d) × IsPermittedStart m r c.answer
 
 -- Memories with the same map have the same true certificates.
 abbrev pub MapDecidesLaw : Type 0
-MapDecidesLaw = (m n : List Page) (r : Request) (c : CertificateValue) → IsProperMemory m → IsProperMemory n → IsProperRequest r → memory_map m ≡ memory_map n → IsTrueCertificate m r c → IsTrueCertificate n r c
+MapDecidesLaw =
+    (m n : List Page) (r : Request) (c : CertificateValue) → IsProperMemory m → IsProperMemory n
+    → IsProperRequest r → memory_map m ≡ memory_map n → IsTrueCertificate m r c
+    → IsTrueCertificate n r c
 
 -- the best start of an entry, at a price of count, is no worse than the best start of another entry
 abbrev pub IsNoWorse : ℕ → ℕ → Option (ℕ × ℕ) → Type 0
@@ -116,6 +147,9 @@ IsNoWorse count top None = Unit {0}
 
 -- Of true bounds, the best one has the best start; and where none has a start, none is permitted.
 abbrev pub BestBoundLaw : Type 0
-BestBoundLaw = (m : List Page) (r : Request) (bs : List Bound) → IsProperMemory m → IsProperRequest r → AllZip (IsTrueBound m r) (conventional_entries m) bs →
-    ((b : Bound) (count top : ℕ) → Contains bs b → b.least ≡ Some (count, top) → AllByRecursion (λ c. IsNoWorse count top c.least) bs → IsBestStart m r top)
+BestBoundLaw =
+    (m : List Page) (r : Request) (bs : List Bound) → IsProperMemory m → IsProperRequest r
+    → AllZip (IsTrueBound m r) (conventional_entries m) bs →
+    ((b : Bound) (count top : ℕ) → Contains bs b → b.least ≡ Some (count, top)
+    → AllByRecursion (λ c. IsNoWorse count top c.least) bs → IsBestStart m r top)
     × (AllByRecursion (λ c. c.least ≡ None) bs → (p : ℕ) → ¬ IsPermittedStart m r p)

@@ -19,6 +19,11 @@ pub record IsProperRequest (r : Request) : Type 0 where
   pub typed : granule_for r.mtype r.granule ≡ r.granule
   pub filled : r.pages % r.granule ≡ 0
 
+-- its granule is one that its type has on some machine, and its pages fill whole granules
+abbrev pub FillsGranules : Request → Type 0
+FillsGranules r =
+    IsGranule r.granule × (granule_for r.mtype r.granule ≡ r.granule) × (r.pages % r.granule ≡ 0)
+
 -- the pages of a request that is placed at a start
 abbrev pub range_at : Request → ℕ → PageRange
 range_at r p = record { first = p; pages = r.pages }

@@ -17,12 +17,15 @@ use Rattle.placement_certificate.specs.Laws.{IsStretch, IsNoWorse}
 abbrev pub better : Option (ℕ × ℕ) → Option (ℕ × ℕ) → Option (ℕ × ℕ)
 better None y = y
 better (Some x) None = Some x
-better (Some (c, t)) (Some (d, u)) = if nat_lt d c || (d == c && nat_lt t u) then Some (d, u) else Some (c, t)
+better (Some (c, t)) (Some (d, u)) =
+    if nat_lt d c || (d == c && nat_lt t u) then Some (d, u) else Some (c, t)
 
 -- the best start of some bounds, with its price; or that none of them has a start
 abbrev pub IsBestOf : Option (ℕ × ℕ) → List Bound → Type 0
 IsBestOf None bs = AllByRecursion (λ b. b.least ≡ None) bs
-IsBestOf (Some (count, top)) bs = ((b : Bound) × Contains bs b × (b.least ≡ Some (count, top))) × AllByRecursion (λ b. IsNoWorse count top b.least) bs
+IsBestOf (Some (count, top)) bs =
+    ((b : Bound) × Contains bs b × (b.least ≡ Some (count, top)))
+    × AllByRecursion (λ b. IsNoWorse count top b.least) bs
 
 -- ---- the starts in an entry
 
@@ -34,7 +37,12 @@ IsFound m r e (Some (count, top)) = IsIn e top × IsPermittedStart m r top × (p
 -- what was found is no worse than a start, if that is a permitted start in the entry
 abbrev pub IsTried : List Page → Request → Descriptor → Option (ℕ × ℕ) → ℕ → Type 0
 IsTried m r e None q = IsIn e q → ¬ IsPermittedStart m r q
-IsTried m r e (Some (count, top)) q = IsIn e q → IsPermittedStart m r q → (count ≤ price m r q) × (price m r q ≡ count → q ≤ top)
+IsTried m r e (Some (count, top)) q =
+    IsIn e q → IsPermittedStart m r q → (count ≤ price m r q) × (price m r q ≡ count → q ≤ top)
+
+-- what was found later is no worse than any start that what was found before is no worse than
+abbrev pub StaysTried : List Page → Request → Descriptor → Option (ℕ × ℕ) → Option (ℕ × ℕ) → Type 0
+StaysTried m r e old new = (q : ℕ) → IsTried m r e old q → IsTried m r e new q
 
 -- a block of available pages
 abbrev pub IsAvailableBlock : Descriptor → Type 0
@@ -52,7 +60,8 @@ multiple_to number granule = number - number % granule
 -- a start in the entry is permitted just where it is a multiple of the granule and its pages end by
 -- a page number
 abbrev pub PermitsUpTo : List Page → Request → Descriptor → ℕ → Type 0
-PermitsUpTo m r e end = (q : ℕ) → IsIn e q → IsPermittedStart m r q ↔ ((q % r.granule ≡ 0) × (q + r.pages ≤ end))
+PermitsUpTo m r e end =
+    (q : ℕ) → IsIn e q → IsPermittedStart m r q ↔ ((q % r.granule ≡ 0) × (q + r.pages ≤ end))
 
 -- a page has the type and attributes of a block, or is absent where there is none
 abbrev pub IsOnPage : Option Descriptor → Option Page → Type 0

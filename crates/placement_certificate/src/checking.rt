@@ -1,9 +1,8 @@
 //! The check of a certificate, from nothing but a list of entries and a request.
-ghost use Rattle.std.specs.Prelude.{◌≡◌, ◌↔◌, ℕ, ◌%◌, Some, IsTrue, slice_get};
+ghost use Rattle.std.specs.Prelude.{◌≡◌, ◌↔◌, ℕ, Some, IsTrue, slice_get};
 ghost use Rattle.std.specs.List.{AllZip};
-ghost use Rattle.page_ranges.specs.Granules.{IsGranule, granule_for};
 ghost use Rattle.page_ranges.specs.MemoryMap.{IsMap, memory_of};
-ghost use Rattle.placement_certificate.specs.Placement.{IsProperRequest};
+ghost use Rattle.placement_certificate.specs.Placement.{FillsGranules, IsProperRequest};
 ghost use Rattle.placement_certificate.specs.Certificates.{IsTrueBound, conventional_entries};
 ghost use Rattle.placement_certificate.specs.Acceptance.{IsAccepted};
 ghost use Rattle.placement_certificate.specs.Search.{IsBestOf};
@@ -43,7 +42,7 @@ fn is_proper(request: &Request) -> bool
 // Whether a request's granule is one that its type has on some machine, and its pages fill whole
 // granules.
 fn fills_granules(request: &Request) -> bool
-    ensures { IsTrue result ↔ (IsGranule request.now.granule × (granule_for request.now.mtype request.now.granule ≡ request.now.granule) × (request.now.pages % request.now.granule ≡ 0)) }
+    ensures { IsTrue result ↔ FillsGranules request.now }
 {
     let granule = request.granule;
     (granule == 1 || granule == 16)
@@ -55,7 +54,9 @@ fn fills_granules(request: &Request) -> bool
 fn are_true_bounds(map: &[Descriptor], request: &Request, bounds: &[Bound]) -> bool
     requires map { IsMap map.now }
     requires good { IsProperRequest request.now }
-    ensures { IsTrue result ↔ AllZip (IsTrueBound (memory_of map.now) request.now) (conventional_entries (memory_of map.now)) bounds.now }
+    ensures { IsTrue result
+        ↔ AllZip (IsTrueBound (memory_of map.now) request.now)
+        (conventional_entries (memory_of map.now)) bounds.now }
 {
     let entries = map.len() as u64;
     let mut search = EntrySearch::new(MapCursor::new(map), MapCursor::new(map));

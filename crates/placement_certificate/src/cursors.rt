@@ -7,7 +7,7 @@ ghost use Rattle.page_ranges.specs.Cursors.{IsBlockAt};
 use page_ranges::{Descriptor, PageCursor};
 use std::marker::Model;
 
-/// So many entries are looked at one after the other before all are searched by halving.
+/// How many entries are looked at one after the other before all are searched by halving.
 const STEPS: usize = 64;
 
 // How many entries end at a page or below it; they come first.

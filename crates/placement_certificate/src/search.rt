@@ -98,7 +98,8 @@ impl<C: PageCursor + Drop> Model for EntrySearch<C> {
 
     ghost view = { λ s. C.memory s.sides };
 
-    ghost invariant = { λ s. (C.memory s.ends ≡ C.memory s.sides) × (s.first < s.stop → IsStretch (C.memory s.sides) s.first s.stop) };
+    ghost invariant = { λ s. (C.memory s.ends ≡ C.memory s.sides)
+        × (s.first < s.stop → IsStretch (C.memory s.sides) s.first s.stop) };
 }
 
 impl<C: PageCursor + Drop> EntrySearch<C> {

@@ -6,7 +6,7 @@ ghost use Rattle.page_ranges.specs.Cursors.{IsBlock, IsBlockAt};
 ghost use Rattle.placement_certificate.specs.Placement.{IsPermittedStart, price};
 ghost use Rattle.placement_certificate.specs.Certificates.{IsTrueLeast};
 ghost use Rattle.placement_certificate.specs.Laws.{adds, saves};
-ghost use Rattle.placement_certificate.specs.Search.{AreStartsIn, IsFound, IsTried, IsOnPage};
+ghost use Rattle.placement_certificate.specs.Search.{AreStartsIn, IsFound, IsTried, IsOnPage, StaysTried};
 
 use crate::better::{PricedStart, better_of};
 use crate::certificates::Request;
@@ -35,7 +35,8 @@ pub(crate) struct EntryStarts {
 // What an edge adds to the price, by blocks that hold the page below it and the page above it.
 #[inline(always)]
 fn edge_adds(below: &Option<Descriptor>, above: &Option<Descriptor>) -> u64
-    ensures { (x y : Option Page) → IsOnPage below.now x → IsOnPage above.now y → result ≡ adds x y }
+    ensures { (x y : Option Page) → IsOnPage below.now x → IsOnPage above.now y
+        → result ≡ adds x y }
 {
     match (below, above) {
         (Some(x), Some(y)) => u64::from(x.mtype == y.mtype && x.attributes == y.attributes),
@@ -50,7 +51,8 @@ pub(crate) fn edge_saves(
     outside: &Option<Descriptor>,
     inside: &Option<Descriptor>,
 ) -> u64
-    ensures { (x y : Option Page) → IsOnPage outside.now x → IsOnPage inside.now y → result ≡ saves mtype x y }
+    ensures { (x y : Option Page) → IsOnPage outside.now x → IsOnPage inside.now y
+        → result ≡ saves mtype x y }
 {
     match (outside, inside) {
         (Some(x), Some(y)) => {
@@ -64,7 +66,8 @@ impl EntryStarts {
     // A block with the page just below a start.
     #[inline(always)]
     fn block_below(&self, start: u64) -> Option<Descriptor>
-        ensures { (m : _) → AreStartsIn m self.now → IsIn self.now.entry start → IsOnPage result (page_below m start) }
+        ensures { (m : _) → AreStartsIn m self.now → IsIn self.now.entry start
+            → IsOnPage result (page_below m start) }
     {
         if self.entry.first < start {
             Some(self.entry)
@@ -123,9 +126,12 @@ impl EntryStarts {
     fn first_block<C: PageCursor>(&self, cursor: &mut C) -> Option<Descriptor>
         requires starts { AreStartsIn (C.memory cursor.old) self.now }
         requires in_entry { IsIn self.now.entry self.now.lowest }
-        requires permitted { IsPermittedStart (C.memory cursor.old) self.now.request self.now.lowest }
+        requires permitted { IsPermittedStart
+            (C.memory cursor.old) self.now.request self.now.lowest }
         ensures stays { C.memory cursor.new ≡ C.memory cursor.old }
-        ensures block { IfSome result (λ b. IsBlock (C.memory cursor.old) b × IsIn b (self.now.lowest + self.now.request.pages - 1)) }
+        ensures block { IfSome result
+            (λ b. IsBlock (C.memory cursor.old) b
+            × IsIn b (self.now.lowest + self.now.request.pages - 1)) }
         ensures some { result ≢ None }
     {
         let last = self.lowest + (self.request.pages - 1);
@@ -154,7 +160,8 @@ impl EntryStarts {
         ensures stays { C.memory cursor.new ≡ C.memory cursor.old }
         ensures found { IsFound (C.memory cursor.old) self.now.request self.now.entry result }
         ensures tried { IsTried (C.memory cursor.old) self.now.request self.now.entry result start }
-        ensures still { (q : ℕ) → IsTried (C.memory cursor.old) self.now.request self.now.entry found q → IsTried (C.memory cursor.old) self.now.request self.now.entry result q }
+        ensures still { StaysTried
+            (C.memory cursor.old) self.now.request self.now.entry found result }
     {
         let count = self.price_of(cursor, start, block);
         better_of(found, Some((count, start)))
@@ -167,7 +174,8 @@ impl EntryStarts {
     pub(crate) fn least<C: PageCursor>(&self, cursor: &mut C) -> Option<PricedStart>
         requires starts { AreStartsIn (C.memory cursor.old) self.now }
         requires in_entry { IsIn self.now.entry self.now.lowest }
-        requires permitted { IsPermittedStart (C.memory cursor.old) self.now.request self.now.lowest }
+        requires permitted { IsPermittedStart
+            (C.memory cursor.old) self.now.request self.now.lowest }
         ensures stays { C.memory cursor.new ≡ C.memory cursor.old }
         ensures least { IsTrueLeast (C.memory cursor.old) self.now.request self.now.entry result }
     {

@@ -15,8 +15,10 @@ pub fn choose<A: Allocator + Copy, B: Allocator + Copy>(
     request: &Request,
 ) -> Result<Option<Certificate<A>>, AllocError>
     requires { IsProperRequest request.now }
-    ensures certificate { IfOk result (λ o. IfSome o (λ c. IsTrueCertificate table.now request.now c)) }
-    ensures none { IfOk result (λ o. o ≡ None → (p : ℕ) → ¬ IsPermittedStart table.now request.now p) }
+    ensures certificate { IfOk result
+        (λ o. IfSome o (λ c. IsTrueCertificate table.now request.now c)) }
+    ensures none { IfOk result
+        (λ o. o ≡ None → (p : ℕ) → ¬ IsPermittedStart table.now request.now p) }
 {
     let entries = table.descriptors();
     // Room for a bound of each entry.

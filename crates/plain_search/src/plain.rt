@@ -80,7 +80,8 @@ fn placed_runs<A: Allocator + Copy>(
 ) -> Result<Vec<Run, A>, AllocError>
     requires runs { AreRunsBy page_count runs.now }
     requires within { range.first + range.pages ≤ page_count }
-    ensures pages { IfOk result (λ v. pages_of v.items ≡ retyped range mtype Pages (pages_of runs.now)) }
+    ensures pages { IfOk result
+        (λ v. pages_of v.items ≡ retyped range mtype Pages (pages_of runs.now)) }
     ensures order { IfOk result (λ v. AreRunsBy page_count v.items) }
 {
     let mut out = Vec::new(alloc);
@@ -111,7 +112,9 @@ fn push_part<A: Allocator>(
 ) -> Result<(), AllocError>
     requires order { AreRunsBy first out.old.items }
     requires up { first ≤ end }
-    ensures pages { OnOk result (pages_of out.new.items ≡ pages_of out.old.items ++ row (end - first) (page_in first run.now)) }
+    ensures pages { OnOk result
+        (pages_of out.new.items ≡ pages_of out.old.items
+        ++ row (end - first) (page_in first run.now)) }
     ensures order { OnOk result (AreRunsBy end out.new.items) }
 {
     if first < end {
@@ -139,8 +142,10 @@ pub fn plain_certificate<A: Allocator + Copy>(
     requires runs { AreRuns runs.now }
     requires proper { IsProperMemory (pages_of runs.now) }
     requires good { IsProperRequest request.now }
-    ensures certificate { IfOk result (λ o. IfSome o (λ c. IsTrueCertificate (pages_of runs.now) request.now c)) }
-    ensures none { IfOk result (λ o. o ≡ None → (p : ℕ) → ¬ IsPermittedStart (pages_of runs.now) request.now p) }
+    ensures certificate { IfOk result
+        (λ o. IfSome o (λ c. IsTrueCertificate (pages_of runs.now) request.now c)) }
+    ensures none { IfOk result
+        (λ o. o ≡ None → (p : ℕ) → ¬ IsPermittedStart (pages_of runs.now) request.now p) }
 {
     let entries = plain_map(alloc, runs)?;
     let mut bounds = Vec::new(alloc);
@@ -216,7 +221,8 @@ fn is_available(runs: &[Run], page: u64) -> bool
 }
 
 fn is_available_run(run: &Run) -> bool
-    ensures { IsTrue result ↔ ((run.now.mtype ≡ conventional) × (is_specific_purpose run.now.attributes ≡ false)) }
+    ensures { IsTrue result
+        ↔ ((run.now.mtype ≡ conventional) × (is_specific_purpose run.now.attributes ≡ false)) }
 {
     run.mtype.number() == 7 && !is_specific_purpose(run.attributes)
 }

@@ -15,7 +15,13 @@ use placement_certificate::{Bound, Request};
 use std::alloc::AllocError;
 
 fn run(first: u64, pages: u64, number: u32, attributes: u64) -> Run
-    ensures { result ≡ record { range = record { first = first; pages = pages }; mtype = number; attributes = attributes; owner = Given } }
+    ensures { result
+        ≡ record {
+          range = record { first = first; pages = pages };
+          mtype = number;
+          attributes = attributes;
+          owner = Given;
+        } }
 {
     Run {
         range: PageRange { first, pages },

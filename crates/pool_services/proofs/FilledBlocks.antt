@@ -85,7 +85,7 @@ pub allocated-tail : (Chosen : Choice) (b new_b : Book) (es new : List Extent) (
     tail_at answer.0 new ≡ Some (replicate size 0)
 allocated-tail Chosen b new_b es new t size answer a v (good, s, put) = put-tail Chosen b new_b es new t size answer (first_fit t size es) a v refl put
 
--- So many bytes as were asked for, or fewer, lie in the block.
+-- At most as many bytes as were asked for lie in the block.
 allocated-holds : (Chosen : Choice) (b new_b : Book) (es new : List Extent) (t size count : ℕ) (answer : Answer) → AreExtents es → AreExtents new → AllocatesPool Chosen b es t size (Ok answer) new_b new → count ≤ size →
     IsInBlock answer.0 count new
 allocated-holds Chosen b new_b es new t size count answer a v h l = (replicate size 0, allocated-tail Chosen b new_b es new t size answer a v h, omega (arith, l, length-replicate {A = ℕ} size 0))

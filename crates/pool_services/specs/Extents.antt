@@ -59,34 +59,42 @@ fit_in size e = at_cell e.first (lowest_fit (cells_in e.pages) (cells_for size) 
 -- where a new block of a type goes: of the extents of the type the first that has room takes it
 abbrev pub first_fit : ℕ → ℕ → List Extent → Option Place
 first_fit t size [] = None
-first_fit t size (e ∷ es) = cond (e.mtype == t) (or_else (fit_in size e) (first_fit t size es)) (first_fit t size es)
+first_fit t size (e ∷ es) =
+    cond (e.mtype == t) (or_else (fit_in size e) (first_fit t size es)) (first_fit t size es)
 
 -- ---- blocks by their addresses
 
 -- the cell of the block of an extent that has an address
 abbrev pub cell_of : ℕ → ℕ → List Block → Option ℕ
 cell_of first address [] = None
-cell_of first address (b ∷ bs) = cond (address_of first b.first == address) (Some b.first) (cell_of first address bs)
+cell_of first address (b ∷ bs) =
+    cond (address_of first b.first == address) (Some b.first) (cell_of first address bs)
 
 -- the place of the live block that has an address
 abbrev pub place_of : ℕ → List Extent → Option Place
 place_of address [] = None
-place_of address (e ∷ es) = or_else (at_cell e.first (cell_of e.first address e.blocks)) (place_of address es)
+place_of address (e ∷ es) =
+    or_else (at_cell e.first (cell_of e.first address e.blocks)) (place_of address es)
 
 -- whether the empty range at an address belongs to a block: it lies anywhere from the block's
 -- address to its end
 abbrev pub is_within : ℕ → ℕ → Block → Bool
-is_within first address b = nat_le (address_of first b.first) address && nat_le address (address_of first b.first + b.size)
+is_within first address b =
+    nat_le (address_of first b.first) address && nat_le address (address_of first b.first + b.size)
 
 -- the bytes from an address to the end of the block, of these, that it belongs to
 abbrev pub tail_in : ℕ → ℕ → List Block → Option (List ℕ)
 tail_in first address [] = None
-tail_in first address (b ∷ bs) = cond (is_within first address b) (Some (drop (address - address_of first b.first) b.bytes)) (tail_in first address bs)
+tail_in first address (b ∷ bs) =
+    cond (is_within first address b) (Some (drop (address - address_of first b.first) b.bytes))
+    (tail_in first address bs)
 
 -- the bytes from an address to the end of the live block that it belongs to
 abbrev pub tail_at : ℕ → List Extent → Option (List ℕ)
 tail_at address [] = None
-tail_at address (e ∷ es) = cond (is_some (tail_in e.first address e.blocks)) (tail_in e.first address e.blocks) (tail_at address es)
+tail_at address (e ∷ es) =
+    cond (is_some (tail_in e.first address e.blocks)) (tail_in e.first address e.blocks)
+    (tail_at address es)
 
 -- ---- what changes
 
@@ -104,7 +112,9 @@ begins_at first e = e.first == first
 
 -- the extents with a new block at a place in one of them
 abbrev pub with_new_block : Place → ℕ → List Extent → List Extent
-with_new_block p size es = replaced (begins_at p.first) (λ e. with_blocks (with_block (new_block p.cell size) e.blocks) e ∷ []) es
+with_new_block p size es =
+    replaced (begins_at p.first)
+    (λ e. with_blocks (with_block (new_block p.cell size) e.blocks) e ∷ []) es
 
 -- the pages of a new extent of a type for a block of a size, on a machine with a granule: they fill
 -- granules of the type
@@ -113,7 +123,8 @@ extent_pages granule t size = whole_pages granule t (pages_for size)
 
 -- an extent of a number of pages of a type, which has a new block at its first cell and no other
 abbrev pub extent_with_block : ℕ → ℕ → ℕ → ℕ → Extent
-extent_with_block first pages t size = record { first = first; pages = pages; mtype = t; blocks = new_block 0 size ∷ [] }
+extent_with_block first pages t size =
+    record { first = first; pages = pages; mtype = t; blocks = new_block 0 size ∷ [] }
 
 -- a new extent of a type for a block of a size, on a machine with a granule
 abbrev pub new_extent : ℕ → ℕ → ℕ → ℕ → Extent
@@ -141,7 +152,8 @@ range_if_ended e (b ∷ bs) = None
 -- the pages of the extent that ends with the block at a place
 abbrev pub ended : Place → List Extent → Option PageRange
 ended p [] = None
-ended p (e ∷ es) = cond (begins_at p.first e) (range_if_ended e (without_block p.cell e.blocks)) (ended p es)
+ended p (e ∷ es) =
+    cond (begins_at p.first e) (range_if_ended e (without_block p.cell e.blocks)) (ended p es)
 
 -- whether an address belongs to a block of an extent
 abbrev pub has_tail : ℕ → Extent → Bool
@@ -152,11 +164,19 @@ has_tail address e = is_some (tail_in e.first address e.blocks)
 abbrev pub written_in : ℕ → ℕ → List ℕ → List Block → List Block
 written_in first address bytes [] = []
 written_in first address bytes (b ∷ bs) =
-    cond (is_within first address b) (record { first = b.first; size = b.size; bytes = put b.bytes (address - address_of first b.first) bytes } ∷ bs) (b ∷ written_in first address bytes bs)
+    cond (is_within first address b)
+    (record {
+      first = b.first;
+      size = b.size;
+      bytes = put b.bytes
+          (address - address_of first b.first) bytes;
+    } ∷ bs) (b ∷ written_in first address bytes bs)
 
 -- the extents once bytes are written from an address on, in the block that it belongs to
 abbrev pub written : ℕ → List ℕ → List Extent → List Extent
-written address bytes es = replaced (has_tail address) (λ e. with_blocks (written_in e.first address bytes e.blocks) e ∷ []) es
+written address bytes es =
+    replaced (has_tail address)
+    (λ e. with_blocks (written_in e.first address bytes e.blocks) e ∷ []) es
 
 -- ---- extents that are apart
 
@@ -164,7 +184,8 @@ written address bytes es = replaced (has_tail address) (λ e. with_blocks (writt
 -- cell
 abbrev pub AreBlocks : ℕ → ℕ → List Block → Type 0
 AreBlocks cells from [] = from ≤ cells
-AreBlocks cells from (b ∷ bs) = (from ≤ b.first) × (length b.bytes ≡ b.size) × AreBlocks cells (end_of b) bs
+AreBlocks cells from (b ∷ bs) =
+    (from ≤ b.first) × (length b.bytes ≡ b.size) × AreBlocks cells (end_of b) bs
 
 -- An extent has a page at least, and lies below the last page. It has a block, and its blocks lie
 -- in its cells.
@@ -178,4 +199,5 @@ pub record IsExtent (e : Extent) : Type 0 where
 -- extents in order, none over another
 abbrev pub AreExtents : List Extent → Type 0
 AreExtents [] = Unit {0}
-AreExtents (e ∷ es) = IsExtent e × AllByRecursion (λ x. e.first + e.pages ≤ x.first) es × AreExtents es
+AreExtents (e ∷ es) =
+    IsExtent e × AllByRecursion (λ x. e.first + e.pages ≤ x.first) es × AreExtents es

@@ -34,7 +34,8 @@ OwnsExtents m es = (k : ℕ) → pool_type (page_at m k) ≡ extent_type k es
 -- the request on a machine with a granule for the pages of a new extent for a block of a size, if a
 -- block may have that size
 abbrev pub extent_request : ℕ → ℕ → ℕ → Option Request
-extent_request granule t size = if nat_le size max_size then Some (pool_request granule t (pages_for size)) else None
+extent_request granule t size =
+    if nat_le size max_size then Some (pool_request granule t (pages_for size)) else None
 
 -- the parts of an answer of AllocatePool: the block's address, and the certificate of the place of
 -- a new extent
@@ -43,34 +44,50 @@ Answer = ℕ × Option CertificateValue
 
 -- Where a block was put that a live extent has room for: at the first fit, and no page changes.
 abbrev pub IsPutAt : Place → Book → List Extent → ℕ → Answer → Book → List Extent → Type 0
-IsPutAt p b es size answer new_b new_es = (answer.0 ≡ address_of p.first p.cell) × (answer.1 ≡ None) × (new_b ≡ b) × (new_es ≡ with_new_block p size es)
+IsPutAt p b es size answer new_b new_es =
+    (answer.0 ≡ address_of p.first p.cell) × (answer.1 ≡ None) × (new_b ≡ b)
+    × (new_es ≡ with_new_block p size es)
 
 -- Where a block was put that no live extent has room for: at the first cell of a new extent, at a
 -- start that was chosen.
 abbrev pub IsPutInNew : Choice → Book → List Extent → ℕ → ℕ → Answer → Book → List Extent → Type 0
 IsPutInNew Chosen b es t size answer new_b new_es =
-    (start : ℕ) × Chosen b (pool_request b.granule t (pages_for size)) start answer.1 × (answer.0 ≡ address_of start 0)
-    × (new_b ≡ changed_book (record { first = start; pages = extent_pages b.granule t size }) t Pool b) × (new_es ≡ with_extent (new_extent b.granule start t size) es)
+    (start : ℕ) × Chosen b (pool_request b.granule t (pages_for size)) start answer.1
+    × (answer.0 ≡ address_of start 0)
+    × (new_b
+    ≡ changed_book (record { first = start; pages = extent_pages b.granule t size }) t Pool b)
+    × (new_es ≡ with_extent (new_extent b.granule start t size) es)
 
-abbrev pub IsPut : Choice → Option Place → Book → List Extent → ℕ → ℕ → Answer → Book → List Extent → Type 0
+abbrev pub IsPut : Choice → Option Place → Book → List Extent → ℕ → ℕ → Answer → Book → List Extent
+    → Type 0
 IsPut Chosen (Some p) b es t size answer new_b new_es = IsPutAt p b es size answer new_b new_es
-IsPut Chosen None b es t size answer new_b new_es = IsPutInNew Chosen b es t size answer new_b new_es
+IsPut Chosen None b es t size answer new_b new_es =
+    IsPutInNew Chosen b es t size answer new_b new_es
 
 -- What AllocatePool answers, and the book and the extents after it. A refusal leaves both. Where a
 -- live extent has room there is no OUT_OF_RESOURCES; else that means that no start is permitted or
 -- that memory ran out.
-abbrev pub AllocatesPool : Choice → Book → List Extent → ℕ → ℕ → Result Answer Status → Book → List Extent → Type 0
-AllocatesPool Chosen b es t size (Ok answer) new_b new_es = (is_bad_type t ≡ false) × (size ≤ max_size) × IsPut Chosen (first_fit t size es) b es t size answer new_b new_es
-AllocatesPool Chosen b es t size (Err InvalidParameter) new_b new_es = (is_bad_type t ≡ true) × (new_b ≡ b) × (new_es ≡ es)
-AllocatesPool Chosen b es t size (Err OutOfResources) new_b new_es = (is_bad_type t ≡ false) × (size ≤ max_size → first_fit t size es ≡ None) × (new_b ≡ b) × (new_es ≡ es)
+abbrev pub AllocatesPool : Choice → Book → List Extent → ℕ → ℕ → Result Answer Status → Book
+    → List Extent → Type 0
+AllocatesPool Chosen b es t size (Ok answer) new_b new_es =
+    (is_bad_type t ≡ false) × (size ≤ max_size)
+    × IsPut Chosen (first_fit t size es) b es t size answer new_b new_es
+AllocatesPool Chosen b es t size (Err InvalidParameter) new_b new_es =
+    (is_bad_type t ≡ true) × (new_b ≡ b) × (new_es ≡ es)
+AllocatesPool Chosen b es t size (Err OutOfResources) new_b new_es =
+    (is_bad_type t ≡ false) × (size ≤ max_size → first_fit t size es ≡ None) × (new_b ≡ b)
+    × (new_es ≡ es)
 AllocatesPool Chosen b es t size (Err status) new_b new_es = ⊥
 
 -- What AllocatePool answers for a block as long as some bytes that is then filled with them, and
 -- the book and the extents after it. A refusal leaves both.
-abbrev pub FillsPool : Choice → Book → List Extent → ℕ → List ℕ → Result Answer Status → Book → List Extent → Type 0
+abbrev pub FillsPool : Choice → Book → List Extent → ℕ → List ℕ → Result Answer Status → Book
+    → List Extent → Type 0
 FillsPool Chosen b es t bytes (Ok answer) new_b new_es =
-    (placed : List Extent) × AllocatesPool Chosen b es t (length bytes) (Ok answer) new_b placed × (new_es ≡ written answer.0 bytes placed)
-FillsPool Chosen b es t bytes (Err status) new_b new_es = AllocatesPool Chosen b es t (length bytes) (Err status) new_b new_es
+    (placed : List Extent) × AllocatesPool Chosen b es t (length bytes) (Ok answer) new_b placed
+    × (new_es ≡ written answer.0 bytes placed)
+FillsPool Chosen b es t bytes (Err status) new_b new_es =
+    AllocatesPool Chosen b es t (length bytes) (Err status) new_b new_es
 
 -- ---- FreePool
 
@@ -81,26 +98,38 @@ given_if (Some range) b = given_back range b
 
 -- What FreePool answers, and the book and the extents after it. A refusal leaves both.
 -- OUT_OF_RESOURCES means that memory ran out as an extent was to end.
-abbrev pub FreesPool : Book → List Extent → ℕ → Result (Unit {0}) Status → Book → List Extent → Type 0
-FreesPool b es address (Ok done) new_b new_es = (p : Place) × (place_of address es ≡ Some p) × (new_b ≡ given_if (ended p es) b) × (new_es ≡ without p es)
-FreesPool b es address (Err InvalidParameter) new_b new_es = (place_of address es ≡ None) × (new_b ≡ b) × (new_es ≡ es)
-FreesPool b es address (Err OutOfResources) new_b new_es = (p : Place) × (range : PageRange) × (place_of address es ≡ Some p) × (ended p es ≡ Some range) × (new_b ≡ b) × (new_es ≡ es)
+abbrev pub FreesPool : Book → List Extent → ℕ → Result (Unit {0}) Status → Book → List Extent
+    → Type 0
+FreesPool b es address (Ok done) new_b new_es =
+    (p : Place) × (place_of address es ≡ Some p) × (new_b ≡ given_if (ended p es) b)
+    × (new_es ≡ without p es)
+FreesPool b es address (Err InvalidParameter) new_b new_es =
+    (place_of address es ≡ None) × (new_b ≡ b) × (new_es ≡ es)
+FreesPool b es address (Err OutOfResources) new_b new_es =
+    (p : Place) × (range : PageRange) × (place_of address es ≡ Some p) × (ended p es ≡ Some range)
+    × (new_b ≡ b) × (new_es ≡ es)
 FreesPool b es address (Err status) new_b new_es = ⊥
 
 -- ---- the pool's bytes
 
--- So many bytes from an address on belong to one live block.
+-- This number of bytes from an address on belong to one live block.
 abbrev pub IsInBlock : ℕ → ℕ → List Extent → Type 0
-IsInBlock address count es = (bytes : List ℕ) × (tail_at address es ≡ Some bytes) × (count ≤ length bytes)
+IsInBlock address count es =
+    (bytes : List ℕ) × (tail_at address es ≡ Some bytes) × (count ≤ length bytes)
 
 -- what a read answers, and the buffer after it; a refusal leaves the buffer
 abbrev pub ReadsPool : List Extent → ℕ → List ℕ → Result (Unit {0}) Status → List ℕ → Type 0
-ReadsPool es address old (Ok done) new = (bytes : List ℕ) × (tail_at address es ≡ Some bytes) × (length old ≤ length bytes) × (new ≡ take (length old) bytes)
-ReadsPool es address old (Err InvalidParameter) new = (¬ IsInBlock address (length old) es) × (new ≡ old)
+ReadsPool es address old (Ok done) new =
+    (bytes : List ℕ) × (tail_at address es ≡ Some bytes) × (length old ≤ length bytes)
+    × (new ≡ take (length old) bytes)
+ReadsPool es address old (Err InvalidParameter) new =
+    (¬ IsInBlock address (length old) es) × (new ≡ old)
 ReadsPool es address old (Err status) new = ⊥
 
 -- what a write answers, and the extents after it; a refusal leaves them
 abbrev pub WritesPool : List Extent → ℕ → List ℕ → Result (Unit {0}) Status → List Extent → Type 0
-WritesPool es address bytes (Ok done) new = IsInBlock address (length bytes) es × (new ≡ written address bytes es)
-WritesPool es address bytes (Err InvalidParameter) new = (¬ IsInBlock address (length bytes) es) × (new ≡ es)
+WritesPool es address bytes (Ok done) new =
+    IsInBlock address (length bytes) es × (new ≡ written address bytes es)
+WritesPool es address bytes (Err InvalidParameter) new =
+    (¬ IsInBlock address (length bytes) es) × (new ≡ es)
 WritesPool es address bytes (Err status) new = ⊥

@@ -8,7 +8,8 @@ use Rattle.pool_services.specs.Extents.{Extent, cells_in}
 -- what is kept of an extent: its first page, its type, and how many cells its longest run of free
 -- cells has
 abbrev pub room_of : Extent → Room
-room_of e = record { first = e.first; mtype = e.mtype; longest = longest_run (cells_in e.pages) 0 e.blocks }
+room_of e =
+    record { first = e.first; mtype = e.mtype; longest = longest_run (cells_in e.pages) 0 e.blocks }
 
 -- whether a room is of a type and has a number of cells
 abbrev pub serves : ℕ → ℕ → Room → Bool
@@ -40,7 +41,9 @@ AreBounded rs bounds = (i : ℕ) (r : Room) → IsRoomAt rs i r → IsBounded bo
 
 -- The same of all rooms but those at an index and by stretches behind it.
 abbrev pub AreBoundedBut : ℕ → List Room → List ℕ → Type 0
-AreBoundedBut from rs bounds = (i : ℕ) (r : Room) → IsRoomAt rs i r → (from ≤ i → i % stretch ≡ from % stretch → ⊥) → IsBounded bounds i r
+AreBoundedBut from rs bounds =
+    (i : ℕ) (r : Room) → IsRoomAt rs i r → (from ≤ i → i % stretch ≡ from % stretch → ⊥)
+    → IsBounded bounds i r
 
 -- no bound is lower than it was
 abbrev pub KeepsBounds : List ℕ → List ℕ → Type 0
@@ -52,12 +55,14 @@ Covers bounds rooms = 16 * ((rooms + (stretch - 1)) / stretch) ≤ bounds
 
 -- none of the rooms from one index up to another serves
 abbrev pub NoneServes : ℕ → ℕ → List Room → ℕ → ℕ → Type 0
-NoneServes t cells rs start end = (k : ℕ) (q : Room) → start ≤ k → k < end → IsRoomAt rs k q → serves t cells q ≡ false
+NoneServes t cells rs start end =
+    (k : ℕ) (q : Room) → start ≤ k → k < end → IsRoomAt rs k q → serves t cells q ≡ false
 
 -- the first that serves of the rooms from one index up to another
 abbrev pub IsFirstServing : ℕ → ℕ → List Room → ℕ → ℕ → Option ℕ → Type 0
 IsFirstServing t cells rs start end None = NoneServes t cells rs start end
-IsFirstServing t cells rs start end (Some i) = (r : Room) × IsRoomAt rs i r × (serves t cells r ≡ true) × NoneServes t cells rs start i
+IsFirstServing t cells rs start end (Some i) =
+    (r : Room) × IsRoomAt rs i r × (serves t cells r ≡ true) × NoneServes t cells rs start i
 
 -- the bound of the room at an index is not too low, and no bound is lower than it was
 abbrev pub IsRaised : List Room → ℕ → List ℕ → List ℕ → Type 0

@@ -12,7 +12,8 @@ use Rattle.pool_services.specs.Rooms.{room_of}
 
 -- an address lies between the lowest that a block of the extent can have and the end of the last
 abbrev pub HoldsAddress : Extent → ℕ → Type 0
-HoldsAddress e address = (address_of e.first 0 ≤ address) × (address < address_of e.first (cells_in e.pages))
+HoldsAddress e address =
+    (address_of e.first 0 ≤ address) × (address < address_of e.first (cells_in e.pages))
 
 -- no block begins at a cell above one, up to another
 abbrev pub NoneBetween : ℕ → ℕ → List Block → Type 0
@@ -21,7 +22,8 @@ NoneBetween above cell bs = (k : ℕ) → above < k → k ≤ cell → block_at 
 -- the last cell up to one at which a block begins
 abbrev pub IsLastUpTo : ℕ → List Block → Option ℕ → Type 0
 IsLastUpTo cell bs None = (k : ℕ) → k ≤ cell → block_at k bs ≡ None
-IsLastUpTo cell bs (Some last) = (last ≤ cell) × (is_some (block_at last bs) ≡ true) × NoneBetween last cell bs
+IsLastUpTo cell bs (Some last) =
+    (last ≤ cell) × (is_some (block_at last bs) ≡ true) × NoneBetween last cell bs
 
 -- the bytes of a block from a place on, if there is the block and the place is not behind its end
 abbrev pub tail_from : ℕ → Option Block → Option (List ℕ)
@@ -32,7 +34,8 @@ tail_from at (Some b) = cond (nat_le at b.size) (Some (drop at b.bytes)) None
 abbrev pub IsLocated : Extent → ℕ → Option (ℕ × ℕ) → Type 0
 IsLocated e address None = tail_in e.first address e.blocks ≡ None
 IsLocated e address (Some (cell, at)) =
-    (is_some (block_at cell e.blocks) ≡ true) × (address ≡ address_of e.first cell + at) × (tail_in e.first address e.blocks ≡ tail_from at (block_at cell e.blocks))
+    (is_some (block_at cell e.blocks) ≡ true) × (address ≡ address_of e.first cell + at)
+    × (tail_in e.first address e.blocks ≡ tail_from at (block_at cell e.blocks))
 
 -- there are bytes, at least a number of them
 abbrev pub HasRoom : ℕ → Option (List ℕ) → Type 0
@@ -41,7 +44,8 @@ HasRoom count (Some bytes) = count ≤ length bytes
 
 -- the extent once bytes are written, if they are
 abbrev pub written_if : Bool → ℕ → List ℕ → Extent → Extent
-written_if done address bytes e = cond done (with_blocks (written_in e.first address bytes e.blocks) e) e
+written_if done address bytes e =
+    cond done (with_blocks (written_in e.first address bytes e.blocks) e) e
 
 -- the extent at an index
 abbrev pub IsAt : List Extent → ℕ → Extent → Type 0
@@ -59,7 +63,9 @@ place p (x ∷ xs) = cond (p x) (suc (place p xs)) 0
 
 -- how many extents in order begin at or below a page, by their rooms
 abbrev pub IsCountUpTo : ℕ → List Room → ℕ → Type 0
-IsCountUpTo page rs n = (es : List Extent) → AreExtents es → rs ≡ map room_of es → n ≡ place (λ e. nat_le e.first page) es
+IsCountUpTo page rs n =
+    (es : List Extent) → AreExtents es → rs ≡ map room_of es
+    → n ≡ place (λ e. nat_le e.first page) es
 
 -- whether an extent is of a type and has a number of free cells in a row
 abbrev pub has_run : ℕ → ℕ → Extent → Bool
@@ -68,33 +74,43 @@ has_run t cells e = (e.mtype == t) && nat_le cells (longest_run (cells_in e.page
 -- the first extent of a type that has a number of free cells in a row, by its index
 abbrev pub IsFirstWithRoom : ℕ → ℕ → List Extent → Option ℕ → Type 0
 IsFirstWithRoom t cells es None = AllByRecursion (λ e. has_run t cells e ≡ false) es
-IsFirstWithRoom t cells es (Some i) = (e : Extent) × IsAt es i e × (has_run t cells e ≡ true) × AllByRecursion (λ e. has_run t cells e ≡ false) (take i es)
+IsFirstWithRoom t cells es (Some i) =
+    (e : Extent) × IsAt es i e × (has_run t cells e ≡ true)
+    × AllByRecursion (λ e. has_run t cells e ≡ false) (take i es)
 
 -- a block was taken in the extent at an index, if it has room: its address, and the extents after
 -- it
 abbrev pub IsTakenIn : ℕ → ℕ → List Extent → Option ℕ → List Extent → Type 0
 IsTakenIn i size es None new = (new ≡ es) × ((e : Extent) → IsAt es i e → fit_in size e ≡ None)
 IsTakenIn i size es (Some address) new =
-    (e : Extent) × (p : Place) × IsAt es i e × (fit_in size e ≡ Some p) × (address ≡ address_of p.first p.cell) × (new ≡ with_new_block p size es)
+    (e : Extent) × (p : Place) × IsAt es i e × (fit_in size e ≡ Some p)
+    × (address ≡ address_of p.first p.cell) × (new ≡ with_new_block p size es)
 
 -- a block was taken in a live extent, if one of its type has room: its address, and the extents
 -- after it
 abbrev pub IsTakenLive : ℕ → ℕ → List Extent → Option ℕ → List Extent → Type 0
 IsTakenLive t size es None new = (new ≡ es) × (first_fit t size es ≡ None)
-IsTakenLive t size es (Some address) new = (p : Place) × (first_fit t size es ≡ Some p) × (address ≡ address_of p.first p.cell) × (new ≡ with_new_block p size es)
+IsTakenLive t size es (Some address) new =
+    (p : Place) × (first_fit t size es ≡ Some p) × (address ≡ address_of p.first p.cell)
+    × (new ≡ with_new_block p size es)
 
 -- the block at a cell of the extent at an index, which is not the only one
 abbrev pub IsGivable : ℕ → ℕ → List Extent → Type 0
-IsGivable i cell es = (e : Extent) × IsAt es i e × (is_some (block_at cell e.blocks) ≡ true) × (length e.blocks ≢ 1)
+IsGivable i cell es =
+    (e : Extent) × IsAt es i e × (is_some (block_at cell e.blocks) ≡ true) × (length e.blocks ≢ 1)
 
 -- the extents once such a block was given back
 abbrev pub IsGivenIn : ℕ → ℕ → List Extent → List Extent → Type 0
-IsGivenIn i cell es new = (e : Extent) × IsAt es i e × (new ≡ without (record { first = e.first; cell = cell }) es) × (ended (record { first = e.first; cell = cell }) es ≡ None)
+IsGivenIn i cell es new =
+    (e : Extent) × IsAt es i e × (new ≡ without (record { first = e.first; cell = cell }) es)
+    × (ended (record { first = e.first; cell = cell }) es ≡ None)
     × ((k : ℕ) → extent_type k new ≡ extent_type k es)
 
 -- an extent ended, or memory ran out and all is as it was
 abbrev pub IsEnded : ℕ → Book → List Extent → Result (Unit {0}) Status → Book → List Extent → Type 0
-IsEnded i b es (Ok done) new_b new = (e : Extent) × IsAt es i e × (new_b ≡ given_back (range_of e) b) × (new ≡ take i es ++ drop (i + 1) es)
+IsEnded i b es (Ok done) new_b new =
+    (e : Extent) × IsAt es i e × (new_b ≡ given_back (range_of e) b)
+    × (new ≡ take i es ++ drop (i + 1) es)
 IsEnded i b es (Err OutOfResources) new_b new = (new_b ≡ b) × (new ≡ es)
 IsEnded i b es (Err status) new_b new = ⊥
 
@@ -102,9 +118,11 @@ IsEnded i b es (Err status) new_b new = ⊥
 abbrev pub IsFound : ℕ → List Extent → Option (ℕ × ℕ) → Type 0
 IsFound address es None = place_of address es ≡ None
 IsFound address es (Some (i, cell)) =
-    (e : Extent) × IsAt es i e × (is_some (block_at cell e.blocks) ≡ true) × (place_of address es ≡ Some (record { first = e.first; cell = cell })) × AreExtents es
+    (e : Extent) × IsAt es i e × (is_some (block_at cell e.blocks) ≡ true)
+    × (place_of address es ≡ Some (record { first = e.first; cell = cell })) × AreExtents es
 
 -- bytes were written into the block that they lie in, if they lie in one
 abbrev pub IsWrittenIn : ℕ → List ℕ → List Extent → Bool → List Extent → Type 0
-IsWrittenIn address bytes es true new = IsInBlock address (length bytes) es × (new ≡ written address bytes es)
+IsWrittenIn address bytes es true new =
+    IsInBlock address (length bytes) es × (new ≡ written address bytes es)
 IsWrittenIn address bytes es false new = (¬ IsInBlock address (length bytes) es) × (new ≡ es)

@@ -69,9 +69,16 @@ impl<A: Allocator> Model for PoolExtent<A> {
 
     ghost Value = { Extent };
 
-    ghost view = { λ e. record { first = e.range.first; pages = e.range.pages; mtype = e.mtype; blocks = e.region.blocks } };
+    ghost view = { λ e.
+        record {
+          first = e.range.first;
+          pages = e.range.pages;
+          mtype = e.mtype;
+          blocks = e.region.blocks;
+        } };
 
-    ghost invariant = { λ e. (e.region.cells ≡ cells_in e.range.pages) × (e.live ≡ length e.region.blocks) };
+    ghost invariant = { λ e.
+        (e.region.cells ≡ cells_in e.range.pages) × (e.live ≡ length e.region.blocks) };
 }
 
 impl<A: Allocator + Copy> PoolExtent<A> {
@@ -129,8 +136,11 @@ impl<A: Allocator + Copy> PoolExtent<A> {
     /// Takes the lowest run of free cells that has room for a block, and answers its first cell.
     pub(crate) fn take(&mut self, size: usize) -> Option<usize>
         requires { IsExtent self.old }
-        ensures cell { result ≡ lowest_fit (cells_in self.old.pages) (cells_for size) 0 self.old.blocks }
-        ensures extent { MatchOption result (self.new ≡ self.old) (λ cell. self.new ≡ with_blocks (with_block (new_block cell size) self.old.blocks) self.old) }
+        ensures cell { result ≡ lowest_fit (cells_in self.old.pages)
+            (cells_for size) 0 self.old.blocks }
+        ensures extent { MatchOption result (self.new ≡ self.old)
+            (λ cell. self.new
+            ≡ with_blocks (with_block (new_block cell size) self.old.blocks) self.old) }
     {
         let cell = self.region.take(size)?;
         self.live += 1;
@@ -222,7 +232,8 @@ impl<A: Allocator + Copy> PoolExtent<A> {
     pub(crate) fn write(&mut self, address: u64, bytes: &[u8]) -> bool
         requires extent { IsExtent self.old }
         requires in_extent { HoldsAddress self.old address }
-        ensures written { IsTrue result ↔ HasRoom (length bytes.now) (tail_in self.old.first address self.old.blocks) }
+        ensures written { IsTrue result
+            ↔ HasRoom (length bytes.now) (tail_in self.old.first address self.old.blocks) }
         ensures extent { self.new ≡ written_if result address bytes.now self.old }
     {
         match self.locate(address) {

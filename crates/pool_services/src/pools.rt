@@ -52,7 +52,8 @@ impl<A: Allocator> Model for Pools<A> {
 
     ghost view = { λ p. p.extents.items };
 
-    ghost invariant = { λ p. AreExtents p.extents.items × (p.rooms.rooms.items ≡ map room_of p.extents.items) };
+    ghost invariant = { λ p.
+        AreExtents p.extents.items × (p.rooms.rooms.items ≡ map room_of p.extents.items) };
 }
 
 impl<A: Allocator + Copy> Pools<A> {
@@ -82,7 +83,8 @@ impl<A: Allocator + Copy> Pools<A> {
     ) -> Result<(u64, Option<Certificate<A>>), Status>
         requires key { book.old.key < 2 ^ 62 }
         requires owns { OwnsExtents book.old.memory self.old }
-        ensures allocates { AllocatesPool IsBestChoice book.old self.old mtype size result book.new self.new }
+        ensures allocates { AllocatesPool IsBestChoice book.old self.old mtype size result book.new
+            self.new }
         ensures owns { OwnsExtents book.new.memory self.new }
     {
         let mtype = type_for_alloc(mtype)?;
@@ -108,7 +110,8 @@ impl<A: Allocator + Copy> Pools<A> {
     ) -> Result<(u64, Option<Certificate<A>>), Status>
         requires key { book.old.key < 2 ^ 62 }
         requires owns { OwnsExtents book.old.memory self.old }
-        ensures fills { FillsPool IsBestChoice book.old self.old mtype bytes.now result book.new self.new }
+        ensures fills { FillsPool IsBestChoice book.old self.old mtype bytes.now result book.new
+            self.new }
         ensures owns { OwnsExtents book.new.memory self.new }
     {
         // That the extents are apart is known where a field is named.
@@ -155,7 +158,8 @@ impl<A: Allocator + Copy> Pools<A> {
         requires good { is_bad_type mtype ≡ false }
         requires size { size ≤ max_size }
         requires none { first_fit mtype size self.old ≡ None }
-        ensures allocates { AllocatesPool IsBestChoice book.old self.old mtype size result book.new self.new }
+        ensures allocates { AllocatesPool IsBestChoice book.old self.old mtype size result book.new
+            self.new }
         ensures owns { OwnsExtents book.new.memory self.new }
     {
         let pages = extent_pages(book.granule(), mtype, size);

@@ -77,7 +77,8 @@ fn cells_in_class(room: Room, class: usize) -> u32
 /// The most cells that a room of a class has, of those from one index up to another.
 fn most_in_class(rooms: &[Room], start: usize, end: usize, class: usize) -> u32
     requires { end ≤ length rooms.now }
-    ensures { (i : ℕ) → (r : Room) → start ≤ i → i < end → IsRoomAt rooms.now i r → class_of r.mtype ≡ class → r.longest ≤ result }
+    ensures { (i : ℕ) → (r : Room) → start ≤ i → i < end → IsRoomAt rooms.now i r
+        → class_of r.mtype ≡ class → r.longest ≤ result }
 {
     let mut most = 0;
     for at in start..end {
@@ -100,7 +101,8 @@ fn first_in_stretch<A: Allocator>(
     requires covers { Covers (vec_len bounds.old) (length rooms.now) }
     requires bounded { AreBounded rooms.now bounds.old.items }
     requires few { length rooms.now < 2 ^ 63 }
-    ensures first { IsFirstServing mtype cells rooms.now start (min (start + stretch) (length rooms.now)) result }
+    ensures first { IsFirstServing mtype cells rooms.now start
+        (min (start + stretch) (length rooms.now)) result }
     ensures bounded { AreBounded rooms.now bounds.new.items }
     ensures len { vec_len bounds.new ≡ vec_len bounds.old }
 {
@@ -207,7 +209,8 @@ impl<A: Allocator + Copy> Rooms<A> {
 
     /// The first room of a type that has a number of cells.
     pub(crate) fn first(&mut self, mtype: MemoryType, cells: usize) -> Option<usize>
-        ensures first { IsFirstServing mtype cells self.old.rooms.items 0 (length self.old.rooms.items) result }
+        ensures first { IsFirstServing mtype cells self.old.rooms.items 0
+            (length self.old.rooms.items) result }
         ensures rooms { self.new.rooms ≡ self.old.rooms }
     {
         first_room(self.rooms.as_slice(), &mut self.bounds, mtype, cells)
@@ -225,7 +228,9 @@ impl<A: Allocator + Copy> Rooms<A> {
     /// Takes memory for one room more.
     pub(crate) fn reserve_one(&mut self) -> Result<(), AllocError>
         ensures rooms { self.new.rooms.items ≡ self.old.rooms.items }
-        ensures place { OnOk result (HasPlace (vec_len self.new.rooms) (vec_capacity self.new.rooms) (vec_len self.new.bounds)) }
+        ensures place { OnOk result
+            (HasPlace (vec_len self.new.rooms) (vec_capacity self.new.rooms)
+            (vec_len self.new.bounds)) }
     {
         self.rooms.reserve(1)?;
         extend_bounds(&mut self.bounds, CLASSES * (self.rooms.len() / STRETCH + 1))
@@ -234,7 +239,8 @@ impl<A: Allocator + Copy> Rooms<A> {
     /// Inserts a room, for which there is memory.
     pub(crate) fn insert(&mut self, at: usize, room: Room)
         requires index { at ≤ length self.old.rooms.items }
-        requires place { HasPlace (vec_len self.old.rooms) (vec_capacity self.old.rooms) (vec_len self.old.bounds) }
+        requires place { HasPlace (vec_len self.old.rooms) (vec_capacity self.old.rooms)
+            (vec_len self.old.bounds) }
         ensures { self.new.rooms.items ≡ insert self.old.rooms.items at room }
     {
         insert_with_room(&mut self.rooms, at, room);
@@ -246,7 +252,8 @@ impl<A: Allocator + Copy> Rooms<A> {
     /// Takes a room away.
     pub(crate) fn remove(&mut self, at: usize)
         requires { at < length self.old.rooms.items }
-        ensures { self.new.rooms.items ≡ take at self.old.rooms.items ++ drop (at + 1) self.old.rooms.items }
+        ensures { self.new.rooms.items ≡ take at self.old.rooms.items
+            ++ drop (at + 1) self.old.rooms.items }
     {
         self.rooms.remove(at);
         let last = STRETCH * (at / STRETCH) + (STRETCH - 1);

@@ -57,7 +57,8 @@ pub(crate) fn add<A: Allocator + Copy>(
     requires order { AreExtents extents.old.items }
     requires room { vec_len extents.old < vec_capacity extents.old }
     requires rooms { rooms.old.rooms.items ≡ map room_of extents.old.items }
-    requires place { HasPlace (vec_len rooms.old.rooms) (vec_capacity rooms.old.rooms) (vec_len rooms.old.bounds) }
+    requires place { HasPlace (vec_len rooms.old.rooms) (vec_capacity rooms.old.rooms)
+        (vec_len rooms.old.bounds) }
     requires extent { IsExtent extent }
     ensures extents { extents.new.items ≡ with_extent extent extents.old.items }
     ensures rooms { rooms.new.rooms.items ≡ map room_of extents.new.items }

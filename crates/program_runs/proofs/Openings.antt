@@ -3,7 +3,8 @@ use Rattle.std.proofs.Common.{◌≡◌, ℕ, Bool, List, [], ◌++◌, length, 
 use Rattle.std.specs.Io.KnownBytes.{Appends}
 use Rattle.program_runs.specs.declared.serve.Fault.{Fault}
 use Rattle.program_runs.specs.declared.serve.Fault.TheVariants as run_fault
-use Rattle.program_runs.specs.Serving.{RunsFiles, WritesFront}
+use Rattle.text_lines.specs.Printed.{WritesFront}
+use Rattle.program_runs.specs.Serving.{RunsFiles}
 use Rattle.command_line.specs.declared.commands.CommandFault.{CommandFault}
 use Rattle.command_line.specs.Words.{IsRefusedBy}
 use Rattle.program_runs.specs.Programs.{Files, Opening, Opens, DoesAsAsked}

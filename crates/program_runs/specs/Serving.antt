@@ -1,8 +1,10 @@
 -- What the program does on the bytes that it is given.
-use Rattle.std.specs.Prelude.{◌≡◌, ◌⊎◌, ℕ, ◌<◌, Bool, List, [], ◌++◌, length, map, take, codes, Option, IfSome, Result, Ok, Err, true, false}
+use Rattle.std.specs.Prelude.{◌≡◌, ◌⊎◌, ℕ, ◌<◌, Bool, List, [], ◌++◌, length, map, codes, Option, IfSome, Result, Ok, Err, true, false}
 use Rattle.std.specs.Io.KnownBytes.{Appends}
 use Rattle.std.specs.declared.alloc.Global.{Global}
-use Rattle.text_lines.specs.Printed.{line_feed}
+use Rattle.certificate_blocks.specs.declared.faults.BlockFault.{BlockFault}
+use Rattle.certificate_blocks.specs.BlockChecks.{Judges, Writes}
+use Rattle.text_lines.specs.Printed.{WritesFront, line_feed}
 use Rattle.boot_core.specs.Machines.{State, first_state_with}
 use Rattle.machine_files.specs.declared.faults.MachineFault.TheVariants as machine_fault
 use Rattle.boot_trace.specs.declared.faults.RunFault.{RunFault}
@@ -22,7 +24,11 @@ IsRead file bytes =
 abbrev pub RunsTrace : Bool → List ℕ → Option (List ℕ) → Option (List ℕ) → Option (List ℕ)
     → Result (Unit {0}) RunFault → Type 0
 RunsTrace certify file trace before after end =
-    (machine : ListedMachine) × (machine_of file ≡ Ok machine) × IfSome trace (λ bytes. (new : State) × Ends Global (map listed_meaning machine.drivers) certify bytes (first_state_with certify machine.machine) new before after end)
+    (machine : ListedMachine) × (machine_of file ≡ Ok machine)
+    × IfSome trace
+    (λ bytes. (new : State)
+    × Ends Global (map listed_meaning machine.drivers) certify bytes
+    (first_state_with certify machine.machine) new before after end)
 
 -- How the program ends on a machine file and a trace, and what it wrote. It runs the trace on the
 -- machine; where there is a fault before that, nothing is written. No such run ends on a trace that
@@ -51,6 +57,19 @@ check_status (Ok true) = 0
 check_status (Ok false) = 3
 check_status (Err e) = 1
 
+-- a run of a machine file and a trace ends, with this status
+abbrev pub ServesFiles : Bool → List ℕ → Option (List ℕ) → Option (List ℕ) → Option (List ℕ) → ℕ
+    → Type 0
+ServesFiles certify file trace before after status =
+    (end : Result (Unit {0}) Fault) × (status ≡ status_of end)
+    × RunsFiles certify file trace before after end
+
+-- the input is judged as a certificate block, with this status
+abbrev pub ChecksBlock : Option (List ℕ) → Option (List ℕ) → Option (List ℕ) → ℕ → Type 0
+ChecksBlock input before after status =
+    (end : Result Bool BlockFault) × (status ≡ check_status end) × Writes before after end
+    × IfSome input (λ bytes. Judges true bytes before after end)
+
 -- the status of a command line that is refused
 abbrev pub usage_status : ℕ
 usage_status = 2
@@ -58,10 +77,6 @@ usage_status = 2
 -- the status of a fault of input or output
 abbrev pub fault_status : ℕ
 fault_status = 1
-
--- a front of the text is written, and nothing else
-abbrev pub WritesFront : Option (List ℕ) → List ℕ → Option (List ℕ) → Type 0
-WritesFront before text after = (count : ℕ) × Appends before after (take count text)
 
 -- the line with the program's name and version
 abbrev pub version_line : List ℕ

@@ -17,8 +17,11 @@ pub trait OpenFiles {
 
     /// Opens the file at a path.
     fn open(&mut self, path: &str) -> Result<Self::File>
-        ensures returned { Opens (openings self.old) (opening path.now (is_ok result)) (openings self.new) }
-        ensures bytes { IfOk result (λ file. IfSome (bytes_at self.old path.now) (λ bytes. Self.File.remaining file ≡ Some bytes)) }
+        ensures returned { Opens (openings self.old) (opening path.now (is_ok result))
+            (openings self.new) }
+        ensures bytes { IfOk result
+            (λ file. IfSome (bytes_at self.old path.now)
+            (λ bytes. Self.File.remaining file ≡ Some bytes)) }
         ensures kept { bytes_at self.new ≡ bytes_at self.old };
 }
 

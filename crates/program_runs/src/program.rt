@@ -1,8 +1,7 @@
 //! The program, from its arguments to its exit status.
-ghost use Rattle.std.specs.Prelude.{◌≡◌, ◌≤◌, List, [], IfOk, MatchResult, map, string_bytes};
+ghost use Rattle.std.specs.Prelude.{◌≡◌, ◌≤◌, IfOk, map};
 ghost use Rattle.std.specs.IoError.{error_kind};
-ghost use Rattle.std.specs.Vec.Iter.{into_iter_items};
-ghost use Rattle.program_runs.specs.Programs.{Opening, Opens, RunsPaths, Does, DoesAsAsked, IsLostStatus};
+ghost use Rattle.program_runs.specs.Programs.{Effects, RunsPaths, Does, IsLostStatus, ServesArguments, ServesTexts, texts_as_bytes};
 
 use crate::files::OpenFiles;
 use crate::serve::{
@@ -26,10 +25,8 @@ pub fn serve_arguments<O: OpenFiles, I: Read + Drop, W: Write, E: Write>(
     err: &mut E,
 ) -> u8
     ensures bound { result ≤ 3 }
-    ensures does { (openings : List Opening) × Opens (O.openings files.old) openings (O.openings files.new)
-        × MatchResult arguments
-        (λ texts. DoesAsAsked (map (λ text. string_bytes text) (into_iter_items texts)) (O.bytes_at files.old) (I.remaining input) openings (W.contents out.old) (W.contents out.new) result)
-        (λ error. (openings ≡ []) × (W.contents out.new ≡ W.contents out.old) × IsLostStatus (error_kind error) result) }
+    ensures does { Effects (ServesArguments (O.bytes_at files.old) (I.remaining input) arguments)
+        O.openings files.old files.new W.contents out.old out.new result }
 {
     let arguments = match arguments {
         Ok(arguments) => arguments,
@@ -61,7 +58,9 @@ pub fn serve_texts<O: OpenFiles, I: Read + Drop, W: Write, E: Write>(
     err: &mut E,
 ) -> u8
     ensures bound { result ≤ 3 }
-    ensures does { (openings : List Opening) × Opens (O.openings files.old) openings (O.openings files.new) × DoesAsAsked (map (λ text. string_bytes text) texts.now) (O.bytes_at files.old) (I.remaining input) openings (W.contents out.old) (W.contents out.new) result }
+    ensures does { Effects
+        (ServesTexts texts.now (O.bytes_at files.old) (I.remaining input))
+        O.openings files.old files.new W.contents out.old out.new result }
 {
     let Ok(words) = words_of(alloc, texts) else {
         return serve_fault(err, &Fault::OutOfMemory);
@@ -75,7 +74,7 @@ pub fn serve_texts<O: OpenFiles, I: Read + Drop, W: Write, E: Write>(
 
 /// The texts as words, in their order.
 fn words_of(alloc: Global, texts: &[String]) -> Result<Vec<&str>, Fault>
-    ensures { IfOk result (λ words. map (λ word. word.now) words.items ≡ map (λ text. string_bytes text) texts.now) }
+    ensures { IfOk result (λ words. map (λ word. word.now) words.items ≡ texts_as_bytes texts.now) }
 {
     let mut words = Vec::new(alloc);
     for text in texts {
@@ -94,7 +93,8 @@ fn serve_command<O: OpenFiles, I: Read + Drop, W: Write, E: Write>(
     err: &mut E,
 ) -> u8
     ensures bound { result ≤ 3 }
-    ensures does { (openings : List Opening) × Opens (O.openings files.old) openings (O.openings files.new) × Does (O.bytes_at files.old) (I.remaining input) command.now openings (W.contents out.old) (W.contents out.new) result }
+    ensures does { Effects (Does (O.bytes_at files.old) (I.remaining input) command.now)
+        O.openings files.old files.new W.contents out.old out.new result }
 {
     match *command {
         Command::Run {
@@ -116,7 +116,8 @@ fn run_paths<O: OpenFiles, W: Write>(
     out: &mut W,
     certify: bool,
 ) -> Result<(), Fault>
-    ensures { (openings : List Opening) × Opens (O.openings files.old) openings (O.openings files.new) × RunsPaths (O.bytes_at files.old) certify machine.now trace.now openings (W.contents out.old) (W.contents out.new) result }
+    ensures { Effects (RunsPaths (O.bytes_at files.old) certify machine.now trace.now)
+        O.openings files.old files.new W.contents out.old out.new result }
 {
     let Ok(machine) = files.open(machine) else {
         return Err(Fault::CannotReadMachine);

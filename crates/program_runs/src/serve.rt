@@ -1,7 +1,7 @@
 //! A run of the program, over any readers and writers.
-ghost use Rattle.std.specs.Prelude.{◌≡◌, ◌⊎◌, true, IfOk, IfErr, IfSome};
-ghost use Rattle.certificate_blocks.specs.BlockChecks.{Judges, Writes};
-ghost use Rattle.program_runs.specs.Serving.{IsRead, PrintsVersion, RunsFiles, check_status, fault_status, status_of, usage_status, WritesFront};
+ghost use Rattle.std.specs.Prelude.{◌≡◌, ◌⊎◌, IfOk, IfErr, IfSome};
+ghost use Rattle.program_runs.specs.Serving.{ChecksBlock, IsRead, PrintsVersion, RunsFiles, ServesFiles, fault_status, status_of, usage_status};
+ghost use Rattle.text_lines.specs.Printed.{WritesFront};
 
 use boot_core::Core;
 use boot_trace::{MachineFault, RunFault, read_machine};
@@ -80,7 +80,9 @@ pub fn serve_run<M: Read + Drop, T: Read + Drop, W: Write, E: Write>(
     certify: bool,
 ) -> u8
     ensures status { (result ≡ SUCCESS) ⊎ (result ≡ FAULT) }
-    ensures run { IfSome (M.remaining machine) (λ file. (end : _) × (result ≡ status_of end) × RunsFiles certify file (T.remaining trace) (W.contents out.old) (W.contents out.new) end) }
+    ensures run { IfSome (M.remaining machine)
+        (λ file. ServesFiles certify file (T.remaining trace) (W.contents out.old)
+        (W.contents out.new) result) }
 {
     serve_end(err, &run_files(alloc, machine, trace, out, certify))
 }
@@ -104,7 +106,8 @@ pub fn serve_check<R: Read + Drop, W: Write, E: Write>(
     err: &mut E,
 ) -> u8
     ensures status { (result ≡ SUCCESS) ⊎ ((result ≡ REFUSED) ⊎ (result ≡ FAULT)) }
-    ensures check { (end : _) × (result ≡ check_status end) × Writes (W.contents out.old) (W.contents out.new) end × IfSome (R.remaining input) (λ bytes. Judges true bytes (W.contents out.old) (W.contents out.new) end) }
+    ensures check { ChecksBlock (R.remaining input) (W.contents out.old)
+        (W.contents out.new) result }
 {
     match check_block(alloc, input, out) {
         Ok(true) => SUCCESS,
@@ -153,7 +156,9 @@ pub fn run_files<M: Read + Drop, T: Read + Drop, W: Write>(
     out: &mut W,
     certify: bool,
 ) -> Result<(), Fault>
-    ensures { IfSome (M.remaining machine) (λ file. RunsFiles certify file (T.remaining trace) (W.contents out.old) (W.contents out.new) result) }
+    ensures { IfSome (M.remaining machine)
+        (λ file. RunsFiles certify file (T.remaining trace) (W.contents out.old)
+        (W.contents out.new) result) }
 {
     let bytes = match read_whole(alloc, machine) {
         Ok(bytes) => bytes,
@@ -175,8 +180,10 @@ pub fn run_files<M: Read + Drop, T: Read + Drop, W: Write>(
 
 /// The bytes of a machine file. Of one that is too long, reading stops past the most that it may have.
 fn read_whole<M: Read + Drop>(alloc: Global, mut machine: M) -> Result<Vec<u8>, Fault>
-    ensures ok { IfOk result (λ bytes. IfSome (M.remaining machine) (λ file. IsRead file bytes.items)) }
-    ensures err { IfErr result (λ fault. (fault ≡ Fault.CannotReadMachine) ⊎ (fault ≡ Fault.OutOfMemory)) }
+    ensures ok { IfOk result
+        (λ bytes. IfSome (M.remaining machine) (λ file. IsRead file bytes.items)) }
+    ensures err { IfErr result (λ fault. (fault ≡ Fault.CannotReadMachine)
+        ⊎ (fault ≡ Fault.OutOfMemory)) }
 {
     let mut bytes = Vec::new(alloc);
     let mut piece = [0u8; PIECE];

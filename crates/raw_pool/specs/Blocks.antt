@@ -53,6 +53,10 @@ abbrev pub without_block : ℕ → List Block → List Block
 without_block cell [] = []
 without_block cell (b ∷ bs) = cond (b.first == cell) bs (b ∷ without_block cell bs)
 
+-- the pool once the block that begins at a cell is given back
+abbrev pub given : Pool → ℕ → Pool
+given p cell = record { cells = p.cells; blocks = without_block cell p.blocks }
+
 -- the blocks once bytes are written into the one that begins at a cell
 abbrev pub with_bytes : ℕ → ℕ → List ℕ → List Block → List Block
 with_bytes cell at bytes [] = []

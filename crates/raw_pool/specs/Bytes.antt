@@ -12,7 +12,7 @@ pub record Parts : Type 0 where
   pub bytes : Bytes
   pub marks : Bytes
 
--- the bytes once those up to a place are set, to 0 where they were not
+-- the bytes once those up to an index are set, to 0 where they were not
 abbrev pub extended : List ℕ → ℕ → List ℕ
 extended bytes end = bytes ++ replicate (end - length bytes) 0
 
@@ -20,10 +20,14 @@ extended bytes end = bytes ++ replicate (end - length bytes) 0
 abbrev pub part : List ℕ → ℕ → ℕ → List ℕ
 part bytes at count = take count (drop at bytes)
 
--- the bytes once others are written from a place on
+-- the bytes once others are written from an index on
 unfoldable pub put : List ℕ → ℕ → List ℕ → List ℕ
 put bytes at new = take at bytes ++ new ++ drop (at + length new) bytes
 
--- the number in the 8 bytes from a place on, the lowest byte first
+-- the row once bytes are written from an index on
+abbrev pub with_put : Bytes → ℕ → List ℕ → Bytes
+with_put row at new = record { set = put row.set at new; room = row.room }
+
+-- the number in the 8 bytes from an index on, the lowest byte first
 unfoldable pub word : List ℕ → ℕ → ℕ
 word bytes at = little_number 8 (part bytes at 8)

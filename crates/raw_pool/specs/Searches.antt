@@ -13,7 +13,8 @@ IsPath bytes cells head from (r ∷ rs) to =
     (link bytes cells head from ≡ r.first) × IsRun bytes r × IsPath bytes cells head r.first rs to
 
 -- all runs up to the place `last` were passed, and the run behind it begins at `next`
-pub record Scan (passes : FreeRun → Type 0) (bytes : List ℕ) (cells head : ℕ) (runs : List FreeRun) (last next : ℕ) : Type 0 where
+pub record Scan (passes : FreeRun → Type 0) (bytes : List ℕ) (cells head : ℕ) (runs : List FreeRun)
+    (last next : ℕ) : Type 0 where
   pub before : List FreeRun
   pub after : List FreeRun
   pub is : runs ≡ before ++ after
@@ -49,6 +50,11 @@ pub record IsCut (old new : List ℕ) (cells head at need rest : ℕ) : Type 0 w
 abbrev pub with_link : List ℕ → ℕ → ℕ → ℕ → List ℕ
 with_link bytes cells run to =
     cond (run == cells) bytes (put bytes (32 * run + 8) (little_bytes 8 to))
+
+-- the bytes once the header of a free run is written: its cells, and which run is behind it
+abbrev pub with_run : List ℕ → ℕ → ℕ → ℕ → List ℕ
+with_run bytes run cells next =
+    put (put bytes (32 * run) (little_bytes 8 cells)) (32 * run + 8) (little_bytes 8 next)
 
 -- the marks, enough of them that the one of a cell can be written
 abbrev pub grown : List ℕ → ℕ → List ℕ

@@ -1,7 +1,7 @@
 //! A region of whole pages, whose cells are blocks and free runs.
 ghost use Rattle.std.specs.Prelude.{◌≡◌, ◌≤◌, ◌*◌, ◌^◌, ◌<◌, [], length, IfOk, IsTrue, ◌↔◌};
 ghost use Rattle.std.specs.Option.{is_some, option_map};
-ghost use Rattle.raw_pool.specs.Blocks.{block_at, cells_for, holds_range, longest_run, lowest_fit, taken, without_block, written};
+ghost use Rattle.raw_pool.specs.Blocks.{block_at, cells_for, given, holds_range, longest_run, lowest_fit, taken, written};
 
 use crate::region::Region;
 use crate::store::{CELL_SIZE, Store};
@@ -23,13 +23,13 @@ pub struct RawPool<A: Allocator = Global> {
 
 impl<A: Allocator> Model for RawPool<A> {
     ghost use Rattle.raw_pool.specs.Blocks.{Pool};
-    ghost use Rattle.raw_pool.specs.Searches.{IsRegion, pool_of};
+    ghost use Rattle.raw_pool.specs.Stores.{IsWholeStore, pool_in};
 
     ghost Value = { Pool };
 
-    ghost view = { λ p. pool_of p.store.region.bytes p.store.region.marks p.store.cells };
+    ghost view = { λ p. pool_in p.store };
 
-    ghost invariant = { λ p. IsRegion p.store.region.bytes p.store.region.marks p.store.cells p.store.head };
+    ghost invariant = { λ p. IsWholeStore p.store };
 }
 
 impl<A: Allocator + Copy> RawPool<A> {
@@ -62,8 +62,7 @@ impl<A: Allocator + Copy> RawPool<A> {
     /// Gives a block back. False, with nothing changed, if no block begins at the cell.
     pub fn give(&mut self, cell: usize) -> bool
         ensures given { result ≡ is_some (block_at cell self.old.blocks) }
-        ensures pool { self.new
-            ≡ record { cells = self.old.cells; blocks = without_block cell self.old.blocks } }
+        ensures pool { self.new ≡ given self.old cell }
     {
         self.store.give(cell)
     }
@@ -86,7 +85,8 @@ impl<A: Allocator + Copy> RawPool<A> {
     /// Writes bytes into the block that begins at a cell, from its byte `at` on. False, with nothing
     /// changed, if there is no such block or the bytes do not fit.
     pub fn write(&mut self, cell: usize, at: usize, bytes: &[u8]) -> bool
-        ensures written { result ≡ holds_range at (length bytes.now) (block_at cell self.old.blocks) }
+        ensures written { result ≡ holds_range at (length bytes.now)
+            (block_at cell self.old.blocks) }
         ensures pool { self.new ≡ written result cell at bytes.now self.old }
     {
         self.store.write(cell, at, bytes)

@@ -4,7 +4,7 @@ ghost use Rattle.std.specs.Prelude.{◌≡◌, ◌≤◌, ◌<◌, ◌+◌, ◌^
 ghost use Rattle.std.specs.Borrow.{full_share, sem, u8};
 ghost use denote.Array.{Array};
 ghost use denote.RawPtr.{Ptr, lies_at, room_for};
-ghost use Rattle.raw_pool.specs.Ownership.{AreBlock, byte_row, leased, row_lent, row_owned};
+ghost use Rattle.raw_pool.specs.Ownership.{byte_row, leased, row_lent, row_owned};
 
 use std::alloc::{AllocError, Allocator};
 use std::marker::{Model, PhantomData};
@@ -40,6 +40,8 @@ impl<A: Allocator> Model for Lease<A> {
 }
 
 impl<A: Allocator> Lease<A> {
+    ghost use Rattle.raw_pool.specs.RawRows.{AreLeased};
+
     /// Takes a block for two rows, one behind the other, in which no byte is set.
     pub(crate) fn reserve(
         alloc: &A,
@@ -50,8 +52,7 @@ impl<A: Allocator> Lease<A> {
         ensures rows { IfOk result
             (λ p. (p.0.set ≡ []) × (p.0.room ≡ first) × (p.1.set ≡ []) × (p.1.room ≡ second)) }
         ensures block { IfOk result
-            (λ p. AreBlock p.0.ptr p.0.room p.1.ptr p.1.room p.2.ptr p.2.size
-            × (p.2.alloc ≡ alloc.now)) }
+            (λ p. AreLeased p.0 p.1 p.2 × (p.2.alloc ≡ alloc.now)) }
     {
         let size = first + second;
         match alloc.allocate(size, 1) {
@@ -73,8 +74,7 @@ impl<A: Allocator> Lease<A> {
 
     /// Frees the block of two rows.
     pub(crate) fn release(self, first: RawBytes, second: RawBytes, alloc: &A)
-        requires { AreBlock first.ptr first.room second.ptr second.room self.ptr self.size
-            × (self.alloc ≡ alloc.now) }
+        requires { AreLeased first second self × (self.alloc ≡ alloc.now) }
     {
         let Lease { size, by: _ } = self;
         let RawBytes { ptr, len: _ } = first;
@@ -98,7 +98,8 @@ impl RawBytes {
     /// The bytes that are set, to be written.
     pub fn bytes_mut(&mut self) -> &mut [u8]
         ensures* writes_back { sem 𝓛
-            (follows the_row (Array u8 0) self.entry.ghost_name result.ghost_name (with_set self.old)) }
+            (follows the_row (Array u8 0) self.entry.ghost_name result.ghost_name
+            (with_set self.old)) }
         ensures value { result.now ≡ self.old.set }
     {
         unsafe { slice::from_raw_parts_mut(self.ptr, self.len) }

@@ -1,7 +1,7 @@
 //! The memory of a region: one block, with the bytes of its cells and behind them their marks.
 ghost use Rattle.std.specs.Prelude.{◌≡◌, ◌≤◌, ◌<◌, ◌+◌, ◌^◌, [], ◌∷◌, length, replicate, IfOk};
 ghost use Rattle.byteorder.specs.Endian.{little_bytes};
-ghost use Rattle.raw_pool.specs.Bytes.{put, word};
+ghost use Rattle.raw_pool.specs.Bytes.{with_put, word};
 
 use crate::raw_bytes::{Lease, RawBytes};
 use std::alloc::{AllocError, Allocator, Global};
@@ -18,14 +18,13 @@ pub(crate) struct Region<A: Allocator = Global> {
 impl<A: Allocator> Model for Region<A> {
     ghost use Rattle.std.specs.Prelude.{◌≡◌};
     ghost use Rattle.raw_pool.specs.Bytes.{Parts};
-    ghost use Rattle.raw_pool.specs.Ownership.{AreBlock};
-    ghost use Rattle.raw_pool.specs.RawRows.{bytes_of};
+    ghost use Rattle.raw_pool.specs.RawRows.{AreLeased, bytes_of};
 
     ghost Value = { Parts };
 
     ghost view = { λ r. record { bytes = bytes_of r.bytes; marks = bytes_of r.marks } };
 
-    ghost invariant = { λ r. AreBlock r.bytes.ptr r.bytes.room r.marks.ptr r.marks.room r.lease.ptr r.lease.size × (r.lease.alloc ≡ r.alloc) };
+    ghost invariant = { λ r. AreLeased r.bytes r.marks r.lease × (r.lease.alloc ≡ r.alloc) };
 }
 
 impl<A: Allocator> Region<A> {
@@ -60,27 +59,26 @@ impl<A: Allocator> Region<A> {
         self.bytes.len()
     }
 
-    /// Writes bytes from a place on, at most behind those that are set.
+    /// Writes bytes from an index on, at most behind those that are set.
     pub(crate) fn write(&mut self, at: usize, bytes: &[u8])
-        requires { (at ≤ length self.old.bytes.set) × (at + length bytes.now ≤ self.old.bytes.room) }
-        ensures bytes { self.new.bytes
-            ≡ record { set = put self.old.bytes.set at bytes.now; room = self.old.bytes.room } }
+        requires { (at ≤ length self.old.bytes.set)
+            × (at + length bytes.now ≤ self.old.bytes.room) }
+        ensures bytes { self.new.bytes ≡ with_put self.old.bytes at bytes.now }
         ensures marks { self.new.marks ≡ self.old.marks }
     {
         self.bytes.write(at, bytes);
     }
 
-    /// Sets the given number of bytes from a place on to 0.
+    /// Sets the given number of bytes from an index on to 0.
     pub(crate) fn clear(&mut self, at: usize, count: usize)
         requires { (at ≤ length self.old.bytes.set) × (at + count ≤ self.old.bytes.room) }
-        ensures bytes { self.new.bytes
-            ≡ record { set = put self.old.bytes.set at (replicate count 0); room = self.old.bytes.room } }
+        ensures bytes { self.new.bytes ≡ with_put self.old.bytes at (replicate count 0) }
         ensures marks { self.new.marks ≡ self.old.marks }
     {
         self.bytes.clear(at, count);
     }
 
-    /// The number in the 8 bytes from a place on.
+    /// The number in the 8 bytes from an index on.
     pub(crate) fn word(&self, at: usize) -> u64
         requires { at + 8 ≤ length self.now.bytes.set }
         ensures { result ≡ word self.now.bytes.set at }
@@ -88,11 +86,10 @@ impl<A: Allocator> Region<A> {
         self.bytes.word(at)
     }
 
-    /// Writes a number into the 8 bytes from a place on.
+    /// Writes a number into the 8 bytes from an index on.
     pub(crate) fn write_word(&mut self, at: usize, number: u64)
         requires { (at ≤ length self.old.bytes.set) × (at + 8 ≤ self.old.bytes.room) }
-        ensures bytes { self.new.bytes
-            ≡ record { set = put self.old.bytes.set at (little_bytes 8 number); room = self.old.bytes.room } }
+        ensures bytes { self.new.bytes ≡ with_put self.old.bytes at (little_bytes 8 number) }
         ensures marks { self.new.marks ≡ self.old.marks }
     {
         self.bytes.write_word(at, number);
@@ -116,8 +113,7 @@ impl<A: Allocator> Region<A> {
     /// Sets the given number of marks from a cell's on to 0.
     pub(crate) fn clear_marks(&mut self, cell: usize, count: usize)
         requires { (cell ≤ length self.old.marks.set) × (cell + count ≤ self.old.marks.room) }
-        ensures marks { self.new.marks
-            ≡ record { set = put self.old.marks.set cell (replicate count 0); room = self.old.marks.room } }
+        ensures marks { self.new.marks ≡ with_put self.old.marks cell (replicate count 0) }
         ensures bytes { self.new.bytes ≡ self.old.bytes }
     {
         self.marks.clear(cell, count);
@@ -126,8 +122,7 @@ impl<A: Allocator> Region<A> {
     /// Sets the mark of a cell, which may be the first that is not set yet.
     pub(crate) fn put_mark(&mut self, cell: usize, mark: u8)
         requires { (cell ≤ length self.old.marks.set) × (cell < self.old.marks.room) }
-        ensures marks { self.new.marks
-            ≡ record { set = put self.old.marks.set cell (mark ∷ []); room = self.old.marks.room } }
+        ensures marks { self.new.marks ≡ with_put self.old.marks cell (mark ∷ []) }
         ensures bytes { self.new.bytes ≡ self.old.bytes }
     {
         self.marks.put(cell, mark);

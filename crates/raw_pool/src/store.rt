@@ -3,10 +3,11 @@ ghost use Rattle.std.specs.Prelude.{◌≡◌, ◌≤◌, ◌<◌, ◌+◌, ◌*
 ghost use Rattle.std.specs.List.{AllByRecursion};
 ghost use Rattle.std.specs.Option.{is_some, option_map};
 ghost use Rattle.byteorder.specs.Endian.{little_bytes};
-ghost use Rattle.raw_pool.specs.Bytes.{put, word};
-ghost use Rattle.raw_pool.specs.Blocks.{block_at, cells_for, holds_range, longest_run, lowest_fit, taken, without_block, written};
-ghost use Rattle.raw_pool.specs.FreeList.{block_in, blocks_in, link};
-ghost use Rattle.raw_pool.specs.Searches.{IsCut, IsRegion, IsStore, Scan, grown, pool_of, runs_of, with_link};
+ghost use Rattle.raw_pool.specs.Bytes.{word};
+ghost use Rattle.raw_pool.specs.Blocks.{block_at, cells_for, given, holds_range, longest_run, lowest_fit, taken, written};
+ghost use Rattle.raw_pool.specs.FreeList.{link};
+ghost use Rattle.raw_pool.specs.Searches.{IsCut};
+ghost use Rattle.raw_pool.specs.Stores.{AddsRun, ChangesBytes, ChangesLinks, ChangesMarks, ChangesSet, EndsWithRun, HasPassed, IsFit, IsLaidStore, IsMarked, IsRunBefore, IsRunIn, IsWholeStore, JoinsRun, block_by_header, blocks_of, bytes_with_link, bytes_with_run, marks_with, pool_in};
 
 use crate::region::Region;
 use std::alloc::{Allocator, Global};
@@ -74,10 +75,9 @@ impl<A: Allocator + Copy> Store<A> {
         requires few { (self.old.cells ≤ 2 ^ 28) × (run ≤ self.old.cells) }
         requires room { self.old.region.bytes.room ≡ 32 * self.old.cells }
         requires set { run < self.old.cells → 32 * run + 16 ≤ length self.old.region.bytes.set }
-        ensures bytes { self.new.region.bytes
-            ≡ record { set = cond (run == self.old.cells) self.old.region.bytes.set (put self.old.region.bytes.set (32 * run + 8) (little_bytes 8 next)); room = self.old.region.bytes.room } }
+        ensures bytes { self.new.region.bytes ≡ bytes_with_link self.old run next }
         ensures head { self.new.head ≡ cond (run == self.old.cells) next self.old.head }
-        ensures others { (self.new.region.marks ≡ self.old.region.marks) × (self.new.cells ≡ self.old.cells) }
+        ensures others { ChangesLinks self.old self.new }
     {
         if run == self.cells {
             self.head = next;
@@ -91,10 +91,8 @@ impl<A: Allocator + Copy> Store<A> {
         requires few { (self.old.cells ≤ 2 ^ 28) × (run < self.old.cells) }
         requires room { self.old.region.bytes.room ≡ 32 * self.old.cells }
         requires set { 32 * run ≤ length self.old.region.bytes.set }
-        ensures bytes { self.new.region.bytes
-            ≡ record { set = put (put self.old.region.bytes.set (32 * run) (little_bytes 8 cells)) (32 * run + 8) (little_bytes 8 next); room = self.old.region.bytes.room } }
-        ensures others { (self.new.head ≡ self.old.head) × (self.new.region.marks ≡ self.old.region.marks)
-            × (self.new.cells ≡ self.old.cells) }
+        ensures bytes { self.new.region.bytes ≡ bytes_with_run self.old run cells next }
+        ensures others { ChangesBytes self.old self.new }
     {
         self.region.write_word(CELL_SIZE * run, cells as u64);
         self.region.write_word(CELL_SIZE * run + 8, next as u64);
@@ -102,11 +100,8 @@ impl<A: Allocator + Copy> Store<A> {
 
     /// The first free run of at least the given number of cells, and the place in the list before it.
     fn find_fit(&self, need: usize) -> Option<(usize, usize)>
-        requires { IsStore self.now.region.bytes self.now.region.marks self.now.cells self.now.head }
-        ensures { MatchOption result
-            (AllByRecursion (λ r. r.cells < need) (runs_of self.now.region.bytes self.now.region.marks self.now.cells))
-            (λ p. Scan (λ r. r.cells < need) self.now.region.bytes.set self.now.cells self.now.head (runs_of self.now.region.bytes self.now.region.marks self.now.cells) p.0 p.1
-            × (p.1 < self.now.cells) × (need ≤ word self.now.region.bytes.set (32 * p.1))) }
+        requires { IsLaidStore self.now }
+        ensures { IsFit self.now need result }
     {
         let mut last = self.cells;
         let mut next = self.head;
@@ -122,11 +117,9 @@ impl<A: Allocator + Copy> Store<A> {
 
     /// The place in the list behind which a run at a cell belongs, and the run that is there.
     fn find_place(&self, cell: usize) -> (usize, usize)
-        requires store { IsStore self.now.region.bytes self.now.region.marks self.now.cells self.now.head }
+        requires store { IsLaidStore self.now }
         requires within { cell < self.now.cells }
-        ensures { Scan (λ r. r.first < cell) self.now.region.bytes.set self.now.cells self.now.head
-            (runs_of self.now.region.bytes self.now.region.marks self.now.cells) result.0 result.1
-            × (cell ≤ result.1) }
+        ensures { HasPassed (λ r. r.first < cell) self.now result.0 result.1 × (cell ≤ result.1) }
     {
         let mut last = self.cells;
         let mut next = self.head;
@@ -145,10 +138,9 @@ impl<A: Allocator + Copy> Store<A> {
         requires set { 32 * at + 16 ≤ length self.old.region.bytes.set }
         requires fits { need ≤ word self.old.region.bytes.set (32 * at) }
         requires within { at + word self.old.region.bytes.set (32 * at) ≤ self.old.cells }
-        ensures cut { IsCut self.old.region.bytes.set self.new.region.bytes.set self.old.cells self.old.head at need result }
-        ensures others { (self.new.region.bytes.room ≡ self.old.region.bytes.room)
-            × (self.new.head ≡ self.old.head) × (self.new.region.marks ≡ self.old.region.marks)
-            × (self.new.cells ≡ self.old.cells) }
+        ensures cut { IsCut self.old.region.bytes.set self.new.region.bytes.set self.old.cells
+            self.old.head at need result }
+        ensures others { ChangesSet self.old self.new }
     {
         let free = self.run_cells(at);
         let next = self.link(at);
@@ -164,10 +156,8 @@ impl<A: Allocator + Copy> Store<A> {
     /// Marks a cell as the first of a block.
     fn mark(&mut self, cell: usize)
         requires { (self.old.region.marks.room ≡ self.old.cells) × (cell < self.old.cells) }
-        ensures marks { self.new.region.marks
-            ≡ record { set = put (grown self.old.region.marks.set cell) cell (1 ∷ []); room = self.old.region.marks.room } }
-        ensures others { (self.new.region.bytes ≡ self.old.region.bytes) × (self.new.head ≡ self.old.head)
-            × (self.new.cells ≡ self.old.cells) }
+        ensures marks { self.new.region.marks ≡ marks_with self.old cell }
+        ensures others { ChangesMarks self.old self.new }
     {
         let set = self.region.marks_len();
         self.region.clear_marks(set, cell.saturating_sub(set));
@@ -176,16 +166,13 @@ impl<A: Allocator + Copy> Store<A> {
 
     /// Makes the front of a free run a block, all of whose bytes are 0.
     fn place(&mut self, last: usize, at: usize, size: usize, need: usize)
-        requires store { IsStore self.old.region.bytes self.old.region.marks self.old.cells self.old.head }
-        requires scan { Scan (λ r. r.cells < need) self.old.region.bytes.set self.old.cells self.old.head
-            (runs_of self.old.region.bytes self.old.region.marks self.old.cells) last at }
+        requires store { IsLaidStore self.old }
+        requires scan { HasPassed (λ r. r.cells < need) self.old last at }
         requires within { at < self.old.cells }
         requires need { need ≡ cells_for size }
         requires fits { need ≤ word self.old.region.bytes.set (32 * at) }
-        ensures pool { pool_of self.new.region.bytes self.new.region.marks self.new.cells
-            ≡ taken
-            (pool_of self.old.region.bytes self.old.region.marks self.old.cells) size (Some at) }
-        ensures store { IsStore self.new.region.bytes self.new.region.marks self.new.cells self.new.head }
+        ensures pool { pool_in self.new ≡ taken (pool_in self.old) size (Some at) }
+        ensures store { IsLaidStore self.new }
     {
         let rest = self.cut(at, need);
         self.set_link(last, rest);
@@ -195,13 +182,10 @@ impl<A: Allocator + Copy> Store<A> {
 
     /// Takes the lowest run of free cells that has room for a block.
     fn take_prepared(&mut self, size: usize) -> Option<usize>
-        requires { IsStore self.old.region.bytes self.old.region.marks self.old.cells self.old.head }
-        ensures cell { result
-            ≡ lowest_fit self.old.cells (cells_for size) 0
-            (blocks_in self.old.region.bytes.set self.old.region.marks.set) }
-        ensures pool { pool_of self.new.region.bytes self.new.region.marks self.new.cells
-            ≡ taken (pool_of self.old.region.bytes self.old.region.marks self.old.cells) size result }
-        ensures store { IsStore self.new.region.bytes self.new.region.marks self.new.cells self.new.head }
+        requires { IsLaidStore self.old }
+        ensures cell { result ≡ lowest_fit self.old.cells (cells_for size) 0 (blocks_of self.old) }
+        ensures pool { pool_in self.new ≡ taken (pool_in self.old) size result }
+        ensures store { IsLaidStore self.new }
     {
         if size > CELL_SIZE * self.cells {
             return None;
@@ -214,10 +198,9 @@ impl<A: Allocator + Copy> Store<A> {
 
     /// Whether a block begins at a cell.
     fn is_block(&self, cell: usize) -> bool
-        ensures block { block_at cell (blocks_in self.now.region.bytes.set self.now.region.marks.set)
-            ≡ (if result then Some (block_in self.now.region.bytes.set cell) else None) }
-        ensures marked { result ≡ true → (cell < length self.now.region.marks.set)
-            × (slice_index self.now.region.marks.set cell ≢ 0) }
+        ensures block { block_at cell (blocks_of self.now)
+            ≡ (if result then Some (block_by_header self.now cell) else None) }
+        ensures marked { result ≡ true → IsMarked self.now cell }
     {
         let marks = self.region.marks();
         cell < marks.len() && marks[cell] != 0
@@ -227,13 +210,11 @@ impl<A: Allocator + Copy> Store<A> {
     /// the list goes on there. The first free run from that cell on is `next`.
     fn run_behind(&self, cell: usize, next: usize) -> (usize, usize)
         requires few { self.now.cells ≤ 2 ^ 28 }
-        requires set { next < self.now.cells → (32 * next + 16 ≤ length self.now.region.bytes.set)
-            × (next + word self.now.region.bytes.set (32 * next) ≤ self.now.cells) }
+        requires set { next < self.now.cells → IsRunIn self.now next }
         requires within { next ≤ self.now.cells }
-        ensures run { next ≡ cell → next < self.now.cells →
-            (result.0 ≡ next + word self.now.region.bytes.set (32 * next))
-            × (result.1 ≡ link self.now.region.bytes.set self.now.cells self.now.head next) }
-        ensures none { (next ≡ cell → next < self.now.cells → ⊥) → (result.0 ≡ cell) × (result.1 ≡ next) }
+        ensures run { EndsWithRun self.now cell next result }
+        ensures none { (next ≡ cell → next < self.now.cells → ⊥)
+            → (result.0 ≡ cell) × (result.1 ≡ next) }
     {
         if next == cell && next < self.cells {
             (next + self.run_cells(next), self.link(next))
@@ -248,16 +229,11 @@ impl<A: Allocator + Copy> Store<A> {
         requires few { (self.old.cells ≤ 2 ^ 28) × (cell < end) × (end ≤ self.old.cells)
             × (last ≤ self.old.cells) }
         requires room { self.old.region.bytes.room ≡ 32 * self.old.cells }
-        requires last { last < self.old.cells → (32 * last + 16 ≤ length self.old.region.bytes.set)
-            × (last + word self.old.region.bytes.set (32 * last) ≤ self.old.cells) × (last < cell) }
+        requires last { last < self.old.cells → IsRunBefore self.old last cell }
         requires set { 32 * cell + 32 ≤ length self.old.region.bytes.set }
-        ensures touching { last < self.old.cells → last + word self.old.region.bytes.set (32 * last) ≡ cell →
-            (self.new.region.bytes ≡ record { set = put (put self.old.region.bytes.set (32 * last) (little_bytes 8 (end - last))) (32 * last + 8) (little_bytes 8 after); room = self.old.region.bytes.room })
-            × (self.new.head ≡ self.old.head) }
-        ensures apart { (last < self.old.cells → last + word self.old.region.bytes.set (32 * last) ≡ cell → ⊥) →
-            (self.new.region.bytes ≡ record { set = with_link (put (put self.old.region.bytes.set (32 * cell) (little_bytes 8 (end - cell))) (32 * cell + 8) (little_bytes 8 after)) self.old.cells last cell; room = self.old.region.bytes.room })
-            × (self.new.head ≡ cond (last == self.old.cells) cell self.old.head) }
-        ensures others { (self.new.region.marks ≡ self.old.region.marks) × (self.new.cells ≡ self.old.cells) }
+        ensures touching { JoinsRun self.old last cell end after self.new }
+        ensures apart { AddsRun self.old last cell end after self.new }
+        ensures others { ChangesLinks self.old self.new }
     {
         if last < self.cells && last + self.run_cells(last) == cell {
             self.set_run(last, end - last, after);
@@ -269,12 +245,10 @@ impl<A: Allocator + Copy> Store<A> {
 
     /// Makes the cells of a block free.
     fn free(&mut self, cell: usize)
-        requires store { IsStore self.old.region.bytes self.old.region.marks self.old.cells self.old.head }
-        requires block { (cell < length self.old.region.marks.set)
-            × (slice_index self.old.region.marks.set cell ≢ 0) }
-        ensures pool { pool_of self.new.region.bytes self.new.region.marks self.new.cells
-            ≡ record { cells = self.old.cells; blocks = without_block cell (blocks_in self.old.region.bytes.set self.old.region.marks.set) } }
-        ensures store { IsStore self.new.region.bytes self.new.region.marks self.new.cells self.new.head }
+        requires store { IsLaidStore self.old }
+        requires block { IsMarked self.old cell }
+        ensures pool { pool_in self.new ≡ given (pool_in self.old) cell }
+        ensures store { IsLaidStore self.new }
     {
         let block_end = cell + cells_of(self.region.word(CELL_SIZE * cell) as usize);
         let (last, next) = self.find_place(cell);
@@ -285,10 +259,9 @@ impl<A: Allocator + Copy> Store<A> {
 
     /// Writes the header of the one free run, if no byte of the region is set yet.
     fn prepare(&mut self)
-        requires { IsRegion self.old.region.bytes self.old.region.marks self.old.cells self.old.head }
-        ensures pool { pool_of self.new.region.bytes self.new.region.marks self.new.cells
-            ≡ pool_of self.old.region.bytes self.old.region.marks self.old.cells }
-        ensures store { IsStore self.new.region.bytes self.new.region.marks self.new.cells self.new.head }
+        requires { IsWholeStore self.old }
+        ensures pool { pool_in self.new ≡ pool_in self.old }
+        ensures store { IsLaidStore self.new }
     {
         if self.region.len() == 0 {
             self.set_run(0, self.cells, self.cells);
@@ -299,13 +272,10 @@ impl<A: Allocator + Copy> Store<A> {
     /// Takes the lowest run of free cells that has room for a block of the given size, all bytes of which
     /// become 0, and returns the first of its cells.
     pub(crate) fn take(&mut self, size: usize) -> Option<usize>
-        requires { IsRegion self.old.region.bytes self.old.region.marks self.old.cells self.old.head }
-        ensures cell { result
-            ≡ lowest_fit self.old.cells (cells_for size) 0
-            (blocks_in self.old.region.bytes.set self.old.region.marks.set) }
-        ensures pool { pool_of self.new.region.bytes self.new.region.marks self.new.cells
-            ≡ taken (pool_of self.old.region.bytes self.old.region.marks self.old.cells) size result }
-        ensures region { IsRegion self.new.region.bytes self.new.region.marks self.new.cells self.new.head }
+        requires { IsWholeStore self.old }
+        ensures cell { result ≡ lowest_fit self.old.cells (cells_for size) 0 (blocks_of self.old) }
+        ensures pool { pool_in self.new ≡ taken (pool_in self.old) size result }
+        ensures region { IsWholeStore self.new }
     {
         self.prepare();
         self.take_prepared(size)
@@ -313,13 +283,10 @@ impl<A: Allocator + Copy> Store<A> {
 
     /// Gives a block back, if one begins at the cell.
     pub(crate) fn give(&mut self, cell: usize) -> bool
-        requires { IsRegion self.old.region.bytes self.old.region.marks self.old.cells self.old.head }
-        ensures given { result
-            ≡ is_some
-            (block_at cell (blocks_in self.old.region.bytes.set self.old.region.marks.set)) }
-        ensures pool { pool_of self.new.region.bytes self.new.region.marks self.new.cells
-            ≡ record { cells = self.old.cells; blocks = without_block cell (blocks_in self.old.region.bytes.set self.old.region.marks.set) } }
-        ensures region { IsRegion self.new.region.bytes self.new.region.marks self.new.cells self.new.head }
+        requires { IsWholeStore self.old }
+        ensures given { result ≡ is_some (block_at cell (blocks_of self.old)) }
+        ensures pool { pool_in self.new ≡ given (pool_in self.old) cell }
+        ensures region { IsWholeStore self.new }
     {
         let is_block = self.is_block(cell);
         if is_block {
@@ -330,10 +297,8 @@ impl<A: Allocator + Copy> Store<A> {
 
     /// The size of the block at a cell.
     pub(crate) fn size_of(&self, cell: usize) -> Option<usize>
-        requires { IsRegion self.now.region.bytes self.now.region.marks self.now.cells self.now.head }
-        ensures { result
-            ≡ option_map (λ b. b.size)
-            (block_at cell (blocks_in self.now.region.bytes.set self.now.region.marks.set)) }
+        requires { IsWholeStore self.now }
+        ensures { result ≡ option_map (λ b. b.size) (block_at cell (blocks_of self.now)) }
     {
         if self.is_block(cell) {
             Some(self.region.word(CELL_SIZE * cell) as usize)
@@ -344,10 +309,9 @@ impl<A: Allocator + Copy> Store<A> {
 
     /// The bytes of the block at a cell.
     pub(crate) fn bytes_of(&self, cell: usize) -> Option<&[u8]>
-        requires { IsRegion self.now.region.bytes self.now.region.marks self.now.cells self.now.head }
+        requires { IsWholeStore self.now }
         ensures { option_map (λ s. s.now) result
-            ≡ option_map (λ b. b.bytes)
-            (block_at cell (blocks_in self.now.region.bytes.set self.now.region.marks.set)) }
+            ≡ option_map (λ b. b.bytes) (block_at cell (blocks_of self.now)) }
     {
         let size = self.size_of(cell)?;
         let start = CELL_SIZE * cell + HEADER_SIZE;
@@ -356,14 +320,11 @@ impl<A: Allocator + Copy> Store<A> {
 
     /// Writes bytes into the block at a cell, from one of its bytes on, if they fit.
     pub(crate) fn write(&mut self, cell: usize, at: usize, bytes: &[u8]) -> bool
-        requires { IsRegion self.old.region.bytes self.old.region.marks self.old.cells self.old.head }
-        ensures written { result
-            ≡ holds_range at (length bytes.now)
-            (block_at cell (blocks_in self.old.region.bytes.set self.old.region.marks.set)) }
-        ensures pool { pool_of self.new.region.bytes self.new.region.marks self.new.cells
-            ≡ written result cell at bytes.now
-            (pool_of self.old.region.bytes self.old.region.marks self.old.cells) }
-        ensures region { IsRegion self.new.region.bytes self.new.region.marks self.new.cells self.new.head }
+        requires { IsWholeStore self.old }
+        ensures written { result ≡ holds_range at (length bytes.now)
+            (block_at cell (blocks_of self.old)) }
+        ensures pool { pool_in self.new ≡ written result cell at bytes.now (pool_in self.old) }
+        ensures region { IsWholeStore self.new }
     {
         let Some(size) = self.size_of(cell) else {
             return false;
@@ -378,10 +339,8 @@ impl<A: Allocator + Copy> Store<A> {
 
     /// How many cells the longest free run has. It goes along the whole free list.
     pub(crate) fn longest_free(&self) -> usize
-        requires { IsRegion self.now.region.bytes self.now.region.marks self.now.cells self.now.head }
-        ensures { result
-            ≡ longest_run self.now.cells 0
-            (blocks_in self.now.region.bytes.set self.now.region.marks.set) }
+        requires { IsWholeStore self.now }
+        ensures { result ≡ longest_run self.now.cells 0 (blocks_of self.now) }
     {
         if self.region.len() == 0 {
             return self.cells;
@@ -397,8 +356,8 @@ impl<A: Allocator + Copy> Store<A> {
 
     /// Whether there is no block: the first free run has all cells then.
     pub(crate) fn is_empty(&self) -> bool
-        requires { IsRegion self.now.region.bytes self.now.region.marks self.now.cells self.now.head }
-        ensures { IsTrue result ↔ (blocks_in self.now.region.bytes.set self.now.region.marks.set ≡ []) }
+        requires { IsWholeStore self.now }
+        ensures { IsTrue result ↔ (blocks_of self.now ≡ []) }
     {
         if self.region.len() == 0 {
             return true;

@@ -15,6 +15,8 @@ pub(crate) struct Cells {
 }
 
 impl Cells {
+    ghost use Rattle.region_heap.specs.Heaps.{TakesUnits};
+
     /// Cells all of whose units are free.
     pub(crate) fn new(free: Free, marks: RawBytes, units: usize) -> Cells
         requires { (free.marks ≡ replicate units 0) × (marks.set ≡ replicate units 0) }
@@ -26,7 +28,7 @@ impl Cells {
     /// Takes units in a row that are free, a number for a block and one behind them.
     pub(crate) fn take(self, units: usize) -> (Cells, Option<Block>)
         ensures place { result.0.free.place ≡ self.free.place }
-        ensures block { MatchOption result.1 ((at : ℕ) → ¬ AreFree self.marks.set at (units + 1)) (λ b. AreFree self.marks.set b.at (units + 1) × (b.units ≡ units) × (b.place ≡ self.free.place) × (result.0.marks.set ≡ marked self.marks.set b.at (units + 1) 1)) }
+        ensures block { TakesUnits self units result.0 result.1 }
         ensures same { result.1 ≡ None → result.0 ≡ self }
     {
         match first_free(self.marks.bytes(), units) {
@@ -70,7 +72,8 @@ fn mark(marks: &mut RawBytes, at: usize, count: usize, mark: u8)
 
 /// The first of a number of units in a row that are free, and one more.
 fn first_free(marks: &[u8], units: usize) -> Option<usize>
-    ensures { MatchOption result ((at : ℕ) → ¬ AreFree marks.now at (units + 1)) (λ at. AreFree marks.now at (units + 1)) }
+    ensures { MatchOption result ((at : ℕ) → ¬ AreFree marks.now at (units + 1))
+        (λ at. AreFree marks.now at (units + 1)) }
 {
     let mut free = 0;
     for (at, mark) in marks.iter().enumerate() {

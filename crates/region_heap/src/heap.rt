@@ -42,7 +42,8 @@ impl RegionHeap {
 
     // The slot is empty only while one of these two runs, and neither calls what could come back here.
     fn take(&self, size: usize, align: usize) -> Option<Block>
-        ensures { IfSome result (λ b. (b.place ≡ self.now.slot) × (b.units ≡ units_for size) × (size < 2 ^ 63) × (align ≤ 16)) }
+        ensures { IfSome result (λ b. (b.place ≡ self.now.slot) × (b.units ≡ units_for size)
+            × (size < 2 ^ 63) × (align ≤ 16)) }
     {
         if align > UNIT || size > isize::MAX as usize {
             return None;

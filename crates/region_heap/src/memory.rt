@@ -75,13 +75,14 @@ impl Region {
 
     /// How many units there are, and the memory again.
     pub(crate) fn with_units(self) -> (usize, Region)
-        ensures { (result.0 ≡ self.units) × (result.1.units ≡ self.units) × (16 * self.units < 2 ^ 63) }
+        ensures { (result.0 ≡ self.units) × (result.1.units ≡ self.units)
+            × (16 * self.units < 2 ^ 63) }
     {
         let Region { start, units } = self;
         (units, Region { start, units })
     }
 
-    /// The memory in two parts of so many units each.
+    /// The memory in two parts, with the given numbers of units.
     pub(crate) fn cut(self, front: usize, rest: usize) -> (Region, Region)
         requires { front + rest ≡ self.units }
         ensures { (result.0.units ≡ front) × (result.1.units ≡ rest) }
@@ -117,8 +118,10 @@ impl Free {
     pub(crate) fn cut(self, at: usize, units: usize) -> (Free, Block)
         requires inside { at + units < self.place.units }
         requires free { AreFree self.marks at (units + 1) }
-        ensures free { (result.0.place ≡ self.place) × (result.0.marks ≡ marked self.marks at (units + 1) 1) }
-        ensures block { (result.1.place ≡ self.place) × (result.1.at ≡ at) × (result.1.units ≡ units) }
+        ensures free { (result.0.place ≡ self.place)
+            × (result.0.marks ≡ marked self.marks at (units + 1) 1) }
+        ensures block { (result.1.place ≡ self.place) × (result.1.at ≡ at)
+            × (result.1.units ≡ units) }
     {
         let Free { start } = self;
         unsafe {
@@ -132,7 +135,8 @@ impl Free {
     /// Makes a block's units free again, and the one behind them. Answers which is the first.
     pub(crate) fn put(self, block: Block, units: usize) -> (Free, usize)
         requires { (block.place ≡ self.place) × (block.units ≡ units) }
-        ensures free { (result.0.place ≡ self.place) × (result.0.marks ≡ marked self.marks block.at (units + 1) 0) }
+        ensures free { (result.0.place ≡ self.place)
+            × (result.0.marks ≡ marked self.marks block.at (units + 1) 0) }
         ensures first { (result.1 ≡ block.at) × (block.at + units < self.place.units) }
     {
         let Free { start } = self;

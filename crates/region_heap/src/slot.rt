@@ -15,11 +15,14 @@ pub(crate) struct Slot {
 impl Owns for Slot {
     ghost Value = { Place };
 
-    ghost shr_at = { λ p. behind_a_ref Fields (λ i. fex (IfSome i.cells (λ c. cells_place c ≡ p)) (λ _. ftrue)) };
+    ghost shr_at = { λ p. behind_a_ref Fields
+        (λ i. fex (IfSome i.cells (λ c. cells_place c ≡ p)) (λ _. ftrue)) };
 }
 
 impl Move for Slot {
-    ghost own_val = { λ p vs. fex Inside (λ i. fsep (Fields.own_val i vs) (fex (IfSome i.cells (λ c. cells_place c ≡ p)) (λ _. ftrue))) };
+    ghost own_val = { λ p vs. fex Inside
+        (λ i. fsep (Fields.own_val i vs)
+        (fex (IfSome i.cells (λ c. cells_place c ≡ p)) (λ _. ftrue))) };
 }
 
 impl Slot {

@@ -59,7 +59,8 @@ map_line number returned =
 -- What is printed of a GetMemoryMap with this reply, of this status: on success its line and those
 -- of the entries.
 abbrev pub map_text : ℕ → List Descriptor → MapReply → Status → List ℕ
-map_text number entries returned Success = map_line number returned ++ flat_map descriptor_line entries
+map_text number entries returned Success =
+    map_line number returned ++ flat_map descriptor_line entries
 map_text number entries returned BufferTooSmall = size_line number verb.Map returned.size
 map_text number entries returned status = status_line number verb.Map (status_of status)
 
@@ -81,7 +82,8 @@ returned_line fields number v (Err status) = status_line number v (status_of sta
 -- the fields of an installation
 abbrev pub installed_fields : {A : Type 0} → Installed A → List ℕ
 installed_fields returned =
-    codes "handle=" ++ decimal returned.handle ++ codes " events=" ++ events_text returned.events.items
+    codes "handle=" ++ decimal returned.handle ++ codes " events="
+    ++ events_text returned.events.items
 
 -- the field of the events that are signaled
 abbrev pub events_field : {A : Type 0} → Vec ℕ A → List ℕ
@@ -117,7 +119,8 @@ opened_line number (Err status) = status_line number verb.Open (status_of status
 -- the fields of a search that found handles: their size, and the handles
 abbrev pub handles_fields : {A : Type 0} → LocateReply A → List ℕ
 handles_fields returned =
-    codes "size=" ++ decimal returned.size ++ codes " handles=" ++ numbers_text returned.handles.items
+    codes "size=" ++ decimal returned.size ++ codes " handles="
+    ++ numbers_text returned.handles.items
 
 -- the line of a search for handles, of this status
 abbrev pub located_line : {A : Type 0} → ℕ → LocateReply A → Status → List ℕ
@@ -153,7 +156,8 @@ protocol_text number (reply.HandleProtocol result) =
 protocol_text number (reply.ConnectController result) =
     returned_line events_field number verb.Connect result
 protocol_text number (reply.DisconnectController result) = result_line number verb.Disconnect result
-protocol_text number (reply.LocateDevicePath result) = returned_line path_fields number verb.Path result
+protocol_text number (reply.LocateDevicePath result) =
+    returned_line path_fields number verb.Path result
 protocol_text number answer = []
 
 -- what is printed of a reply that carries these entries
@@ -163,7 +167,8 @@ reply_text number entries (reply.AllocatePages (Ok placed)) =
 reply_text number entries (reply.AllocatePages (Err status)) =
     status_line number verb.Pages (status_of status)
 reply_text number entries (reply.FreePages result) = result_line number verb.FreePages result
-reply_text number entries (reply.GetMemoryMap returned bytes) = map_text number entries returned returned.status
+reply_text number entries (reply.GetMemoryMap returned bytes) =
+    map_text number entries returned returned.status
 reply_text number entries (reply.AllocatePool (Ok block)) =
     value_line number verb.Pool (codes "address") block.0
 reply_text number entries (reply.AllocatePool (Err status)) =

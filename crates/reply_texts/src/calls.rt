@@ -1,9 +1,6 @@
 //! The lines of calls, printed with the certificates of their replies.
-ghost use Rattle.std.specs.Prelude.{◌≡◌, ◌++◌, OnOk, List, option_map, string_bytes};
-ghost use Rattle.page_ranges.specs.declared.ranges.Descriptor.{Descriptor};
-ghost use Rattle.boot_replies.specs.Certified.{certified};
-ghost use Rattle.reply_texts.specs.PrintedText.{reply_text};
-ghost use Rattle.reply_texts.specs.CallText.{CarriesEntries, block_after};
+ghost use Rattle.std.specs.Prelude.{OnOk, option_map};
+ghost use Rattle.reply_texts.specs.CallText.{GainsCall};
 
 use crate::replies::{carried_entries, print_reply};
 use boot_calls::Call;
@@ -24,8 +21,8 @@ pub fn print_call<A: Allocator + Copy>(
     reply: &Reply<A>,
 ) -> Result<(), AllocError>
     ensures { OnOk result
-        ((entries : List Descriptor) × CarriesEntries reply.now entries
-        × (string_bytes text.new ≡ string_bytes text.old ++ (reply_text number entries reply.now ++ block_after (option_map (λ kept. kept.items) before.now) (certified granule call.now reply.now)))) }
+        (GainsCall number granule
+        (option_map (λ kept. kept.items) before.now) call.now reply.now text.old text.new) }
 {
     let entries = carried_entries(alloc, reply)?;
     print_reply(alloc, text, number, entries.as_slice(), reply)?;

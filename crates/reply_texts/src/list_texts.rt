@@ -1,5 +1,6 @@
 //! Lists in replies.
-ghost use Rattle.std.specs.Prelude.{◌≡◌, ◌++◌, OnOk, string_bytes};
+ghost use Rattle.std.specs.Prelude.{◌≡◌, OnOk};
+ghost use Rattle.text_lines.specs.Printed.{Gains};
 ghost use Rattle.reply_texts.specs.ListTexts.{events_text, guids_text, numbers_text, separator_at};
 
 use std::alloc::{AllocError, Allocator};
@@ -17,7 +18,7 @@ pub(crate) fn print_numbers<A: Allocator>(
     text: &mut String<A>,
     numbers: &[u64],
 ) -> Result<(), AllocError>
-    ensures { OnOk result (string_bytes text.new ≡ string_bytes text.old ++ numbers_text numbers.now) }
+    ensures { OnOk result (Gains text.old text.new (numbers_text numbers.now)) }
 {
     for (index, number) in numbers.iter().enumerate() {
         let separator = separator_at(index);
@@ -31,7 +32,7 @@ pub(crate) fn print_events<A: Allocator>(
     text: &mut String<A>,
     events: &[u64],
 ) -> Result<(), AllocError>
-    ensures { OnOk result (string_bytes text.new ≡ string_bytes text.old ++ events_text events.now) }
+    ensures { OnOk result (Gains text.old text.new (events_text events.now)) }
 {
     if events.is_empty() {
         return write!(text, "-");
@@ -44,7 +45,7 @@ pub(crate) fn print_guids<A: Allocator>(
     text: &mut String<A>,
     guids: &[Uuid],
 ) -> Result<(), AllocError>
-    ensures { OnOk result (string_bytes text.new ≡ string_bytes text.old ++ guids_text guids.now) }
+    ensures { OnOk result (Gains text.old text.new (guids_text guids.now)) }
 {
     for (index, guid) in guids.iter().enumerate() {
         let separator = separator_at(index);

@@ -1,5 +1,6 @@
 //! The lines of replies of the protocol services.
-ghost use Rattle.std.specs.Prelude.{◌≡◌, ◌++◌, Ok, OnOk, string_bytes};
+ghost use Rattle.std.specs.Prelude.{Ok, OnOk};
+ghost use Rattle.text_lines.specs.Printed.{Gains};
 ghost use Rattle.reply_texts.specs.PrintedText.{events_field, guids_field, handles_fields, installed_fields, interface_field, located_line, opened_line, path_fields, pool_list_fields, protocol_text, registration_field, returned_line};
 
 use crate::list_texts::{print_events, print_guids, print_numbers};
@@ -17,8 +18,7 @@ pub(crate) fn print_protocols<A: Allocator>(
     number: u64,
     reply: &Reply<A>,
 ) -> Result<(), AllocError>
-    ensures { OnOk result
-        (string_bytes text.new ≡ string_bytes text.old ++ protocol_text number reply.now) }
+    ensures { OnOk result (Gains text.old text.new (protocol_text number reply.now)) }
 {
     match reply {
         Reply::InstallProtocolInterface(result) => {
@@ -67,7 +67,7 @@ fn print_installed<A: Allocator>(
     done: &Result<Installed<A>, Status>,
 ) -> Result<(), AllocError>
     ensures { OnOk result
-        (string_bytes text.new ≡ string_bytes text.old ++ returned_line installed_fields number verb done.now) }
+        (Gains text.old text.new (returned_line installed_fields number verb done.now)) }
 {
     match done {
         Ok(returned) => {
@@ -89,7 +89,7 @@ fn print_signaled<A: Allocator>(
     done: &Result<Vec<u64, A>, Status>,
 ) -> Result<(), AllocError>
     ensures { OnOk result
-        (string_bytes text.new ≡ string_bytes text.old ++ returned_line events_field number verb done.now) }
+        (Gains text.old text.new (returned_line events_field number verb done.now)) }
 {
     match done {
         Ok(events) => {
@@ -110,7 +110,7 @@ fn print_pool_list<A: Allocator>(
     done: &Result<PoolList<A>, Status>,
 ) -> Result<(), AllocError>
     ensures { OnOk result
-        (string_bytes text.new ≡ string_bytes text.old ++ returned_line pool_list_fields number verb done.now) }
+        (Gains text.old text.new (returned_line pool_list_fields number verb done.now)) }
 {
     match done {
         Ok(returned) => {
@@ -134,7 +134,7 @@ fn print_interface<A: Allocator>(
     done: Result<u64, Status>,
 ) -> Result<(), AllocError>
     ensures { OnOk result
-        (string_bytes text.new ≡ string_bytes text.old ++ returned_line interface_field number verb done) }
+        (Gains text.old text.new (returned_line interface_field number verb done)) }
 {
     match done {
         Ok(value) => {
@@ -151,7 +151,7 @@ fn print_opened<A: Allocator>(
     number: u64,
     done: Result<Option<u64>, Status>,
 ) -> Result<(), AllocError>
-    ensures { OnOk result (string_bytes text.new ≡ string_bytes text.old ++ opened_line number done) }
+    ensures { OnOk result (Gains text.old text.new (opened_line number done)) }
 {
     match done {
         Ok(Some(value)) => print_interface(text, number, Verb::Open, Ok(value)),
@@ -167,7 +167,7 @@ fn print_registration<A: Allocator>(
     done: Result<u64, Status>,
 ) -> Result<(), AllocError>
     ensures { OnOk result
-        (string_bytes text.new ≡ string_bytes text.old ++ returned_line registration_field number Verb.Notify done) }
+        (Gains text.old text.new (returned_line registration_field number Verb.Notify done)) }
 {
     match done {
         Ok(key) => {
@@ -185,7 +185,7 @@ fn print_protocols_on<A: Allocator>(
     done: &Result<Vec<Uuid, A>, Status>,
 ) -> Result<(), AllocError>
     ensures { OnOk result
-        (string_bytes text.new ≡ string_bytes text.old ++ returned_line guids_field number Verb.Protocols done.now) }
+        (Gains text.old text.new (returned_line guids_field number Verb.Protocols done.now)) }
 {
     match done {
         Ok(guids) => {
@@ -205,7 +205,7 @@ fn print_path<A: Allocator>(
     done: Result<(u64, u64), Status>,
 ) -> Result<(), AllocError>
     ensures { OnOk result
-        (string_bytes text.new ≡ string_bytes text.old ++ returned_line path_fields number Verb.Path done) }
+        (Gains text.old text.new (returned_line path_fields number Verb.Path done)) }
 {
     match done {
         Ok((handle, address)) => {
@@ -227,7 +227,7 @@ fn print_handles<A: Allocator>(
     returned: &LocateReply<A>,
 ) -> Result<(), AllocError>
     ensures { OnOk result
-        (string_bytes text.new ≡ string_bytes text.old ++ returned_line handles_fields number verb (Ok returned.now)) }
+        (Gains text.old text.new (returned_line handles_fields number verb (Ok returned.now))) }
 {
     let verb = verb.name();
     let size = returned.size;
@@ -243,7 +243,7 @@ fn print_located<A: Allocator>(
     returned: &LocateReply<A>,
 ) -> Result<(), AllocError>
     ensures { OnOk result
-        (string_bytes text.new ≡ string_bytes text.old ++ located_line number returned.now returned.now.status) }
+        (Gains text.old text.new (located_line number returned.now returned.now.status)) }
 {
     match returned.status {
         Status::Success => print_handles(text, number, Verb::Locate, returned),

@@ -1,5 +1,6 @@
 //! The lines of replies.
-ghost use Rattle.std.specs.Prelude.{◌≡◌, ◌++◌, ◌<◌, IfOk, OnOk, flat_map, string_bytes};
+ghost use Rattle.std.specs.Prelude.{◌<◌, IfOk, OnOk, flat_map};
+ghost use Rattle.text_lines.specs.Printed.{Gains};
 ghost use Rattle.page_ranges.specs.MemoryTypes.{page_count};
 ghost use Rattle.std.specs.List.{AllByRecursion};
 ghost use Rattle.reply_texts.specs.PrintedText.{bytes_line, descriptor_line, map_line, map_text, read_line, reply_text, result_line, size_line, status_line, value_line};
@@ -48,8 +49,7 @@ pub fn print_reply<A: Allocator + Copy>(
     reply: &Reply<A>,
 ) -> Result<(), AllocError>
     requires { AllByRecursion IsRecordEntry entries.now }
-    ensures { OnOk result
-        (string_bytes text.new ≡ string_bytes text.old ++ reply_text number entries.now reply.now) }
+    ensures { OnOk result (Gains text.old text.new (reply_text number entries.now reply.now)) }
 {
     match reply {
         Reply::AllocatePages(Ok(placed)) => {
@@ -79,7 +79,7 @@ pub(crate) fn print_result<A: Allocator>(
     verb: Verb,
     done: Result<(), Status>,
 ) -> Result<(), AllocError>
-    ensures { OnOk result (string_bytes text.new ≡ string_bytes text.old ++ result_line number verb done) }
+    ensures { OnOk result (Gains text.old text.new (result_line number verb done)) }
 {
     match done {
         Ok(()) => print_status(text, number, verb, Status::Success),
@@ -95,8 +95,7 @@ fn print_read<A: Allocator + Copy>(
     status: Status,
     bytes: &[u8],
 ) -> Result<(), AllocError>
-    ensures { OnOk result
-        (string_bytes text.new ≡ string_bytes text.old ++ read_line number bytes.now status) }
+    ensures { OnOk result (Gains text.old text.new (read_line number bytes.now status)) }
 {
     match status {
         Status::Success => print_bytes(alloc, text, number, Verb::Read, bytes),
@@ -112,8 +111,7 @@ fn print_bytes<A: Allocator + Copy>(
     verb: Verb,
     bytes: &[u8],
 ) -> Result<(), AllocError>
-    ensures { OnOk result
-        (string_bytes text.new ≡ string_bytes text.old ++ bytes_line number verb bytes.now) }
+    ensures { OnOk result (Gains text.old text.new (bytes_line number verb bytes.now)) }
 {
     let verb = verb.name();
     let digits = hex::encode(alloc, bytes)?;
@@ -128,8 +126,7 @@ fn print_value<A: Allocator>(
     name: &str,
     value: u64,
 ) -> Result<(), AllocError>
-    ensures { OnOk result
-        (string_bytes text.new ≡ string_bytes text.old ++ value_line number verb name.now value) }
+    ensures { OnOk result (Gains text.old text.new (value_line number verb name.now value)) }
 {
     let verb = verb.name();
     writeln!(text, "{number} {verb} SUCCESS {name}=0x{value:x}")
@@ -142,8 +139,7 @@ pub(crate) fn print_status<A: Allocator>(
     verb: Verb,
     status: Status,
 ) -> Result<(), AllocError>
-    ensures { OnOk result
-        (string_bytes text.new ≡ string_bytes text.old ++ status_line number verb (name_of status)) }
+    ensures { OnOk result (Gains text.old text.new (status_line number verb (name_of status))) }
 {
     let verb = verb.name();
     let status = status.name();
@@ -159,7 +155,7 @@ fn print_map<A: Allocator>(
 ) -> Result<(), AllocError>
     requires { AllByRecursion IsRecordEntry entries.now }
     ensures { OnOk result
-        (string_bytes text.new ≡ string_bytes text.old ++ map_text number entries.now reply.now reply.now.status) }
+        (Gains text.old text.new (map_text number entries.now reply.now reply.now.status)) }
 {
     match reply.status {
         Status::Success => {
@@ -177,7 +173,7 @@ fn print_map_line<A: Allocator>(
     number: u64,
     reply: &MapReply,
 ) -> Result<(), AllocError>
-    ensures { OnOk result (string_bytes text.new ≡ string_bytes text.old ++ map_line number reply.now) }
+    ensures { OnOk result (Gains text.old text.new (map_line number reply.now)) }
 {
     let verb = Verb::Map.name();
     let size = reply.size;
@@ -197,7 +193,7 @@ pub(crate) fn print_size<A: Allocator>(
     verb: Verb,
     size: u64,
 ) -> Result<(), AllocError>
-    ensures { OnOk result (string_bytes text.new ≡ string_bytes text.old ++ size_line number verb size) }
+    ensures { OnOk result (Gains text.old text.new (size_line number verb size)) }
 {
     let verb = verb.name();
     writeln!(text, "{number} {verb} BUFFER_TOO_SMALL size={size}")
@@ -209,8 +205,7 @@ fn print_entries<A: Allocator>(
     entries: &[Descriptor],
 ) -> Result<(), AllocError>
     requires { AllByRecursion IsRecordEntry entries.now }
-    ensures { OnOk result
-        (string_bytes text.new ≡ string_bytes text.old ++ flat_map descriptor_line entries.now) }
+    ensures { OnOk result (Gains text.old text.new (flat_map descriptor_line entries.now)) }
 {
     for entry in entries {
         print_descriptor(text, entry)?;
@@ -224,7 +219,7 @@ pub fn print_descriptor<A: Allocator>(
     entry: &Descriptor,
 ) -> Result<(), AllocError>
     requires { entry.now.first < page_count }
-    ensures { OnOk result (string_bytes text.new ≡ string_bytes text.old ++ descriptor_line entry.now) }
+    ensures { OnOk result (Gains text.old text.new (descriptor_line entry.now)) }
 {
     let mtype = entry.mtype.number();
     let address = entry.first * PAGE_SIZE;

@@ -1,6 +1,8 @@
 -- The lines of a text.
-use Rattle.std.specs.Prelude.{◌≡◌, ◌⊎◌, MatchBool, MatchOption, IfSome, ℕ, ◌<◌, Bool, ◌==◌, List, [], ◌∷◌, length, Option, Some, if◌then◌else◌}
+use Rattle.std.specs.Prelude.{◌≡◌, ◌⊎◌, MatchBool, MatchOption, MatchResult, IfSome, IsTrue, Result, ℕ, ◌<◌, Bool, ◌==◌, List, [], ◌∷◌, length, Option, Some, if◌then◌else◌}
 use Rattle.std.specs.List.{slice_split}
+use Rattle.text_lines.specs.declared.lines.LineFault.{LineFault}
+use Rattle.text_lines.specs.declared.lines.LineFault.TheVariants.{Read}
 
 -- the most bytes of a line, without its line feed
 abbrev pub longest_line : ℕ
@@ -49,3 +51,10 @@ IsFirstLine bytes line left =
 abbrev pub TakesLine : Option (List ℕ) → Bool → List ℕ → Option (List ℕ) → Type 0
 TakesLine old more line new =
     IfSome old (λ bytes. MatchBool more (IsFirstLine bytes line new) (bytes ≡ []))
+
+-- the next line was taken, or there is a fault; where a source cannot fail, it is none of reading
+abbrev pub ReadsLine : Bool → Option (List ℕ) → Result Bool LineFault → List ℕ
+    → Option (List ℕ) → Type 0
+ReadsLine can_fail old result line new =
+    MatchResult result (λ more. TakesLine old more line new)
+    (λ fault. fault ≡ Read → IsTrue can_fail)

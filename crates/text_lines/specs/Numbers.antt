@@ -10,7 +10,8 @@ is_between low high byte = nat_le low byte && nat_le byte high
 abbrev pub digit : ℕ → Option ℕ
 digit byte =
     if is_between 48 57 byte then Some (byte - 48)
-    else (if is_between 97 102 byte then Some (byte - 87) else (if is_between 65 70 byte then Some (byte - 55) else None))
+    else (if is_between 97 102 byte then Some (byte - 87)
+    else (if is_between 65 70 byte then Some (byte - 55) else None))
 
 -- a digit of the base
 abbrev pub digit_of : ℕ → ℕ → Option ℕ
@@ -22,7 +23,8 @@ unfoldable pub value_of_digits : ℕ → List ℕ → Option ℕ
 value_of_digits base [] = Some 0
 value_of_digits base (byte ∷ bytes) =
     option_and_then
-    (λ d. option_map (λ n. d * base ^ length bytes + n) (value_of_digits base bytes)) (digit_of base byte)
+    (λ d. option_map (λ n. d * base ^ length bytes + n) (value_of_digits base bytes))
+    (digit_of base byte)
 
 -- a value below 2^64
 abbrev pub within_64_bits : ℕ → Option ℕ

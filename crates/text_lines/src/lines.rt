@@ -1,8 +1,8 @@
 //! Lines, read one at a time.
-ghost use Rattle.std.specs.Prelude.{◌≡◌, IsTrue, IfOk, MatchResult};
+ghost use Rattle.std.specs.Prelude.{◌≡◌, IfOk};
 ghost use Rattle.std.specs.Io.BufRead.{strip_last};
 ghost use Rattle.std.specs.Io.Buffered.{reader_remaining};
-ghost use Rattle.text_lines.specs.Lines.{TakesByte, TakesLine};
+ghost use Rattle.text_lines.specs.Lines.{ReadsLine, TakesByte};
 
 use crate::sources::ByteSource;
 use std::alloc::Allocator;
@@ -24,7 +24,8 @@ pub enum LineFault {
 /// The next byte, None at the end.
 pub fn next_byte<R: Read, A: Allocator>(reader: &mut BufReader<R, A>) -> io::Result<Option<u8>>
     ensures { IfOk result
-        (λ next. TakesByte (reader_remaining R.remaining reader.old) next (reader_remaining R.remaining reader.new)) }
+        (λ next. TakesByte (reader_remaining R.remaining reader.old) next
+        (reader_remaining R.remaining reader.new)) }
 {
     let next = reader.fill_buf()?.first().copied();
     if next.is_some() {
@@ -39,9 +40,7 @@ pub fn next_line<S: ByteSource, A: Allocator>(
     reader: &mut S,
     line: &mut Vec<u8, A>,
 ) -> Result<bool, LineFault>
-    ensures { MatchResult result
-        (λ more. TakesLine (S.left reader.old) more line.new.items (S.left reader.new))
-        (λ fault. fault ≡ LineFault.Read → IsTrue S.can_fail) }
+    ensures { ReadsLine S.can_fail (S.left reader.old) result line.new.items (S.left reader.new) }
 {
     line.clear();
     for _taken in 0..MAX_FRONT_LENGTH {

@@ -1,6 +1,7 @@
 //! Text, written.
-ghost use Rattle.std.specs.Prelude.{ℕ, take, OnErr, OnOk};
+ghost use Rattle.std.specs.Prelude.{OnErr, OnOk};
 ghost use Rattle.std.specs.Io.KnownBytes.{Appends};
+ghost use Rattle.text_lines.specs.Printed.{WritesFront};
 
 use std::io::{Error, ErrorKind, Result, Write};
 
@@ -12,8 +13,7 @@ use std::io::{Error, ErrorKind, Result, Write};
 pub fn write_text<W: Write>(writer: &mut W, bytes: &[u8]) -> Result<()>
     ensures ok { OnOk result (Appends (W.contents writer.old) (W.contents writer.new) bytes.now) }
     ensures err { OnErr result
-        ((count : ℕ)
-        × Appends (W.contents writer.old) (W.contents writer.new) (take count bytes.now)) }
+        (WritesFront (W.contents writer.old) bytes.now (W.contents writer.new)) }
 {
     let mut written = 0;
     while written < bytes.len() {

@@ -65,12 +65,12 @@ fn many_pages(rt: HostRuntime) {
 }
 
 /// How many descriptors a machine file may have.
-const MOST_DESCRIPTORS: u64 = 65_536;
+const MAX_DESCRIPTORS: u64 = 65_536;
 
 /// A core whose map has the most descriptors that a machine file may have: each other page is free.
 fn core_of_most(rt: &(impl AllocGlobal + Abort)) -> Core<TableDriver> {
     let mut runs = Vec::new(rt.alloc());
-    for number in 0..MOST_DESCRIPTORS {
+    for number in 0..MAX_DESCRIPTORS {
         let given = Given {
             mtype: 7,
             first: 2 * number,
@@ -106,7 +106,7 @@ fn assert_records(rt: &(impl AllocGlobal + Abort), core: &Core<TableDriver>, byt
 #[test]
 fn many_descriptors(rt: HostRuntime) {
     let mut core = core_of_most(&rt);
-    let size = MOST_DESCRIPTORS * 48;
+    let size = MAX_DESCRIPTORS * 48;
     let allocate = Call::AllocatePages {
         kind: 0,
         mtype: 4,

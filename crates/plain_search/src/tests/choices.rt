@@ -56,7 +56,8 @@ const LAST_PAGES: [Row; 1] = [(PAGE_COUNT - 8, 8, 7, 0xf)];
 
 // A machine may have the run.
 fn may_stand(first: u64, pages: u64, kind: (u32, u64)) -> bool
-    ensures { IsTrue result → (0 < pages) × (first + pages ≤ page_count) × (kind.0 ≡ conventional → has_runtime kind.1 ≡ false) }
+    ensures { IsTrue result → (0 < pages) × (first + pages ≤ page_count)
+        × (kind.0 ≡ conventional → has_runtime kind.1 ≡ false) }
 {
     let (number, attributes) = kind;
     pages > 0

@@ -6,7 +6,7 @@ use std::process::Abort;
 const PAGE_CELLS: usize = 128;
 
 /// The pages of the largest region.
-const MOST_PAGES: usize = 1 << 21;
+const MAX_PAGES: usize = 1 << 21;
 
 /// A block that was taken, and the byte at its start and at its end.
 #[derive(Clone, Copy)]
@@ -49,7 +49,7 @@ const DRAWS: &[Draws] = &[
 
 /// A new region of the given number of pages.
 fn region_of(rt: &(impl AllocGlobal + Abort), pages: usize) -> RawPool {
-    if pages == 0 || pages > MOST_PAGES {
+    if pages == 0 || pages > MAX_PAGES {
         panic!(rt; "{pages} pages");
     }
     RawPool::new(rt.alloc(), pages).expect(rt, "memory")
@@ -147,7 +147,7 @@ fn make_drawn(
     draw: usize,
 ) {
     let count = blocks.len();
-    if draws.sizes == 0 || draws.pages > MOST_PAGES {
+    if draws.sizes == 0 || draws.pages > MAX_PAGES {
         panic!(rt; "no sizes");
     }
     if count > draws.blocks || (draw % 2 == 0 && count > 0) {
@@ -193,8 +193,8 @@ fn drawn_calls(rt: HostRuntime) {
 /// The largest region has 8 GiB, none of which is touched. A host may refuse so much memory.
 #[test]
 fn largest_region(rt: HostRuntime) {
-    if let Ok(mut pool) = RawPool::new(rt.alloc(), MOST_PAGES) {
-        let cells = PAGE_CELLS * MOST_PAGES;
+    if let Ok(mut pool) = RawPool::new(rt.alloc(), MAX_PAGES) {
+        let cells = PAGE_CELLS * MAX_PAGES;
         assert!(rt; pool.is_empty());
         assert_eq!(rt; pool.longest_free(), cells);
         assert_eq!(rt; pool.take(24), Some(0));

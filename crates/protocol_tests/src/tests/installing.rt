@@ -9,7 +9,7 @@ use std::process::Abort;
 use uuid::Uuid;
 
 /// The most handles that are made.
-const MOST_HANDLES: u64 = 38;
+const MAX_HANDLES: u64 = 38;
 
 /// The handle to install on: often a new one.
 fn target(draws: &mut Draws, lists: &Lists) -> u64 {
@@ -18,7 +18,7 @@ fn target(draws: &mut Draws, lists: &Lists) -> u64 {
     } else {
         draws.handle(lists.count())
     };
-    if handle == 0 && lists.count() >= MOST_HANDLES {
+    if handle == 0 && lists.count() >= MAX_HANDLES {
         1
     } else {
         handle

@@ -1,4 +1,4 @@
-//! Bytes of a row are read and written by their places.
+//! Bytes of a row are read and written by their indexes.
 ghost use Rattle.std.specs.Prelude.{◌≡◌, ◌≤◌, ◌<◌, ◌+◌, [], ◌∷◌, length, replicate};
 ghost use Rattle.byteorder.specs.Endian.{little_bytes};
 ghost use Rattle.raw_pool.specs.Bytes.{extended, put, word};
@@ -14,7 +14,7 @@ impl RawBytes {
         self.bytes().len()
     }
 
-    /// Sets the bytes up to a place that are not set yet to 0.
+    /// Sets the bytes up to an index that are not set yet to 0.
     fn extend_to(&mut self, end: usize)
         requires { end ≤ self.old.room }
         ensures set { self.new.set ≡ extended self.old.set end }
@@ -24,7 +24,7 @@ impl RawBytes {
         self.extend(end.saturating_sub(len));
     }
 
-    /// Writes bytes from a place on, at most behind those that are set.
+    /// Writes bytes from an index on, at most behind those that are set.
     pub(crate) fn write(&mut self, at: usize, bytes: &[u8])
         requires { (at ≤ length self.old.set) × (at + length bytes.now ≤ self.old.room) }
         ensures set { self.new.set ≡ put self.old.set at bytes.now }
@@ -34,7 +34,7 @@ impl RawBytes {
         self.bytes_mut()[at..at + bytes.len()].copy_from_slice(bytes);
     }
 
-    /// Sets the byte at a place, which may be the first that is not set yet.
+    /// Sets the byte at an index, which may be the first that is not set yet.
     pub(crate) fn put(&mut self, at: usize, byte: u8)
         requires { (at ≤ length self.old.set) × (at < self.old.room) }
         ensures set { self.new.set ≡ put self.old.set at (byte ∷ []) }
@@ -53,7 +53,7 @@ impl RawBytes {
         self.bytes_mut()[at..at + count].fill(0);
     }
 
-    /// Sets the given number of bytes from a place on to 0.
+    /// Sets the given number of bytes from an index on to 0.
     pub fn clear(&mut self, at: usize, count: usize)
         requires { (at ≤ length self.old.set) × (at + count ≤ self.old.room) }
         ensures set { self.new.set ≡ put self.old.set at (replicate count 0) }
@@ -68,7 +68,7 @@ impl RawBytes {
         }
     }
 
-    /// The number in the 8 bytes from a place on.
+    /// The number in the 8 bytes from an index on.
     pub(crate) fn word(&self, at: usize) -> u64
         requires { at + 8 ≤ length self.now.set }
         ensures { result ≡ word self.now.set at }
@@ -76,7 +76,7 @@ impl RawBytes {
         LittleEndian::read_u64(&self.bytes()[at..at + 8])
     }
 
-    /// Writes a number into the 8 bytes from a place on.
+    /// Writes a number into the 8 bytes from an index on.
     pub(crate) fn write_word(&mut self, at: usize, number: u64)
         requires { (at ≤ length self.old.set) × (at + 8 ≤ self.old.room) }
         ensures set { self.new.set ≡ put self.old.set at (little_bytes 8 number) }
