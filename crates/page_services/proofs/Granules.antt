@@ -16,7 +16,7 @@ use Rattle.page_ranges.specs.Granules.{IsGranule, is_granular, granule_for, roun
 use Rattle.page_ranges.specs.Memory.{Page, page_at, page_below, IsProperPage, IsProperMemory, IsPresent, IsConventional, IsOwnedBy, AllInRange, retyped_page, retyped}
 use Rattle.page_ranges.proofs.Lookups.{page_at-number, page_at-all, page_below-page_at}
 use Rattle.page_ranges.proofs.Retyped.{changed, changed_in, changed_below, changed_above, page_at-retyped}
-use Rattle.page_ranges.proofs.WholeGranules.{for_granules, mod_one, rounded_one, rounded_at_least, rounded_fills, rounded_near, rounded_least, rounded_some, granule_for_granular, granule_for_other, granule_for_granule, granule_for_twice, if_64_bits_some, if_64_bits_none}
+use Rattle.page_ranges.proofs.WholeGranules.{for_granules, mod_one, rounded_one, rounded_at_least, rounded_fills, rounded_near, rounded_least, rounded_some, granule_for_granular, granule_for_other, granule_for_granule, granule_for_one, granule_for_twice, if_64_bits_some, if_64_bits_none}
 use Rattle.placement_certificate.specs.declared.certificates.Request.{Request}
 use Rattle.placement_certificate.specs.Placement.{IsProperRequest, IsPermittedStart}
 use Rattle.page_services.specs.declared.page_book.Placed.{Placed}
@@ -417,6 +417,19 @@ freed_is b first pages low high end low_is high_is some end_is =
     let below : page_at b.memory (first + pages - 1) ≡ page_below b.memory (first + pages) = sym (page_below-page_at b.memory (first + pages) (omega arith)) in
     let ends : end ≡ end_freed b (first + pages) = end_is ∙ ap (rounded (first + pages)) (high_is ∙ ap (granule_of b.granule) below) in
     ap (λ n. span n end) begins ∙ ap (span (first_freed b first)) ends ∙ ap (λ n. span (first_freed b n) (end_freed b (n + pages))) named
+
+granule_of_one : (g : ℕ) (p : Option Page) → g ≡ 1 → granule_of g p ≡ 1
+granule_of_one g None one = refl
+granule_of_one g (Some x) one = ap (granule_for x.mtype) one ∙ granule_for_one x.mtype
+
+-- where granules are pages, the range that is freed is the named one
+pub freed_as_named : (b : Book) (range : PageRange) → b.granule ≡ 1 → 0 < range.pages → range ≡ freed_range b (range.first * page_size) range.pages
+freed_as_named b range one some =
+    let end : ℕ = range.first + range.pages in
+    let is = freed_is b range.first range.pages 1 1 end (sym (granule_of_one b.granule (page_at b.memory range.first) one)) (sym (granule_of_one b.granule (page_at b.memory (end - 1)) one)) some (sym (rounded_one end)) in
+    let first : range.first ≡ range.first - range.first % 1 = omega (arith, mod_one range.first) in
+    let pages : range.pages ≡ end - range.first = omega arith in
+    ap (λ n. record { first = range.first; pages = n }) pages ∙ ap (λ n. span n end) first ∙ is
 
 pub no_such_page : (m : List Page) (k : ℕ) (p : Option Page) → IsProperMemory m → page_count ≤ k → page_at m k ≡ p → ¬ IsConventional p
 no_such_page m k None proper high at free = free

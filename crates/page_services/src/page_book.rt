@@ -258,6 +258,9 @@ impl<A: Allocator + Copy> PageBook<A> {
         requires end { range.first + range.pages ≤ page_count }
         ensures { result ≡ freed_range self.now (range.first * page_size) range.pages }
     {
+        if self.granule == 1 {
+            return range;
+        }
         let end = range.first + range.pages;
         let low = self.granule_at(range.first);
         let high = self.granule_at(end - 1);
