@@ -1,4 +1,6 @@
 //! The parts of memory below the core.
 mod checks;
+mod many_changes;
 mod map_bytes;
+mod refused_changes;
 mod table_changes;

@@ -7,7 +7,7 @@ ghost use Rattle.page_ranges.specs.Runs.{pages_of, AreRuns};
 
 use descriptor_table::RunTable;
 use page_ranges::{Descriptor, MemoryType, Owner, PageCursor, PageRange, Run};
-use std::alloc::{AllocError, Global};
+use std::alloc::{AllocError, Allocator, Global};
 use std::process::Abort;
 
 /// Page numbers that are asked about are below this.
@@ -29,7 +29,7 @@ fn machine() -> [Run; 5]
     ]
 }
 
-fn run(first: u64, pages: u64, number: u32, attributes: u64) -> Run
+pub fn run(first: u64, pages: u64, number: u32, attributes: u64) -> Run
     ensures { result ≡ record { range = record { first = first; pages = pages }; mtype = number; attributes = attributes; owner = Given } }
 {
     Run {
@@ -41,7 +41,7 @@ fn run(first: u64, pages: u64, number: u32, attributes: u64) -> Run
 }
 
 // The plain list: a run of one page for each page that is present.
-fn listed(alloc: Global, runs: &[Run]) -> Result<Vec<Run>, AllocError> {
+pub fn listed(alloc: Global, runs: &[Run]) -> Result<Vec<Run>, AllocError> {
     let mut list = Vec::new(alloc);
     for run in runs {
         for first in run.range.first..run.range.first.saturating_add(run.range.pages) {
@@ -68,7 +68,7 @@ fn count_in(list: &[Run], range: PageRange) -> u64 {
 }
 
 // Gives the pages of a range a type and an owner.
-fn change_list(list: &mut [Run], range: PageRange, number: u32, owner: Owner) {
+pub fn change_list(list: &mut [Run], range: PageRange, number: u32, owner: Owner) {
     for index in 0..list.len() {
         if is_in(range, list[index].range.first) {
             let kept = list[index].attributes & !RUNTIME;
@@ -83,7 +83,7 @@ fn change_list(list: &mut [Run], range: PageRange, number: u32, owner: Owner) {
     }
 }
 
-fn goes_on(run: &Run, page: &Run, is_split_by_owner: bool) -> bool {
+pub fn goes_on(run: &Run, page: &Run, is_split_by_owner: bool) -> bool {
     run.range.first.saturating_add(run.range.pages) == page.range.first
         && run.mtype == page.mtype
         && run.attributes == page.attributes
@@ -91,7 +91,11 @@ fn goes_on(run: &Run, page: &Run, is_split_by_owner: bool) -> bool {
 }
 
 // The runs of the list, by joining each page to those before it.
-fn joined(alloc: Global, list: &[Run], is_split_by_owner: bool) -> Result<Vec<Run>, AllocError> {
+pub fn joined(
+    alloc: Global,
+    list: &[Run],
+    is_split_by_owner: bool,
+) -> Result<Vec<Run>, AllocError> {
     let mut runs: Vec<Run> = Vec::new(alloc);
     for page in list {
         match runs.last_mut() {
@@ -133,17 +137,17 @@ fn entry_of(run: &Run) -> Descriptor {
     }
 }
 
-fn is_present(table: &RunTable, page: u64) -> bool
+fn is_present<A: Allocator + Copy>(table: &RunTable<A>, page: u64) -> bool
     ensures { IsTrue result ↔ IsPresent (page_at table.now page) }
 {
     table.run_at(page).is_some()
 }
 
 // Whether all pages of a range of few pages are present.
-fn are_present(table: &RunTable, range: PageRange) -> bool
+pub fn are_present<A: Allocator + Copy>(table: &RunTable<A>, range: PageRange) -> bool
     ensures { IsTrue result → AllInRange table.now range IsPresent }
 {
-    if range.first > 10_000 || range.pages > 1_000 {
+    if range.first > 100_000 || range.pages > 1_000 {
         return false;
     }
     for page in range.first..range.first + range.pages {
@@ -154,13 +158,13 @@ fn are_present(table: &RunTable, range: PageRange) -> bool
     true
 }
 
-fn next_draw(draw: u64) -> u64 {
+pub fn next_draw(draw: u64) -> u64 {
     draw.wrapping_mul(6_364_136_223_846_793_005)
         .wrapping_add(1_442_695_040_888_963_407)
 }
 
 // A drawn type and owner; free pages are the machine's own.
-fn drawn_kind(draw: u64) -> (u32, Owner)
+pub fn drawn_kind(draw: u64) -> (u32, Owner)
     ensures { result.0 ≡ conventional → result.1 ≡ Given }
 {
     let owner = match draw >> 3 & 3 {
@@ -238,7 +242,7 @@ fn is_block_of(block: Option<Descriptor>, run: Option<Run>, page: u64) -> bool {
 }
 
 // Asserts that the free entries are those of the plain list, and what the table says of the pages beside each.
-fn assert_free(rt: &impl Abort, table: &RunTable, entries: &[Run]) {
+fn assert_free<A: Allocator + Copy>(rt: &impl Abort, table: &RunTable<A>, entries: &[Run]) {
     let mut found = table.free_entries();
     for entry in entries {
         if entry.mtype.number() == 7 {
@@ -254,7 +258,12 @@ fn assert_free(rt: &impl Abort, table: &RunTable, entries: &[Run]) {
 }
 
 // Asserts that the runs and the map are those of the plain list.
-fn assert_lists(rt: &impl Abort, table: &RunTable, runs: &[Run], entries: &[Run]) {
+pub fn assert_lists<A: Allocator + Copy>(
+    rt: &impl Abort,
+    table: &RunTable<A>,
+    runs: &[Run],
+    entries: &[Run],
+) {
     assert_eq!(rt; table.len(), runs.len());
     assert_eq!(rt; table.descriptors(), entries.len());
     for (index, run) in runs.iter().enumerate() {
@@ -320,7 +329,7 @@ fn changes_are_those_of_the_pages(rt: HostRuntime) -> Result<(), AllocError> {
     Ok(())
 }
 
-fn large_machine() -> [Run; 1]
+pub fn large_machine() -> [Run; 1]
     ensures runs { AreRuns result }
     ensures proper { IsProperMemory (pages_of result) }
 {
@@ -418,20 +427,35 @@ fn changes_of_many_runs_are_those_of_the_pages(rt: HostRuntime) -> Result<(), Al
 }
 
 // The table made anew of its runs: its leaves have 32 runs, but for the last ones.
-fn made_anew(rt: &impl AllocGlobal, table: &RunTable) -> Result<RunTable, AllocError>
+pub fn made_anew<A: Allocator + Copy>(alloc: A, table: &RunTable) -> Result<RunTable<A>, AllocError>
     ensures { IfOk result (λ t. t ≡ table.now) }
 {
-    let mut runs = Vec::new(rt.alloc());
+    let mut runs = Vec::new(alloc);
     for index in 0..table.len() {
         let Some(run) = table.run(index) else {
             return Err(AllocError);
         };
         runs.push(run)?;
     }
-    RunTable::from_runs(rt.alloc(), runs.as_slice())
+    RunTable::from_runs(alloc, runs.as_slice())
 }
 
-// Gives a range of the table and of the list a type and the owner Pages, if all its pages are present.
+// Gives a range of the table a type and the owner Pages, if all its pages are present.
+pub fn change_table<A: Allocator + Copy>(
+    table: &mut RunTable<A>,
+    range: PageRange,
+    number: u32,
+) -> Result<bool, AllocError>
+    requires { number ≢ conventional }
+{
+    let is_whole = are_present(table, range);
+    if is_whole {
+        table.retype(range, MemoryType::new(number), Owner::Pages)?;
+    }
+    Ok(is_whole)
+}
+
+// Does the same to the table and to the list.
 fn change_both(
     table: &mut RunTable,
     list: &mut [Run],
@@ -440,15 +464,19 @@ fn change_both(
 ) -> Result<(), AllocError>
     requires { number ≢ conventional }
 {
-    if are_present(table, range) {
-        table.retype(range, MemoryType::new(number), Owner::Pages)?;
+    if change_table(table, range, number)? {
         change_list(list, range, number, Owner::Pages);
     }
     Ok(())
 }
 
 // Makes each second pair of pages from one page up to another a run of its own.
-fn stripe(table: &mut RunTable, list: &mut [Run], first: u64, end: u64) -> Result<(), AllocError> {
+pub fn stripe(
+    table: &mut RunTable,
+    list: &mut [Run],
+    first: u64,
+    end: u64,
+) -> Result<(), AllocError> {
     for pair in 0..end.saturating_sub(first) / 4 {
         let range = PageRange {
             first: first.saturating_add(pair.saturating_mul(4)),
@@ -466,7 +494,7 @@ fn assert_anew(
     list: &[Run],
     range: PageRange,
 ) -> Result<(), AllocError> {
-    let mut changed = made_anew(rt, table)?;
+    let mut changed = made_anew(rt.alloc(), table)?;
     let mut pages = Vec::from_slice(rt.alloc(), list)?;
     change_both(&mut changed, pages.as_mut_slice(), range, 5)?;
     let runs = joined(rt.alloc(), pages.as_slice(), true)?;
@@ -532,7 +560,7 @@ fn changes_of_leaves_beside_holes(rt: HostRuntime) -> Result<(), AllocError> {
         first: 65,
         pages: 64,
     };
-    let mut table = made_anew(&rt, &table)?;
+    let mut table = made_anew(rt.alloc(), &table)?;
     change_both(&mut table, list.as_mut_slice(), middle, 4)?;
     for first in 62..132 {
         let range = PageRange { first, pages: 1 };

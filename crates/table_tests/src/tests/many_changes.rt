@@ -1,0 +1,166 @@
+//! A million drawn changes of a table of 20,000 runs, against a plain list of pages.
+ghost use Rattle.std.specs.Prelude.{◌≡◌};
+ghost use Rattle.page_ranges.specs.Memory.{IsProperMemory};
+ghost use Rattle.page_ranges.specs.Runs.{pages_of, AreRuns};
+
+use super::table_changes::{
+    are_present, assert_lists, change_list, drawn_kind, goes_on, joined, listed, next_draw, run,
+};
+use descriptor_table::RunTable;
+use page_ranges::{MemoryType, Owner, PageRange, Run};
+use std::alloc::AllocError;
+use std::process::Abort;
+
+fn wide_machine() -> [Run; 1]
+    ensures runs { AreRuns result }
+    ensures proper { IsProperMemory (pages_of result) }
+{
+    [run(0, 65_536, 7, 0xf)]
+}
+
+// All pages of the machine: the page of a number is at that index. And how many runs and map entries they make.
+#[derive(Drop)]
+struct Pages {
+    list: Vec<Run>,
+    runs: usize,
+    entries: usize,
+}
+
+// Whether a run or an entry begins with the page at an index.
+fn begins(list: &[Run], index: usize, is_split_by_owner: bool) -> bool {
+    if index == 0 {
+        return true;
+    }
+    match (list.get(index - 1), list.get(index)) {
+        (Some(below), Some(page)) => !goes_on(below, page, is_split_by_owner),
+        _ => false,
+    }
+}
+
+// How many runs or entries begin in a range or with the page behind it.
+fn count_beginning(list: &[Run], range: PageRange, is_split_by_owner: bool) -> usize {
+    let mut count = 0_usize;
+    for page in range.first..range.first.saturating_add(range.pages).saturating_add(1) {
+        if begins(list, page as usize, is_split_by_owner) {
+            count = count.saturating_add(1);
+        }
+    }
+    count
+}
+
+// Gives the pages of a range a type and an owner, and counts what begins there before and after.
+fn change_pages(pages: &mut Pages, range: PageRange, number: u32, owner: Owner) {
+    let list = pages.list.as_mut_slice();
+    let runs = count_beginning(list, range, true);
+    let entries = count_beginning(list, range, false);
+    let end = list
+        .len()
+        .min(range.first.saturating_add(range.pages) as usize);
+    let first = end.min(range.first as usize);
+    change_list(&mut list[first..end], range, number, owner);
+    let new_runs = count_beginning(list, range, true);
+    let new_entries = count_beginning(list, range, false);
+    pages.runs = pages.runs.wrapping_sub(runs).wrapping_add(new_runs);
+    pages.entries = pages
+        .entries
+        .wrapping_sub(entries)
+        .wrapping_add(new_entries);
+}
+
+// The index of the first page of the run of the page at an index.
+fn first_of_run(list: &[Run], index: usize) -> usize {
+    for back in 0..index {
+        if begins(list, index - back, true) {
+            return index - back;
+        }
+    }
+    0
+}
+
+// The run that holds a page, found by going down to its first page and then up.
+fn run_around(list: &[Run], page: u64) -> Option<Run> {
+    list.get(page as usize)?;
+    let first = first_of_run(list, page as usize);
+    let mut found = *list.get(first)?;
+    for next in list.get(first.saturating_add(1)..)? {
+        if !goes_on(&found, next, true) {
+            return Some(found);
+        }
+        found.range.pages = found.range.pages.saturating_add(1);
+    }
+    Some(found)
+}
+
+// Asserts how many runs and entries the table has, and which runs hold the pages below and at a number.
+fn assert_edge(rt: &impl Abort, table: &RunTable, pages: &Pages, page: u64) {
+    let list = pages.list.as_slice();
+    assert!(rt; table.len() == pages.runs);
+    assert!(rt; table.descriptors() == pages.entries);
+    let (below, above) = table.edge(page);
+    assert!(rt; above == run_around(list, page));
+    if page > 0 {
+        assert!(rt; below == run_around(list, page - 1));
+    }
+}
+
+// A drawn range, mostly of few pages.
+fn drawn_range(draw: u64) -> PageRange {
+    PageRange {
+        first: draw >> 30 & 65_535,
+        pages: match draw >> 20 & 1_023 {
+            0 => 300,
+            pages => pages % 4,
+        },
+    }
+}
+
+// Changes a drawn range of the table and of the list, if all its pages are present.
+fn change_drawn(
+    rt: &impl Abort,
+    table: &mut RunTable,
+    pages: &mut Pages,
+    draw: u64,
+) -> Result<(), AllocError> {
+    let range = drawn_range(draw);
+    let (number, owner) = drawn_kind(draw >> 50);
+    if are_present(table, range) {
+        table.retype(range, MemoryType::new(number), owner)?;
+        change_pages(pages, range, number, owner);
+        assert_edge(rt, table, pages, range.first);
+        assert_edge(rt, table, pages, range.first.saturating_add(range.pages));
+    }
+    Ok(())
+}
+
+// Asserts that the runs and the map are those of the list.
+fn assert_whole(
+    rt: &(impl AllocGlobal + Abort),
+    table: &RunTable,
+    list: &[Run],
+) -> Result<(), AllocError> {
+    let runs = joined(rt.alloc(), list, true)?;
+    let entries = joined(rt.alloc(), list, false)?;
+    assert_lists(rt, table, runs.as_slice(), entries.as_slice());
+    assert!(rt; table.len() > 20_000);
+    Ok(())
+}
+
+#[test]
+fn a_million_changes_are_those_of_the_pages(rt: HostRuntime) -> Result<(), AllocError> {
+    let mut table = RunTable::from_runs(rt.alloc(), &wide_machine())?;
+    let list = listed(rt.alloc(), &wide_machine())?;
+    let mut pages = Pages {
+        list,
+        runs: 1,
+        entries: 1,
+    };
+    let mut draw = 3;
+    for _part in 0..10 {
+        for _change in 0..100_000 {
+            draw = next_draw(draw);
+            change_drawn(&rt, &mut table, &mut pages, draw)?;
+        }
+        assert_whole(&rt, &table, pages.list.as_slice())?;
+    }
+    Ok(())
+}
