@@ -61,6 +61,8 @@ bool enter(struct call *call, const char *name, uint64_t caller, const uint64_t 
     memcpy(last[call->slot].arguments, arguments, sizeof last[0].arguments);
     if (image != NULL)
         image->calls++;
+    if (host.wants_pictures)
+        save_pictures();
     if (host.exited) {
         struct origin origin = origin_at(caller);
 

@@ -5,8 +5,8 @@
 #include <string.h>
 #include <unistd.h>
 
-#define COLUMNS 80
-#define ROWS 25
+#define COLUMNS SCREEN_COLUMNS
+#define ROWS SCREEN_ROWS
 
 static const EFI_GUID text_out_guid = {
     0x387477c2, 0x69c7, 0x11d2, {0x8e, 0x39, 0x00, 0xa0, 0xc9, 0x69, 0x72, 0x3b}};
@@ -42,7 +42,10 @@ static EFI_STATUS EFIAPI reset_out(EFI_SIMPLE_TEXT_OUTPUT_PROTOCOL *this, BOOLEA
 
 static void new_row(void)
 {
-    mode.CursorRow += mode.CursorRow < ROWS - 1;
+    if (mode.CursorRow == ROWS - 1)
+        screen_scroll(mode.Attribute);
+    else
+        mode.CursorRow++;
     row_of_text = mode.CursorRow;
 }
 
@@ -64,6 +67,7 @@ static void put_letter(CHAR16 letter, CHAR16 next)
         put_text("\b");
     } else if (letter >= 32) {
         put(bytes, utf8_of(letter, bytes));
+        screen_put(mode.CursorRow, mode.CursorColumn, letter, mode.Attribute);
         if (++mode.CursorColumn == COLUMNS) {
             mode.CursorColumn = 0;
             new_row();
@@ -129,6 +133,7 @@ static EFI_STATUS EFIAPI set_attribute(EFI_SIMPLE_TEXT_OUTPUT_PROTOCOL *this, UI
 static EFI_STATUS EFIAPI clear_screen(EFI_SIMPLE_TEXT_OUTPUT_PROTOCOL *this)
 {
     (void)this;
+    screen_clear(mode.Attribute);
     if (terminal_out())
         put_text("\033[2J\033[H");
     else if (mode.CursorColumn != 0)
@@ -260,6 +265,7 @@ void make_console(void)
     uint64_t in = 0, out = 0;
 
     text_in.WaitForKey = text_in_ex.WaitForKeyEx = make_key_event();
+    open_screen(host.options.screen);
     install_one(&in, &text_in_guid, 0, NUMBER(&text_in));
     install_one(&in, &text_in_ex_guid, 0, NUMBER(&text_in_ex));
     install_one(&in, &device_path_guid, 0, NUMBER(console_path));

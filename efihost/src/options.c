@@ -21,6 +21,7 @@ static const char usage[] =
     "                    <<pageup>>, <<pagedown>>, <<f1>> to <<f12>>, <<wait SECONDS>>;\n"
     "                    else keys come from standard input\n"
     "  --picture FILE    a graphics output; its picture is saved as PNG at the end and on SIGUSR1\n"
+    "  --screen FILE     the console's text, saved as SVG at the end and on SIGUSR1\n"
     "  --serial FILE     a serial port; what is written to it goes to FILE\n"
     "  --plain           plain text also on a terminal\n"
     "  --quiet           no text of the console\n"
@@ -109,6 +110,7 @@ static bool read_value(const char *word, const char *value, struct options *opti
         {"--input", &options->input},         {"--variables", &options->variables},
         {"--json", &options->json},           {"--calls", &options->calls},
         {"--picture", &options->picture},     {"--serial", &options->serial},
+        {"--screen", &options->screen},
     };
     char *end;
 

@@ -68,32 +68,50 @@ void zone_lay(struct block *block)
         shut_memory(shut_page(block), PAGE);
 }
 
-/* Whether no byte on either side of a block was written. */
-bool zone_look(const struct block *block, const char *when)
+/* The first of these bytes that is not the pattern, or their end. */
+static const uint8_t *first_other(const uint8_t *at, const uint8_t *end, uint8_t pattern)
 {
-    const uint8_t *at = POINTER(block->at);
-    uint64_t before = block->at - before_start(block);
-    uint64_t end = behind_end(block) - block->at;
+    while (at < end && *at == pattern)
+        at++;
+    return at;
+}
 
-    if (!host.checks)
-        return true;
-    for (uint64_t i = block->size; i < end; i++)
-        if (at[i] != BEHIND) {
-            found(BEHIND_BLOCK, &block->origin,
-                  "byte %lu behind a block of %lu bytes at 0x%lx was written, 0x%02x, seen %s; it "
-                  "is made",
-                  i - block->size, block->size, block->at, at[i], when);
-            return false;
-        }
-    for (uint64_t i = 1; i <= before; i++)
-        if (at[-(int64_t)i] != BEFORE) {
+/* When a harm is seen: now, where a block is freed, or as the caller says. */
+static const char *seen(const char *when, char *text, size_t room)
+{
+    struct origin origin;
+
+    if (when != NULL)
+        return when;
+    origin = origin_now();
+    snprintf(text, room, "when %s frees it", origin_text(&origin));
+    return text;
+}
+
+/* Looks whether a byte on either side of a block was written; `when` is null where it is freed. */
+void zone_look(const struct block *block, const char *when)
+{
+    const uint8_t *at = POINTER(block->at), *end = POINTER(behind_end(block)), *other;
+    char text[256];
+
+    other = first_other(at + block->size, end, BEHIND);
+    if (other < end) {
+        found(BEHIND_BLOCK, &block->origin,
+              "byte %lu behind a block of %lu bytes at 0x%lx was written, 0x%02x, seen %s; it is "
+              "made",
+              (uint64_t)(other - at) - block->size, block->size, block->at, *other,
+              seen(when, text, sizeof text));
+        return;
+    }
+    for (other = at; other > (const uint8_t *)POINTER(before_start(block)); other--)
+        if (other[-1] != BEFORE) {
             found(BEFORE_BLOCK, &block->origin,
                   "byte %lu before a block of %lu bytes at 0x%lx was written, 0x%02x, seen %s; it "
                   "is made",
-                  i, block->size, block->at, at[-(int64_t)i], when);
-            return false;
+                  (uint64_t)(at - other) + 1, block->size, block->at, other[-1],
+                  seen(when, text, sizeof text));
+            return;
         }
-    return true;
 }
 
 /* After the core has freed a block. */
