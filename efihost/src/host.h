@@ -44,7 +44,7 @@ struct call {
 
 struct options {
     const char *machine, *trace, *input, *variables, *json, *calls, *picture, *screen, *serial,
-        *application;
+        *serial_input, *firmware, *application;
     const char *disks[MOST_DISKS], *drivers[MOST_DRIVERS], *arguments[MOST_ARGUMENTS];
     size_t disk_count, driver_count, argument_count;
     bool check, guard, strict, quiet, plain, certify, rights;
@@ -76,6 +76,11 @@ enum ending {
     ENDED_BY_FAULT = 4,
     ENDED_BY_LIMIT = 5,
 };
+
+/* ---- firmware.c, lzma.c ---- */
+void open_firmware(const char *name);
+uint8_t *firmware_image(const char *name, size_t *length);
+uint8_t *lzma_decode(const uint8_t *bytes, size_t count, size_t most, size_t *length);
 
 /* ---- options.c ---- */
 void read_options(int count, char **words, struct options *options);
@@ -357,7 +362,7 @@ void hold(const struct held *held);
 void let_go(uint64_t handle, const void *guid, uint64_t agent, uint64_t controller, bool all);
 void each_held(void (*visit)(const struct held *held, void *context), void *context);
 
-/* ---- console.c, screen.c, keys.c ---- */
+/* ---- console.c, screen.c, text_in.c, keys.c ---- */
 #define SCREEN_COLUMNS 80
 #define SCREEN_ROWS 25
 void make_console(void);
@@ -368,7 +373,10 @@ void screen_clear(int attribute);
 void screen_scroll(int attribute);
 void save_screen(void);
 bool terminal_out(void);
+void make_text_in(void);
+void notify_keys(void);
 bool key_is_ready(void);
+bool key_comes(EFI_INPUT_KEY *key);
 bool next_key(EFI_INPUT_KEY *key);
 bool keys_are_over(void);
 bool keys_from_terminal(void);
@@ -392,7 +400,7 @@ const char *application_path(const char *file, EFI_HANDLE *device);
 void make_graphics(void);
 void save_picture(void);
 void write_picture(FILE *file, const uint32_t *pixels, unsigned width, unsigned height);
-void make_serial(const char *file);
+void make_serial(const char *to, const char *from);
 
 /* ---- faults.c, instructions.c, sandbox.c ---- */
 void catch_faults(void);
