@@ -25,6 +25,8 @@ static struct firmware_image {
     size_t length;
 } *images;
 static size_t image_count;
+static uint8_t **buffers; /* in which the images lie */
+static size_t buffer_count;
 
 /* What is found in one file: its image and its name. */
 struct contents {
@@ -34,6 +36,12 @@ struct contents {
 };
 
 static void read_volumes(uint8_t *bytes, size_t count, unsigned depth);
+
+static void keep_buffer(uint8_t *bytes)
+{
+    buffers = must(realloc(buffers, (buffer_count + 1) * sizeof *buffers));
+    buffers[buffer_count++] = bytes;
+}
 
 static uint64_t number(const uint8_t *at, unsigned bytes)
 {
@@ -60,8 +68,10 @@ static void read_packed(uint8_t *bytes, size_t count, size_t header, struct cont
         return;
     }
     unpacked = lzma_decode(bytes + start, count - start, MOST_UNPACKED, &length);
-    if (unpacked != NULL)
-        read_sections(unpacked, length, to, depth); /* stays: the images lie in it */
+    if (unpacked == NULL)
+        return;
+    keep_buffer(unpacked);
+    read_sections(unpacked, length, to, depth);
 }
 
 static void read_section(uint8_t *bytes, size_t count, size_t header, struct contents *to,
@@ -164,18 +174,28 @@ void open_firmware(const char *name)
     bytes = read_file(name, &count);
     if (bytes == NULL)
         refuse("cannot read %s: %s", name, strerror(errno));
+    keep_buffer(bytes);
     read_volumes(bytes, count, DEEPEST);
     if (image_count == 0)
         refuse("%s: no images in firmware volumes", name);
 }
 
-/* The image of a name, or NULL. */
+/* A copy of the image of a name, or NULL. */
 uint8_t *firmware_image(const char *name, size_t *length)
 {
     for (size_t i = 0; i < image_count; i++)
         if (strcmp(images[i].name, name) == 0) {
             *length = images[i].length;
-            return images[i].bytes;
+            return memcpy(must(malloc(*length + 1)), images[i].bytes, *length);
         }
     return NULL;
+}
+
+/* Frees all but the copies. */
+void close_firmware(void)
+{
+    while (buffer_count > 0)
+        free(buffers[--buffer_count]);
+    free(images);
+    image_count = 0;
 }

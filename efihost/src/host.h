@@ -79,6 +79,7 @@ enum ending {
 
 /* ---- firmware.c, lzma.c ---- */
 void open_firmware(const char *name);
+void close_firmware(void);
 uint8_t *firmware_image(const char *name, size_t *length);
 uint8_t *lzma_decode(const uint8_t *bytes, size_t count, size_t most, size_t *length);
 

@@ -177,6 +177,7 @@ int main(int count, char **words)
     application = read_image(host.options.application);
     for (size_t i = 0; i < host.options.driver_count; i++)
         drivers[i] = read_image(host.options.drivers[i]);
+    close_firmware();
     open_report(host.options.json);
     if (host.options.calls != NULL)
         open_calls_log(host.options.calls);
