@@ -114,6 +114,8 @@ __attribute__((no_sanitize_address)) static void walk(struct origin *origin, uin
 
         if (NUMBER(at + i) >= host.stack_end)
             return;
+        if (at[i] - host.images_start >= host.images_end - host.images_start)
+            continue;
         image = image_at(at[i]);
         if (image == NULL || !behind_call(image, at[i]))
             continue;
@@ -132,6 +134,17 @@ struct origin origin_at(uint64_t caller)
     origin.call = host.calls;
     if (host.checks && origin.image != NULL)
         walk(&origin, caller);
+    return origin;
+}
+
+/* The call that is under way, without its callers, whom it takes long to find. */
+struct origin origin_without_trail(void)
+{
+    uint64_t caller = host.call == NULL ? 0 : host.call->caller;
+    struct origin origin = {image_at(caller), caller, host.calls, {{NULL, 0}}};
+
+    if (origin.image != NULL)
+        origin.address = caller - origin.image->base;
     return origin;
 }
 

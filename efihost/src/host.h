@@ -63,6 +63,7 @@ struct host {
     bool exited, checks;
     uint64_t calls;
     volatile bool wants_pictures; /* since a SIGUSR1 */
+    uint64_t images_start, images_end; /* all images that there ever were lie between */
     uint64_t stack, stack_end; /* that of the machine, on which all images run */
 };
 extern struct host host;
@@ -157,6 +158,7 @@ bool enter(struct call *call, const char *name, uint64_t caller, const uint64_t 
 EFI_STATUS leave(struct call *call, EFI_STATUS status);
 struct origin origin_at(uint64_t caller);
 struct origin origin_now(void);
+struct origin origin_without_trail(void);
 void open_calls_log(const char *file);
 void close_calls_log(void);
 void print_last_calls(FILE *file);
@@ -170,10 +172,12 @@ struct machine_range {
     uint64_t start, pages, attributes;
     uint32_t type;
     bool mapped;
+    uint8_t *open; /* a bit for each page that may be used in every way */
 };
 void make_machine(const char *file);
 const struct machine_range *machine_range_at(uint64_t address);
 bool conventional_range(uint64_t address, uint64_t *start, uint64_t *size);
+void protect_memory(uint64_t address, uint64_t size, int rights);
 void open_memory(uint64_t address, uint64_t size);
 void shut_memory(uint64_t address, uint64_t size);
 void open_all_memory(void);
@@ -219,8 +223,8 @@ void ledger_cut_runs(uint64_t at, uint64_t pages);
 void ledger_each_run(void (*visit)(struct run *run, void *context), void *context);
 void ledger_add_freed(uint64_t at, uint64_t size, bool filled, struct origin made);
 struct freed *ledger_freed_with(uint64_t address);
-struct freed *ledger_freed(size_t index);
-void ledger_drop_freed(uint64_t at, uint64_t size);
+struct freed *ledger_freed_among(uint64_t at, uint64_t size, size_t *place);
+void ledger_drop_freed(size_t place);
 
 /* ---- memory.c, red_zones.c ---- */
 EFI_STATUS host_pages(uint32_t kind, uint32_t type, uint64_t pages, uint64_t *at);
@@ -236,6 +240,7 @@ uint64_t zone_request(uint64_t size);
 void zone_lay(struct block *block);
 void zone_look(const struct block *block, const char *when);
 void zone_free(const struct block *block);
+void zone_look_at_freed(struct freed *freed);
 void zone_look_at_reuse(uint64_t at, uint64_t size);
 void zone_look_at_all(const char *when);
 void zone_shut_free(uint64_t address, uint64_t size);

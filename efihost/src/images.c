@@ -7,14 +7,13 @@
 #define APPLICATION 10U
 
 static struct image *images;
-static uint64_t lowest = UINT64_MAX, highest; /* of all images that there ever were */
 
 /* The live image with an address in it, or NULL. */
 struct image *image_at(uint64_t address)
 {
     static struct image *recent;
 
-    if (address < lowest || address >= highest)
+    if (address < host.images_start || address >= host.images_end)
         return NULL;
     if (recent != NULL && !recent->gone && address - recent->base < recent->size)
         return recent;
@@ -113,8 +112,10 @@ EFI_STATUS load_image(EFI_HANDLE parent, const void *path, const uint8_t *data, 
     status = install_image(image);
     image->next = images;
     images = image;
-    lowest = image->base < lowest ? image->base : lowest;
-    highest = image->base + image->size > highest ? image->base + image->size : highest;
+    if (host.images_end == 0 || image->base < host.images_start)
+        host.images_start = image->base;
+    if (image->base + image->size > host.images_end)
+        host.images_end = image->base + image->size;
     host.call = call;
     *loaded = image;
     return status;

@@ -69,7 +69,7 @@ EFI_STATUS host_free_pages(uint64_t at, uint64_t pages)
     status = core_free_pages(start, (end - start) / PAGE);
     if (status != EFI_SUCCESS)
         return status;
-    map_change = origin_now();
+    map_change = origin_without_trail();
     ledger_cut_runs(at, pages);
     zone_shut_free(start, end - start);
     ledger_add_freed(at, pages * PAGE, false, made);
@@ -111,7 +111,7 @@ EFI_STATUS host_free_pool(void *address)
     if (status != EFI_SUCCESS)
         return status;
     ledger_remove_block(NUMBER(address), &gone);
-    map_change = origin_now();
+    map_change = origin_without_trail();
     zone_free(&gone);
     return status;
 }

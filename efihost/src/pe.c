@@ -259,8 +259,8 @@ void apply_rights(struct image *image)
                      (section->executable ? PROT_EXEC : 0);
         uint64_t size = (section->size + PAGE - 1) / PAGE * PAGE;
 
-        if (size != 0 && mprotect(POINTER(image->base + section->at), size, rights) != 0)
-            return;
+        if (size != 0)
+            protect_memory(image->base + section->at, size, rights);
     }
 }
 

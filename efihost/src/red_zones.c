@@ -68,9 +68,12 @@ void zone_lay(struct block *block)
         shut_memory(shut_page(block), PAGE);
 }
 
-/* The first of these bytes that is not the pattern, or their end. */
+/* The first of these bytes that is not the pattern, or their end. Where all of them are, each is
+ * the one before it. */
 static const uint8_t *first_other(const uint8_t *at, const uint8_t *end, uint8_t pattern)
 {
+    if (at < end && *at == pattern && memcmp(at, at + 1, (size_t)(end - at) - 1) == 0)
+        return end;
     while (at < end && *at == pattern)
         at++;
     return at;
@@ -127,19 +130,19 @@ void zone_free(const struct block *block)
     zone_shut_free(block->core_at - 8, up(block->core_size + 8, CELL));
 }
 
-static void look_at_freed(struct freed *entry)
+/* Looks whether a freed block, whose bytes nobody should have written, was. */
+void zone_look_at_freed(struct freed *entry)
 {
-    const uint8_t *at = POINTER(entry->at);
+    const uint8_t *at = POINTER(entry->at), *end = at + entry->size, *other;
 
+    if (!entry->filled)
+        return;
     entry->filled = false;
-    for (uint64_t i = 0; i < entry->size; i++)
-        if (at[i] != GONE) {
-            found(USE_AFTER_FREE, &entry->made,
-                  "byte %lu of a block of %lu bytes at 0x%lx was written after %s freed it; it is "
-                  "made",
-                  i, entry->size, entry->at, origin_text(&entry->freed));
-            return;
-        }
+    other = first_other(at, end, GONE);
+    if (other < end)
+        found(USE_AFTER_FREE, &entry->made,
+              "byte %lu of a block of %lu bytes at 0x%lx was written after %s freed it; it is made",
+              (uint64_t)(other - at), entry->size, entry->at, origin_text(&entry->freed));
 }
 
 /* Looks at freed blocks whose bytes are about to be used again. */
@@ -149,10 +152,10 @@ void zone_look_at_reuse(uint64_t at, uint64_t size)
 
     if (!host.checks)
         return;
-    for (size_t i = 0; (entry = ledger_freed(i)) != NULL; i++)
-        if (entry->filled && entry->at < at + size && at < entry->at + entry->size)
-            look_at_freed(entry);
-    ledger_drop_freed(at, size);
+    for (size_t i = 0; (entry = ledger_freed_among(at, size, &i)) != NULL; i++) {
+        zone_look_at_freed(entry);
+        ledger_drop_freed(i);
+    }
 }
 
 /* Shuts the free memory in which these bytes are, with what is free beside it. */
@@ -164,9 +167,8 @@ void zone_shut_free(uint64_t address, uint64_t size)
     for (uint64_t at = address; at < address + size; at = (at / PAGE + 1) * PAGE) {
         if (!conventional_range(at, &start, &length))
             continue;
-        for (size_t i = 0; (entry = ledger_freed(i)) != NULL; i++)
-            if (entry->filled && entry->at < start + length && start < entry->at + entry->size)
-                look_at_freed(entry);
+        for (size_t i = 0; (entry = ledger_freed_among(start, length, &i)) != NULL; i++)
+            zone_look_at_freed(entry);
         shut_memory(start, length);
         at = start + length - PAGE;
     }
@@ -185,7 +187,6 @@ void zone_look_at_all(const char *when)
     if (!host.checks)
         return;
     ledger_each_block(look_at_block, (void *)(uintptr_t)when);
-    for (size_t i = 0; (entry = ledger_freed(i)) != NULL; i++)
-        if (entry->filled)
-            look_at_freed(entry);
+    for (size_t i = 0; (entry = ledger_freed_among(0, UINT64_MAX, &i)) != NULL; i++)
+        zone_look_at_freed(entry);
 }
