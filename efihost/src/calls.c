@@ -6,7 +6,7 @@
 
 #define LAST 16U
 #define MOST_MISSING 64U
-#define LOOKED_AT 400U
+#define LOOKED_AT 256U
 
 static struct {
     const char *name;

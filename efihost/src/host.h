@@ -212,6 +212,7 @@ struct freed {
     struct origin made, freed;
 };
 void ledger_add_block(const struct block *block);
+bool ledger_page_has_block(uint64_t address);
 struct block *ledger_block(uint64_t at);
 struct block *ledger_block_around(uint64_t address);
 void ledger_remove_block(uint64_t at, struct block *removed);

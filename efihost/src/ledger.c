@@ -6,6 +6,7 @@
 
 #define SLOTS 65536U
 #define FREED 256U
+#define PAGES_COUNTED 65536U
 
 static struct block *slots[SLOTS];
 static struct run *runs;
@@ -13,6 +14,23 @@ static size_t run_count, run_room;
 static struct freed freed[FREED];
 static uint64_t freed_start[FREED], freed_end[FREED]; /* of those that are remembered */
 static size_t freed_next;
+
+/* How many live blocks have a byte in a page, of all pages with the same remainder. */
+static uint32_t blocks_in_page[PAGES_COUNTED];
+
+static void count_pages(const struct block *block, int by)
+{
+    uint64_t first = (block->core_at - 8) / PAGE, last = (block->core_at + block->core_size) / PAGE;
+
+    for (uint64_t page = first; page <= last; page++)
+        blocks_in_page[page % PAGES_COUNTED] += (uint32_t)by;
+}
+
+/* Whether a live block may lie in the page of an address. */
+bool ledger_page_has_block(uint64_t address)
+{
+    return blocks_in_page[address / PAGE % PAGES_COUNTED] != 0;
+}
 
 static struct block **slot_of(uint64_t at)
 {
@@ -26,6 +44,7 @@ void ledger_add_block(const struct block *block)
     *copy = *block;
     copy->next = *slot;
     *slot = copy;
+    count_pages(block, 1);
 }
 
 struct block *ledger_block(uint64_t at)
@@ -57,6 +76,7 @@ void ledger_remove_block(uint64_t at, struct block *removed)
         struct block *block = *link;
 
         *removed = *block;
+        count_pages(block, -1);
         *link = block->next;
         free(block);
     }

@@ -11,6 +11,7 @@
 #define BEFORE 0xb5
 #define BEHIND 0xc5
 #define FRESH 0xaf
+#define MOST_FRESH 4096U /* of a block, to keep large ones cheap */
 #define GONE 0xdd
 #define MARGIN 32U
 #define CELL 32U /* the core's blocks are whole cells, and 8 bytes of the first come before */
@@ -62,7 +63,7 @@ void zone_lay(struct block *block)
     block->at = host.options.guard ? shut_page(block) - up(block->size, 8)
                                    : block->core_at + MARGIN;
     memset(POINTER(before_start(block)), BEFORE, block->at - before_start(block));
-    memset(POINTER(block->at), FRESH, block->size);
+    memset(POINTER(block->at), FRESH, block->size < MOST_FRESH ? block->size : MOST_FRESH);
     memset(POINTER(block->at + block->size), BEHIND, behind_end(block) - block->at - block->size);
     if (host.options.guard)
         shut_memory(shut_page(block), PAGE);
@@ -165,7 +166,7 @@ void zone_shut_free(uint64_t address, uint64_t size)
     struct freed *entry;
 
     for (uint64_t at = address; at < address + size; at = (at / PAGE + 1) * PAGE) {
-        if (!conventional_range(at, &start, &length))
+        if (ledger_page_has_block(at) || !conventional_range(at, &start, &length))
             continue;
         for (size_t i = 0; (entry = ledger_freed_among(start, length, &i)) != NULL; i++)
             zone_look_at_freed(entry);
