@@ -134,13 +134,13 @@ void zone_free(const struct block *block)
 /* Looks whether a freed block, whose bytes nobody should have written, was. */
 void zone_look_at_freed(struct freed *entry)
 {
-    const uint8_t *at = POINTER(entry->at), *end = at + entry->size, *other;
+    const uint8_t *at = POINTER(entry->at), *other;
 
     if (!entry->filled)
         return;
     entry->filled = false;
-    other = first_other(at, end, GONE);
-    if (other < end)
+    other = first_other(at, at + entry->size, GONE);
+    if (other < at + entry->size)
         found(USE_AFTER_FREE, &entry->made,
               "byte %lu of a block of %lu bytes at 0x%lx was written after %s freed it; it is made",
               (uint64_t)(other - at), entry->size, entry->at, origin_text(&entry->freed));
