@@ -6,7 +6,7 @@
 
 #define LAST 16U
 #define MOST_MISSING 64U
-#define LOOKED_AT 400U
+#define LOOKED_AT 256U
 
 static struct {
     const char *name;
@@ -61,6 +61,8 @@ bool enter(struct call *call, const char *name, uint64_t caller, const uint64_t 
     memcpy(last[call->slot].arguments, arguments, sizeof last[0].arguments);
     if (image != NULL)
         image->calls++;
+    if (host.wants_pictures)
+        save_pictures();
     if (host.exited) {
         struct origin origin = origin_at(caller);
 
@@ -112,6 +114,8 @@ __attribute__((no_sanitize_address)) static void walk(struct origin *origin, uin
 
         if (NUMBER(at + i) >= host.stack_end)
             return;
+        if (at[i] - host.images_start >= host.images_end - host.images_start)
+            continue;
         image = image_at(at[i]);
         if (image == NULL || !behind_call(image, at[i]))
             continue;
@@ -130,6 +134,17 @@ struct origin origin_at(uint64_t caller)
     origin.call = host.calls;
     if (host.checks && origin.image != NULL)
         walk(&origin, caller);
+    return origin;
+}
+
+/* The call that is under way, without its callers, whom it takes long to find. */
+struct origin origin_without_trail(void)
+{
+    uint64_t caller = host.call == NULL ? 0 : host.call->caller;
+    struct origin origin = {image_at(caller), caller, host.calls, {{NULL, 0}}};
+
+    if (origin.image != NULL)
+        origin.address = caller - origin.image->base;
     return origin;
 }
 

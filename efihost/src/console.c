@@ -5,15 +5,11 @@
 #include <string.h>
 #include <unistd.h>
 
-#define COLUMNS 80
-#define ROWS 25
+#define COLUMNS SCREEN_COLUMNS
+#define ROWS SCREEN_ROWS
 
 static const EFI_GUID text_out_guid = {
     0x387477c2, 0x69c7, 0x11d2, {0x8e, 0x39, 0x00, 0xa0, 0xc9, 0x69, 0x72, 0x3b}};
-static const EFI_GUID text_in_guid = {
-    0x387477c1, 0x69c7, 0x11d2, {0x8e, 0x39, 0x00, 0xa0, 0xc9, 0x69, 0x72, 0x3b}};
-static const EFI_GUID text_in_ex_guid = {
-    0xdd9e7534, 0x7762, 0x4698, {0x8c, 0x14, 0xf5, 0x85, 0x17, 0xa6, 0x25, 0xaa}};
 
 static EFI_SIMPLE_TEXT_OUTPUT_MODE mode = {1, 0, 7, 0, 0, 1};
 static int row_of_text; /* the row in which plain text is */
@@ -42,7 +38,10 @@ static EFI_STATUS EFIAPI reset_out(EFI_SIMPLE_TEXT_OUTPUT_PROTOCOL *this, BOOLEA
 
 static void new_row(void)
 {
-    mode.CursorRow += mode.CursorRow < ROWS - 1;
+    if (mode.CursorRow == ROWS - 1)
+        screen_scroll(mode.Attribute);
+    else
+        mode.CursorRow++;
     row_of_text = mode.CursorRow;
 }
 
@@ -64,6 +63,7 @@ static void put_letter(CHAR16 letter, CHAR16 next)
         put_text("\b");
     } else if (letter >= 32) {
         put(bytes, utf8_of(letter, bytes));
+        screen_put(mode.CursorRow, mode.CursorColumn, letter, mode.Attribute);
         if (++mode.CursorColumn == COLUMNS) {
             mode.CursorColumn = 0;
             new_row();
@@ -129,6 +129,7 @@ static EFI_STATUS EFIAPI set_attribute(EFI_SIMPLE_TEXT_OUTPUT_PROTOCOL *this, UI
 static EFI_STATUS EFIAPI clear_screen(EFI_SIMPLE_TEXT_OUTPUT_PROTOCOL *this)
 {
     (void)this;
+    screen_clear(mode.Attribute);
     if (terminal_out())
         put_text("\033[2J\033[H");
     else if (mode.CursorColumn != 0)
@@ -173,99 +174,13 @@ static EFI_SIMPLE_TEXT_OUTPUT_PROTOCOL text_out = {
     reset_out,     output_string, test_string, query_mode,    set_mode,
     set_attribute, clear_screen,  set_cursor,  enable_cursor, &mode};
 
-/* ---- Keys as the protocols have them ---- */
-
-static EFI_STATUS EFIAPI reset_in(EFI_SIMPLE_TEXT_INPUT_PROTOCOL *this, BOOLEAN extended)
-{
-    (void)this;
-    (void)extended;
-    return EFI_SUCCESS;
-}
-
-/* An image that asks again and again, without waiting, is kept from burning a processor. */
-static EFI_STATUS read_any_key(EFI_INPUT_KEY *key)
-{
-    static unsigned in_vain;
-
-    dispatch();
-    if (next_key(key)) {
-        in_vain = 0;
-        return EFI_SUCCESS;
-    }
-    if (++in_vain > 50)
-        idle(true);
-    return EFI_NOT_READY;
-}
-
-static EFI_STATUS EFIAPI read_key(EFI_SIMPLE_TEXT_INPUT_PROTOCOL *this, EFI_INPUT_KEY *key)
-{
-    SERVICE("ReadKeyStroke", NUMBER(this), NUMBER(key));
-
-    ANSWER(key == NULL ? EFI_INVALID_PARAMETER : read_any_key(key));
-}
-
-static EFI_SIMPLE_TEXT_INPUT_PROTOCOL text_in = {reset_in, read_key, NULL};
-
-static EFI_STATUS EFIAPI reset_in_ex(EFI_SIMPLE_TEXT_INPUT_EX_PROTOCOL *this, BOOLEAN extended)
-{
-    (void)this;
-    (void)extended;
-    return EFI_SUCCESS;
-}
-
-static EFI_STATUS EFIAPI read_key_ex(EFI_SIMPLE_TEXT_INPUT_EX_PROTOCOL *this, EFI_KEY_DATA *key)
-{
-    SERVICE("ReadKeyStrokeEx", NUMBER(this), NUMBER(key));
-
-    if (key == NULL)
-        ANSWER(EFI_INVALID_PARAMETER);
-    memset(key, 0, sizeof *key);
-    ANSWER(read_any_key(&key->Key));
-}
-
-static EFI_STATUS EFIAPI set_state(EFI_SIMPLE_TEXT_INPUT_EX_PROTOCOL *this, uint8_t *state)
-{
-    (void)this;
-    (void)state;
-    return EFI_SUCCESS;
-}
-
-/* Notes that it was asked for: no key is notified. */
-static EFI_STATUS EFIAPI register_key(EFI_SIMPLE_TEXT_INPUT_EX_PROTOCOL *this, EFI_KEY_DATA *key,
-                                      EFI_KEY_NOTIFY_FUNCTION notify, void **handle)
-{
-    static uint64_t registered;
-
-    (void)this;
-    if (key == NULL || notify == NULL || handle == NULL)
-        return EFI_INVALID_PARAMETER;
-    *handle = POINTER(++registered);
-    return EFI_SUCCESS;
-}
-
-static EFI_STATUS EFIAPI unregister_key(EFI_SIMPLE_TEXT_INPUT_EX_PROTOCOL *this, void *handle)
-{
-    (void)this;
-    return handle == NULL ? EFI_INVALID_PARAMETER : EFI_SUCCESS;
-}
-
-static EFI_SIMPLE_TEXT_INPUT_EX_PROTOCOL text_in_ex = {
-    reset_in_ex, read_key_ex, NULL, set_state, register_key, unregister_key};
-
-static const uint8_t console_path[] = {2,    1, 12, 0, 0xd0, 0x41, 3, 5,
-                                       0,    0, 0,  0, 0x7f, 0xff, 4, 0};
-
 void make_console(void)
 {
-    uint64_t in = 0, out = 0;
+    uint64_t out = 0;
 
-    text_in.WaitForKey = text_in_ex.WaitForKeyEx = make_key_event();
-    install_one(&in, &text_in_guid, 0, NUMBER(&text_in));
-    install_one(&in, &text_in_ex_guid, 0, NUMBER(&text_in_ex));
-    install_one(&in, &device_path_guid, 0, NUMBER(console_path));
+    open_screen(host.options.screen);
+    make_text_in();
     install_one(&out, &text_out_guid, 0, NUMBER(&text_out));
-    host.table->ConsoleInHandle = HANDLE(in);
-    host.table->ConIn = &text_in;
     host.table->ConsoleOutHandle = host.table->StandardErrorHandle = HANDLE(out);
     host.table->ConOut = host.table->StdErr = &text_out;
 }

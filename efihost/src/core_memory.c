@@ -1,13 +1,17 @@
 /* The memory services of the library, each with its line of the trace and its reply. */
 #include "host.h"
 
+#define MOST_BUFFER 16777216U /* that of a map in a trace */
+
 uint64_t core_pages(uint32_t kind, uint32_t type, uint64_t pages, uint64_t *memory)
 {
     uint64_t asked = *memory;
     uint64_t status = RafkudinAllocatePages(host.core, kind, type, pages, memory);
 
-    trace_call("pages %u %u %lu 0x%lx", kind, type, pages, asked);
-    trace_reply("pages", status, status == 0 ? "address=0x%lx" : "", *memory);
+    if (tracing()) {
+        trace_call("pages %u %u %lu 0x%lx", kind, type, pages, asked);
+        trace_reply("pages", status, "address=0x%lx", *memory);
+    }
     check_certificate();
     return status;
 }
@@ -16,17 +20,17 @@ uint64_t core_free_pages(uint64_t memory, uint64_t pages)
 {
     uint64_t status = RafkudinFreePages(host.core, memory, pages);
 
-    trace_call("free-pages 0x%lx %lu", memory, pages);
-    trace_reply("free-pages", status, "");
+    if (tracing()) {
+        trace_call("free-pages 0x%lx %lu", memory, pages);
+        trace_status("free-pages", status);
+    }
     return status;
 }
 
-static void reply_map(const uint8_t *map, uint64_t size, uint64_t step)
+static void trace_entries(const uint8_t *map, uint64_t size, uint64_t step)
 {
-    FILE *file = trace_more();
+    FILE *file = trace_replies();
 
-    if (file == NULL)
-        return;
     for (uint64_t at = 0; at < size; at += step) {
         const EFI_MEMORY_DESCRIPTOR *entry = (const void *)(map + at);
 
@@ -44,13 +48,15 @@ uint64_t core_map(uint64_t *size, void *map, uint64_t *key, uint64_t *step, uint
     if (map == NULL && asked != 0)
         return EFI_INVALID_PARAMETER;
     status = RafkudinGetMemoryMap(host.core, size, map, &this_key, &this_step, &this_version);
-    trace_call("map %lu", asked > 16777216 ? 16777216 : asked);
-    if (status == RAFKUDIN_SUCCESS) {
-        trace_reply("map", status, "size=%lu key=%lu descriptor-size=%lu version=%u", *size,
-                    this_key, this_step, this_version);
-        reply_map(map, *size, this_step);
-    } else {
-        trace_reply("map", status, status == RAFKUDIN_BUFFER_TOO_SMALL ? "size=%lu" : "", *size);
+    if (tracing()) {
+        trace_call("map %lu", asked > MOST_BUFFER ? MOST_BUFFER : asked);
+        if (status != RAFKUDIN_SUCCESS) {
+            trace_refusal("map", status, *size);
+        } else {
+            trace_reply("map", status, "size=%lu key=%lu descriptor-size=%lu version=%u", *size,
+                        this_key, this_step, this_version);
+            trace_entries(map, *size, this_step);
+        }
     }
     if (status == RAFKUDIN_SUCCESS && key != NULL)
         *key = this_key;
@@ -67,8 +73,10 @@ uint64_t core_pool(uint32_t type, uint64_t size, uint64_t *address)
 {
     uint64_t status = RafkudinAllocatePool(host.core, type, size, address);
 
-    trace_call("pool %u %lu", type, size);
-    trace_reply("pool", status, status == 0 ? "address=0x%lx" : "", *address);
+    if (tracing()) {
+        trace_call("pool %u %lu", type, size);
+        trace_reply("pool", status, "address=0x%lx", *address);
+    }
     check_certificate();
     return status;
 }
@@ -77,8 +85,10 @@ uint64_t core_free_pool(uint64_t address)
 {
     uint64_t status = RafkudinFreePool(host.core, address);
 
-    trace_call("free-pool 0x%lx", address);
-    trace_reply("free-pool", status, "");
+    if (tracing()) {
+        trace_call("free-pool 0x%lx", address);
+        trace_status("free-pool", status);
+    }
     return status;
 }
 
@@ -86,24 +96,27 @@ uint64_t core_write(uint64_t address, const void *bytes, size_t count)
 {
     uint64_t status = RafkudinPoolWrite(host.core, address, bytes, count);
 
-    trace_bytes(address, bytes, count);
-    trace_reply("write", status, "");
+    if (tracing()) {
+        fprintf(trace_calls(), "write 0x%lx ", address);
+        trace_bytes(trace_calls(), bytes, count);
+        trace_call_ends();
+        trace_status("write", status);
+    }
     return status;
 }
 
 uint64_t core_read(uint64_t address, void *bytes, size_t count)
 {
     uint64_t status = RafkudinPoolRead(host.core, address, bytes, count);
-    FILE *file;
 
-    trace_call("read 0x%lx %zu", address, count);
-    trace_reply("read", status, status == 0 ? "bytes=" : "");
-    file = trace_more();
-    if (file == NULL || status != 0)
-        return status;
-    for (size_t i = 0; i < count; i++)
-        fprintf(file, "%02x", ((const uint8_t *)bytes)[i]);
-    fputc('\n', file);
+    if (tracing()) {
+        trace_call("read 0x%lx %zu", address, count);
+        trace_reply("read", status, "bytes=");
+        if (status == RAFKUDIN_SUCCESS) {
+            trace_bytes(trace_replies(), bytes, count);
+            fputc('\n', trace_replies());
+        }
+    }
     return status;
 }
 
@@ -111,7 +124,9 @@ uint64_t core_exit(uint64_t image, uint64_t key)
 {
     uint64_t status = RafkudinExitBootServices(host.core, image, key);
 
-    trace_call("exit %lu", key);
-    trace_reply("exit", status, "");
+    if (tracing()) {
+        trace_call("exit %lu", key);
+        trace_status("exit", status);
+    }
     return status;
 }

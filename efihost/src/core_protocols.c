@@ -17,30 +17,38 @@ struct rafkudin_guid core_guid(const void *guid)
     return copy;
 }
 
-/* The events of the last call, and their numbers as a text. */
-static size_t take_events(uint64_t status, char *text, size_t room)
+/* The events of the last call, into `events`. */
+static size_t take_events(uint64_t status)
 {
     size_t count = status == 0 ? RafkudinEvents(host.core, events, MOST_EVENTS) : 0;
-    int used = snprintf(text, room, count == 0 ? "-" : "");
 
-    if (count > MOST_EVENTS)
-        count = MOST_EVENTS;
-    for (size_t i = 0; i < count && (size_t)used < room; i++)
-        used += snprintf(text + used, room - (size_t)used, i == 0 ? "%lu" : ",%lu", events[i]);
-    return count;
+    return count > MOST_EVENTS ? MOST_EVENTS : count;
+}
+
+/* The rest of a reply's line: numbers with commas between, or - for none. */
+static void trace_numbers(const uint64_t *numbers, size_t count)
+{
+    FILE *file = trace_replies();
+
+    for (size_t i = 0; i < count; i++)
+        fprintf(file, i == 0 ? "%lu" : ",%lu", numbers[i]);
+    fputs(count == 0 ? "-\n" : "\n", file);
 }
 
 uint64_t core_install(uint64_t *handle, const void *guid, uint32_t kind, uint64_t value)
 {
     struct rafkudin_guid copy = core_guid(guid);
     uint64_t asked = *handle, status;
-    char text[8192];
     size_t count;
 
     status = RafkudinInstallProtocolInterface(host.core, handle, &copy, kind, value);
-    count = take_events(status, text, sizeof text);
-    trace_call("install %lu %s %u 0x%lx", asked, guid_text(guid), kind, value);
-    trace_reply("install", status, status == 0 ? "handle=%lu events=%s" : "", *handle, text);
+    count = take_events(status);
+    if (tracing()) {
+        trace_call("install %lu %s %u 0x%lx", asked, guid_text(guid), kind, value);
+        trace_reply("install", status, "handle=%lu events=", *handle);
+        if (status == RAFKUDIN_SUCCESS)
+            trace_numbers(events, count);
+    }
     signal_numbers(events, count);
     return status;
 }
@@ -48,19 +56,19 @@ uint64_t core_install(uint64_t *handle, const void *guid, uint32_t kind, uint64_
 uint64_t core_install_many(uint64_t *handle, const struct rafkudin_interface *list, size_t count)
 {
     uint64_t asked = *handle, status;
-    char text[8192];
     size_t signalled;
-    FILE *file;
 
     status = RafkudinInstallMultipleProtocolInterfaces(host.core, handle, list, count);
-    signalled = take_events(status, text, sizeof text);
-    file = trace_part();
-    if (file != NULL)
-        fprintf(file, "install-many %lu", asked);
-    for (size_t i = 0; i < count && file != NULL; i++)
-        fprintf(file, " %s 0x%lx", guid_text(&list[i].guid), list[i].value);
-    trace_call("");
-    trace_reply("install-many", status, status == 0 ? "handle=%lu events=%s" : "", *handle, text);
+    signalled = take_events(status);
+    if (tracing()) {
+        fprintf(trace_calls(), "install-many %lu", asked);
+        for (size_t i = 0; i < count; i++)
+            fprintf(trace_calls(), " %s 0x%lx", guid_text(&list[i].guid), list[i].value);
+        trace_call_ends();
+        trace_reply("install-many", status, "handle=%lu events=", *handle);
+        if (status == RAFKUDIN_SUCCESS)
+            trace_numbers(events, signalled);
+    }
     signal_numbers(events, signalled);
     return status;
 }
@@ -70,8 +78,10 @@ uint64_t core_uninstall(uint64_t handle, const void *guid, uint64_t value)
     struct rafkudin_guid copy = core_guid(guid);
     uint64_t status = RafkudinUninstallProtocolInterface(host.core, handle, &copy, value);
 
-    trace_call("uninstall %lu %s 0x%lx", handle, guid_text(guid), value);
-    trace_reply("uninstall", status, "");
+    if (tracing()) {
+        trace_call("uninstall %lu %s 0x%lx", handle, guid_text(guid), value);
+        trace_status("uninstall", status);
+    }
     return status;
 }
 
@@ -79,11 +89,14 @@ uint64_t core_reinstall(uint64_t handle, const void *guid, uint64_t old, uint64_
 {
     struct rafkudin_guid copy = core_guid(guid);
     uint64_t status = RafkudinReinstallProtocolInterface(host.core, handle, &copy, old, value);
-    char text[8192];
-    size_t count = take_events(status, text, sizeof text);
+    size_t count = take_events(status);
 
-    trace_call("reinstall %lu %s 0x%lx 0x%lx", handle, guid_text(guid), old, value);
-    trace_reply("reinstall", status, status == 0 ? "events=%s" : "", text);
+    if (tracing()) {
+        trace_call("reinstall %lu %s 0x%lx 0x%lx", handle, guid_text(guid), old, value);
+        trace_reply("reinstall", status, "events=");
+        if (status == RAFKUDIN_SUCCESS)
+            trace_numbers(events, count);
+    }
     signal_numbers(events, count);
     return status;
 }
@@ -93,8 +106,10 @@ uint64_t core_notify(const void *guid, uint64_t event, uint64_t *key)
     struct rafkudin_guid copy = core_guid(guid);
     uint64_t status = RafkudinRegisterProtocolNotify(host.core, &copy, event, key);
 
-    trace_call("notify %s %lu", guid_text(guid), event);
-    trace_reply("notify", status, status == 0 ? "registration=%lu" : "", *key);
+    if (tracing()) {
+        trace_call("notify %s %lu", guid_text(guid), event);
+        trace_reply("notify", status, "registration=%lu", *key);
+    }
     return status;
 }
 
@@ -104,22 +119,17 @@ uint64_t core_locate(uint32_t search, const void *guid, uint64_t key, uint64_t *
 {
     struct rafkudin_guid copy = core_guid(guid);
     uint64_t asked = *size, status;
-    FILE *file;
 
     status = RafkudinLocateHandle(host.core, search, &copy, key, size, handles);
+    if (!tracing())
+        return status;
     trace_call("locate %u %s %lu %lu", search, guid_text(guid), key, asked);
     if (status != RAFKUDIN_SUCCESS) {
-        trace_reply("locate", status, status == RAFKUDIN_BUFFER_TOO_SMALL ? "size=%lu" : "",
-                    *size);
-        return status;
+        trace_refusal("locate", status, *size);
+    } else {
+        trace_reply("locate", status, "size=%lu handles=", *size);
+        trace_numbers(handles, *size / 8);
     }
-    file = trace_more();
-    if (file == NULL)
-        return status;
-    trace_reply("locate", status, "size=%lu handles=", *size);
-    for (uint64_t i = 0; i < *size / 8; i++)
-        fprintf(file, i == 0 ? "%lu" : ",%lu", handles[i]);
-    fputc('\n', file);
     return status;
 }
 
@@ -130,9 +140,10 @@ uint64_t core_locate_buffer(uint32_t search, const void *guid, uint64_t key, uin
     uint64_t status =
         RafkudinLocateHandleBuffer(host.core, search, &copy, key, count, address);
 
-    trace_call("locate-buffer %u %s %lu", search, guid_text(guid), key);
-    trace_reply("locate-buffer", status, status == 0 ? "count=%lu address=0x%lx" : "", *count,
-                *address);
+    if (tracing()) {
+        trace_call("locate-buffer %u %s %lu", search, guid_text(guid), key);
+        trace_reply("locate-buffer", status, "count=%lu address=0x%lx", *count, *address);
+    }
     check_certificate();
     return status;
 }
@@ -142,8 +153,10 @@ uint64_t core_locate_protocol(const void *guid, uint64_t key, uint64_t *value)
     struct rafkudin_guid copy = core_guid(guid);
     uint64_t status = RafkudinLocateProtocol(host.core, &copy, key, value);
 
-    trace_call("locate-protocol %s %lu", guid_text(guid), key);
-    trace_reply("locate-protocol", status, status == 0 ? "interface=0x%lx" : "", *value);
+    if (tracing()) {
+        trace_call("locate-protocol %s %lu", guid_text(guid), key);
+        trace_reply("locate-protocol", status, "interface=0x%lx", *value);
+    }
     return status;
 }
 
@@ -152,20 +165,16 @@ uint64_t core_locate_protocol(const void *guid, uint64_t key, uint64_t *value)
 uint64_t core_protocols(uint64_t handle, struct rafkudin_guid *list, size_t room, uint64_t *count)
 {
     uint64_t status = RafkudinProtocolsPerHandle(host.core, handle, list, room, count);
-    FILE *file;
 
+    if (!tracing())
+        return status;
     trace_call("protocols %lu", handle);
-    if (status != RAFKUDIN_SUCCESS) {
-        trace_reply("protocols", status, "");
-        return status;
-    }
-    file = trace_more();
-    if (file == NULL)
-        return status;
     trace_reply("protocols", status, "guids=");
+    if (status != RAFKUDIN_SUCCESS)
+        return status;
     for (uint64_t i = 0; i < *count; i++)
-        fprintf(file, i == 0 ? "%s" : ",%s", guid_text(&list[i]));
-    fputc('\n', file);
+        fprintf(trace_replies(), i == 0 ? "%s" : ",%s", guid_text(&list[i]));
+    fputc('\n', trace_replies());
     return status;
 }
 
@@ -173,13 +182,17 @@ uint64_t core_open(uint64_t handle, const void *guid, uint64_t *value, uint64_t 
                    uint64_t controller, uint32_t attributes)
 {
     struct rafkudin_guid copy = core_guid(guid);
-    bool shows = attributes != RAFKUDIN_TEST_PROTOCOL;
     uint64_t status =
         RafkudinOpenProtocol(host.core, handle, &copy, value, agent, controller, attributes);
 
+    if (!tracing())
+        return status;
     trace_call("open %lu %s %lu %lu 0x%x", handle, guid_text(guid), agent, controller,
                attributes);
-    trace_reply("open", status, status == 0 && shows ? "interface=0x%lx" : "", *value);
+    if (attributes == RAFKUDIN_TEST_PROTOCOL)
+        trace_status("open", status);
+    else
+        trace_reply("open", status, "interface=0x%lx", *value);
     return status;
 }
 
@@ -188,8 +201,10 @@ uint64_t core_close(uint64_t handle, const void *guid, uint64_t agent, uint64_t 
     struct rafkudin_guid copy = core_guid(guid);
     uint64_t status = RafkudinCloseProtocol(host.core, handle, &copy, agent, controller);
 
-    trace_call("close %lu %s %lu %lu", handle, guid_text(guid), agent, controller);
-    trace_reply("close", status, "");
+    if (tracing()) {
+        trace_call("close %lu %s %lu %lu", handle, guid_text(guid), agent, controller);
+        trace_status("close", status);
+    }
     return status;
 }
 
@@ -199,9 +214,10 @@ uint64_t core_information(uint64_t handle, const void *guid, uint64_t *address, 
     uint64_t status =
         RafkudinOpenProtocolInformation(host.core, handle, &copy, address, count);
 
-    trace_call("information %lu %s", handle, guid_text(guid));
-    trace_reply("information", status, status == 0 ? "count=%lu address=0x%lx" : "", *count,
-                *address);
+    if (tracing()) {
+        trace_call("information %lu %s", handle, guid_text(guid));
+        trace_reply("information", status, "count=%lu address=0x%lx", *count, *address);
+    }
     check_certificate();
     return status;
 }
@@ -211,8 +227,10 @@ uint64_t core_handle_protocol(uint64_t handle, const void *guid, uint64_t *value
     struct rafkudin_guid copy = core_guid(guid);
     uint64_t status = RafkudinHandleProtocol(host.core, handle, &copy, value);
 
-    trace_call("handle-protocol %lu %s", handle, guid_text(guid));
-    trace_reply("handle-protocol", status, status == 0 ? "interface=0x%lx" : "", *value);
+    if (tracing()) {
+        trace_call("handle-protocol %lu %s", handle, guid_text(guid));
+        trace_reply("handle-protocol", status, "interface=0x%lx", *value);
+    }
     return status;
 }
 
@@ -222,7 +240,9 @@ uint64_t core_path(const void *guid, uint64_t *address, uint64_t *handle)
     uint64_t asked = *address;
     uint64_t status = RafkudinLocateDevicePath(host.core, &copy, address, handle);
 
-    trace_call("path %s 0x%lx", guid_text(guid), asked);
-    trace_reply("path", status, status == 0 ? "handle=%lu address=0x%lx" : "", *handle, *address);
+    if (tracing()) {
+        trace_call("path %s 0x%lx", guid_text(guid), asked);
+        trace_reply("path", status, "handle=%lu address=0x%lx", *handle, *address);
+    }
     return status;
 }

@@ -82,6 +82,7 @@ void dispatch(void)
     if (host.exited)
         return;
     run_timers();
+    notify_keys();
     for (;;) {
         struct event *best = NULL;
         EFI_TPL before = host.tpl;

@@ -96,7 +96,7 @@ static const char *jump_origin(const ucontext_t *context)
     return stack >= host.stack && stack < host.stack_end ? where(*(uint64_t *)POINTER(stack)) : "?";
 }
 
-_Noreturn static void end_by_fault(int number, const siginfo_t *info, ucontext_t *context)
+NO_RETURN static void end_by_fault(int number, const siginfo_t *info, ucontext_t *context)
 {
     uint64_t instruction = (uint64_t)context->uc_mcontext.gregs[REG_RIP];
     uint64_t address = NUMBER(info->si_addr);
@@ -173,10 +173,15 @@ static void on_end(int number)
     _exit(ENDED_BY_LIMIT);
 }
 
-static void on_picture(int number)
+/* Pictures are saved at once where an image's own code runs, and else by the next service, since
+ * the host's streams may be in use. */
+static void on_picture(int number, siginfo_t *info, void *context)
 {
     (void)number;
-    save_picture();
+    (void)info;
+    host.wants_pictures = true;
+    if (in_image((uint64_t)((ucontext_t *)context)->uc_mcontext.gregs[REG_RIP]))
+        save_pictures();
 }
 
 void catch_faults(void)
@@ -200,8 +205,8 @@ void catch_faults(void)
     action.sa_flags = SA_ONSTACK;
     sigaction(SIGINT, &action, NULL);
     sigaction(SIGTERM, &action, NULL);
-    action.sa_handler = on_picture;
-    action.sa_flags = SA_ONSTACK | SA_RESTART;
+    action.sa_sigaction = on_picture;
+    action.sa_flags = SA_SIGINFO | SA_ONSTACK;
     sigaction(SIGUSR1, &action, NULL);
     if (host.options.seconds > 0)
         alarm(host.options.seconds);

@@ -1,5 +1,5 @@
-/* A graphics output of 800 by 600 pixels in memory, where --picture asks for it; the picture is
- * saved at the end, and when the process gets SIGUSR1. */
+/* A graphics output in memory, where --picture asks for it; the picture is saved at the end, and when
+ * the process gets SIGUSR1. */
 #include "host.h"
 
 #include <stdlib.h>
@@ -7,48 +7,69 @@
 #include <sys/mman.h>
 #include <unistd.h>
 
-#define WIDTH 800U
-#define HEIGHT 600U
+#define MOST_PIXELS (1920U * 1080U)
 
 static const EFI_GUID graphics_guid = {
     0x9042a9de, 0x23dc, 0x4a38, {0x96, 0xfb, 0x7a, 0xde, 0xd0, 0x80, 0x51, 0x6a}};
-static EFI_GRAPHICS_OUTPUT_MODE_INFORMATION information = {0, WIDTH, HEIGHT, 1, {0}, WIDTH};
+static const struct {
+    uint32_t width, height;
+} sizes[] = {{800, 600}, {640, 480}, {1024, 768}, {1280, 720}, {1280, 1024}, {1920, 1080}};
+static EFI_GRAPHICS_OUTPUT_MODE_INFORMATION information;
 static EFI_GRAPHICS_OUTPUT_PROTOCOL_MODE mode = {
-    1, 0, &information, sizeof information, 0, WIDTH * HEIGHT * 4};
+    LENGTH(sizes), 0, &information, sizeof information, 0, 0};
 static uint32_t *pixels;
 static FILE *picture;
+
+static EFI_GRAPHICS_OUTPUT_MODE_INFORMATION information_of(uint32_t number)
+{
+    return (EFI_GRAPHICS_OUTPUT_MODE_INFORMATION){
+        0, sizes[number].width, sizes[number].height, 1, {0}, sizes[number].width};
+}
 
 static EFI_STATUS EFIAPI query_mode(EFI_GRAPHICS_OUTPUT_PROTOCOL *this, uint32_t number,
                                     UINTN *size, EFI_GRAPHICS_OUTPUT_MODE_INFORMATION **to)
 {
     SERVICE("GraphicsOutput.QueryMode", NUMBER(this), number);
+    EFI_GRAPHICS_OUTPUT_MODE_INFORMATION it;
     void *block = NULL;
     EFI_STATUS status;
 
-    if (number != 0 || size == NULL || to == NULL)
+    if (number >= LENGTH(sizes) || size == NULL || to == NULL)
         ANSWER(EFI_INVALID_PARAMETER);
     status = host_pool(RAFKUDIN_BOOT_SERVICES_DATA, sizeof information, &block);
     if (status != EFI_SUCCESS)
         ANSWER(status);
-    *to = memcpy(block, &information, sizeof information);
-    *size = sizeof information;
+    it = information_of(number);
+    *to = memcpy(block, &it, sizeof it);
+    *size = sizeof it;
     ANSWER(EFI_SUCCESS);
+}
+
+static void enter_mode(uint32_t number)
+{
+    mode.Mode = number;
+    information = information_of(number);
+    mode.FrameBufferSize = (UINTN)information.HorizontalResolution *
+                           information.VerticalResolution * sizeof *pixels;
+    memset(pixels, 0, mode.FrameBufferSize);
 }
 
 static EFI_STATUS EFIAPI set_mode(EFI_GRAPHICS_OUTPUT_PROTOCOL *this, uint32_t number)
 {
     SERVICE("GraphicsOutput.SetMode", NUMBER(this), number);
 
-    if (number != 0)
+    if (number >= LENGTH(sizes))
         ANSWER(EFI_UNSUPPORTED);
-    memset(pixels, 0, WIDTH * HEIGHT * 4);
+    enter_mode(number);
     ANSWER(EFI_SUCCESS);
 }
 
 /* A rectangle lies on the screen. */
 static bool on_screen(UINTN x, UINTN y, UINTN width, UINTN height)
 {
-    return x <= WIDTH && y <= HEIGHT && width <= WIDTH - x && height <= HEIGHT - y;
+    UINTN columns = information.HorizontalResolution, rows = information.VerticalResolution;
+
+    return x <= columns && y <= rows && width <= columns - x && height <= rows - y;
 }
 
 static EFI_STATUS EFIAPI transfer(EFI_GRAPHICS_OUTPUT_PROTOCOL *this, uint32_t *buffer,
@@ -56,7 +77,7 @@ static EFI_STATUS EFIAPI transfer(EFI_GRAPHICS_OUTPUT_PROTOCOL *this, uint32_t *
                                   UINTN to_y, UINTN width, UINTN height, UINTN delta)
 {
     SERVICE("GraphicsOutput.Blt", NUMBER(this), NUMBER(buffer), operation, delta);
-    UINTN row = delta == 0 ? width : delta / 4;
+    UINTN row = delta == 0 ? width : delta / 4, screen_row = information.PixelsPerScanLine;
 
     if (operation > BLT_VIDEO_TO_VIDEO || width == 0 || height == 0 ||
         (buffer == NULL && operation != BLT_VIDEO_TO_VIDEO) ||
@@ -68,10 +89,10 @@ static EFI_STATUS EFIAPI transfer(EFI_GRAPHICS_OUTPUT_PROTOCOL *this, uint32_t *
         UINTN y = operation == BLT_VIDEO_TO_VIDEO && to_y > from_y ? height - 1 - i : i;
         uint32_t *to = operation == BLT_VIDEO_TO_BUFFER
                            ? buffer + (to_y + y) * row + to_x
-                           : pixels + (to_y + y) * WIDTH + to_x;
+                           : pixels + (to_y + y) * screen_row + to_x;
         const uint32_t *from = operation == BLT_BUFFER_TO_VIDEO
                                    ? buffer + (from_y + y) * row + from_x
-                                   : pixels + (from_y + y) * WIDTH + from_x;
+                                   : pixels + (from_y + y) * screen_row + from_x;
 
         if (operation == BLT_VIDEO_FILL)
             for (UINTN x = 0; x < width; x++)
@@ -87,8 +108,9 @@ static EFI_GRAPHICS_OUTPUT_PROTOCOL graphics = {query_mode, set_mode, transfer, 
 /* The frame buffer lies below 4 GiB where the machine has nothing there. */
 void make_graphics(void)
 {
-    int flags = MAP_PRIVATE | MAP_ANONYMOUS;
+    int flags = MAP_PRIVATE | MAP_ANONYMOUS | MAP_NORESERVE;
     uint64_t out = NUMBER(host.table->ConsoleOutHandle);
+    size_t size = MOST_PIXELS * sizeof *pixels;
     void *at = MAP_FAILED;
 
     if (host.options.picture == NULL)
@@ -97,14 +119,15 @@ void make_graphics(void)
     if (picture == NULL)
         refuse("cannot write %s", host.options.picture);
     if (machine_range_at(0xc0000000) == NULL)
-        at = mmap(POINTER(0xc0000000), WIDTH * HEIGHT * 4, PROT_READ | PROT_WRITE,
+        at = mmap(POINTER(0xc0000000), size, PROT_READ | PROT_WRITE,
                   flags | MAP_FIXED_NOREPLACE, -1, 0);
     if (at == MAP_FAILED)
-        at = mmap(NULL, WIDTH * HEIGHT * 4, PROT_READ | PROT_WRITE, flags, -1, 0);
+        at = mmap(NULL, size, PROT_READ | PROT_WRITE, flags, -1, 0);
     if (at == MAP_FAILED)
         refuse("no memory for the screen");
     pixels = at;
     mode.FrameBufferBase = NUMBER(at);
+    enter_mode(0);
     install_one(&out, &graphics_guid, 0, NUMBER(&graphics));
 }
 
@@ -113,6 +136,7 @@ void save_picture(void)
     if (picture == NULL || ftruncate(fileno(picture), 0) != 0)
         return;
     rewind(picture);
-    write_picture(picture, pixels, WIDTH, HEIGHT);
+    write_picture(picture, pixels, information.HorizontalResolution,
+                  information.VerticalResolution);
     fflush(picture);
 }

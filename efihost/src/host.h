@@ -15,6 +15,7 @@
 #define MOST_DISKS 16
 #define MOST_DRIVERS 128
 #define MOST_ARGUMENTS 256
+#define NO_RETURN __attribute__((noreturn))
 #define LENGTH(array) (sizeof(array) / sizeof(array)[0])
 #define HANDLE(number) ((EFI_HANDLE)(uintptr_t)(number))
 #define NUMBER(pointer) ((uint64_t)(uintptr_t)(pointer))
@@ -42,7 +43,8 @@ struct call {
 };
 
 struct options {
-    const char *machine, *trace, *input, *variables, *json, *calls, *picture, *serial, *application;
+    const char *machine, *trace, *input, *variables, *json, *calls, *picture, *screen, *serial,
+        *serial_input, *firmware, *application;
     const char *disks[MOST_DISKS], *drivers[MOST_DRIVERS], *arguments[MOST_ARGUMENTS];
     size_t disk_count, driver_count, argument_count;
     bool check, guard, strict, quiet, plain, certify, rights;
@@ -60,6 +62,8 @@ struct host {
     struct image *running, *application;
     bool exited, checks;
     uint64_t calls;
+    volatile bool wants_pictures; /* since a SIGUSR1 */
+    uint64_t images_start, images_end; /* all images that there ever were lie between */
     uint64_t stack, stack_end; /* that of the machine, on which all images run */
 };
 extern struct host host;
@@ -74,11 +78,18 @@ enum ending {
     ENDED_BY_LIMIT = 5,
 };
 
+/* ---- firmware.c, lzma.c ---- */
+void open_firmware(const char *name);
+void close_firmware(void);
+uint8_t *firmware_image(const char *name, size_t *length);
+uint8_t *lzma_decode(const uint8_t *bytes, size_t count, size_t most, size_t *length);
+
 /* ---- options.c ---- */
 void read_options(int count, char **words, struct options *options);
-_Noreturn void refuse(const char *format, ...) __attribute__((format(printf, 1, 2)));
+NO_RETURN void refuse(const char *format, ...) __attribute__((format(printf, 1, 2)));
 
 /* ---- text.c ---- */
+const char *last_part(const char *name);
 size_t wide_length(const CHAR16 *text);
 void widen(CHAR16 *to, const char *text);
 bool wide_equal(const CHAR16 *one, const CHAR16 *other);
@@ -95,12 +106,16 @@ uint8_t *read_file(const char *name, size_t *length);
  * of the trace ---- */
 void open_trace(const char *name, const uint8_t *records, size_t count, uint64_t granule);
 void close_trace(void);
+bool tracing(void);
+FILE *trace_calls(void);
+FILE *trace_replies(void);
 void trace_call(const char *format, ...) __attribute__((format(printf, 1, 2)));
-void trace_bytes(uint64_t address, const uint8_t *bytes, size_t count);
+void trace_call_ends(void);
+void trace_bytes(FILE *file, const uint8_t *bytes, size_t count);
+void trace_status(const char *verb, uint64_t status);
+void trace_refusal(const char *verb, uint64_t status, uint64_t size);
 void trace_reply(const char *verb, uint64_t status, const char *format, ...)
     __attribute__((format(printf, 3, 4)));
-FILE *trace_more(void);
-FILE *trace_part(void);
 void check_certificate(void);
 uint64_t core_pages(uint32_t kind, uint32_t type, uint64_t pages, uint64_t *memory);
 uint64_t core_free_pages(uint64_t memory, uint64_t pages);
@@ -143,6 +158,7 @@ bool enter(struct call *call, const char *name, uint64_t caller, const uint64_t 
 EFI_STATUS leave(struct call *call, EFI_STATUS status);
 struct origin origin_at(uint64_t caller);
 struct origin origin_now(void);
+struct origin origin_without_trail(void);
 void open_calls_log(const char *file);
 void close_calls_log(void);
 void print_last_calls(FILE *file);
@@ -156,10 +172,12 @@ struct machine_range {
     uint64_t start, pages, attributes;
     uint32_t type;
     bool mapped;
+    uint8_t *open; /* a bit for each page that may be used in every way */
 };
 void make_machine(const char *file);
 const struct machine_range *machine_range_at(uint64_t address);
 bool conventional_range(uint64_t address, uint64_t *start, uint64_t *size);
+void protect_memory(uint64_t address, uint64_t size, int rights);
 void open_memory(uint64_t address, uint64_t size);
 void shut_memory(uint64_t address, uint64_t size);
 void open_all_memory(void);
@@ -194,6 +212,7 @@ struct freed {
     struct origin made, freed;
 };
 void ledger_add_block(const struct block *block);
+bool ledger_page_has_block(uint64_t address);
 struct block *ledger_block(uint64_t at);
 struct block *ledger_block_around(uint64_t address);
 void ledger_remove_block(uint64_t at, struct block *removed);
@@ -205,8 +224,8 @@ void ledger_cut_runs(uint64_t at, uint64_t pages);
 void ledger_each_run(void (*visit)(struct run *run, void *context), void *context);
 void ledger_add_freed(uint64_t at, uint64_t size, bool filled, struct origin made);
 struct freed *ledger_freed_with(uint64_t address);
-struct freed *ledger_freed(size_t index);
-void ledger_drop_freed(uint64_t at, uint64_t size);
+struct freed *ledger_freed_among(uint64_t at, uint64_t size, size_t *place);
+void ledger_drop_freed(size_t place);
 
 /* ---- memory.c, red_zones.c ---- */
 EFI_STATUS host_pages(uint32_t kind, uint32_t type, uint64_t pages, uint64_t *at);
@@ -220,8 +239,9 @@ void fill_memory_services(EFI_BOOT_SERVICES *boot);
 struct origin last_map_change(void);
 uint64_t zone_request(uint64_t size);
 void zone_lay(struct block *block);
-bool zone_look(const struct block *block, const char *when);
+void zone_look(const struct block *block, const char *when);
 void zone_free(const struct block *block);
+void zone_look_at_freed(struct freed *freed);
 void zone_look_at_reuse(uint64_t at, uint64_t size);
 void zone_look_at_all(const char *when);
 void zone_shut_free(uint64_t address, uint64_t size);
@@ -251,10 +271,11 @@ void look_for_leaks(struct image *image, const char *when);
 
 /* ---- report.c ---- */
 void open_report(const char *file);
-_Noreturn void finish(enum ending ending, const char *format, ...)
+void save_pictures(void);
+NO_RETURN void finish(enum ending ending, const char *format, ...)
     __attribute__((format(printf, 2, 3)));
 
-/* ---- images.c, pe.c, load.c, symbols.c ---- */
+/* ---- images.c, pe.c, sources.c, symbols.c ---- */
 struct symbol {
     uint64_t offset;
     char *name;
@@ -280,13 +301,14 @@ struct image {
     size_t section_count;
     struct symbol *symbols;
     size_t symbol_count;
-    char *files; /* the host's path without its ending, where it comes from a file of the host */
+    char debug_file[128]; /* of the debug entry, or empty */
+    void *packages;       /* the HII packages among its resources, or NULL */
 };
 struct image *image_at(uint64_t address);
 struct image *image_of(EFI_HANDLE handle);
 struct image *first_image(void);
 void keep_image(struct image *image);
-void read_symbols(struct image *image);
+void read_symbols(struct image *image, const char *file);
 const char *place_text(struct image *image, uint64_t address);
 const char *where(uint64_t address);
 const char *origin_text(const struct origin *origin);
@@ -302,7 +324,7 @@ EFI_STATUS EFIAPI StartImage(EFI_HANDLE handle, UINTN *size, CHAR16 **data);
 EFI_STATUS EFIAPI Exit(EFI_HANDLE handle, EFI_STATUS status, UINTN size, CHAR16 *data);
 EFI_STATUS EFIAPI UnloadImage(EFI_HANDLE handle);
 EFI_STATUS EFIAPI ExitBootServices(EFI_HANDLE handle, UINTN key);
-const uint8_t *read_by_path(const void *path, uint64_t *length);
+uint8_t *read_by_path(const void *path, bool policy, uint64_t *length);
 
 /* ---- events.c ---- */
 struct event;
@@ -347,11 +369,21 @@ void hold(const struct held *held);
 void let_go(uint64_t handle, const void *guid, uint64_t agent, uint64_t controller, bool all);
 void each_held(void (*visit)(const struct held *held, void *context), void *context);
 
-/* ---- console.c, keys.c ---- */
+/* ---- console.c, screen.c, text_in.c, keys.c ---- */
+#define SCREEN_COLUMNS 80
+#define SCREEN_ROWS 25
 void make_console(void);
 void restore_terminal(void);
+void open_screen(const char *name);
+void screen_put(int row, int column, CHAR16 letter, int attribute);
+void screen_clear(int attribute);
+void screen_scroll(int attribute);
+void save_screen(void);
 bool terminal_out(void);
+void make_text_in(void);
+void notify_keys(void);
 bool key_is_ready(void);
+bool key_comes(EFI_INPUT_KEY *key);
 bool next_key(EFI_INPUT_KEY *key);
 bool keys_are_over(void);
 bool keys_from_terminal(void);
@@ -375,7 +407,7 @@ const char *application_path(const char *file, EFI_HANDLE *device);
 void make_graphics(void);
 void save_picture(void);
 void write_picture(FILE *file, const uint32_t *pixels, unsigned width, unsigned height);
-void make_serial(const char *file);
+void make_serial(const char *to, const char *from);
 
 /* ---- faults.c, instructions.c, sandbox.c ---- */
 void catch_faults(void);
@@ -384,6 +416,6 @@ void print_passed_over(FILE *file);
 void drop_rights(void);
 
 extern const EFI_GUID device_path_guid, loaded_image_guid, loaded_image_path_guid,
-    driver_binding_guid, file_system_guid, block_io_guid;
+    driver_binding_guid, file_system_guid, block_io_guid, package_list_guid;
 
 #endif

@@ -7,14 +7,13 @@
 #define APPLICATION 10U
 
 static struct image *images;
-static uint64_t lowest = UINT64_MAX, highest; /* of all images that there ever were */
 
 /* The live image with an address in it, or NULL. */
 struct image *image_at(uint64_t address)
 {
     static struct image *recent;
 
-    if (address < lowest || address >= highest)
+    if (address < host.images_start || address >= host.images_end)
         return NULL;
     if (recent != NULL && !recent->gone && address - recent->base < recent->size)
         return recent;
@@ -39,28 +38,20 @@ static void *copy_path(const void *path)
     return length == 0 ? NULL : memcpy(machine_block(length), path, length);
 }
 
-/* The last part of a file's name: of the host, or of a device path's file node. */
+/* Names an image by its file, of the host or of a device path's file node, or else by its debug
+ * entry. */
 static void name_image(struct image *image, const char *file, const EFI_DEVICE_PATH_PROTOCOL *rest)
 {
-    const char *name = file, *part;
+    const char *name = file;
 
     if (name == NULL && rest != NULL && rest->Type == 4 && rest->SubType == 4)
         name = narrow((const CHAR16 *)(const void *)(rest + 1));
     if (name == NULL || *name == 0)
+        name = image->debug_file;
+    if (*name == 0)
         name = "image";
-    part = strrchr(name, '/');
-    name = part == NULL ? name : part + 1;
-    part = strrchr(name, '\\');
-    snprintf(image->name, sizeof image->name, "%.60s", part == NULL ? name : part + 1);
-    if (file != NULL) {
-        size_t length = strlen(file);
-
-        if (length > 4 && strcmp(file + length - 4, ".efi") == 0)
-            length -= 4;
-        image->files = must(calloc(length + 1, 1));
-        memcpy(image->files, file, length);
-        read_symbols(image);
-    }
+    snprintf(image->name, sizeof image->name, "%.60s", last_part(name));
+    read_symbols(image, file);
 }
 
 static void fill_loaded_image(struct image *image, EFI_HANDLE parent, EFI_HANDLE device,
@@ -89,6 +80,8 @@ static EFI_STATUS install_image(struct image *image)
 
     if (status == EFI_SUCCESS)
         status = install_one(&handle, &loaded_image_path_guid, 0, NUMBER(image->path));
+    if (status == EFI_SUCCESS && image->packages != NULL)
+        status = install_one(&handle, &package_list_guid, 0, NUMBER(image->packages));
     image->handle = HANDLE(handle);
     return status;
 }
@@ -119,8 +112,10 @@ EFI_STATUS load_image(EFI_HANDLE parent, const void *path, const uint8_t *data, 
     status = install_image(image);
     image->next = images;
     images = image;
-    lowest = image->base < lowest ? image->base : lowest;
-    highest = image->base + image->size > highest ? image->base + image->size : highest;
+    if (host.images_end == 0 || image->base < host.images_start)
+        host.images_start = image->base;
+    if (image->base + image->size > host.images_end)
+        host.images_end = image->base + image->size;
     host.call = call;
     *loaded = image;
     return status;
@@ -133,6 +128,8 @@ EFI_STATUS unload_image(struct image *image)
 
     look_for_leaks(image, "is unloaded");
     host.call = NULL;
+    if (image->packages != NULL)
+        uninstall_one(NUMBER(image->handle), &package_list_guid, NUMBER(image->packages));
     uninstall_one(NUMBER(image->handle), &loaded_image_path_guid, NUMBER(image->path));
     uninstall_one(NUMBER(image->handle), &loaded_image_guid, NUMBER(image->loaded));
     if (image->loaded->FilePath != NULL)
@@ -177,7 +174,7 @@ EFI_STATUS EFIAPI LoadImage(BOOLEAN policy, EFI_HANDLE parent, EFI_DEVICE_PATH_P
     if (handle == NULL || image_of(parent) == NULL || (data == NULL && path == NULL))
         ANSWER(EFI_INVALID_PARAMETER);
     if (data == NULL)
-        bytes = read_by_path(path, &length);
+        bytes = read_by_path(path, policy != 0, &length);
     if (bytes == NULL)
         ANSWER(EFI_NOT_FOUND);
     status = load_image(parent, path, bytes, length, NULL, &image);
@@ -270,47 +267,4 @@ EFI_STATUS EFIAPI ExitBootServices(EFI_HANDLE handle, UINTN key)
     if (!host.options.quiet)
         fprintf(stderr, "efihost: boot services are exited by %s\n", where(this_call.caller));
     ANSWER(EFI_SUCCESS);
-}
-
-/* Reads a file from a path's device by its simple file system; the bytes are the caller's to free,
- * and NULL where there is no such file. */
-const uint8_t *read_by_path(const void *path, uint64_t *length)
-{
-    uint64_t device = 0, matched = 0, end = 0;
-    CHAR16 name[1024];
-    size_t letters = 0;
-    EFI_SIMPLE_FILE_SYSTEM_PROTOCOL *volume;
-    EFI_FILE_PROTOCOL *root, *file;
-    EFI_STATUS status;
-    uint8_t *bytes;
-
-    if (locate_path(&file_system_guid, path, &device, &matched) != EFI_SUCCESS)
-        return NULL;
-    for (const uint8_t *node = (const uint8_t *)path + matched; (node[0] & 0x7f) != 0x7f;
-         node += node[2] | node[3] << 8) {
-        const CHAR16 *part = (const void *)(node + 4);
-
-        if (node[0] != 4 || node[1] != 4)
-            return NULL;
-        if (letters > 0 && name[letters - 1] != '\\' && *part != '\\')
-            name[letters++] = '\\';
-        while (*part != 0 && letters < 1000)
-            name[letters++] = *part++;
-    }
-    name[letters] = 0;
-    volume = interface_of(device, &file_system_guid);
-    if (volume == NULL || volume->OpenVolume(volume, &root) != EFI_SUCCESS)
-        return NULL;
-    status = root->Open(root, &file, name, EFI_FILE_MODE_READ, 0);
-    root->Close(root);
-    if (status != EFI_SUCCESS)
-        return NULL;
-    file->SetPosition(file, UINT64_MAX);
-    file->GetPosition(file, &end);
-    file->SetPosition(file, 0);
-    bytes = must(malloc(end + 1));
-    *length = end;
-    status = file->Read(file, length, bytes);
-    file->Close(file);
-    return status == EFI_SUCCESS ? bytes : NULL;
 }

@@ -27,6 +27,8 @@ static bool terminal, over;
 static struct termios saved;
 static uint64_t wait_until;
 static uint16_t special_key; /* that of the last word, or 0 */
+static EFI_INPUT_KEY come; /* a key that is notified and not read yet */
+static bool has_come;
 static char waiting[16]; /* letters that are read and not used yet */
 static size_t waiting_count;
 
@@ -189,13 +191,13 @@ bool key_is_ready(void)
 {
     if (!waits())
         take_words();
-    return !waits() && (special_key != 0 || letters(1));
+    return has_come || (!waits() && (special_key != 0 || letters(1)));
 }
 
 /* Whether no key comes any more. */
 bool keys_are_over(void)
 {
-    return !terminal && wait_until == 0 && special_key == 0 && !letters(1);
+    return !terminal && !has_come && wait_until == 0 && special_key == 0 && !letters(1);
 }
 
 /* The next key; false where there is none yet. */
@@ -204,6 +206,11 @@ bool next_key(EFI_INPUT_KEY *key)
     memset(key, 0, sizeof *key);
     if (!key_is_ready())
         return false;
+    if (has_come) {
+        *key = come;
+        has_come = false;
+        return true;
+    }
     if (special_key != 0) {
         key->ScanCode = special_key;
         special_key = 0;
@@ -211,5 +218,15 @@ bool next_key(EFI_INPUT_KEY *key)
     }
     if (!(terminal && waiting[0] == '\033' && sequence(key)))
         letter(key);
+    return true;
+}
+
+/* Whether a key comes, while the one before is read already; next_key returns it all the same. */
+bool key_comes(EFI_INPUT_KEY *key)
+{
+    if (has_come || !next_key(&come))
+        return false;
+    has_come = true;
+    *key = come;
     return true;
 }

@@ -6,12 +6,31 @@
 
 #define SLOTS 65536U
 #define FREED 256U
+#define PAGES_COUNTED 65536U
 
 static struct block *slots[SLOTS];
 static struct run *runs;
 static size_t run_count, run_room;
 static struct freed freed[FREED];
+static uint64_t freed_start[FREED], freed_end[FREED]; /* of those that are remembered */
 static size_t freed_next;
+
+/* How many live blocks have a byte in a page, of all pages with the same remainder. */
+static uint32_t blocks_in_page[PAGES_COUNTED];
+
+static void count_pages(const struct block *block, int by)
+{
+    uint64_t first = (block->core_at - 8) / PAGE, last = (block->core_at + block->core_size) / PAGE;
+
+    for (uint64_t page = first; page <= last; page++)
+        blocks_in_page[page % PAGES_COUNTED] += (uint32_t)by;
+}
+
+/* Whether a live block may lie in the page of an address. */
+bool ledger_page_has_block(uint64_t address)
+{
+    return blocks_in_page[address / PAGE % PAGES_COUNTED] != 0;
+}
 
 static struct block **slot_of(uint64_t at)
 {
@@ -25,6 +44,7 @@ void ledger_add_block(const struct block *block)
     *copy = *block;
     copy->next = *slot;
     *slot = copy;
+    count_pages(block, 1);
 }
 
 struct block *ledger_block(uint64_t at)
@@ -56,6 +76,7 @@ void ledger_remove_block(uint64_t at, struct block *removed)
         struct block *block = *link;
 
         *removed = *block;
+        count_pages(block, -1);
         *link = block->next;
         free(block);
     }
@@ -134,15 +155,29 @@ void ledger_each_run(void (*visit)(struct run *run, void *context), void *contex
 
 void ledger_add_freed(uint64_t at, uint64_t size, bool filled, struct origin made)
 {
-    struct freed *entry = &freed[freed_next++ % FREED];
+    size_t place = freed_next++ % FREED;
+    struct freed *entry = &freed[place];
 
-    if (entry->filled)
-        zone_look_at_reuse(entry->at, entry->size);
+    zone_look_at_freed(entry);
+    freed_start[place] = at;
+    freed_end[place] = at + (size == 0 ? 1 : size);
     entry->at = at;
     entry->size = size;
     entry->filled = filled;
     entry->made = made;
-    entry->freed = origin_now();
+    entry->freed = origin_without_trail();
+}
+
+/* The first from this place on of what was freed that lies among these bytes, and its place; or
+ * NULL. */
+struct freed *ledger_freed_among(uint64_t at, uint64_t size, size_t *place)
+{
+    uint64_t end = at + size;
+
+    for (; *place < FREED; ++*place)
+        if (freed_start[*place] < end && at < freed_end[*place])
+            return &freed[*place];
+    return NULL;
 }
 
 /* The latest of what was freed that holds an address. */
@@ -158,21 +193,10 @@ struct freed *ledger_freed_with(uint64_t address)
     return NULL;
 }
 
-/* One after the other, from 0 on; NULL behind the last. */
-struct freed *ledger_freed(size_t index)
-{
-    return index < FREED && index < freed_next ? &freed[index] : NULL;
-}
-
 /* What is placed again is freed memory no longer. */
-void ledger_drop_freed(uint64_t at, uint64_t size)
+void ledger_drop_freed(size_t place)
 {
-    struct freed *entry;
-
-    for (size_t i = 0; (entry = ledger_freed(i)) != NULL; i++)
-        if (entry->at != UINT64_MAX && entry->at < at + size &&
-            at < entry->at + (entry->size == 0 ? 1 : entry->size)) {
-            entry->filled = false;
-            entry->at = UINT64_MAX;
-        }
+    freed[place].filled = false;
+    freed[place].at = UINT64_MAX;
+    freed_start[place] = freed_end[place] = 0;
 }

@@ -35,13 +35,13 @@ static void keep(struct machine_range range)
  * process has something already, is reserved on the machine that is run, and a line says so. */
 static void add(uint32_t type, uint64_t start, uint64_t pages, uint64_t attributes)
 {
-    struct machine_range range = {start, pages, attributes, type, false};
+    struct machine_range range = {start, pages, attributes, type, false, NULL};
 
     if (has_bytes(&range) && start < LOWEST) {
         uint64_t below = (LOWEST - start) / PAGE;
         struct machine_range low = {start, below < pages ? below : pages, attributes,
                                     type == RAFKUDIN_CONVENTIONAL ? RAFKUDIN_RESERVED : type,
-                                    false};
+                                    false, NULL};
 
         keep(low);
         if (below >= pages)
@@ -167,6 +167,36 @@ static void make_core(void)
     free(records);
 }
 
+/* Whether all these pages of a range are open. */
+static bool are_open(const struct machine_range *range, uint64_t first, uint64_t end)
+{
+    for (uint64_t page = first; page < end; page++)
+        if ((range->open[page / 8] >> page % 8 & 1) == 0)
+            return false;
+    return true;
+}
+
+static void note_page(const struct machine_range *range, uint64_t page, bool open)
+{
+    if (open)
+        range->open[page / 8] |= (uint8_t)(1U << page % 8);
+    else
+        range->open[page / 8] &= (uint8_t)~(1U << page % 8);
+}
+
+/* Notes of pages whether they are open, those of a whole byte together. */
+static void note_open(const struct machine_range *range, uint64_t first, uint64_t end, bool open)
+{
+    uint64_t bytes;
+
+    for (; first < end && first % 8 != 0; first++)
+        note_page(range, first, open);
+    bytes = (end - first) / 8;
+    memset(range->open + first / 8, open ? 0xff : 0, bytes);
+    for (first += 8 * bytes; first < end; first++)
+        note_page(range, first, open);
+}
+
 void make_machine(const char *file)
 {
     if (file != NULL) {
@@ -179,9 +209,14 @@ void make_machine(const char *file)
     make_core();
     if (!host.checks)
         return;
-    for (size_t i = 0; i < range_count; i++)
-        if (ranges[i].mapped && ranges[i].type == RAFKUDIN_CONVENTIONAL)
+    for (size_t i = 0; i < range_count; i++) {
+        if (!ranges[i].mapped)
+            continue;
+        ranges[i].open = must(calloc(ranges[i].pages / 8 + 1, 1));
+        note_open(&ranges[i], 0, ranges[i].pages, true);
+        if (ranges[i].type == RAFKUDIN_CONVENTIONAL)
             shut_memory(ranges[i].start, ranges[i].pages * PAGE);
+    }
 }
 
 /* The range of the machine with an address, or NULL. */
@@ -226,23 +261,34 @@ bool conventional_range(uint64_t address, uint64_t *start, uint64_t *size)
     return false;
 }
 
-static void protect(uint64_t address, uint64_t size, int rights)
+/* Sets what every page with one of these bytes may be used for; the system is not asked where it is
+ * so already. */
+void protect_memory(uint64_t address, uint64_t size, int rights)
 {
     uint64_t first = address & ~(PAGE - 1), end = (address + size + PAGE - 1) & ~(PAGE - 1);
+    const struct machine_range *range = machine_range_at(first);
 
-    if (end > first && mprotect(POINTER(first), end - first, rights) != 0)
+    if (end <= first)
+        return;
+    if (range != NULL && range->open != NULL && end <= range->start + range->pages * PAGE) {
+        uint64_t from = (first - range->start) / PAGE, to = (end - range->start) / PAGE;
+
+        if (rights == ALL && are_open(range, from, to))
+            return;
+        note_open(range, from, to, rights == ALL);
+    }
+    if (mprotect(POINTER(first), end - first, rights) != 0)
         refuse("cannot protect 0x%lx: too many pieces of memory for one process", first);
 }
 
-/* Lets every page with one of these bytes be used. */
 void open_memory(uint64_t address, uint64_t size)
 {
-    protect(address, size, ALL);
+    protect_memory(address, size, ALL);
 }
 
 void shut_memory(uint64_t address, uint64_t size)
 {
-    protect(address, size, PROT_NONE);
+    protect_memory(address, size, PROT_NONE);
 }
 
 /* Once boot services have ended, all memory is the application's. */

@@ -18,16 +18,28 @@ struct loaded_file {
     const char *name;
     uint8_t *bytes;
     size_t length;
+    bool of_host;
 };
 static struct loaded_file application, drivers[MOST_DRIVERS];
 
+/* A file of the host, or else an image of the firmware, whose name then has an ending. */
 static struct loaded_file read_image(const char *name)
 {
-    struct loaded_file file = {name, NULL, 0};
+    struct loaded_file file = {name, NULL, 0, true};
+    char *whole;
+    int why;
 
     file.bytes = read_file(name, &file.length);
+    if (file.bytes != NULL)
+        return file;
+    why = errno;
+    file.bytes = firmware_image(name, &file.length);
     if (file.bytes == NULL)
-        refuse("cannot read %s: %s", name, strerror(errno));
+        refuse("cannot read %s: %s", name, strerror(why));
+    whole = must(malloc(strlen(name) + 5));
+    sprintf(whole, "%s.efi", name);
+    file.name = whole;
+    file.of_host = false;
     return file;
 }
 
@@ -64,7 +76,7 @@ static void start_drivers(void)
 
         name = name == NULL ? drivers[i].name : name + 1;
         status = load_image(NULL, file_path(name, NULL), drivers[i].bytes, drivers[i].length,
-                            drivers[i].name, &image);
+                            drivers[i].of_host ? drivers[i].name : NULL, &image);
         if (status == EFI_SUCCESS)
             status = start_image(image);
         if (status != EFI_SUCCESS)
@@ -108,7 +120,9 @@ static void run_application(void)
     const char *name = application_path(application.name, &device);
     const void *path = device == NULL ? NULL : interface_of(NUMBER(device), &device_path_guid);
     EFI_STATUS status = load_image(NULL, file_path(name, path), application.bytes,
-                                   application.length, application.name, &host.application);
+                                   application.length,
+                                   application.of_host ? application.name : NULL,
+                                   &host.application);
 
     if (status != EFI_SUCCESS)
         finish(ENDED_NEVER_RAN, "%s can't be loaded: %s", application.name, status_text(status));
@@ -159,9 +173,11 @@ int main(int count, char **words)
     host.checks = host.options.check || host.options.guard;
     host.tpl = TPL_APPLICATION;
     setvbuf(stdout, output, _IOFBF, sizeof output);
+    open_firmware(host.options.firmware);
     application = read_image(host.options.application);
     for (size_t i = 0; i < host.options.driver_count; i++)
         drivers[i] = read_image(host.options.drivers[i]);
+    close_firmware();
     open_report(host.options.json);
     if (host.options.calls != NULL)
         open_calls_log(host.options.calls);
@@ -173,7 +189,7 @@ int main(int count, char **words)
     make_console();
     make_disks();
     make_graphics();
-    make_serial(host.options.serial);
+    make_serial(host.options.serial, host.options.serial_input);
     catch_faults();
     drop_rights();
     run_on_stack();

@@ -10,16 +10,17 @@ struct origin last_map_change(void)
     return map_change;
 }
 
+/* Without a check nothing is kept: who made what is for reports alone. */
 static void keep_run(uint64_t at, uint64_t pages, uint32_t type, bool red)
 {
-    struct run run = {at, pages, type, red, red, origin_now()};
+    struct run run = {at, pages, type, red, red, {0}};
 
-    map_change = run.origin;
+    if (!host.checks)
+        return;
+    run.origin = map_change = origin_now();
     ledger_add_run(&run);
-    if (host.checks) {
-        zone_look_at_reuse(at, pages * PAGE);
-        open_memory(at, pages * PAGE);
-    }
+    zone_look_at_reuse(at, pages * PAGE);
+    open_memory(at, pages * PAGE);
 }
 
 /* Pages with nothing around them. */
@@ -51,10 +52,14 @@ EFI_STATUS host_pages(uint32_t kind, uint32_t type, uint64_t pages, uint64_t *at
 EFI_STATUS host_free_pages(uint64_t at, uint64_t pages)
 {
     uint64_t start = at, end = at + pages * PAGE;
-    const struct run *run = ledger_run_with(at);
-    struct origin made = run == NULL ? origin_now() : run->origin;
+    const struct run *run;
+    struct origin made;
     EFI_STATUS status;
 
+    if (!host.checks)
+        return core_free_pages(at, pages);
+    run = ledger_run_with(at);
+    made = run == NULL ? origin_now() : run->origin;
     if (run != NULL && pages != 0 && at % PAGE == 0 && end <= run->at + run->pages * PAGE) {
         if (at == run->at && run->red_before)
             start -= PAGE;
@@ -64,24 +69,27 @@ EFI_STATUS host_free_pages(uint64_t at, uint64_t pages)
     status = core_free_pages(start, (end - start) / PAGE);
     if (status != EFI_SUCCESS)
         return status;
-    map_change = origin_now();
+    map_change = origin_without_trail();
     ledger_cut_runs(at, pages);
-    if (host.checks) {
-        zone_shut_free(start, end - start);
-        ledger_add_freed(at, pages * PAGE, false, made);
-    }
+    zone_shut_free(start, end - start);
+    ledger_add_freed(at, pages * PAGE, false, made);
     return status;
 }
 
 EFI_STATUS host_pool(uint32_t type, uint64_t size, void **block)
 {
-    struct block made = {0, size, 0, zone_request(size), type, {0}, NULL};
-    EFI_STATUS status = core_pool(type, made.core_size, &made.core_at);
+    struct block made = {0};
+    EFI_STATUS status;
 
+    if (!host.checks)
+        return core_pool(type, size, (uint64_t *)block);
+    made.size = size;
+    made.core_size = zone_request(size);
+    made.type = type;
+    status = core_pool(type, made.core_size, &made.core_at);
     if (status != EFI_SUCCESS)
         return status;
-    made.origin = origin_now();
-    map_change = made.origin;
+    made.origin = map_change = origin_now();
     zone_lay(&made);
     ledger_add_block(&made);
     *block = POINTER(made.at);
@@ -90,23 +98,20 @@ EFI_STATUS host_pool(uint32_t type, uint64_t size, void **block)
 
 EFI_STATUS host_free_pool(void *address)
 {
-    struct block *block = ledger_block(NUMBER(address)), gone = {0};
-    char when[256];
+    struct block *block, gone = {0};
     EFI_STATUS status;
 
+    if (!host.checks)
+        return core_free_pool(NUMBER(address));
+    block = ledger_block(NUMBER(address));
     if (block == NULL)
-        return host.checks ? EFI_INVALID_PARAMETER : core_free_pool(NUMBER(address));
-    if (host.checks) {
-        struct origin origin = origin_now();
-
-        snprintf(when, sizeof when, "when %s frees it", origin_text(&origin));
-        zone_look(block, when);
-    }
+        return EFI_INVALID_PARAMETER;
+    zone_look(block, NULL);
     status = core_free_pool(block->core_at);
     if (status != EFI_SUCCESS)
         return status;
-    map_change = origin_now();
     ledger_remove_block(NUMBER(address), &gone);
+    map_change = origin_without_trail();
     zone_free(&gone);
     return status;
 }
@@ -115,13 +120,10 @@ EFI_STATUS host_free_pool(void *address)
  * --check it is another block, which has something around it. */
 EFI_STATUS host_adopt_block(uint64_t core_at, uint64_t size, void **block)
 {
-    struct block made = {core_at, size, core_at, size, RAFKUDIN_BOOT_SERVICES_DATA, {0}, NULL};
     EFI_STATUS status;
 
     if (!host.checks) {
-        made.origin = origin_now();
         core_read(core_at, POINTER(core_at), size);
-        ledger_add_block(&made);
         *block = POINTER(core_at);
         return EFI_SUCCESS;
     }

@@ -9,14 +9,17 @@
 static struct held *held;
 static size_t held_count, held_room;
 
-/* Notes an interface that is installed, or an open that holds one. */
+/* Notes an interface that is installed, or an open that holds one; for reports alone. */
 void hold(const struct held *it)
 {
+    if (!host.checks)
+        return;
     if (held_count == held_room) {
         held_room = held_room == 0 ? 256 : 2 * held_room;
         held = must(realloc(held, held_room * sizeof *held));
     }
-    held[held_count++] = *it;
+    held[held_count] = *it;
+    held[held_count++].origin = origin_now();
 }
 
 /* An agent's opens for a controller are over; or, with `all`, the interface is gone with all. */
@@ -59,8 +62,7 @@ static EFI_STATUS EFIAPI OpenProtocol(EFI_HANDLE handle, const EFI_GUID *guid, v
         *interface = status == EFI_SUCCESS ? POINTER(path_from_core(guid, value))
                                            : value_of_refused(status, handle, guid);
     if (status == EFI_SUCCESS && (attributes & HOLDING) != 0) {
-        struct held it = {number, NUMBER(agent), NUMBER(controller), 0, *guid, attributes,
-                          origin_now()};
+        struct held it = {number, NUMBER(agent), NUMBER(controller), 0, *guid, attributes, {0}};
 
         hold(&it);
     }

@@ -13,6 +13,8 @@ static const char usage[] =
     "  --machine FILE    the machine's memory map, a machine file of bootcore; else 256 MB\n"
     "  --disk FILE       an image as a block device\n"
     "  --disk FOLDER     a folder as a file system\n"
+    "  --firmware FILE   the firmware volumes of a firmware: its drivers and applications may be\n"
+    "                    named in the place of files\n"
     "  --driver FILE     a driver's .efi, started before the application; drivers are then\n"
     "                    connected to all handles\n"
     "  --variables FILE  where non-volatile variables are kept\n"
@@ -21,7 +23,10 @@ static const char usage[] =
     "                    <<pageup>>, <<pagedown>>, <<f1>> to <<f12>>, <<wait SECONDS>>;\n"
     "                    else keys come from standard input\n"
     "  --picture FILE    a graphics output; its picture is saved as PNG at the end and on SIGUSR1\n"
+    "  --screen FILE     the console's text, saved as SVG at the end and on SIGUSR1\n"
     "  --serial FILE     a serial port; what is written to it goes to FILE\n"
+    "  --serial-input FILE\n"
+    "                    what is read from the serial port\n"
     "  --plain           plain text also on a terminal\n"
     "  --quiet           no text of the console\n"
     "\n"
@@ -109,6 +114,8 @@ static bool read_value(const char *word, const char *value, struct options *opti
         {"--input", &options->input},         {"--variables", &options->variables},
         {"--json", &options->json},           {"--calls", &options->calls},
         {"--picture", &options->picture},     {"--serial", &options->serial},
+        {"--screen", &options->screen},       {"--firmware", &options->firmware},
+        {"--serial-input", &options->serial_input},
     };
     char *end;
 

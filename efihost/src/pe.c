@@ -5,7 +5,10 @@
 #include <string.h>
 #include <sys/mman.h>
 
+#define RESOURCES 2U
 #define RELOCATIONS 5U
+#define DEBUG 6U
+#define CODEVIEW 2U
 #define STRIPPED 1U
 #define MOST_IMAGE (1ULL << 30)
 
@@ -179,6 +182,71 @@ static bool relocate(const struct headers *from, struct image *image)
     return true;
 }
 
+/* An entry of a directory of resources: that of a name where there is one, or the first. */
+static const uint8_t *resource_entry(const uint8_t *start, uint32_t size, uint32_t at,
+                                     const char *name)
+{
+    uint32_t count, length = name == NULL ? 0 : (uint32_t)strlen(name);
+
+    if (size < 24 || at > size - 16)
+        return NULL;
+    count = (uint32_t)get16(start + at + 12) + get16(start + at + 14);
+    for (at += 16; count > 0 && at <= size - 8; at += 8, count--) {
+        uint32_t text = get32(start + at) & 0x7fffffff, i = 0;
+
+        if (name == NULL)
+            return start + at;
+        if (get32(start + at) >> 31 == 0 || text > size - 2 - 2 * length ||
+            get16(start + text) != length)
+            continue;
+        while (name[i] != 0 && get16(start + text + 2 + 2 * i) == (uint16_t)name[i])
+            i++;
+        if (name[i] == 0)
+            return start + at;
+    }
+    return NULL;
+}
+
+/* The HII packages among an image's resources, below the type "HII", or NULL. */
+static void *find_packages(const struct headers *from, const struct image *image)
+{
+    const uint8_t *start, *entry = NULL;
+    uint32_t at, size, place = 0;
+
+    if (!directory(from, RESOURCES, &at, &size))
+        return NULL;
+    start = (const uint8_t *)POINTER(image->base) + at;
+    for (unsigned level = 0; level < 3; level++) {
+        entry = resource_entry(start, size, place, level == 0 ? "HII" : NULL);
+        if (entry == NULL)
+            return NULL;
+        place = get32(entry + 4) & 0x7fffffff;
+    }
+    if (size < 16 || place > size - 16 || get32(start + place) >= image->size)
+        return NULL;
+    return POINTER(image->base + get32(start + place));
+}
+
+/* The file that the debug entry names, which is empty where there is none. */
+static void find_debug_file(const struct headers *from, struct image *image)
+{
+    const uint8_t *entry, *text;
+    uint32_t at, size, start, length, front;
+
+    if (!directory(from, DEBUG, &at, &size) || size < 28)
+        return;
+    entry = (const uint8_t *)POINTER(image->base) + at;
+    length = get32(entry + 16);
+    start = get32(entry + 20);
+    if (get32(entry + 12) != CODEVIEW || start > image->size || length > image->size - start)
+        return;
+    text = (const uint8_t *)POINTER(image->base) + start;
+    front = length > 24 && memcmp(text, "RSDS", 4) == 0 ? 24 : 16;
+    if (length > front && (front == 24 || memcmp(text, "NB10", 4) == 0) &&
+        length - front < sizeof image->debug_file)
+        memcpy(image->debug_file, text + front, length - front);
+}
+
 /* Each section's pages may be used for what its flags say, where each begins a page of its own. */
 void apply_rights(struct image *image)
 {
@@ -191,8 +259,8 @@ void apply_rights(struct image *image)
                      (section->executable ? PROT_EXEC : 0);
         uint64_t size = (section->size + PAGE - 1) / PAGE * PAGE;
 
-        if (size != 0 && mprotect(POINTER(image->base + section->at), size, rights) != 0)
-            return;
+        if (size != 0)
+            protect_memory(image->base + section->at, size, rights);
     }
 }
 
@@ -215,5 +283,7 @@ EFI_STATUS load_pe(const uint8_t *file, uint64_t length, struct image *image)
         return EFI_LOAD_ERROR;
     }
     image->entry = image->base + get32(headers.optional + 16);
+    image->packages = find_packages(&headers, image);
+    find_debug_file(&headers, image);
     return EFI_SUCCESS;
 }

@@ -1,10 +1,14 @@
-/* Pictures in the format PNG, whose pixels are stored as they are. */
+/* Pictures in the format PNG. Rows are compressed by what screens are made of: pixels that are
+ * those before them, or those above. */
 #include "host.h"
 
 #include <stdlib.h>
 #include <string.h>
 
-#define MOST_STORED 65535U
+#define SHORTEST 3U
+#define LONGEST 258U
+#define END 256U
+#define FIRST_LENGTH 257U
 
 static uint8_t *put32(uint8_t *to, uint32_t number)
 {
@@ -56,28 +60,110 @@ static uint8_t *rows_of(const uint32_t *pixels, unsigned width, unsigned height)
     return rows;
 }
 
-/* The stream of the pixels, in blocks that are stored. */
-static uint8_t *stream_of(const uint8_t *rows, size_t count, size_t *length)
+/* ---- The format deflate, one block with its fixed codes ---- */
+
+struct bits {
+    uint8_t *at;
+    uint32_t held;
+    unsigned count;
+};
+
+/* Puts a number of at most 16 bits, its lowest bit first. */
+static void put_bits(struct bits *to, uint32_t number, unsigned count)
 {
-    uint8_t *stream = must(malloc(count + count / MOST_STORED * 5 + 16)), *to = stream;
-    size_t done = 0;
-
-    *to++ = 0x78;
-    *to++ = 1;
-    while (done < count) {
-        size_t part = count - done < MOST_STORED ? count - done : MOST_STORED;
-
-        *to++ = done + part == count;
-        *to++ = (uint8_t)part;
-        *to++ = (uint8_t)(part >> 8);
-        *to++ = (uint8_t)~part;
-        *to++ = (uint8_t)(~part >> 8);
-        memcpy(to, rows + done, part);
-        to += part;
-        done += part;
+    to->held |= number << to->count;
+    to->count += count;
+    while (to->count >= 8) {
+        *to->at++ = (uint8_t)to->held;
+        to->held >>= 8;
+        to->count -= 8;
     }
-    to = put32(to, adler_of(rows, count));
-    *length = (size_t)(to - stream);
+}
+
+/* Puts a code, its highest bit first. */
+static void put_code(struct bits *to, uint32_t code, unsigned count)
+{
+    while (count-- > 0)
+        put_bits(to, code >> count & 1, 1);
+}
+
+/* A byte, the end of the block, or the class of a length. */
+static void put_symbol(struct bits *to, unsigned symbol)
+{
+    if (symbol < 144)
+        put_code(to, 0x30 + symbol, 8);
+    else if (symbol < END)
+        put_code(to, 0x190 + symbol - 144, 9);
+    else if (symbol < 280)
+        put_code(to, symbol - END, 7);
+    else
+        put_code(to, 0xc0 + symbol - 280, 8);
+}
+
+/* The class of a number from 0 on, where each `step` classes take one bit more behind them than
+ * those before, which are in *extra. */
+static unsigned class_of(uint32_t number, unsigned step, unsigned *extra)
+{
+    unsigned shift = 0;
+
+    while (number >> shift >= 2 * step)
+        shift++;
+    *extra = shift;
+    return shift * step + (number >> shift);
+}
+
+/* The bytes from here on are those that lie `distance` before, for this length. */
+static void put_match(struct bits *to, size_t length, size_t distance)
+{
+    uint32_t number = (uint32_t)(length - SHORTEST);
+    unsigned extra, class = class_of(number, 4, &extra);
+
+    if (length == LONGEST) {
+        put_symbol(to, FIRST_LENGTH + 28);
+    } else {
+        put_symbol(to, FIRST_LENGTH + class);
+        put_bits(to, number & ((1U << extra) - 1), extra);
+    }
+    number = (uint32_t)(distance - 1);
+    class = class_of(number, 2, &extra);
+    put_code(to, class, 5);
+    put_bits(to, number & ((1U << extra) - 1), extra);
+}
+
+/* How many bytes from `at` on are those that lie `distance` before. */
+static size_t match(const uint8_t *bytes, size_t at, size_t count, size_t distance)
+{
+    size_t length = 0;
+
+    if (distance > at)
+        return 0;
+    while (length < LONGEST && at + length < count &&
+           bytes[at + length] == bytes[at + length - distance])
+        length++;
+    return length;
+}
+
+static uint8_t *stream_of(const uint8_t *rows, size_t count, size_t row, size_t *length)
+{
+    uint8_t *stream = must(malloc(count + count / 8 + 32));
+    struct bits to = {stream + 2, 0, 0};
+
+    memcpy(stream, "\x78\x01", 2);
+    put_bits(&to, 3, 3);
+    for (size_t at = 0; at < count;) {
+        size_t before = match(rows, at, count, 3), above = match(rows, at, count, row);
+        size_t best = above > before ? above : before;
+
+        if (best < SHORTEST) {
+            put_symbol(&to, rows[at++]);
+            continue;
+        }
+        put_match(&to, best, above > before ? row : 3);
+        at += best;
+    }
+    put_symbol(&to, END);
+    put_bits(&to, 0, 7);
+    *length = (size_t)(put32(to.at, adler_of(rows, count)) - stream);
     return stream;
 }
 
@@ -85,14 +171,14 @@ static uint8_t *stream_of(const uint8_t *rows, size_t count, size_t *length)
 void write_picture(FILE *file, const uint32_t *pixels, unsigned width, unsigned height)
 {
     uint8_t head[13] = {0}, *rows = rows_of(pixels, width, height), *stream;
-    size_t length;
+    size_t length, row = 3 * (size_t)width + 1;
 
     fwrite("\x89PNG\r\n\x1a\n", 1, 8, file);
     put32(put32(head, width), height);
     head[8] = 8;
     head[9] = 2;
     write_chunk(file, "IHDR", head, sizeof head);
-    stream = stream_of(rows, (size_t)height * (3 * width + 1), &length);
+    stream = stream_of(rows, height * row, row, &length);
     write_chunk(file, "IDAT", stream, (uint32_t)length);
     write_chunk(file, "IEND", head, 0);
     free(stream);

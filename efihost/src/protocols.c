@@ -12,7 +12,7 @@ EFI_STATUS install_one(uint64_t *handle, const void *guid, uint32_t kind, uint64
 {
     uint64_t core_value = path_to_core(guid, value);
     EFI_STATUS status = core_install(handle, guid, kind, core_value);
-    struct held held = {*handle, 0, 0, value, {0}, 0, origin_now()};
+    struct held held = {*handle, 0, 0, value, {0}, 0, {0}};
 
     memcpy(&held.guid, guid, sizeof held.guid);
     if (status == EFI_SUCCESS)
@@ -132,7 +132,7 @@ static EFI_STATUS install_list(EFI_HANDLE *handle, const struct listed *list, si
     }
     status = core_install_many(&number, interfaces, count);
     for (size_t i = 0; i < count; i++) {
-        struct held held = {number, 0, 0, list[i].value, *list[i].guid, 0, origin_now()};
+        struct held held = {number, 0, 0, list[i].value, *list[i].guid, 0, {0}};
 
         if (status == EFI_SUCCESS)
             hold(&held);
@@ -263,16 +263,16 @@ static EFI_GUID *lasting_guid(const struct rafkudin_guid *guid)
     static struct lasting {
         struct rafkudin_guid guid;
         struct lasting *next;
-    } *first;
-    struct lasting *it = first;
+    } *rows[256];
+    struct lasting **row = &rows[guid->bytes[0]], *it = *row;
 
     while (it != NULL && !guid_equal(&it->guid, guid))
         it = it->next;
     if (it == NULL) {
         it = must(malloc(sizeof *it));
         it->guid = *guid;
-        it->next = first;
-        first = it;
+        it->next = *row;
+        *row = it;
     }
     return (EFI_GUID *)(void *)&it->guid;
 }

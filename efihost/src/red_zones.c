@@ -11,6 +11,7 @@
 #define BEFORE 0xb5
 #define BEHIND 0xc5
 #define FRESH 0xaf
+#define MOST_FRESH 4096U /* of a block, to keep large ones cheap */
 #define GONE 0xdd
 #define MARGIN 32U
 #define CELL 32U /* the core's blocks are whole cells, and 8 bytes of the first come before */
@@ -62,38 +63,59 @@ void zone_lay(struct block *block)
     block->at = host.options.guard ? shut_page(block) - up(block->size, 8)
                                    : block->core_at + MARGIN;
     memset(POINTER(before_start(block)), BEFORE, block->at - before_start(block));
-    memset(POINTER(block->at), FRESH, block->size);
+    memset(POINTER(block->at), FRESH, block->size < MOST_FRESH ? block->size : MOST_FRESH);
     memset(POINTER(block->at + block->size), BEHIND, behind_end(block) - block->at - block->size);
     if (host.options.guard)
         shut_memory(shut_page(block), PAGE);
 }
 
-/* Whether no byte on either side of a block was written. */
-bool zone_look(const struct block *block, const char *when)
+/* The first of these bytes that is not the pattern, or their end. Where all of them are, each is
+ * the one before it. */
+static const uint8_t *first_other(const uint8_t *at, const uint8_t *end, uint8_t pattern)
 {
-    const uint8_t *at = POINTER(block->at);
-    uint64_t before = block->at - before_start(block);
-    uint64_t end = behind_end(block) - block->at;
+    if (at < end && *at == pattern && memcmp(at, at + 1, (size_t)(end - at) - 1) == 0)
+        return end;
+    while (at < end && *at == pattern)
+        at++;
+    return at;
+}
 
-    if (!host.checks)
-        return true;
-    for (uint64_t i = block->size; i < end; i++)
-        if (at[i] != BEHIND) {
-            found(BEHIND_BLOCK, &block->origin,
-                  "byte %lu behind a block of %lu bytes at 0x%lx was written, 0x%02x, seen %s; it "
-                  "is made",
-                  i - block->size, block->size, block->at, at[i], when);
-            return false;
-        }
-    for (uint64_t i = 1; i <= before; i++)
-        if (at[-(int64_t)i] != BEFORE) {
+/* When a harm is seen: now, where a block is freed, or as the caller says. */
+static const char *seen(const char *when, char *text, size_t room)
+{
+    struct origin origin;
+
+    if (when != NULL)
+        return when;
+    origin = origin_now();
+    snprintf(text, room, "when %s frees it", origin_text(&origin));
+    return text;
+}
+
+/* Looks whether a byte on either side of a block was written; `when` is null where it is freed. */
+void zone_look(const struct block *block, const char *when)
+{
+    const uint8_t *at = POINTER(block->at), *end = POINTER(behind_end(block)), *other;
+    char text[256];
+
+    other = first_other(at + block->size, end, BEHIND);
+    if (other < end) {
+        found(BEHIND_BLOCK, &block->origin,
+              "byte %lu behind a block of %lu bytes at 0x%lx was written, 0x%02x, seen %s; it is "
+              "made",
+              (uint64_t)(other - at) - block->size, block->size, block->at, *other,
+              seen(when, text, sizeof text));
+        return;
+    }
+    for (other = at; other > (const uint8_t *)POINTER(before_start(block)); other--)
+        if (other[-1] != BEFORE) {
             found(BEFORE_BLOCK, &block->origin,
                   "byte %lu before a block of %lu bytes at 0x%lx was written, 0x%02x, seen %s; it "
                   "is made",
-                  i, block->size, block->at, at[-(int64_t)i], when);
-            return false;
+                  (uint64_t)(at - other) + 1, block->size, block->at, other[-1],
+                  seen(when, text, sizeof text));
+            return;
         }
-    return true;
 }
 
 /* After the core has freed a block. */
@@ -109,19 +131,19 @@ void zone_free(const struct block *block)
     zone_shut_free(block->core_at - 8, up(block->core_size + 8, CELL));
 }
 
-static void look_at_freed(struct freed *entry)
+/* Looks whether a freed block, whose bytes nobody should have written, was. */
+void zone_look_at_freed(struct freed *entry)
 {
-    const uint8_t *at = POINTER(entry->at);
+    const uint8_t *at = POINTER(entry->at), *other;
 
+    if (!entry->filled)
+        return;
     entry->filled = false;
-    for (uint64_t i = 0; i < entry->size; i++)
-        if (at[i] != GONE) {
-            found(USE_AFTER_FREE, &entry->made,
-                  "byte %lu of a block of %lu bytes at 0x%lx was written after %s freed it; it is "
-                  "made",
-                  i, entry->size, entry->at, origin_text(&entry->freed));
-            return;
-        }
+    other = first_other(at, at + entry->size, GONE);
+    if (other < at + entry->size)
+        found(USE_AFTER_FREE, &entry->made,
+              "byte %lu of a block of %lu bytes at 0x%lx was written after %s freed it; it is made",
+              (uint64_t)(other - at), entry->size, entry->at, origin_text(&entry->freed));
 }
 
 /* Looks at freed blocks whose bytes are about to be used again. */
@@ -131,10 +153,10 @@ void zone_look_at_reuse(uint64_t at, uint64_t size)
 
     if (!host.checks)
         return;
-    for (size_t i = 0; (entry = ledger_freed(i)) != NULL; i++)
-        if (entry->filled && entry->at < at + size && at < entry->at + entry->size)
-            look_at_freed(entry);
-    ledger_drop_freed(at, size);
+    for (size_t i = 0; (entry = ledger_freed_among(at, size, &i)) != NULL; i++) {
+        zone_look_at_freed(entry);
+        ledger_drop_freed(i);
+    }
 }
 
 /* Shuts the free memory in which these bytes are, with what is free beside it. */
@@ -144,11 +166,10 @@ void zone_shut_free(uint64_t address, uint64_t size)
     struct freed *entry;
 
     for (uint64_t at = address; at < address + size; at = (at / PAGE + 1) * PAGE) {
-        if (!conventional_range(at, &start, &length))
+        if (ledger_page_has_block(at) || !conventional_range(at, &start, &length))
             continue;
-        for (size_t i = 0; (entry = ledger_freed(i)) != NULL; i++)
-            if (entry->filled && entry->at < start + length && start < entry->at + entry->size)
-                look_at_freed(entry);
+        for (size_t i = 0; (entry = ledger_freed_among(start, length, &i)) != NULL; i++)
+            zone_look_at_freed(entry);
         shut_memory(start, length);
         at = start + length - PAGE;
     }
@@ -167,7 +188,6 @@ void zone_look_at_all(const char *when)
     if (!host.checks)
         return;
     ledger_each_block(look_at_block, (void *)(uintptr_t)when);
-    for (size_t i = 0; (entry = ledger_freed(i)) != NULL; i++)
-        if (entry->filled)
-            look_at_freed(entry);
+    for (size_t i = 0; (entry = ledger_freed_among(0, UINT64_MAX, &i)) != NULL; i++)
+        zone_look_at_freed(entry);
 }

@@ -17,6 +17,13 @@ void open_report(const char *file)
         refuse("cannot write %s", file);
 }
 
+void save_pictures(void)
+{
+    host.wants_pictures = false;
+    save_picture();
+    save_screen();
+}
+
 static const char *ending_name(enum ending ending)
 {
     static const char *const names[] = {"success", "error", "never-ran",
@@ -83,7 +90,7 @@ void finish(enum ending ending, const char *format, ...)
     write_report(ending, why);
     close_trace();
     close_calls_log();
-    save_picture();
+    save_pictures();
     fflush(NULL);
     _exit(ending);
 }

@@ -6,6 +6,16 @@
 
 #define UNSPECIFIED_ZONE 0x7ff
 
+static int64_t clock_offset; /* of the machine's clock from the host's, in nanoseconds */
+
+static int64_t clock_now(void)
+{
+    struct timespec now;
+
+    clock_gettime(CLOCK_REALTIME, &now);
+    return (int64_t)now.tv_sec * 1000000000 + now.tv_nsec + clock_offset;
+}
+
 /* The time of a host's file or clock, in UTC. */
 void write_time(EFI_TIME *to, int64_t seconds)
 {
@@ -26,13 +36,12 @@ void write_time(EFI_TIME *to, int64_t seconds)
 
 static EFI_STATUS EFIAPI GetTime(EFI_TIME *to, EFI_TIME_CAPABILITIES *capabilities)
 {
-    struct timespec now;
+    int64_t now = clock_now();
 
     if (to == NULL)
         return EFI_INVALID_PARAMETER;
-    clock_gettime(CLOCK_REALTIME, &now);
-    write_time(to, now.tv_sec);
-    to->Nanosecond = (uint32_t)now.tv_nsec;
+    write_time(to, now / 1000000000);
+    to->Nanosecond = (uint32_t)(now % 1000000000);
     if (capabilities != NULL) {
         capabilities->Resolution = 1;
         capabilities->Accuracy = 50000000;
@@ -41,11 +50,27 @@ static EFI_STATUS EFIAPI GetTime(EFI_TIME *to, EFI_TIME_CAPABILITIES *capabiliti
     return EFI_SUCCESS;
 }
 
+/* Sets the machine's clock, which is in UTC, and leaves the host's. */
 static EFI_STATUS EFIAPI SetTime(EFI_TIME *time)
 {
-    (void)time;
-    ask_missing("SetTime");
-    return EFI_UNSUPPORTED;
+    struct tm parts = {0};
+    EFI_TIME again;
+    int64_t seconds;
+
+    if (time == NULL || time->Year < 1970 || time->Nanosecond > 999999999)
+        return EFI_INVALID_PARAMETER;
+    parts.tm_year = time->Year - 1900;
+    parts.tm_mon = time->Month - 1;
+    parts.tm_mday = time->Day;
+    parts.tm_hour = time->Hour;
+    parts.tm_min = time->Minute;
+    parts.tm_sec = time->Second;
+    seconds = (int64_t)timegm(&parts);
+    write_time(&again, seconds);
+    if (again.Day != time->Day || again.Hour != time->Hour || again.Second != time->Second)
+        return EFI_INVALID_PARAMETER;
+    clock_offset += seconds * 1000000000 + time->Nanosecond - clock_now();
+    return EFI_SUCCESS;
 }
 
 static EFI_STATUS EFIAPI GetWakeupTime(BOOLEAN *enabled, BOOLEAN *pending, EFI_TIME *time)

@@ -47,12 +47,14 @@ static void allow_below(int rules, const char *path, uint64_t access)
     close(rule.parent_fd);
 }
 
-/* The folder of a file may be read: names of functions are beside an image. */
+/* The folder of a file may be read: names of functions are beside an image. One of a firmware has
+ * no file. */
 static void allow_beside(int rules, const char *file)
 {
     char *copy = must(strdup(file));
 
-    allow_below(rules, dirname(copy), READING);
+    if (access(file, R_OK) == 0)
+        allow_below(rules, dirname(copy), READING);
     free(copy);
 }
 

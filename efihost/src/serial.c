@@ -1,12 +1,15 @@
-/* A serial port whose output goes to a file of the host's; nothing comes in. */
+/* A serial port, whose output goes to a file of the host's and whose input comes from another. */
 #include "host.h"
+
+#define INPUT_EMPTY 0x100U
+#define OUTPUT_EMPTY 0x200U
 
 static const EFI_GUID serial_guid = {
     0xbb25cf6f, 0xf1d4, 0x11d2, {0x9a, 0x0c, 0x00, 0x90, 0x27, 0x3f, 0xc1, 0xfd}};
 static const uint8_t serial_path[] = {2,    1, 12, 0, 0xd0, 0x41, 1, 5,
                                       0,    0, 0,  0, 0x7f, 0xff, 4, 0};
 static EFI_SERIAL_IO_MODE mode = {0, 1000000, 115200, 1, 8, 1, 1};
-static FILE *output;
+static FILE *output, *input;
 
 static EFI_STATUS EFIAPI reset(EFI_SERIAL_IO_PROTOCOL *this)
 {
@@ -35,13 +38,21 @@ static EFI_STATUS EFIAPI set_control(EFI_SERIAL_IO_PROTOCOL *this, uint32_t cont
     return EFI_SUCCESS;
 }
 
-/* Nothing waits to be read, and all that was written is gone. */
+/* Whether there is input left. */
+static bool has_input(void)
+{
+    int letter = input == NULL ? EOF : fgetc(input);
+
+    return letter != EOF && ungetc(letter, input) != EOF;
+}
+
+/* All that was written is gone. */
 static EFI_STATUS EFIAPI get_control(EFI_SERIAL_IO_PROTOCOL *this, uint32_t *control)
 {
     (void)this;
     if (control == NULL)
         return EFI_INVALID_PARAMETER;
-    *control = 0x100 | 0x200;
+    *control = OUTPUT_EMPTY | (has_input() ? 0 : INPUT_EMPTY);
     return EFI_SUCCESS;
 }
 
@@ -58,25 +69,32 @@ static EFI_STATUS EFIAPI write_bytes(EFI_SERIAL_IO_PROTOCOL *this, UINTN *size, 
 
 static EFI_STATUS EFIAPI read_bytes(EFI_SERIAL_IO_PROTOCOL *this, UINTN *size, void *bytes)
 {
-    (void)this;
+    SERVICE("SerialIo.Read", NUMBER(this), size == NULL ? 0 : *size, NUMBER(bytes));
+    UINTN asked;
+
     if (size == NULL || bytes == NULL)
-        return EFI_INVALID_PARAMETER;
-    *size = 0;
-    return EFI_TIMEOUT;
+        ANSWER(EFI_INVALID_PARAMETER);
+    asked = *size;
+    *size = input == NULL ? 0 : fread(bytes, 1, asked, input);
+    ANSWER(*size == asked ? EFI_SUCCESS : EFI_TIMEOUT);
 }
 
 static EFI_SERIAL_IO_PROTOCOL serial = {0x10000,     reset,       set_attributes, set_control,
                                         get_control, write_bytes, read_bytes,     &mode};
 
-void make_serial(const char *file)
+/* The names are those of the files, or null. */
+void make_serial(const char *to, const char *from)
 {
     uint64_t handle = 0;
 
-    if (file == NULL)
+    if (to == NULL && from == NULL)
         return;
-    output = fopen(file, "w");
+    output = fopen(to == NULL ? "/dev/null" : to, "w");
     if (output == NULL)
-        refuse("cannot write %s", file);
+        refuse("cannot write %s", to);
+    input = from == NULL ? NULL : fopen(from, "r");
+    if (from != NULL && input == NULL)
+        refuse("cannot read %s", from);
     install_one(&handle, &serial_guid, 0, NUMBER(&serial));
     install_one(&handle, &device_path_guid, 0, NUMBER(serial_path));
 }

@@ -68,7 +68,7 @@ static void read_elf(struct image *image, const uint8_t *file, size_t length)
 {
     Elf64_Ehdr header;
 
-    if (length < sizeof header || memcmp(file, ELFMAG, SELFMAG) != 0)
+    if (length < sizeof header)
         return;
     memcpy(&header, file, sizeof header);
     if (header.e_shentsize != sizeof(Elf64_Shdr) || header.e_shoff > length ||
@@ -85,25 +85,43 @@ static void read_elf(struct image *image, const uint8_t *file, size_t length)
     }
 }
 
-/* Reads the names of the first file that is there, of those beside an image of the host's. */
-void read_symbols(struct image *image)
+/* Reads names from a file, if it is there: of ELF, or else a map. */
+static void read_names(struct image *image, const char *path)
+{
+    size_t length;
+    uint8_t *file = read_file(path, &length);
+
+    if (file == NULL)
+        return;
+    if (length > SELFMAG && memcmp(file, ELFMAG, SELFMAG) == 0)
+        read_elf(image, file, length);
+    else
+        read_map(image, (char *)file);
+    free(file);
+}
+
+/* Reads the names of the first file that has some, of those beside an image of the host's: first
+ * the one that its debug entry names. `file` is the image's path, or NULL. */
+void read_symbols(struct image *image, const char *file)
 {
     static const char *const endings[] = {".map", ".efi.map", ".debug", ".so", ".elf"};
+    const char *debug = last_part(image->debug_file);
+    size_t folder, stem;
+    char path[4096];
 
+    if (file == NULL)
+        return;
+    stem = strlen(file);
+    folder = (size_t)(last_part(file) - file);
+    if (stem > 4 && strcmp(file + stem - 4, ".efi") == 0)
+        stem -= 4;
+    if (*debug != 0) {
+        snprintf(path, sizeof path, "%.*s%s", (int)folder, file, debug);
+        read_names(image, path);
+    }
     for (size_t i = 0; i < LENGTH(endings) && image->symbol_count == 0; i++) {
-        char path[4096];
-        size_t length;
-        uint8_t *file;
-
-        snprintf(path, sizeof path, "%s%s", image->files, endings[i]);
-        file = read_file(path, &length);
-        if (file == NULL)
-            continue;
-        if (i < 2)
-            read_map(image, (char *)file);
-        else
-            read_elf(image, file, length);
-        free(file);
+        snprintf(path, sizeof path, "%.*s%s", (int)stem, file, endings[i]);
+        read_names(image, path);
     }
     if (image->symbol_count > 0)
         qsort(image->symbols, image->symbol_count, sizeof *image->symbols, by_offset);

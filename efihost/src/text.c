@@ -17,6 +17,19 @@ const EFI_GUID file_system_guid = {
 const EFI_GUID block_io_guid = {
     0x964e5b21, 0x6459, 0x11d2, {0x8e, 0x39, 0x00, 0xa0, 0xc9, 0x69, 0x72, 0x3b}};
 
+const EFI_GUID package_list_guid = {
+    0x6a1ee763, 0xd47a, 0x43b4, {0xaa, 0xbe, 0xef, 0x1d, 0xe2, 0xab, 0x56, 0xfc}};
+
+/* The last part of a name of the host or of a firmware. */
+const char *last_part(const char *name)
+{
+    const char *part = strrchr(name, '/');
+
+    name = part == NULL ? name : part + 1;
+    part = strrchr(name, '\\');
+    return part == NULL ? name : part + 1;
+}
+
 size_t wide_length(const CHAR16 *text)
 {
     size_t length = 0;

@@ -70,7 +70,7 @@ void close_trace(void)
 }
 
 /* Whether there is a trace still; it ends where it has as many lines as a trace may have. */
-static bool tracing(void)
+bool tracing(void)
 {
     if (calls_file != NULL && lines >= MOST_LINES) {
         close_trace();
@@ -79,58 +79,74 @@ static bool tracing(void)
     return calls_file != NULL;
 }
 
-void trace_call(const char *format, ...)
+/* Where calls and replies go. These and all below are for a trace that there is. */
+FILE *trace_calls(void)
 {
-    va_list words;
+    return calls_file;
+}
 
-    if (!tracing())
-        return;
-    va_start(words, format);
-    vfprintf(calls_file, format, words);
-    va_end(words);
+FILE *trace_replies(void)
+{
+    return replies_file;
+}
+
+/* Ends the line of a call that was written in parts. */
+void trace_call_ends(void)
+{
     fputc('\n', calls_file);
     lines++;
 }
 
-void trace_bytes(uint64_t address, const uint8_t *bytes, size_t count)
+void trace_call(const char *format, ...)
 {
-    if (!tracing())
-        return;
-    fprintf(calls_file, "write 0x%lx ", address);
-    for (size_t i = 0; i < count; i++)
-        fprintf(calls_file, "%02x", bytes[i]);
-    fprintf(calls_file, count == 0 ? "-\n" : "\n");
-    lines++;
+    va_list words;
+
+    va_start(words, format);
+    vfprintf(calls_file, format, words);
+    va_end(words);
+    trace_call_ends();
 }
 
-/* The reply to the last call: its fields follow where the format is not empty. Behind a format that
- * ends with = the caller writes the rest of the line. */
+/* Bytes in hexadecimal, or - for none. */
+void trace_bytes(FILE *file, const uint8_t *bytes, size_t count)
+{
+    for (size_t i = 0; i < count; i++)
+        fprintf(file, "%02x", bytes[i]);
+    if (count == 0)
+        fputc('-', file);
+}
+
+/* The reply to the last call, of the status alone. */
+void trace_status(const char *verb, uint64_t status)
+{
+    fprintf(replies_file, "%u %s %s\n", lines, verb, status_text(status));
+}
+
+/* The reply of a call whose buffer may have been too small; `size` are then the bytes needed. */
+void trace_refusal(const char *verb, uint64_t status, uint64_t size)
+{
+    if (status != RAFKUDIN_BUFFER_TOO_SMALL)
+        trace_status(verb, status);
+    else
+        fprintf(replies_file, "%u %s BUFFER_TOO_SMALL size=%lu\n", lines, verb, size);
+}
+
+/* The reply to the last call, with its fields where it succeeded. Behind a format that ends with =
+ * the caller writes the rest of the line. */
 void trace_reply(const char *verb, uint64_t status, const char *format, ...)
 {
     va_list words;
 
-    if (calls_file == NULL)
+    if (status != RAFKUDIN_SUCCESS) {
+        trace_status(verb, status);
         return;
-    fprintf(replies_file, "%u %s %s", lines, verb, status_text(status));
-    if (*format != 0)
-        fputc(' ', replies_file);
+    }
+    fprintf(replies_file, "%u %s SUCCESS ", lines, verb);
     va_start(words, format);
     vfprintf(replies_file, format, words);
     va_end(words);
-    if (*format == 0 || format[strlen(format) - 1] != '=')
+    if (format[strlen(format) - 1] != '=')
         fputc('\n', replies_file);
-}
-
-/* Where lines that belong to the last reply go, or NULL. */
-FILE *trace_more(void)
-{
-    return calls_file == NULL ? NULL : replies_file;
-}
-
-/* Where a call goes that is written in parts, the last of which is a trace_call; or NULL. */
-FILE *trace_part(void)
-{
-    return tracing() ? calls_file : NULL;
 }
 
 void check_certificate(void)

@@ -341,6 +341,12 @@ typedef struct {
     CHAR16 VolumeLabel[];
 } EFI_FILE_SYSTEM_INFO;
 
+typedef struct EFI_LOAD_FILE_PROTOCOL EFI_LOAD_FILE_PROTOCOL;
+struct EFI_LOAD_FILE_PROTOCOL {
+    EFI_STATUS(EFIAPI *LoadFile)(EFI_LOAD_FILE_PROTOCOL *, EFI_DEVICE_PATH_PROTOCOL *, BOOLEAN,
+                                 UINTN *, void *);
+};
+
 /* ---- Graphics and serial ports ---- */
 
 typedef struct EFI_GRAPHICS_OUTPUT_PROTOCOL EFI_GRAPHICS_OUTPUT_PROTOCOL;

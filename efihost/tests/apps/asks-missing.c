@@ -3,12 +3,12 @@
 
 static EFI_STATUS application(void)
 {
+    BOOLEAN is;
     EFI_TIME time;
     void *it;
 
     for (unsigned i = 0; i < 2; i++) {
-        if (table->RuntimeServices->GetTime(&time, NULL) != EFI_SUCCESS ||
-            table->RuntimeServices->SetTime(&time) != EFI_UNSUPPORTED ||
+        if (table->RuntimeServices->GetWakeupTime(&is, &is, &time) != EFI_UNSUPPORTED ||
             boot->LocateProtocol(&test_guid, NULL, &it) != EFI_NOT_FOUND)
             return EFI_ABORTED;
     }

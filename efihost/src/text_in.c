@@ -1,0 +1,150 @@
+/* Keys as both protocols of text input have them, and those that are notified. */
+#include "host.h"
+
+#include <stdlib.h>
+#include <string.h>
+
+#define CONTROL_PRESSED 0xcU /* the left or the right key, among the shift states */
+
+static const EFI_GUID text_in_guid = {
+    0x387477c1, 0x69c7, 0x11d2, {0x8e, 0x39, 0x00, 0xa0, 0xc9, 0x69, 0x72, 0x3b}};
+static const EFI_GUID text_in_ex_guid = {
+    0xdd9e7534, 0x7762, 0x4698, {0x8c, 0x14, 0xf5, 0x85, 0x17, 0xa6, 0x25, 0xaa}};
+
+static struct notified {
+    EFI_KEY_DATA key;
+    EFI_KEY_NOTIFY_FUNCTION notify;
+    struct notified *next;
+} *notified_keys;
+
+static EFI_STATUS EFIAPI reset_in(EFI_SIMPLE_TEXT_INPUT_PROTOCOL *this, BOOLEAN extended)
+{
+    (void)this;
+    (void)extended;
+    return EFI_SUCCESS;
+}
+
+/* An image that asks again and again, without waiting, is kept from burning a processor. */
+static EFI_STATUS read_any_key(EFI_INPUT_KEY *key)
+{
+    static unsigned in_vain;
+
+    dispatch();
+    if (next_key(key)) {
+        in_vain = 0;
+        return EFI_SUCCESS;
+    }
+    if (++in_vain > 50)
+        idle(true);
+    return EFI_NOT_READY;
+}
+
+static EFI_STATUS EFIAPI read_key(EFI_SIMPLE_TEXT_INPUT_PROTOCOL *this, EFI_INPUT_KEY *key)
+{
+    SERVICE("ReadKeyStroke", NUMBER(this), NUMBER(key));
+
+    ANSWER(key == NULL ? EFI_INVALID_PARAMETER : read_any_key(key));
+}
+
+static EFI_STATUS EFIAPI reset_in_ex(EFI_SIMPLE_TEXT_INPUT_EX_PROTOCOL *this, BOOLEAN extended)
+{
+    (void)this;
+    (void)extended;
+    return EFI_SUCCESS;
+}
+
+static EFI_STATUS EFIAPI read_key_ex(EFI_SIMPLE_TEXT_INPUT_EX_PROTOCOL *this, EFI_KEY_DATA *key)
+{
+    SERVICE("ReadKeyStrokeEx", NUMBER(this), NUMBER(key));
+
+    if (key == NULL)
+        ANSWER(EFI_INVALID_PARAMETER);
+    memset(key, 0, sizeof *key);
+    ANSWER(read_any_key(&key->Key));
+}
+
+static EFI_STATUS EFIAPI set_state(EFI_SIMPLE_TEXT_INPUT_EX_PROTOCOL *this, uint8_t *state)
+{
+    (void)this;
+    (void)state;
+    return EFI_SUCCESS;
+}
+
+/* ---- Keys that are notified ---- */
+
+static EFI_STATUS EFIAPI register_key(EFI_SIMPLE_TEXT_INPUT_EX_PROTOCOL *this, EFI_KEY_DATA *key,
+                                      EFI_KEY_NOTIFY_FUNCTION notify, void **handle)
+{
+    SERVICE("RegisterKeyNotify", NUMBER(this), NUMBER(key), NUMBER(notify));
+    struct notified *it;
+
+    if (key == NULL || notify == NULL || handle == NULL)
+        ANSWER(EFI_INVALID_PARAMETER);
+    it = must(malloc(sizeof *it));
+    *it = (struct notified){*key, notify, notified_keys};
+    notified_keys = it;
+    *handle = it;
+    ANSWER(EFI_SUCCESS);
+}
+
+static EFI_STATUS EFIAPI unregister_key(EFI_SIMPLE_TEXT_INPUT_EX_PROTOCOL *this, void *handle)
+{
+    SERVICE("UnregisterKeyNotify", NUMBER(this), NUMBER(handle));
+
+    for (struct notified **link = &notified_keys; *link != NULL; link = &(*link)->next)
+        if (*link == handle) {
+            struct notified *gone = *link;
+
+            *link = gone->next;
+            free(gone);
+            ANSWER(EFI_SUCCESS);
+        }
+    ANSWER(EFI_INVALID_PARAMETER);
+}
+
+/* A letter that is asked for with the control key is one of the first 26 of a terminal. */
+static bool is_key(const EFI_KEY_DATA *wanted, const EFI_INPUT_KEY *key)
+{
+    CHAR16 letter = wanted->Key.UnicodeChar;
+
+    if ((wanted->KeyState.KeyShiftState & CONTROL_PRESSED) != 0 && letter >= '@' && letter < 127)
+        letter &= 0x1f;
+    return letter == key->UnicodeChar && wanted->Key.ScanCode == key->ScanCode;
+}
+
+/* A key is notified when it comes, and stays to be read. */
+void notify_keys(void)
+{
+    EFI_TPL before = host.tpl;
+    EFI_INPUT_KEY key;
+
+    if (notified_keys == NULL || host.tpl >= TPL_CALLBACK || !key_comes(&key))
+        return;
+    host.tpl = TPL_CALLBACK;
+    for (struct notified *it = notified_keys, *next; it != NULL; it = next) {
+        EFI_KEY_DATA data = it->key;
+
+        next = it->next;
+        if (is_key(&it->key, &key))
+            it->notify(&data);
+    }
+    host.tpl = before;
+}
+
+static EFI_SIMPLE_TEXT_INPUT_PROTOCOL text_in = {reset_in, read_key, NULL};
+static EFI_SIMPLE_TEXT_INPUT_EX_PROTOCOL text_in_ex = {
+    reset_in_ex, read_key_ex, NULL, set_state, register_key, unregister_key};
+
+void make_text_in(void)
+{
+    static const uint8_t path[] = {2,    1, 12, 0, 0xd0, 0x41, 3, 5,
+                                   0,    0, 0,  0, 0x7f, 0xff, 4, 0};
+    uint64_t in = 0;
+
+    text_in.WaitForKey = text_in_ex.WaitForKeyEx = make_key_event();
+    install_one(&in, &text_in_guid, 0, NUMBER(&text_in));
+    install_one(&in, &text_in_ex_guid, 0, NUMBER(&text_in_ex));
+    install_one(&in, &device_path_guid, 0, NUMBER(path));
+    host.table->ConsoleInHandle = HANDLE(in);
+    host.table->ConIn = &text_in;
+}
