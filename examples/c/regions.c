@@ -39,7 +39,7 @@ static void free_guarded(struct guarded guarded)
     free(guarded.all);
 }
 
-/* A core of a machine with so many free pages from page 1 on. */
+/* A core of a machine with this many free pages from page 1 on. */
 static uint64_t make(void *region, size_t room, uint64_t pages, struct rafkudin **core)
 {
     uint64_t record[6] = {RAFKUDIN_CONVENTIONAL, 0x1000, 0, pages, 0xf, 0};
@@ -150,7 +150,7 @@ static void try_two(void)
     free_guarded(other);
 }
 
-/* A core with so many entries, handles of eight interfaces, and pages of the pool, in a region of
+/* A core with this many entries, handles of eight interfaces, and pages of the pool, in a region of
  * the size that RafkudinRoom returns. */
 static void try_room(uint64_t entries, uint64_t handles, uint64_t pool_pages)
 {

@@ -1,5 +1,5 @@
 -- A function that takes a struct of a pointer and the C library's heap apart, and makes another of them. Assumes `Logic`.
---     word, told      the machine value of each, which what it owns gives
+--     word, is_word      the machine value of each, which what it owns gives
 --     moves           the function, by the names of what it makes and of what it takes
 --     moved           it returns the value that it is handed
 use Rattle.std.proofs.Common.{◌≡◌, [], ◌∷◌, List, refl}
@@ -28,8 +28,8 @@ abbrev pub word : Ptr → Global → Val
 word p a = pair p (heap.lowered a)
 
 -- what such a struct owns besides its block gives its machine value
-pub told : (p : Ptr) (a : Global) (vs : List Val) → Is (Struct (of_two Heap)) (p, (a, tt)) vs → vs ≡ word p a ∷ []
-told p a vs is = Struct-Tells (of_two Heap) ((λ q. ptr_val q ∷ []), ((λ h. heap.lowered h ∷ []), tt)) (rawptr_Tells, (heap.lowers.val_is, tt)) (p, (a, tt)) vs is
+pub is_word : (p : Ptr) (a : Global) (vs : List Val) → Is (Struct (of_two Heap)) (p, (a, tt)) vs → vs ≡ word p a ∷ []
+is_word p a vs is = Struct-Tells (of_two Heap) ((λ q. ptr_val q ∷ []), ((λ h. heap.lowered h ∷ []), tt)) (rawptr_Tells, (heap.lowers.val_is, tt)) (p, (a, tt)) vs is
 
 abbrev Of : Sym → Ty
 Of ν = ty_struct ν (tcons ty_ptr (tcons (layout Heap) tnil))

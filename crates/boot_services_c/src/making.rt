@@ -27,8 +27,13 @@ pub extern "C" fn RafkudinMake(
     drivers: &[DriverTable],
     core: &mut Place,
 ) -> u64
-    ensures made { result ≡ 0 → MatchOption core.new.held ⊥ (λ handle. MakesCore {A = CoreHeap} descriptor_size records.now granule drivers.now (Ok handle.core)) }
-    ensures refused { 0 < result → MakesCore {A = CoreHeap} descriptor_size records.now granule drivers.now (Err result) × (core.new ≡ core.old) }
+    ensures made { result ≡ 0
+        → MatchOption core.new.held ⊥
+        (λ handle. MakesCore {A = CoreHeap} descriptor_size records.now granule drivers.now
+        (Ok handle.core)) }
+    ensures refused { 0 < result
+        → MakesCore {A = CoreHeap} descriptor_size records.now granule drivers.now (Err result)
+        × (core.new ≡ core.old) }
 {
     match made(alloc, records, descriptor_size, granule, drivers) {
         Ok(place) => {
@@ -60,7 +65,12 @@ fn made(
     granule: u64,
     drivers: &[DriverTable],
 ) -> Result<Place, u64>
-    ensures { MatchResult result (λ place. MatchOption place.held ⊥ (λ handle. MakesCore {A = CoreHeap} descriptor_size records.now granule drivers.now (Ok handle.core))) (λ status. MakesCore {A = CoreHeap} descriptor_size records.now granule drivers.now (Err status)) }
+    ensures { MatchResult result
+        (λ place. MatchOption place.held ⊥
+        (λ handle. MakesCore {A = CoreHeap} descriptor_size records.now granule drivers.now
+        (Ok handle.core)))
+        (λ status. MakesCore {A = CoreHeap} descriptor_size records.now granule drivers.now
+        (Err status)) }
 {
     let core = EfiCore::make(alloc, records, descriptor_size, granule, drivers)?;
     pointer_to(alloc, core).ok_or(Status::OutOfResources.number())

@@ -20,7 +20,8 @@ pub extern "C" fn RafkudinPlace(
     limit: u64,
     address: &mut u64,
 ) -> u64
-    ensures { PlacesPages descriptor_size records.now granule mtype pages limit address.old result address.new }
+    ensures { PlacesPages descriptor_size records.now granule mtype pages limit address.old result
+        address.new }
 {
     place(
         alloc,

@@ -22,7 +22,9 @@ pub extern "C" fn RafkudinInstallProtocolInterface(
     kind: u32,
     value: u64,
 ) -> u64
-    ensures { AnswersNumber core.old.core (call.InstallProtocolInterface handle.old (guid_in guid.now) kind value) handle.old result handle.new core.new.core }
+    ensures { AnswersNumber core.old.core
+        (call.InstallProtocolInterface handle.old (guid_in guid.now) kind value) handle.old result
+        handle.new core.new.core }
 {
     core.held()
         .install_protocol_interface(handle, guid, kind, value)
@@ -39,7 +41,8 @@ pub extern "C" fn RafkudinUninstallProtocolInterface(
     guid: &Guid,
     value: u64,
 ) -> u64
-    ensures { AnswersStatus core.old.core (call.UninstallProtocolInterface handle (guid_in guid.now) value) result core.new.core }
+    ensures { AnswersStatus core.old.core
+        (call.UninstallProtocolInterface handle (guid_in guid.now) value) result core.new.core }
 {
     core.held()
         .uninstall_protocol_interface(handle, guid, value)
@@ -57,7 +60,9 @@ pub extern "C" fn RafkudinReinstallProtocolInterface(
     old_value: u64,
     new_value: u64,
 ) -> u64
-    ensures { AnswersStatus core.old.core (call.ReinstallProtocolInterface handle (guid_in guid.now) old_value new_value) result core.new.core }
+    ensures { AnswersStatus core.old.core
+        (call.ReinstallProtocolInterface handle (guid_in guid.now) old_value new_value) result
+        core.new.core }
 {
     core.held()
         .reinstall_protocol_interface(handle, guid, old_value, new_value)
@@ -71,7 +76,9 @@ pub extern "C" fn RafkudinRegisterProtocolNotify(
     event: u64,
     registration: &mut u64,
 ) -> u64
-    ensures { AnswersNumber core.old.core (call.RegisterProtocolNotify (guid_in guid.now) event) registration.old result registration.new core.new.core }
+    ensures { AnswersNumber core.old.core
+        (call.RegisterProtocolNotify (guid_in guid.now) event) registration.old result
+        registration.new core.new.core }
 {
     core.held()
         .register_protocol_notify(guid, event, registration)
@@ -91,7 +98,9 @@ pub extern "C" fn RafkudinLocateHandleInto(
     needed: &mut u64,
     buffer: &mut [u64],
 ) -> u64
-    ensures { AnswersHandles core.old.core (call.LocateHandle search (guid_in guid.now) key (handle_bytes (length buffer.old))) needed.old buffer.old result needed.new buffer.new core.new.core }
+    ensures { AnswersHandles core.old.core
+        (call.LocateHandle search (guid_in guid.now) key (handle_bytes (length buffer.old)))
+        needed.old buffer.old result needed.new buffer.new core.new.core }
 {
     core.held().locate_handle(search, guid, key, needed, buffer)
 }
@@ -106,7 +115,9 @@ pub extern "C" fn RafkudinHandleProtocol(
     guid: &Guid,
     interface: &mut u64,
 ) -> u64
-    ensures { AnswersNumber core.old.core (call.HandleProtocol handle (guid_in guid.now)) interface.old result interface.new core.new.core }
+    ensures { AnswersNumber core.old.core
+        (call.HandleProtocol handle (guid_in guid.now)) interface.old result interface.new
+        core.new.core }
 {
     core.held().handle_protocol(handle, guid, interface)
 }
@@ -122,7 +133,8 @@ pub extern "C" fn RafkudinLocateDevicePath(
     path: &mut u64,
     device: &mut u64,
 ) -> u64
-    ensures { AnswersNumbers core.old.core (call.LocateDevicePath (guid_in guid.now) path.old) (device.old, path.old) result (device.new, path.new) core.new.core }
+    ensures { AnswersNumbers core.old.core (call.LocateDevicePath (guid_in guid.now) path.old)
+        (device.old, path.old) result (device.new, path.new) core.new.core }
 {
     core.held().locate_device_path(guid, path, device)
 }
@@ -142,7 +154,9 @@ pub extern "C" fn RafkudinOpenProtocol(
     controller: u64,
     attributes: u32,
 ) -> u64
-    ensures { AnswersNumber core.old.core (call.OpenProtocol handle (guid_in guid.now) agent controller attributes) interface.old result interface.new core.new.core }
+    ensures { AnswersNumber core.old.core
+        (call.OpenProtocol handle (guid_in guid.now) agent controller attributes) interface.old
+        result interface.new core.new.core }
 {
     core.held()
         .open_protocol(handle, guid, interface, agent, controller, attributes)
@@ -160,7 +174,8 @@ pub extern "C" fn RafkudinCloseProtocol(
     agent: u64,
     controller: u64,
 ) -> u64
-    ensures { AnswersStatus core.old.core (call.CloseProtocol handle (guid_in guid.now) agent controller) result core.new.core }
+    ensures { AnswersStatus core.old.core
+        (call.CloseProtocol handle (guid_in guid.now) agent controller) result core.new.core }
 {
     core.held().close_protocol(handle, guid, agent, controller)
 }
@@ -177,7 +192,8 @@ pub extern "C" fn RafkudinOpenProtocolInformation(
     entries: &mut u64,
     count: &mut u64,
 ) -> u64
-    ensures { AnswersNumbers core.old.core (call.OpenProtocolInformation handle (guid_in guid.now)) (count.old, entries.old) result (count.new, entries.new) core.new.core }
+    ensures { AnswersNumbers core.old.core (call.OpenProtocolInformation handle (guid_in guid.now))
+        (count.old, entries.old) result (count.new, entries.new) core.new.core }
 {
     core.held()
         .open_protocol_information(handle, guid, count, entries)
@@ -193,7 +209,8 @@ pub extern "C" fn RafkudinConnectDrivers(
     drivers: &[u64],
     recursive: bool,
 ) -> u64
-    ensures { AnswersStatus core.old.core (call.ConnectController handle drivers.now recursive) result core.new.core }
+    ensures { AnswersStatus core.old.core
+        (call.ConnectController handle drivers.now recursive) result core.new.core }
 {
     core.held().connect_controller(handle, drivers, recursive)
 }
@@ -203,7 +220,8 @@ pub extern "C" fn RafkudinConnectDrivers(
 /// INVALID_PARAMETER: the handle is not live, or the driver is none. DEVICE_ERROR: they can't be stopped.
 #[unsafe(no_mangle)]
 pub extern "C" fn RafkudinDisconnectDrivers(core: &mut Rafkudin, handle: u64, driver: u64) -> u64
-    ensures { AnswersStatus core.old.core (call.DisconnectController handle driver) result core.new.core }
+    ensures { AnswersStatus core.old.core
+        (call.DisconnectController handle driver) result core.new.core }
 {
     core.held().disconnect_controller(handle, driver)
 }
@@ -219,7 +237,9 @@ pub extern "C" fn RafkudinProtocolsPerHandle(
     buffer: &mut [Guid],
     count: &mut u64,
 ) -> u64
-    ensures { AnswersGuids core.old.core (call.ProtocolsPerHandle handle) count.old buffer.old result count.new buffer.new core.new.core }
+    ensures { AnswersGuids core.old.core
+        (call.ProtocolsPerHandle handle) count.old buffer.old result count.new buffer.new
+        core.new.core }
 {
     core.held().protocols_per_handle(handle, buffer, count)
 }
@@ -237,7 +257,8 @@ pub extern "C" fn RafkudinLocateHandleBuffer(
     count: &mut u64,
     buffer: &mut u64,
 ) -> u64
-    ensures { AnswersNumbers core.old.core (call.LocateHandleBuffer search (guid_in guid.now) key) (count.old, buffer.old) result (count.new, buffer.new) core.new.core }
+    ensures { AnswersNumbers core.old.core (call.LocateHandleBuffer search (guid_in guid.now) key)
+        (count.old, buffer.old) result (count.new, buffer.new) core.new.core }
 {
     core.held()
         .locate_handle_buffer(search, guid, key, count, buffer)
@@ -253,7 +274,9 @@ pub extern "C" fn RafkudinLocateProtocol(
     key: u64,
     interface: &mut u64,
 ) -> u64
-    ensures { AnswersNumber core.old.core (call.LocateProtocol (guid_in guid.now) key) interface.old result interface.new core.new.core }
+    ensures { AnswersNumber core.old.core
+        (call.LocateProtocol (guid_in guid.now) key) interface.old result interface.new
+        core.new.core }
 {
     core.held().locate_protocol(guid, key, interface)
 }
@@ -270,7 +293,9 @@ pub extern "C" fn RafkudinInstallMultipleProtocolInterfaces(
     handle: &mut u64,
     interfaces: &[Interface],
 ) -> u64
-    ensures { AnswersNumber core.old.core (call.InstallMultipleProtocolInterfaces handle.old (map interface_in interfaces.now)) handle.old result handle.new core.new.core }
+    ensures { AnswersNumber core.old.core
+        (call.InstallMultipleProtocolInterfaces handle.old (map interface_in interfaces.now))
+        handle.old result handle.new core.new.core }
 {
     core.held().install_multiple(handle, interfaces)
 }

@@ -10,17 +10,25 @@ use Rattle.c_interface.specs.declared.checks.MapEntry.{MapEntry}
 
 -- an entry as C has it
 abbrev pub entry_in_c : Descriptor → MapEntry
-entry_in_c d = record { mtype = d.mtype; physical_start = d.first * page_size; number_of_pages = d.pages; attribute = d.attributes }
+entry_in_c d =
+    record {
+      mtype = d.mtype;
+      physical_start = d.first * page_size;
+      number_of_pages = d.pages;
+      attribute = d.attributes;
+    }
 
 -- the status, and the entry in the caller's variable
 abbrev pub ReturnsEntry : Option Descriptor → MapEntry → ℕ → MapEntry → Type 0
-ReturnsEntry (Some d) before status after = (status ≡ status_number Success) × (after ≡ entry_in_c d)
+ReturnsEntry (Some d) before status after =
+    (status ≡ status_number Success) × (after ≡ entry_in_c d)
 ReturnsEntry None before status after = (status ≡ status_number NotFound) × (after ≡ before)
 
 -- The status of a check: whether the text's certificate is accepted; or the text is no block, and
 -- the caller's place has its first line that is wrong or missing; or memory ran out.
 abbrev pub ChecksBlock : List ℕ → ℕ → ℕ → ℕ → Type 0
 ChecksBlock text before status after =
-    ((accepted : Bool) × IsVerdict text accepted × (status ≡ status_number (if accepted then Success else AccessDenied)) × (after ≡ before))
+    ((accepted : Bool) × IsVerdict text accepted
+    × (status ≡ status_number (if accepted then Success else AccessDenied)) × (after ≡ before))
     ⊎ ((block_said text ≡ Err after) × (status ≡ status_number InvalidParameter))
     ⊎ ((status ≡ status_number OutOfResources) × (after ≡ before))

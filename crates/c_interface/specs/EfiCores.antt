@@ -39,7 +39,14 @@ with_last c answer left =
 
 -- what a driver with fixed answers means
 abbrev pub table_meaning : TableDriver → Meaning
-table_meaning d = record { version = d.version; supports = λ s. list_all (is_free s.protocols) d.needs.items; plan = λ s. d.plan; may_stop = λ s. d.stops }
+table_meaning d =
+    record {
+      version = d.version;
+      supports = λ s. list_all
+          (is_free s.protocols) d.needs.items;
+      plan = λ s. d.plan;
+      may_stop = λ s. d.stops;
+    }
 
 -- what the drivers of a core mean
 abbrev pub meanings : {A : Type 0} → EfiCoreValue A → List Meaning
@@ -48,9 +55,11 @@ meanings c = map table_meaning c.core.drivers
 -- What is left of a call, where the memory map before it was kept and its reply carries a
 -- certificate for a request: their block. Where no map was kept, or there is no certificate,
 -- nothing is left. Memory may run out where certificates are kept.
-abbrev pub LeavesBlock : {A : Type 0} → Bool → Option (List Descriptor) → Option (Request × CertificateValue) → LastBlock A → Type 0
+abbrev pub LeavesBlock : {A : Type 0} → Bool → Option (List Descriptor)
+    → Option (Request × CertificateValue) → LastBlock A → Type 0
 LeavesBlock certifies kept returned block.OutOfMemory = certifies ≡ true
-LeavesBlock certifies (Some entries) (Some (r, certificate)) (block.Text bytes) = bytes.items ≡ block_text entries r certificate
+LeavesBlock certifies (Some entries) (Some (r, certificate)) (block.Text bytes) =
+    bytes.items ≡ block_text entries r certificate
 LeavesBlock certifies kept returned (block.Text bytes) = ⊥
 LeavesBlock certifies (Some entries) (Some returned) block.Nothing = ⊥
 LeavesBlock certifies kept returned block.Nothing = Unit {0}

@@ -19,7 +19,8 @@ fault_status OutOfMemory = status_number OutOfResources
 
 -- The core is that of the machine that the records describe, with the drivers of the tables, before
 -- any call. It keeps no certificates.
-pub record IsMadeCore {A : Type 0} (size : ℕ) (records : List ℕ) (granule : ℕ) (tables : List DriverTable) (c : EfiCoreValue A) : Type 0 where
+pub record IsMadeCore {A : Type 0} (size : ℕ) (records : List ℕ) (granule : ℕ)
+    (tables : List DriverTable) (c : EfiCoreValue A) : Type 0 where
   pub machine : MachineValue
   pub is_returned : IsReturned size records granule machine
   pub state : c.core.state ≡ first_state_with false machine
@@ -32,8 +33,11 @@ pub record IsMadeCore {A : Type 0} (size : ℕ) (records : List ℕ) (granule : 
 -- What is made: the core that the records and tables describe. INVALID_PARAMETER says that the
 -- records describe no machine, or that the tables are none of drivers; else memory ran out, which
 -- it may only where the tables are those of drivers.
-abbrev pub MakesCore : {A : Type 0} → ℕ → List ℕ → ℕ → List DriverTable → Result (EfiCoreValue A) ℕ → Type 0
+abbrev pub MakesCore : {A : Type 0} → ℕ → List ℕ → ℕ → List DriverTable → Result (EfiCoreValue A) ℕ
+    → Type 0
 MakesCore size records granule tables (Ok c) = IsMadeCore size records granule tables c
 MakesCore size records granule tables (Err status) =
-    ((status ≡ status_number InvalidParameter) × (((m : MachineValue) → IsMachine m → ¬ IsReturned size records granule m) ⊎ (are_tables tables ≡ false)))
+    ((status ≡ status_number InvalidParameter)
+    × (((m : MachineValue) → IsMachine m → ¬ IsReturned size records granule m)
+    ⊎ (are_tables tables ≡ false)))
     ⊎ ((status ≡ status_number OutOfResources) × (are_tables tables ≡ true))

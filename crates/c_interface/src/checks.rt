@@ -31,7 +31,9 @@ impl<A: Allocator + Copy> EfiCore<A> {
     ///
     /// NOT_FOUND: there is none.
     pub fn descriptor(&self, index: usize, entry: &mut MapEntry) -> u64
-        ensures { ReturnsEntry (slice_get (memory_map self.now.core.state.parts.book.memory) index) entry.old result entry.new }
+        ensures { ReturnsEntry
+            (slice_get (memory_map self.now.core.state.parts.book.memory) index) entry.old result
+            entry.new }
     {
         // This contract says that the memory is proper, and so that an entry's address is one of 64 bits.
         let _count = self.core.descriptors();

@@ -45,13 +45,15 @@ impl<A: Allocator> Model for EfiCore<A> {
 
     ghost Value = { EfiCoreValue A };
 
-    ghost view = { λ c. record { core = c.core; certifies = c.certifies; last = c.last; block = c.block } };
+    ghost view = { λ c.
+        record { core = c.core; certifies = c.certifies; last = c.last; block = c.block } };
 }
 
 impl<A: Allocator + Copy> EfiCore<A> {
     /// A core before any call; it keeps no certificates.
     pub fn new(alloc: A, core: Core<TableDriver, A>) -> EfiCore<A>
-        ensures { result ≡ record { core = core; certifies = false; last = None; block = LastBlock.Nothing } }
+        ensures { result
+            ≡ record { core = core; certifies = false; last = None; block = LastBlock.Nothing } }
     {
         EfiCore {
             alloc,
@@ -128,7 +130,13 @@ impl<A: Allocator + Copy> EfiCore<A> {
     pub(crate) fn tell_number(&mut self, reply: Reply<A>, place: &mut u64) -> u64
         ensures status { result ≡ status_number (status_in reply) }
         ensures number { place.new ≡ returned_or place.old (number_in reply) }
-        ensures core { self.new ≡ record { core = self.old.core; certifies = self.old.certifies; last = Some reply; block = LastBlock.Nothing } }
+        ensures core { self.new
+            ≡ record {
+              core = self.old.core;
+              certifies = self.old.certifies;
+              last = Some reply;
+              block = LastBlock.Nothing;
+            } }
     {
         if let Some(number) = number_in(&reply) {
             *place = number;
@@ -178,7 +186,8 @@ impl<A: Allocator + Copy> EfiCore<A> {
         first: &mut u64,
         second: &mut u64,
     ) -> u64
-        ensures { AnswersNumbers self.old call.now (first.old, second.old) result (first.new, second.new) self.new }
+        ensures { AnswersNumbers self.old call.now (first.old, second.old) result
+            (first.new, second.new) self.new }
     {
         let status = self.answer(call);
         if let Some(numbers) = self.last.as_ref().and_then(numbers_in) {

@@ -14,7 +14,7 @@ use page_ranges::Status;
 use std::alloc::Allocator;
 use uuid::Uuid;
 
-/// So many interfaces are too many to be installed at once, whatever they are.
+/// This many interfaces are too many to be installed at once, whatever they are.
 const TOO_MANY: usize = 17;
 
 /// The most handles that are live at a time.
@@ -34,7 +34,9 @@ impl<A: Allocator + Copy> EfiCore<A> {
         needed: &mut u64,
         buffer: &mut [u64],
     ) -> u64
-        ensures { AnswersHandles self.old (call.LocateHandle search (guid_in guid.now) key (handle_bytes (length buffer.old))) needed.old buffer.old result needed.new buffer.new self.new }
+        ensures { AnswersHandles self.old
+            (call.LocateHandle search (guid_in guid.now) key (handle_bytes (length buffer.old)))
+            needed.old buffer.old result needed.new buffer.new self.new }
     {
         let guid = guid.uuid();
         let size = handle_bytes(buffer.len());
@@ -57,7 +59,9 @@ impl<A: Allocator + Copy> EfiCore<A> {
     ///
     /// BUFFER_TOO_SMALL: it has no room for all of them, and is left; the place is given how many there are.
     pub fn protocols_per_handle(&mut self, handle: u64, buffer: &mut [Guid], count: &mut u64) -> u64
-        ensures { AnswersGuids self.old (call.ProtocolsPerHandle handle) count.old buffer.old result count.new buffer.new self.new }
+        ensures { AnswersGuids self.old
+            (call.ProtocolsPerHandle handle) count.old buffer.old result count.new buffer.new
+            self.new }
     {
         let status = self.answer(&Call::ProtocolsPerHandle { handle });
         let Some(Reply::ProtocolsPerHandle(Ok(guids))) = self.last_reply() else {
@@ -74,7 +78,9 @@ impl<A: Allocator + Copy> EfiCore<A> {
     /// InstallMultipleProtocolInterfaces. The place `handle` has the handle, 0 for a new one, and is given it.
     /// This takes no memory but the core's: a list that is too long is refused by its first interfaces.
     pub fn install_multiple(&mut self, handle: &mut u64, interfaces: &[Interface]) -> u64
-        ensures { AnswersNumber self.old (call.InstallMultipleProtocolInterfaces handle.old (map interface_in interfaces.now)) handle.old result handle.new self.new }
+        ensures { AnswersNumber self.old
+            (call.InstallMultipleProtocolInterfaces handle.old (map interface_in interfaces.now))
+            handle.old result handle.new self.new }
     {
         let pairs = first_pairs(interfaces);
         self.install_pairs(handle, pairs.as_slice())
@@ -82,7 +88,9 @@ impl<A: Allocator + Copy> EfiCore<A> {
 
     // InstallMultipleProtocolInterfaces of pairs of GUID and value.
     fn install_pairs(&mut self, handle: &mut u64, pairs: &[(Uuid, u64)]) -> u64
-        ensures { AnswersNumber self.old (call.InstallMultipleProtocolInterfaces handle.old pairs.now) handle.old result handle.new self.new }
+        ensures { AnswersNumber self.old
+            (call.InstallMultipleProtocolInterfaces handle.old pairs.now) handle.old result
+            handle.new self.new }
     {
         self.forget();
         if self.core.calls_left() == 0 {
@@ -94,7 +102,8 @@ impl<A: Allocator + Copy> EfiCore<A> {
 
     /// ConnectController, with the drivers that are tried first.
     pub fn connect_controller(&mut self, handle: u64, drivers: &[u64], recursive: bool) -> u64
-        ensures { AnswersStatus self.old (call.ConnectController handle drivers.now recursive) result self.new }
+        ensures { AnswersStatus self.old
+            (call.ConnectController handle drivers.now recursive) result self.new }
     {
         self.forget();
         if self.core.calls_left() == 0 {

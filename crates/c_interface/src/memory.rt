@@ -18,7 +18,8 @@ impl<A: Allocator + Copy> EfiCore<A> {
     /// AllocatePages. The place `memory` has the highest address that is asked for, or the very address,
     /// and is given the address of the pages.
     pub fn allocate_pages(&mut self, kind: u32, mtype: u32, pages: u64, memory: &mut u64) -> u64
-        ensures { AnswersNumber self.old (call.AllocatePages kind mtype pages memory.old) memory.old result memory.new self.new }
+        ensures { AnswersNumber self.old
+            (call.AllocatePages kind mtype pages memory.old) memory.old result memory.new self.new }
     {
         let call = Call::AllocatePages {
             kind,
@@ -46,7 +47,19 @@ impl<A: Allocator + Copy> EfiCore<A> {
         record_size: &mut u64,
         version: &mut u32,
     ) -> u64
-        ensures { AnswersMap self.old buffer.old (record { size = size.old; key = key.old; descriptor_size = record_size.old; version = version.old }) result buffer.new (record { size = size.new; key = key.new; descriptor_size = record_size.new; version = version.new }) self.new }
+        ensures { AnswersMap self.old buffer.old
+            (record {
+              size = size.old;
+              key = key.old;
+              descriptor_size = record_size.old;
+              version = version.old;
+            }) result buffer.new
+            (record {
+              size = size.new;
+              key = key.new;
+              descriptor_size = record_size.new;
+              version = version.new;
+            }) self.new }
     {
         self.forget();
         if self.core.calls_left() == 0 {
@@ -95,7 +108,8 @@ impl<A: Allocator + Copy> EfiCore<A> {
 
     /// AllocatePool. The place `buffer` is given the block's address.
     pub fn allocate_pool(&mut self, mtype: u32, size: u64, buffer: &mut u64) -> u64
-        ensures { AnswersNumber self.old (call.AllocatePool mtype size) buffer.old result buffer.new self.new }
+        ensures { AnswersNumber self.old
+            (call.AllocatePool mtype size) buffer.old result buffer.new self.new }
     {
         self.answer_number(&Call::AllocatePool { mtype, size }, buffer)
     }

@@ -18,7 +18,9 @@ impl<A: Allocator + Copy> EfiCore<A> {
         kind: u32,
         value: u64,
     ) -> u64
-        ensures { AnswersNumber self.old (call.InstallProtocolInterface handle.old (guid_in guid.now) kind value) handle.old result handle.new self.new }
+        ensures { AnswersNumber self.old
+            (call.InstallProtocolInterface handle.old (guid_in guid.now) kind value) handle.old
+            result handle.new self.new }
     {
         self.forget();
         if self.core.calls_left() == 0 {
@@ -32,7 +34,8 @@ impl<A: Allocator + Copy> EfiCore<A> {
 
     /// UninstallProtocolInterface.
     pub fn uninstall_protocol_interface(&mut self, handle: u64, guid: &Guid, value: u64) -> u64
-        ensures { AnswersStatus self.old (call.UninstallProtocolInterface handle (guid_in guid.now) value) result self.new }
+        ensures { AnswersStatus self.old
+            (call.UninstallProtocolInterface handle (guid_in guid.now) value) result self.new }
     {
         self.forget();
         if self.core.calls_left() == 0 {
@@ -50,7 +53,9 @@ impl<A: Allocator + Copy> EfiCore<A> {
         old_value: u64,
         new_value: u64,
     ) -> u64
-        ensures { AnswersStatus self.old (call.ReinstallProtocolInterface handle (guid_in guid.now) old_value new_value) result self.new }
+        ensures { AnswersStatus self.old
+            (call.ReinstallProtocolInterface handle (guid_in guid.now) old_value new_value) result
+            self.new }
     {
         let guid = guid.uuid();
         self.answer(&Call::ReinstallProtocolInterface {
@@ -68,7 +73,9 @@ impl<A: Allocator + Copy> EfiCore<A> {
         event: u64,
         registration: &mut u64,
     ) -> u64
-        ensures { AnswersNumber self.old (call.RegisterProtocolNotify (guid_in guid.now) event) registration.old result registration.new self.new }
+        ensures { AnswersNumber self.old
+            (call.RegisterProtocolNotify (guid_in guid.now) event) registration.old result
+            registration.new self.new }
     {
         let guid = guid.uuid();
         self.answer_number(&Call::RegisterProtocolNotify { guid, event }, registration)
@@ -84,7 +91,8 @@ impl<A: Allocator + Copy> EfiCore<A> {
         count: &mut u64,
         buffer: &mut u64,
     ) -> u64
-        ensures { AnswersNumbers self.old (call.LocateHandleBuffer search (guid_in guid.now) key) (count.old, buffer.old) result (count.new, buffer.new) self.new }
+        ensures { AnswersNumbers self.old (call.LocateHandleBuffer search (guid_in guid.now) key)
+            (count.old, buffer.old) result (count.new, buffer.new) self.new }
     {
         let guid = guid.uuid();
         self.answer_numbers(
@@ -96,7 +104,9 @@ impl<A: Allocator + Copy> EfiCore<A> {
 
     /// LocateProtocol. The place `interface` is given the interface's value.
     pub fn locate_protocol(&mut self, guid: &Guid, key: u64, interface: &mut u64) -> u64
-        ensures { AnswersNumber self.old (call.LocateProtocol (guid_in guid.now) key) interface.old result interface.new self.new }
+        ensures { AnswersNumber self.old
+            (call.LocateProtocol (guid_in guid.now) key) interface.old result interface.new
+            self.new }
     {
         self.forget();
         if self.core.calls_left() == 0 {
@@ -116,7 +126,9 @@ impl<A: Allocator + Copy> EfiCore<A> {
         controller: u64,
         attributes: u32,
     ) -> u64
-        ensures { AnswersNumber self.old (call.OpenProtocol handle (guid_in guid.now) agent controller attributes) interface.old result interface.new self.new }
+        ensures { AnswersNumber self.old
+            (call.OpenProtocol handle (guid_in guid.now) agent controller attributes) interface.old
+            result interface.new self.new }
     {
         self.forget();
         if self.core.calls_left() == 0 {
@@ -130,7 +142,8 @@ impl<A: Allocator + Copy> EfiCore<A> {
 
     /// CloseProtocol.
     pub fn close_protocol(&mut self, handle: u64, guid: &Guid, agent: u64, controller: u64) -> u64
-        ensures { AnswersStatus self.old (call.CloseProtocol handle (guid_in guid.now) agent controller) result self.new }
+        ensures { AnswersStatus self.old
+            (call.CloseProtocol handle (guid_in guid.now) agent controller) result self.new }
     {
         self.forget();
         if self.core.calls_left() == 0 {
@@ -151,7 +164,8 @@ impl<A: Allocator + Copy> EfiCore<A> {
         count: &mut u64,
         entries: &mut u64,
     ) -> u64
-        ensures { AnswersNumbers self.old (call.OpenProtocolInformation handle (guid_in guid.now)) (count.old, entries.old) result (count.new, entries.new) self.new }
+        ensures { AnswersNumbers self.old (call.OpenProtocolInformation handle (guid_in guid.now))
+            (count.old, entries.old) result (count.new, entries.new) self.new }
     {
         let guid = guid.uuid();
         self.answer_numbers(
@@ -163,7 +177,9 @@ impl<A: Allocator + Copy> EfiCore<A> {
 
     /// HandleProtocol. The place `interface` is given the interface's value.
     pub fn handle_protocol(&mut self, handle: u64, guid: &Guid, interface: &mut u64) -> u64
-        ensures { AnswersNumber self.old (call.HandleProtocol handle (guid_in guid.now)) interface.old result interface.new self.new }
+        ensures { AnswersNumber self.old
+            (call.HandleProtocol handle (guid_in guid.now)) interface.old result interface.new
+            self.new }
     {
         self.forget();
         if self.core.calls_left() == 0 {
@@ -183,7 +199,8 @@ impl<A: Allocator + Copy> EfiCore<A> {
     /// LocateDevicePath. The place `path` has the path's address in the pool, and is given the address behind
     /// the nodes that matched; the place `device` is given the handle.
     pub fn locate_device_path(&mut self, guid: &Guid, path: &mut u64, device: &mut u64) -> u64
-        ensures { AnswersNumbers self.old (call.LocateDevicePath (guid_in guid.now) path.old) (device.old, path.old) result (device.new, path.new) self.new }
+        ensures { AnswersNumbers self.old (call.LocateDevicePath (guid_in guid.now) path.old)
+            (device.old, path.old) result (device.new, path.new) self.new }
     {
         let guid = guid.uuid();
         let call = Call::LocateDevicePath {

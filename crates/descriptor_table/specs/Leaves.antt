@@ -37,12 +37,15 @@ abbrev pub BeginIn : List Run → List (List Run) → List ℕ → Type 0
 BeginIn rs [] [] = Unit {0}
 BeginIn rs [] (n ∷ ns) = ⊥
 BeginIn rs (l ∷ ls) [] = ⊥
-BeginIn rs (l ∷ ls) (n ∷ ns) = (entry_count (rs ++ l) ≡ entry_count rs + n) × BeginIn (rs ++ l) ls ns
+BeginIn rs (l ∷ ls) (n ∷ ns) =
+    (entry_count (rs ++ l) ≡ entry_count rs + n) × BeginIn (rs ++ l) ls ns
 
 -- Runs give way to others: the map of the others, and of any runs that come behind, has a number of
 -- entries less and a number more.
 abbrev pub GrowsBy : List Run → List Run → List Run → ℕ → ℕ → Type 0
-GrowsBy old new behind less more = (m n : List Run) → behind ≡ m ++ n → entry_count (new ++ m) + less ≡ entry_count (old ++ m) + more
+GrowsBy old new behind less more =
+    (m n : List Run) → behind ≡ m ++ n
+    → entry_count (new ++ m) + less ≡ entry_count (old ++ m) + more
 
 -- A table in leaves, the number of entries of its map, how many of them begin in each leaf, and how
 -- many runs each leaf has.
@@ -62,8 +65,10 @@ pub record AreLast (rs last : List Run) : Type 0 where
 pub record AreLeavesNear (ls : List (List Run)) (range : PageRange) (low high : ℕ) : Type 0 where
   pub order : low ≤ high
   pub bound : high ≤ length ls
-  pub below : AllByRecursion (λ r. r.range.first + r.range.pages < range.first) (runs_in (take low ls))
-  pub above : AllByRecursion (λ r. range.first + range.pages < r.range.first) (runs_in (drop high ls))
+  pub below : AllByRecursion (λ r. r.range.first + r.range.pages < range.first)
+      (runs_in (take low ls))
+  pub above : AllByRecursion (λ r. range.first + range.pages < r.range.first)
+      (runs_in (drop high ls))
 
 -- ---- a walk along runs
 

@@ -14,7 +14,9 @@ bit_of bits n = bit_at bits (n % 64)
 
 -- what a placement of a number of pages of a type gains at most
 abbrev pub most_gained : Summary → ℕ → ℕ → ℕ
-most_gained s n t = if bit_of s.lengths n == 1 then 1 + bit_of s.beside t + bit_of s.between t else bit_of s.beside t
+most_gained s n t =
+    if bit_of s.lengths n == 1 then 1 + bit_of s.beside t + bit_of s.between t
+    else bit_of s.beside t
 
 -- whether a free run may be of use
 abbrev pub may_hold : Summary → Wanted → Bool
@@ -40,13 +42,18 @@ IsFreeRun (Some r) = r.mtype ≡ conventional
 
 -- A summary allows a free run between two others: a request with pages in it, and any request if
 -- the run above is free too.
-pub record AllowsRun (s : Summary) (below : Option Run) (r : Run) (above : Option Run) : Type 0 where
-  pub within : (n t : ℕ) → n ≤ r.range.pages → (n ≤ s.longest) × (most_gain n r.range.pages (may_be t below) (may_be t above) ≤ most_gained s n t)
+pub record AllowsRun (s : Summary) (below : Option Run) (r : Run)
+    (above : Option Run) : Type 0 where
+  pub within : (n t : ℕ) → n ≤ r.range.pages
+      → (n ≤ s.longest)
+      × (most_gain n r.range.pages (may_be t below) (may_be t above) ≤ most_gained s n t)
   pub beyond : IsFreeRun above → (n t : ℕ) → n < 2 ^ 64 → (n ≤ s.longest) × (3 ≤ most_gained s n t)
 
 -- it allows each free run of some
 abbrev pub Allows : Summary → List Run → Type 0
-Allows s rs = (i : ℕ) (r : Run) → slice_get rs i ≡ Some r → r.mtype ≡ conventional → AllowsRun s (run_before rs i) r (slice_get rs (i + 1))
+Allows s rs =
+    (i : ℕ) (r : Run) → slice_get rs i ≡ Some r → r.mtype ≡ conventional
+    → AllowsRun s (run_before rs i) r (slice_get rs (i + 1))
 
 -- a mark that is set if the first run is free, and one that is set if the last is
 abbrev pub BeginsFree : Bool → List Run → Type 0
@@ -57,8 +64,10 @@ EndsFree mark rs = (i : ℕ) → i + 1 ≡ length rs → IsFreeRun (slice_get rs
 
 -- In a free run between two others no placement gains enough; where the one above is not known a
 -- free run may go on there.
-pub record RunGainsLittle (w : Wanted) (below : Option Run) (r : Run) (above : Option Run) : Type 0 where
-  pub within : w.pages ≤ r.range.pages → most_gain w.pages r.range.pages (may_be w.mtype below) (may_be w.mtype above) < w.gain
+pub record RunGainsLittle (w : Wanted) (below : Option Run) (r : Run)
+    (above : Option Run) : Type 0 where
+  pub within : w.pages ≤ r.range.pages
+      → most_gain w.pages r.range.pages (may_be w.mtype below) (may_be w.mtype above) < w.gain
   pub beyond : IsFreeRun above → 3 < w.gain
 
 -- A leaf begins at the limit or above, or none of its free runs is of use. A free run may go on in
@@ -66,7 +75,9 @@ pub record RunGainsLittle (w : Wanted) (below : Option Run) (r : Run) (above : O
 abbrev pub IsLeafOfNoUse : Wanted → Bool → List Run → Type 0
 IsLeafOfNoUse w goes_on l =
     (w.limit ≤ first_page l)
-    ⊎ ((i : ℕ) (r : Run) → slice_get l i ≡ Some r → r.mtype ≡ conventional → RunGainsLittle w (run_before l i) r (slice_get l (i + 1)) × (i + 1 ≡ length l → goes_on ≡ false))
+    ⊎ ((i : ℕ) (r : Run) → slice_get l i ≡ Some r → r.mtype ≡ conventional
+    → RunGainsLittle w (run_before l i) r (slice_get l (i + 1))
+    × (i + 1 ≡ length l → goes_on ≡ false))
 
 -- how many runs of a leaf are looked at: all, or none if none is of use
 abbrev pub LooksAt : Wanted → Bool → List Run → ℕ → Type 0

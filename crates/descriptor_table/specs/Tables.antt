@@ -11,7 +11,13 @@ use Rattle.page_ranges.specs.Runs.{pages_of, runs_of, IsInRun, AreMaximalRuns}
 
 -- a run as an entry of a map, its owner left out
 abbrev pub entry_of : Run → Descriptor
-entry_of r = record { mtype = r.mtype; first = r.range.first; pages = r.range.pages; attributes = r.attributes }
+entry_of r =
+    record {
+      mtype = r.mtype;
+      first = r.range.first;
+      pages = r.range.pages;
+      attributes = r.attributes;
+    }
 
 -- all runs end at a page number or below it
 abbrev pub EndBy : ℕ → List Run → Type 0

@@ -25,7 +25,9 @@ most_gain n pages below above = if n == pages then 1 + below + above else max be
 -- In a conventional entry that begins below the limit no placement gains enough. If the entry above
 -- is conventional too, a placement may go on there, and only more than the most is too much to ask.
 pub record GainsLittle (m : List Page) (w : Wanted) (e : Descriptor) : Type 0 where
-  pub within : w.pages ≤ e.pages → most_gain w.pages e.pages (is_of w.mtype (page_below m e.first)) (is_of w.mtype (page_at m (e.first + e.pages))) < w.gain
+  pub within : w.pages ≤ e.pages
+      → most_gain w.pages e.pages (is_of w.mtype (page_below m e.first))
+      (is_of w.mtype (page_at m (e.first + e.pages))) < w.gain
   pub beyond : IsConventional (page_at m (e.first + e.pages)) → 3 < w.gain
 
 -- a conventional entry is of no use
@@ -38,7 +40,8 @@ abbrev pub YieldsWanted : Wanted → FreeList → Option FreeEntry → FreeList 
 YieldsWanted w old None new = AllByRecursion (IsOfNoUse old.memory w) old.entries
 YieldsWanted w old (Some f) new =
     IsFreeEntry old.memory f
-    × ((passed : List Descriptor) × (old.entries ≡ new.entries ++ f.entry ∷ passed) × AllByRecursion (IsOfNoUse old.memory w) passed)
+    × ((passed : List Descriptor) × (old.entries ≡ new.entries ++ f.entry ∷ passed)
+    × AllByRecursion (IsOfNoUse old.memory w) passed)
 
 -- ---- free runs in leaves
 
@@ -67,12 +70,15 @@ pub record IsFreeEntryAt (ls : List (List Run)) (leaf index : ℕ) (f : FreeEntr
 -- the last conventional run of some, by its index
 abbrev pub IsLastFree : List Run → Option ℕ → Type 0
 IsLastFree rs None = entries_of rs ≡ []
-IsLastFree rs (Some i) = (r : Run) × (slice_get rs i ≡ Some r) × (r.mtype ≡ conventional) × (entries_of rs ≡ entries_of (take i rs) ++ entry_of r ∷ [])
+IsLastFree rs (Some i) =
+    (r : Run) × (slice_get rs i ≡ Some r) × (r.mtype ≡ conventional)
+    × (entries_of rs ≡ entries_of (take i rs) ++ entry_of r ∷ [])
 
 -- The answer is the highest conventional run before a place, but for some of no use; or all are of
 -- no use.
 abbrev pub YieldsPlace : Wanted → List (List Run) → ℕ → ℕ → Option (ℕ × ℕ) → Type 0
-YieldsPlace w ls leaf count None = AllByRecursion (IsOfNoUse (pages_of (runs_in ls)) w) (entries_of (runs_to ls leaf count))
+YieldsPlace w ls leaf count None =
+    AllByRecursion (IsOfNoUse (pages_of (runs_in ls)) w) (entries_of (runs_to ls leaf count))
 YieldsPlace w ls leaf count (Some (l, i)) =
     (at : IsFreeAt ls l i)
     × ((passed : List Descriptor)

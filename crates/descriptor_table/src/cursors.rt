@@ -16,10 +16,10 @@ use page_ranges::{Descriptor, PageCursor, Run};
 use std::alloc::{Allocator, Global};
 use std::marker::Model;
 
-/// So many runs are looked at one after the other before the rest is searched by halving.
+/// How many runs are looked at one after the other before the rest is searched by halving.
 const STEPS: usize = 64;
 
-/// So many leaves are looked at one after the other before the rest is searched by halving.
+/// How many leaves are looked at one after the other before the rest is searched by halving.
 const LEAF_STEPS: usize = 8;
 
 /// How many runs end at a page or below it; they come first.
@@ -29,7 +29,8 @@ fn count_ending_by(runs: &[Run], page: u64) -> usize
     requires ends { EndBy page_count runs.now }
     ensures bound { result ≤ length runs.now }
     ensures by { AllWithin (λ r. r.range.first + r.range.pages ≤ page) runs.now 0 result }
-    ensures above { AllWithin (λ r. page < r.range.first + r.range.pages) runs.now result (length runs.now) }
+    ensures above { AllWithin (λ r. page < r.range.first + r.range.pages) runs.now result
+        (length runs.now) }
 {
     runs.partition_point(
         |run: &Run| -> bool
@@ -44,7 +45,8 @@ fn all_end_by(runs: &[Run], page: u64, index: usize) -> bool
     requires runs { AreRuns runs.now }
     requires ends { EndBy page_count runs.now }
     requires bound { index ≤ length runs.now }
-    ensures { IsTrue result → AllWithin (λ r. r.range.first + r.range.pages ≤ page) runs.now 0 index }
+    ensures { IsTrue result
+        → AllWithin (λ r. r.range.first + r.range.pages ≤ page) runs.now 0 index }
 {
     if index == 0 {
         return true;
@@ -61,7 +63,8 @@ fn count_ending_by_from(runs: &[Run], page: u64, start: usize) -> usize
     requires start { start ≤ length runs.now }
     ensures bound { result ≤ length runs.now }
     ensures by { AllWithin (λ r. r.range.first + r.range.pages ≤ page) runs.now 0 result }
-    ensures above { AllWithin (λ r. page < r.range.first + r.range.pages) runs.now result (length runs.now) }
+    ensures above { AllWithin (λ r. page < r.range.first + r.range.pages) runs.now result
+        (length runs.now) }
 {
     if all_end_by(runs, page, start) {
         for index in start..start + STEPS.min(runs.len() - start) {
@@ -80,7 +83,8 @@ fn run_from(runs: &[Run], page: u64, index: usize) -> Option<Run>
     requires runs { AreRuns runs.now }
     requires bound { index ≤ length runs.now }
     requires by { AllWithin (λ r. r.range.first + r.range.pages ≤ page) runs.now 0 index }
-    requires above { AllWithin (λ r. page < r.range.first + r.range.pages) runs.now index (length runs.now) }
+    requires above { AllWithin (λ r. page < r.range.first + r.range.pages) runs.now index
+        (length runs.now) }
     ensures page { page_at (pages_of runs.now) page ≡ option_map (page_in page) result }
     ensures member { IfSome result (λ r. Contains runs.now r × IsInRun r page) }
 {
@@ -138,7 +142,8 @@ impl<'a, A: Allocator> Model for RunCursor<'a, A> {
 
     ghost view = { λ c. pages_of (runs_in c.leaves.now) };
 
-    ghost invariant = { λ c. AreLeaves c.leaves.now × AreMaximalRuns (runs_in c.leaves.now) × IsProperMemory (pages_of (runs_in c.leaves.now)) };
+    ghost invariant = { λ c. AreLeaves c.leaves.now × AreMaximalRuns (runs_in c.leaves.now)
+        × IsProperMemory (pages_of (runs_in c.leaves.now)) };
 }
 
 impl<'a, A: Allocator + Copy> RunCursor<'a, A> {
@@ -182,7 +187,8 @@ impl<'a, A: Allocator + Copy> PageCursor for RunCursor<'a, A> {
     fn block_at(&mut self, page: u64) -> Option<Descriptor>
         ensures stays { self.new ≡ self.old }
         ensures block { IsBlockAt self.old page result }
-        ensures run { IfSome result (λ b. (r : Run) × Contains (runs_of self.old) r × (b ≡ entry_of r)) }
+        ensures run { IfSome result
+            (λ b. (r : Run) × Contains (runs_of self.old) r × (b ≡ entry_of r)) }
     {
         let _ = &self.leaves;
         let run = self.run_at(page)?;

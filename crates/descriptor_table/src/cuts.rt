@@ -92,7 +92,9 @@ fn push_part<L: RunList>(runs: &mut L, run: &Run, first: u64, end: u64) -> Resul
     requires order { AreMaximalUpTo first (L.items runs.old) }
     requires up { first ≤ end }
     requires within { end ≤ page_count }
-    ensures pages { OnOk result (pages_of (L.items runs.new) ≡ pages_of (L.items runs.old) ++ row (end - first) (page_in first run.now)) }
+    ensures pages { OnOk result
+        (pages_of (L.items runs.new) ≡ pages_of (L.items runs.old)
+        ++ row (end - first) (page_in first run.now)) }
     ensures order { OnOk result (AreMaximalUpTo end (L.items runs.new)) }
 {
     if first == end {
@@ -117,7 +119,8 @@ pub(crate) fn push_retyped<L: RunList>(
     requires runs { AreRuns runs.now }
     requires ends { EndBy page_count runs.now }
     requires within { range.first + range.pages ≤ page_count }
-    ensures pages { OnOk result (pages_of (L.items parts.new) ≡ retyped range mtype owner (pages_of runs.now)) }
+    ensures pages { OnOk result
+        (pages_of (L.items parts.new) ≡ retyped range mtype owner (pages_of runs.now)) }
     ensures order { OnOk result (AreMaximalRuns (L.items parts.new)) }
 {
     for run in runs {

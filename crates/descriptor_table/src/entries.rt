@@ -79,7 +79,8 @@ impl<'a, A: Allocator + Copy> MapEntries<'a, A> {
         requires runs { AreRuns (runs_in leaves.now) }
         requires ends { EndBy page_count (runs_in leaves.now) }
         requires bound { index ≤ length leaves.now }
-        ensures { result ≡ drop (entry_count (runs_in (take index leaves.now))) (memory_map (pages_of (runs_in leaves.now))) }
+        ensures { result ≡ drop (entry_count (runs_in (take index leaves.now)))
+            (memory_map (pages_of (runs_in leaves.now))) }
     {
         let mut walk = Walk::new(&leaves[index..]);
         let Some(last) = runs_before(leaves, index).last() else {
@@ -98,7 +99,12 @@ fn end_of_entry<A: Allocator + Copy>(first: &Run, walk: &mut Walk<'_, A>) -> u64
     ensures runs { AreRuns walk.new.rest }
     ensures ends { EndBy page_count walk.new.rest }
     ensures entry { memory_map (pages_of (first.now ∷ walk.old.rest))
-        ≡ record { mtype = first.now.mtype; first = first.now.range.first; pages = result - first.now.range.first; attributes = first.now.attributes }
+        ≡ record {
+          mtype = first.now.mtype;
+          first = first.now.range.first;
+          pages = result - first.now.range.first;
+          attributes = first.now.attributes;
+        }
         ∷ memory_map (pages_of walk.new.rest) }
 {
     let mut last = *first;

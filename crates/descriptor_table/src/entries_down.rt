@@ -107,7 +107,8 @@ fn run_below<A: Allocator + Copy>(leaves: &[Leaf<A>], leaf: usize, index: usize)
     requires leaves { AreLeaves leaves.now }
     requires leaf { leaf < length leaves.now }
     requires index { index < length (leaf_at leaves.now leaf) }
-    ensures { option_map (λ r. r.now) result ≡ run_before (runs_in leaves.now) (length (runs_in (take leaf leaves.now)) + index) }
+    ensures { option_map (λ r. r.now) result ≡ run_before (runs_in leaves.now)
+        (length (runs_in (take leaf leaves.now)) + index) }
 {
     if index > 0 {
         return run_at(runs_of(leaves, leaf), index - 1);
@@ -125,7 +126,8 @@ fn run_above<A: Allocator + Copy>(leaves: &[Leaf<A>], leaf: usize, index: usize)
     requires leaves { AreLeaves leaves.now }
     requires leaf { leaf < length leaves.now }
     requires index { index < length (leaf_at leaves.now leaf) }
-    ensures { option_map (λ r. r.now) result ≡ slice_get (runs_in leaves.now) (length (runs_in (take leaf leaves.now)) + index + 1) }
+    ensures { option_map (λ r. r.now) result ≡ slice_get (runs_in leaves.now)
+        (length (runs_in (take leaf leaves.now)) + index + 1) }
 {
     let runs = runs_of(leaves, leaf);
     if index + 1 < runs.len() {
@@ -155,7 +157,7 @@ fn entry_at<A: Allocator + Copy>(leaves: &[Leaf<A>], leaf: usize, index: usize) 
 #[derive(Drop)]
 pub struct EntriesDown<'a, A: Allocator = Global> {
     leaves: &'a [Leaf<A>],
-    // The leaves before this one are still to come, and so many runs of it.
+    // The leaves before this one are still to come, and that many runs of it.
     leaf: usize,
     count: usize,
 }
@@ -170,9 +172,16 @@ impl<'a, A: Allocator> Model for EntriesDown<'a, A> {
 
     ghost Value = { FreeList };
 
-    ghost view = { λ e. record { memory = pages_of (runs_in e.leaves.now); entries = entries_of (runs_to e.leaves.now e.leaf e.count) } };
+    ghost view = { λ e.
+        record {
+          memory = pages_of (runs_in e.leaves.now);
+          entries = entries_of
+              (runs_to e.leaves.now e.leaf e.count);
+        } };
 
-    ghost invariant = { λ e. AreLeaves e.leaves.now × AreMaximalRuns (runs_in e.leaves.now) × IsProperMemory (pages_of (runs_in e.leaves.now)) × (e.leaf ≤ length e.leaves.now) × (e.count ≤ length (leaf_at e.leaves.now e.leaf)) };
+    ghost invariant = { λ e. AreLeaves e.leaves.now × AreMaximalRuns (runs_in e.leaves.now)
+        × IsProperMemory (pages_of (runs_in e.leaves.now)) × (e.leaf ≤ length e.leaves.now)
+        × (e.count ≤ length (leaf_at e.leaves.now e.leaf)) };
 }
 
 impl<'a, A: Allocator + Copy> EntriesDown<'a, A> {
@@ -181,7 +190,8 @@ impl<'a, A: Allocator + Copy> EntriesDown<'a, A> {
         requires maximal { AreMaximalRuns (runs_in leaves.now) }
         requires proper { IsProperMemory (pages_of (runs_in leaves.now)) }
         ensures memory { result.memory ≡ pages_of (runs_in leaves.now) }
-        ensures entries { result.entries ≡ filter (λ e. e.mtype == conventional) (memory_map (pages_of (runs_in leaves.now))) }
+        ensures entries { result.entries ≡ filter (λ e. e.mtype == conventional)
+            (memory_map (pages_of (runs_in leaves.now))) }
     {
         EntriesDown {
             leaves,

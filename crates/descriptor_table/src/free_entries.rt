@@ -41,8 +41,10 @@ pub(crate) fn block_of(run: &Run) -> Descriptor
 // A block with the page just below a run, by the run that lies below.
 #[inline(always)]
 pub(crate) fn block_below(below: Option<&Run>, run: &Run) -> Option<Descriptor>
-    requires { IfSome (option_map (λ r. r.now) below) (λ r. r.range.first + r.range.pages ≤ page_count) }
-    ensures { (rs ss : List Run) → AreMaximalRuns rs → IsProperMemory (pages_of rs) → IsPlace rs (record { before = option_map (λ r. r.now) below.entry; rest = run.now ∷ ss })
+    requires { IfSome (option_map (λ r. r.now) below)
+        (λ r. r.range.first + r.range.pages ≤ page_count) }
+    ensures { (rs ss : List Run) → AreMaximalRuns rs → IsProperMemory (pages_of rs)
+        → IsPlace rs (record { before = option_map (λ r. r.now) below.entry; rest = run.now ∷ ss })
         → IsBlockBelow (pages_of rs) run.now.range.first result }
 {
     let Some(below) = below else {
@@ -59,7 +61,9 @@ pub(crate) fn block_below(below: Option<&Run>, run: &Run) -> Option<Descriptor>
 #[inline(always)]
 pub(crate) fn block_above(run: &Run, above: Option<&Run>) -> Option<Descriptor>
     requires { run.now.range.first + run.now.range.pages ≤ page_count }
-    ensures { (rs ss : List Run) (o : Option Run) → AreMaximalRuns rs → IsProperMemory (pages_of rs) → IsPlace rs (record { before = o; rest = run.now ∷ ss }) → option_map (λ r. r.now) above.entry ≡ slice_get ss 0
+    ensures { (rs ss : List Run) (o : Option Run) → AreMaximalRuns rs
+        → IsProperMemory (pages_of rs) → IsPlace rs (record { before = o; rest = run.now ∷ ss })
+        → option_map (λ r. r.now) above.entry ≡ slice_get ss 0
         → IsBlockAt (pages_of rs) (run.now.range.first + run.now.range.pages) result }
 {
     let Some(above) = above else {
@@ -107,9 +111,16 @@ impl<'a, A: Allocator> Model for FreeEntries<'a, A> {
 
     ghost Value = { FreeList };
 
-    ghost view = { λ e. record { memory = pages_of (runs_in e.leaves.now); entries = filter (λ d. d.mtype == conventional) (memory_map (pages_of e.walk.rest)) } };
+    ghost view = { λ e.
+        record {
+          memory = pages_of (runs_in e.leaves.now);
+          entries = filter
+              (λ d. d.mtype == conventional) (memory_map (pages_of e.walk.rest));
+        } };
 
-    ghost invariant = { λ e. AreMaximalRuns (runs_in e.leaves.now) × IsProperMemory (pages_of (runs_in e.leaves.now)) × IsPlace (runs_in e.leaves.now) e.walk };
+    ghost invariant = { λ e. AreMaximalRuns (runs_in e.leaves.now)
+        × IsProperMemory (pages_of (runs_in e.leaves.now))
+        × IsPlace (runs_in e.leaves.now) e.walk };
 }
 
 impl<'a, A: Allocator + Copy> FreeEntries<'a, A> {
@@ -120,7 +131,8 @@ impl<'a, A: Allocator + Copy> FreeEntries<'a, A> {
         requires maximal { AreMaximalRuns (runs_in leaves.now) }
         requires proper { IsProperMemory (pages_of (runs_in leaves.now)) }
         ensures memory { result.memory ≡ pages_of (runs_in leaves.now) }
-        ensures entries { result.entries ≡ filter (λ e. e.mtype == conventional) (memory_map (pages_of (runs_in leaves.now))) }
+        ensures entries { result.entries ≡ filter (λ e. e.mtype == conventional)
+            (memory_map (pages_of (runs_in leaves.now))) }
     {
         FreeEntries {
             leaves,

@@ -11,7 +11,7 @@ use page_ranges::Run;
 use std::alloc::{AllocError, Allocator, Global};
 use std::marker::Model;
 
-/// So many runs a leaf has at most.
+/// The most runs of a leaf.
 pub(crate) const LEAF_SIZE: usize = 32;
 
 /// Some runs that lie next to each other in a table, and the first page of the first of them.
@@ -35,7 +35,9 @@ impl<A: Allocator> Model for Leaf<A> {
 
     ghost view = { λ l. l.runs.value.items };
 
-    ghost invariant = { λ l. (l.first ≡ first_page l.runs.value.items) × BeginsFree l.begins_free l.runs.value.items × EndsFree l.ends_free l.runs.value.items × Allows l.summary l.runs.value.items };
+    ghost invariant = { λ l. (l.first ≡ first_page l.runs.value.items)
+        × BeginsFree l.begins_free l.runs.value.items × EndsFree l.ends_free l.runs.value.items
+        × Allows l.summary l.runs.value.items };
 }
 
 impl<A: Allocator + Copy> Leaf<A> {

@@ -101,15 +101,28 @@ fn put_in_new_leaves<A: Allocator + Copy>(
     requires window { (window.0 ≤ window.1) × (window.1 ≤ length runs.items) }
     requires begun { BeginIn [] leaves.old.items begun.old }
     requires sizes { sizes.old ≡ map length leaves.old.items }
-    requires grows { GrowsBy (runs_in (take near.1 leaves.old.items)) (runs_in (take near.0 leaves.old.items) ++ (take window.0 runs.items ++ (parts.items ++ drop window.1 runs.items))) (runs_in (drop near.1 leaves.old.items)) entries.0 entries.1 }
+    requires grows { GrowsBy (runs_in (take near.1 leaves.old.items))
+        (runs_in (take near.0 leaves.old.items)
+        ++ (take window.0 runs.items ++ (parts.items ++ drop window.1 runs.items)))
+        (runs_in (drop near.1 leaves.old.items)) entries.0 entries.1 }
     requires few { entries.1 < 2 ^ 63 }
-    requires order { AreRuns (runs_in (take near.0 leaves.old.items) ++ ((take window.0 runs.items ++ (parts.items ++ drop window.1 runs.items)) ++ runs_in (drop near.1 leaves.old.items))) }
-    requires ends { EndBy page_count (runs_in (take near.0 leaves.old.items) ++ ((take window.0 runs.items ++ (parts.items ++ drop window.1 runs.items)) ++ runs_in (drop near.1 leaves.old.items))) }
+    requires order { AreRuns
+        (runs_in (take near.0 leaves.old.items)
+        ++ ((take window.0 runs.items ++ (parts.items ++ drop window.1 runs.items))
+        ++ runs_in (drop near.1 leaves.old.items))) }
+    requires ends { EndBy page_count
+        (runs_in (take near.0 leaves.old.items)
+        ++ ((take window.0 runs.items ++ (parts.items ++ drop window.1 runs.items))
+        ++ runs_in (drop near.1 leaves.old.items))) }
     ensures leaves { IfOk result (λ _. AreLeaves leaves.new.items) }
-    ensures runs { IfOk result (λ _. runs_in leaves.new.items ≡ runs_in (take near.0 leaves.old.items) ++ ((take window.0 runs.items ++ (parts.items ++ drop window.1 runs.items)) ++ runs_in (drop near.1 leaves.old.items))) }
+    ensures runs { IfOk result
+        (λ _. runs_in leaves.new.items ≡ runs_in (take near.0 leaves.old.items)
+        ++ ((take window.0 runs.items ++ (parts.items ++ drop window.1 runs.items))
+        ++ runs_in (drop near.1 leaves.old.items))) }
     ensures begun { IfOk result (λ _. BeginIn [] leaves.new.items begun.new) }
     ensures sizes { IfOk result (λ _. sizes.new ≡ map length leaves.new.items) }
-    ensures err { OnErr result ((leaves.new.items ≡ leaves.old.items) × (begun.new ≡ begun.old) × (sizes.new ≡ sizes.old)) }
+    ensures err { OnErr result ((leaves.new.items ≡ leaves.old.items) × (begun.new ≡ begun.old)
+        × (sizes.new ≡ sizes.old)) }
 {
     let (from, to) = near;
     let (low, high) = window;
@@ -145,15 +158,27 @@ fn put_in_leaf<A: Allocator + Copy>(
     requires index { index < length leaves.old.items }
     requires window { (window.0 ≤ window.1) × (window.1 ≤ length (leaf_at leaves.old.items index)) }
     requires some { 0 < length parts.now }
-    requires fits { length (leaf_at leaves.old.items index) + length parts.now ≤ 32 + (window.1 - window.0) }
+    requires fits { length (leaf_at leaves.old.items index) + length parts.now ≤ 32
+        + (window.1 - window.0) }
     requires begun { BeginIn [] leaves.old.items begun.old }
     requires sizes { sizes.old ≡ map length leaves.old.items }
-    requires grows { GrowsBy (runs_in (take (index + 1) leaves.old.items)) (runs_in (take index leaves.old.items) ++ splice (leaf_at leaves.old.items index) window.0 window.1 parts.now) (runs_in (drop (index + 1) leaves.old.items)) entries.0 entries.1 }
+    requires grows { GrowsBy (runs_in (take (index + 1) leaves.old.items))
+        (runs_in (take index leaves.old.items)
+        ++ splice (leaf_at leaves.old.items index) window.0 window.1 parts.now)
+        (runs_in (drop (index + 1) leaves.old.items)) entries.0 entries.1 }
     requires few { entries.1 < 2 ^ 63 }
-    requires order { AreRuns (runs_in (take index leaves.old.items) ++ (splice (leaf_at leaves.old.items index) window.0 window.1 parts.now ++ runs_in (drop (index + 1) leaves.old.items))) }
-    requires ends { EndBy page_count (runs_in (take index leaves.old.items) ++ (splice (leaf_at leaves.old.items index) window.0 window.1 parts.now ++ runs_in (drop (index + 1) leaves.old.items))) }
+    requires order { AreRuns
+        (runs_in (take index leaves.old.items)
+        ++ (splice (leaf_at leaves.old.items index) window.0 window.1 parts.now
+        ++ runs_in (drop (index + 1) leaves.old.items))) }
+    requires ends { EndBy page_count
+        (runs_in (take index leaves.old.items)
+        ++ (splice (leaf_at leaves.old.items index) window.0 window.1 parts.now
+        ++ runs_in (drop (index + 1) leaves.old.items))) }
     ensures leaves { AreLeaves leaves.new.items }
-    ensures runs { runs_in leaves.new.items ≡ runs_in (take index leaves.old.items) ++ (splice (leaf_at leaves.old.items index) window.0 window.1 parts.now ++ runs_in (drop (index + 1) leaves.old.items)) }
+    ensures runs { runs_in leaves.new.items ≡ runs_in (take index leaves.old.items)
+        ++ (splice (leaf_at leaves.old.items index) window.0 window.1 parts.now
+        ++ runs_in (drop (index + 1) leaves.old.items)) }
     ensures begun { BeginIn [] leaves.new.items begun.new }
     ensures sizes { sizes.new ≡ map length leaves.new.items }
 {
@@ -183,8 +208,11 @@ fn retype_in_leaf<A: Allocator + Copy>(
     requires present { AllInRange (pages_of (runs_in leaves.old.items)) range IsPresent }
     requires owner { mtype ≡ conventional → owner ≡ Given }
     ensures table { IfSome result (λ n. IsLeafTable leaves.new.items n begun.new sizes.new) }
-    ensures pages { OnSome result (pages_of (runs_in leaves.new.items) ≡ retyped range mtype owner (pages_of (runs_in leaves.old.items))) }
-    ensures none { IfNone result ((leaves.new.items ≡ leaves.old.items) × (begun.new ≡ begun.old) × (sizes.new ≡ sizes.old)) }
+    ensures pages { OnSome result
+        (pages_of (runs_in leaves.new.items) ≡ retyped range mtype owner
+        (pages_of (runs_in leaves.old.items))) }
+    ensures none { IfNone result ((leaves.new.items ≡ leaves.old.items) × (begun.new ≡ begun.old)
+        × (sizes.new ≡ sizes.old)) }
 {
     let runs = leaves[index].runs();
     let window = window_of(runs, range);
@@ -230,8 +258,11 @@ fn retype_in_new_leaves<A: Allocator + Copy>(
     requires present { AllInRange (pages_of (runs_in leaves.old.items)) range IsPresent }
     requires owner { mtype ≡ conventional → owner ≡ Given }
     ensures table { IfOk result (λ n. IsLeafTable leaves.new.items n begun.new sizes.new) }
-    ensures pages { IfOk result (λ n. pages_of (runs_in leaves.new.items) ≡ retyped range mtype owner (pages_of (runs_in leaves.old.items))) }
-    ensures err { OnErr result ((leaves.new.items ≡ leaves.old.items) × (begun.new ≡ begun.old) × (sizes.new ≡ sizes.old)) }
+    ensures pages { IfOk result
+        (λ n. pages_of (runs_in leaves.new.items) ≡ retyped range mtype owner
+        (pages_of (runs_in leaves.old.items))) }
+    ensures err { OnErr result ((leaves.new.items ≡ leaves.old.items) × (begun.new ≡ begun.old)
+        × (sizes.new ≡ sizes.old)) }
 {
     let alloc = *leaves.allocator();
     let runs = runs_of_leaves(alloc, &leaves[near.0..near.1])?;
@@ -270,8 +301,11 @@ pub(crate) fn retype_runs<A: Allocator + Copy>(
     requires present { AllInRange (pages_of (runs_in leaves.old.items)) range IsPresent }
     requires owner { mtype ≡ conventional → owner ≡ Given }
     ensures table { IfOk result (λ n. IsLeafTable leaves.new.items n begun.new sizes.new) }
-    ensures pages { IfOk result (λ n. pages_of (runs_in leaves.new.items) ≡ retyped range mtype owner (pages_of (runs_in leaves.old.items))) }
-    ensures err { OnErr result ((leaves.new.items ≡ leaves.old.items) × (begun.new ≡ begun.old) × (sizes.new ≡ sizes.old)) }
+    ensures pages { IfOk result
+        (λ n. pages_of (runs_in leaves.new.items) ≡ retyped range mtype owner
+        (pages_of (runs_in leaves.old.items))) }
+    ensures err { OnErr result ((leaves.new.items ≡ leaves.old.items) × (begun.new ≡ begun.old)
+        × (sizes.new ≡ sizes.old)) }
 {
     let near = leaves_near(leaves.as_slice(), sizes, range);
     if near.1 - near.0 == 1 {

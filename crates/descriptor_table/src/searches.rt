@@ -13,7 +13,8 @@ pub(crate) fn count_ending_below(runs: &[Run], page: u64) -> usize
     requires { AreRuns runs.now }
     ensures bound { result ≤ length runs.now }
     ensures below { AllWithin (λ r. r.range.first + r.range.pages < page) runs.now 0 result }
-    ensures above { AllWithin (λ r. page ≤ r.range.first + r.range.pages) runs.now result (length runs.now) }
+    ensures above { AllWithin (λ r. page ≤ r.range.first + r.range.pages) runs.now result
+        (length runs.now) }
 {
     runs.partition_point(
         |run: &Run| -> bool

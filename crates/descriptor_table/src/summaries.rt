@@ -89,7 +89,8 @@ impl Summary {
     /// The summary of a free run between two others, which may not be known.
     #[inline(always)]
     fn of_free(below: Option<&Run>, run: &Run, above: Option<&Run>) -> Summary
-        ensures { AllowsRun result (option_map (λ r. r.now) below.entry) run.now (option_map (λ r. r.now) above.entry) }
+        ensures { AllowsRun result (option_map (λ r. r.now) below.entry) run.now
+            (option_map (λ r. r.now) above.entry) }
     {
         let pages = run.range.pages;
         if is_free(above) {

@@ -195,7 +195,8 @@ impl<A: Allocator + Copy> RunTable<A> {
     /// The conventional entries of the memory map, with what lies beside each.
     pub fn free_entries(&self) -> FreeEntries<'_, A>
         ensures memory { result.memory ≡ self.now }
-        ensures entries { result.entries ≡ filter (λ e. e.mtype == conventional) (memory_map self.now) }
+        ensures entries { result.entries ≡ filter (λ e. e.mtype == conventional)
+            (memory_map self.now) }
     {
         FreeEntries::new(self.leaves.as_slice())
     }
@@ -203,7 +204,8 @@ impl<A: Allocator + Copy> RunTable<A> {
     /// The conventional entries of the memory map from the highest down.
     pub fn entries_down(&self) -> EntriesDown<'_, A>
         ensures memory { result.memory ≡ self.now }
-        ensures entries { result.entries ≡ filter (λ e. e.mtype == conventional) (memory_map self.now) }
+        ensures entries { result.entries ≡ filter (λ e. e.mtype == conventional)
+            (memory_map self.now) }
     {
         EntriesDown::new(self.leaves.as_slice())
     }

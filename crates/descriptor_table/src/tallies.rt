@@ -5,7 +5,7 @@ ghost use Rattle.descriptor_table.specs.Tallies.{total, AreGroupSums};
 use std::alloc::{AllocError, Allocator, Global};
 use std::marker::Model;
 
-/// So many numbers share a sum.
+/// How many numbers share a sum.
 const GROUP_SIZE: usize = 64;
 
 /// The sum of small numbers.
@@ -120,7 +120,8 @@ impl<A: Allocator + Copy> Tally<A> {
         requires few { more < 2 ^ 63 }
         requires enough { less ≤ slice_index_or self.old index 0 + more }
         requires fits { slice_index_or self.old index 0 + more - less < 2 ^ 8 }
-        requires within { total (set self.old index (slice_index_or self.old index 0 + more - less)) < 2 ^ 63 }
+        requires within { total
+            (set self.old index (slice_index_or self.old index 0 + more - less)) < 2 ^ 63 }
         ensures { self.new ≡ set self.old index (slice_index_or self.old index 0 + more - less) }
     {
         let number = self.numbers[index] as usize + more - less;
@@ -150,7 +151,7 @@ impl<A: Allocator + Copy> Tally<A> {
         sum_of_sums(self.sums.as_slice()) + sum_of(&self.numbers[first..])
     }
 
-    /// So many numbers come before an index, and what the index is above their sum.
+    /// How many numbers come before an index, and what the index is above their sum.
     pub(crate) fn find(&self, index: usize) -> (usize, usize)
         ensures bound { result.0 ≤ length self.now }
         ensures place { total (take result.0 self.now) + result.1 ≡ index }

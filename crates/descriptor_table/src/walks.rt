@@ -22,7 +22,11 @@ impl<'a, A: Allocator> Model for Walk<'a, A> {
 
     ghost Value = { RunPlace };
 
-    ghost view = { λ w. record { before = option_map (λ r. r.now) w.before; rest = w.runs.now ++ runs_in w.leaves.now } };
+    ghost view = { λ w. record {
+      before = option_map (λ r. r.now) w.before;
+      rest = w.runs.now
+          ++ runs_in w.leaves.now;
+    } };
 
     ghost invariant = { λ w. AreLeaves w.leaves.now };
 }

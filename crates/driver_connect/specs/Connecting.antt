@@ -23,7 +23,9 @@ for_each f (n ∷ ns) p = for_each f ns (f n p)
 abbrev pub connected : ℕ → Site → List ℕ → Progress → Progress
 connected zero c named p = (starts_on c named p).progress
 connected (suc k) c named p =
-    for_each (λ n q. connected k (site c.drivers c.registrations n) [] q) (made_after p.handles.last_number (starts_on c named p).progress.handles) (starts_on c named p).progress
+    for_each (λ n q. connected k (site c.drivers c.registrations n) [] q)
+    (made_after p.handles.last_number (starts_on c named p).progress.handles)
+    (starts_on c named p).progress
 
 -- each of some handles is connected, a number of levels deep, with no driver named
 abbrev pub each_connected : ℕ → List Meaning → List Registration → List ℕ → Progress → Progress
@@ -46,11 +48,13 @@ first_progress t opens = record { handles = t; opens = opens; events = [] }
 -- What ConnectController answers, and what it leaves. Where a start on the handle is carried out,
 -- its events are answered; otherwise all stays. Where the call is valid, OUT_OF_RESOURCES means out
 -- of memory.
-abbrev pub Connects : Site → List ℕ → Bool → HandleTable → List OpenRecord → Result (List ℕ) Status → HandleTable → List OpenRecord → Type 0
+abbrev pub Connects : Site → List ℕ → Bool → HandleTable → List OpenRecord → Result (List ℕ) Status
+    → HandleTable → List OpenRecord → Type 0
 Connects c named recursive t opens (Ok events) new_t new_opens =
     (connect_refused t c.controller named ≡ false)
     × (is_any_carried_out (starts_on c named (first_progress t opens)).starts ≡ true)
-    × (record { handles = new_t; opens = new_opens; events = events } ≡ connected (levels_below recursive) c named (first_progress t opens))
+    × (record { handles = new_t; opens = new_opens; events = events }
+    ≡ connected (levels_below recursive) c named (first_progress t opens))
 Connects c named recursive t opens (Err InvalidParameter) new_t new_opens =
     (connect_refused t c.controller named ≡ true) × (new_t ≡ t) × (new_opens ≡ opens)
 Connects c named recursive t opens (Err NotFound) new_t new_opens =

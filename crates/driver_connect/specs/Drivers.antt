@@ -32,14 +32,16 @@ pub record Meaning : Type 0 where
 
 -- an interface; it is held if it is open for a driver or exclusively
 abbrev pub protocol_view : List OpenRecord → Interface → ProtocolView
-protocol_view opens i = record { guid = i.guid; value = i.value; held = has_holder opens i.handle i.guid }
+protocol_view opens i =
+    record { guid = i.guid; value = i.value; held = has_holder opens i.handle i.guid }
 
 -- the protocols on a handle, in order of installation
 abbrev pub protocols_on : HandleTable → List OpenRecord → ℕ → List ProtocolView
 protocols_on t opens n = map (protocol_view opens) (filter (is_on n) t.interfaces)
 
 abbrev pub sight_of : HandleTable → List OpenRecord → ℕ → ℕ → Sight
-sight_of t opens agent controller = record { agent = agent; controller = controller; protocols = protocols_on t opens controller }
+sight_of t opens agent controller =
+    record { agent = agent; controller = controller; protocols = protocols_on t opens controller }
 
 -- a GUID is there, and not held
 abbrev pub is_free : List ProtocolView → List ℕ → Bool
@@ -49,7 +51,9 @@ is_free protocols guid = list_any (λ v. same_guid v.guid guid && not v.held) pr
 
 -- the GUID of the driver binding protocol
 abbrev pub driver_binding : List ℕ
-driver_binding = 0x18 ∷ 0xa0 ∷ 0x31 ∷ 0xab ∷ 0xb4 ∷ 0x43 ∷ 0x4d ∷ 0x1a ∷ 0xa5 ∷ 0xc0 ∷ 0x0c ∷ 0x09 ∷ 0x26 ∷ 0x1e ∷ 0x9f ∷ 0x71 ∷ []
+driver_binding =
+    0x18 ∷ 0xa0 ∷ 0x31 ∷ 0xab ∷ 0xb4 ∷ 0x43 ∷ 0x4d ∷ 0x1a ∷ 0xa5 ∷ 0xc0 ∷ 0x0c ∷ 0x09 ∷ 0x26 ∷ 0x1e
+    ∷ 0x9f ∷ 0x71 ∷ []
 
 -- A driver handle carries the driver binding protocol with a value below the number of drivers. The
 -- value is the driver's place.
@@ -91,4 +95,6 @@ plan_at ds i s = plan_if (slice_get ds i) s
 
 -- a driver handle with its driver's place and version
 abbrev pub agent_of : List Meaning → HandleTable → ℕ → Option Agent
-agent_of ds t n = option_map (λ i. record { handle = n; driver = i; version = version_at ds i }) (driver_of ds t n)
+agent_of ds t n =
+    option_map (λ i. record { handle = n; driver = i; version = version_at ds i })
+    (driver_of ds t n)

@@ -16,27 +16,33 @@ use Rattle.driver_connect.specs.Connecting.{connected}
 -- ---- the stop set
 
 -- A set holds some pairs, and each pair that manages a handle that a pair of the set made.
-pub record IsClosed (t : HandleTable) (opens : List OpenRecord) (pairs set : List (ℕ × ℕ)) : Type 0 where
+pub record IsClosed (t : HandleTable) (opens : List OpenRecord)
+    (pairs set : List (ℕ × ℕ)) : Type 0 where
   pub given : (p : ℕ × ℕ) → has_pair pairs p ≡ true → has_pair set p ≡ true
-  pub managers : (p : ℕ × ℕ) → has_pair (managers_of_made t opens set) p ≡ true → has_pair set p ≡ true
+  pub managers : (p : ℕ × ℕ) → has_pair (managers_of_made t opens set) p ≡ true
+      → has_pair set p ≡ true
 
 -- The stop set of some pairs is the least such set.
 abbrev pub StopSetLaw : Type 0
 StopSetLaw =
     (t : HandleTable) (opens : List OpenRecord) (pairs : List (ℕ × ℕ)) →
     IsClosed t opens pairs (stop_set t opens pairs)
-    × ((set : List (ℕ × ℕ)) → IsClosed t opens pairs set → (p : ℕ × ℕ) → has_pair (stop_set t opens pairs) p ≡ true → has_pair set p ≡ true)
+    × ((set : List (ℕ × ℕ)) → IsClosed t opens pairs set → (p : ℕ × ℕ)
+    → has_pair (stop_set t opens pairs) p ≡ true → has_pair set p ≡ true)
 
 -- No further round adds anything to it.
 abbrev pub RoundsLaw : Type 0
-RoundsLaw = (k : ℕ) (t : HandleTable) (opens : List OpenRecord) (pairs : List (ℕ × ℕ)) → rounds k t opens (stop_set t opens pairs) ≡ stop_set t opens pairs
+RoundsLaw =
+    (k : ℕ) (t : HandleTable) (opens : List OpenRecord) (pairs : List (ℕ × ℕ))
+    → rounds k t opens (stop_set t opens pairs) ≡ stop_set t opens pairs
 
 -- ---- what stopping takes out
 
 -- Of the handles that go, no interface is left, and no item that names one.
 abbrev pub GoneLaw : Type 0
 GoneLaw =
-    (ns : List ℕ) (pairs : List (ℕ × ℕ)) (t : HandleTable) (opens : List OpenRecord) (n : ℕ) → is_one_of ns n ≡ true →
+    (ns : List ℕ) (pairs : List (ℕ × ℕ)) (t : HandleTable) (opens : List OpenRecord) (n : ℕ)
+    → is_one_of ns n ≡ true →
     (filter (has_number n) (without_handles ns t).handles ≡ [])
     × (filter (is_on n) (without_handles ns t).interfaces ≡ [])
     × (list_any (names n) (without_opens ns pairs opens) ≡ false)
@@ -55,17 +61,22 @@ abbrev pub VersionsLaw : Type 0
 VersionsLaw =
     (agents : List Agent) →
     Ascending IsNotLower (by_version [] agents)
-    × ((v : ℕ) → filter (λ a. a.version == v) (by_version [] agents) ≡ filter (λ a. a.version == v) agents)
+    × ((v : ℕ)
+    → filter (λ a. a.version == v) (by_version [] agents) ≡ filter (λ a. a.version == v) agents)
 
 -- A start on the handle is carried out exactly where, before all of them, one of the drivers is
 -- ready.
 abbrev pub ReadyLaw : Type 0
-ReadyLaw = (c : Site) (named : List ℕ) (p : Progress) → is_any_carried_out (starts_on c named p).starts ≡ is_any_ready c.drivers p.handles p.opens c.controller named
+ReadyLaw =
+    (c : Site) (named : List ℕ) (p : Progress)
+    → is_any_carried_out (starts_on c named p).starts
+    ≡ is_any_ready c.drivers p.handles p.opens c.controller named
 
 -- Where no start on the handle is carried out, all stays as it was, however deep the connect goes.
 abbrev pub NothingCarriedOutLaw : Type 0
 NothingCarriedOutLaw =
-    (levels : ℕ) (c : Site) (named : List ℕ) (p : Progress) → IsHandleTable p.handles → is_any_carried_out (starts_on c named p).starts ≡ false → connected levels c named p ≡ p
+    (levels : ℕ) (c : Site) (named : List ℕ) (p : Progress) → IsHandleTable p.handles
+    → is_any_carried_out (starts_on c named p).starts ≡ false → connected levels c named p ≡ p
 
 -- an item of BY_DRIVER of a handle's maker
 abbrev pub is_of_maker : Option (ℕ × ℕ) → OpenRecord → Bool
@@ -83,4 +94,6 @@ pub record MakesHandles (old new : Progress) : Type 0 where
 
 -- A connect takes out no handle, and has its maker's item beside each that it makes.
 abbrev pub MakersItemLaw : Type 0
-MakersItemLaw = (levels : ℕ) (c : Site) (named : List ℕ) (p : Progress) → IsHandleTable p.handles → MakesHandles p (connected levels c named p)
+MakersItemLaw =
+    (levels : ℕ) (c : Site) (named : List ℕ) (p : Progress) → IsHandleTable p.handles
+    → MakesHandles p (connected levels c named p)

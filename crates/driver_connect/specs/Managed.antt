@@ -11,7 +11,9 @@ use Rattle.driver_connect.specs.Stopping.{has_pair, pair_of}
 -- an item for a driver on a handle that was made: the pair that manages the handle, and the pair
 -- that made it
 abbrev pub managed_by : HandleTable → OpenRecord → Option Managed
-managed_by t o = cond (is_for_driver o.attributes) (option_map (λ m. record { maker = m; manager = pair_of o }) (maker_of t o.controller)) None
+managed_by t o =
+    cond (is_for_driver o.attributes)
+    (option_map (λ m. record { maker = m; manager = pair_of o }) (maker_of t o.controller)) None
 
 abbrev pub all_managed : HandleTable → List OpenRecord → List Managed
 all_managed t opens = filter_map (managed_by t) opens

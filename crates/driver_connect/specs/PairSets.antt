@@ -6,4 +6,5 @@ use Rattle.driver_connect.specs.Stopping.{has_pair}
 
 -- the block of each controller has the agents of its pairs
 abbrev pub AreMembers : List (ℕ × ℕ) → List Block → Type 0
-AreMembers pairs blocks = (p : ℕ × ℕ) → list_any (λ x. x == p.1) (block_at blocks p.0).places ≡ has_pair pairs p
+AreMembers pairs blocks =
+    (p : ℕ × ℕ) → list_any (λ x. x == p.1) (block_at blocks p.0).places ≡ has_pair pairs p

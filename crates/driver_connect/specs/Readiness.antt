@@ -14,13 +14,22 @@ use Rattle.driver_connect.specs.Starting.{can_start, agents_for}
 abbrev pub is_ready : List Meaning → HandleTable → List ProtocolView → ℕ → Agent → Bool
 is_ready ds t protocols n a =
     supports_at ds a.driver (record { agent = a.handle; controller = n; protocols = protocols })
-    && can_start t protocols (plan_at ds a.driver (record { agent = a.handle; controller = n; protocols = protocols }))
+    && can_start t protocols
+    (plan_at ds a.driver (record { agent = a.handle; controller = n; protocols = protocols }))
 
 -- one of the drivers to be tried on a handle is ready
 abbrev pub is_any_ready : List Meaning → HandleTable → List OpenRecord → ℕ → List ℕ → Bool
-is_any_ready ds t opens n named = list_any (is_ready ds t (protocols_on t opens n) n) (agents_for ds t named)
+is_any_ready ds t opens n named =
+    list_any (is_ready ds t (protocols_on t opens n) n) (agents_for ds t named)
 
 -- A protocol on a handle, as it is shown once some open items are left and the interface of a GUID
 -- there has another value and no item.
 abbrev pub protocol_after : List OpenRecord → ℕ → List ℕ → ℕ → ProtocolView → ProtocolView
-protocol_after opens n guid value v = record { guid = v.guid; value = cond (same_guid v.guid guid) value v.value; held = not (same_guid v.guid guid) && has_holder opens n v.guid }
+protocol_after opens n guid value v =
+    record {
+      guid = v.guid;
+      value = cond
+          (same_guid v.guid guid) value v.value;
+      held =
+          not (same_guid v.guid guid) && has_holder opens n v.guid;
+    }

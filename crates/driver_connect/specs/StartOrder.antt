@@ -25,16 +25,20 @@ left_in turns = agents_of (filter (λ t. not t.is_started) turns)
 -- exactly where it is supported on the lists as the starts before its turn left them.
 pub record IsPass (c : Site) (agents : List Agent) (p : Progress) (turns : List Turn) : Type 0 where
   pub all : agents_of turns ≡ agents
-  pub exact : (before : List Turn) (t : Turn) (behind : List Turn) → turns ≡ before ++ t ∷ behind → t.is_started ≡ is_supported c (after_starts c (started_in before) p) t.agent
+  pub exact : (before : List Turn) (t : Turn) (behind : List Turn) → turns ≡ before ++ t ∷ behind
+      → t.is_started ≡ is_supported c (after_starts c (started_in before) p) t.agent
 
 -- Passes follow each other: the first goes over all drivers of a list, each other over those that
 -- the one before it left. Each starts a driver, and none that the last one leaves is supported.
 abbrev pub ArePasses : Site → List Agent → Progress → List (List Turn) → Type 0
 ArePasses c agents p [] = AllByRecursion (λ a. is_supported c p a ≡ false) agents
-ArePasses c agents p (turns ∷ passes) = IsPass c agents p turns × (0 < length (started_in turns)) × ArePasses c (left_in turns) (after_starts c (started_in turns) p) passes
+ArePasses c agents p (turns ∷ passes) =
+    IsPass c agents p turns × (0 < length (started_in turns))
+    × ArePasses c (left_in turns) (after_starts c (started_in turns) p) passes
 
 -- The starts are those of passes over a list of drivers.
-pub record StartsInPasses (c : Site) (agents : List Agent) (p : Progress) (r : Passed) : Type 0 where
+pub record StartsInPasses (c : Site) (agents : List Agent) (p : Progress)
+    (r : Passed) : Type 0 where
   pub passes : List (List Turn)
   pub are_passes : ArePasses c agents p passes
   pub starts : r.starts ≡ starts_in_turn c (flat_map started_in passes) p
@@ -42,4 +46,6 @@ pub record StartsInPasses (c : Site) (agents : List Agent) (p : Progress) (r : P
 
 -- The starts on a handle come so, by the list of the drivers that are named and then all others.
 abbrev pub StartOrderLaw : Type 0
-StartOrderLaw = (c : Site) (named : List ℕ) (p : Progress) → StartsInPasses c (agents_for c.drivers p.handles named) p (starts_on c named p)
+StartOrderLaw =
+    (c : Site) (named : List ℕ) (p : Progress)
+    → StartsInPasses c (agents_for c.drivers p.handles named) p (starts_on c named p)

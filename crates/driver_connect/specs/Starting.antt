@@ -20,7 +20,8 @@ is_listed agents n = list_any (λ a. a.handle == n) agents
 
 -- a driver handle joins a list, unless it is on it
 abbrev pub with_named : List Meaning → HandleTable → List Agent → ℕ → List Agent
-with_named ds t agents n = cond (is_listed agents n) agents (agents ++ cons_option (agent_of ds t n) [])
+with_named ds t agents n =
+    cond (is_listed agents n) agents (agents ++ cons_option (agent_of ds t n) [])
 
 -- the driver handles among those that a caller names, in order, each once, behind others
 abbrev pub with_all_named : List Meaning → HandleTable → List Agent → List ℕ → List Agent
@@ -55,7 +56,8 @@ others ds t agents = others_among ds t agents (holders_of t driver_binding)
 
 -- the drivers to be tried: those named, and then all others by version
 abbrev pub agents_for : List Meaning → HandleTable → List ℕ → List Agent
-agents_for ds t named = with_all_named ds t [] named ++ by_version [] (others ds t (with_all_named ds t [] named))
+agents_for ds t named =
+    with_all_named ds t [] named ++ by_version [] (others ds t (with_all_named ds t [] named))
 
 -- ---- a start
 
@@ -92,12 +94,14 @@ can_start t protocols plan =
     not (length plan.opens == 0)
     && (not (has_twice plan.opens)
     && (list_all (is_free protocols) plan.opens
-    && (list_all is_child plan.children && nat_le (length t.handles + length plan.children) max_handles)))
+    && (list_all is_child plan.children
+    && nat_le (length t.handles + length plan.children) max_handles)))
 
 -- an item of BY_DRIVER for each GUID, in order
 abbrev pub with_driver_items : ℕ → ℕ → List (List ℕ) → List OpenRecord → List OpenRecord
 with_driver_items controller agent [] opens = opens
-with_driver_items controller agent (g ∷ gs) opens = with_driver_items controller agent gs (with_item controller g agent controller 0x10 opens)
+with_driver_items controller agent (g ∷ gs) opens =
+    with_driver_items controller agent gs (with_item controller g agent controller 0x10 opens)
 
 abbrev pub with_child : ℕ × ℕ → List (List ℕ × ℕ) → HandleTable → HandleTable
 with_child maker pairs t = with_interfaces (t.last_number + 1) pairs (with_handle (Some maker) t)
@@ -136,11 +140,14 @@ abbrev pub plan_for : Site → Progress → Agent → Plan
 plan_for c p a = plan_at c.drivers a.driver (sight_at c p a)
 
 abbrev pub is_carried_out : Site → Progress → Agent → Bool
-is_carried_out c p a = can_start p.handles (protocols_on p.handles p.opens c.controller) (plan_for c p a)
+is_carried_out c p a =
+    can_start p.handles (protocols_on p.handles p.opens c.controller) (plan_for c p a)
 
 -- By a start either the driver's whole plan is carried out, or nothing.
 abbrev pub started : Site → Progress → Agent → Progress
-started c p a = cond (is_carried_out c p a) (carried_out c.registrations c.controller a.handle (plan_for c p a) p) p
+started c p a =
+    cond (is_carried_out c p a)
+    (carried_out c.registrations c.controller a.handle (plan_for c p a) p) p
 
 -- what comes of an agent's turn: nothing, or a start that is carried out or not
 abbrev pub turn : Site → Progress → Agent → Option Bool
@@ -174,23 +181,28 @@ left_of a (Some b) = []
 
 -- starts and agents that are left come before those of what follows
 abbrev pub joined : List Start → List Agent → Passed → Passed
-joined starts left r = record { starts = starts ++ r.starts; left = left ++ r.left; progress = r.progress }
+joined starts left r =
+    record { starts = starts ++ r.starts; left = left ++ r.left; progress = r.progress }
 
 -- In a pass each driver in turn that is supported is started. The others are left.
 abbrev pub pass : Site → List Agent → Progress → Passed
 pass c [] p = record { starts = []; left = []; progress = p }
-pass c (a ∷ agents) p = joined (starts_of a (turn c p a)) (left_of a (turn c p a)) (pass c agents (after_turn c p a))
+pass c (a ∷ agents) p =
+    joined (starts_of a (turn c p a)) (left_of a (turn c p a)) (pass c agents (after_turn c p a))
 
 -- Passes over those that are left, up to one that starts none, at most a number of them.
 abbrev pub passes : ℕ → Site → List Agent → Progress → Passed
 passes zero c agents p = record { starts = []; left = agents; progress = p }
 passes (suc k) c agents p =
     cond (length (pass c agents p).starts == 0) (pass c agents p)
-    (joined (pass c agents p).starts [] (passes k c (pass c agents p).left (pass c agents p).progress))
+    (joined (pass c agents p).starts []
+    (passes k c (pass c agents p).left (pass c agents p).progress))
 
 -- The starts on a handle. Each driver is started once at most, so there are enough passes.
 abbrev pub starts_on : Site → List ℕ → Progress → Passed
-starts_on c named p = passes (length (agents_for c.drivers p.handles named)) c (agents_for c.drivers p.handles named) p
+starts_on c named p =
+    passes (length (agents_for c.drivers p.handles named)) c
+    (agents_for c.drivers p.handles named) p
 
 -- a start on the handle is carried out
 abbrev pub is_any_carried_out : List Start → Bool

@@ -80,11 +80,14 @@ is_passing a = (a == 0x1) || ((a == 0x2) || (a == 0x4))
 -- an item is no obstacle to a stop: it is a passing one, it goes with its pair, or it is for a
 -- child that goes
 abbrev pub is_no_obstacle : HandleTable → List (ℕ × ℕ) → OpenRecord → Bool
-is_no_obstacle t set o = is_passing o.attributes || (has_pair set (pair_of o) || ((o.attributes == 0x8) && is_made_by t set o.controller))
+is_no_obstacle t set o =
+    is_passing o.attributes
+    || (has_pair set (pair_of o) || ((o.attributes == 0x8) && is_made_by t set o.controller))
 
 -- the items on the handles of a set are no obstacles
 abbrev pub is_unobstructed : HandleTable → List OpenRecord → List (ℕ × ℕ) → Bool
-is_unobstructed t opens set = list_all (λ o. not (is_made_by t set o.handle) || is_no_obstacle t set o) opens
+is_unobstructed t opens set =
+    list_all (λ o. not (is_made_by t set o.handle) || is_no_obstacle t set o) opens
 
 abbrev pub has_agent : List (ℕ × ℕ) → ℕ → Bool
 has_agent pairs agent = list_any (λ p. p.1 == agent) pairs
@@ -92,13 +95,17 @@ has_agent pairs agent = list_any (λ p. p.1 == agent) pairs
 -- the agent and the controller of a call of OpenProtocol, if there is one, stay
 abbrev pub spares_opener : HandleTable → List (ℕ × ℕ) → Option (ℕ × ℕ) → Bool
 spares_opener t set None = true
-spares_opener t set (Some o) = not (has_agent set o.0) && (not (is_made_by t set o.0) && not (is_made_by t set o.1))
+spares_opener t set (Some o) =
+    not (has_agent set o.0) && (not (is_made_by t set o.0) && not (is_made_by t set o.1))
 
 -- A set can be stopped: each driver may be, no item is an obstacle, and the handle and the opener
 -- of the call stay.
-abbrev pub can_be_stopped : List Meaning → HandleTable → List OpenRecord → List (ℕ × ℕ) → ℕ → Option (ℕ × ℕ) → Bool
+abbrev pub can_be_stopped : List Meaning → HandleTable → List OpenRecord → List (ℕ × ℕ) → ℕ
+    → Option (ℕ × ℕ) → Bool
 can_be_stopped ds t opens set handle opener =
-    list_all (may_stop ds t opens) set && (is_unobstructed t opens set && (not (is_made_by t set handle) && spares_opener t set opener))
+    list_all (may_stop ds t opens) set
+    && (is_unobstructed t opens set
+    && (not (is_made_by t set handle) && spares_opener t set opener))
 
 -- ---- what stopping takes out
 
@@ -107,7 +114,12 @@ is_one_of ns n = list_any (λ m. n == m) ns
 
 -- handles go with their interfaces
 abbrev pub without_handles : List ℕ → HandleTable → HandleTable
-without_handles ns t = record t { handles = filter (λ h. not (is_one_of ns h.number)) t.handles; interfaces = filter (λ i. not (is_one_of ns i.handle)) t.interfaces }
+without_handles ns t =
+    record t {
+      handles = filter (λ h. not (is_one_of ns h.number)) t.handles;
+      interfaces = filter
+          (λ i. not (is_one_of ns i.handle)) t.interfaces;
+    }
 
 -- an item names one of some handles
 abbrev pub names_any : List ℕ → OpenRecord → Bool
@@ -128,28 +140,36 @@ pub record PlannedStop : Type 0 where
 
 -- the stop of some pairs takes out their stop set, with its handles
 abbrev pub planned_stop : HandleTable → List OpenRecord → List (ℕ × ℕ) → PlannedStop
-planned_stop t opens pairs = record { pairs = stop_set t opens pairs; handles = made_by t (stop_set t opens pairs) }
+planned_stop t opens pairs =
+    record { pairs = stop_set t opens pairs; handles = made_by t (stop_set t opens pairs) }
 
 -- a stop takes out the items of an agent and a controller on a handle
 abbrev pub takes_item : PlannedStop → ℕ → ℕ → ℕ → Bool
-takes_item plan handle agent controller = list_any (λ n. (handle == n) || ((agent == n) || (controller == n))) plan.handles || has_pair plan.pairs (controller, agent)
+takes_item plan handle agent controller =
+    list_any (λ n. (handle == n) || ((agent == n) || (controller == n))) plan.handles
+    || has_pair plan.pairs (controller, agent)
 
 -- What is answered about a stop of some pairs, and what it leaves: their stop set goes, or all
 -- stays.
-abbrev pub Stops : List Meaning → HandleTable → List OpenRecord → List (ℕ × ℕ) → ℕ → Option (ℕ × ℕ) → Bool → HandleTable → List OpenRecord → Type 0
+abbrev pub Stops : List Meaning → HandleTable → List OpenRecord → List (ℕ × ℕ) → ℕ → Option (ℕ × ℕ)
+    → Bool → HandleTable → List OpenRecord → Type 0
 Stops ds t opens pairs handle opener true new_t new_opens =
     (can_be_stopped ds t opens (stop_set t opens pairs) handle opener ≡ true)
     × (new_t ≡ without_handles (made_by t (stop_set t opens pairs)) t)
-    × (new_opens ≡ without_opens (made_by t (stop_set t opens pairs)) (stop_set t opens pairs) opens)
+    × (new_opens ≡ without_opens (made_by t (stop_set t opens pairs))
+    (stop_set t opens pairs) opens)
 Stops ds t opens pairs handle opener false new_t new_opens =
-    (can_be_stopped ds t opens (stop_set t opens pairs) handle opener ≡ false) × (new_t ≡ t) × (new_opens ≡ opens)
+    (can_be_stopped ds t opens (stop_set t opens pairs) handle opener ≡ false) × (new_t ≡ t)
+    × (new_opens ≡ opens)
 
 -- ---- disconnecting
 
 -- a handle that is not live, or a driver other than 0 that does not carry the driver binding
 -- protocol
 abbrev pub disconnect_refused : HandleTable → ℕ → ℕ → Bool
-disconnect_refused t handle driver = not (is_live t handle) || (not (driver == 0) && (not (is_live t driver) || not (carries t driver_binding driver)))
+disconnect_refused t handle driver =
+    not (is_live t handle)
+    || (not (driver == 0) && (not (is_live t driver) || not (carries t driver_binding driver)))
 
 -- driver 0 means all
 abbrev pub is_meant : ℕ → ℕ × ℕ → Bool
@@ -161,13 +181,16 @@ managers_meant opens handle driver = filter (is_meant driver) (managers_of opens
 
 -- What DisconnectController answers, and what it leaves. Where the call is valid, OUT_OF_RESOURCES
 -- means out of memory.
-abbrev pub Disconnects : List Meaning → HandleTable → List OpenRecord → ℕ → ℕ → Result (Unit {0}) Status → HandleTable → List OpenRecord → Type 0
+abbrev pub Disconnects : List Meaning → HandleTable → List OpenRecord → ℕ → ℕ
+    → Result (Unit {0}) Status → HandleTable → List OpenRecord → Type 0
 Disconnects ds t opens handle driver (Ok done) new_t new_opens =
-    (disconnect_refused t handle driver ≡ false) × Stops ds t opens (managers_meant opens handle driver) handle None true new_t new_opens
+    (disconnect_refused t handle driver ≡ false)
+    × Stops ds t opens (managers_meant opens handle driver) handle None true new_t new_opens
 Disconnects ds t opens handle driver (Err InvalidParameter) new_t new_opens =
     (disconnect_refused t handle driver ≡ true) × (new_t ≡ t) × (new_opens ≡ opens)
 Disconnects ds t opens handle driver (Err DeviceError) new_t new_opens =
-    (disconnect_refused t handle driver ≡ false) × Stops ds t opens (managers_meant opens handle driver) handle None false new_t new_opens
+    (disconnect_refused t handle driver ≡ false)
+    × Stops ds t opens (managers_meant opens handle driver) handle None false new_t new_opens
 Disconnects ds t opens handle driver (Err OutOfResources) new_t new_opens =
     (disconnect_refused t handle driver ≡ false) × (new_t ≡ t) × (new_opens ≡ opens)
 Disconnects ds t opens handle driver (Err e) new_t new_opens = ⊥

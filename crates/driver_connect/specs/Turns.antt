@@ -16,7 +16,9 @@ after_starts c (a ∷ agents) p = after_starts c agents (started c p a)
 -- their starts, each carried out or not on the lists as those before it left them
 abbrev pub starts_in_turn : Site → List Agent → Progress → List Start
 starts_in_turn c [] p = []
-starts_in_turn c (a ∷ agents) p = record { agent = a.handle; is_carried_out = is_carried_out c p a } ∷ starts_in_turn c agents (started c p a)
+starts_in_turn c (a ∷ agents) p =
+    record { agent = a.handle; is_carried_out = is_carried_out c p a } ∷ starts_in_turn c agents
+    (started c p a)
 
 -- each of some drivers is supported on the lists as the starts before it left them
 abbrev pub AreSupported : Site → List Agent → Progress → Type 0
@@ -39,8 +41,12 @@ pub record StartsInTurn (c : Site) (agents : List Agent) (p : Progress) (r : Pas
 
 -- The starts on a handle are of the drivers to be tried.
 abbrev pub StartsLaw : Type 0
-StartsLaw = (c : Site) (named : List ℕ) (p : Progress) → StartsInTurn c (agents_for c.drivers p.handles named) p (starts_on c named p)
+StartsLaw =
+    (c : Site) (named : List ℕ) (p : Progress)
+    → StartsInTurn c (agents_for c.drivers p.handles named) p (starts_on c named p)
 
 -- No driver handle is tried twice, however often it is named.
 abbrev pub TriedOnceLaw : Type 0
-TriedOnceLaw = (ds : List Meaning) (t : HandleTable) (named : List ℕ) (n : ℕ) → IsHandleTable t → times n (agents_for ds t named) ≤ 1
+TriedOnceLaw =
+    (ds : List Meaning) (t : HandleTable) (named : List ℕ) (n : ℕ) → IsHandleTable t
+    → times n (agents_for ds t named) ≤ 1

@@ -14,10 +14,10 @@ use page_ranges::Status;
 use protocol_notify::Notify;
 use std::alloc::{AllocError, Allocator};
 
-/// So many drivers may be named.
+/// How many drivers may be named.
 pub const MAX_NAMED: usize = 16;
 
-/// So many levels of handles are connected below the one that is named.
+/// How many levels of handles are connected below the one that is named.
 const LEVELS_BELOW: u8 = 7;
 
 /// The handles that were made after a number was given, ascending.
@@ -51,8 +51,15 @@ fn connect_levels<D: Driver, A: Allocator + Copy>(
     levels: u8,
 ) -> Result<bool, AllocError>
     requires { HasRoom connecting.old.handles }
-    ensures carried_out { IfOk result (λ b. b ≡ is_any (starts_on (site (map D.meaning drivers.now) notify.now controller) named.now connecting.old).starts) }
-    ensures progress { OnOk result (connecting.new ≡ spec.connected levels (site (map D.meaning drivers.now) notify.now controller) named.now connecting.old) }
+    ensures carried_out { IfOk result
+        (λ b. b
+        ≡ is_any
+        (starts_on
+        (site (map D.meaning drivers.now) notify.now controller) named.now connecting.old).starts) }
+    ensures progress { OnOk result
+        (connecting.new
+        ≡ spec.connected levels
+        (site (map D.meaning drivers.now) notify.now controller) named.now connecting.old) }
     ensures grows { OnOk result (Grows connecting.old.handles connecting.new.handles) }
 {
     let last = connecting.handles.last_number();
@@ -82,7 +89,9 @@ fn connect_each<D: Driver, A: Allocator + Copy>(
     levels: u8,
 ) -> Result<(), AllocError>
     requires { HasRoom connecting.old.handles }
-    ensures progress { OnOk result (connecting.new ≡ spec.each_connected levels (map D.meaning drivers.now) notify.now made.now connecting.old) }
+    ensures progress { OnOk result
+        (connecting.new ≡ spec.each_connected levels
+        (map D.meaning drivers.now) notify.now made.now connecting.old) }
     ensures grows { OnOk result (Grows connecting.old.handles connecting.new.handles) }
 {
     for n in made {
@@ -113,7 +122,9 @@ fn connect_copies<D: Driver, A: Allocator + Copy>(
     requires valid { spec.connect_refused handles.old handle named.now ≡ false }
     requires numbers { handles.old.last_number < 2 ^ 61 }
     requires stamps { handles.old.last_stamp < 2 ^ 61 }
-    ensures connects { spec.Connects (site (map D.meaning drivers.now) notify.now handle) named.now recursive handles.old opens.old (result_map_both (λ v. v.items) (λ e. e) result) handles.new opens.new }
+    ensures connects { spec.Connects
+        (site (map D.meaning drivers.now) notify.now handle) named.now recursive handles.old
+        opens.old (result_map_both (λ v. v.items) (λ e. e) result) handles.new opens.new }
     ensures numbers { handles.new.last_number ≤ handles.old.last_number + 4096 }
     ensures stamps { handles.new.last_stamp ≤ handles.old.last_stamp + 16384 }
 {
@@ -151,7 +162,9 @@ pub fn connect<D: Driver, A: Allocator + Copy>(
 ) -> Result<Vec<u64, A>, Status>
     requires numbers { handles.old.last_number < 2 ^ 61 }
     requires stamps { handles.old.last_stamp < 2 ^ 61 }
-    ensures connects { spec.Connects (site (map D.meaning drivers.now) notify.now handle) named.now recursive handles.old opens.old (result_map_both (λ v. v.items) (λ e. e) result) handles.new opens.new }
+    ensures connects { spec.Connects
+        (site (map D.meaning drivers.now) notify.now handle) named.now recursive handles.old
+        opens.old (result_map_both (λ v. v.items) (λ e. e) result) handles.new opens.new }
     ensures numbers { handles.new.last_number ≤ handles.old.last_number + 4096 }
     ensures stamps { handles.new.last_stamp ≤ handles.old.last_stamp + 16384 }
 {
@@ -178,9 +191,13 @@ pub fn connect_draft<D: Driver, A: Allocator + Copy>(
 ) -> Result<(), AllocError>
     requires numbers { draft.old.handles.last_number < 2 ^ 61 }
     requires stamps { draft.old.handles.last_stamp < 2 ^ 61 }
-    ensures progress { OnOk result (draft.new ≡ spec.connected (spec.levels_below true) (site (map D.meaning drivers.now) notify.now handle) [] draft.old) }
-    ensures numbers { OnOk result (draft.new.handles.last_number ≤ draft.old.handles.last_number + 4096) }
-    ensures stamps { OnOk result (draft.new.handles.last_stamp ≤ draft.old.handles.last_stamp + 16384) }
+    ensures progress { OnOk result
+        (draft.new ≡ spec.connected (spec.levels_below true)
+        (site (map D.meaning drivers.now) notify.now handle) [] draft.old) }
+    ensures numbers { OnOk result
+        (draft.new.handles.last_number ≤ draft.old.handles.last_number + 4096) }
+    ensures stamps { OnOk result
+        (draft.new.handles.last_stamp ≤ draft.old.handles.last_stamp + 16384) }
 {
     connect_levels(alloc, draft, drivers, notify, handle, &[], LEVELS_BELOW)?;
     // The contract of this look-up says how many handles there are at most.

@@ -86,7 +86,9 @@ fn add_managers<A: Allocator + Copy>(
 ) -> Result<(), AllocError>
     requires managed { managed.now ≡ managed_all handles.now opens.now }
     requires place { from ≤ length set.old }
-    ensures { OnOk result (set.new ≡ spec.with_pairs set.old (spec.managers_of_made handles.now opens.now (drop from set.old))) }
+    ensures { OnOk result
+        (set.new ≡ spec.with_pairs set.old
+        (spec.managers_of_made handles.now opens.now (drop from set.old))) }
 {
     let managers = managers_of_made(alloc, handles, opens, managed, &set.as_slice()[from..])?;
     add_pairs(set, managers.as_slice())

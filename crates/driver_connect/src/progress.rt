@@ -85,7 +85,8 @@ pub(crate) fn open_for_driver<A: Allocator + Copy>(
 ) -> Result<(), AllocError>
     requires free { AllByRecursion (λ g. has_holder opens.old controller g ≡ false) guids.now }
     requires once { spec.has_twice guids.now ≡ false }
-    ensures { OnOk result (opens.new ≡ spec.with_driver_items controller agent guids.now opens.old) }
+    ensures { OnOk result
+        (opens.new ≡ spec.with_driver_items controller agent guids.now opens.old) }
 {
     for guid in guids {
         opens.add(controller, *guid, agent, controller, BY_DRIVER)?;
@@ -103,7 +104,8 @@ fn make_child<A: Allocator + Copy>(
     requires room { HasRoom handles.old }
     requires child { spec.is_child child.now.items ≡ true }
     requires limit { length handles.old.handles + 1 ≤ max_handles }
-    ensures handles { OnOk result (handles.new ≡ spec.with_child (controller, agent) child.now.items handles.old) }
+    ensures handles { OnOk result
+        (handles.new ≡ spec.with_child (controller, agent) child.now.items handles.old) }
     ensures grows { OnOk result (Grows handles.old handles.new) }
     ensures count { OnOk result (length handles.new.handles ≡ length handles.old.handles + 1) }
 {
@@ -121,7 +123,9 @@ pub(crate) fn make_children<A: Allocator + Copy>(
     requires room { HasRoom handles.old }
     requires children { list_all spec.is_child (map (λ c. c.items) children.now) ≡ true }
     requires limit { length handles.old.handles + length children.now ≤ max_handles }
-    ensures handles { OnOk result (handles.new ≡ spec.with_children (controller, agent) (map (λ c. c.items) children.now) handles.old) }
+    ensures handles { OnOk result
+        (handles.new ≡ spec.with_children (controller, agent)
+        (map (λ c. c.items) children.now) handles.old) }
     ensures grows { OnOk result (Grows handles.old handles.new) }
 {
     for child in children {
@@ -136,7 +140,8 @@ fn signal_child<A: Allocator + Copy>(
     notify: &Notify<A>,
     child: &[(Uuid, u64)],
 ) -> Result<(), AllocError>
-    ensures { OnOk result (events.new.items ≡ events.old.items ++ spec.events_of notify.now child.now) }
+    ensures { OnOk result
+        (events.new.items ≡ events.old.items ++ spec.events_of notify.now child.now) }
 {
     for pair in child {
         let more = notify.signaled(pair.0)?;
@@ -151,7 +156,9 @@ pub(crate) fn signal_children<A: Allocator + Copy>(
     notify: &Notify<A>,
     children: &[ArrayVec<(Uuid, u64), 4>],
 ) -> Result<(), AllocError>
-    ensures { OnOk result (events.new.items ≡ events.old.items ++ spec.events_of_all notify.now (map (λ c. c.items) children.now)) }
+    ensures { OnOk result
+        (events.new.items ≡ events.old.items ++ spec.events_of_all notify.now
+        (map (λ c. c.items) children.now)) }
 {
     for child in children {
         signal_child(events, notify, child.as_slice())?;

@@ -28,7 +28,8 @@ fn is_ready<D: Driver, A: Allocator + Copy>(
     controller: u64,
     agent: &Agent,
 ) -> bool
-    ensures { result ≡ spec.is_ready (map D.meaning drivers.now) handles.now protocols.now controller agent.now }
+    ensures { result
+        ≡ spec.is_ready (map D.meaning drivers.now) handles.now protocols.now controller agent.now }
 {
     let view = View {
         agent: agent.handle,
@@ -47,7 +48,9 @@ fn has_ready<D: Driver, A: Allocator + Copy>(
     controller: u64,
     agents: &[Agent],
 ) -> bool
-    ensures { result ≡ list_any (spec.is_ready (map D.meaning drivers.now) handles.now protocols.now controller) agents.now }
+    ensures { result
+        ≡ list_any (spec.is_ready (map D.meaning drivers.now) handles.now protocols.now controller)
+        agents.now }
 {
     for agent in agents {
         if is_ready(drivers, handles, protocols, controller, agent) {
@@ -66,7 +69,10 @@ pub(crate) fn is_any_ready<D: Driver, A: Allocator + Copy>(
     controller: u64,
     named: &[u64],
 ) -> Result<bool, AllocError>
-    ensures { IfOk result (λ b. b ≡ spec.is_any_ready (map D.meaning drivers.now) handles.now opens.now controller named.now) }
+    ensures { IfOk result
+        (λ b. b
+        ≡ spec.is_any_ready
+        (map D.meaning drivers.now) handles.now opens.now controller named.now) }
 {
     let agents = agents_for(alloc, drivers, handles, named)?;
     let protocols = protocols_on(alloc, handles, opens, controller)?;
@@ -92,7 +98,10 @@ fn has_holder_after<A: Allocator + Copy>(
     handle: u64,
     items: &[OpenItem],
 ) -> bool
-    ensures { result ≡ list_any (λ i. (is_driver i.attributes || is_exclusive i.attributes) && not (takes_item plan.now handle i.agent i.controller)) items.now }
+    ensures { result
+        ≡ list_any
+        (λ i. (is_driver i.attributes || is_exclusive i.attributes)
+        && not (takes_item plan.now handle i.agent i.controller)) items.now }
 {
     items.iter().any(|i| holds(i.attributes) && !plan.takes_item(handle, i.agent, i.controller))
 }
@@ -104,7 +113,9 @@ fn is_held_after<A: Allocator + Copy>(
     handle: u64,
     guid: Uuid,
 ) -> Result<bool, AllocError>
-    ensures { IfOk result (λ b. b ≡ has_holder (without_opens plan.now.handles plan.now.pairs opens.now) handle guid) }
+    ensures { IfOk result
+        (λ b. b
+        ≡ has_holder (without_opens plan.now.handles plan.now.pairs opens.now) handle guid) }
 {
     let items = opens.items(handle, guid)?;
     Ok(has_holder_after(plan, handle, items.as_slice()))
@@ -120,7 +131,10 @@ fn protocol_after<A: Allocator + Copy>(
     value: u64,
     protocol: &ProtocolView,
 ) -> Result<ProtocolView, AllocError>
-    ensures { IfOk result (λ v. v ≡ spec.protocol_after (without_opens plan.now.handles plan.now.pairs opens.now) handle guid value protocol.now) }
+    ensures { IfOk result
+        (λ v. v
+        ≡ spec.protocol_after
+        (without_opens plan.now.handles plan.now.pairs opens.now) handle guid value protocol.now) }
 {
     if protocol.guid == guid {
         return Ok(ProtocolView {
@@ -147,7 +161,12 @@ fn protocols_after<A: Allocator + Copy>(
     value: u64,
     protocols: &[ProtocolView],
 ) -> Result<Vec<ProtocolView, A>, AllocError>
-    ensures { IfOk result (λ v. v.items ≡ map (spec.protocol_after (without_opens plan.now.handles plan.now.pairs opens.now) handle guid value) protocols.now) }
+    ensures { IfOk result
+        (λ v. v.items
+        ≡ map
+        (spec.protocol_after
+        (without_opens plan.now.handles plan.now.pairs opens.now) handle guid value)
+        protocols.now) }
 {
     let mut shown = Vec::new(alloc);
     for protocol in protocols {
@@ -169,7 +188,12 @@ pub fn may_start_after<D: Driver, A: Allocator + Copy>(
     guid: Uuid,
     value: u64,
 ) -> Result<bool, AllocError>
-    ensures { IfOk result (λ may. may ≡ false → spec.is_any_ready (map D.meaning drivers.now) (with_value handle guid value (without_handles plan.now.handles handles.now)) (without_items (is_open_on handle guid) (without_opens plan.now.handles plan.now.pairs opens.now)) handle [] ≡ false) }
+    ensures { IfOk result
+        (λ may. may ≡ false
+        → spec.is_any_ready (map D.meaning drivers.now)
+        (with_value handle guid value (without_handles plan.now.handles handles.now))
+        (without_items (is_open_on handle guid)
+        (without_opens plan.now.handles plan.now.pairs opens.now)) handle [] ≡ false) }
 {
     if driver_binding() == guid {
         return Ok(true);

@@ -55,7 +55,8 @@ impl<A: Allocator + Copy> Connecting<A> {
         handles: &Handles<A>,
         opens: &Opens<A>,
     ) -> Result<Connecting<A>, AllocError>
-        ensures { IfOk result (λ c. c ≡ record { handles = handles.now; opens = opens.now; events = [] }) }
+        ensures { IfOk result
+            (λ c. c ≡ record { handles = handles.now; opens = opens.now; events = [] }) }
     {
         let handles = handles.try_copy()?;
         let opens = opens.try_copy()?;
@@ -94,8 +95,10 @@ impl<A: Allocator + Copy> Connecting<A> {
         plan: &StartPlan,
     ) -> Result<(), AllocError>
         requires room { HasRoom self.old.handles }
-        requires can { spec.can_start self.old.handles (protocols_on self.old.handles self.old.opens controller) plan.now ≡ true }
-        ensures progress { OnOk result (self.new ≡ spec.carried_out notify.now controller agent plan.now self.old) }
+        requires can { spec.can_start self.old.handles
+            (protocols_on self.old.handles self.old.opens controller) plan.now ≡ true }
+        ensures progress { OnOk result
+            (self.new ≡ spec.carried_out notify.now controller agent plan.now self.old) }
         ensures grows { OnOk result (Grows self.old.handles self.new.handles) }
     {
         open_for_driver(&mut self.opens, controller, agent, plan.opens.as_slice())?;
@@ -120,9 +123,16 @@ fn take_turn<D: Driver, A: Allocator + Copy>(
     protocols: &[ProtocolView],
 ) -> Result<Option<bool>, AllocError>
     requires room { HasRoom connecting.old.handles }
-    requires protocols { protocols.now ≡ protocols_on connecting.old.handles connecting.old.opens controller }
-    ensures turn { IfOk result (λ t. t ≡ spec.turn (spec.site (map D.meaning drivers.now) notify.now controller) connecting.old agent.now) }
-    ensures progress { OnOk result (connecting.new ≡ spec.after_turn (spec.site (map D.meaning drivers.now) notify.now controller) connecting.old agent.now) }
+    requires protocols { protocols.now
+        ≡ protocols_on connecting.old.handles connecting.old.opens controller }
+    ensures turn { IfOk result
+        (λ t. t
+        ≡ spec.turn (spec.site (map D.meaning drivers.now) notify.now controller) connecting.old
+        agent.now) }
+    ensures progress { OnOk result
+        (connecting.new
+        ≡ spec.after_turn
+        (spec.site (map D.meaning drivers.now) notify.now controller) connecting.old agent.now) }
     ensures stays { IfOk result (λ t. spec.is_change t ≡ false → connecting.new ≡ connecting.old) }
     ensures grows { OnOk result (Grows connecting.old.handles connecting.new.handles) }
 {
@@ -150,8 +160,10 @@ fn refreshed<A: Allocator + Copy>(
     protocols: Vec<ProtocolView, A>,
     turn: Option<bool>,
 ) -> Result<Vec<ProtocolView, A>, AllocError>
-    requires { spec.is_change turn ≡ false → protocols.items ≡ protocols_on connecting.now.handles connecting.now.opens controller }
-    ensures { IfOk result (λ v. v.items ≡ protocols_on connecting.now.handles connecting.now.opens controller) }
+    requires { spec.is_change turn ≡ false
+        → protocols.items ≡ protocols_on connecting.now.handles connecting.now.opens controller }
+    ensures { IfOk result
+        (λ v. v.items ≡ protocols_on connecting.now.handles connecting.now.opens controller) }
 {
     match turn {
         Some(true) => protocols_on(alloc, &connecting.handles, &connecting.opens, controller),
@@ -162,8 +174,10 @@ fn refreshed<A: Allocator + Copy>(
 impl<A: Allocator + Copy> Pass<A> {
     /// Notes what came of an agent's turn.
     fn note(&mut self, agent: &Agent, turn: Option<bool>) -> Result<(), AllocError>
-        ensures starts { OnOk result (self.new.starts.items ≡ self.old.starts.items ++ spec.starts_of agent.now turn) }
-        ensures left { OnOk result (self.new.left.items ≡ self.old.left.items ++ spec.left_of agent.now turn) }
+        ensures starts { OnOk result
+            (self.new.starts.items ≡ self.old.starts.items ++ spec.starts_of agent.now turn) }
+        ensures left { OnOk result
+            (self.new.left.items ≡ self.old.left.items ++ spec.left_of agent.now turn) }
     {
         match turn {
             Some(is_carried_out) => self.starts.push(Start {
@@ -186,9 +200,21 @@ fn run_pass<D: Driver, A: Allocator + Copy>(
     agents: &[Agent],
 ) -> Result<Pass<A>, AllocError>
     requires { HasRoom connecting.old.handles }
-    ensures starts { IfOk result (λ p. p.starts.items ≡ (spec.pass (spec.site (map D.meaning drivers.now) notify.now controller) agents.now connecting.old).starts) }
-    ensures left { IfOk result (λ p. p.left.items ≡ (spec.pass (spec.site (map D.meaning drivers.now) notify.now controller) agents.now connecting.old).left) }
-    ensures progress { OnOk result (connecting.new ≡ (spec.pass (spec.site (map D.meaning drivers.now) notify.now controller) agents.now connecting.old).progress) }
+    ensures starts { IfOk result
+        (λ p. p.starts.items
+        ≡ (spec.pass
+        (spec.site (map D.meaning drivers.now) notify.now controller) agents.now
+        connecting.old).starts) }
+    ensures left { IfOk result
+        (λ p. p.left.items
+        ≡ (spec.pass
+        (spec.site (map D.meaning drivers.now) notify.now controller) agents.now
+        connecting.old).left) }
+    ensures progress { OnOk result
+        (connecting.new
+        ≡ (spec.pass
+        (spec.site (map D.meaning drivers.now) notify.now controller) agents.now
+        connecting.old).progress) }
     ensures grows { OnOk result (Grows connecting.old.handles connecting.new.handles) }
 {
     let mut pass = Pass {
@@ -222,8 +248,16 @@ pub(crate) fn run_passes<D: Driver, A: Allocator + Copy>(
     named: &[u64],
 ) -> Result<Vec<Start, A>, AllocError>
     requires { HasRoom connecting.old.handles }
-    ensures starts { IfOk result (λ v. v.items ≡ (spec.starts_on (spec.site (map D.meaning drivers.now) notify.now controller) named.now connecting.old).starts) }
-    ensures progress { OnOk result (connecting.new ≡ (spec.starts_on (spec.site (map D.meaning drivers.now) notify.now controller) named.now connecting.old).progress) }
+    ensures starts { IfOk result
+        (λ v. v.items
+        ≡ (spec.starts_on
+        (spec.site (map D.meaning drivers.now) notify.now controller) named.now
+        connecting.old).starts) }
+    ensures progress { OnOk result
+        (connecting.new
+        ≡ (spec.starts_on
+        (spec.site (map D.meaning drivers.now) notify.now controller) named.now
+        connecting.old).progress) }
     ensures grows { OnOk result (Grows connecting.old.handles connecting.new.handles) }
 {
     let agents = agents_for(alloc, drivers, &connecting.handles, named)?;
@@ -241,8 +275,16 @@ fn run_passes_over<D: Driver, A: Allocator + Copy>(
     agents: Vec<Agent, A>,
 ) -> Result<Vec<Start, A>, AllocError>
     requires { HasRoom connecting.old.handles }
-    ensures starts { IfOk result (λ v. v.items ≡ (spec.passes (length agents.items) (spec.site (map D.meaning drivers.now) notify.now controller) agents.items connecting.old).starts) }
-    ensures progress { OnOk result (connecting.new ≡ (spec.passes (length agents.items) (spec.site (map D.meaning drivers.now) notify.now controller) agents.items connecting.old).progress) }
+    ensures starts { IfOk result
+        (λ v. v.items
+        ≡ (spec.passes (length agents.items)
+        (spec.site (map D.meaning drivers.now) notify.now controller) agents.items
+        connecting.old).starts) }
+    ensures progress { OnOk result
+        (connecting.new
+        ≡ (spec.passes (length agents.items)
+        (spec.site (map D.meaning drivers.now) notify.now controller) agents.items
+        connecting.old).progress) }
     ensures grows { OnOk result (Grows connecting.old.handles connecting.new.handles) }
 {
     let count = agents.len();

@@ -26,7 +26,8 @@ fn may_stop<D: Driver, A: Allocator + Copy>(
     opens: &Opens<A>,
     pair: (u64, u64),
 ) -> Result<bool, AllocError>
-    ensures { IfOk result (λ b. b ≡ spec.may_stop (map D.meaning drivers.now) handles.now opens.now pair) }
+    ensures { IfOk result
+        (λ b. b ≡ spec.may_stop (map D.meaning drivers.now) handles.now opens.now pair) }
 {
     let (controller, agent) = pair;
     let Some(place) = driver_of(drivers, handles, agent) else {
@@ -49,7 +50,9 @@ fn may_all_stop<D: Driver, A: Allocator + Copy>(
     opens: &Opens<A>,
     pairs: &[(u64, u64)],
 ) -> Result<bool, AllocError>
-    ensures { IfOk result (λ b. b ≡ list_all (spec.may_stop (map D.meaning drivers.now) handles.now opens.now) pairs.now) }
+    ensures { IfOk result
+        (λ b. b
+        ≡ list_all (spec.may_stop (map D.meaning drivers.now) handles.now opens.now) pairs.now) }
 {
     for pair in pairs {
         if !may_stop(alloc, drivers, handles, opens, *pair)? {
@@ -128,7 +131,10 @@ fn can_be_stopped<D: Driver, A: Allocator + Copy>(
     handle: u64,
     opener: Option<(u64, u64)>,
 ) -> Result<bool, AllocError>
-    ensures { IfOk result (λ b. b ≡ spec.can_be_stopped (map D.meaning drivers.now) handles.now opens.now set.now handle opener) }
+    ensures { IfOk result
+        (λ b. b
+        ≡ spec.can_be_stopped
+        (map D.meaning drivers.now) handles.now opens.now set.now handle opener) }
 {
     Ok(
         may_all_stop(alloc, drivers, handles, opens, set.as_slice())?
@@ -161,7 +167,8 @@ fn take_pairs<A: Allocator + Copy>(opens: &mut Opens<A>, pairs: &[(u64, u64)])
 
 /// Whether an item's handle, agent or controller is one of some handles.
 fn names_any(handles: &[u64], handle: u64, agent: u64, controller: u64) -> bool
-    ensures { result ≡ list_any (λ n. (handle == n) || ((agent == n) || (controller == n))) handles.now }
+    ensures { result
+        ≡ list_any (λ n. (handle == n) || ((agent == n) || (controller == n))) handles.now }
 {
     handles
         .iter()
@@ -231,7 +238,10 @@ impl<A: Allocator + Copy> StopPlan<A> {
         handle: u64,
         opener: Option<(u64, u64)>,
     ) -> Result<bool, AllocError>
-        ensures { IfOk result (λ b. b ≡ spec.can_be_stopped (map D.meaning drivers.now) handles.now opens.now self.now.pairs handle opener) }
+        ensures { IfOk result
+            (λ b. b
+            ≡ spec.can_be_stopped
+            (map D.meaning drivers.now) handles.now opens.now self.now.pairs handle opener) }
     {
         if self.pairs.as_slice().is_empty() {
             return Ok(true);
@@ -264,7 +274,10 @@ pub fn stop<D: Driver, A: Allocator + Copy>(
     handle: u64,
     opener: Option<(u64, u64)>,
 ) -> Result<bool, AllocError>
-    ensures ok { IfOk result (λ stopped. spec.Stops (map D.meaning drivers.now) handles.old opens.old pairs.now handle opener stopped handles.new opens.new) }
+    ensures ok { IfOk result
+        (λ stopped. spec.Stops
+        (map D.meaning drivers.now) handles.old opens.old pairs.now handle opener stopped
+        handles.new opens.new) }
     ensures err_handles { OnErr result (handles.new ≡ handles.old) }
     ensures err_opens { OnErr result (opens.new ≡ opens.old) }
 {
@@ -320,7 +333,9 @@ pub fn disconnect<D: Driver, A: Allocator + Copy>(
     handle: u64,
     driver: u64,
 ) -> Result<(), Status>
-    ensures { spec.Disconnects (map D.meaning drivers.now) handles.old opens.old handle driver result handles.new opens.new }
+    ensures { spec.Disconnects
+        (map D.meaning drivers.now) handles.old opens.old handle driver result handles.new
+        opens.new }
 {
     if is_refused(handles, handle, driver) {
         return Err(Status::InvalidParameter);

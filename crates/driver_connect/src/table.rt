@@ -76,7 +76,14 @@ impl Driver for TableDriver {
     ghost use Rattle.std.specs.List.{list_all};
     ghost use Rattle.driver_connect.specs.Drivers.{is_free};
 
-    ghost meaning = { λ d. record { version = d.version; supports = λ s. list_all (is_free s.protocols) d.needs.items; plan = λ s. d.plan; may_stop = λ s. d.stops } };
+    ghost meaning = { λ d.
+        record {
+          version = d.version;
+          supports = λ s. list_all
+              (is_free s.protocols) d.needs.items;
+          plan = λ s. d.plan;
+          may_stop = λ s. d.stops;
+        } };
 
     fn version(&self) -> u32 {
         self.version

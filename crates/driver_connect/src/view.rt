@@ -30,7 +30,8 @@ impl<'a> Model for View<'a> {
 
     ghost Value = { Sight };
 
-    ghost view = { λ v. record { agent = v.agent; controller = v.controller; protocols = v.protocols.now } };
+    ghost view = { λ v.
+        record { agent = v.agent; controller = v.controller; protocols = v.protocols.now } };
 }
 
 /// What the start of a driver does.
@@ -48,7 +49,8 @@ impl Model for StartPlan {
 
     ghost Value = { Plan };
 
-    ghost view = { λ p. record { opens = p.opens.items; children = map (λ c. c.items) p.children.items } };
+    ghost view = { λ p.
+        record { opens = p.opens.items; children = map (λ c. c.items) p.children.items } };
 }
 
 impl StartPlan {

@@ -25,7 +25,8 @@ is_of_pair controller agent o = (o.agent == agent) && (o.controller == controlle
 
 -- an item is equal to what a call asks for
 abbrev pub is_equal_item : ℕ → List ℕ → ℕ → ℕ → ℕ → OpenRecord → Bool
-is_equal_item n guid agent controller a o = is_open_on n guid o && (is_of_pair controller agent o && (o.attributes == a))
+is_equal_item n guid agent controller a o =
+    is_open_on n guid o && (is_of_pair controller agent o && (o.attributes == a))
 
 -- an item makes its pair manage a handle: it is for a driver, and the handle is its controller
 abbrev pub manages : ℕ → OpenRecord → Bool
@@ -38,7 +39,13 @@ names n o = (o.handle == n) || ((o.agent == n) || (o.controller == n))
 -- ---- what is listed
 
 abbrev pub item_of : OpenRecord → OpenItem
-item_of o = record { agent = o.agent; controller = o.controller; attributes = o.attributes; count = o.count }
+item_of o =
+    record {
+      agent = o.agent;
+      controller = o.controller;
+      attributes = o.attributes;
+      count = o.count;
+    }
 
 -- the items of an interface, in the order in which they were made
 abbrev pub items_on : List OpenRecord → ℕ → List ℕ → List OpenItem
@@ -69,11 +76,22 @@ abbrev pub with_item : ℕ → List ℕ → ℕ → ℕ → ℕ → List OpenRec
 with_item n guid agent controller a opens =
     cond (list_any (is_equal_item n guid agent controller a) opens)
     (map (counted (is_equal_item n guid agent controller a)) opens)
-    (cond (agent == 0) opens (opens ++ record { handle = n; guid = guid; agent = agent; controller = controller; attributes = a; count = 1 } ∷ []))
+    (cond (agent == 0) opens
+    (opens
+    ++ record {
+      handle = n;
+      guid = guid;
+      agent = agent;
+      controller = controller;
+      attributes = a;
+      count = 1;
+    } ∷ []))
 
 -- the count of an equal item can rise
 abbrev pub CanCount : ℕ → List ℕ → ℕ → ℕ → ℕ → List OpenRecord → Type 0
-CanCount n guid agent controller a opens = AllByRecursion (λ o. is_equal_item n guid agent controller a o ≡ true → o.count < 2 ^ 32 - 1) opens
+CanCount n guid agent controller a opens =
+    AllByRecursion (λ o. is_equal_item n guid agent controller a o ≡ true
+    → o.count < 2 ^ 32 - 1) opens
 
 -- the items of a pair on an interface, whatever their attributes
 abbrev pub is_closed_by : ℕ → List ℕ → ℕ → ℕ → OpenRecord → Bool

@@ -13,7 +13,9 @@ use Rattle.open_agents.specs.OpenItems.{is_for_driver, is_exclusive, is_open_on,
 
 -- one of the seven attributes that OpenProtocol knows
 abbrev pub is_known : ℕ → Bool
-is_known a = (a == 0x1) || ((a == 0x2) || ((a == 0x4) || ((a == 0x8) || ((a == 0x10) || ((a == 0x20) || (a == 0x30))))))
+is_known a =
+    (a == 0x1)
+    || ((a == 0x2) || ((a == 0x4) || ((a == 0x8) || ((a == 0x10) || ((a == 0x20) || (a == 0x30))))))
 
 abbrev pub needs_controller : ℕ → Bool
 needs_controller a = (a == 0x8) || is_for_driver a
@@ -39,11 +41,14 @@ has_equal opens n guid agent controller a = list_any (is_equal_item n guid agent
 
 -- an item of an agent, with some attributes
 abbrev pub has_of_agent : List OpenRecord → ℕ → List ℕ → ℕ → ℕ → Bool
-has_of_agent opens n guid agent a = list_any (λ o. is_open_on n guid o && ((o.agent == agent) && (o.attributes == a))) opens
+has_of_agent opens n guid agent a =
+    list_any (λ o. is_open_on n guid o && ((o.agent == agent) && (o.attributes == a))) opens
 
 -- an item for a driver or an exclusive one
 abbrev pub has_holder : List OpenRecord → ℕ → List ℕ → Bool
-has_holder opens n guid = list_any (λ o. is_open_on n guid o && (is_for_driver o.attributes || is_exclusive o.attributes)) opens
+has_holder opens n guid =
+    list_any
+    (λ o. is_open_on n guid o && (is_for_driver o.attributes || is_exclusive o.attributes)) opens
 
 abbrev pub has_exclusive : List OpenRecord → ℕ → List ℕ → Bool
 has_exclusive opens n guid = list_any (λ o. is_open_on n guid o && is_exclusive o.attributes) opens

@@ -8,7 +8,7 @@ use crate::place_block::PlaceBlock;
 use std::alloc::{AllocError, Allocator};
 use std::marker::Model;
 
-/// So many handles share a block.
+/// How many handles share a block.
 const BLOCK_SIZE: u64 = 8;
 
 /// The block of a handle.
@@ -54,7 +54,8 @@ fn block_if<A: Allocator + Copy>(
     at: usize,
     number: u64,
 ) -> Option<&PlaceBlock<A>>
-    ensures { option_map (λ k. k.now) result ≡ kept_if (is_numbered number) (slice_get blocks.now at) }
+    ensures { option_map (λ k. k.now) result ≡ kept_if (is_numbered number)
+        (slice_get blocks.now at) }
 {
     let block = blocks.get(at)?;
     if block.number() == number {

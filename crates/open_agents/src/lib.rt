@@ -1,4 +1,4 @@
-//! Who has which protocol interface open, and the rules by which OpenProtocol decides.
+//! Which agents have which protocol interfaces open, and the rules by which OpenProtocol decides.
 #![tactic(auto)]
 
 mod attributes;

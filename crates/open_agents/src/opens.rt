@@ -113,7 +113,8 @@ impl<A: Allocator + Copy> Opens<A> {
         controller: u64,
         attributes: u32,
     ) -> Decision
-        ensures { result ≡ rule.open_rule handles.now self.now handle guid agent controller attributes }
+        ensures { result
+            ≡ rule.open_rule handles.now self.now handle guid agent controller attributes }
     {
         let carried = handles.interface(handle, guid).is_some();
         self.decide_carried(
@@ -133,7 +134,8 @@ impl<A: Allocator + Copy> Opens<A> {
         attributes: u32,
     ) -> Decision
         requires { carried ≡ carries handles.now guid handle }
-        ensures { result ≡ rule.open_rule handles.now self.now handle guid agent controller attributes }
+        ensures { result
+            ≡ rule.open_rule handles.now self.now handle guid agent controller attributes }
     {
         // No item is of agent 0.
         let _slots = self.items.slots();
@@ -168,7 +170,8 @@ impl<A: Allocator + Copy> Opens<A> {
     /// were any.
     pub fn close(&mut self, handle: u64, guid: Uuid, agent: u64, controller: u64) -> bool
         ensures found { result ≡ list_any (is_closed_by handle guid agent controller) self.old }
-        ensures items { self.new ≡ without_items (is_closed_by handle guid agent controller) self.old }
+        ensures items { self.new
+            ≡ without_items (is_closed_by handle guid agent controller) self.old }
     {
         let near = self.items.near(handle);
         let Some(first) = find_closed(near, handle, guid, agent, controller) else {
@@ -276,9 +279,11 @@ impl<A: Allocator + Copy> Opens<A> {
         attributes: u32,
     ) -> Result<(), AllocError>
         requires { CanCount handle guid agent controller attributes self.old }
-        ensures ok { OnOk result (self.new ≡ with_item handle guid agent controller attributes self.old) }
+        ensures ok { OnOk result
+            (self.new ≡ with_item handle guid agent controller attributes self.old) }
         ensures err { OnErr result (self.new ≡ self.old) }
-        ensures counts { rule.has_equal self.old handle guid agent controller attributes ≡ true → IsOk result }
+        ensures counts { rule.has_equal self.old handle guid agent controller attributes ≡ true
+            → IsOk result }
         ensures no_agent { agent ≡ 0 → IsOk result }
     {
         // No item is of agent 0.
@@ -306,7 +311,8 @@ impl<A: Allocator + Copy> Opens<A> {
         attributes: u32,
     ) -> Result<(), AllocError>
         requires { rule.has_equal self.old handle guid agent controller attributes ≡ false }
-        ensures ok { OnOk result (self.new ≡ with_item handle guid agent controller attributes self.old) }
+        ensures ok { OnOk result
+            (self.new ≡ with_item handle guid agent controller attributes self.old) }
         ensures err { OnErr result (self.new ≡ self.old) }
         ensures no_agent { agent ≡ 0 → IsOk result }
     {
@@ -358,7 +364,8 @@ fn decide_among<A: Allocator + Copy>(
     attributes: u32,
 ) -> Decision
     requires { carried ≡ carries handles.now guid handle }
-    ensures { result ≡ rule.open_rule handles.now (items_at on.entry.slots.now on.entry.places.now) handle guid agent controller attributes }
+    ensures { result ≡ rule.open_rule handles.now
+        (items_at on.entry.slots.now on.entry.places.now) handle guid agent controller attributes }
 {
     if !is_known(attributes)
         || !is_live_if(handles, carried, handle, guid)
@@ -444,8 +451,11 @@ fn items_among<A: Allocator>(
     handle: u64,
     guid: Uuid,
 ) -> Result<Vec<OpenItem, A>, AllocError>
-    ensures items { IfOk result (λ v. v.items ≡ items_on (items_at near.entry.slots.now near.entry.places.now) handle guid) }
-    ensures none { items_on (items_at near.entry.slots.now near.entry.places.now) handle guid ≡ [] → IsOk result }
+    ensures items { IfOk result
+        (λ v. v.items
+        ≡ items_on (items_at near.entry.slots.now near.entry.places.now) handle guid) }
+    ensures none { items_on (items_at near.entry.slots.now near.entry.places.now) handle guid ≡ []
+        → IsOk result }
 {
     let mut found = Vec::new(alloc);
     for place in near.places {
@@ -464,8 +474,10 @@ fn managers_near<A: Allocator>(
     near: Near<'_>,
     handle: u64,
 ) -> Result<Vec<(u64, u64), A>, AllocError>
-    ensures pairs { IfOk result (λ v. v.items ≡ managers_of (items_at near.entry.slots.now near.entry.places.now) handle) }
-    ensures none { managers_of (items_at near.entry.slots.now near.entry.places.now) handle ≡ [] → IsOk result }
+    ensures pairs { IfOk result
+        (λ v. v.items ≡ managers_of (items_at near.entry.slots.now near.entry.places.now) handle) }
+    ensures none { managers_of (items_at near.entry.slots.now near.entry.places.now) handle ≡ []
+        → IsOk result }
 {
     let mut found = Vec::new(alloc);
     for place in near.places {

@@ -20,7 +20,10 @@ pub(crate) fn has_equal(
     controller: u64,
     attributes: u32,
 ) -> bool
-    ensures { result ≡ rule.has_equal (items_at near.entry.slots.now near.entry.places.now) handle guid agent controller attributes }
+    ensures { result
+        ≡ rule.has_equal
+        (items_at near.entry.slots.now near.entry.places.now) handle guid agent controller
+        attributes }
 {
     for place in near.places {
         if let Some(o) = item_at(near.slots, *place) {
@@ -40,7 +43,9 @@ pub(crate) fn has_of_agent(
     agent: u64,
     attributes: u32,
 ) -> bool
-    ensures { result ≡ rule.has_of_agent (items_at near.entry.slots.now near.entry.places.now) handle guid agent attributes }
+    ensures { result
+        ≡ rule.has_of_agent
+        (items_at near.entry.slots.now near.entry.places.now) handle guid agent attributes }
 {
     for place in near.places {
         if let Some(o) = item_at(near.slots, *place) {
@@ -54,14 +59,17 @@ pub(crate) fn has_of_agent(
 
 /// Whether an item is of an agent, with some attributes, on an interface.
 fn is_of_agent(o: &OpenRecord, handle: u64, guid: Uuid, agent: u64, attributes: u32) -> bool
-    ensures { result ≡ (spec.is_open_on handle guid o.now && ((o.now.agent == agent) && (o.now.attributes == attributes))) }
+    ensures { result
+        ≡ (spec.is_open_on handle guid o.now
+        && ((o.now.agent == agent) && (o.now.attributes == attributes))) }
 {
     o.agent == agent && o.attributes == attributes && is_open_on(o, handle, guid)
 }
 
 /// Whether an interface is open for a driver or exclusively.
 pub(crate) fn is_held(near: Near<'_>, handle: u64, guid: Uuid) -> bool
-    ensures { result ≡ rule.has_holder (items_at near.entry.slots.now near.entry.places.now) handle guid }
+    ensures { result
+        ≡ rule.has_holder (items_at near.entry.slots.now near.entry.places.now) handle guid }
 {
     for place in near.places {
         if let Some(o) = item_at(near.slots, *place) {
@@ -75,14 +83,17 @@ pub(crate) fn is_held(near: Near<'_>, handle: u64, guid: Uuid) -> bool
 
 /// Whether an item is for a driver or exclusive, on an interface.
 fn holds(o: &OpenRecord, handle: u64, guid: Uuid) -> bool
-    ensures { result ≡ (spec.is_open_on handle guid o.now && (spec.is_for_driver o.now.attributes || spec.is_exclusive o.now.attributes)) }
+    ensures { result
+        ≡ (spec.is_open_on handle guid o.now
+        && (spec.is_for_driver o.now.attributes || spec.is_exclusive o.now.attributes)) }
 {
     (is_for_driver(o.attributes) || is_exclusive(o.attributes)) && is_open_on(o, handle, guid)
 }
 
 /// Whether an interface is open exclusively.
 pub(crate) fn has_exclusive(near: Near<'_>, handle: u64, guid: Uuid) -> bool
-    ensures { result ≡ rule.has_exclusive (items_at near.entry.slots.now near.entry.places.now) handle guid }
+    ensures { result
+        ≡ rule.has_exclusive (items_at near.entry.slots.now near.entry.places.now) handle guid }
 {
     for place in near.places {
         if let Some(o) = item_at(near.slots, *place) {
@@ -103,7 +114,9 @@ fn excludes(o: &OpenRecord, handle: u64, guid: Uuid) -> bool
 
 /// Whether a driver has an interface open.
 pub(crate) fn is_any_driving(near: Near<'_>, handle: u64, guid: Uuid) -> bool
-    ensures { result ≡ list_any (λ o. spec.is_open_on handle guid o && spec.is_for_driver o.attributes) (items_at near.entry.slots.now near.entry.places.now) }
+    ensures { result
+        ≡ list_any (λ o. spec.is_open_on handle guid o && spec.is_for_driver o.attributes)
+        (items_at near.entry.slots.now near.entry.places.now) }
 {
     for place in near.places {
         if let Some(o) = item_at(near.slots, *place) {
@@ -124,7 +137,8 @@ fn is_driving(o: &OpenRecord, handle: u64, guid: Uuid) -> bool
 
 /// Whether an item keeps an interface.
 pub(crate) fn is_any_keeping(near: Near<'_>, handle: u64, guid: Uuid) -> bool
-    ensures { result ≡ list_any (λ o. spec.is_open_on handle guid o && spec.keeps o.attributes) (items_at near.entry.slots.now near.entry.places.now) }
+    ensures { result ≡ list_any (λ o. spec.is_open_on handle guid o && spec.keeps o.attributes)
+        (items_at near.entry.slots.now near.entry.places.now) }
 {
     for place in near.places {
         if let Some(o) = item_at(near.slots, *place) {
@@ -167,7 +181,8 @@ fn names_handle(o: &OpenRecord, handle: u64) -> bool
 
 /// The first item for a driver on an interface that is not exclusive.
 pub(crate) fn first_driver_item(near: Near<'_>, handle: u64, guid: Uuid) -> Option<OpenRecord>
-    ensures { result ≡ rule.driver_item (items_at near.entry.slots.now near.entry.places.now) handle guid }
+    ensures { result
+        ≡ rule.driver_item (items_at near.entry.slots.now near.entry.places.now) handle guid }
 {
     for place in near.places {
         if let Some(o) = item_at(near.slots, *place) {
@@ -188,8 +203,12 @@ pub(crate) fn find_equal(
     controller: u64,
     attributes: u32,
 ) -> Option<usize>
-    ensures there { IfSome result (HoldsAt (spec.is_equal_item handle guid agent controller attributes) near.entry.slots.now) }
-    ensures none { IfNone result (list_any (spec.is_equal_item handle guid agent controller attributes) (items_at near.entry.slots.now near.entry.places.now) ≡ false) }
+    ensures there { IfSome result
+        (HoldsAt
+        (spec.is_equal_item handle guid agent controller attributes) near.entry.slots.now) }
+    ensures none { IfNone result
+        (list_any (spec.is_equal_item handle guid agent controller attributes)
+        (items_at near.entry.slots.now near.entry.places.now) ≡ false) }
 {
     for place in near.places {
         if let Some(o) = item_at(near.slots, *place) {
@@ -209,8 +228,11 @@ pub(crate) fn find_closed(
     agent: u64,
     controller: u64,
 ) -> Option<usize>
-    ensures there { IfSome result (HoldsAt (is_closed_by handle guid agent controller) near.entry.slots.now) }
-    ensures none { IfNone result (list_any (is_closed_by handle guid agent controller) (items_at near.entry.slots.now near.entry.places.now) ≡ false) }
+    ensures there { IfSome result
+        (HoldsAt (is_closed_by handle guid agent controller) near.entry.slots.now) }
+    ensures none { IfNone result
+        (list_any (is_closed_by handle guid agent controller)
+        (items_at near.entry.slots.now near.entry.places.now) ≡ false) }
 {
     for place in near.places {
         if let Some(o) = item_at(near.slots, *place) {
@@ -225,7 +247,9 @@ pub(crate) fn find_closed(
 /// The place of an item of an interface.
 pub(crate) fn find_open_on(near: Near<'_>, handle: u64, guid: Uuid) -> Option<usize>
     ensures there { IfSome result (HoldsAt (spec.is_open_on handle guid) near.entry.slots.now) }
-    ensures none { IfNone result (list_any (spec.is_open_on handle guid) (items_at near.entry.slots.now near.entry.places.now) ≡ false) }
+    ensures none { IfNone result
+        (list_any (spec.is_open_on handle guid)
+        (items_at near.entry.slots.now near.entry.places.now) ≡ false) }
 {
     for place in near.places {
         if let Some(o) = item_at(near.slots, *place) {
@@ -239,8 +263,11 @@ pub(crate) fn find_open_on(near: Near<'_>, handle: u64, guid: Uuid) -> Option<us
 
 /// The place of an item of a controller and an agent, among those near.
 pub(crate) fn find_of_pair(near: Near<'_>, controller: u64, agent: u64) -> Option<usize>
-    ensures there { IfSome result (HoldsAt (spec.is_of_pair controller agent) near.entry.slots.now) }
-    ensures none { IfNone result (list_any (spec.is_of_pair controller agent) (items_at near.entry.slots.now near.entry.places.now) ≡ false) }
+    ensures there { IfSome result
+        (HoldsAt (spec.is_of_pair controller agent) near.entry.slots.now) }
+    ensures none { IfNone result
+        (list_any (spec.is_of_pair controller agent)
+        (items_at near.entry.slots.now near.entry.places.now) ≡ false) }
 {
     for place in near.places {
         if let Some(o) = item_at(near.slots, *place) {
@@ -255,7 +282,9 @@ pub(crate) fn find_of_pair(near: Near<'_>, controller: u64, agent: u64) -> Optio
 /// The place of an item that names a handle, among those near.
 pub(crate) fn find_naming(near: Near<'_>, handle: u64) -> Option<usize>
     ensures there { IfSome result (HoldsAt (spec.names handle) near.entry.slots.now) }
-    ensures none { IfNone result (list_any (spec.names handle) (items_at near.entry.slots.now near.entry.places.now) ≡ false) }
+    ensures none { IfNone result
+        (list_any (spec.names handle) (items_at near.entry.slots.now near.entry.places.now)
+        ≡ false) }
 {
     for place in near.places {
         if let Some(o) = item_at(near.slots, *place) {
@@ -274,7 +303,8 @@ pub(crate) fn find_last_of_pair(
     agent: u64,
 ) -> Option<usize>
     ensures there { IfSome result (HoldsAt (spec.is_of_pair controller agent) slots.now) }
-    ensures none { IfNone result (list_any (spec.is_of_pair controller agent) (items_in slots.now) ≡ false) }
+    ensures none { IfNone result
+        (list_any (spec.is_of_pair controller agent) (items_in slots.now) ≡ false) }
 {
     for place in (0..slots.len()).rev() {
         if let Some(o) = &slots[place] {

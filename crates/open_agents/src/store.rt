@@ -79,7 +79,8 @@ impl<A: Allocator + Copy> ItemStore<A> {
     /// The items in the block of a handle.
     pub(crate) fn near(&self, handle: u64) -> Near<'_>
         ensures slots { result.slots.now ≡ self.now }
-        ensures items { items_at result.slots.now result.places.now ≡ filter (is_near handle) (items_in self.now) }
+        ensures items { items_at result.slots.now result.places.now ≡ filter (is_near handle)
+            (items_in self.now) }
     {
         Near {
             slots: self.slots.as_slice(),
@@ -89,7 +90,8 @@ impl<A: Allocator + Copy> ItemStore<A> {
 
     /// Whether an agent may have items.
     pub(crate) fn may_have_agent(&self, agent: u64) -> bool
-        ensures { result ≡ false → AllByRecursion (λ o. (o.agent == agent) ≡ false) (items_in self.now) }
+        ensures { result ≡ false
+            → AllByRecursion (λ o. (o.agent == agent) ≡ false) (items_in self.now) }
     {
         !self.agents.places(agent).is_empty()
     }
@@ -104,9 +106,12 @@ impl<A: Allocator + Copy> ItemStore<A> {
         controller: u64,
         attributes: u32,
     )
-        requires there { HoldsAt (spec.is_equal_item handle guid agent controller attributes) self.old place }
+        requires there { HoldsAt
+            (spec.is_equal_item handle guid agent controller attributes) self.old place }
         requires counts { CanCount handle guid agent controller attributes (items_in self.old) }
-        ensures { items_in self.new ≡ map (spec.counted (spec.is_equal_item handle guid agent controller attributes)) (items_in self.old) }
+        ensures { items_in self.new
+            ≡ map (spec.counted (spec.is_equal_item handle guid agent controller attributes))
+            (items_in self.old) }
     {
         if let Some(item) = self.slots[place] {
             let mut counted = item;

@@ -14,6 +14,7 @@ LiesIn inner outer =
 -- page that it frees, also those by which the range grows to the borders of granules.
 abbrev pub FreedPagesLaw : Type 0
 FreedPagesLaw =
-    (b : Book) (address pages : ℕ) (done : Unit {0}) (new : Book) → IsInGranules b → FreesPages b address pages (Ok done) new →
+    (b : Book) (address pages : ℕ) (done : Unit {0}) (new : Book) → IsInGranules b
+    → FreesPages b address pages (Ok done) new →
     LiesIn (range_from address pages) (freed_range b address pages)
     × AllInRange b.memory (freed_range b address pages) (IsOwnedBy Pages)

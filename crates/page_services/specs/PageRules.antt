@@ -72,7 +72,13 @@ whole_pages granule t pages = rounded pages (granule_for t granule)
 -- fill granules of the type
 abbrev pub whole_request : ℕ → ℕ → ℕ → ℕ → Request
 whole_request granule t pages limit =
-    record { mtype = t; pages = whole_pages granule t pages; limit = limit; granule = granule_for t granule }
+    record {
+      mtype = t;
+      pages = whole_pages granule t pages;
+      limit = limit;
+      granule = granule_for t
+          granule;
+    }
 
 -- a request, if the number of its pages has at most 64 bits: no memory has more
 abbrev pub if_counted : Request → Option Request
@@ -102,7 +108,7 @@ IsChosenPlace Chosen b r placed =
     (start : ℕ) × Chosen b r start placed.certificate × (placed.address ≡ start * page_size)
 
 -- What is answered where pages of an owner are placed for a request, and the book after it: they
--- stand at a start that was chosen, with the type of the request and the owner. OUT_OF_RESOURCES,
+-- begin at a start that was chosen, with the type of the request and the owner. OUT_OF_RESOURCES,
 -- which leaves the book, means that memory ran out or that no start is permitted.
 abbrev pub PlacesPages : {A : Type 0} → Choice → Book → Request → Owner → Result (Placed A) Status
     → Book → Type 0
@@ -135,7 +141,8 @@ abbrev pub placement_request : ℕ → ℕ → ℕ → ℕ → ℕ → Option Re
 placement_request granule kind t pages memory =
     if kind == any_pages
     then Some (whole_request granule t pages page_count)
-    else (if kind == max_address then Some (whole_request granule t pages (pages_below memory)) else None)
+    else (if kind == max_address then Some (whole_request granule t pages (pages_below memory))
+    else None)
 
 -- Pages of a type may be allocated at an address: the address is that of a page, and of a granule
 -- of the type, and the pages are conventional, with those that fill the last granule.

@@ -52,7 +52,8 @@ pub fn placement_request(
     pages: u64,
     memory: u64,
 ) -> Option<Request>
-    ensures { result ≡ option_and_then if_counted (placement_request granule kind mtype pages memory) }
+    ensures { result ≡ option_and_then if_counted
+        (placement_request granule kind mtype pages memory) }
 {
     let limit = match kind {
         ALLOCATE_ANY_PAGES => PAGE_COUNT,
@@ -95,9 +96,11 @@ impl<A: Allocator> Model for PageBook<A> {
 
     ghost Value = { Book };
 
-    ghost view = { λ b. record { memory = b.table; key = b.key; granule = b.granule; certifies = b.certifies } };
+    ghost view = { λ b.
+        record { memory = b.table; key = b.key; granule = b.granule; certifies = b.certifies } };
 
-    ghost invariant = { λ b. IsInGranules (record { memory = b.table; key = b.key; granule = b.granule; certifies = b.certifies }) };
+    ghost invariant = { λ b. IsInGranules
+        (record { memory = b.table; key = b.key; granule = b.granule; certifies = b.certifies }) };
 }
 
 impl<A: Allocator + Copy> PageBook<A> {
@@ -167,7 +170,8 @@ impl<A: Allocator + Copy> PageBook<A> {
         requires key { self.old.key < 2 ^ 62 }
         requires good { is_bad_type mtype ≡ false }
         requires some { 0 < pages }
-        ensures { AllocatesPages IsBestChoice self.old fixed_address mtype pages memory result self.new }
+        ensures { AllocatesPages IsBestChoice self.old fixed_address mtype pages memory result
+            self.new }
     {
         let granule = granule_for(mtype, self.granule);
         let first = memory / PAGE_SIZE;
@@ -319,8 +323,10 @@ impl<A: Allocator + Copy> PageBook<A> {
         requires key { self.old.key < 2 ^ 62 }
         requires present { AllInRange self.old.memory range IsPresent }
         requires owner { mtype ≡ conventional → owner ≡ Given }
-        requires whole { IsInGranules self.old → IsInGranules (changed_book range mtype owner self.old) }
-        ensures { MatchResult result (λ _. self.new ≡ changed_book range mtype owner self.old) (λ e. (e ≡ Status.OutOfResources) × (self.new ≡ self.old)) }
+        requires whole { IsInGranules self.old
+            → IsInGranules (changed_book range mtype owner self.old) }
+        ensures { MatchResult result (λ _. self.new ≡ changed_book range mtype owner self.old)
+            (λ e. (e ≡ Status.OutOfResources) × (self.new ≡ self.old)) }
     {
         let Ok(()) = self.table.retype(range, mtype, owner) else {
             return Err(Status::OutOfResources);

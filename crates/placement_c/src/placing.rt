@@ -23,7 +23,8 @@ pub extern "C" fn RafkudinPlaceInRegion(
     limit: u64,
     address: &mut u64,
 ) -> u64
-    ensures { PlacesPages descriptor_size records.now granule mtype pages limit address.old result address.new }
+    ensures { PlacesPages descriptor_size records.now granule mtype pages limit address.old result
+        address.new }
 {
     let heap = RegionHeap::new(region);
     place(

@@ -35,7 +35,7 @@ pub fn best_start<B: Allocator + Copy>(table: &RunTable<B>, request: &Request) -
     }
 }
 
-// How much a placement must gain to be better than a start, in a map of so many entries.
+// How much a placement must gain to be better than a start, in a map of that many entries.
 #[inline(always)]
 fn gain_to_beat(entries: u64, best: Option<PricedStart>) -> u64
     requires few { entries < 2 ^ 63 }

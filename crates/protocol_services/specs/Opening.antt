@@ -64,7 +64,8 @@ abbrev pub OpensProtocol : List Meaning → Lists → ℕ → List ℕ → ℕ �
     → Lists → Type 0
 OpensProtocol ds l handle guid agent controller attributes result new =
     OpensAs ds
-    (open_rule l.handles l.opens handle guid agent controller attributes) l handle guid agent controller attributes result new
+    (open_rule l.handles l.opens handle guid agent controller attributes) l handle guid agent
+    controller attributes result new
 
 -- What HandleProtocol returns, and the lists after it: those of OpenProtocol by no agent and no
 -- controller. Such an open stops no driver, so none is asked.
@@ -101,7 +102,8 @@ Closes l handle guid agent controller (Err status) new = ⊥
 
 -- what OpenProtocolInformation lists of the open items of an interface, in the order in which they
 -- were made
-abbrev pub ReturnsItems : {A : Type 0} → Lists → ℕ → List ℕ → Result (Vec OpenItem A) Status → Type 0
+abbrev pub ReturnsItems : {A : Type 0} → Lists → ℕ → List ℕ → Result (Vec OpenItem A) Status
+    → Type 0
 ReturnsItems l handle guid (Ok items) =
     (carries l.handles guid handle ≡ true) × (items.items ≡ items_on l.opens handle guid)
 ReturnsItems l handle guid (Err NotFound) = carries l.handles guid handle ≡ false

@@ -109,7 +109,8 @@ with_progress p l = record l { handles = p.handles; opens = p.opens }
 abbrev pub Replaces : {A : Type 0} → List Meaning → ℕ → List ℕ → ℕ → Lists → Vec ℕ A → Lists
     → Type 0
 Replaces ds handle guid value l events new =
-    (events.items ≡ events_for l.registrations guid ++ (reconnected ds handle (replaced handle guid value l)).events)
+    (events.items ≡ events_for l.registrations guid
+    ++ (reconnected ds handle (replaced handle guid value l)).events)
     × (new ≡ with_progress (reconnected ds handle (replaced handle guid value l)) l)
 
 -- what ReinstallProtocolInterface returns, and the lists after it

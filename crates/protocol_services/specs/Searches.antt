@@ -55,7 +55,8 @@ handles_size handles = 8 * length handles
 abbrev pub ReturnsHandles : Option (List ℕ) → ℕ → Status → ℕ → List ℕ → Type 0
 ReturnsHandles found room Success size handles =
     (found ≡ Some handles) × (0 < length handles) × (size ≡ handles_size handles) × (size ≤ room)
-ReturnsHandles found room InvalidParameter size handles = (found ≡ None) × (size ≡ 0) × (handles ≡ [])
+ReturnsHandles found room InvalidParameter size handles =
+    (found ≡ None) × (size ≡ 0) × (handles ≡ [])
 ReturnsHandles found room NotFound size handles = (found ≡ Some []) × (size ≡ 0) × (handles ≡ [])
 ReturnsHandles found room BufferTooSmall size handles =
     (whole : List ℕ) × (found ≡ Some whole) × (size ≡ handles_size whole) × (room < size)
@@ -68,7 +69,8 @@ ReturnsHandles found room status size handles = ⊥
 -- what a search returns
 abbrev pub FindsHandles : {A : Type 0} → Lists → ℕ → List ℕ → ℕ → ℕ → LocateReply A → Type 0
 FindsHandles l search guid key room returned =
-    ReturnsHandles (found_handles l search guid key) room returned.status returned.size returned.handles.items
+    ReturnsHandles
+    (found_handles l search guid key) room returned.status returned.size returned.handles.items
 
 -- the lists after a search with this status
 abbrev pub after_search : Status → ℕ → ℕ → Lists → Lists

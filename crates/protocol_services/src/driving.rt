@@ -49,7 +49,8 @@ impl<A: Allocator + Copy> Protocols<A> {
         handle: u64,
         driver: u64,
     ) -> Result<(), Status>
-        ensures disconnects { DisconnectsController (map D.meaning drivers.now) self.old handle driver result self.new }
+        ensures disconnects { DisconnectsController
+            (map D.meaning drivers.now) self.old handle driver result self.new }
         ensures raised { IsRaised self.old self.new }
     {
         disconnect(

@@ -30,7 +30,8 @@ impl<A: Allocator + Copy> Protocols<A> {
     ) -> Result<Option<u64>, Status>
         requires { HasRoom self.old }
         ensures opens { OpensProtocol
-            (map D.meaning drivers.now) self.old handle guid agent controller attributes result self.new }
+            (map D.meaning drivers.now) self.old handle guid agent controller attributes result
+            self.new }
         ensures raised { IsRaised self.old self.new }
     {
         let value = self.handles.interface(handle, guid);
@@ -82,9 +83,11 @@ impl<A: Allocator + Copy> Protocols<A> {
     ) -> Result<Option<u64>, Status>
         requires room { HasRoom self.old }
         requires value { value ≡ value_at self.old.handles handle guid }
-        ensures adds { OpensAs [] Decision.Add self.old handle guid agent controller attributes result self.new }
+        ensures adds { OpensAs
+            [] Decision.Add self.old handle guid agent controller attributes result self.new }
         ensures counts { has_equal self.old.opens handle guid agent controller attributes ≡ true
-            → OpensAs [] Decision.Count self.old handle guid agent controller attributes result self.new }
+            → OpensAs
+            [] Decision.Count self.old handle guid agent controller attributes result self.new }
         ensures raised { IsRaised self.old self.new }
     {
         match self.opens.add(handle, guid, agent, controller, attributes) {
@@ -106,7 +109,8 @@ impl<A: Allocator + Copy> Protocols<A> {
     ) -> Result<Option<u64>, Status>
         requires value { value ≡ value_at self.old.handles handle guid }
         requires new { has_equal self.old.opens handle guid agent controller attributes ≡ false }
-        ensures adds { OpensAs [] Decision.Add self.old handle guid agent controller attributes result self.new }
+        ensures adds { OpensAs
+            [] Decision.Add self.old handle guid agent controller attributes result self.new }
         ensures raised { IsRaised self.old self.new }
     {
         match self
@@ -132,7 +136,8 @@ impl<A: Allocator + Copy> Protocols<A> {
     ) -> Result<Option<u64>, Status>
         requires { HasRoom self.old }
         ensures opens { OpensAs (map D.meaning drivers.now)
-            (Decision.StopFirst pair) self.old handle guid opener.0 opener.1 attributes result self.new }
+            (Decision.StopFirst pair) self.old handle guid opener.0 opener.1 attributes result
+            self.new }
         ensures raised { IsRaised self.old self.new }
     {
         let Ok(plan) = StopPlan::new(self.alloc, &self.handles, &self.opens, &[pair]) else {

@@ -27,7 +27,8 @@ impl<A: Allocator> Model for Protocols<A> {
 
     ghost Value = { Lists };
 
-    ghost view = { λ p. record { handles = p.handles; opens = p.opens; registrations = p.registrations } };
+    ghost view = { λ p.
+        record { handles = p.handles; opens = p.opens; registrations = p.registrations } };
 }
 
 impl<A: Allocator + Copy> Protocols<A> {

@@ -54,7 +54,8 @@ fn drivers_among<A: Allocator>(
     items: &[OpenItem],
 ) -> Result<Vec<(u64, u64), A>, AllocError>
     ensures { IfOk result
-        (λ v. v.items ≡ map (λ i. (i.controller, i.agent)) (filter (λ i. is_for_driver i.attributes) items.now)) }
+        (λ v. v.items ≡ map (λ i. (i.controller, i.agent))
+        (filter (λ i. is_for_driver i.attributes) items.now)) }
 {
     let mut pairs = Vec::new(alloc);
     for item in items {
@@ -69,7 +70,8 @@ fn drivers_among<A: Allocator>(
 fn is_kept_after<A: Allocator + Copy>(plan: &StopPlan<A>, handle: u64, items: &[OpenItem]) -> bool
     ensures { result
         ≡ list_any
-        (λ i. keeps i.attributes && not (takes_item plan.now handle i.agent i.controller)) items.now }
+        (λ i. keeps i.attributes && not (takes_item plan.now handle i.agent i.controller))
+        items.now }
 {
     items.iter().any(|i| keeps(i.attributes) && !plan.takes_item(handle, i.agent, i.controller))
 }
@@ -128,8 +130,10 @@ impl<A: Allocator + Copy> Protocols<A> {
         handle: u64,
         guid: Uuid,
     ) -> Result<StopPlan<A>, Status>
-        ensures { spec.Frees None (spec.can_be_freed (map D.meaning drivers.now) self.now handle guid)
-            (λ plan. plan ≡ planned_stop self.now.handles self.now.opens (spec.drivers_on self.now.opens handle guid)) result self.now self.now }
+        ensures { spec.Frees None
+            (spec.can_be_freed (map D.meaning drivers.now) self.now handle guid)
+            (λ plan. plan ≡ planned_stop self.now.handles self.now.opens
+            (spec.drivers_on self.now.opens handle guid)) result self.now self.now }
     {
         let Ok(items) = self.opens.items(handle, guid) else {
             return Err(Status::OutOfResources);
@@ -159,7 +163,9 @@ impl<A: Allocator + Copy> Protocols<A> {
     /// What the stop of the drivers of some items takes out.
     fn plan_among(&self, items: &[OpenItem]) -> Result<StopPlan<A>, AllocError>
         ensures { IfOk result
-            (λ plan. plan ≡ planned_stop self.now.handles self.now.opens (map (λ i. (i.controller, i.agent)) (filter (λ i. is_for_driver i.attributes) items.now))) }
+            (λ plan. plan ≡ planned_stop self.now.handles self.now.opens
+            (map (λ i. (i.controller, i.agent))
+            (filter (λ i. is_for_driver i.attributes) items.now))) }
     {
         let pairs = drivers_among(self.alloc, items)?;
         StopPlan::new(self.alloc, &self.handles, &self.opens, pairs.as_slice())
@@ -178,7 +184,8 @@ impl<A: Allocator + Copy> Protocols<A> {
         guid: Uuid,
         value: u64,
     ) -> Result<(), Status>
-        ensures uninstalls { spec.Uninstalls (map D.meaning drivers.now) self.old handle guid value result self.new }
+        ensures uninstalls { spec.Uninstalls
+            (map D.meaning drivers.now) self.old handle guid value result self.new }
         ensures raised { IsRaised self.old self.new }
     {
         if let Some(status) = removal_refusal(&self.handles, handle, guid, value) {
@@ -243,7 +250,8 @@ impl<A: Allocator + Copy> Protocols<A> {
         requires there { carries (spec.freed handle guid self.old).handles guid handle ≡ true }
         requires room { spec.HasRoomToReinstall self.old }
         ensures ok { IfOk result
-            (λ events. spec.Replaces (map D.meaning drivers.now) handle guid value (spec.freed handle guid self.old) events self.new) }
+            (λ events. spec.Replaces (map D.meaning drivers.now) handle guid value
+            (spec.freed handle guid self.old) events self.new) }
         ensures err { OnErr result (self.new ≡ self.old) }
         ensures raised { IsRaised self.old self.new }
     {
@@ -280,7 +288,8 @@ impl<A: Allocator + Copy> Protocols<A> {
         ensures lists { OnOk result
             (self.new ≡ spec.replaced handle guid value (spec.freed handle guid self.old)) }
         ensures order { OnOk result (IsHandleTable self.new.handles) }
-        ensures events { IfOk result (λ events. events.items ≡ events_for self.old.registrations guid) }
+        ensures events { IfOk result
+            (λ events. events.items ≡ events_for self.old.registrations guid) }
         ensures err { OnErr result (self.new ≡ self.old) }
     {
         let events = self.registrations.signaled(guid)?;
@@ -308,7 +317,8 @@ impl<A: Allocator + Copy> Protocols<A> {
         requires there { carries (spec.freed handle guid self.old).handles guid handle ≡ true }
         requires room { spec.HasRoomToReinstall self.old }
         ensures ok { IfOk result
-            (λ events. spec.Replaces (map D.meaning drivers.now) handle guid value (spec.freed handle guid self.old) events self.new) }
+            (λ events. spec.Replaces (map D.meaning drivers.now) handle guid value
+            (spec.freed handle guid self.old) events self.new) }
         ensures err { OnErr result (self.new ≡ self.old) }
         ensures raised { IsRaised self.old self.new }
     {

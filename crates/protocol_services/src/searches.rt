@@ -162,7 +162,8 @@ fn no_guids<A: Allocator>(alloc: A, count: usize) -> Result<Vec<Uuid, A>, AllocE
 
 /// The handles that a search is for, as it returns them.
 fn returned<A: Allocator + Copy>(alloc: A, handles: &[u64], room: u64) -> LocateReply<A>
-    ensures { ReturnsHandles (Some handles.now) room result.status result.size result.handles.items }
+    ensures { ReturnsHandles
+        (Some handles.now) room result.status result.size result.handles.items }
 {
     let size = handles.len() as u64 * HANDLE_SIZE;
     if handles.is_empty() {

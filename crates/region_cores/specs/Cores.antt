@@ -19,7 +19,9 @@ CoreHeap = HeapRow.Denot
 
 -- how a core lies in memory
 abbrev pub CoreRow : RattleType
-CoreRow = core.the_row HeapRow (of_reference.ghosts Heap of_heap.ghosts of_reference.no_dict of_reference.no_dict)
+CoreRow =
+    core.the_row HeapRow
+    (of_reference.ghosts Heap of_heap.ghosts of_reference.no_dict of_reference.no_dict)
 
 -- the value of a core
 abbrev pub Core : Type 0

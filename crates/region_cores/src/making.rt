@@ -23,7 +23,12 @@ pub fn make_in(
     granule: u64,
     drivers: &[DriverTable],
 ) -> Result<Place, u64>
-    ensures { MatchResult result (λ place. MatchOption place.held ⊥ (λ handle. MakesCore {A = CoreHeap} descriptor_size records.now granule drivers.now (Ok handle.core))) (λ status. MakesCore {A = CoreHeap} descriptor_size records.now granule drivers.now (Err status)) }
+    ensures { MatchResult result
+        (λ place. MatchOption place.held ⊥
+        (λ handle. MakesCore {A = CoreHeap} descriptor_size records.now granule drivers.now
+        (Ok handle.core)))
+        (λ status. MakesCore {A = CoreHeap} descriptor_size records.now granule drivers.now
+        (Err status)) }
 {
     if !are_tables(drivers) {
         return Err(Status::InvalidParameter.number());
@@ -37,7 +42,8 @@ pub fn make_in(
 
 /// The pointer to a core that is moved to its heap; none where memory runs out.
 fn pointer_to(heap: &'static RegionHeap, core: EfiCore<&'static RegionHeap>) -> Option<Place>
-    ensures { IfSome result (λ place. MatchOption place.held ⊥ (λ handle. handle.core ≡ core.entry)) }
+    ensures { IfSome result
+        (λ place. MatchOption place.held ⊥ (λ handle. handle.core ≡ core.entry)) }
 {
     let core = Box::new(heap, core).ok()?;
     let handle = Box::new(heap, Rafkudin::new(Lasting::new(core))).ok()?;

@@ -37,8 +37,13 @@ pub extern "C" fn RafkudinMakeInRegion(
     drivers: &[DriverTable],
     core: &mut Place,
 ) -> u64
-    ensures made { result ≡ 0 → MatchOption core.new.held ⊥ (λ handle. MakesCore {A = CoreHeap} descriptor_size records.now granule drivers.now (Ok handle.core)) }
-    ensures refused { 0 < result → MakesCore {A = CoreHeap} descriptor_size records.now granule drivers.now (Err result) × (core.new ≡ core.old) }
+    ensures made { result ≡ 0
+        → MatchOption core.new.held ⊥
+        (λ handle. MakesCore {A = CoreHeap} descriptor_size records.now granule drivers.now
+        (Ok handle.core)) }
+    ensures refused { 0 < result
+        → MakesCore {A = CoreHeap} descriptor_size records.now granule drivers.now (Err result)
+        × (core.new ≡ core.old) }
 {
     match make_in(region, records, descriptor_size, granule, drivers) {
         Ok(place) => {
@@ -49,8 +54,8 @@ pub extern "C" fn RafkudinMakeInRegion(
     }
 }
 
-/// How many bytes of a region serve a core whose memory map has so many entries at most, on which so many handles
-/// with 8 interfaces each are live at most, and whose pool has so many pages at most. Each number is taken as no
+/// How many bytes of a region serve a core whose memory map has this many entries at most, on which this many handles
+/// with 8 interfaces each are live at most, and whose pool has this many pages at most. Each number is taken as no
 /// more than 2^32 - 1.
 #[unsafe(no_mangle)]
 pub extern "C" fn RafkudinRoom(entries: u64, handles: u64, pool_pages: u64) -> u64

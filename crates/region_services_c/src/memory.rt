@@ -21,7 +21,9 @@ pub extern "C" fn RafkudinAllocatePages(
     pages: u64,
     memory: &mut u64,
 ) -> u64
-    ensures { AnswersNumber core.old.core (call.AllocatePages kind mtype pages memory.old) memory.old result memory.new core.new.core }
+    ensures { AnswersNumber core.old.core
+        (call.AllocatePages kind mtype pages memory.old) memory.old result memory.new
+        core.new.core }
 {
     core.held().allocate_pages(kind, mtype, pages, memory)
 }
@@ -50,7 +52,19 @@ pub extern "C" fn RafkudinGetMemoryMapInto(
     record_size: &mut u64,
     version: &mut u32,
 ) -> u64
-    ensures { AnswersMap core.old.core buffer.old (record { size = size.old; key = key.old; descriptor_size = record_size.old; version = version.old }) result buffer.new (record { size = size.new; key = key.new; descriptor_size = record_size.new; version = version.new }) core.new.core }
+    ensures { AnswersMap core.old.core buffer.old
+        (record {
+          size = size.old;
+          key = key.old;
+          descriptor_size = record_size.old;
+          version = version.old;
+        }) result buffer.new
+        (record {
+          size = size.new;
+          key = key.new;
+          descriptor_size = record_size.new;
+          version = version.new;
+        }) core.new.core }
 {
     core.held()
         .get_memory_map(buffer, size, key, record_size, version)
@@ -67,7 +81,8 @@ pub extern "C" fn RafkudinAllocatePool(
     size: u64,
     buffer: &mut u64,
 ) -> u64
-    ensures { AnswersNumber core.old.core (call.AllocatePool mtype size) buffer.old result buffer.new core.new.core }
+    ensures { AnswersNumber core.old.core
+        (call.AllocatePool mtype size) buffer.old result buffer.new core.new.core }
 {
     core.held().allocate_pool(mtype, size, buffer)
 }

@@ -36,7 +36,8 @@ pub extern "C" fn RafkudinCertify(core: &mut Rafkudin, certify: bool)
 /// OUT_OF_RESOURCES: memory ran out for it.
 #[unsafe(no_mangle)]
 pub extern "C" fn RafkudinCertificate(core: &mut Rafkudin, text: &mut [u8], length: &mut u64) -> u64
-    ensures returned { ReturnsBlock core.old.core.block text.old length.old result text.new length.new }
+    ensures returned { ReturnsBlock core.old.core.block text.old length.old result text.new
+        length.new }
     ensures kept { core.new.core ≡ core.old.core }
 {
     core.held().block(text, length)
@@ -67,7 +68,9 @@ pub extern "C" fn RafkudinDescriptors(core: &mut Rafkudin) -> usize
 /// NOT_FOUND: there is none.
 #[unsafe(no_mangle)]
 pub extern "C" fn RafkudinDescriptor(core: &mut Rafkudin, index: usize, entry: &mut MapEntry) -> u64
-    ensures returned { ReturnsEntry (slice_get (memory_map core.old.core.core.state.parts.book.memory) index) entry.old result entry.new }
+    ensures returned { ReturnsEntry
+        (slice_get (memory_map core.old.core.core.state.parts.book.memory) index) entry.old result
+        entry.new }
     ensures kept { core.new.core ≡ core.old.core }
 {
     core.held().descriptor(index, entry)

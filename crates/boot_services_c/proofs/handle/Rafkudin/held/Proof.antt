@@ -27,7 +27,7 @@ use Rattle.std.proofs.VecSteps.Shapes.{after}
 use Rattle.std.proofs.raw_atomic.Walks.{proved}
 use Rattle.std.specs.contracts.alloc.Global.{the_row as Heap}
 use Rattle.std.specs.contracts.impls.GlobalAllocator.TheImpl.{ghosts}
-use Rattle.boot_services_c.proofs.Moves.{told, word}
+use Rattle.boot_services_c.proofs.Moves.{is_word, word}
 use Rattle.boot_services_c.proofs.Pairs.{of_two}
 use Rattle.boot_services_c.specs.Blocks.{Core, CoreRow, block_of}
 use Rattle.boot_services_c.specs.Lending.{with_core}
@@ -72,7 +72,7 @@ held_spec 𝓤 𝓛 𝓜 𝓡 wired =
     fsplit3 ! $ move ! (1 ∷ 2 ∷ 3 ∷ []) $ opens ! tt R rb ro (λ us. move ! (1 ∷ []) $ peeks ! R (Is R) (shows 𝓛 R) h us (λ is. fsplit ! $ move ! (1 ∷ []) $
     in_a_block ! h.start (λ p. block_of CoreRow h.heap p h.core) (fst∗ 𝓤 (never 𝓤) (sem 𝓛 (token h us 0 0 rb ro null_ptr))) (λ b o lies. fsplit ! $
     -- [the core; the token; the fields; where the handle lies; the open borrow, in three entries]
-    let us-are = told h.start h.heap us is.0 ∙ ap (λ (p : Ptr). word p h.heap ∷ []) lies in let E = env (code.function).locals l in
+    let us-are = is_word h.start h.heap us is.0 ∙ ap (λ (p : Ptr). word p h.heap ∷ []) lies in let E = env (code.function).locals l in
     rewrite ! 3 (λ (ws : List Val). ‵ (cell_at full_share R.mir ws rb ro)) us-are refl $
     first ! $ blocks ! $ sets ! (of_opd ! (load ! (through ! refl (fld ! refl (stop !))) (look_in ! 3 (sub ! 0 refl (whole !))))) refl (tt, tt) $
     sets ! (of_opd ! (get ! refl)) refl (tt, tt) $ sets_last ! (addr ! (through ! refl (stop !))) refl (tt, tt) $
