@@ -21,12 +21,13 @@ pub enum Owner {
 }
 
 /// Pages in a row of one type, one set of attributes and one owner.
+// The owner is beside the type, with which it has 8 bytes.
 #[derive(Clone, Copy, Debug, Default, PartialEq, Eq)]
 pub struct Run {
     pub range: PageRange,
     pub mtype: MemoryType,
-    pub attributes: u64,
     pub owner: Owner,
+    pub attributes: u64,
 }
 
 /// An entry of the memory map (EFI_MEMORY_DESCRIPTOR), its place in pages.
