@@ -18,7 +18,8 @@ const PAGE_CELLS: usize = 128;
 /// bytes are 0 when it is taken, and change by [`RawPool::write`] only.
 #[derive(Drop)]
 pub struct RawPool<A: Allocator = Global> {
-    store: Store<A>,
+    // In a box, so that a list of regions moves little as regions come and go.
+    store: Box<Store<A>, A>,
 }
 
 impl<A: Allocator> Model for RawPool<A> {
@@ -27,9 +28,9 @@ impl<A: Allocator> Model for RawPool<A> {
 
     ghost Value = { Pool };
 
-    ghost view = { λ p. pool_in p.store };
+    ghost view = { λ p. pool_in p.store.value };
 
-    ghost invariant = { λ p. IsWholeStore p.store };
+    ghost invariant = { λ p. IsWholeStore p.store.value };
 }
 
 impl<A: Allocator + Copy> RawPool<A> {
@@ -41,12 +42,13 @@ impl<A: Allocator + Copy> RawPool<A> {
     {
         let cells = PAGE_CELLS * pages;
         let region = Region::new(alloc, CELL_SIZE * cells, cells)?;
+        let store = Store {
+            region,
+            cells,
+            head: 0,
+        };
         Ok(RawPool {
-            store: Store {
-                region,
-                cells,
-                head: 0,
-            },
+            store: Box::new(alloc, store)?,
         })
     }
 
