@@ -1,3 +1,4 @@
 pub mod BlockLists
 pub mod Placed
 pub mod Asked
+pub mod ListedItems

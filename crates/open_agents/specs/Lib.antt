@@ -1,3 +1,4 @@
 pub mod OpenItems
 pub mod OpenRule
 pub mod Blocks
+pub mod Listed

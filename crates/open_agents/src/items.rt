@@ -17,7 +17,8 @@ pub struct OpenRecord {
     pub count: u32,
 }
 
-/// An item of an interface, as OpenProtocolInformation lists it.
+/// An item of an interface, as OpenProtocolInformation lists it: an EFI_OPEN_PROTOCOL_INFORMATION_ENTRY.
+#[repr(C)]
 #[derive(Clone, Copy, Debug, PartialEq, Eq)]
 pub struct OpenItem {
     pub agent: u64,

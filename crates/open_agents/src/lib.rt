@@ -4,6 +4,7 @@
 mod attributes;
 mod blocks;
 mod items;
+mod listed;
 mod near;
 mod opens;
 mod place_block;

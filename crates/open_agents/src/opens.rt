@@ -76,7 +76,7 @@ impl<A: Allocator + Copy> Opens<A> {
     }
 
     /// The items in the block of a handle.
-    fn near(&self, handle: u64) -> Near<'_>
+    pub(crate) fn near(&self, handle: u64) -> Near<'_>
         ensures { items_at result.slots.now result.places.now ≡ filter (is_near handle) self.now }
     {
         self.items.near(handle)

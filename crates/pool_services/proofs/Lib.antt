@@ -10,3 +10,4 @@ pub mod BlockBytes
 pub mod KeptPools
 pub mod FilledBlocks
 pub mod PoolGranules
+pub mod ListedBlocks

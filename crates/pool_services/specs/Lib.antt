@@ -1,4 +1,5 @@
 pub mod Extents
+pub mod Listed
 pub mod Rooms
 pub mod PoolRules
 pub mod Laws

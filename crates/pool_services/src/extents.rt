@@ -1,11 +1,14 @@
 //! An extent of the pool with its region of memory.
-ghost use Rattle.std.specs.Prelude.{◌≡◌, ◌+◌, ◌<◌, ◌≤◌, ◌↔◌, ◌^◌, [], length, is_some, option_map, true, IsTrue, MatchOption};
+ghost use Rattle.std.specs.Prelude.{◌≡◌, ◌+◌, ◌<◌, ◌≤◌, ◌↔◌, ◌^◌, [], length, is_some, map, nat_le, ℕ, option_map, true, IsTrue, MatchOption};
+ghost use Rattle.std.specs.List.{find};
 ghost use Rattle.page_ranges.specs.Granules.{IsGranule};
 ghost use Rattle.raw_pool.specs.Blocks.{block_at, cells_for, lowest_fit, new_block, with_block, without_block};
 ghost use Rattle.pool_services.specs.Extents.{IsExtent, address_of, cell_of, cells_in, extent_pages, extent_with_block, max_size, pages_for, tail_in, with_blocks};
+ghost use Rattle.pool_services.specs.Listed.{begins_from, is_from, listed};
 ghost use Rattle.pool_services.specs.Rooms.{room_of};
 ghost use Rattle.pool_services.specs.Searches.{HasRoom, HoldsAddress, IsLastUpTo, IsLocated, written_if};
 
+use crate::listed::PoolBlock;
 use crate::rooms::Room;
 use page_ranges::{MemoryType, PAGE_SIZE, PageRange, granule_for, rounded};
 use raw_pool::RawPool;
@@ -23,7 +26,7 @@ const PAGE_CELLS: usize = 128;
 
 /// The cells that a block of a size takes.
 pub(crate) fn cells_for(size: usize) -> usize
-    requires { size ≤ max_size }
+    requires { size ≤ 2 ^ 33 }
     ensures { result ≡ cells_for size }
 {
     (size + HEADER_SIZE as usize + (CELL_SIZE as usize - 1)) / CELL_SIZE as usize
@@ -225,6 +228,61 @@ impl<A: Allocator + Copy> PoolExtent<A> {
         } else {
             None
         }
+    }
+
+    /// The first cell whose block would lie at an address or above it.
+    fn cell_from(&self, address: u64) -> usize
+        requires { IsExtent self.now }
+        ensures { (k : ℕ) → nat_le result k ≡ nat_le address (address_of self.now.first k) }
+    {
+        let start = PAGE_SIZE * self.range.first + HEADER_SIZE;
+        if address <= start {
+            return 0;
+        }
+        ((address - start - 1) / CELL_SIZE + 1) as usize
+    }
+
+    /// The cell behind the block that begins one cell before a cell, where one does, else the cell.
+    fn behind_block(&self, cell: usize) -> usize
+        requires { IsExtent self.now }
+        ensures { find (begins_from result) self.now.blocks
+            ≡ find (begins_from cell) self.now.blocks }
+    {
+        if cell == 0 {
+            return 0;
+        }
+        match self.region.size_of(cell - 1) {
+            Some(size) => cell - 1 + cells_for(size),
+            None => cell,
+        }
+    }
+
+    /// The first cell from one on at which a block begins, and the block's size.
+    fn next_block(&self, cell: usize) -> Option<(usize, usize)>
+        requires { IsExtent self.now }
+        ensures { result ≡ option_map (λ b. (b.first, b.size))
+            (find (begins_from cell) self.now.blocks) }
+    {
+        for at in cell..PAGE_CELLS * self.range.pages as usize {
+            if let Some(size) = self.region.size_of(at) {
+                return Some((at, size));
+            }
+        }
+        None
+    }
+
+    /// The block with the lowest address at or above one.
+    pub(crate) fn block_from(&self, address: u64) -> Option<PoolBlock>
+        requires { IsExtent self.now }
+        ensures { result ≡ find (is_from address) (map (listed self.now) self.now.blocks) }
+    {
+        let cell = self.behind_block(self.cell_from(address));
+        let (cell, size) = self.next_block(cell)?;
+        Some(PoolBlock {
+            address: self.address_of(cell),
+            size: size as u64,
+            mtype: self.mtype,
+        })
     }
 
     /// Writes bytes from an address on, which lies in the extent. False, with nothing changed, if they

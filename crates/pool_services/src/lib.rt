@@ -3,6 +3,7 @@
 
 mod extents;
 mod laws;
+mod listed;
 mod pools;
 mod room;
 mod rooms;
@@ -12,4 +13,5 @@ pub use laws::{
     allocated_bytes_law, filled_bytes_law, freed_bytes_law, freed_keeps_pool_law, given_pages_law,
     placed_keeps_pool_law, read_bytes_law, written_bytes_law, written_keeps_pool_law,
 };
+pub use listed::PoolBlock;
 pub use pools::{Pools, extent_request};

@@ -1,14 +1,17 @@
 //! The pool of a machine.
 ghost use Rattle.std.specs.Prelude.{◌≡◌, ◌+◌, ◌<◌, ◌≤◌, ◌^◌, false, [], length, option_and_then, option_map, IfSome, None, Some};
+ghost use Rattle.std.specs.List.{find};
 ghost use Rattle.page_ranges.specs.MemoryTypes.{is_bad_type};
 ghost use Rattle.page_services.specs.PageRules.{IsBestChoice, if_counted};
 ghost use Rattle.pool_services.specs.Extents.{first_fit, max_size, tail_at};
+ghost use Rattle.pool_services.specs.Listed.{blocks_of, is_from};
 ghost use Rattle.pool_services.specs.PoolRules.{AllocatesPool, FillsPool, FreesPool, OwnsExtents, ReadsPool, WritesPool, extent_request};
 ghost use Rattle.pool_services.specs.Searches.{IsEnded, IsFound, IsGivable, IsGivenIn, IsHolder, IsTakenIn, IsTakenLive, IsWrittenIn};
 
 use crate::extents::{HEADER_SIZE, PoolExtent, cells_for, extent_pages, pages_for};
+use crate::listed::PoolBlock;
 use crate::rooms::Rooms;
-use crate::searches::{add, holder};
+use crate::searches::{add, count_up_to, holder};
 use page_ranges::{MemoryType, PAGE_SIZE, Status, type_for_alloc};
 use page_services::{PageBook, pool_request};
 use placement_certificate::{Certificate, Request};
@@ -285,5 +288,20 @@ impl<A: Allocator + Copy> Pools<A> {
     {
         let at = holder(self.extents.as_slice(), &self.rooms, address)?;
         self.extents[at].tail(address)
+    }
+
+    /// The live block with the lowest address at or above one.
+    pub fn block_from(&self, address: u64) -> Option<PoolBlock>
+        ensures { result ≡ find (is_from address) (blocks_of self.now) }
+    {
+        let count = count_up_to(self.rooms.rooms.as_slice(), address / PAGE_SIZE);
+        // Each extent has a block, so these are two at most.
+        for at in count.saturating_sub(1)..self.extents.len() {
+            let block = self.extents[at].block_from(address);
+            if block.is_some() {
+                return block;
+            }
+        }
+        None
     }
 }

@@ -11,7 +11,7 @@ use page_ranges::PAGE_SIZE;
 use std::alloc::Allocator;
 
 /// How many of the extents that have these rooms begin at or below a page.
-fn count_up_to(rooms: &[Room], page: u64) -> usize
+pub(crate) fn count_up_to(rooms: &[Room], page: u64) -> usize
     ensures place { IsCountUpTo page rooms.now result }
     ensures bound { result ≤ length rooms.now }
 {

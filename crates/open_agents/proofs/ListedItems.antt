@@ -1,0 +1,32 @@
+-- The items of an interface at the places from one on, and items written over a buffer.
+use Rattle.std.proofs.Common.{◌≡◌, ℕ, zero, suc, ◌+◌, ◌<◌, true, false, List, [], ◌∷◌, ◌++◌, length, take, drop, set, get_or, Option, Some, None, refl, sym, ap, add-one, drop-cons}
+use Rattle.guid_handles.specs.HandleTables.{written_over}
+use Rattle.open_agents.specs.declared.items.OpenRecord.{OpenRecord}
+use Rattle.open_agents.specs.OpenItems.{is_open_on, item_of, items_on}
+use Rattle.open_agents.specs.Blocks.{item_at, items_at}
+
+pub one_more : (slots : List (Option OpenRecord)) (places : List ℕ) (i n : ℕ) (guid : List ℕ) (o : OpenRecord) → i < length places → item_at slots (get_or places i 0) ≡ Some o → is_open_on n guid o ≡ true →
+    items_on (items_at slots (drop i places)) n guid ≡ item_of o ∷ items_on (items_at slots (drop (i + 1) places)) n guid
+one_more slots places i n guid o l h t = rw (add-one, drop-cons places i 0) (rw h (rw t refl))
+
+pub other : (slots : List (Option OpenRecord)) (places : List ℕ) (i n : ℕ) (guid : List ℕ) (o : OpenRecord) → i < length places → item_at slots (get_or places i 0) ≡ Some o → is_open_on n guid o ≡ false →
+    items_on (items_at slots (drop i places)) n guid ≡ items_on (items_at slots (drop (i + 1) places)) n guid
+other slots places i n guid o l h t = rw (add-one, drop-cons places i 0) (rw h (rw t refl))
+
+pub vacant : (slots : List (Option OpenRecord)) (places : List ℕ) (i n : ℕ) (guid : List ℕ) → i < length places → item_at slots (get_or places i 0) ≡ None →
+    items_on (items_at slots (drop i places)) n guid ≡ items_on (items_at slots (drop (i + 1) places)) n guid
+vacant slots places i n guid l h = rw (add-one, drop-cons places i 0) (rw h refl)
+
+nothing_over : {X : Type 0} (xs : List X) → written_over xs [] ≡ []
+nothing_over [] = refl
+nothing_over (x ∷ xs) = refl
+
+written_next' : {X : Type 0} (y : X) (ys : List X) (count : ℕ) (out : List X) → take count out ++ written_over (y ∷ ys) (drop count out) ≡ take (suc count) (set out count y) ++ written_over ys (drop (suc count) (set out count y))
+written_next' y ys zero [] = sym (nothing_over ys)
+written_next' y ys (suc count) [] = sym (nothing_over ys)
+written_next' y ys zero (o ∷ out) = refl
+written_next' y ys (suc count) (o ∷ out) = ap (λ rest. o ∷ rest) (written_next' y ys count out)
+
+-- the next item is written behind those before it
+pub written_next : {X : Type 0} (y : X) (ys : List X) (count : ℕ) (out : List X) → take count out ++ written_over (y ∷ ys) (drop count out) ≡ take (count + 1) (set out count y) ++ written_over ys (drop (count + 1) (set out count y))
+written_next y ys count out = rw add-one (written_next' y ys count out)
