@@ -32,10 +32,10 @@ const MAX_CALLS: u64 = 0x8000_0000;
 /// The boot services of a machine, with the drivers that were handed in.
 #[derive(Drop)]
 pub struct Core<D = Box<dyn Driver>, A: Allocator = Global> {
-    book: PageBook<A>,
-    pools: Pools<A>,
-    protocols: Protocols<A>,
-    drivers: Vec<D, A>,
+    pub(crate) book: PageBook<A>,
+    pub(crate) pools: Pools<A>,
+    pub(crate) protocols: Protocols<A>,
+    pub(crate) drivers: Vec<D, A>,
     exited: bool,
     calls_left: u64,
 }

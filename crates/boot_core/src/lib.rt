@@ -7,11 +7,13 @@ mod laws;
 mod map_buffers;
 mod pool_buffers;
 mod pool_lists;
+mod turns;
 
 pub use boot_calls::{Call, CallBytes, CallHandles, CallPairs};
 pub use boot_machines::Machine;
 pub use boot_replies::{PoolList, Reply, certified, may_be_certified};
 pub use core_state::Core;
+pub use driver_connect::{Agent, DriverTurns};
 pub use kept_maps::map_before;
 pub use laws::{
     acceptance_law, any_run_law, any_step_law, key_count_law, key_law, last_bytes_law,

@@ -21,3 +21,6 @@ pub mod Ready
 pub mod Makers
 pub mod Counts
 pub mod Samples
+pub mod TurnsTaken
+pub mod DriverLists
+pub mod TurnSteps

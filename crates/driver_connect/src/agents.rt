@@ -9,10 +9,11 @@ use std::alloc::Allocator;
 use uuid::Uuid;
 
 /// A driver handle.
-#[derive(Clone, Copy)]
+#[repr(C)]
+#[derive(Clone, Copy, Debug, PartialEq, Eq)]
 pub struct Agent {
     pub handle: u64,
-    /// The driver's place in the list of drivers.
+    /// The driver's place in the list of drivers, or what else a caller knows it by.
     pub driver: u64,
     pub version: u32,
 }

@@ -101,7 +101,11 @@ fn connect_each<D: Driver, A: Allocator + Copy>(
 }
 
 /// Whether a call of ConnectController names a handle that is not live, or too many drivers.
-fn is_refused<A: Allocator + Copy>(handles: &Handles<A>, handle: u64, named: &[u64]) -> bool
+pub(crate) fn is_refused<A: Allocator + Copy>(
+    handles: &Handles<A>,
+    handle: u64,
+    named: &[u64],
+) -> bool
     ensures { result ≡ spec.connect_refused handles.now handle named.now }
 {
     !handles.is_live(handle) || named.len() > MAX_NAMED

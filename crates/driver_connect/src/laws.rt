@@ -1,4 +1,5 @@
 //! The laws of stopping and connecting, each the contract of a function that does nothing.
+ghost use Rattle.driver_connect.specs.DriverTurns.{OrderLaw, TurnsLaw};
 ghost use Rattle.driver_connect.specs.Laws.{GoneLaw, MakersItemLaw, NothingCarriedOutLaw, ReadyLaw, RoundsLaw, StaysLaw, StopSetLaw, VersionsLaw};
 ghost use Rattle.driver_connect.specs.StartOrder.{StartOrderLaw};
 ghost use Rattle.driver_connect.specs.Turns.{StartsLaw, TriedOnceLaw};
@@ -62,4 +63,16 @@ pub fn makers_item_law()
 /// supported at its turn, and a pass follows only one that started a driver.
 pub fn start_order_law()
     ensures { StartOrderLaw }
+{}
+
+/// Where a caller hands in all driver handles of a core, ascending, they are tried in the order of
+/// the rule.
+pub fn order_law()
+    ensures { OrderLaw }
+{}
+
+/// Turns of drivers that are answered as the drivers of a core answer make the starts of the rule, in
+/// its order, and come to its end.
+pub fn turns_law()
+    ensures { TurnsLaw }
 {}

@@ -5,6 +5,8 @@ mod agents;
 mod candidates;
 mod connecting;
 mod driver;
+mod driver_order;
+mod driver_turns;
 mod laws;
 mod managed;
 mod pair_set;
@@ -17,12 +19,13 @@ mod stopping;
 mod table;
 mod view;
 
-pub use agents::driver_binding;
+pub use agents::{Agent, driver_binding};
 pub use connecting::{MAX_NAMED, connect, connect_draft};
 pub use driver::Driver;
+pub use driver_turns::{DriverTurns, begin_turns};
 pub use laws::{
-    gone_law, makers_item_law, nothing_carried_out_law, ready_law, rounds_law, start_order_law,
-    starts_law, stays_law, stop_set_law, tried_once_law, versions_law,
+    gone_law, makers_item_law, nothing_carried_out_law, order_law, ready_law, rounds_law,
+    start_order_law, starts_law, stays_law, stop_set_law, tried_once_law, turns_law, versions_law,
 };
 pub use readiness::may_start_after;
 pub use starting::Connecting;
