@@ -10,5 +10,5 @@ pub use certificate_blocks::{BlockFault, check_block};
 pub use faults::RunFault;
 pub use laws::{map_entries_law, printed_blocks_law, printed_maps_law};
 pub use machine_files::{DriverField, MachineFault, MachineFile, MemberField, read_machine};
-pub use runner::run;
+pub use runner::{run, run_line};
 pub use trace_lines::{TraceCall, TraceFault, read_call};

@@ -58,8 +58,8 @@ pub fn run<D: Driver, A: Allocator + Copy, R: Read + Drop, W: Write>(
     }
 }
 
-/// Makes the call of a line, and appends what is printed.
-fn run_line<D: Driver, A: Allocator + Copy>(
+/// Makes the call that a line asks for, if it asks for one, and appends what is printed of it.
+pub fn run_line<D: Driver, A: Allocator + Copy>(
     alloc: A,
     core: &mut Core<D, A>,
     number: u64,
