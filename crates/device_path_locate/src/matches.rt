@@ -150,13 +150,9 @@ pub fn locate<A: Allocator + Copy>(
 ) -> Result<(u64, u64), Status>
     ensures { result ≡ located handles.now pools.now guid address }
 {
-    let Some(bytes) = pools.tail(address) else {
-        return Err(Status::InvalidParameter);
-    };
-    match locate_bytes(handles, pools, guid, bytes) {
-        Ok((handle, size)) => Ok((handle, address + size as u64)),
-        Err(status) => Err(status),
-    }
+    let bytes = pools.tail(address).ok_or(Status::InvalidParameter)?;
+    let (handle, size) = locate_bytes(handles, pools, guid, bytes)?;
+    Ok((handle, address + size as u64))
 }
 
 /// Whether the bytes of two paths, if both are there, are the same.
