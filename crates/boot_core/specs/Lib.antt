@@ -4,3 +4,4 @@ pub mod PoolCalls
 pub mod PoolLists
 pub mod Steps
 pub mod Laws
+pub mod PathSteps

@@ -6,6 +6,7 @@ ghost use Rattle.protocol_services.specs.Driving.{HasRoomToConnect};
 ghost use Rattle.protocol_services.specs.Lists.{HasRoom};
 ghost use Rattle.protocol_services.specs.Removing.{HasRoomToReinstall};
 ghost use Rattle.boot_core.specs.Machines.{all_calls, certifying_state, first_state, FollowsCalls};
+ghost use Rattle.boot_core.specs.PathSteps.{LocateStep};
 ghost use Rattle.boot_core.specs.Steps.{IsCounted, MapStep, ReadStep, CoreStep, CallRun};
 
 use crate::map_buffers::{map_in_buffer, refused_map};
@@ -15,7 +16,7 @@ use boot_calls::{Call, LocateReply};
 use boot_machines::Machine;
 use boot_replies::Reply;
 use descriptor_table::{MapEntries, RunTable};
-use device_path_locate::{has_path_installed, locate};
+use device_path_locate::{has_path_installed, locate, locate_bytes};
 use driver_connect::Driver;
 use map_keys::{MapReply, get_memory_map};
 use page_ranges::{Descriptor, Status};
@@ -528,6 +529,19 @@ impl<D: Driver, A: Allocator + Copy> Core<D, A> {
             Ok(()) => locate(self.protocols.handles(), &self.pools, guid, address),
             Err(status) => Err(status),
         })
+    }
+
+    /// LocateDevicePath with a path in the caller's memory: the handle that is found, and how many bytes of
+    /// the path's nodes its own path matches.
+    pub fn locate_path(&mut self, guid: Uuid, bytes: &[u8]) -> Result<(u64, usize), Status>
+        requires { 0 < self.old.state.calls_left }
+        ensures step { LocateStep self.old.state guid bytes.now result self.new.state }
+        ensures drivers { self.new.drivers ≡ self.old.drivers }
+    {
+        match self.begin() {
+            Ok(()) => locate_bytes(self.protocols.handles(), &self.pools, guid, bytes),
+            Err(status) => Err(status),
+        }
     }
 
     /// ExitBootServices: with the current map key, after which all services answer UNSUPPORTED.

@@ -2,6 +2,7 @@
 ghost use Rattle.std.specs.Prelude.{List};
 ghost use Rattle.driver_connect.specs.Drivers.{Meaning};
 ghost use Rattle.boot_core.specs.Laws.{AcceptanceLaw, AnyRunLaw, AnyStepLaw, CertificateLaw, KeyCountLaw, KeyLaw, LastBytesLaw, MapGrowthLaw, MapStepLaw, PoolBytesLaw, ProperListsLaw, ReadBytesLaw, ReadStepLaw, RecordEntriesLaw, SoundLaw};
+ghost use Rattle.boot_core.specs.PathSteps.{LocateStepLaw};
 ghost use Rattle.boot_core.specs.Steps.{any_starts, best_starts};
 
 use std::alloc::Allocator;
@@ -26,6 +27,12 @@ pub fn map_step_law<A: Allocator>()
 /// the whole buffer where it succeeds.
 pub fn read_step_law<A: Allocator>()
     ensures { ReadStepLaw A }
+{}
+
+/// LocateDevicePath with a path in the caller's memory is a step of the machine as if the path's bytes lay
+/// in a block of the pool.
+pub fn locate_step_law<A: Allocator>()
+    ensures { LocateStepLaw A }
 {}
 
 /// After calls on a valid machine the memory is proper and the pages of the pool are those of its

@@ -17,6 +17,6 @@ pub use driver_connect::{Agent, DriverTurns};
 pub use kept_maps::map_before;
 pub use laws::{
     acceptance_law, any_run_law, any_step_law, key_count_law, key_law, last_bytes_law,
-    map_growth_law, map_step_law, pool_bytes_law, proper_lists_law, read_bytes_law, read_step_law,
-    record_entries_law, sound_law,
+    locate_step_law, map_growth_law, map_step_law, pool_bytes_law, proper_lists_law,
+    read_bytes_law, read_step_law, record_entries_law, sound_law,
 };

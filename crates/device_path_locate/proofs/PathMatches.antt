@@ -7,7 +7,7 @@ use Rattle.pool_services.specs.Extents.{Extent, tail_at}
 use Rattle.guid_handles.specs.HandleTables.{HandleTable}
 use Rattle.device_path_locate.specs.declared.spans.PathSpan.{PathSpan}
 use Rattle.device_path_locate.specs.DevicePaths.{IsPathNode, Node, end_of_path, first_instance, path_in, span_of}
-use Rattle.device_path_locate.specs.Locating.{answer_at, located, located_by, longer_of, longest, path_at, whole_bytes}
+use Rattle.device_path_locate.specs.Locating.{located_bytes, located_match, located_path, longer_of, longest, path_at, whole_bytes}
 use Rattle.device_path_locate.specs.Reading.{IsBestMatch, IsFoundFrom, longer_if, matched_bytes}
 use Rattle.device_path_locate.proofs.NodeLists.{begins_with}
 use Rattle.device_path_locate.proofs.Fronts.{HasFront, first_front, first_instance_nodes}
@@ -62,9 +62,6 @@ path_there bytes address es e = ap (option_and_then path_in) e
 pub from_then : {X Y : Type 0} (f : X → Option Y) (o : Option X) (y : Y) → option_and_then f o ≡ Some y → (x : X) × (o ≡ Some x) × (f x ≡ Some y)
 from_then f None y e = absurd cc
 from_then f (Some x) y e = (x, refl, e)
-
-pub at_nodes : (address : ℕ) (es : List Extent) (ns : List Node) → path_at address es ≡ Some ns → AllByRecursion IsPathNode ns
-at_nodes address es ns e = let t = from_then path_in (tail_at address es) ns e in (begins_with t.0 ns t.2).nodes
 
 -- ---- the longest of some matches
 
@@ -124,8 +121,8 @@ first_held : (path : Option (List Node)) (bytes : List ℕ) → Some bytes ≡ o
 first_held None bytes e = absurd cc
 first_held (Some ns) bytes e = (ns, refl, cc)
 
-pub answered : (t : HandleTable) (es : List Extent) (guid : List ℕ) (address : ℕ) (nodes : List ℕ) (found : Option (ℕ × ℕ)) → Some nodes ≡ option_map (λ p. concat (first_instance p)) (path_at address es) →
-    IsBestMatch t es guid nodes found → answer_at address found ≡ located t es guid address
-answered t es guid address nodes found e b =
-    let w = first_held (path_at address es) nodes e in
-    ap (answer_at address) (b (first_instance w.0) (first_instance_nodes w.0 (at_nodes address es w.0 w.1)) w.2) ∙ ap (located_by t es guid address) (sym w.1)
+pub answered : (t : HandleTable) (es : List Extent) (guid bytes nodes : List ℕ) (found : Option (ℕ × ℕ)) → Some nodes ≡ option_map (λ p. concat (first_instance p)) (path_in bytes) →
+    IsBestMatch t es guid nodes found → located_match found ≡ located_bytes t es guid bytes
+answered t es guid bytes nodes found e b =
+    let w = first_held (path_in bytes) nodes e in
+    ap located_match (b (first_instance w.0) (first_instance_nodes w.0 ((begins_with bytes w.0 w.1).nodes)) w.2) ∙ ap (located_path t es guid) (sym w.1)

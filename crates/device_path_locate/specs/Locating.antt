@@ -56,21 +56,36 @@ longest (m ∷ ms) = longer_of m (longest ms)
 abbrev pub best_match : HandleTable → List Extent → List ℕ → List Node → Option (ℕ × ℕ)
 best_match t es guid nodes = longest (filter_map (match_of t es nodes) (holders_of t guid))
 
--- the handle of a match, and the address behind the nodes that it matches
-abbrev pub answer_at : ℕ → Option (ℕ × ℕ) → Result (ℕ × ℕ) Status
-answer_at address None = Err NotFound
-answer_at address (Some m) = Ok (m.0, address + m.1)
+-- what is located of the best match: nothing, if there is none
+abbrev pub located_match : Option (ℕ × ℕ) → Result (ℕ × ℕ) Status
+located_match None = Err NotFound
+located_match (Some m) = Ok m
 
-abbrev pub located_by : HandleTable → List Extent → List ℕ → ℕ → Option (List Node)
+-- What LocateDevicePath finds of a GUID and a path, of which the first instance is looked at: a
+-- handle, and how many bytes of the path's nodes its own path matches.
+abbrev pub located_path : HandleTable → List Extent → List ℕ → Option (List Node)
+    → Result (ℕ × ℕ) Status
+located_path t es guid None = Err InvalidParameter
+located_path t es guid (Some path) = located_match (best_match t es guid (first_instance path))
+
+-- what it finds of the path that some bytes begin with, wherever these bytes are
+abbrev pub located_bytes : HandleTable → List Extent → List ℕ → List ℕ → Result (ℕ × ℕ) Status
+located_bytes t es guid bytes = located_path t es guid (path_in bytes)
+
+-- the handle that is found, and the address behind the nodes that match
+abbrev pub answer_at : ℕ → Result (ℕ × ℕ) Status → Result (ℕ × ℕ) Status
+answer_at address (Ok m) = Ok (m.0, address + m.1)
+answer_at address (Err status) = Err status
+
+abbrev pub located_by : HandleTable → List Extent → List ℕ → ℕ → Option (List ℕ)
     → Result (ℕ × ℕ) Status
 located_by t es guid address None = Err InvalidParameter
-located_by t es guid address (Some path) =
-    answer_at address (best_match t es guid (first_instance path))
+located_by t es guid address (Some bytes) = answer_at address (located_bytes t es guid bytes)
 
--- What LocateDevicePath returns for a GUID and the address of a path, of which the first instance
--- is looked at.
+-- What LocateDevicePath returns for a GUID and an address: what it finds of the bytes of a live
+-- block, from the address on.
 abbrev pub located : HandleTable → List Extent → List ℕ → ℕ → Result (ℕ × ℕ) Status
-located t es guid address = located_by t es guid address (path_at address es)
+located t es guid address = located_by t es guid address (tail_at address es)
 
 -- ---- paths that are installed
 

@@ -8,5 +8,5 @@ mod prefixes;
 mod spans;
 
 pub use laws::{front_bytes_law, instance_ends_law, path_bytes_law};
-pub use matches::{device_path_guid, has_path_installed, locate};
+pub use matches::{device_path_guid, has_path_installed, locate, locate_bytes};
 pub use spans::{PathSpan, read_path};

@@ -1,8 +1,8 @@
 //! The handles that device paths lead to.
-ghost use Rattle.std.specs.Prelude.{◌≡◌, ◌+◌, ◌&&◌, ◌≤◌, ◌<◌, ◌^◌, IfSome, length, option_map};
+ghost use Rattle.std.specs.Prelude.{◌≡◌, ◌&&◌, ◌≤◌, ◌<◌, IfOk, IfSome, length, option_map};
 ghost use Rattle.std.specs.List.{concat};
-ghost use Rattle.device_path_locate.specs.DevicePaths.{first_instance};
-ghost use Rattle.device_path_locate.specs.Locating.{are_same, device_path_guid, has_path_installed, is_path_of_any, located, path_at, path_of, whole_bytes};
+ghost use Rattle.device_path_locate.specs.DevicePaths.{first_instance, path_in};
+ghost use Rattle.device_path_locate.specs.Locating.{are_same, device_path_guid, has_path_installed, is_path_of_any, located, located_bytes, path_at, path_of, whole_bytes};
 ghost use Rattle.device_path_locate.specs.Reading.{IsBestMatch, IsBoundary, IsMatch, longer_if, matched_bytes};
 
 use crate::prefixes::matched_size;
@@ -32,13 +32,12 @@ fn whole_at<A: Allocator + Copy>(pools: &Pools<A>, address: u64) -> Option<&[u8]
     Some(&bytes[..span.whole])
 }
 
-/// The bytes of the first instance of the path at an address, if there is one.
-fn first_instance_at<A: Allocator + Copy>(pools: &Pools<A>, address: u64) -> Option<&[u8]>
+/// The bytes of the first instance of the path that some bytes begin with, if they begin with one.
+fn first_instance_in(bytes: &[u8]) -> Option<&[u8]>
     ensures nodes { option_map (λ s. s.now) result
-        ≡ option_map (λ path. concat (first_instance path)) (path_at address pools.now) }
-    ensures within { IfSome result (λ s. address + length s.now < 2 ^ 64) }
+        ≡ option_map (λ path. concat (first_instance path)) (path_in bytes.now) }
+    ensures within { IfSome result (λ s. length s.now < length bytes.now) }
 {
-    let bytes = pools.tail(address)?;
     let span = read_path(bytes)?;
     Some(&bytes[..span.first_instance])
 }
@@ -114,11 +113,33 @@ fn best_match<A: Allocator + Copy>(
     best
 }
 
-/// LocateDevicePath: the handle that carries a GUID and whose device path leads furthest along the
-/// path at an address, and the address behind the nodes of that path that it matches. All nodes of
-/// the handle's path must be the first of those before the end of the path's first instance. Of
-/// equally long ones the lowest handle is answered. Every path is read as its bytes lie in the
-/// pool now. This takes no memory.
+/// The handle that carries a GUID and whose device path leads furthest along the path that some bytes
+/// begin with, and how many bytes of that path it matches. The bytes may lie anywhere. All nodes of the
+/// handle's path must be the first of those before the end of the path's first instance. Of equally
+/// long ones the lowest handle is answered. The handles' paths are read as their bytes lie in the pool
+/// now. This takes no memory.
+///
+/// INVALID_PARAMETER: the bytes begin with no path. NOT_FOUND: no handle's path matches.
+pub fn locate_bytes<A: Allocator + Copy>(
+    handles: &Handles<A>,
+    pools: &Pools<A>,
+    guid: Uuid,
+    bytes: &[u8],
+) -> Result<(u64, usize), Status>
+    ensures found { result ≡ located_bytes handles.now pools.now guid bytes.now }
+    ensures within { IfOk result (λ m. m.1 < length bytes.now) }
+{
+    let Some(nodes) = first_instance_in(bytes) else {
+        return Err(Status::InvalidParameter);
+    };
+    match best_match(handles, pools, guid, nodes) {
+        Some(found) => Ok(found),
+        None => Err(Status::NotFound),
+    }
+}
+
+/// LocateDevicePath: the same of the path at an address, which is read as its bytes lie in the pool
+/// now, with the address behind the nodes that match.
 ///
 /// INVALID_PARAMETER: there is no path at the address. NOT_FOUND: no handle's path matches.
 pub fn locate<A: Allocator + Copy>(
@@ -129,13 +150,9 @@ pub fn locate<A: Allocator + Copy>(
 ) -> Result<(u64, u64), Status>
     ensures { result ≡ located handles.now pools.now guid address }
 {
-    let Some(nodes) = first_instance_at(pools, address) else {
-        return Err(Status::InvalidParameter);
-    };
-    match best_match(handles, pools, guid, nodes) {
-        Some((handle, size)) => Ok((handle, address + size as u64)),
-        None => Err(Status::NotFound),
-    }
+    let bytes = pools.tail(address).ok_or(Status::InvalidParameter)?;
+    let (handle, size) = locate_bytes(handles, pools, guid, bytes)?;
+    Ok((handle, address + size as u64))
 }
 
 /// Whether the bytes of two paths, if both are there, are the same.
