@@ -32,10 +32,10 @@ const MAX_CALLS: u64 = 0x8000_0000;
 /// The boot services of a machine, with the drivers that were handed in.
 #[derive(Drop)]
 pub struct Core<D = Box<dyn Driver>, A: Allocator = Global> {
-    book: PageBook<A>,
-    pools: Pools<A>,
-    protocols: Protocols<A>,
-    drivers: Vec<D, A>,
+    pub(crate) book: PageBook<A>,
+    pub(crate) pools: Pools<A>,
+    pub(crate) protocols: Protocols<A>,
+    pub(crate) drivers: Vec<D, A>,
     exited: bool,
     calls_left: u64,
 }
@@ -94,7 +94,7 @@ impl<D: Driver, A: Allocator + Copy> Core<D, A> {
     }
 
     // Counts a call; an `Err` is the refusal of all services once the boot services have ended.
-    fn begin(&mut self) -> Result<(), Status>
+    pub(crate) fn begin(&mut self) -> Result<(), Status>
         requires { 0 < self.old.state.calls_left }
         ensures answer { result
             ≡ (if self.old.state.exited then Err Status.Unsupported else Ok tt) }
