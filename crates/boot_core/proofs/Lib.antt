@@ -17,3 +17,4 @@ pub mod CertifiedChoices
 pub mod Growth
 pub mod LongLists
 pub mod PutItems
+pub mod UninstallRuns

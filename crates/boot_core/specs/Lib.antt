@@ -4,4 +4,5 @@ pub mod PoolCalls
 pub mod PoolLists
 pub mod Questions
 pub mod Steps
+pub mod Removals
 pub mod Laws

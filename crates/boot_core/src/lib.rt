@@ -8,6 +8,7 @@ mod map_buffers;
 mod pool_buffers;
 mod pool_lists;
 mod questions;
+mod removals;
 
 pub use boot_calls::{Call, CallBytes, CallHandles, CallPairs};
 pub use boot_machines::Machine;
@@ -18,7 +19,7 @@ pub use kept_maps::map_before;
 pub use laws::{
     acceptance_law, any_run_law, any_step_law, key_count_law, key_law, last_bytes_law,
     map_growth_law, map_step_law, pool_bytes_law, proper_lists_law, read_bytes_law, read_step_law,
-    record_entries_law, sound_law,
+    record_entries_law, sound_law, uninstall_run_law,
 };
 pub use open_agents::{OpenItem, OpenRecord};
 pub use pool_services::PoolBlock;
