@@ -18,3 +18,4 @@ pub mod Growth
 pub mod LongLists
 pub mod PutItems
 pub mod LocatedPaths
+pub mod UninstallRuns

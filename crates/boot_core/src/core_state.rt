@@ -95,7 +95,7 @@ impl<D: Driver, A: Allocator + Copy> Core<D, A> {
     }
 
     // Counts a call; an `Err` is the refusal of all services once the boot services have ended.
-    fn begin(&mut self) -> Result<(), Status>
+    pub(crate) fn begin(&mut self) -> Result<(), Status>
         requires { 0 < self.old.state.calls_left }
         ensures answer { result
             ≡ (if self.old.state.exited then Err Status.Unsupported else Ok tt) }

@@ -3,6 +3,7 @@ ghost use Rattle.std.specs.Prelude.{List};
 ghost use Rattle.driver_connect.specs.Drivers.{Meaning};
 ghost use Rattle.boot_core.specs.Laws.{AcceptanceLaw, AnyRunLaw, AnyStepLaw, CertificateLaw, KeyCountLaw, KeyLaw, LastBytesLaw, MapGrowthLaw, MapStepLaw, PoolBytesLaw, ProperListsLaw, ReadBytesLaw, ReadStepLaw, RecordEntriesLaw, SoundLaw};
 ghost use Rattle.boot_core.specs.PathSteps.{LocateStepLaw};
+ghost use Rattle.boot_core.specs.Removals.{UninstallRunLaw};
 ghost use Rattle.boot_core.specs.Steps.{any_starts, best_starts};
 
 use std::alloc::Allocator;
@@ -33,6 +34,12 @@ pub fn read_step_law<A: Allocator>()
 /// in a block of the pool.
 pub fn locate_step_law<A: Allocator>()
     ensures { LocateStepLaw A }
+{}
+
+/// Where UninstallMultipleProtocolInterfaces succeeds, it leaves the machine as UninstallProtocolInterface of each
+/// interface does, one after the other, but for the number of calls left.
+pub fn uninstall_run_law<A: Allocator>()
+    ensures { UninstallRunLaw A }
 {}
 
 /// After calls on a valid machine the memory is proper and the pages of the pool are those of its

@@ -7,6 +7,8 @@ mod laws;
 mod map_buffers;
 mod pool_buffers;
 mod pool_lists;
+mod questions;
+mod removals;
 mod turns;
 
 pub use boot_calls::{Call, CallBytes, CallHandles, CallPairs};
@@ -14,9 +16,12 @@ pub use boot_machines::Machine;
 pub use boot_replies::{PoolList, Reply, certified, may_be_certified};
 pub use core_state::Core;
 pub use driver_connect::{Agent, DriverTurns};
+pub use guid_handles::Interface;
 pub use kept_maps::map_before;
 pub use laws::{
     acceptance_law, any_run_law, any_step_law, key_count_law, key_law, last_bytes_law,
     locate_step_law, map_growth_law, map_step_law, pool_bytes_law, proper_lists_law,
-    read_bytes_law, read_step_law, record_entries_law, sound_law,
+    read_bytes_law, read_step_law, record_entries_law, sound_law, uninstall_run_law,
 };
+pub use open_agents::{OpenItem, OpenRecord};
+pub use pool_services::PoolBlock;

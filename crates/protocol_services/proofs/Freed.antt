@@ -163,7 +163,7 @@ pub record IsPart (l m : Lists) : Type 0 where
   pub stamps : m.handles.last_stamp ≡ l.handles.last_stamp
   pub counts : (n : ℕ) → CountUpTo n l.opens → CountUpTo n m.opens
 
-part_further : (l m o : Lists) → IsPart l m → IsPart m o → IsPart l o
+pub part_further : (l m o : Lists) → IsPart l m → IsPart m o → IsPart l o
 part_further l m o a b = record { numbers = b.numbers ∙ a.numbers; stamps = b.stamps ∙ a.stamps; counts = λ n h. b.counts n (a.counts n h) }
 
 pub freed_part : (l : Lists) (handle : ℕ) (guid : List ℕ) → IsPart l (freed handle guid l)
@@ -191,7 +191,7 @@ dead_part l handle = elim (cases_Bool (is_live l.handles handle)) [
   | inr e ↦ rw e record { numbers = refl; stamps = refl; counts = λ n h. all_filter (λ o. o.count ≤ n) (λ o. not (names handle o)) l.opens h }
 ]
 
-uninstalled_part : (l : Lists) (handle : ℕ) (guid : List ℕ) → IsPart l (uninstalled handle guid l)
+pub uninstalled_part : (l : Lists) (handle : ℕ) (guid : List ℕ) → IsPart l (uninstalled handle guid l)
 uninstalled_part l handle guid =
     part_further l (record l { handles = without_interface handle guid l.handles }) (uninstalled handle guid l)
     (record { numbers = bare_number handle _; stamps = bare_stamp handle _; counts = λ n h. h }) (dead_part (record l { handles = without_interface handle guid l.handles }) handle)

@@ -13,3 +13,4 @@ pub mod ProperOpens
 pub mod ProperRemovals
 pub mod Unopened
 pub mod Signals
+pub mod RemovedMany

@@ -5,5 +5,7 @@ pub mod Searches
 pub mod Stopping
 pub mod Opening
 pub mod Removing
+pub mod RemovingMany
 pub mod Driving
 pub mod ListBytes
+pub mod Saved

@@ -6,6 +6,8 @@ mod list_bytes;
 mod opening;
 mod protocols;
 mod removing;
+mod removing_many;
+mod saved;
 mod searches;
 
 pub use list_bytes::{handle_bytes, item_bytes};

@@ -51,6 +51,13 @@ impl<A: Allocator + Copy> Protocols<A> {
         &self.handles
     }
 
+    /// The open items.
+    pub fn opens(&self) -> &Opens<A>
+        ensures { result.now ≡ self.now.opens }
+    {
+        &self.opens
+    }
+
     /// InstallProtocolInterface: installs an interface on a handle, on a new one for handle 0.
     ///
     /// INVALID_PARAMETER: the kind is not 0 (EFI_NATIVE_INTERFACE), the handle is neither 0 nor live,

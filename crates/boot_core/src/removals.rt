@@ -1,0 +1,30 @@
+//! UninstallMultipleProtocolInterfaces.
+ghost use Rattle.std.specs.Prelude.{◌≡◌, ◌<◌, map};
+ghost use Rattle.boot_core.specs.Removals.{UninstallStep};
+
+use crate::core_state::Core;
+use driver_connect::Driver;
+use page_ranges::Status;
+use std::alloc::Allocator;
+use uuid::Uuid;
+
+impl<D: Driver, A: Allocator + Copy> Core<D, A> {
+    /// UninstallMultipleProtocolInterfaces: takes out all of some interfaces of a handle, pairs of GUID and
+    /// value, one after the other, or none.
+    ///
+    /// INVALID_PARAMETER: there are more than 16, or UninstallProtocolInterface would refuse one of them at its turn.
+    /// OUT_OF_RESOURCES: memory ran out.
+    pub fn uninstall_multiple(&mut self, handle: u64, pairs: &[(Uuid, u64)]) -> Result<(), Status>
+        requires { 0 < self.old.state.calls_left }
+        ensures step { UninstallStep (map D.meaning self.old.drivers) self.old.state handle
+            pairs.now result self.new.state }
+        ensures drivers { self.new.drivers ≡ self.old.drivers }
+    {
+        match self.begin() {
+            Ok(()) => self
+                .protocols
+                .uninstall_many(self.drivers.as_slice(), handle, pairs),
+            Err(status) => Err(status),
+        }
+    }
+}

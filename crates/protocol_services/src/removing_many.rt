@@ -1,0 +1,72 @@
+//! Taking all of some interfaces out, or none.
+ghost use Rattle.std.specs.Prelude.{◌≡◌, map};
+ghost use Rattle.protocol_services.specs.Lists.{IsRaised};
+ghost use Rattle.protocol_services.specs.RemovingMany.{UninstallsEach, UninstallsMany, refusal_of_all};
+
+use crate::protocols::Protocols;
+use driver_connect::Driver;
+use page_ranges::Status;
+use std::alloc::Allocator;
+use uuid::Uuid;
+
+/// The most interfaces that are uninstalled at once.
+const MAX_UNINSTALLED: usize = 16;
+
+impl<A: Allocator + Copy> Protocols<A> {
+    /// UninstallMultipleProtocolInterfaces: takes all of some interfaces, pairs of GUID and value, out of a
+    /// handle, one after the other as [`Protocols::uninstall`] does, or none.
+    ///
+    /// INVALID_PARAMETER: there are more than 16, or one of them can't be taken out at its turn.
+    /// OUT_OF_RESOURCES: memory ran out.
+    pub fn uninstall_many<D: Driver>(
+        &mut self,
+        drivers: &[D],
+        handle: u64,
+        pairs: &[(Uuid, u64)],
+    ) -> Result<(), Status>
+        ensures uninstalls { UninstallsMany
+            (map D.meaning drivers.now) self.old handle pairs.now result self.new }
+        ensures raised { IsRaised self.old self.new }
+    {
+        if pairs.len() > MAX_UNINSTALLED {
+            return Err(Status::InvalidParameter);
+        }
+        let Ok(saved) = self.saved() else {
+            return Err(Status::OutOfResources);
+        };
+        if let Err(status) = self.uninstall_each(drivers, handle, pairs) {
+            self.put_back(saved);
+            return Err(status);
+        }
+        Ok(())
+    }
+
+    /// Takes interfaces out one after the other, up to the first that is refused.
+    fn uninstall_each<D: Driver>(
+        &mut self,
+        drivers: &[D],
+        handle: u64,
+        pairs: &[(Uuid, u64)],
+    ) -> Result<(), Status>
+        ensures each { UninstallsEach
+            (map D.meaning drivers.now) self.old handle pairs.now result self.new }
+        ensures registrations { self.new.registrations ≡ self.old.registrations }
+    {
+        for pair in pairs {
+            if let Err(status) = self.uninstall(drivers, handle, pair.0, pair.1) {
+                return Err(refusal_of_all(status));
+            }
+        }
+        Ok(())
+    }
+}
+
+/// What is returned for all of some interfaces where one is refused.
+fn refusal_of_all(status: Status) -> Status
+    ensures { result ≡ refusal_of_all status }
+{
+    match status {
+        Status::OutOfResources => Status::OutOfResources,
+        _ => Status::InvalidParameter,
+    }
+}
