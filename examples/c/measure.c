@@ -4,11 +4,11 @@
  *
  * LOAD is pages-100, pages-1000, pages-10000 or pages-100000 (the number of live allocations, of
  * mixed types and sizes), pool-10000 (of blocks), handles-64, handles-1024 or handles-4096 (of
- * handles), or drivers-64, drivers-1024 or drivers-4096 (of handles, on which a driver is started
- * and stopped); without any all are run. It prints nanoseconds a call, the least of COUNT
- * repetitions, each on a new core; what a call asks for is drawn before the clock starts. `refused`
- * is a call that is refused at once: what any call costs at least. With --certify the core keeps
- * the certificates of placements. */
+ * handles), drivers-64, drivers-1024 or drivers-4096 (of handles, on which a driver is started and
+ * stopped), or keys-10000 (of registrations); without any all are run. It prints nanoseconds a
+ * call, the least of COUNT repetitions, each on a new core; what a call asks for is drawn before
+ * the clock starts. `refused` is a call that is refused at once: what any call costs at least. With
+ * --certify the core keeps the certificates of placements. */
 #include "fault.h"
 #include "machine.h"
 #include "meter.h"
@@ -34,6 +34,9 @@
 #define KINDS 64
 #define AGENTS 16
 #define SEARCHES 256
+
+/* The handles that the registrations meet, an interface on each. */
+#define KEYED_HANDLES 1024
 
 /* The handle that carries the driver binding, and the most controllers of a round of its driver. */
 #define DRIVER 1
@@ -485,6 +488,42 @@ static void run_drivers(struct load *load, size_t handles)
     time_calls(load, "stop", "UninstallProtocolInterface", driven, take_driven_out);
 }
 
+/* Registers for a kind. Keys count up from 1. */
+static bool register_kind(struct load *load, size_t number)
+{
+    uint64_t key;
+
+    return RafkudinRegisterProtocolNotify(load->core, kind_of(load, number), number, &key) ==
+               RAFKUDIN_SUCCESS &&
+           key == number + 1;
+}
+
+/* Takes the next handle of a key. */
+static bool take_handle(struct load *load, size_t number)
+{
+    uint64_t found, size = sizeof found;
+
+    return RafkudinLocateHandle(load->core, RAFKUDIN_BY_REGISTER_NOTIFY, NULL, number + 1, &size,
+                                &found) == RAFKUDIN_SUCCESS;
+}
+
+/* Takes the next handle of a key, and returns the value of its interface. */
+static bool take_value(struct load *load, size_t number)
+{
+    uint64_t value;
+
+    return RafkudinLocateProtocol(load->core, kind_of(load, number), number + 1, &value) ==
+           RAFKUDIN_SUCCESS;
+}
+
+static void run_keys(struct load *load, size_t keys)
+{
+    time_calls(load, "register", "RegisterProtocolNotify", keys, register_kind);
+    time_calls(load, "install", "InstallProtocolInterface", KEYED_HANDLES, install_first);
+    time_calls(load, "serve", "LocateHandle", keys, take_handle);
+    time_calls(load, "serve", "LocateProtocol", keys, take_value);
+}
+
 /* The loads, and how often each is repeated. */
 static const struct {
     const char *name;
@@ -497,7 +536,7 @@ static const struct {
     {"pool-10000", run_pool, 10000, 5},         {"handles-64", run_handles, 64, 15},
     {"handles-1024", run_handles, 1024, 9},     {"handles-4096", run_handles, 4096, 5},
     {"drivers-64", run_drivers, 64, 15},        {"drivers-1024", run_drivers, 1024, 9},
-    {"drivers-4096", run_drivers, 4096, 5},
+    {"drivers-4096", run_drivers, 4096, 5},   {"keys-10000", run_keys, 10000, 3},
 };
 
 /* The machine's driver: it needs an interface of a kind, and opens it. */

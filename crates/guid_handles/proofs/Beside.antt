@@ -74,11 +74,14 @@ insert_beside hs ks at h k a z e = record {
   even = even_insert hs ks at h k a.even;
 }
 
-pub insert_held : (hs : List ℕ) (at h : ℕ) → 0 < length (insert hs at h)
-insert_held [] zero h = omega arith
-insert_held [] (suc at) h = omega arith
-insert_held (x ∷ xs) zero h = omega arith
-insert_held (x ∷ xs) (suc at) h = omega arith
+longer : (hs : List ℕ) (at h : ℕ) → 0 < length (insert hs at h)
+longer [] zero h = omega arith
+longer [] (suc at) h = omega arith
+longer (x ∷ xs) zero h = omega arith
+longer (x ∷ xs) (suc at) h = omega arith
+
+pub insert_held : (hs : List ℕ) (at h : ℕ) → (length (insert hs at h) == 0) ≡ false
+insert_held hs at h = ne_eqb (length (insert hs at h)) 0 (λ e. omega (arith, e, longer hs at h))
 
 -- ---- one less
 

@@ -247,7 +247,7 @@ off_other n m guid x f t =
     let e : (x.handle == n) ≡ false = rw (is_same x.handle m t) (turned m n ∙ f) in
     rw e refl
 
-at_other : (n m : ℕ) (guid k : List ℕ) (x : Interface) → ((n == m) && same_guid guid k) ≡ false → is_at m k x ≡ true → not (is_at n guid x) ≡ true
+pub at_other : (n m : ℕ) (guid k : List ℕ) (x : Interface) → ((n == m) && same_guid guid k) ≡ false → is_at m k x ≡ true → not (is_at n guid x) ≡ true
 at_other n m guid k x f t =
     let e : is_at n guid x ≡ false = rw (at_handle m k x t, at_guid m k x t, turned m n, guid_turned k guid) f in
     rw e refl

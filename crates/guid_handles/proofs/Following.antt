@@ -1,22 +1,23 @@
--- The interface of a GUID with the least stamp above a mark, in a group and among all.
-use Rattle.std.proofs.Common.{◌≡◌, ℕ, ◌<◌, ◌≤◌, ◌==◌, ◌&&◌, nat_lt, Bool, true, false, List, [], ◌∷◌, length, Option, Some, None, is_some, inl, inr, refl, sym, ap, ◌∙◌, arith, subst}
-use Rattle.std.specs.List.{filter, find, AllByRecursion}
-use Rattle.std.specs.Option.{option_and_then}
-use Rattle.std.proofs.lemmas.Bool.{cases_Bool, and_parts, eq-eqb, ne_eqb, ltb-true, ltb-false}
-use Rattle.std.proofs.lemmas.Bool.Decides.{eqb_tells}
+-- The interface of a GUID with the least stamp above a mark, by the turns of its group.
+use Rattle.std.proofs.Common.{◌≡◌, ℕ, ◌<◌, ◌≤◌, ◌==◌, ◌&&◌, nat_lt, Bool, true, false, List, [], ◌∷◌, Option, Some, None, is_some, inl, inr, refl, sym, ap, ◌∙◌, arith, subst}
+use Rattle.std.specs.List.{filter, find, list_any, AllByRecursion}
+use Rattle.std.specs.Option.{option_map}
+use Rattle.std.proofs.lemmas.Bool.{cases_Bool, and_parts, eq-eqb, ltb-true, ltb-false}
 use Rattle.std.proofs.lemmas.Option.{same_Some}
 use Rattle.guid_handles.specs.declared.records.Interface.{Interface}
 use Rattle.guid_handles.specs.declared.records.Record.{Record}
-use Rattle.guid_handles.specs.HandleTables.{is_of, is_on, is_at, is_after, earlier_of, earliest}
+use Rattle.guid_handles.specs.declared.records.Turn.{Turn}
+use Rattle.guid_handles.specs.HandleTables.{is_of, is_on, is_at, is_after, earlier_of, earliest, next_after}
 use Rattle.guid_handles.specs.Sorting.{Ascending}
-use Rattle.guid_handles.specs.Indexes.{Row, Group, is_group_of, key_beside, key_in, key_at}
-use Rattle.guid_handles.specs.Slots.{at_key, at_keys, installed_until}
-use Rattle.guid_handles.specs.Stores.{AreApart, IsStore}
-use Rattle.guid_handles.proofs.SortedLists.{all_map, all_both, all_filtered, all_of}
+use Rattle.guid_handles.specs.Indexes.{Row, Group, AreInTurn, is_turn, turns_of}
+use Rattle.guid_handles.specs.Slots.{installed_until}
+use Rattle.guid_handles.specs.Stores.{AreApart, IsStore, has_turn, table_of}
+use Rattle.guid_handles.proofs.SortedLists.{all_map, all_both, all_filtered, all_numbered, all_of, found_none}
 use Rattle.guid_handles.proofs.GuidOrder.{same_guid-true}
+use Rattle.guid_handles.proofs.Grouped.{is_same}
 use Rattle.guid_handles.proofs.Indexed.{at_handle}
+use Rattle.guid_handles.proofs.InTurn.{any_one, found_any, own_turn, turn_stamp}
 use Rattle.guid_handles.proofs.Found.{earliest_one, found_one}
-use Rattle.guid_handles.proofs.Stored.{stored_at}
 
 -- ---- the least stamp
 
@@ -115,95 +116,75 @@ next_is guid mark listed a (Some i) (Some k) h e =
     let under : i.stamp ≤ k.stamp = h.2 k.handle k there.0 there.1 in
     ap (λ x. Some x) (one_of_stamp listed a (is_at i.handle guid) (is_at k.handle guid) i k h.0 there.0 (omega (arith, above, under)))
 
--- ---- at the keys of a group
+-- ---- by turns
 
-module _ (slots : List (Option Record)) where
-  beside_above : (h n k : ℕ) (hs ks : List ℕ) → AllByRecursion (λ m. h < m) hs → key_beside hs ks n ≡ Some k → h < n
-  beside_above h n k [] ks a e = absurd cc
-  beside_above h n k (m ∷ ms) [] a e = absurd cc
-  beside_above h n k (m ∷ ms) (j ∷ js) a e = elim (eqb_tells m n) [
-    | inl t ↦ omega (arith, a.0, t.1)
-    | inr f ↦ beside_above h n k ms js a.1 (rw f.0 at e)
-  ]
+-- the first turn above a mark has the least stamp of those above
+first_least : (mark : ℕ) (ts : List Turn) (t : Turn) → AreInTurn ts → find (λ u. nat_lt mark u.stamp) ts ≡ Some t → AllByRecursion (λ u. nat_lt mark u.stamp ≡ true → t.stamp ≤ u.stamp) ts
+first_least mark [] t a e = tt
+first_least mark (u ∷ us) t a e = elim (cases_Bool (nat_lt mark u.stamp)) [
+  | inl l ↦
+      let s : u ≡ t = same_Some u t (rw l at e) in
+      let under : t.stamp ≤ u.stamp = omega (arith, ap (λ (x : Turn). x.stamp) s) in (
+        λ p. under,
+        all_numbered (λ (x : Turn). x.stamp) (λ m. u.stamp < m) (λ m. nat_lt mark m ≡ true → t.stamp ≤ m) (λ m k p. omega (arith, k, under)) us a.0,
+      )
+  | inr l ↦ (λ p. let w : false ≡ true = sym l ∙ p in absurd cc, first_least mark us t a.1 (rw l at e))
+]
 
-  -- what holds of each interface at the key beside a handle
-  all_keyed : (P : Interface → Type 0) (hs ks : List ℕ) → Ascending (λ a b. a < b) hs → length hs ≡ length ks → ((n k : ℕ) (x : Interface) → key_beside hs ks n ≡ Some k → at_key slots k ≡ Some x → P x) → AllByRecursion P (at_keys slots ks)
-  all_keyed P [] [] a l f = tt
-  all_keyed P [] (k ∷ ks) a l f = absurd (omega (arith, l))
-  all_keyed P (h ∷ hs) [] a l f = absurd (omega (arith, l))
-  all_keyed P (h ∷ hs) (k ∷ ks) a l f =
-      one (at_key slots k) refl
-      (all_keyed P hs ks a.1 (omega (arith, l))
-      (λ n j x e t. let d : (h == n) ≡ false = ne_eqb h n (λ w. omega (arith, w, beside_above h n j hs ks a.0 e)) in f n j x (rw d e) t))
+-- an interface of a GUID is at its turn
+after_turn : (guid : List ℕ) (mark : ℕ) (j : Interface) (n : ℕ) → is_at n guid j ≡ true → has_turn guid j.handle j.stamp j ≡ true
+after_turn guid mark j n h =
+    let own : is_of guid j ≡ true = (and_parts (is_on n j) (is_of guid j) h).1 in
+    rw (eq-eqb j.handle j.handle refl, own, eq-eqb j.stamp j.stamp refl) refl
+
+paired : (t : Turn) (i : Interface) → i.handle ≡ t.handle → i.stamp ≡ t.stamp
+    → option_map {U = ℕ × ℕ} (λ (u : Turn). (u.handle, u.stamp)) (Some t) ≡ option_map {U = ℕ × ℕ} (λ (x : Interface). (x.handle, x.stamp)) (Some i)
+paired t i h s = rw (h, s) refl
+
+module _ (guid : List ℕ) (mark : ℕ) (is : List Interface) (a : Ascending AreApart is) (ts : List Turn) (ordered : AreInTurn ts)
+    (turns : (n stamp : ℕ) → list_any (is_turn n stamp) ts ≡ list_any (has_turn guid n stamp) is) where
+  -- what holds of all turns holds of that of an interface
+  turn_of : (P : Turn → Type 0) → AllByRecursion P ts → (n : ℕ) (j : Interface) → find (is_at n guid) is ≡ Some j → (t : Turn) × (t.stamp ≡ j.stamp) × P t
+  turn_of P b n j e =
+      let own : is_at n guid j ≡ true = (found_one (λ x. Unit {0}) (is_at n guid) is j (all_of (λ x. Unit {0}) (λ x. tt) is) e).0 in
+      let t = any_one P (is_turn j.handle j.stamp) ts b (turns j.handle j.stamp ∙ found_any (is_at n guid) (has_turn guid j.handle j.stamp) is j e (after_turn guid mark j n own)) in
+      (t.0, turn_stamp j.handle j.stamp t.0 t.1, t.3)
+
+  next_turned : (o : Option Turn) → find (λ t. nat_lt mark t.stamp) ts ≡ o
+      → option_map {U = ℕ × ℕ} (λ t. (t.handle, t.stamp)) o ≡ option_map {U = ℕ × ℕ} (λ i. (i.handle, i.stamp)) (earliest (filter (is_after guid mark) is))
+  next_turned None e =
+      ap (option_map {U = ℕ × ℕ} (λ (i : Interface). (i.handle, i.stamp)))
+      (next_is guid mark is a None (earliest (filter (is_after guid mark) is))
+      (λ n j f p.
+      let t = turn_of (λ t. nat_lt mark t.stamp ≡ false) (found_none (λ t. nat_lt mark t.stamp) ts e) n j f in
+      let w : true ≡ false = sym (and_parts (is_of guid j) (nat_lt mark j.stamp) p).1 ∙ ap (nat_lt mark) (sym t.1) ∙ t.2 in cc) refl)
+  next_turned (Some t) e =
+      let above = found_in (λ u. nat_lt mark u.stamp) ts t e in
+      let there = sym (turns t.handle t.stamp) ∙ found_any (λ u. nat_lt mark u.stamp) (is_turn t.handle t.stamp) ts t e (own_turn t) in
+      let i = any_one (λ x. is_of guid x ≡ true → find (is_at x.handle guid) is ≡ Some x) (has_turn guid t.handle t.stamp) is (listed_self guid is a) there in
+      let parts = and_parts (is_at t.handle guid i.0) (i.0.stamp == t.stamp) i.1 in
+      let handle : i.0.handle ≡ t.handle = at_handle t.handle guid i.0 parts.0 in
+      let stamp : i.0.stamp ≡ t.stamp = is_same i.0.stamp t.stamp parts.1 in
+      let own : is_of guid i.0 ≡ true = (and_parts (is_on t.handle i.0) (is_of guid i.0) parts.0).1 in
+      let after : is_after guid mark i.0 ≡ true = rw (own, stamp, above) refl in
+      let least : (n : ℕ) (j : Interface) → find (is_at n guid) is ≡ Some j → is_after guid mark j ≡ true → i.0.stamp ≤ j.stamp =
+      λ n j f p.
+      let u = turn_of (λ u. nat_lt mark u.stamp ≡ true → t.stamp ≤ u.stamp) (first_least mark ts t ordered e) n j f in
+      let l : t.stamp ≤ u.0.stamp = u.2 (ap (nat_lt mark) u.1 ∙ (and_parts (is_of guid j) (nat_lt mark j.stamp) p).1) in
+      omega (arith, l, u.1, stamp) in
+      let same : Some i.0 ≡ earliest (filter (is_after guid mark) is) = next_is guid mark is a (Some i.0) (earliest (filter (is_after guid mark) is)) (i.3 own, after, least) refl in
+      paired t i.0 handle stamp ∙ ap (option_map {U = ℕ × ℕ} (λ (x : Interface). (x.handle, x.stamp))) same
     where
-      one : (o : Option Interface) → at_key slots k ≡ o → AllByRecursion P (at_keys slots ks) → AllByRecursion P (at_keys slots (k ∷ ks))
-      one None e r = rw e r
-      one (Some x) e r = rw e (f h k x (rw (eq-eqb h h refl) refl) e, r)
-
-  got_keyed : (P : Interface → Type 0) (hs ks : List ℕ) (n k : ℕ) (j : Interface) → AllByRecursion P (at_keys slots ks) → key_beside hs ks n ≡ Some k → at_key slots k ≡ Some j → P j
-  got_keyed P [] ks n k j a e t = absurd cc
-  got_keyed P (h ∷ hs) [] n k j a e t = absurd cc
-  got_keyed P (h ∷ hs) (m ∷ ms) n k j a e t = elim (cases_Bool (h == n)) [
-    | inl y ↦
-        let s : m ≡ k = same_Some m k (rw y at e) in
-        let u : at_key slots m ≡ Some j = ap (at_key slots) s ∙ t in
-        (rw u at a).0
-    | inr f ↦ got_keyed P hs ms n k j (behind (at_key slots m) refl a) (rw f at e) t
-  ]
-    where
-      behind : (o : Option Interface) → at_key slots m ≡ o → AllByRecursion P (at_keys slots (m ∷ ms)) → AllByRecursion P (at_keys slots ms)
-      behind None e b = rw e at b
-      behind (Some x) e b = (rw e at b).1
+      found_in : (p : Turn → Bool) (us : List Turn) (u : Turn) → find p us ≡ Some u → p u ≡ true
+      found_in p [] u k = cc
+      found_in p (v ∷ vs) u k = elim (cases_Bool (p v)) [
+        | inl h ↦ let s : v ≡ u = same_Some v u (rw h at k) in rw (← s) h
+        | inr h ↦ found_in p vs u (rw h at k)
+      ]
 
 module _ (rows : List Row) (slots : List (Option Record)) (groups : List Group) (number stamp : ℕ) (s : IsStore rows slots groups number stamp) where
-  next_keyed : (guid : List ℕ) (mark : ℕ) (g : Group) → Some g ≡ find (is_group_of guid) groups → Ascending (λ a b. a < b) g.holders → length g.holders ≡ length g.keys
-      → (r : Option Interface) → r ≡ earliest (filter (λ i. nat_lt mark i.stamp) (at_keys slots g.keys)) → IsNextOf (is_after guid mark) (λ n. find (is_at n guid) (installed_until stamp slots)) r
-  next_keyed guid mark g e a l r c =
-      let p : Interface → Bool = λ i. nat_lt mark i.stamp in
-      let is : List Interface = at_keys slots g.keys in
-      let key : (n : ℕ) → key_at groups guid n ≡ key_in g n = λ n. ap (option_and_then (λ k. key_in k n)) (sym e) in
-      let all : AllByRecursion (λ x. (find (is_at x.handle guid) (installed_until stamp slots) ≡ Some x) × (is_of guid x ≡ true)) is =
-      all_keyed slots (λ x. (find (is_at x.handle guid) (installed_until stamp slots) ≡ Some x) × (is_of guid x ≡ true)) g.holders g.keys a l
-      (λ n k x b t.
-      let f : find (is_at n guid) (installed_until stamp slots) ≡ Some x = stored_at rows slots groups number stamp s n guid ∙ ap (option_and_then (at_key slots)) (key n ∙ b) ∙ t in
-      let q : is_at n guid x ≡ true = (found_one (λ y. Unit {0}) (is_at n guid) (installed_until stamp slots) x (all_of (λ y. Unit {0}) (λ y. tt) (installed_until stamp slots)) f).0 in
-      (ap (λ m. find (is_at m guid) (installed_until stamp slots)) (at_handle n guid x q) ∙ f, and_right (is_on n x) (is_of guid x) q)) in
-      let each : (P : Interface → Type 0) → AllByRecursion P is → (n : ℕ) (j : Interface) → find (is_at n guid) (installed_until stamp slots) ≡ Some j → P j =
-      λ P b n j f. keyed_one P g b n j (key_in g n) refl (sym (ap (option_and_then (at_key slots)) (key n)) ∙ sym (stored_at rows slots groups number stamp s n guid) ∙ f) in
-      answer p is all each r c
-    where
-      and_right : (a b : Bool) → (a && b) ≡ true → b ≡ true
-      and_right a b t = (and_parts a b t).1
-
-      keyed_one : (P : Interface → Type 0) (g : Group) → AllByRecursion P (at_keys slots g.keys) → (n : ℕ) (j : Interface) (o : Option ℕ) → key_in g n ≡ o → option_and_then (at_key slots) (key_in g n) ≡ Some j → P j
-      keyed_one P g b n j None e f = let w = rw e at f in cc
-      keyed_one P g b n j (Some k) e f = got_keyed slots P g.holders g.keys n k j b e (rw e at f)
-
-      answer : (p : Interface → Bool) (is : List Interface) → AllByRecursion (λ x. (find (is_at x.handle guid) (installed_until stamp slots) ≡ Some x) × (is_of guid x ≡ true)) is
-          → ((P : Interface → Type 0) → AllByRecursion P is → (n : ℕ) (j : Interface) → find (is_at n guid) (installed_until stamp slots) ≡ Some j → P j)
-          → (r : Option Interface) → r ≡ earliest (filter (λ i. nat_lt mark i.stamp) is) → IsNextOf (is_after guid mark) (λ n. find (is_at n guid) (installed_until stamp slots)) r
-      answer p is all each None c = λ n j f t.
-          each (λ x. nat_lt mark x.stamp ≡ true → ⊥) (unfiltered (λ x. ⊥) (λ i. nat_lt mark i.stamp) is (earliest_none (λ x. ⊥) (filter (λ i. nat_lt mark i.stamp) is) (sym c))) n j f
-          (and_right (is_of guid j) (nat_lt mark j.stamp) t)
-      answer p is all each (Some i) c =
-          let those = all_filtered (λ x. (find (is_at x.handle guid) (installed_until stamp slots) ≡ Some x) × (is_after guid mark x ≡ true)) (λ x. (find (is_at x.handle guid) (installed_until stamp slots) ≡ Some x) × (is_of guid x ≡ true))
-          (λ i. nat_lt mark i.stamp) (λ x t h. (h.0, rw (h.1, t) refl)) is all in
-          let there = earliest_one (λ x. (find (is_at x.handle guid) (installed_until stamp slots) ≡ Some x) × (is_after guid mark x ≡ true)) (filter (λ i. nat_lt mark i.stamp) is) i those (sym c) in
-          let least = unfiltered (λ j. i.stamp ≤ j.stamp) (λ i. nat_lt mark i.stamp) is (earliest_least (filter (λ i. nat_lt mark i.stamp) is) i (sym c)) in
-          (there.0, there.1, λ n j f t. each (λ x. nat_lt mark x.stamp ≡ true → i.stamp ≤ x.stamp) least n j f (and_right (is_of guid j) (nat_lt mark j.stamp) t))
-
   -- the interface that a group has next is the next of all
-  pub next_listed : (guid : List ℕ) (mark : ℕ) (g : Group) → Some g ≡ find (is_group_of guid) groups → Ascending (λ a b. a < b) g.holders → length g.holders ≡ length g.keys
-      → (r : Option Interface) → r ≡ earliest (filter (λ i. nat_lt mark i.stamp) (at_keys slots g.keys)) → r ≡ earliest (filter (is_after guid mark) (installed_until stamp slots))
-  next_listed guid mark g e a l r c =
-      next_is guid mark (installed_until stamp slots) s.table.apart r (earliest (filter (is_after guid mark) (installed_until stamp slots))) (next_keyed guid mark g e a l r c) refl
-
-  pub none_listed : (guid : List ℕ) (mark : ℕ) → None ≡ find (is_group_of guid) groups → None ≡ earliest (filter (is_after guid mark) (installed_until stamp slots))
-  none_listed guid mark e =
-      next_is guid mark (installed_until stamp slots) s.table.apart None (earliest (filter (is_after guid mark) (installed_until stamp slots)))
-      (λ n j f t.
-      let z : None ≡ Some j = ap (option_and_then (λ (g : Group). option_and_then (at_key slots) (key_in g n))) e ∙ inside (find (is_group_of guid) groups) n ∙ sym (stored_at rows slots groups number stamp s n guid) ∙ f in cc) refl
-    where
-      inside : (o : Option Group) (n : ℕ) → option_and_then (λ (g : Group). option_and_then (at_key slots) (key_in g n)) o ≡ option_and_then (at_key slots) (option_and_then (λ g. key_in g n) o)
-      inside None n = refl
-      inside (Some g) n = refl
+  pub next_listed : (guid : List ℕ) (mark : ℕ) → AreInTurn (turns_of groups guid)
+      → option_map {U = ℕ × ℕ} (λ t. (t.handle, t.stamp)) (find (λ t. nat_lt mark t.stamp) (turns_of groups guid)) ≡ next_after (table_of rows slots number stamp) guid mark
+  next_listed guid mark ordered =
+      next_turned guid mark (installed_until stamp slots) s.table.apart (turns_of groups guid) ordered (s.turns guid) (find (λ t. nat_lt mark t.stamp) (turns_of groups guid)) refl

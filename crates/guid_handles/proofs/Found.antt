@@ -1,13 +1,14 @@
 -- What is found carries the GUID that was asked for, and is live.
-use Rattle.std.proofs.Common.{◌≡◌, ℕ, ◌&&◌, ◌||◌, nat_eq, nat_lt, Bool, true, false, List, [], ◌∷◌, Option, Some, None, is_some, inl, inr, refl, sym, ◌∙◌, subst}
+use Rattle.std.proofs.Common.{◌≡◌, ℕ, ◌&&◌, ◌||◌, ◌==◌, nat_eq, nat_lt, not, Bool, true, false, List, [], ◌∷◌, Option, Some, None, is_some, inl, inr, refl, sym, ◌∙◌, subst}
 use Rattle.std.specs.List.{filter, find, list_any, AllByRecursion}
 use Rattle.std.specs.Option.{option_map}
 use Rattle.std.proofs.lemmas.Bool.{cases_Bool, and_parts, eq-eqb}
+use Rattle.std.proofs.lemmas.Bool.Decides.{eqb_tells}
 use Rattle.std.proofs.lemmas.Option.{same_Some}
 use Rattle.guid_handles.specs.declared.records.Interface.{Interface}
 use Rattle.guid_handles.specs.declared.records.LiveHandle.{LiveHandle}
-use Rattle.guid_handles.specs.HandleTables.{HandleTable, numbers, has_number, is_of, is_at, is_live, interface_at, value_at, carries, holders_of, earlier_of, earliest, next_after}
-use Rattle.guid_handles.specs.HandleChanges.{IsHandleTable}
+use Rattle.guid_handles.specs.HandleTables.{HandleTable, numbers, has_number, is_of, is_on, is_at, is_live, interface_at, value_at, carries, holders_of, earlier_of, earliest, next_after}
+use Rattle.guid_handles.specs.HandleChanges.{IsHandleTable, without_handle}
 use Rattle.guid_handles.proofs.SortedLists.{all_map, all_filtered, any_found, any_map}
 use Rattle.guid_handles.proofs.Indexed.{at_handle}
 
@@ -108,6 +109,28 @@ first_holder_live t guid n ns e =
 -- each interface of a proper table is on a live handle
 pub interfaces_live : (t : HandleTable) → IsHandleTable t → AllByRecursion (λ i. is_live t i.handle ≡ true) t.interfaces
 interfaces_live t h = all_map (λ i. list_any (λ m. nat_eq m i.handle) (numbers t) ≡ true) (λ i. is_live t i.handle ≡ true) (λ i k. live_is t i.handle ∙ k) t.interfaces h.on_live
+
+-- a handle that carries an interface is live
+pub carrier_live : (t : HandleTable) → IsHandleTable t → (n : ℕ) → list_any (is_on n) t.interfaces ≡ true → is_live t n ≡ true
+carrier_live t h n e = one t.interfaces (interfaces_live t h) e
+  where
+    one : (is : List Interface) → AllByRecursion (λ i. is_live t i.handle ≡ true) is → list_any (is_on n) is ≡ true → is_live t n ≡ true
+    one [] a k = absurd cc
+    one (i ∷ is) a k = elim (eqb_tells i.handle n) [
+      | inl s ↦ subst (λ (m : ℕ). is_live t m ≡ true) s.1 a.0
+      | inr f ↦ one is a.1 (rw f.0 at k)
+    ]
+
+-- a handle that was taken out is not
+pub gone_dead : (t : HandleTable) (n : ℕ) → is_live (without_handle n t) n ≡ false
+gone_dead t n = none t.handles
+  where
+    none : (hs : List LiveHandle) → is_some (find (has_number n) (filter (λ h. not (has_number n h)) hs)) ≡ false
+    none [] = refl
+    none (h ∷ hs) = elim (cases_Bool (has_number n h)) [
+      | inl k ↦ rw k (none hs)
+      | inr k ↦ rw k (rw k (none hs))
+    ]
 
 pub found_one : (P : Interface → Type 0) (p : Interface → Bool) (is : List Interface) (i : Interface) → AllByRecursion P is → find p is ≡ Some i → (p i ≡ true) × P i
 found_one P p [] i a e = absurd cc

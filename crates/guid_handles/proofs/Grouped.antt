@@ -7,12 +7,13 @@ use Rattle.std.specs.declared.cmp.Ordering.TheVariants.{Less}
 use Rattle.std.specs.Ordering.{nat_cmp, is_lt, is_eq}
 use Rattle.std.specs.Cmp.Lexicographic.{slice_cmp, texts_ties}
 use Rattle.std.proofs.lemmas.Cmp.{nat_list_cmp_total}
-use Rattle.std.proofs.lemmas.Bool.{cases_Bool, ltb-false}
+use Rattle.std.proofs.lemmas.Bool.{and_parts, cases_Bool, ltb-false, ne_eqb}
 use Rattle.std.proofs.lemmas.Bool.Decides.{eqb_tells}
 use Rattle.std.proofs.lemmas.Option.{same_Some}
+use Rattle.guid_handles.specs.declared.records.Turn.{Turn}
 use Rattle.guid_handles.specs.HandleTables.{same_guid}
 use Rattle.guid_handles.specs.Sorting.{Ascending, place, kept_if}
-use Rattle.guid_handles.specs.Indexes.{Group, AreGroups, is_group_of, is_before, AscendByGuid, IsPlaceOf, key_beside, key_in, key_at}
+use Rattle.guid_handles.specs.Indexes.{Group, AreGroups, is_bare, is_group_of, is_before, AscendByGuid, IsPlaceOf, key_beside, key_in, key_at, turns_in, turns_of, with_turn}
 use Rattle.guid_handles.proofs.SortedLists.{IsSplit, all_insert, all_mapped, all_remove, all_set, set_same, find_none, found_none, find_split, find_insert_other, find_insert_new, ascending_insert, ascending_remove, map_insert, map_remove, place_map}
 use Rattle.guid_handles.proofs.GuidOrder.{same_guid-true, guid_splits, is_less, less_from, greater_of, and_false, and_true}
 
@@ -94,20 +95,26 @@ found_of (h ∷ hs) k g e = elim (cases_Bool (is_group_of k h)) [
   | inr f ↦ found_of hs k g (rw f at e)
 ]
 
--- a group of a GUID takes the place of another
-pub key_set : (groups : List Group) (guid : List ℕ) (at : ℕ) (g new : Group) → IsPlaceOf guid groups at → slice_get groups at ≡ Some g → new.guid ≡ g.guid
-    → (k : List ℕ) (n : ℕ) → key_at (set groups at new) k n ≡ cond (same_guid guid k) (key_in new n) (key_at groups k n)
-key_set groups guid at g new p e s k n =
+-- which group is found once a group of a GUID takes the place of another
+group_set : (groups : List Group) (guid : List ℕ) (at : ℕ) (g new : Group) → IsPlaceOf guid groups at → slice_get groups at ≡ Some g → new.guid ≡ g.guid
+    → (k : List ℕ) → find (is_group_of k) (set groups at new) ≡ cond (same_guid guid k) (Some new) (find (is_group_of k) groups)
+group_set groups guid at g new p e s k =
     let t : is_group_of guid g ≡ true = found_of groups guid g (p.1 ∙ e) in
     let same : g.guid ≡ guid = same_guid-true g.guid guid t in
     elim (cases_Bool (same_guid guid k)) [
       | inl y ↦
-          let there : find (is_group_of guid) (set groups at new) ≡ Some new =
-          rw p.2 (find_set_new (is_group_of guid) (is_before guid) (before_other guid) groups new (subst (λ m. m < length groups) p.2 p.0) (rw s t)) in
-          rw y (rw (← same_guid-true guid k y) (ap (option_and_then (λ h. key_in h n)) there))
-      | inr f ↦
-          rw f (ap (option_and_then (λ h. key_in h n))
-          (find_set_other (is_group_of k) groups at g new e (other_guid guid k g.guid same f) (other_guid guid k new.guid (s ∙ same) f)))
+          rw y (rw (← same_guid-true guid k y)
+          (rw p.2 (find_set_new (is_group_of guid) (is_before guid) (before_other guid) groups new (subst (λ m. m < length groups) p.2 p.0) (rw s t))))
+      | inr f ↦ rw f (find_set_other (is_group_of k) groups at g new e (other_guid guid k g.guid same f) (other_guid guid k new.guid (s ∙ same) f))
+    ]
+
+-- a group of a GUID takes the place of another
+pub key_set : (groups : List Group) (guid : List ℕ) (at : ℕ) (g new : Group) → IsPlaceOf guid groups at → slice_get groups at ≡ Some g → new.guid ≡ g.guid
+    → (k : List ℕ) (n : ℕ) → key_at (set groups at new) k n ≡ cond (same_guid guid k) (key_in new n) (key_at groups k n)
+key_set groups guid at g new p e s k n =
+    ap (option_and_then (λ h. key_in h n)) (group_set groups guid at g new p e s k) ∙ elim (cases_Bool (same_guid guid k)) [
+      | inl y ↦ rw y refl
+      | inr f ↦ rw f refl
     ]
 
 -- what the group at a place has is what is found
@@ -125,10 +132,40 @@ key_changed groups guid at g new m o p e s c k n = elim (cases_Bool (same_guid g
   | inr f ↦ key_set groups guid at g new p e s k n ∙ rw (f, and_false (m == n)) refl
 ]
 
-pub groups_set : (groups : List Group) (at : ℕ) (g new : Group) → AreGroups groups → slice_get groups at ≡ Some g → new.guid ≡ g.guid → 0 < length new.holders → AreGroups (set groups at new)
+-- no key of a group changes
+pub key_same : (groups : List Group) (guid : List ℕ) (at : ℕ) (g new : Group) → IsPlaceOf guid groups at → slice_get groups at ≡ Some g → new.guid ≡ g.guid → ((n : ℕ) → key_in new n ≡ key_in g n)
+    → (k : List ℕ) (n : ℕ) → key_at (set groups at new) k n ≡ key_at groups k n
+key_same groups guid at g new p e s c k n = key_set groups guid at g new p e s k n ∙ elim (cases_Bool (same_guid guid k)) [
+  | inl y ↦ rw y (rw (← same_guid-true guid k y) (c n ∙ sym (key_there groups guid at g p e n)))
+  | inr f ↦ rw f refl
+]
+
+-- a group with a turn is not bare
+pub turns_held : (n stamp : ℕ) (g : Group) (ts : List Turn) → g.turns ≡ with_turn n stamp ts → is_bare g ≡ false
+turns_held n stamp g ts e =
+    let some : (length g.turns == 0) ≡ false = rw e (ne_eqb (length (with_turn n stamp ts)) 0 (λ z. omega (arith, z, longer ts))) in
+    rw some (and_false (length g.holders == 0))
+  where
+    longer : (us : List Turn) → 0 < length (with_turn n stamp us)
+    longer [] = omega arith
+    longer (u ∷ us) = omega arith
+
+-- what the group at a place has by stamps
+pub turns_there : (groups : List Group) (guid : List ℕ) (at : ℕ) (g : Group) → IsPlaceOf guid groups at → slice_get groups at ≡ Some g → turns_of groups guid ≡ g.turns
+turns_there groups guid at g p e = ap turns_in (p.1 ∙ e)
+
+-- the turns of a group change
+pub turns_set : (groups : List Group) (guid : List ℕ) (at : ℕ) (g new : Group) (f : List Turn → List Turn) → IsPlaceOf guid groups at → slice_get groups at ≡ Some g → new.guid ≡ g.guid → new.turns ≡ f g.turns
+    → (k : List ℕ) → turns_of (set groups at new) k ≡ cond (same_guid guid k) (f (turns_of groups k)) (turns_of groups k)
+turns_set groups guid at g new f p e s c k = ap turns_in (group_set groups guid at g new p e s k) ∙ elim (cases_Bool (same_guid guid k)) [
+  | inl y ↦ rw y (rw (← same_guid-true guid k y) (c ∙ ap f (sym (turns_there groups guid at g p e))))
+  | inr n ↦ rw n refl
+]
+
+pub groups_set : (groups : List Group) (at : ℕ) (g new : Group) → AreGroups groups → slice_get groups at ≡ Some g → new.guid ≡ g.guid → is_bare new ≡ false → AreGroups (set groups at new)
 groups_set groups at g new a e s l = record {
   ascending = subst (Ascending (λ x y. slice_cmp nat_cmp x y ≡ Less)) (sym (set_same (λ h. h.guid) groups at g new e s)) a.ascending;
-  held = all_set (λ h. 0 < length h.holders) groups at new a.held l;
+  held = all_set (λ h. is_bare h ≡ false) groups at new a.held l;
 }
 
 -- ---- a group comes
@@ -149,28 +186,52 @@ ascend_insert groups new at a none e =
     (λ g. is_group_of new.guid g ≡ false) (λ g. g.guid) (before_sides new.guid) groups (found_none (is_group_of new.guid) groups none))
     a)
 
+-- which group is found once one comes of a GUID that has none
+group_insert : (groups : List Group) (new : Group) (guid : List ℕ) (at : ℕ) → new.guid ≡ guid → find (is_group_of guid) groups ≡ None
+    → (k : List ℕ) → find (is_group_of k) (insert groups at new) ≡ cond (same_guid guid k) (Some new) (find (is_group_of k) groups)
+group_insert groups new guid at own none k = elim (cases_Bool (same_guid guid k)) [
+  | inl y ↦
+      let e : find (is_group_of k) groups ≡ None = rw (← same_guid-true guid k y) none in
+      rw y (find_insert_new (is_group_of k) groups at new (rw own y) e)
+  | inr f ↦ rw f (find_insert_other (is_group_of k) groups at new (rw own f))
+]
+
 -- a group of a GUID that has none, with one holder
 pub key_insert : (groups : List Group) (new : Group) (guid : List ℕ) (at m key : ℕ) → new.guid ≡ guid → find (is_group_of guid) groups ≡ None → ((n : ℕ) → key_in new n ≡ cond (m == n) (Some key) None)
     → (k : List ℕ) (n : ℕ) → key_at (insert groups at new) k n ≡ cond ((m == n) && same_guid guid k) (Some key) (key_at groups k n)
-key_insert groups new guid at m key own none c k n = elim (cases_Bool (same_guid guid k)) [
+key_insert groups new guid at m key own none c k n = ap (option_and_then (λ h. key_in h n)) (group_insert groups new guid at own none k) ∙ elim (cases_Bool (same_guid guid k)) [
   | inl y ↦
       let e : find (is_group_of k) groups ≡ None = rw (← same_guid-true guid k y) none in
-      ap (option_and_then (λ h. key_in h n)) (find_insert_new (is_group_of k) groups at new (rw own y) e)
-      ∙ rw (y, and_true (m == n)) (rw e (c n))
-  | inr f ↦ ap (option_and_then (λ h. key_in h n)) (find_insert_other (is_group_of k) groups at new (rw own f)) ∙ rw (f, and_false (m == n)) refl
+      rw (y, and_true (m == n)) (rw e (c n))
+  | inr f ↦ rw (f, and_false (m == n)) refl
 ]
 
-pub groups_insert : (groups : List Group) (new : Group) (guid : List ℕ) (at : ℕ) → new.guid ≡ guid → AreGroups groups → find (is_group_of guid) groups ≡ None → at ≡ place (is_before guid) groups → 0 < length new.holders → AreGroups (insert groups at new)
+pub turns_insert : (groups : List Group) (new : Group) (guid : List ℕ) (at : ℕ) (f : List Turn → List Turn) → new.guid ≡ guid → find (is_group_of guid) groups ≡ None → new.turns ≡ f []
+    → (k : List ℕ) → turns_of (insert groups at new) k ≡ cond (same_guid guid k) (f (turns_of groups k)) (turns_of groups k)
+turns_insert groups new guid at f own none c k = ap turns_in (group_insert groups new guid at own none k) ∙ elim (cases_Bool (same_guid guid k)) [
+  | inl y ↦
+      let e : find (is_group_of k) groups ≡ None = rw (← same_guid-true guid k y) none in
+      rw y (c ∙ ap (λ o. f (turns_in o)) (sym e))
+  | inr n ↦ rw n refl
+]
+
+pub groups_insert : (groups : List Group) (new : Group) (guid : List ℕ) (at : ℕ) → new.guid ≡ guid → AreGroups groups → find (is_group_of guid) groups ≡ None → at ≡ place (is_before guid) groups → is_bare new ≡ false → AreGroups (insert groups at new)
 groups_insert groups new guid at own a none e l = record {
   ascending = ascend_insert groups new at a.ascending (rw own none) (rw own e);
-  held = all_insert (λ h. 0 < length h.holders) groups at new a.held l;
+  held = all_insert (λ h. is_bare h ≡ false) groups at new a.held l;
 }
 
 -- ---- a group goes
 
-pub not_none : (n : ℕ) → (n == 0) ≡ false → 0 < n
-not_none zero f = absurd cc
-not_none (suc n) f = omega arith
+-- a bare group has no holders, and no turns
+pub bare_parts : (g : Group) → is_bare g ≡ true → (length g.holders ≡ 0) × (g.turns ≡ [])
+bare_parts g h =
+    let parts = and_parts (length g.holders == 0) (length g.turns == 0) h in
+    (is_same (length g.holders) 0 parts.0, empty g.turns (is_same (length g.turns) 0 parts.1))
+  where
+    empty : (ts : List Turn) → length ts ≡ 0 → ts ≡ []
+    empty [] e = refl
+    empty (t ∷ ts) e = absurd (omega (arith, e))
 
 -- no holders, no keys
 pub no_keys : (g : Group) → length g.holders ≡ 0 → (n : ℕ) → key_in g n ≡ None
@@ -199,25 +260,37 @@ remove_split before tie (x ∷ xs) h = elim (cases_Bool (before x)) [
   | inr e ↦ rw e (find_none tie xs (h.1 e))
 ]
 
+-- which group is found once that of a GUID goes
+group_removed : (groups : List Group) (guid : List ℕ) (at : ℕ) (g : Group) → AscendByGuid groups → IsPlaceOf guid groups at → slice_get groups at ≡ Some g
+    → (k : List ℕ) → find (is_group_of k) (remove groups at) ≡ cond (same_guid guid k) None (find (is_group_of k) groups)
+group_removed groups guid at g a p e k =
+    let same : g.guid ≡ guid = same_guid-true g.guid guid (found_of groups guid g (p.1 ∙ e)) in
+    elim (cases_Bool (same_guid guid k)) [
+      | inl y ↦ rw y (rw (← same_guid-true guid k y) (rw p.2 (remove_split (is_before guid) (is_group_of guid) groups (guid_splits guid groups a))))
+      | inr f ↦ rw f (find_remove_other (is_group_of k) groups at g e (other_guid guid k g.guid same f))
+    ]
+
 -- the group of a GUID goes with the last of its holders
 pub key_removed : (groups : List Group) (guid : List ℕ) (at : ℕ) (g new : Group) (m : ℕ) → AscendByGuid groups → IsPlaceOf guid groups at → slice_get groups at ≡ Some g
     → ((n : ℕ) → key_in new n ≡ cond (m == n) None (key_in g n)) → length new.holders ≡ 0
     → (k : List ℕ) (n : ℕ) → key_at (remove groups at) k n ≡ cond ((m == n) && same_guid guid k) None (key_at groups k n)
-key_removed groups guid at g new m a p e c z k n =
-    let same : g.guid ≡ guid = same_guid-true g.guid guid (found_of groups guid g (p.1 ∙ e)) in
-    elim (cases_Bool (same_guid guid k)) [
-      | inl y ↦
-          let none : find (is_group_of guid) (remove groups at) ≡ None = rw p.2 (remove_split (is_before guid) (is_group_of guid) groups (guid_splits guid groups a)) in
-          rw (y, and_true (m == n)) (rw (← same_guid-true guid k y)
-          (ap (option_and_then (λ h. key_in h n)) none ∙ sym (no_keys new z n) ∙ c n ∙ ap (cond (m == n) None) (sym (key_there groups guid at g p e n))))
-      | inr f ↦
-          rw (f, and_false (m == n)) (ap (option_and_then (λ h. key_in h n)) (find_remove_other (is_group_of k) groups at g e (other_guid guid k g.guid same f)))
-    ]
+key_removed groups guid at g new m a p e c z k n = ap (option_and_then (λ h. key_in h n)) (group_removed groups guid at g a p e k) ∙ elim (cases_Bool (same_guid guid k)) [
+  | inl y ↦
+      rw (y, and_true (m == n)) (rw (← same_guid-true guid k y) (sym (no_keys new z n) ∙ c n ∙ ap (cond (m == n) None) (sym (key_there groups guid at g p e n))))
+  | inr f ↦ rw (f, and_false (m == n)) refl
+]
+
+pub turns_removed : (groups : List Group) (guid : List ℕ) (at : ℕ) (g new : Group) (f : List Turn → List Turn) → AscendByGuid groups → IsPlaceOf guid groups at → slice_get groups at ≡ Some g
+    → new.turns ≡ f g.turns → new.turns ≡ [] → (k : List ℕ) → turns_of (remove groups at) k ≡ cond (same_guid guid k) (f (turns_of groups k)) (turns_of groups k)
+turns_removed groups guid at g new f a p e c z k = ap turns_in (group_removed groups guid at g a p e k) ∙ elim (cases_Bool (same_guid guid k)) [
+  | inl y ↦ rw y (rw (← same_guid-true guid k y) (sym z ∙ c ∙ ap f (sym (turns_there groups guid at g p e))))
+  | inr n ↦ rw n refl
+]
 
 pub groups_remove : (groups : List Group) (at : ℕ) → AreGroups groups → AreGroups (remove groups at)
 groups_remove groups at a = record {
   ascending = rw (map_remove (λ g. g.guid) groups at) (ascending_remove (λ x y. slice_cmp nat_cmp x y ≡ Less) (map (λ g. g.guid) groups) at a.ascending);
-  held = all_remove (λ h. 0 < length h.holders) groups at a.held;
+  held = all_remove (λ h. is_bare h ≡ false) groups at a.held;
 }
 
 -- no group, no key
@@ -232,6 +305,23 @@ none_there groups guid m none k n = elim (cases_Bool (same_guid guid k)) [
     same_either : (b : Bool) (o : Option ℕ) → o ≡ None → o ≡ cond b None o
     same_either true o e = e
     same_either false o e = refl
+
+-- the turns of a GUID are those of the group that is found
+pub turns_returned : (groups : List Group) (guid : List ℕ) (g : Group) → Some g ≡ find (is_group_of guid) groups → turns_of groups guid ≡ g.turns
+turns_returned groups guid g e = ap turns_in (sym e)
+
+-- no group, no turns
+pub no_turns : (groups : List Group) (guid : List ℕ) → find (is_group_of guid) groups ≡ None → turns_of groups guid ≡ []
+no_turns groups guid none = ap turns_in none
+
+pub none_turned : (groups : List Group) (guid : List ℕ) (f : List Turn → List Turn) → find (is_group_of guid) groups ≡ None → f [] ≡ []
+    → (k : List ℕ) → turns_of groups k ≡ cond (same_guid guid k) (f (turns_of groups k)) (turns_of groups k)
+none_turned groups guid f none c k = elim (cases_Bool (same_guid guid k)) [
+  | inl y ↦
+      let e : turns_of groups k ≡ [] = rw (← same_guid-true guid k y) (no_turns groups guid none) in
+      rw (y, e) (sym c)
+  | inr n ↦ rw n refl
+]
 
 -- the handles of a group are those that have a key in it
 pub holders_returned : (groups : List Group) (guid : List ℕ) (g : Group) → Some g ≡ find (is_group_of guid) groups → length g.holders ≡ length g.keys → (n : ℕ) → list_any (λ h. h == n) g.holders ≡ is_some (key_at groups guid n)

@@ -9,6 +9,7 @@ pub mod Numbered
 pub mod FiledRows
 pub mod Slotted
 pub mod Filed
+pub mod InTurn
 pub mod Apart
 pub mod Found
 pub mod Stored

@@ -13,9 +13,9 @@ use Rattle.guid_handles.specs.declared.records.Record.{Record}
 use Rattle.guid_handles.specs.HandleTables.{HandleTable, numbers, same_guid, is_on, is_at, is_live, has_number, carries, holders_of}
 use Rattle.guid_handles.specs.HandleChanges.{IsHandleTable, max_handles, is_taken, has_guid_twice, stamped, restamped, with_interfaces, with_handle, with_value, without_handle}
 use Rattle.guid_handles.specs.Sorting.{Ascending}
-use Rattle.guid_handles.specs.Indexes.{Row, Group, ChangesKeys, AreOn, AreAbsent, lives, is_row_of, row_numbers, keys_of, keys_on, key_at}
+use Rattle.guid_handles.specs.Indexes.{Row, Group, ChangesKeys, ChangesTurns, AreOn, AreAbsent, HaveSameTurns, lives, is_row_of, row_numbers, keys_of, keys_on, key_at, turns_of, with_turn, without_turn}
 use Rattle.guid_handles.specs.Slots.{at_key, at_keys, record_at, installed_until, with_stamp}
-use Rattle.guid_handles.specs.Stores.{AgreeOnKeys, AreApart, HaveInterfaces, IsStamped, IsStore, IsTable, table_of}
+use Rattle.guid_handles.specs.Stores.{AgreeOnKeys, AreApart, AreFiled, HaveInterfaces, IsStamped, IsStore, IsTable, table_of}
 use Rattle.guid_handles.proofs.SortedLists.{all_both, all_numbered, any_none, find_filter, find_push_other, those_among, filter_same, filter_whole, all_of, all_map, all_mapped, all_push, all_append, all_filter, all_filtered, any_map, any_found, any_push, any_last, any_kept, any_member, filter_map_filter, filter_shorter, map_append, ascending_filter, ascending_push, find_none, found_none}
 use Rattle.guid_handles.proofs.Filters.{filter_append, filter_inside, filter_swap, passed}
 use Rattle.guid_handles.proofs.Indexed.{restamped_handle}
@@ -25,6 +25,7 @@ use Rattle.guid_handles.proofs.Found.{among_own, carried_live, found_one, live_i
 use Rattle.guid_handles.proofs.Numbered.{find_lives, live_numbers}
 use Rattle.guid_handles.proofs.Slotted.{AreBelow, tagged, until_changed, until_later, until_less, until_more}
 use Rattle.guid_handles.proofs.Grouped.{is_same, none_of, some_map}
+use Rattle.guid_handles.proofs.InTurn.{turn_there, turns_below, turns_changed, turns_less, turns_more}
 use Rattle.guid_handles.proofs.Filed.{agreed, found_at, have_these, filed_changed, filed_less, filed_more, keyed_at, only_one}
 
 -- ---- tables
@@ -330,6 +331,7 @@ empty_store = record {
     below = tt;
   };
   filed = record { by_handle = λ n. tt; by_guid = λ n guid. tt; in_group = λ key i e. absurd cc };
+  turns = λ guid n stamp. refl;
   stamped = λ key r e. absurd cc;
 }
 
@@ -388,8 +390,9 @@ module _ (rows : List Row) (slots : List (Option Record)) (groups : List Group) 
       → ((j : ℕ) → j ≢ key → record_at new j ≡ record_at slots j)
       → ChangesKeys n (λ ks. ks ++ key ∷ []) rows rs
       → ((k : List ℕ) (m : ℕ) → key_at gs k m ≡ cond ((n == m) && same_guid guid k) (Some key) (key_at groups k m))
+      → ChangesTurns guid (with_turn n (stamp + 1)) groups gs
       → (table_of rs new number (stamp + 1) ≡ with_interfaces n ((guid, value) ∷ []) (table_of rows slots number stamp)) × IsStore rs new gs number (stamp + 1)
-  stored_more rs new gs n guid value key live absent none there others c g =
+  stored_more rs new gs n guid value key live absent none there others c g t =
       let i : Interface = record { handle = n; guid = guid; value = value; stamp = stamp + 1 } in
       let more : installed_until (stamp + 1) new ≡ installed_until stamp slots ++ i ∷ [] =
       until_more stamp key slots new (record { interface = i; installed = stamp + 1 }) slots_below refl none there others in
@@ -399,6 +402,7 @@ module _ (rows : List Row) (slots : List (Option Record)) (groups : List Group) 
           table = subst IsTable (sym same) (table_with_interfaces (table_of rows slots number stamp) n ((guid, value) ∷ []) s.table live (absent, tt) refl);
           filed = rw more (filed_more (installed_until stamp slots) slots new rows rs groups gs key i (ap (option_map (λ r. r.interface)) none) (ap (option_map (λ r. r.interface)) there)
               (at_others new key others) c (unkeyed n guid absent) g s.filed);
+          turns = rw more (turns_more (installed_until stamp slots) groups gs i t s.turns);
           stamped = λ j r e. elim (cases_eq j key) [
             | inl w ↦ subst IsStamped (same_Some (record { interface = i; installed = stamp + 1 }) r (sym there ∙ ap (record_at new) (sym w) ∙ e)) (omega arith, omega arith)
             | inr d ↦ s.stamped j r (sym (others j d) ∙ e)
@@ -413,13 +417,50 @@ module _ (rows : List Row) (slots : List (Option Record)) (groups : List Group) 
   other_key : (n : ℕ) (guid : List ℕ) (key : ℕ) → key_at groups guid n ≡ Some key → (j : ℕ) (r : Record) → j ≢ key → record_at slots j ≡ Some r → is_at n guid r.interface ≡ false
   other_key n guid key there j r d e = only_one (installed_until stamp slots) slots rows groups n guid key s.filed there j r.interface d (ap (option_map (λ (x : Record). x.interface)) e)
 
+  -- the interface at a key is found by its GUID and its handle
+  pub keyed_record : (n : ℕ) (guid : List ℕ) (key : ℕ) → key_at groups guid n ≡ Some key → (r : Record) → record_at slots key ≡ Some r → find (is_at n guid) (installed_until stamp slots) ≡ Some r.interface
+  keyed_record n guid key there r e = stored_at n guid ∙ ap (option_and_then (at_key slots)) there ∙ ap (option_map (λ (x : Record). x.interface)) e
+
+  -- a key is that of a record
+  recorded : (n : ℕ) (guid : List ℕ) (key : ℕ) → key_at groups guid n ≡ Some key → (r : Record) × (record_at slots key ≡ Some r)
+  recorded n guid key there = first (filter (is_at n guid) (installed_until stamp slots)) (rw there at (s.filed.by_guid n guid))
+    where
+      of_interface : (o : Option Record) (i : Interface) → option_map (λ r. r.interface) o ≡ Some i → (r : Record) × (o ≡ Some r)
+      of_interface None i e = absurd cc
+      of_interface (Some r) i e = (r, refl)
+
+      first : (is : List Interface) → HaveInterfaces slots (key ∷ []) is → (r : Record) × (record_at slots key ≡ Some r)
+      first [] h = absurd h
+      first (i ∷ is) h = of_interface (record_at slots key) i h.0
+
+  pub is_recorded : (n : ℕ) (guid : List ℕ) (key : ℕ) → key_at groups guid n ≡ Some key → is_some (record_at slots key) ≡ true
+  is_recorded n guid key there = ap is_some (recorded n guid key there).1
+
+  -- the stamp of the interface at a key
+  stamp_at : (key : ℕ) (r : Record) (own : ℕ) → record_at slots key ≡ Some r → option_map (λ x. x.interface.stamp) (record_at slots key) ≡ Some own → own ≡ r.interface.stamp
+  stamp_at key r own e k = same_Some own r.interface.stamp (sym k ∙ ap (option_map (λ (x : Record). x.interface.stamp)) e)
+
+  -- the turns of a GUID are not above the last stamp
+  pub turned_below : (guid : List ℕ) → AllByRecursion (λ t. t.stamp < stamp + 1) (turns_of groups guid)
+  turned_below guid = turns_below (installed_until stamp slots) groups stamp s.turns s.table.below guid
+
+  -- the interface at a key has a turn
+  pub turn_of_key : (n : ℕ) (guid : List ℕ) (key own : ℕ) → key_at groups guid n ≡ Some key → option_map (λ x. x.interface.stamp) (record_at slots key) ≡ Some own
+      → list_any (λ t. t.stamp == own) (turns_of groups guid) ≡ true
+  turn_of_key n guid key own there k =
+      let r = recorded n guid key there in
+      rw (stamp_at key r.0 own r.1 k) (turn_there (installed_until stamp slots) groups n guid r.0.interface s.turns (keyed_record n guid key there r.0 r.1) (own_key n guid key there r.0 r.1))
+
   -- an interface goes
-  pub stored_less : (rs : List Row) (new : List (Option Record)) (gs : List Group) (n : ℕ) (guid : List ℕ) (key : ℕ) → key_at groups guid n ≡ Some key → record_at new key ≡ None
+  pub stored_less : (rs : List Row) (new : List (Option Record)) (gs : List Group) (n : ℕ) (guid : List ℕ) (key own : ℕ) → key_at groups guid n ≡ Some key
+      → option_map (λ r. r.interface.stamp) (record_at slots key) ≡ Some own → record_at new key ≡ None
       → ((j : ℕ) → j ≢ key → record_at new j ≡ record_at slots j)
       → ChangesKeys n (filter (λ k. not (k == key))) rows rs
       → ((k : List ℕ) (m : ℕ) → key_at gs k m ≡ cond ((n == m) && same_guid guid k) None (key_at groups k m))
+      → ChangesTurns guid (without_turn own) groups gs
       → (table_of rs new number stamp ≡ record (table_of rows slots number stamp) { interfaces = filter (λ i. not (is_at n guid i)) (installed_until stamp slots) }) × IsStore rs new gs number stamp
-  stored_less rs new gs n guid key there none others c g =
+  stored_less rs new gs n guid key own there stamped none others c g t =
+      let r = recorded n guid key there in
       let q : Interface → Bool = λ i. not (is_at n guid i) in
       let less : installed_until stamp new ≡ filter q (installed_until stamp slots) =
       until_less q stamp key slots new (λ r e. rw (own_key n guid key there r e) refl) (λ j r d e. rw (other_key n guid key there j r d e) refl) none others in
@@ -428,6 +469,7 @@ module _ (rows : List Row) (slots : List (Option Record)) (groups : List Group) 
         record {
           table = subst IsTable (sym same) (table_without_interface (table_of rows slots number stamp) n guid s.table);
           filed = rw less (filed_less (installed_until stamp slots) slots new rows rs groups gs n guid key there (ap (option_map (λ r. r.interface)) none) (at_others new key others) c g s.filed);
+          turns = rw less (turns_less (installed_until stamp slots) groups gs n guid r.0.interface s.table.apart (keyed_record n guid key there r.0 r.1) (rw (stamp_at key r.0 own r.1 stamped) at t) s.turns);
           stamped = λ j r e. elim (cases_eq j key) [
             | inl w ↦ let z : Some r ≡ None = sym e ∙ ap (record_at new) w ∙ none in cc
             | inr d ↦ s.stamped j r (sym (others j d) ∙ e)
@@ -440,11 +482,17 @@ module _ (rows : List Row) (slots : List (Option Record)) (groups : List Group) 
   stored_none n guid none =
       sym (filter_whole (is_at n guid) (installed_until stamp slots) (found_none (is_at n guid) (installed_until stamp slots) (stored_at n guid ∙ ap (option_and_then (at_key slots)) none)))
 
+  -- groups with the same keys
+  filed_same : (is : List Interface) (new : List (Option Record)) (gs : List Group) → ((k : List ℕ) (n : ℕ) → key_at gs k n ≡ key_at groups k n) → AreFiled is new rows groups → AreFiled is new rows gs
+  filed_same is new gs g h = record { by_handle = h.by_handle; by_guid = λ n k. rw (g k n) (h.by_guid n k); in_group = λ key i e. g i.guid i.handle ∙ h.in_group key i e }
+
   -- an interface takes a value and the next stamp
-  pub stored_changed : (new : List (Option Record)) (n : ℕ) (guid : List ℕ) (value key : ℕ) → key_at groups guid n ≡ Some key
+  pub stored_changed : (new : List (Option Record)) (gs : List Group) (n : ℕ) (guid : List ℕ) (value key before : ℕ) → key_at groups guid n ≡ Some key → option_map (λ r. r.interface.stamp) (record_at slots key) ≡ Some before
       → record_at new key ≡ option_map (with_stamp value (stamp + 1)) (record_at slots key) → ((j : ℕ) → j ≢ key → record_at new j ≡ record_at slots j)
-      → (table_of rows new number (stamp + 1) ≡ with_value n guid value (table_of rows slots number stamp)) × IsStore rows new groups number (stamp + 1)
-  stored_changed new n guid value key there own others =
+      → ((k : List ℕ) (m : ℕ) → key_at gs k m ≡ key_at groups k m) → ChangesTurns guid (λ ts. with_turn n (stamp + 1) (without_turn before ts)) groups gs
+      → (table_of rows new number (stamp + 1) ≡ with_value n guid value (table_of rows slots number stamp)) × IsStore rows new gs number (stamp + 1)
+  stored_changed new gs n guid value key before there stamped own others g t =
+      let x = recorded n guid key there in
       let f : Interface → Interface = restamped n guid value (stamp + 1) in
       let kept : (j : ℕ) (r : Record) → record_at new j ≡ Some r → (p : Record) × (record_at slots j ≡ Some p) × (p.installed ≡ r.installed) × (p.interface.stamp ≤ r.interface.stamp) =
       λ j r e. elim (cases_eq j key) [
@@ -460,10 +508,12 @@ module _ (rows : List Row) (slots : List (Option Record)) (groups : List Group) 
         same,
         record {
           table = subst IsTable (sym same) (table_with_value (table_of rows slots number stamp) n guid value s.table);
-          filed = rw changed (filed_changed (installed_until stamp slots) slots new rows groups n guid value (stamp + 1) key there
-              (λ x e. ap (option_map (λ r. r.interface)) own ∙ changed_there n guid value (stamp + 1) (record_at slots key) (λ r k. own_key n guid key there r k) x e)
+          filed = filed_same (installed_until (stamp + 1) new) new gs g (rw changed (filed_changed (installed_until stamp slots) slots new rows groups n guid value (stamp + 1) key there
+              (λ y e. ap (option_map (λ r. r.interface)) own ∙ changed_there n guid value (stamp + 1) (record_at slots key) (λ r k. own_key n guid key there r k) y e)
               (λ y e. new_there n guid value (stamp + 1) (record_at slots key) (λ r k. own_key n guid key there r k) y (sym (ap (option_map (λ r. r.interface)) own) ∙ e))
-              (at_others new key others) s.filed);
+              (at_others new key others) s.filed));
+          turns = rw changed (turns_changed (installed_until stamp slots) groups gs n guid value (stamp + 1) x.0.interface s.table.apart (keyed_record n guid key there x.0 x.1) (own_key n guid key there x.0 x.1)
+              (rw (stamp_at key x.0 before x.1 stamped) at t) s.turns);
           stamped = λ j r e. let k = kept j r e in let b = s.stamped j k.0 k.1 in (omega (arith, b.0, k.2), omega (arith, b.1, k.2, k.3));
         },
       )
@@ -495,6 +545,7 @@ module _ (rows : List Row) (slots : List (Option Record)) (groups : List Group) 
         record {
           table = subst IsTable (sym same) (table_with_handle (table_of rows slots number stamp) maker s.table room);
           filed = record { by_handle = λ n. rw (keys_push rows live n) (s.filed.by_handle n); by_guid = s.filed.by_guid; in_group = s.filed.in_group };
+          turns = s.turns;
           stamped = s.stamped;
         },
       )
@@ -523,6 +574,7 @@ module _ (rows : List Row) (slots : List (Option Record)) (groups : List Group) 
         record {
           table = subst IsTable (sym same) (table_without_handle (table_of rows slots number stamp) n s.table);
           filed = record { by_handle = λ m. rw (keys_without rows n m (bare_keys n bare)) (s.filed.by_handle m); by_guid = s.filed.by_guid; in_group = s.filed.in_group };
+          turns = s.turns;
           stamped = s.stamped;
         },
       )
@@ -543,6 +595,7 @@ module _ (rows : List Row) (slots : List (Option Record)) (groups : List Group) 
       below = s.table.below;
     };
     filed = s.filed;
+    turns = s.turns;
     stamped = s.stamped;
   }
 
@@ -563,6 +616,7 @@ module _ (rows : List Row) (slots : List (Option Record)) (groups : List Group) 
             below = rw same (all_map (λ i. i.stamp < stamp) (λ i. i.stamp ≤ last) (λ i l. omega (arith, l, e)) (installed_until stamp slots) below);
           };
           filed = rw same s.filed;
+          turns = rw same s.turns;
           stamped = s.stamped;
         },
       )
@@ -586,11 +640,12 @@ module _ (rows : List Row) (slots : List (Option Record)) (groups : List Group) 
       let back : table_of rows slots number (stamp - 1) ≡ record (table_of rows slots number stamp) { last_stamp = stamp - 1 } = rw b.0 refl in
       (back ∙ ap (λ (x : HandleTable). record x { last_stamp = x.last_stamp - 1 }) e, b.1)
 
-  -- groups with the same keys
-  pub stored_same : (gs : List Group) → ((k : List ℕ) (n : ℕ) → key_at gs k n ≡ key_at groups k n) → IsStore rows slots gs number stamp
-  stored_same gs g = record {
+  -- groups with the same keys and turns
+  pub stored_same : (gs : List Group) → ((k : List ℕ) (n : ℕ) → key_at gs k n ≡ key_at groups k n) → HaveSameTurns groups gs → IsStore rows slots gs number stamp
+  stored_same gs g t = record {
     table = s.table;
-    filed = record { by_handle = s.filed.by_handle; by_guid = λ n k. rw (g k n) (s.filed.by_guid n k); in_group = λ key i e. g i.guid i.handle ∙ s.filed.in_group key i e };
+    filed = filed_same (installed_until stamp slots) slots gs g s.filed;
+    turns = λ guid n st. rw (t guid) (s.turns guid n st);
     stamped = s.stamped;
   }
 

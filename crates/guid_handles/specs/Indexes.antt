@@ -1,12 +1,13 @@
 -- The keys of interfaces: by handle in rows, and by GUID in groups.
-use Rattle.std.specs.Prelude.{◌≡◌, ℕ, ◌<◌, ◌==◌, ◌&&◌, nat_eq, Bool, true, not, cond, List, [], ◌∷◌, map, length, Option, None, Some, is_some}
-use Rattle.std.specs.List.{find, list_any, AllByRecursion, slice_get}
+use Rattle.std.specs.Prelude.{◌≡◌, ℕ, ◌<◌, ◌==◌, ◌&&◌, nat_eq, Bool, true, false, not, cond, List, [], ◌∷◌, ◌++◌, map, length, Option, None, Some, is_some}
+use Rattle.std.specs.List.{filter, find, list_any, AllByRecursion, slice_get}
 use Rattle.std.specs.Option.{option_and_then}
 use Rattle.std.specs.declared.cmp.Ordering.TheVariants.{Less}
 use Rattle.std.specs.Ordering.{nat_cmp, is_lt}
 use Rattle.std.specs.Cmp.Lexicographic.{slice_cmp}
 use Rattle.guid_handles.specs.declared.records.Interface.{Interface}
 use Rattle.guid_handles.specs.declared.records.LiveHandle.{LiveHandle}
+use Rattle.guid_handles.specs.declared.records.Turn.{Turn}
 use Rattle.guid_handles.specs.HandleTables.{same_guid, has_number, is_at}
 use Rattle.guid_handles.specs.Sorting.{Ascending, place, kept_if}
 
@@ -69,13 +70,33 @@ pub record ChangesKeys (n : ℕ) (f : List ℕ → List ℕ) (old new : List Row
   pub lives : lives new ≡ lives old
   pub keys : (m : ℕ) → keys_on new m ≡ cond (n == m) (f (keys_on old m)) (keys_on old m)
 
+-- ---- by stamp
+
+-- interfaces by ascending stamps
+abbrev pub AreInTurn : List Turn → Type 0
+AreInTurn turns = Ascending (λ a b. a < b) (map (λ t. t.stamp) turns)
+
+-- a turn is that of a stamp on a handle
+abbrev pub is_turn : ℕ → ℕ → Turn → Bool
+is_turn n stamp t = (t.handle == n) && (t.stamp == stamp)
+
+-- the turn of a handle comes behind the others
+abbrev pub with_turn : ℕ → ℕ → List Turn → List Turn
+with_turn n stamp turns = turns ++ record { stamp = stamp; handle = n } ∷ []
+
+-- the turn of a stamp goes
+abbrev pub without_turn : ℕ → List Turn → List Turn
+without_turn stamp turns = filter (λ t. not (t.stamp == stamp)) turns
+
 -- ---- by GUID
 
--- a GUID, the handles that carry it, and beside each the key of its interface
+-- a GUID, the handles that carry it, beside each the key of its interface, and the interfaces by
+-- their stamps
 pub record Group : Type 0 where
   pub guid : List ℕ
   pub holders : List ℕ
   pub keys : List ℕ
+  pub turns : List Turn
 
 -- handles that ascend, and as many keys
 pub record AreBeside (holders keys : List ℕ) : Type 0 where
@@ -103,10 +124,14 @@ is_before guid g = is_lt (slice_cmp nat_cmp g.guid guid)
 abbrev pub AscendByGuid : List Group → Type 0
 AscendByGuid groups = Ascending (λ a b. slice_cmp nat_cmp a b ≡ Less) (map (λ g. g.guid) groups)
 
--- groups by ascending GUID, none of them without holders
+-- a group has no holders and no turns
+abbrev pub is_bare : Group → Bool
+is_bare g = (length g.holders == 0) && (length g.turns == 0)
+
+-- groups by ascending GUID, none of them bare
 pub record AreGroups (groups : List Group) : Type 0 where
   pub ascending : AscendByGuid groups
-  pub held : AllByRecursion (λ g. 0 < length g.holders) groups
+  pub held : AllByRecursion (λ g. is_bare g ≡ false) groups
 
 -- the place of the group of a GUID
 abbrev pub IsPlaceOf : List ℕ → List Group → ℕ → Type 0
@@ -116,6 +141,14 @@ IsPlaceOf guid groups at = (at < length groups)
 -- the key of the interface of a GUID on a handle
 abbrev pub key_at : List Group → List ℕ → ℕ → Option ℕ
 key_at groups guid n = option_and_then (λ g. key_in g n) (find (is_group_of guid) groups)
+
+abbrev pub turns_in : Option Group → List Turn
+turns_in None = []
+turns_in (Some g) = g.turns
+
+-- the interfaces of a GUID by their stamps
+abbrev pub turns_of : List Group → List ℕ → List Turn
+turns_of groups guid = turns_in (find (is_group_of guid) groups)
 
 -- the key beside one handle becomes another or goes, and no other does
 abbrev pub SetsKeyIn : ℕ → Option ℕ → Group → Group → Type 0
@@ -129,6 +162,15 @@ SetsKey guid handle key old new = (k : List ℕ) (n : ℕ)
 -- each key is the same
 abbrev pub HaveSameKeys : List Group → List Group → Type 0
 HaveSameKeys old new = (k : List ℕ) (n : ℕ) → key_at new k n ≡ key_at old k n
+
+-- the turns of one GUID change, and no others
+abbrev pub ChangesTurns : List ℕ → (List Turn → List Turn) → List Group → List Group → Type 0
+ChangesTurns guid f old new = (k : List ℕ)
+    → turns_of new k ≡ cond (same_guid guid k) (f (turns_of old k)) (turns_of old k)
+
+-- the turns of each GUID are the same
+abbrev pub HaveSameTurns : List Group → List Group → Type 0
+HaveSameTurns old new = (k : List ℕ) → turns_of new k ≡ turns_of old k
 
 -- ---- pairs and interfaces
 

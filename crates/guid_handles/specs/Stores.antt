@@ -1,13 +1,13 @@
 -- How the handle table is kept.
-use Rattle.std.specs.Prelude.{◌≡◌, ◌==◌, ◌<◌, ◌≤◌, ℕ, false, List, Option, Some}
-use Rattle.std.specs.List.{filter, find, AllByRecursion, AllZip}
+use Rattle.std.specs.Prelude.{◌≡◌, ◌==◌, ◌&&◌, ◌<◌, ◌≤◌, ℕ, Bool, false, List, Option, Some}
+use Rattle.std.specs.List.{filter, find, list_any, AllByRecursion, AllZip}
 use Rattle.std.specs.Option.{option_to_list}
 use Rattle.guid_handles.specs.declared.records.Interface.{Interface}
 use Rattle.guid_handles.specs.declared.records.Record.{Record}
 use Rattle.guid_handles.specs.HandleTables.{HandleTable, is_on, is_at}
 use Rattle.guid_handles.specs.HandleChanges.{IsHandleTable}
 use Rattle.guid_handles.specs.Sorting.{Ascending}
-use Rattle.guid_handles.specs.Indexes.{Row, Group, lives, keys_on, key_at}
+use Rattle.guid_handles.specs.Indexes.{Row, Group, lives, keys_on, key_at, is_turn, turns_of}
 use Rattle.guid_handles.specs.Slots.{at_key, record_at, is_key_of, installed_until}
 
 -- two interfaces are not of one GUID on one handle, and have stamps of their own
@@ -41,6 +41,16 @@ abbrev pub AgreeOnKeys : List (Option Record) → List Row → List Group → Ty
 AgreeOnKeys slots rows groups = (n : ℕ) (guid : List ℕ)
     → find (is_key_of slots guid) (keys_on rows n) ≡ key_at groups guid n
 
+-- an interface is of a GUID on a handle, and has a stamp
+abbrev pub has_turn : List ℕ → ℕ → ℕ → Interface → Bool
+has_turn guid n stamp i = is_at n guid i && (i.stamp == stamp)
+
+-- the turns in the groups are those of the interfaces
+abbrev pub HaveTurns : List Interface → List Group → Type 0
+HaveTurns interfaces groups = (guid : List ℕ) (n stamp : ℕ)
+    → list_any (is_turn n stamp) (turns_of groups guid)
+    ≡ list_any (has_turn guid n stamp) interfaces
+
 -- an interface was installed with a stamp, from 1 on, and has that one or a later one
 abbrev pub IsStamped : Record → Type 0
 IsStamped r = (0 < r.installed) × (r.installed ≤ r.interface.stamp)
@@ -59,4 +69,5 @@ pub record IsStore (rows : List Row) (slots : List (Option Record)) (groups : Li
     (last_number last_stamp : ℕ) : Type 0 where
   pub table : IsTable (table_of rows slots last_number last_stamp)
   pub filed : AreFiled (installed_until last_stamp slots) slots rows groups
+  pub turns : HaveTurns (installed_until last_stamp slots) groups
   pub stamped : (key : ℕ) (r : Record) → record_at slots key ≡ Some r → IsStamped r

@@ -1,9 +1,9 @@
 //! The interfaces by GUID.
-ghost use Rattle.std.specs.Prelude.{◌≡◌, ◌<◌, ◌≤◌, ◌==◌, ◌&&◌, ℕ, Bool, cond, List, [], None, Some, length, is_some, map, option_map, slice_get, IfOk, OnOk, OnErr, IfSome, IfNone};
-ghost use Rattle.std.specs.List.{find, list_any};
+ghost use Rattle.std.specs.Prelude.{◌≡◌, ◌<◌, ◌≤◌, ◌==◌, ◌&&◌, ℕ, Bool, true, cond, List, [], None, Some, length, nat_lt, is_some, map, option_map, slice_get, IfOk, OnOk, OnErr, IfSome, IfNone};
+ghost use Rattle.std.specs.List.{find, list_any, AllByRecursion};
 ghost use Rattle.guid_handles.specs.HandleTables.{same_guid};
 ghost use Rattle.guid_handles.specs.Sorting.{Ascending, place, kept_if};
-ghost use Rattle.guid_handles.specs.Indexes.{AscendByGuid, IsPlaceOf, SetsKey, is_before, is_group_of, key_at, key_in};
+ghost use Rattle.guid_handles.specs.Indexes.{AreInTurn, AscendByGuid, ChangesTurns, HaveSameKeys, IsPlaceOf, SetsKey, is_before, is_group_of, key_at, key_in, turns_of, with_turn, without_turn};
 
 use crate::guid_group::GuidGroup;
 use crate::guids::{is_lower_guid, is_same_guid};
@@ -11,7 +11,7 @@ use std::alloc::{AllocError, Allocator};
 use std::marker::Model;
 use uuid::Uuid;
 
-/// Groups by ascending GUID. A group that is left without holders goes.
+/// Groups by ascending GUID. A group that is left bare goes.
 #[derive(Drop)]
 pub(crate) struct Groups<A: Allocator> {
     groups: Vec<GuidGroup<A>, A>,
@@ -102,11 +102,17 @@ impl<A: Allocator + Copy> Groups<A> {
         Ok(Groups { groups })
     }
 
-    /// The group of a GUID.
-    pub(crate) fn find(&self, guid: Uuid) -> Option<&GuidGroup<A>>
-        ensures { option_map (λ g. g.now) result ≡ find (is_group_of guid) self.now }
+    /// The handle and the stamp of the interface of a GUID with the least stamp above a mark.
+    pub(crate) fn after(&self, guid: Uuid, mark: u64) -> Option<(u64, u64)>
+        ensures after { result
+            ≡ option_map (λ t. (t.handle, t.stamp))
+            (find (λ t. nat_lt mark t.stamp) (turns_of self.now guid)) }
+        ensures ascending { AreInTurn (turns_of self.now guid) }
     {
-        group_of(self.groups.as_slice(), guid)
+        match group_of(self.groups.as_slice(), guid) {
+            Some(group) => group.after(mark),
+            None => None,
+        }
     }
 
     /// The key of the interface of a GUID on a handle.
@@ -130,59 +136,107 @@ impl<A: Allocator + Copy> Groups<A> {
 
     /// Makes a group of a GUID that has none, with one holder. On an `Err` the groups are as they
     /// were.
-    fn make(&mut self, guid: Uuid, handle: u64, key: usize) -> Result<(), AllocError>
+    fn make(&mut self, guid: Uuid, handle: u64, key: usize, stamp: u64) -> Result<(), AllocError>
         requires { find (is_group_of guid) self.old ≡ None }
         ensures ok { OnOk result (SetsKey guid handle (Some key) self.old self.new) }
+        ensures turns { OnOk result (ChangesTurns guid (with_turn handle stamp) self.old self.new) }
         ensures err { OnErr result (self.new ≡ self.old) }
     {
         let at = count_before(self.groups.as_slice(), guid);
         let mut group = GuidGroup::new(*self.groups.allocator(), guid);
-        group.add(handle, key)?;
+        group.add(handle, key, stamp)?;
         self.groups.insert(at, group)?;
         Ok(())
     }
 
     /// Adds a holder that is not there to the group at a place. On an `Err` the groups are as they
     /// were.
-    fn add_at(&mut self, at: usize, guid: Uuid, handle: u64, key: usize) -> Result<(), AllocError>
+    fn add_at(
+        &mut self,
+        at: usize,
+        guid: Uuid,
+        handle: u64,
+        key: usize,
+        stamp: u64,
+    ) -> Result<(), AllocError>
         requires place { IsPlaceOf guid self.old at }
         requires absent { key_at self.old guid handle ≡ None }
+        requires last { AllByRecursion (λ t. t.stamp < stamp) (turns_of self.old guid) }
         ensures ok { OnOk result (SetsKey guid handle (Some key) self.old self.new) }
+        ensures turns { OnOk result (ChangesTurns guid (with_turn handle stamp) self.old self.new) }
         ensures err { OnErr result (self.new ≡ self.old) }
     {
-        self.groups[at].add(handle, key)?;
+        self.groups[at].add(handle, key, stamp)?;
         Ok(())
     }
 
-    /// Adds the key of an interface that is not there. On an `Err` the groups are as they were.
-    pub(crate) fn add(&mut self, guid: Uuid, handle: u64, key: usize) -> Result<(), AllocError>
-        requires { key_at self.old guid handle ≡ None }
+    /// Adds the key of an interface that is not there, and its stamp, which is above all others of
+    /// its GUID. On an `Err` the groups are as they were.
+    pub(crate) fn add(
+        &mut self,
+        guid: Uuid,
+        handle: u64,
+        key: usize,
+        stamp: u64,
+    ) -> Result<(), AllocError>
+        requires absent { key_at self.old guid handle ≡ None }
+        requires last { AllByRecursion (λ t. t.stamp < stamp) (turns_of self.old guid) }
         ensures ok { OnOk result (SetsKey guid handle (Some key) self.old self.new) }
+        ensures turns { OnOk result (ChangesTurns guid (with_turn handle stamp) self.old self.new) }
         ensures err { OnErr result (self.new ≡ self.old) }
     {
         match place_of(self.groups.as_slice(), guid) {
-            Some(at) => self.add_at(at, guid, handle, key),
-            None => self.make(guid, handle, key),
+            Some(at) => self.add_at(at, guid, handle, key, stamp),
+            None => self.make(guid, handle, key, stamp),
         }
     }
 
-    /// Takes out a handle from the group at a place.
-    fn remove_at(&mut self, at: usize, guid: Uuid, handle: u64)
+    /// Takes out a handle from the group at a place, and the turn of its stamp.
+    fn remove_at(&mut self, at: usize, guid: Uuid, handle: u64, stamp: u64)
         requires { IsPlaceOf guid self.old at }
-        ensures { SetsKey guid handle None self.old self.new }
+        ensures keys { SetsKey guid handle None self.old self.new }
+        ensures turns { ChangesTurns guid (without_turn stamp) self.old self.new }
     {
-        self.groups[at].remove(handle);
-        if self.groups[at].is_empty() {
+        self.groups[at].remove(handle, stamp);
+        if self.groups[at].is_bare() {
             self.groups.remove(at);
         }
     }
 
-    /// Takes out the key of the interface of a GUID on a handle.
-    pub(crate) fn remove(&mut self, guid: Uuid, handle: u64)
-        ensures { SetsKey guid handle None self.old self.new }
+    /// Takes out the key of the interface of a GUID on a handle, and the turn of its stamp.
+    pub(crate) fn remove(&mut self, guid: Uuid, handle: u64, stamp: u64)
+        ensures keys { SetsKey guid handle None self.old self.new }
+        ensures turns { ChangesTurns guid (without_turn stamp) self.old self.new }
     {
         if let Some(at) = place_of(self.groups.as_slice(), guid) {
-            self.remove_at(at, guid, handle);
+            self.remove_at(at, guid, handle, stamp);
+        }
+    }
+
+    /// Gives the turn of a handle in the group at a place a stamp above all others in place of its
+    /// own.
+    fn move_last_at(&mut self, at: usize, guid: Uuid, handle: u64, own: u64, stamp: u64)
+        requires place { IsPlaceOf guid self.old at }
+        requires there { list_any (λ t. t.stamp == own) (turns_of self.old guid) ≡ true }
+        requires last { AllByRecursion (λ t. t.stamp < stamp) (turns_of self.old guid) }
+        ensures keys { HaveSameKeys self.old self.new }
+        ensures turns { ChangesTurns guid (λ ts. with_turn handle stamp (without_turn own ts))
+            self.old self.new }
+    {
+        self.groups[at].move_last(handle, own, stamp);
+    }
+
+    /// Gives the interface of a GUID on a handle a stamp above all others of its GUID in place of its
+    /// own.
+    pub(crate) fn move_last(&mut self, guid: Uuid, handle: u64, own: u64, stamp: u64)
+        requires there { list_any (λ t. t.stamp == own) (turns_of self.old guid) ≡ true }
+        requires last { AllByRecursion (λ t. t.stamp < stamp) (turns_of self.old guid) }
+        ensures keys { HaveSameKeys self.old self.new }
+        ensures turns { ChangesTurns guid (λ ts. with_turn handle stamp (without_turn own ts))
+            self.old self.new }
+    {
+        if let Some(at) = place_of(self.groups.as_slice(), guid) {
+            self.move_last_at(at, guid, handle, own, stamp);
         }
     }
 }

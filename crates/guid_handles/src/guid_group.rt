@@ -1,20 +1,24 @@
 //! The interfaces of one GUID.
-ghost use Rattle.std.specs.Prelude.{◌≡◌, ◌<◌, ◌==◌, ◌≤◌, ℕ, [], true, cond, length, None, Some, IfOk, OnOk, OnErr};
+ghost use Rattle.std.specs.Prelude.{◌≡◌, ◌<◌, ◌==◌, ◌≤◌, ℕ, [], true, false, cond, length, nat_lt, option_map, None, Some, IfOk, OnOk, OnErr};
+ghost use Rattle.std.specs.List.{find, list_any, AllByRecursion};
 ghost use Rattle.guid_handles.specs.Sorting.{Ascending};
-ghost use Rattle.guid_handles.specs.Indexes.{SetsKeyIn, key_in};
+ghost use Rattle.guid_handles.specs.Indexes.{AreInTurn, SetsKeyIn, is_bare, key_in, with_turn, without_turn};
 
 use crate::room::insert_with_room;
 use crate::searches::{count_less, is_number_at, nth_key};
+use crate::turns::Turns;
 use std::alloc::{AllocError, Allocator};
 use std::marker::Model;
 use uuid::Uuid;
 
-/// The handles that carry a GUID, ascending, and beside each the key of its interface.
+/// The handles that carry a GUID, ascending, beside each the key of its interface, and these
+/// interfaces by their stamps.
 #[derive(Drop)]
 pub(crate) struct GuidGroup<A: Allocator> {
     guid: Uuid,
     holders: Vec<u64, A>,
     keys: Vec<usize, A>,
+    turns: Turns<A>,
 }
 
 impl<A: Allocator> Model for GuidGroup<A> {
@@ -22,7 +26,12 @@ impl<A: Allocator> Model for GuidGroup<A> {
 
     ghost Value = { Group };
 
-    ghost view = { λ g. record { guid = g.guid; holders = g.holders.items; keys = g.keys.items } };
+    ghost view = { λ g. record {
+      guid = g.guid;
+      holders = g.holders.items;
+      keys = g.keys.items;
+      turns = g.turns;
+    } };
 
     ghost invariant = { λ g. AreBeside g.holders.items g.keys.items };
 }
@@ -30,12 +39,13 @@ impl<A: Allocator> Model for GuidGroup<A> {
 impl<A: Allocator + Copy> GuidGroup<A> {
     /// A group without holders. This takes no memory.
     pub(crate) fn new(alloc: A, guid: Uuid) -> GuidGroup<A>
-        ensures { result ≡ record { guid = guid; holders = []; keys = [] } }
+        ensures { result ≡ record { guid = guid; holders = []; keys = []; turns = [] } }
     {
         GuidGroup {
             guid,
             holders: Vec::new(alloc),
             keys: Vec::new(alloc),
+            turns: Turns::new(alloc),
         }
     }
 
@@ -46,10 +56,12 @@ impl<A: Allocator + Copy> GuidGroup<A> {
         let alloc = *self.holders.allocator();
         let holders = Vec::from_slice(alloc, self.holders.as_slice())?;
         let keys = Vec::from_slice(alloc, self.keys.as_slice())?;
+        let turns = self.turns.try_copy()?;
         Ok(GuidGroup {
             guid: self.guid,
             holders,
             keys,
+            turns,
         })
     }
 
@@ -69,20 +81,21 @@ impl<A: Allocator + Copy> GuidGroup<A> {
         self.holders.as_slice()
     }
 
-    /// The keys.
-    pub(crate) fn keys(&self) -> &[usize]
-        ensures keys { result.now ≡ self.now.keys }
-        ensures ascending { Ascending (λ a b. a < b) self.now.holders }
-        ensures even { length self.now.holders ≡ length self.now.keys }
+    /// The handle and the stamp of the interface with the least stamp above a mark.
+    pub(crate) fn after(&self, mark: u64) -> Option<(u64, u64)>
+        ensures after { result
+            ≡ option_map (λ t. (t.handle, t.stamp))
+            (find (λ t. nat_lt mark t.stamp) self.now.turns) }
+        ensures ascending { AreInTurn self.now.turns }
     {
-        self.keys.as_slice()
+        self.turns.after(mark)
     }
 
-    /// Whether there are no holders.
-    pub(crate) fn is_empty(&self) -> bool
-        ensures { result ≡ (length self.now.holders == 0) }
+    /// Whether there are no holders and no turns.
+    pub(crate) fn is_bare(&self) -> bool
+        ensures { result ≡ is_bare self.now }
     {
-        self.holders.is_empty()
+        self.holders.is_empty() && self.turns.is_empty()
     }
 
     /// The key beside a handle.
@@ -97,30 +110,48 @@ impl<A: Allocator + Copy> GuidGroup<A> {
         }
     }
 
-    /// Adds a handle that is not a holder, and its key. On an `Err` the group is as it was.
-    pub(crate) fn add(&mut self, handle: u64, key: usize) -> Result<(), AllocError>
-        requires { key_in self.old handle ≡ None }
+    /// Adds a handle that is not a holder, its key, and its stamp, which is above all others. On an
+    /// `Err` the group is as it was.
+    pub(crate) fn add(&mut self, handle: u64, key: usize, stamp: u64) -> Result<(), AllocError>
+        requires absent { key_in self.old handle ≡ None }
+        requires last { AllByRecursion (λ t. t.stamp < stamp) self.old.turns }
         ensures guid { self.new.guid ≡ self.old.guid }
-        ensures held { OnOk result (0 < length self.new.holders) }
+        ensures held { OnOk result (is_bare self.new ≡ false) }
         ensures ok { OnOk result (SetsKeyIn handle (Some key) self.old self.new) }
+        ensures turns { OnOk result (self.new.turns ≡ with_turn handle stamp self.old.turns) }
         ensures err { OnErr result (self.new ≡ self.old) }
     {
         let at = count_less(self.holders.as_slice(), handle);
         self.keys.reserve(1)?;
-        self.holders.insert(at, handle)?;
+        self.holders.reserve(1)?;
+        self.turns.push(handle, stamp)?;
+        insert_with_room(&mut self.holders, at, handle);
         insert_with_room(&mut self.keys, at, key);
         Ok(())
     }
 
-    /// Takes a handle out.
-    pub(crate) fn remove(&mut self, handle: u64)
+    /// Takes a handle out, and the turn of its stamp.
+    pub(crate) fn remove(&mut self, handle: u64, stamp: u64)
         ensures guid { self.new.guid ≡ self.old.guid }
         ensures keys { SetsKeyIn handle None self.old self.new }
+        ensures turns { self.new.turns ≡ without_turn stamp self.old.turns }
     {
+        self.turns.remove_stamp(stamp);
         let at = count_less(self.holders.as_slice(), handle);
         if is_number_at(self.holders.as_slice(), at, handle) {
             self.holders.remove(at);
             self.keys.remove(at);
         }
+    }
+
+    /// Gives the turn of a handle a stamp above all others in place of its own.
+    pub(crate) fn move_last(&mut self, handle: u64, own: u64, stamp: u64)
+        requires there { list_any (λ t. t.stamp == own) self.old.turns ≡ true }
+        requires last { AllByRecursion (λ t. t.stamp < stamp) self.old.turns }
+        ensures { self.new ≡ record self.old {
+          turns = with_turn handle stamp (without_turn own self.old.turns);
+        } }
+    {
+        self.turns.move_last(handle, own, stamp);
     }
 }

@@ -3,7 +3,7 @@ ghost use Rattle.std.specs.Prelude.{◌≡◌, ◌≢◌, ◌+◌, ◌-◌, ◌<
 ghost use Rattle.std.specs.List.{find, filter, list_any, AllByRecursion};
 ghost use Rattle.guid_handles.specs.HandleTables.{numbers, same_guid, has_number, is_live, is_on, is_at, maker_of, interface_at, value_at, carries, holders_of, interfaces_on, guids_on, written_over, earliest, is_after, next_after};
 ghost use Rattle.guid_handles.specs.HandleChanges.{IsHandleTable, max_handles, max_installed, has_guid_twice, is_dead, is_taken, past_limit, refusal, with_interfaces, with_handle, install_refusal, install_many_refusal, Installs, without_handle, without_interface, with_value};
-ghost use Rattle.guid_handles.specs.Indexes.{AreAbsent, ChangesKeys, HaveSameKeys, SetsKey, is_row_of, key_at};
+ghost use Rattle.guid_handles.specs.Indexes.{AreAbsent, ChangesKeys, ChangesTurns, HaveSameKeys, HaveSameTurns, SetsKey, is_row_of, key_at, turns_of, with_turn};
 ghost use Rattle.guid_handles.specs.Slots.{record_at, with_stamp};
 ghost use Rattle.guid_handles.specs.Stores.{AgreeOnKeys};
 
@@ -11,7 +11,7 @@ use crate::groups::Groups;
 use crate::records::{Interface, LiveHandle, Record};
 use crate::room::make_slot;
 use crate::rows::Rows;
-use crate::searches::{find_after, find_key, interface_at, nth_key, write_guids};
+use crate::searches::{find_key, interface_at, nth_key, write_guids};
 use page_ranges::Status;
 use slab::Slab;
 use std::alloc::{AllocError, Allocator, Global};
@@ -49,25 +49,31 @@ impl<A: Allocator> Model for Handles<A> {
     ghost invariant = { λ h. IsStore h.rows h.records.slots h.groups h.last_number h.last_stamp };
 }
 
-/// Puts the key of an interface on a live handle into its row and into the group of its GUID. On an
-/// `Err` the rows are as they were, and the groups have the same keys.
+/// Puts the key of an interface on a live handle into its row, and into the group of its GUID with
+/// its stamp, which is above all others there. On an `Err` the rows are as they were, and the groups
+/// have the same keys and turns.
 fn file_key<A: Allocator + Copy>(
     rows: &mut Rows<A>,
     groups: &mut Groups<A>,
     handle: u64,
     guid: Uuid,
     key: usize,
+    stamp: u64,
 ) -> Result<(), AllocError>
     requires live { is_some (find (is_row_of handle) rows.old) ≡ true }
     requires absent { key_at groups.old guid handle ≡ None }
+    requires last { AllByRecursion (λ t. t.stamp < stamp) (turns_of groups.old guid) }
     ensures rows { OnOk result (ChangesKeys handle (λ ks. ks ++ key ∷ []) rows.old rows.new) }
     ensures groups { OnOk result (SetsKey guid handle (Some key) groups.old groups.new) }
+    ensures turns { OnOk result
+        (ChangesTurns guid (with_turn handle stamp) groups.old groups.new) }
     ensures rows_stay { OnErr result (rows.new ≡ rows.old) }
     ensures groups_stay { OnErr result (HaveSameKeys groups.old groups.new) }
+    ensures turns_stay { OnErr result (HaveSameTurns groups.old groups.new) }
 {
-    groups.add(guid, handle, key)?;
+    groups.add(guid, handle, key, stamp)?;
     if let Err(error) = rows.push_key(handle, key) {
-        groups.remove(guid, handle);
+        groups.remove(guid, handle, stamp);
         return Err(error);
     }
     Ok(())
@@ -93,16 +99,39 @@ fn key_of<A: Allocator + Copy>(
     }
 }
 
-/// Gives the interface at a key a value and a stamp.
-fn restamp<A: Allocator>(records: &mut Slab<Record, A>, key: usize, value: u64, stamp: u64)
+/// Gives the interface at a key a value and a stamp, and returns the stamp that it had.
+fn restamp<A: Allocator>(records: &mut Slab<Record, A>, key: usize, value: u64, stamp: u64) -> u64
+    requires there { is_some (record_at records.old.slots key) ≡ true }
+    ensures own { option_map (λ r. r.interface.stamp) (record_at records.old.slots key)
+        ≡ Some result }
     ensures changed { record_at records.new.slots key
         ≡ option_map (with_stamp value stamp) (record_at records.old.slots key) }
     ensures others { (j : ℕ) → j ≢ key
         → record_at records.new.slots j ≡ record_at records.old.slots j }
 {
-    if let Some(record) = records.get_mut(key) {
-        record.interface.value = value;
-        record.interface.stamp = stamp;
+    match records.get_mut(key) {
+        Some(record) => {
+            let own = record.interface.stamp;
+            record.interface.value = value;
+            record.interface.stamp = stamp;
+            own
+        }
+        None => unreachable!(),
+    }
+}
+
+/// Takes out the interface at a key, and returns its stamp.
+fn take_record<A: Allocator>(records: &mut Slab<Record, A>, key: usize) -> u64
+    requires there { is_some (record_at records.old.slots key) ≡ true }
+    ensures own { option_map (λ r. r.interface.stamp) (record_at records.old.slots key)
+        ≡ Some result }
+    ensures gone { record_at records.new.slots key ≡ None }
+    ensures others { (j : ℕ) → j ≢ key
+        → record_at records.new.slots j ≡ record_at records.old.slots j }
+{
+    match records.try_remove(key) {
+        Some(record) => record.interface.stamp,
+        None => unreachable!(),
     }
 }
 
@@ -204,8 +233,11 @@ impl<A: Allocator + Copy> Handles<A> {
 
     /// Whether a handle carries an interface.
     fn has_any(&self, handle: u64) -> bool
-        ensures { result ≡ list_any (is_on handle) self.now.interfaces }
+        ensures any { result ≡ list_any (is_on handle) self.now.interfaces }
+        ensures live { result ≡ true → is_live self.now handle ≡ true }
     {
+        // The contract of this look-up says that interfaces are on live handles.
+        let _numbers = self.all();
         self.interface_count(handle) != 0
     }
 
@@ -248,21 +280,11 @@ impl<A: Allocator + Copy> Handles<A> {
         self.last_stamp
     }
 
-    /// The interface of a GUID with the least stamp above a mark.
-    fn next(&self, guid: Uuid, mark: u64) -> Option<Interface>
-        ensures { result ≡ earliest (filter (is_after guid mark) self.now.interfaces) }
-    {
-        match self.groups.find(guid) {
-            Some(group) => find_after(&self.records, group.keys(), mark),
-            None => None,
-        }
-    }
-
     /// The handle and the stamp of the interface of a GUID with the least stamp above a mark.
     pub fn after_stamp(&self, guid: Uuid, mark: u64) -> Option<(u64, u64)>
         ensures { result ≡ next_after self.now guid mark }
     {
-        self.next(guid, mark).map(|i| (i.handle, i.stamp))
+        self.groups.after(guid, mark)
     }
 
     /// Whether a handle is neither 0 nor live.
@@ -344,8 +366,8 @@ impl<A: Allocator + Copy> Handles<A> {
     {
         make_slot(&mut self.records)?;
         let key = self.records.vacant_key();
-        file_key(&mut self.rows, &mut self.groups, handle, guid, key)?;
         let stamp = self.last_stamp + 1;
+        file_key(&mut self.rows, &mut self.groups, handle, guid, key, stamp)?;
         let interface = Interface {
             handle,
             guid,
@@ -531,22 +553,25 @@ impl<A: Allocator + Copy> Handles<A> {
         } }
     {
         if let Some(key) = key_of(&self.rows, &self.records, &self.groups, handle, guid) {
+            let stamp = take_record(&mut self.records, key);
             self.rows.remove_key(handle, key);
-            self.groups.remove(guid, handle);
-            self.records.try_remove(key);
+            self.groups.remove(guid, handle, stamp);
         }
     }
 
     /// Takes out the interface of a GUID on a handle. A handle that is left without interfaces
-    /// goes.
-    pub fn remove(&mut self, handle: u64, guid: Uuid)
+    /// goes. The answer is whether it went.
+    pub fn remove(&mut self, handle: u64, guid: Uuid) -> bool
         requires { carries self.old guid handle ≡ true }
-        ensures { self.new ≡ without_interface handle guid self.old }
+        ensures table { self.new ≡ without_interface handle guid self.old }
+        ensures gone { result ≡ not (is_live self.new handle) }
     {
         self.take_out(handle, guid);
-        if !self.has_any(handle) {
-            self.remove_bare(handle);
+        if self.has_any(handle) {
+            return false;
         }
+        self.remove_bare(handle);
+        true
     }
 
     /// Takes out a handle without interfaces.
@@ -587,7 +612,8 @@ impl<A: Allocator + Copy> Handles<A> {
     {
         self.last_stamp += 1;
         if let Some(key) = key_of(&self.rows, &self.records, &self.groups, handle, guid) {
-            restamp(&mut self.records, key, value, self.last_stamp);
+            let own = restamp(&mut self.records, key, value, self.last_stamp);
+            self.groups.move_last(guid, handle, own, self.last_stamp);
         }
     }
 }

@@ -11,6 +11,7 @@ mod records;
 mod room;
 mod rows;
 mod searches;
+mod turns;
 
 pub use guids::is_same_guid;
 pub use handles::{Handles, MAX_HANDLES, MAX_INSTALLED, has_guid_twice};

@@ -26,3 +26,10 @@ pub(crate) struct Record {
     /// The stamp of its installation. Interfaces are in the order of these.
     pub(crate) installed: u64,
 }
+
+/// An interface of a GUID, by its stamp.
+#[derive(Clone, Copy)]
+pub(crate) struct Turn {
+    pub(crate) stamp: u64,
+    pub(crate) handle: u64,
+}

@@ -1,7 +1,7 @@
 //! Finding numbers and interfaces.
 ghost use Rattle.std.specs.Prelude.{◌≡◌, ◌<◌, ◌≤◌, ◌==◌, is_some, length, not, nat_lt, map, slice_get, slice_set};
 ghost use Rattle.std.specs.List.{filter, find};
-ghost use Rattle.guid_handles.specs.HandleTables.{written_over, earlier_of, earliest};
+ghost use Rattle.guid_handles.specs.HandleTables.{written_over};
 ghost use Rattle.guid_handles.specs.Sorting.{Ascending, place, kept_if};
 ghost use Rattle.guid_handles.specs.Slots.{at_key, at_keys, is_key_of};
 
@@ -112,35 +112,4 @@ pub(crate) fn write_guids<A: Allocator>(
         }
     }
     count
-}
-
-/// The earlier of an interface and another, if there is one.
-fn earlier(i: &Interface, other: Option<Interface>) -> Option<Interface>
-    ensures { result ≡ earlier_of i.now other }
-{
-    let other_first = match &other {
-        Some(j) => j.stamp < i.stamp,
-        None => false,
-    };
-    if other_first { other } else { Some(*i) }
-}
-
-/// The interface at keys with the least stamp above a mark.
-pub(crate) fn find_after<A: Allocator>(
-    records: &Slab<Record, A>,
-    keys: &[usize],
-    mark: u64,
-) -> Option<Interface>
-    ensures { result
-        ≡ earliest (filter (λ i. nat_lt mark i.stamp) (at_keys records.now.slots keys.now)) }
-{
-    let mut best = None;
-    for at in (0..keys.len()).rev() {
-        if let Some(i) = interface_at(records, keys[at]) {
-            if i.stamp > mark {
-                best = earlier(&i, best);
-            }
-        }
-    }
-    best
 }

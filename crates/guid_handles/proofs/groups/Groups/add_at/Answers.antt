@@ -1,12 +1,19 @@
 use Rattle.std.proofs.Common.{sym, ◌∙◌, Some}
-use Rattle.guid_handles.proofs.Grouped.{got, groups_set, key_changed, key_there}
+use Rattle.guid_handles.specs.Indexes.{with_turn}
+use Rattle.guid_handles.proofs.Grouped.{got, groups_set, key_changed, key_there, turns_set, turns_there}
 use Rattle.guid_handles.proofs.groups.Groups.add_at.Goals as goal
 
-pub add-requires : goal.add-requires
-add-requires g c =
+pub add-requires-clause-absent : goal.add-requires-clause-absent
+add-requires-clause-absent g c =
     let place = rw (← c.self.view_is) at c.requires.place in
     let there = got _ _ _ place.0 c.index_mut.ensures.value in
     sym (key_there _ c.args.guid _ _ place there c.args.handle) ∙ rw (← c.self.view_is) at c.requires.absent
+
+pub add-requires-clause-last : goal.add-requires-clause-last
+add-requires-clause-last g c =
+    let place = rw (← c.self.view_is) at c.requires.place in
+    let there = got _ _ _ place.0 c.index_mut.ensures.value in
+    rw (turns_there _ c.args.guid _ _ place there) at (rw (← c.self.view_is) at c.requires.last)
 
 pub invariant_of-self-2 : goal.invariant_of-self-2
 invariant_of-self-2 g c =
@@ -18,3 +25,9 @@ returns-clause-ok g c =
     let place = rw (← c.self.view_is) at c.requires.place in
     rw (← c.self.view_is)
     (key_changed _ c.args.guid _ _ _ c.args.handle (Some c.args.key) place (got _ _ _ place.0 c.index_mut.ensures.value) c.add.ensures.guid c.in_ok-add.ensures.ok)
+
+pub returns-clause-turns : goal.returns-clause-turns
+returns-clause-turns g c =
+    let place = rw (← c.self.view_is) at c.requires.place in
+    rw (← c.self.view_is)
+    (turns_set _ c.args.guid _ _ _ (with_turn c.args.handle c.args.stamp) place (got _ _ _ place.0 c.index_mut.ensures.value) c.add.ensures.guid c.in_ok-add.ensures.turns)

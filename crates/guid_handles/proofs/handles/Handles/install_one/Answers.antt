@@ -1,7 +1,7 @@
 use Rattle.std.proofs.Common.{ap, sym, ◌∙◌}
 use Rattle.slab.specs.Slab.{Slab}
 use Rattle.guid_handles.specs.declared.records.Record.{Record}
-use Rattle.guid_handles.proofs.Stored.{live_row, stored_more, unkeyed}
+use Rattle.guid_handles.proofs.Stored.{live_row, stored_more, turned_below, unkeyed}
 use Rattle.guid_handles.proofs.handles.Handles.install_one.Goals as goal
 
 pub file_key-requires-clause-live : goal.file_key-requires-clause-live
@@ -10,13 +10,16 @@ file_key-requires-clause-live g c = live_row _ _ _ _ _ c.self.invariant c.args.h
 pub file_key-requires-clause-absent : goal.file_key-requires-clause-absent
 file_key-requires-clause-absent g c = unkeyed _ _ _ _ _ c.self.invariant c.args.handle c.args.guid (rw (← c.self.view_is) at c.requires.absent)
 
+pub file_key-requires-clause-last : goal.file_key-requires-clause-last
+file_key-requires-clause-last g c = turned_below _ _ _ _ _ c.self.invariant c.args.guid
+
 pub invariant_of-self-2 : goal.invariant_of-self-2
 invariant_of-self-2 g c =
     let same = ap (λ (s : Slab Record). s.slots) c.make_slot.ensures.rest_kept in
     let key = c.insert_reserved.ensures.key ∙ sym c.vacant_key-key.ensures.value in
     (stored_more _ _ _ _ _ c.self.invariant _ _ _ c.args.handle c.args.guid c.args.value _ (rw (← c.self.view_is) at c.requires.live) (rw (← c.self.view_is) at c.requires.absent)
     (rw same at c.vacant_key-key.ensures.vacant) (rw key at c.insert_reserved.ensures.updates.changed) (rw (key, same) at c.insert_reserved.ensures.updates.others)
-    c.in_ok-file_key.ensures.rows c.in_ok-file_key.ensures.groups).1
+    c.in_ok-file_key.ensures.rows c.in_ok-file_key.ensures.groups c.in_ok-file_key.ensures.turns).1
 
 pub returns-clause-ok : goal.returns-clause-ok
 returns-clause-ok g c =
@@ -25,7 +28,7 @@ returns-clause-ok g c =
     rw (← c.self.view_is)
     (stored_more _ _ _ _ _ c.self.invariant _ _ _ c.args.handle c.args.guid c.args.value _ (rw (← c.self.view_is) at c.requires.live) (rw (← c.self.view_is) at c.requires.absent)
     (rw same at c.vacant_key-key.ensures.vacant) (rw key at c.insert_reserved.ensures.updates.changed) (rw (key, same) at c.insert_reserved.ensures.updates.others)
-    c.in_ok-file_key.ensures.rows c.in_ok-file_key.ensures.groups).0
+    c.in_ok-file_key.ensures.rows c.in_ok-file_key.ensures.groups c.in_ok-file_key.ensures.turns).0
 
 pub returns-clause-below : goal.returns-clause-below
 returns-clause-below g c = rw (← c.self.view_is) c.self.invariant.table.below

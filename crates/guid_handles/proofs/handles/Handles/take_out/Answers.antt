@@ -1,20 +1,23 @@
 use Rattle.std.proofs.Common.{sym}
-use Rattle.guid_handles.proofs.Stored.{keys_agree, stored_kept, stored_less}
+use Rattle.guid_handles.proofs.Stored.{is_recorded, keys_agree, stored_kept, stored_less}
 use Rattle.guid_handles.proofs.handles.Handles.take_out.Goals as goal
 
 pub key_of-requires : goal.key_of-requires
 key_of-requires g c = keys_agree _ _ _ _ _ c.self.invariant
 
+pub take_record-stamp-requires : goal.take_record-stamp-requires
+take_record-stamp-requires g c = record { there = is_recorded _ _ _ _ _ c.self.invariant c.args.handle c.args.guid _ (sym c.in-Some.ensures) }
+
 pub invariant_of-self : goal.invariant_of-self
 invariant_of-self g c =
-    (stored_less _ _ _ _ _ c.self.invariant _ _ _ c.args.handle c.args.guid _ (sym c.in-Some.ensures) c.try_remove.ensures.updates.changed c.try_remove.ensures.updates.others
-    c.remove_key.ensures c.remove.ensures).1
+    (stored_less _ _ _ _ _ c.self.invariant _ _ _ c.args.handle c.args.guid _ _ (sym c.in-Some.ensures) c.take_record-stamp.ensures.own c.take_record-stamp.ensures.gone c.take_record-stamp.ensures.others
+    c.remove_key.ensures c.remove.ensures.keys c.remove.ensures.turns).1
 
 pub returns-in-Some : goal.returns-in-Some
 returns-in-Some g c =
     rw (← c.self.view_is)
-    (stored_less _ _ _ _ _ c.self.invariant _ _ _ c.args.handle c.args.guid _ (sym c.in-Some.ensures) c.try_remove.ensures.updates.changed c.try_remove.ensures.updates.others
-    c.remove_key.ensures c.remove.ensures).0
+    (stored_less _ _ _ _ _ c.self.invariant _ _ _ c.args.handle c.args.guid _ _ (sym c.in-Some.ensures) c.take_record-stamp.ensures.own c.take_record-stamp.ensures.gone c.take_record-stamp.ensures.others
+    c.remove_key.ensures c.remove.ensures.keys c.remove.ensures.turns).0
 
 pub returns-in_default : goal.returns-in_default
 returns-in_default g c = rw (← c.self.view_is) (stored_kept _ _ _ _ _ c.self.invariant c.args.handle c.args.guid (sym c.in_default.ensures))

@@ -1,0 +1,32 @@
+use Rattle.std.proofs.Common.{refl, ap, sym, ◌∙◌}
+use Rattle.guid_handles.specs.Indexes.{Group, key_in, with_turn, without_turn}
+use Rattle.guid_handles.proofs.Grouped.{got, groups_set, key_same, turns_held, turns_set, turns_there}
+use Rattle.guid_handles.proofs.groups.Groups.move_last_at.Goals as goal
+
+pub move_last-requires-clause-there : goal.move_last-requires-clause-there
+move_last-requires-clause-there g c =
+    let place = rw (← c.self.view_is) at c.requires.place in
+    rw (turns_there _ c.args.guid _ _ place (got _ _ _ place.0 c.index_mut.ensures.value)) at (rw (← c.self.view_is) at c.requires.there)
+
+pub move_last-requires-clause-last : goal.move_last-requires-clause-last
+move_last-requires-clause-last g c =
+    let place = rw (← c.self.view_is) at c.requires.place in
+    rw (turns_there _ c.args.guid _ _ place (got _ _ _ place.0 c.index_mut.ensures.value)) at (rw (← c.self.view_is) at c.requires.last)
+
+pub invariant_of-self : goal.invariant_of-self
+invariant_of-self g c =
+    let place = rw (← c.self.view_is) at c.requires.place in
+    groups_set _ _ _ _ c.self.invariant (got _ _ _ place.0 c.index_mut.ensures.value) (ap (λ (x : Group). x.guid) c.move_last.ensures)
+    (turns_held c.args.handle c.args.stamp c.move_last.new.self _ (ap (λ (x : Group). x.turns) c.move_last.ensures))
+
+pub returns-clause-keys : goal.returns-clause-keys
+returns-clause-keys g c =
+    let place = rw (← c.self.view_is) at c.requires.place in
+    rw (← c.self.view_is) (key_same _ c.args.guid _ _ _ place (got _ _ _ place.0 c.index_mut.ensures.value) (ap (λ (x : Group). x.guid) c.move_last.ensures) (λ n. ap (λ (x : Group). key_in x n) c.move_last.ensures))
+
+pub returns-clause-turns : goal.returns-clause-turns
+returns-clause-turns g c =
+    let place = rw (← c.self.view_is) at c.requires.place in
+    rw (← c.self.view_is)
+    (turns_set _ c.args.guid _ _ _ (λ ts. with_turn c.args.handle c.args.stamp (without_turn c.args.own ts)) place (got _ _ _ place.0 c.index_mut.ensures.value)
+    (ap (λ (x : Group). x.guid) c.move_last.ensures) (ap (λ (x : Group). x.turns) c.move_last.ensures))
