@@ -528,6 +528,72 @@ RAFKUDIN_API rafkudin_uint64 RafkudinLocateDevicePath(struct rafkudin *core,
                                                       rafkudin_uint64 *DevicePath,
                                                       rafkudin_uint64 *Device);
 
+/* ---- Drivers that are code. None of these is a service, and none uses up a call. ----
+ *
+ * The drivers of RafkudinMake have fixed answers. A driver that is code (EFI_DRIVER_BINDING_PROTOCOL)
+ * calls the services itself, so no service can run it: here the library says what comes next by the
+ * rule of ConnectController, and the caller carries it out:
+ *
+ *     struct rafkudin_binding drivers[..], driver;
+ *     struct rafkudin_turns turns;
+ *
+ *     status = RafkudinConnectBegin(core, controller, named, named_count, drivers, count, &turns);
+ *     while (RafkudinConnectNext(&turns, drivers, count, &driver) == RAFKUDIN_SUCCESS) {
+ *         bool supported = .. Supported() of the driver on the controller ..;
+ *
+ *         if (supported)
+ *             .. Start() of the driver on the controller ..
+ *         RafkudinConnectRecord(&turns, drivers, count, supported);
+ *     }
+ *
+ * Between two turns any service may be called, and turns on other controllers may be begun: the
+ * list and the turns are the caller's own memory, and nothing else is kept of them. */
+
+/* A driver: its driver handle, what its caller knows it by, as the address of its protocol, and the
+ * version there. */
+struct rafkudin_binding {
+    rafkudin_uint64 handle;
+    rafkudin_uint64 driver;
+    uint32_t version;
+};
+
+/* How far the turns of the drivers on a list have come. */
+struct rafkudin_turns {
+    size_t left;
+    size_t next;
+    size_t end;
+    bool has_started;
+};
+
+/* Begins the turns on a controller of the `count` drivers at `drivers`, which are put in the order
+ * in which they are tried: first those of the `named_count` handles at `named`, up to 16, each once
+ * and in that order, then all others, the highest version first, those of one version as they came.
+ * So a caller hands in all that it has, by ascending handle. A driver counts where its handle is
+ * live and carries the driver binding GUID; others drop out.
+ *
+ * INVALID_PARAMETER: the controller is not live, or over 16 handles are named. OUT_OF_RESOURCES:
+ * memory was refused. Either leaves the list and *turns as they are. */
+RAFKUDIN_API rafkudin_uint64 RafkudinConnectBegin(const struct rafkudin *core,
+                                                  rafkudin_uint64 ControllerHandle,
+                                                  const rafkudin_uint64 *named, size_t named_count,
+                                                  struct rafkudin_binding *drivers, size_t count,
+                                                  struct rafkudin_turns *turns);
+
+/* The driver whose turn it is, in *driver: it is asked whether it supports the controller, and is
+ * started if it does. The same turn is returned until its outcome is recorded.
+ *
+ * NOT_FOUND: no driver is left to be tried. */
+RAFKUDIN_API rafkudin_uint64 RafkudinConnectNext(const struct rafkudin_turns *turns,
+                                                 const struct rafkudin_binding *drivers,
+                                                 size_t count, struct rafkudin_binding *driver);
+
+/* Records what came of the turn: whether the driver was started, also where its start failed. One
+ * that was started has no other turn; one that was not has another after a pass in which any driver
+ * was started. Without a turn nothing happens. */
+RAFKUDIN_API void RafkudinConnectRecord(struct rafkudin_turns *turns,
+                                        struct rafkudin_binding *drivers, size_t count,
+                                        bool was_started);
+
 /* ---- The end of the boot services, section 7.4.6 ---- */
 
 /* Ends the boot services where `MapKey` is the current key, as GetMemoryMap returns it: each call

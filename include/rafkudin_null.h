@@ -371,6 +371,49 @@ static inline rafkudin_uint64 rafkudin_exit_boot_services(struct rafkudin *core,
 }
 #define RafkudinExitBootServices rafkudin_exit_boot_services
 
+static inline rafkudin_uint64 rafkudin_connect_begin(const struct rafkudin *core,
+                                                     rafkudin_uint64 ControllerHandle,
+                                                     const rafkudin_uint64 *named,
+                                                     size_t named_count,
+                                                     struct rafkudin_binding *drivers,
+                                                     size_t count, struct rafkudin_turns *turns)
+{
+    rafkudin_uint64 nothing = 0;
+
+    if (core == NULL || turns == NULL || (named == NULL && named_count != 0) ||
+        (drivers == NULL && count != 0))
+        return RAFKUDIN_INVALID_PARAMETER;
+    if (named == NULL)
+        named = (const rafkudin_uint64 *)(void *)&nothing;
+    if (drivers == NULL)
+        drivers = (struct rafkudin_binding *)(void *)&nothing;
+    return RafkudinConnectBegin(core, ControllerHandle, named, named_count, drivers, count, turns);
+}
+#define RafkudinConnectBegin rafkudin_connect_begin
+
+static inline rafkudin_uint64 rafkudin_connect_next(const struct rafkudin_turns *turns,
+                                                    const struct rafkudin_binding *drivers,
+                                                    size_t count, struct rafkudin_binding *driver)
+{
+    rafkudin_uint64 nothing = 0;
+
+    if (turns == NULL || driver == NULL || (drivers == NULL && count != 0))
+        return RAFKUDIN_INVALID_PARAMETER;
+    if (drivers == NULL)
+        drivers = (const struct rafkudin_binding *)(void *)&nothing;
+    return RafkudinConnectNext(turns, drivers, count, driver);
+}
+#define RafkudinConnectNext rafkudin_connect_next
+
+static inline void rafkudin_connect_record(struct rafkudin_turns *turns,
+                                           struct rafkudin_binding *drivers, size_t count,
+                                           bool was_started)
+{
+    if (turns != NULL && drivers != NULL)
+        RafkudinConnectRecord(turns, drivers, count, was_started);
+}
+#define RafkudinConnectRecord rafkudin_connect_record
+
 static inline size_t rafkudin_events(const struct rafkudin *core, rafkudin_uint64 *events,
                                      size_t room)
 {

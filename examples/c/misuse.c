@@ -94,6 +94,28 @@ static void try_null_core(void)
     REFUSED(RafkudinExitBootServices(NULL, 1, 1));
 }
 
+/* Drivers that are code: these are no services. */
+static void try_turns(struct rafkudin *core)
+{
+    struct rafkudin_turns turns = {0, 0, 1, false};
+    struct rafkudin_binding driver = {1, 2, 3};
+    uint64_t named = 1, left = RafkudinCallsLeft(core);
+
+    REFUSED(RafkudinConnectBegin(NULL, 1, &named, 1, &driver, 1, &turns));
+    REFUSED(RafkudinConnectBegin(core, 1, NULL, 1, &driver, 1, &turns));
+    REFUSED(RafkudinConnectBegin(core, 1, &named, 1, NULL, 1, &turns));
+    REFUSED(RafkudinConnectBegin(core, 1, &named, 1, &driver, 1, NULL));
+    REFUSED(RafkudinConnectNext(NULL, &driver, 1, &driver));
+    REFUSED(RafkudinConnectNext(&turns, NULL, 1, &driver));
+    REFUSED(RafkudinConnectNext(&turns, &driver, 1, NULL));
+    RafkudinConnectRecord(NULL, &driver, 1, true);
+    RafkudinConnectRecord(&turns, NULL, 0, true);
+    HOLDS(turns.next == 0 && turns.end == 1 && driver.handle == 1);
+    HOLDS(RafkudinConnectNext(&turns, NULL, 0, &driver) == RAFKUDIN_NOT_FOUND);
+    HOLDS(RafkudinConnectBegin(core, 1, NULL, 0, NULL, 0, &turns) == RAFKUDIN_SUCCESS);
+    HOLDS(turns.end == 0 && RafkudinCallsLeft(core) == left);
+}
+
 /* Each other pointer of each service, on a core. */
 static void try_null_parameters(struct rafkudin *core)
 {
@@ -171,6 +193,7 @@ int main(void)
     try_null_core();
     try_null_parameters(core);
     try_allowed(core);
+    try_turns(core);
     RafkudinFree(core);
     return points_end("misuse");
 }

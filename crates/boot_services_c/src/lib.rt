@@ -10,3 +10,4 @@ mod place;
 mod placing;
 mod protocols;
 mod returned;
+mod turns;

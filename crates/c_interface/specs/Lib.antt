@@ -5,3 +5,4 @@ pub mod Making
 pub mod Replies
 pub mod Served
 pub mod Services
+pub mod Turns

@@ -10,6 +10,9 @@ mod making;
 mod memory;
 mod protocols;
 mod replies;
+mod turns;
 
+pub use boot_core::{Agent, DriverTurns};
 pub use checks::{MapEntry, check_block};
 pub use efi_core::{ABORTED, EfiCore, LastBlock};
+pub use turns::{connect_next, connect_record};

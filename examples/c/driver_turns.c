@@ -1,0 +1,503 @@
+/* Drivers that are code, by the turns of rafkudin.h. Drawn drivers run on two cores: on one as
+ * tables of RafkudinMake, by ConnectController, and on the other as code that this program calls in
+ * the turns that the library says. Both have to come to the same handles, interfaces, open items
+ * and events. Then a driver opens, makes children and fails half way, in each order. Each point
+ * that is not as said is printed on standard error, and then the status is 1. */
+#include "points.h"
+
+#include <rafkudin.h>
+
+#include <stdio.h>
+#include <stdlib.h>
+#include <string.h>
+
+#define DRIVERS 6U
+#define PROTOCOLS 5U
+#define MOST 512U
+#define DEEPEST 8U
+
+static const struct rafkudin_guid driver_binding = {
+    {0x18, 0xa0, 0x31, 0xab, 0xb4, 0x43, 0x4d, 0x1a, 0xa5, 0xc0, 0x0c, 0x09, 0x26, 0x1e, 0x9f, 0x71}};
+
+static struct rafkudin_driver tables[DRIVERS];
+
+/* What a core has signaled since this was cleared. */
+struct events {
+    uint64_t list[4096];
+    size_t count;
+};
+
+static uint64_t drawn = 1;
+
+static unsigned draw(unsigned below)
+{
+    drawn ^= drawn << 13;
+    drawn ^= drawn >> 7;
+    drawn ^= drawn << 17;
+    return (unsigned)(drawn >> 20) % below;
+}
+
+static struct rafkudin_guid protocol(unsigned number)
+{
+    struct rafkudin_guid guid = {{(uint8_t)(number + 1)}};
+
+    return guid;
+}
+
+/* A core with 65,536 free pages from page 1 on. */
+static struct rafkudin *make_core(const struct rafkudin_driver *drivers, size_t count)
+{
+    uint8_t record[RAFKUDIN_DESCRIPTOR_SIZE] = {[0] = 7, [9] = 0x10, [26] = 1};
+    struct rafkudin *core = NULL;
+
+    if (RafkudinMake(record, sizeof record, sizeof record, 1, drivers, count, &core) !=
+        RAFKUDIN_SUCCESS)
+        abort();
+    return core;
+}
+
+static void note_events(const struct rafkudin *core, struct events *events)
+{
+    size_t room = sizeof events->list / sizeof events->list[0] - events->count;
+    size_t count = RafkudinEvents(core, events->list + events->count, room);
+
+    HOLDS(count <= room);
+    events->count += count <= room ? count : room;
+}
+
+/* ---- What a core has ---- */
+
+static size_t handles_of(struct rafkudin *core, uint32_t search, const struct rafkudin_guid *guid,
+                         uint64_t *handles)
+{
+    uint64_t size = MOST * 8;
+
+    if (RafkudinLocateHandle(core, search, guid, 0, &size, handles) != RAFKUDIN_SUCCESS)
+        return 0;
+    return (size_t)size / 8;
+}
+
+/* The open items on an interface, 24 bytes each. */
+static size_t items_of(struct rafkudin *core, uint64_t handle, const struct rafkudin_guid *guid,
+                       uint8_t *items)
+{
+    uint64_t block = 0, count = 0;
+
+    if (RafkudinOpenProtocolInformation(core, handle, guid, &block, &count) != RAFKUDIN_SUCCESS ||
+        count == 0)
+        return 0;
+    if (count > MOST)
+        abort();
+    HOLDS(RafkudinPoolRead(core, block, items, count * 24) == RAFKUDIN_SUCCESS);
+    HOLDS(RafkudinFreePool(core, block) == RAFKUDIN_SUCCESS);
+    return (size_t)count;
+}
+
+static uint64_t number_at(const uint8_t *bytes, size_t count)
+{
+    uint64_t number = 0;
+
+    while (count > 0)
+        number = number << 8 | bytes[--count];
+    return number;
+}
+
+/* Whether an interface is open for a driver or exclusively. */
+static bool is_held(struct rafkudin *core, uint64_t handle, const struct rafkudin_guid *guid)
+{
+    uint8_t items[MOST * 24];
+    size_t count = items_of(core, handle, guid, items);
+
+    for (size_t i = 0; i < count; i++)
+        if ((number_at(items + 24 * i + 16, 4) & (RAFKUDIN_BY_DRIVER | RAFKUDIN_EXCLUSIVE)) != 0)
+            return true;
+    return false;
+}
+
+static bool carries(struct rafkudin *core, uint64_t handle, const struct rafkudin_guid *guid)
+{
+    uint64_t value = 0;
+
+    return RafkudinHandleProtocol(core, handle, guid, &value) == RAFKUDIN_SUCCESS;
+}
+
+/* Whether two cores have the same handles, interfaces and open items. */
+static bool are_same(struct rafkudin *one, struct rafkudin *two)
+{
+    static uint64_t handles[2][MOST];
+    static uint8_t items[2][MOST * 24];
+    size_t count = handles_of(one, RAFKUDIN_ALL_HANDLES, NULL, handles[0]);
+
+    if (handles_of(two, RAFKUDIN_ALL_HANDLES, NULL, handles[1]) != count ||
+        memcmp(handles[0], handles[1], count * 8) != 0)
+        return false;
+    for (size_t i = 0; i < count; i++) {
+        struct rafkudin_guid guids[2][PROTOCOLS + 1];
+        uint64_t counts[2] = {0, 0};
+
+        RafkudinProtocolsPerHandle(one, handles[0][i], guids[0], PROTOCOLS + 1, &counts[0]);
+        RafkudinProtocolsPerHandle(two, handles[0][i], guids[1], PROTOCOLS + 1, &counts[1]);
+        if (counts[0] != counts[1] || memcmp(guids[0], guids[1], counts[0] * 16) != 0)
+            return false;
+        for (size_t k = 0; k < counts[0]; k++) {
+            uint64_t values[2] = {0, 0};
+            size_t open = items_of(one, handles[0][i], &guids[0][k], items[0]);
+
+            RafkudinHandleProtocol(one, handles[0][i], &guids[0][k], &values[0]);
+            RafkudinHandleProtocol(two, handles[0][i], &guids[0][k], &values[1]);
+            if (values[0] != values[1] ||
+                items_of(two, handles[0][i], &guids[0][k], items[1]) != open ||
+                memcmp(items[0], items[1], open * 24) != 0)
+                return false;
+        }
+    }
+    return true;
+}
+
+/* ---- Drivers as code ---- */
+
+/* Whether a driver supports a controller: each GUID that it needs is there and not held. */
+static bool supports(struct rafkudin *core, const struct rafkudin_driver *driver, uint64_t handle)
+{
+    for (uint64_t i = 0; i < driver->needs_count; i++)
+        if (!carries(core, handle, &driver->needs[i]) || is_held(core, handle, &driver->needs[i]))
+            return false;
+    return true;
+}
+
+static bool is_there_twice(const struct rafkudin_guid *guids, size_t stride, uint64_t count)
+{
+    for (uint64_t i = 0; i < count; i++)
+        for (uint64_t k = 0; k < i; k++)
+            if (memcmp((const uint8_t *)guids + i * stride, (const uint8_t *)guids + k * stride,
+                       16) == 0)
+                return true;
+    return false;
+}
+
+static bool can_start(struct rafkudin *core, const struct rafkudin_driver *driver, uint64_t handle)
+{
+    if (driver->opens_count == 0 || is_there_twice(driver->opens, 16, driver->opens_count))
+        return false;
+    for (uint64_t i = 0; i < driver->opens_count; i++)
+        if (!carries(core, handle, &driver->opens[i]) || is_held(core, handle, &driver->opens[i]))
+            return false;
+    for (uint64_t i = 0; i < driver->children_count; i++) {
+        const struct rafkudin_child *child = &driver->children[i];
+
+        if (child->count == 0 || is_there_twice(&child->interfaces[0].guid,
+                                                sizeof child->interfaces[0], child->count))
+            return false;
+    }
+    return true;
+}
+
+static bool start(struct rafkudin *core, const struct rafkudin_driver *driver, uint64_t agent,
+                  uint64_t handle, struct events *events)
+{
+    if (!can_start(core, driver, handle))
+        return false;
+    for (uint64_t i = 0; i < driver->opens_count; i++) {
+        uint64_t value = 0;
+
+        HOLDS(RafkudinOpenProtocol(core, handle, &driver->opens[i], &value, agent, handle,
+                                   RAFKUDIN_BY_DRIVER) == RAFKUDIN_SUCCESS);
+    }
+    for (uint64_t i = 0; i < driver->children_count; i++) {
+        uint64_t child = 0;
+
+        HOLDS(RafkudinInstallMultipleProtocolInterfaces(core, &child,
+                                                        driver->children[i].interfaces,
+                                                        driver->children[i].count) ==
+              RAFKUDIN_SUCCESS);
+        note_events(core, events);
+    }
+    return true;
+}
+
+/* All driver handles, ascending. */
+static size_t bindings_of(struct rafkudin *core, struct rafkudin_binding *drivers)
+{
+    uint64_t handles[MOST];
+    size_t count = handles_of(core, RAFKUDIN_BY_PROTOCOL, &driver_binding, handles), found = 0;
+
+    for (size_t i = 0; i < count; i++) {
+        uint64_t value = 0;
+
+        if (RafkudinHandleProtocol(core, handles[i], &driver_binding, &value) ==
+                RAFKUDIN_SUCCESS &&
+            value < DRIVERS)
+            drivers[found++] =
+                (struct rafkudin_binding){handles[i], value, tables[value].version};
+    }
+    return found;
+}
+
+static uint64_t last_handle(struct rafkudin *core)
+{
+    uint64_t handles[MOST];
+    size_t count = handles_of(core, RAFKUDIN_ALL_HANDLES, NULL, handles);
+
+    return count == 0 ? 0 : handles[count - 1];
+}
+
+/* ConnectController as its caller carries it out: the drivers in their turns, and then the handles
+ * that they made, one after the other, with all below each. */
+static uint64_t connect_by_turns(struct rafkudin *core, uint64_t handle, const uint64_t *named,
+                                 size_t named_count, unsigned depth, struct events *events)
+{
+    struct rafkudin_binding drivers[MOST], driver;
+    struct rafkudin_turns turns;
+    uint64_t made[MOST], before = last_handle(core), status;
+    size_t count = bindings_of(core, drivers);
+    bool is_any_carried_out = false;
+
+    status = RafkudinConnectBegin(core, handle, named, named_count, drivers, count, &turns);
+    if (status != RAFKUDIN_SUCCESS)
+        return status;
+    while (RafkudinConnectNext(&turns, drivers, count, &driver) == RAFKUDIN_SUCCESS) {
+        bool is_supported = supports(core, &tables[driver.driver], handle);
+
+        if (is_supported && start(core, &tables[driver.driver], driver.handle, handle, events))
+            is_any_carried_out = true;
+        RafkudinConnectRecord(&turns, drivers, count, is_supported);
+    }
+    count = depth == 1 ? 0 : handles_of(core, RAFKUDIN_ALL_HANDLES, NULL, made);
+    for (size_t i = 0; i < count; i++)
+        if (made[i] > before)
+            connect_by_turns(core, made[i], NULL, 0, depth - 1, events);
+    return is_any_carried_out ? RAFKUDIN_SUCCESS : RAFKUDIN_NOT_FOUND;
+}
+
+/* ---- Drawn drivers ---- */
+
+static void draw_tables(void)
+{
+    memset(tables, 0, sizeof tables);
+    for (unsigned i = 0; i < DRIVERS; i++) {
+        struct rafkudin_driver *driver = &tables[i];
+
+        driver->version = draw(3);
+        driver->stops = true;
+        driver->needs_count = draw(3);
+        driver->opens_count = draw(8) == 0 ? 0 : 1 + draw(2);
+        driver->children_count = draw(3);
+        for (unsigned k = 0; k < 8; k++) {
+            driver->needs[k] = protocol(draw(PROTOCOLS));
+            driver->opens[k] = k < driver->needs_count && draw(4) != 0 ? driver->needs[k]
+                                                                       : protocol(draw(PROTOCOLS));
+            driver->children[k].count = draw(16) == 0 ? 0 : 1 + draw(2);
+            for (unsigned m = 0; m < 4; m++) {
+                driver->children[k].interfaces[m].guid =
+                    draw(8) == 0 ? driver_binding : protocol(draw(PROTOCOLS));
+                driver->children[k].interfaces[m].value = draw(DRIVERS);
+            }
+        }
+    }
+}
+
+/* One step on both cores, the same: an interface, a connect, an open or a close. */
+static bool try_step(struct rafkudin *by_tables, struct rafkudin *by_turns)
+{
+    static struct events events[2];
+    struct rafkudin_guid guid = draw(3) == 0 ? driver_binding : protocol(draw(PROTOCOLS));
+    uint64_t named[3], one = 0, two = 0, last = last_handle(by_tables), handle = draw(last + 2);
+    uint64_t agent = draw(last + 2), value = draw(DRIVERS + 1), status;
+    size_t named_count = draw(4);
+    uint32_t attributes = 1U << draw(6);
+
+    events[0].count = events[1].count = 0;
+    for (size_t i = 0; i < named_count; i++)
+        named[i] = draw(last + 2);
+    switch (draw(8)) {
+    case 0:
+    case 1:
+    case 2:
+        one = two = draw(2) == 0 ? 0 : handle;
+        status = RafkudinInstallProtocolInterface(by_tables, &one, &guid, 0, value);
+        return RafkudinInstallProtocolInterface(by_turns, &two, &guid, 0, value) == status &&
+               one == two;
+    case 3:
+        if ((attributes & RAFKUDIN_EXCLUSIVE) != 0 && is_held(by_turns, handle, &guid))
+            return true;
+        status = RafkudinOpenProtocol(by_tables, handle, &guid, &one, agent, agent, attributes);
+        return RafkudinOpenProtocol(by_turns, handle, &guid, &two, agent, agent, attributes) ==
+                   status &&
+               one == two;
+    case 4:
+        status = RafkudinCloseProtocol(by_tables, handle, &guid, agent, handle);
+        return RafkudinCloseProtocol(by_turns, handle, &guid, agent, handle) == status;
+    default: {
+        bool recursive = draw(2) == 0;
+
+        status = RafkudinConnectDrivers(by_tables, handle, named, named_count, recursive);
+        note_events(by_tables, &events[0]);
+        return connect_by_turns(by_turns, handle, named, named_count, recursive ? DEEPEST : 1,
+                                &events[1]) == status &&
+               events[0].count == events[1].count &&
+               memcmp(events[0].list, events[1].list, events[0].count * 8) == 0;
+    }
+    }
+}
+
+static void try_drawn(unsigned runs)
+{
+    for (unsigned run = 0; run < runs; run++) {
+        struct rafkudin *by_tables, *by_turns;
+        bool is_same = true;
+
+        draw_tables();
+        by_tables = make_core(tables, DRIVERS);
+        by_turns = make_core(NULL, 0);
+        for (unsigned i = 0; i < PROTOCOLS; i++) {
+            struct rafkudin_guid guid = protocol(i);
+            uint64_t key = 0;
+
+            RafkudinRegisterProtocolNotify(by_tables, &guid, 100 + i, &key);
+            RafkudinRegisterProtocolNotify(by_turns, &guid, 100 + i, &key);
+        }
+        for (unsigned step = 0; step < 24 && is_same && last_handle(by_tables) < 200; step++)
+            is_same = try_step(by_tables, by_turns) && are_same(by_tables, by_turns);
+        HOLDS(is_same);
+        if (!is_same)
+            fprintf(stderr, "driver_turns: the drivers of run %u\n", run);
+        RafkudinFree(by_tables);
+        RafkudinFree(by_turns);
+    }
+}
+
+/* ---- A start that fails half way ---- */
+
+enum step { OPEN, FIRST_CHILD, SECOND_CHILD, STEPS };
+
+static const enum step orders[6][STEPS] = {
+    {OPEN, FIRST_CHILD, SECOND_CHILD}, {OPEN, SECOND_CHILD, FIRST_CHILD},
+    {FIRST_CHILD, OPEN, SECOND_CHILD}, {SECOND_CHILD, OPEN, FIRST_CHILD},
+    {FIRST_CHILD, SECOND_CHILD, OPEN}, {SECOND_CHILD, FIRST_CHILD, OPEN}};
+
+/* A bus driver: it opens its bus, and makes two children, each open for it as a child. */
+static void take_step(struct rafkudin *core, enum step step, uint64_t agent, uint64_t bus,
+                      uint64_t *children)
+{
+    struct rafkudin_guid guid = protocol(0), child = protocol(step);
+    uint64_t value = 0;
+
+    if (step == OPEN) {
+        HOLDS(RafkudinOpenProtocol(core, bus, &guid, &value, agent, bus, RAFKUDIN_BY_DRIVER) ==
+              RAFKUDIN_SUCCESS);
+        return;
+    }
+    children[step] = 0;
+    HOLDS(RafkudinInstallProtocolInterface(core, &children[step], &child, 0, 7) ==
+          RAFKUDIN_SUCCESS);
+    HOLDS(RafkudinOpenProtocol(core, bus, &guid, &value, agent, children[step],
+                               RAFKUDIN_BY_CHILD_CONTROLLER) == RAFKUDIN_SUCCESS);
+}
+
+static void undo_step(struct rafkudin *core, enum step step, uint64_t agent, uint64_t bus,
+                      const uint64_t *children)
+{
+    struct rafkudin_guid guid = protocol(0), child = protocol(step);
+    uint64_t controller = step == OPEN ? bus : children[step];
+
+    HOLDS(RafkudinCloseProtocol(core, bus, &guid, agent, controller) == RAFKUDIN_SUCCESS);
+    if (step != OPEN)
+        HOLDS(RafkudinUninstallProtocolInterface(core, controller, &child, 7) == RAFKUDIN_SUCCESS);
+}
+
+static struct rafkudin *make_bus(uint64_t *handles)
+{
+    struct rafkudin *core = make_core(NULL, 0);
+    struct rafkudin_guid guid = protocol(0);
+
+    for (unsigned i = 0; i < 3; i++) {
+        handles[i] = 0;
+        HOLDS(RafkudinInstallProtocolInterface(core, &handles[i],
+                                               i == 0 ? &guid : &driver_binding, 0,
+                                               UINT64_MAX - i) == RAFKUDIN_SUCCESS);
+    }
+    return core;
+}
+
+/* The bus driver takes some steps and fails, with or without undoing them, or takes all. Beside it
+ * is a driver of a lower version that supports a bus which is not held and changes nothing. */
+static void try_start(const enum step *order, unsigned steps, bool undoes)
+{
+    uint64_t handles[3], fresh_handles[3], children[STEPS] = {0};
+    struct rafkudin *core = make_bus(handles), *fresh = make_bus(fresh_handles);
+    struct rafkudin_binding drivers[2] = {{handles[2], 1, 1}, {handles[1], 0, 2}}, driver;
+    struct rafkudin_guid guid = protocol(0);
+    struct rafkudin_turns turns;
+    unsigned asked[2] = {0, 0}, started[2] = {0, 0};
+    bool is_open = false;
+
+    for (unsigned i = 0; i < steps; i++)
+        is_open |= !undoes && order[i] == OPEN;
+    HOLDS(RafkudinConnectBegin(core, handles[0], NULL, 0, drivers, 2, &turns) == RAFKUDIN_SUCCESS);
+    while (RafkudinConnectNext(&turns, drivers, 2, &driver) == RAFKUDIN_SUCCESS) {
+        bool is_supported = !is_held(core, handles[0], &guid);
+
+        HOLDS(driver.handle == handles[driver.driver + 1]);
+        HOLDS(driver.driver == 0 || asked[0] == 1);
+        asked[driver.driver]++;
+        started[driver.driver] += is_supported;
+        for (unsigned i = 0; i < steps && driver.driver == 0; i++)
+            take_step(core, order[i], driver.handle, handles[0], children);
+        for (unsigned i = steps; i > 0 && driver.driver == 0 && undoes; i--)
+            undo_step(core, order[i - 1], driver.handle, handles[0], children);
+        RafkudinConnectRecord(&turns, drivers, 2, is_supported);
+    }
+    HOLDS(asked[0] == 1 && started[0] == 1);
+    HOLDS(asked[1] == (is_open ? 2U : 1U) && started[1] == (is_open ? 0U : 1U));
+    HOLDS(!undoes || are_same(core, fresh));
+    RafkudinConnectRecord(&turns, drivers, 2, true);
+    HOLDS(RafkudinConnectNext(&turns, drivers, 2, &driver) == RAFKUDIN_NOT_FOUND);
+    RafkudinFree(core);
+    RafkudinFree(fresh);
+}
+
+/* ---- Lists of drivers ---- */
+
+static void try_lists(void)
+{
+    uint64_t handles[3], named[17] = {0};
+    struct rafkudin *core = make_bus(handles);
+    struct rafkudin_binding drivers[3] = {
+        {handles[0], 5, 9}, {handles[1], 6, 1}, {handles[2], 7, 1}};
+    struct rafkudin_binding driver = {0, 0, 0};
+    struct rafkudin_turns turns = {0, 0, 0, false};
+
+    HOLDS(RafkudinConnectBegin(core, 99, NULL, 0, drivers, 3, &turns) ==
+          RAFKUDIN_INVALID_PARAMETER);
+    HOLDS(RafkudinConnectBegin(core, handles[0], named, 17, drivers, 3, &turns) ==
+          RAFKUDIN_INVALID_PARAMETER);
+    HOLDS(drivers[0].handle == handles[0] && turns.end == 0);
+    HOLDS(RafkudinConnectNext(&turns, drivers, 3, &driver) == RAFKUDIN_NOT_FOUND);
+    named[0] = named[2] = handles[2];
+    HOLDS(RafkudinConnectBegin(core, handles[0], named, 16, drivers, 3, &turns) ==
+          RAFKUDIN_SUCCESS);
+    HOLDS(RafkudinConnectNext(&turns, drivers, 3, &driver) == RAFKUDIN_SUCCESS);
+    HOLDS(driver.handle == handles[2] && driver.driver == 7 && driver.version == 1);
+    RafkudinConnectRecord(&turns, drivers, 3, false);
+    HOLDS(RafkudinConnectNext(&turns, drivers, 3, &driver) == RAFKUDIN_SUCCESS);
+    HOLDS(driver.handle == handles[1] && driver.driver == 6);
+    RafkudinConnectRecord(&turns, drivers, 3, false);
+    HOLDS(RafkudinConnectNext(&turns, drivers, 3, &driver) == RAFKUDIN_NOT_FOUND);
+    HOLDS(driver.handle == handles[1]);
+    turns.end = turns.left = SIZE_MAX;
+    HOLDS(RafkudinConnectNext(&turns, drivers, 3, &driver) == RAFKUDIN_NOT_FOUND);
+    RafkudinConnectRecord(&turns, drivers, 3, false);
+    HOLDS(turns.left == SIZE_MAX);
+    RafkudinFree(core);
+}
+
+int main(void)
+{
+    try_lists();
+    for (unsigned i = 0; i < 6; i++)
+        for (unsigned steps = 0; steps <= STEPS; steps++)
+            for (unsigned undoes = 0; undoes < 2; undoes++)
+                try_start(orders[i], steps, undoes != 0);
+    try_drawn(400);
+    return points_end("driver_turns");
+}
