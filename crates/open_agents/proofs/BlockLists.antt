@@ -190,3 +190,8 @@ blocks_remove blocks at a = record {
   ascending = ascend_remove blocks at a.ascending;
   held = all_remove (λ (h : Block). 0 < length h.places) blocks at a.held;
 }
+
+-- a number that is not 0
+pub some_left : (n : ℕ) → (n == 0) ≡ false → 0 < n
+some_left zero some = absurd cc
+some_left (suc n) some = omega arith

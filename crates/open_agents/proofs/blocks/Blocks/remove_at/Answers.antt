@@ -1,8 +1,8 @@
 use Rattle.std.proofs.Common.{refl, sym, ◌∙◌, ◌≡◌}
 use Rattle.std.proofs.lemmas.List.{get_or-set_same}
-use Rattle.guid_handles.proofs.Grouped.{got, is_same, not_none, remove_set}
+use Rattle.guid_handles.proofs.Grouped.{got, is_same, remove_set}
 use Rattle.open_agents.specs.Blocks.{without_place}
-use Rattle.open_agents.proofs.BlockLists.{block_goes, blocks_remove, blocks_set, changes_block, is_emptied, number_there}
+use Rattle.open_agents.proofs.BlockLists.{block_goes, blocks_remove, blocks_set, changes_block, is_emptied, number_there, some_left}
 use Rattle.open_agents.proofs.blocks.Blocks.remove_at.Goals as goal
 
 pub invariant_of-self : goal.invariant_of-self
@@ -14,7 +14,7 @@ invariant_of-self-else-is_empty g c =
     let place = rw (← c.self.view_is) at c.requires in
     let same : c.index.result.now ≡ c.remove.new.self = c.index.ensures ∙ get_or-set_same c.self.inside.blocks.items c.args.at c.remove.new.self c.index.result.now place.0 in
     rw c.remove.ensures (blocks_set _ _ _ _ c.self.invariant (got _ _ _ place.0 c.index_mut.ensures.value) refl
-    (rw c.remove.ensures at (not_none _ (rw same at (sym c.is_empty.ensures ∙ c.if-is_empty.false)))))
+    (rw c.remove.ensures at (some_left _ (rw same at (sym c.is_empty.ensures ∙ c.if-is_empty.false)))))
 
 pub returns-then-is_empty : goal.returns-then-is_empty
 returns-then-is_empty g c =
