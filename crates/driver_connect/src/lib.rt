@@ -8,7 +8,7 @@ mod driver;
 mod driver_order;
 mod driver_turns;
 mod laws;
-mod managed;
+mod made;
 mod pair_set;
 mod pairs;
 mod progress;

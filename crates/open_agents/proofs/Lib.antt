@@ -1,4 +1,4 @@
-pub mod BlockLists
 pub mod Placed
 pub mod Asked
 pub mod ListedItems
+pub mod Managing
