@@ -46,3 +46,7 @@ marked (Some n) r = record r { mark = n.1 }
 -- the registration of a key, whose mark is now the stamp of what was next for it
 abbrev pub taken : HandleTable → ℕ → Registration → Registration
 taken t key r = cond (has_key key r) (marked (next_of t r) r) r
+
+-- the registration of a key, marked with a stamp
+abbrev pub marked_at : ℕ → ℕ → Registration → Registration
+marked_at key stamp r = cond (has_key key r) (record r { mark = stamp }) r

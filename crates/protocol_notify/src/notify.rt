@@ -3,7 +3,7 @@ ghost use Rattle.std.specs.Prelude.{◌≡◌, ◌+◌, ◌<◌, ◌^◌, [], ma
 ghost use Rattle.std.specs.Option.{option_map};
 ghost use Rattle.protocol_notify.specs.Registrations as spec;
 ghost use Rattle.page_ranges.specs.declared.statuses.Status.TheVariants.{OutOfResources};
-ghost use Rattle.protocol_notify.specs.Registrations.{AreKeyedFrom, registration_of, events_for, with_registration, next_of, next_handle, taken};
+ghost use Rattle.protocol_notify.specs.Registrations.{AreKeyedFrom, registration_of, events_for, with_registration, marked_at, next_for, next_handle, taken};
 
 use guid_handles::{Handles, is_same_guid};
 use page_ranges::Status;
@@ -74,7 +74,8 @@ impl<A: Allocator + Copy> Notify<A> {
 
     /// The registration of a key.
     fn find(&self, key: u64) -> Option<Registration>
-        ensures { result ≡ registration_of self.now key }
+        ensures found { result ≡ registration_of self.now key }
+        ensures keyed { AreKeyedFrom 1 self.now }
     {
         find_registration(self.registrations.as_slice(), key)
     }
@@ -99,13 +100,28 @@ impl<A: Allocator + Copy> Notify<A> {
         )
     }
 
+    /// The handle that is next for a key, and the stamp of its interface.
+    pub fn next_turn(&self, handles: &Handles<A>, key: u64) -> Option<(u64, u64)>
+        ensures turn { result ≡ next_for handles.now self.now key }
+        ensures keyed { AreKeyedFrom 1 self.now }
+    {
+        let registration = self.find(key)?;
+        handles.after_stamp(registration.guid, registration.mark)
+    }
+
     /// The handle that is next for a key.
     pub fn next(&self, handles: &Handles<A>, key: u64) -> Option<u64>
         ensures { result ≡ next_handle handles.now self.now key }
     {
-        let registration = self.find(key)?;
-        let (handle, _) = handles.after_stamp(registration.guid, registration.mark)?;
+        let (handle, _) = self.next_turn(handles, key)?;
         Some(handle)
+    }
+
+    /// Marks the registration of a key with a stamp.
+    pub fn mark(&mut self, key: u64, stamp: u64)
+        ensures { self.new ≡ map (marked_at key stamp) self.old }
+    {
+        mark_among(&mut self.registrations, key, stamp);
     }
 
     /// Takes the handle that is next for a key, after which the one behind it is next.
@@ -113,7 +129,10 @@ impl<A: Allocator + Copy> Notify<A> {
         requires { IsSome (next_handle handles.now self.old key) }
         ensures { self.new ≡ map (taken handles.now key) self.old }
     {
-        take_among(&mut self.registrations, handles, key);
+        match self.next_turn(handles, key) {
+            Some((_, stamp)) => self.mark(key, stamp),
+            None => unreachable!(),
+        }
     }
 }
 
@@ -163,28 +182,18 @@ fn events_among<A: Allocator>(
     Ok(events)
 }
 
-/// A registration, marked with the stamp of what is next for it.
-fn marked<A: Allocator + Copy>(r: Registration, handles: &Handles<A>) -> Registration
-    ensures { result ≡ spec.marked (next_of handles.now r) r }
-{
-    match handles.after_stamp(r.guid, r.mark) {
-        Some((_, stamp)) => Registration { mark: stamp, ..r },
-        None => r,
-    }
-}
-
-/// Marks the registration of a key, among some.
-fn take_among<A: Allocator + Copy>(
-    registrations: &mut Vec<Registration, A>,
-    handles: &Handles<A>,
-    key: u64,
-)
+/// Marks the registration of a key with a stamp, among some.
+fn mark_among<A: Allocator>(registrations: &mut Vec<Registration, A>, key: u64, stamp: u64)
     requires { AreKeyedFrom 1 registrations.old.items }
-    ensures { registrations.new.items ≡ map (taken handles.now key) registrations.old.items }
+    ensures { registrations.new.items ≡ map (marked_at key stamp) registrations.old.items }
 {
     if key == 0 || key as usize > registrations.len() {
         return;
     }
     let at = key as usize - 1;
-    registrations[at] = marked(registrations[at], handles);
+    let marked = Registration {
+        mark: stamp,
+        ..registrations[at]
+    };
+    registrations[at] = marked;
 }

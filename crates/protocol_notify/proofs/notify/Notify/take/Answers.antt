@@ -1,5 +1,6 @@
-use Rattle.protocol_notify.proofs.Keyed.{keyed_taken}
+use Rattle.std.proofs.Common.{sym, ◌∙◌}
+use Rattle.protocol_notify.proofs.Keyed.{taken_marked}
 use Rattle.protocol_notify.proofs.notify.Notify.take.Goals as goal
 
-pub invariant_of-self : goal.invariant_of-self
-invariant_of-self g c = rw c.take_among.ensures (keyed_taken c.args.handles.now c.args.key 1 _ c.self.invariant)
+pub returns : goal.returns
+returns g c = c.mark.ensures ∙ taken_marked c.args.handles.now c.args.key c.args.self.now _ c.next_turn.ensures.keyed (sym (c.next_turn.ensures.turn) ∙ c.in-Some.is)
