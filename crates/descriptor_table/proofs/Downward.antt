@@ -1,42 +1,38 @@
 -- The free runs of leaves from the highest down.
-use Rattle.std.proofs.Common.{◌≡◌, ◌≢◌, ℕ, zero, suc, ◌+◌, ◌-◌, ◌<◌, ◌≤◌, Bool, true, false, cond, eqb, List, [], ◌∷◌, ◌++◌, length, get_or, take, drop, Option, Some, None, inl, inr, refl, sym, ap, subst, ◌∙◌, append_assoc, append-nil, arith}
+use Rattle.std.proofs.Common.{◌≡◌, ◌≢◌, ℕ, zero, suc, ◌+◌, ◌-◌, ◌*◌, ◌^◌, ◌<◌, ◌≤◌, Bool, true, false, cond, true≢false, eqb, List, [], ◌∷◌, ◌++◌, length, get_or, take, drop, Option, Some, None, inl, inr, refl, sym, ap, subst, ◌∙◌, append_assoc, append-nil, arith}
 use Rattle.std.specs.Prelude.{slice_get}
 use Rattle.std.specs.List.{AllByRecursion}
-use Rattle.std.proofs.lemmas.Bool.{cases_lt, eq-eqb, ne_eqb}
-use Rattle.std.proofs.lemmas.List.{take_more, take_all, get_or_past, get_or_default, drop_more, length-take}
+use Rattle.std.proofs.lemmas.Bool.{cases_lt, eqb-true, eq-eqb}
+use Rattle.std.proofs.lemmas.List.{take_more, take_all, take-append-drop, get_or_past, drop_more, length-take}
 use Rattle.std.proofs.lemmas.Option.{get_or_from_slice_get, slice_get_within, slice_get_past}
 use Rattle.page_ranges.specs.declared.ranges.Descriptor.{Descriptor}
 use Rattle.page_ranges.specs.declared.ranges.Run.{Run}
 use Rattle.page_ranges.specs.MemoryTypes.{conventional}
 use Rattle.page_ranges.specs.Memory.{Page, page_at, page_below, IsProperMemory}
 use Rattle.page_ranges.specs.Runs.{pages_of, AreMaximalRuns}
+use Rattle.page_ranges.proofs.MaximalRuns.{maximal_are_runs}
 use Rattle.page_ranges.proofs.Members.{all_append}
 use Rattle.descriptor_table.specs.declared.wanted.Wanted.{Wanted}
-use Rattle.descriptor_table.specs.Leaves.{IsPlace, leaf_at, run_before, runs_in, AreLeaves}
-use Rattle.descriptor_table.specs.Summaries.{BeginsFree, LooksAt}
+use Rattle.descriptor_table.specs.Leaves.{IsPlace, first_page, leaf_at, run_before, runs_in, AreLeaves}
+use Rattle.descriptor_table.specs.declared.groups.Group.{Group}
+use Rattle.descriptor_table.specs.Summaries.{AreGroups, AreRunsOfNoUse, BeginsFree, IsFreeRun, IsLeafOfNoUse, may_hold}
 use Rattle.descriptor_table.specs.Tables.{entry_of}
-use Rattle.descriptor_table.specs.Wanting.{IsFreeAt, IsLastFree, IsOfNoUse, entries_of, is_of, most_gain, runs_to}
-use Rattle.descriptor_table.proofs.FreeBounds.{gain_most}
+use Rattle.descriptor_table.specs.Wanting.{AreOfNoUse, IsFreeAt, IsOfNoUse, entries_of, is_of, most_gain, runs_to}
+use Rattle.descriptor_table.proofs.FreeBounds.{gain_most, grouped_leaf_of_no_use}
 use Rattle.descriptor_table.proofs.LaterEntries.{get_dropped}
-use Rattle.descriptor_table.proofs.LeafLists.{leaf_at as is_leaf}
-use Rattle.descriptor_table.proofs.NoUse.{entries-append, in_leaf, leaf_no_use, offset, offset_next, runs_next}
+use Rattle.descriptor_table.proofs.LeafLists.{leaf_at as is_leaf, leaf_firsts_rise}
+use Rattle.descriptor_table.proofs.NoUse.{all_entries, entries-append, in_leaf, leaf_no_use, offset, offset_next, run_no_use, runs_next}
 
 -- ---- the last free run of some
 
 one_entry : (r : Run) → r.mtype ≡ conventional → entries_of (r ∷ []) ≡ entry_of r ∷ []
 one_entry r free = rw (eq-eqb r.mtype conventional free) refl
 
-no_entry : (r : Run) → r.mtype ≢ conventional → entries_of (r ∷ []) ≡ []
-no_entry r other = rw (ne_eqb r.mtype conventional other) refl
-
 taken : (rs : List Run) (i : ℕ) (r : Run) → i < length rs → r ≡ get_or rs i r → entries_of (take (i + 1) rs) ≡ entries_of (take i rs) ++ entries_of (r ∷ [])
 taken rs i r h at = ap entries_of (take_more rs i r h ∙ ap (λ x. take i rs ++ x ∷ []) (sym at)) ∙ entries-append (take i rs) (r ∷ [])
 
 pub taken_free : (rs : List Run) (i j : ℕ) (r : Run) → i + 1 ≡ j → i < length rs → r ≡ get_or rs i r → r.mtype ≡ conventional → entries_of (take j rs) ≡ entries_of (take i rs) ++ entry_of r ∷ []
 taken_free rs i j r e h at free = ap (λ k. entries_of (take k rs)) (sym e) ∙ taken rs i r h at ∙ ap (λ ds. entries_of (take i rs) ++ ds) (one_entry r free)
-
-pub taken_other : (rs : List Run) (i j : ℕ) (r : Run) → i + 1 ≡ j → i < length rs → r ≡ get_or rs i r → r.mtype ≢ conventional → entries_of (take j rs) ≡ entries_of (take i rs)
-taken_other rs i j r e h at other = ap (λ k. entries_of (take k rs)) (sym e) ∙ taken rs i r h at ∙ ap (λ ds. entries_of (take i rs) ++ ds) (no_entry r other) ∙ append-nil (entries_of (take i rs))
 
 pub get_taken : (l : List Run) (count i : ℕ) → i < count → slice_get (take count l) i ≡ slice_get l i
 get_taken l zero i h = absurd (omega arith)
@@ -49,14 +45,6 @@ taken_in l count zero h = refl
 taken_in l zero (suc i) h = absurd (omega arith)
 taken_in [] (suc count) (suc i) h = refl
 taken_in (r ∷ l) (suc count) (suc i) h = ap (λ x. r ∷ x) (taken_in l count i (omega arith))
-
--- ---- how many runs of a leaf are looked at
-
-pub looks_bound : (w : Wanted) (goes_on : Bool) (l : List Run) (count : ℕ) → LooksAt w goes_on l count → count ≤ length l
-looks_bound w goes_on l count looks = elim looks [ inl whole ↦ omega (arith, whole) | inr none ↦ omega (arith, none.0) ]
-
-pub looks_in : (w : Wanted) (goes_on : Bool) (ls : List (List Run)) (j count : ℕ) (l : List Run) → j < length ls → l ≡ get_or ls j l → LooksAt w goes_on l count → LooksAt w goes_on (leaf_at ls j) count
-looks_in w goes_on ls j count l h at looks = subst (λ x. LooksAt w goes_on x count) (at ∙ get_or_default ls j l [] h) looks
 
 -- ---- the runs beside one of a leaf
 
@@ -133,60 +121,117 @@ pub record HasPassed (w : Wanted) (ls : List (List Run)) (all : List Descriptor)
 pub none_passed : (w : Wanted) (ls : List (List Run)) (leaf count : ℕ) → HasPassed w ls (entries_of (runs_to ls leaf count)) leaf count
 none_passed w ls leaf count = record { passed = []; parts = sym (append-nil (entries_of (runs_to ls leaf count))); no_use = tt }
 
-module _ (w : Wanted) (ls : List (List Run)) (all : List Descriptor) (leaf count : ℕ) (has : HasPassed w ls all leaf count) where
-  front : List Run
-  front = runs_in (take leaf ls)
+-- the runs of the first leaves, as those of the leaves before the last one and its runs
+whole_leaf : (ls : List (List Run)) (j : ℕ) → j < length ls → runs_to ls (j + 1) 0 ≡ runs_to ls j (length (leaf_at ls j))
+whole_leaf ls j h = append-nil (runs_in (take (j + 1) ls)) ∙ runs_next ls j h ∙ ap (λ rs. runs_in (take j ls) ++ rs) (sym (take_all (length (leaf_at ls j)) (leaf_at ls j) (omega arith)))
 
-  to_parts : (c : ℕ) → entries_of (runs_to ls leaf c) ≡ entries_of (runs_in (take leaf ls)) ++ entries_of (take c (leaf_at ls leaf))
-  to_parts c = entries-append (runs_in (take leaf ls)) (take c (leaf_at ls leaf))
+-- entries of no use in the middle join those that are passed
+joins_passed : (a b c d : List Descriptor) → (a ++ (b ++ c)) ++ d ≡ (a ++ b) ++ (c ++ d)
+joins_passed a b c d = ap (λ x. x ++ d) (sym (append_assoc a b c)) ∙ append_assoc (a ++ b) c d
 
-  -- a free run is found
-  pub found_free : (i : ℕ) (r : Run) → leaf < length ls → i < count → slice_get (leaf_at ls leaf) i ≡ Some r → entries_of (take count (leaf_at ls leaf)) ≡ entries_of (take i (leaf_at ls leaf)) ++ entry_of r ∷ []
-      → all ≡ entries_of (runs_to ls leaf i) ++ entry_of r ∷ has.passed
-  found_free i r h k at e =
-      let a = entries_of (runs_in (take leaf ls)) in
-      let b = entries_of (take i (leaf_at ls leaf)) in
-      has.parts ∙ ap (λ ds. ds ++ has.passed) (to_parts count ∙ ap (λ ds. a ++ ds) e ∙ sym (append_assoc a b (entry_of r ∷ [])) ∙ ap (λ ds. ds ++ entry_of r ∷ []) (sym (to_parts i)))
-      ∙ append_assoc (entries_of (runs_to ls leaf i)) (entry_of r ∷ []) has.passed
+module _ (w : Wanted) (ls : List (List Run)) (all : List Descriptor) where
+  no_use : List Descriptor → Type 0
+  no_use ds = AllByRecursion (IsOfNoUse (pages_of (runs_in ls)) w) ds
 
-  pub found_in : (l : List Run) (i : ℕ) → l ≡ leaf_at ls leaf → IsLastFree (take count l) (Some i) → (at : IsFreeAt ls leaf i) × ((passed : List Descriptor) × (all ≡ entries_of (runs_to ls leaf i) ++ entry_of at.run ∷ passed) × AllByRecursion (IsOfNoUse (pages_of (runs_in ls)) w) passed)
-  found_in l i same last =
-      let t = subst (λ x. IsLastFree (take count x) (Some i)) same last in
-      let r = t.0 in
-      let k = slice_get_within (take count (leaf_at ls leaf)) i r t.1 in
-      let before : i < count = omega (arith, k, length-take count (leaf_at ls leaf)) in
-      let at = sym (get_taken (leaf_at ls leaf) count i before) ∙ t.1 in
-      let bound : leaf < length ls = elim (cases_lt leaf (length ls)) [
-        | inl h ↦ h
-        | inr h ↦ absurd (let none = sym (ap (λ x. slice_get x i) (get_or_past ls leaf [] h)) ∙ at in cc)
-      ] in (
-        record { bound = bound; run = r; at = at; free = t.2 },
-        (has.passed, found_free i r bound before at (t.3 ∙ ap (λ x. entries_of x ++ entry_of r ∷ []) (taken_in (leaf_at ls leaf) count i (omega arith))), has.no_use),
-      )
+  -- the leaf before an index is looked at
+  pub leaf_opened : (j : ℕ) → j < length ls → HasPassed w ls all (j + 1) 0 → HasPassed w ls all j (length (leaf_at ls j))
+  leaf_opened j h has = record { passed = has.passed; parts = has.parts ∙ ap (λ rs. entries_of rs ++ has.passed) (whole_leaf ls j h); no_use = has.no_use }
 
-  -- no free run is left in the leaf
-  emptied : entries_of (take count (leaf_at ls leaf)) ≡ [] → all ≡ entries_of (runs_in (take leaf ls)) ++ has.passed
-  emptied e = has.parts ∙ ap (λ ds. ds ++ has.passed) (to_parts count ∙ ap (λ ds. entries_of (runs_in (take leaf ls)) ++ ds) e ∙ append-nil (entries_of (runs_in (take leaf ls))))
-
-  pub all_passed : leaf ≡ 0 → entries_of (take count (leaf_at ls leaf)) ≡ [] → AllByRecursion (IsOfNoUse (pages_of (runs_in ls)) w) all
-  all_passed zero_is e = subst (AllByRecursion (IsOfNoUse (pages_of (runs_in ls)) w)) (sym (emptied e ∙ ap (λ k. entries_of (runs_in (take k ls)) ++ has.passed) zero_is)) has.no_use
-
-  -- the leaf below is looked at, or passed
-  pub leaf_passed : (j c : ℕ) (goes_on : Bool) → AreLeaves ls → AreMaximalRuns (runs_in ls) → IsProperMemory (pages_of (runs_in ls)) → leaf ≤ length ls → j + 1 ≡ leaf → entries_of (take count (leaf_at ls leaf)) ≡ [] → BeginsFree goes_on (leaf_at ls leaf) → LooksAt w goes_on (leaf_at ls j) c → HasPassed w ls all j c
-  leaf_passed j c goes_on leaves maximal proper bound e empty begins looks =
+  -- it is passed
+  leaf_passed : (j : ℕ) → j < length ls → HasPassed w ls all (j + 1) 0 → AllByRecursion (IsOfNoUse (pages_of (runs_in ls)) w) (entries_of (leaf_at ls j)) → HasPassed w ls all j 0
+  leaf_passed j h has none =
       let a = entries_of (runs_in (take j ls)) in
+      let l = entries_of (leaf_at ls j) in
+      record {
+        passed = l ++ has.passed;
+        parts = has.parts ∙ ap (λ rs. entries_of rs ++ has.passed) (append-nil (runs_in (take (j + 1) ls)) ∙ runs_next ls j h) ∙ ap (λ ds. ds ++ has.passed) (entries-append (runs_in (take j ls)) (leaf_at ls j)) ∙ append_assoc a l has.passed
+            ∙ ap (λ rs. entries_of rs ++ (l ++ has.passed)) (sym (append-nil (runs_in (take j ls))));
+        no_use = all_append (IsOfNoUse (pages_of (runs_in ls)) w) l has.passed none has.no_use;
+      }
+
+  pub leaves_passed : (d j leaf : ℕ) → j + d ≡ leaf → leaf ≤ length ls → HasPassed w ls all leaf 0 → AreOfNoUse w ls j leaf → HasPassed w ls all j 0
+  leaves_passed zero j leaf e h has none = let same : leaf ≡ j = omega (arith, e) in subst (λ k. HasPassed w ls all k 0) same has
+  leaves_passed (suc d) j leaf e h has none =
+      leaf_passed j (omega (arith, e, h)) (leaves_passed d (j + 1) leaf (omega (arith, e)) h has (λ k low high. none k (omega (arith, low)) high)) (none j (omega arith) (omega (arith, e)))
+
+  -- all leaves are passed
+  pub all_passed : HasPassed w ls all 0 0 → AllByRecursion (IsOfNoUse (pages_of (runs_in ls)) w) all
+  all_passed has = subst (AllByRecursion (IsOfNoUse (pages_of (runs_in ls)) w)) (sym has.parts) has.no_use
+
+module _ (w : Wanted) (ls : List (List Run)) (leaves : AreLeaves ls) (maximal : AreMaximalRuns (runs_in ls)) (proper : IsProperMemory (pages_of (runs_in ls))) where
+  -- the free runs of a leaf between two indices
+  runs_no_use : (j : ℕ) (goes_on : Bool) → BeginsFree goes_on (leaf_at ls (j + 1)) → (low high : ℕ) → AreRunsOfNoUse w goes_on (leaf_at ls j) low high → AllByRecursion (IsOfNoUse (pages_of (runs_in ls)) w) (entries_of (drop low (take high (leaf_at ls j))))
+  runs_no_use j goes_on begins low high none =
       let l = leaf_at ls j in
-      let step : all ≡ (a ++ entries_of l) ++ has.passed =
-      (emptied empty ∙ ap (λ k. entries_of (runs_in (take k ls)) ++ has.passed) (sym e) ∙ ap (λ rs. entries_of rs ++ has.passed) (runs_next ls j (omega arith)) ∙ ap (λ ds. ds ++ has.passed) (entries-append (runs_in (take j ls)) l)) in
-      elim looks [
-        | inl whole ↦ record {
-          passed = has.passed;
-          parts = step ∙ ap (λ ds. ds ++ has.passed) (ap (λ rs. a ++ entries_of rs) (sym (take_all c l (omega arith))) ∙ sym (entries-append (runs_in (take j ls)) (take c l)));
-          no_use = has.no_use;
-        }
-        | inr none ↦ record {
-          passed = entries_of l ++ has.passed;
-          parts = step ∙ append_assoc a (entries_of l) has.passed ∙ ap (λ ds. ds ++ (entries_of l ++ has.passed)) (sym (ap (λ k. entries_of (runs_to ls j k)) none.0 ∙ entries-append (runs_in (take j ls)) [] ∙ append-nil a));
-          no_use = all_append (IsOfNoUse (pages_of (runs_in ls)) w) (entries_of l) has.passed (leaf_no_use ls leaves maximal proper j (omega arith) w goes_on (subst (λ k. BeginsFree goes_on (leaf_at ls k)) (sym e) begins) none.1) has.no_use;
-        }
-      ]
+      all_entries (IsOfNoUse (pages_of (runs_in ls)) w) (drop low (take high l)) (λ k r at free.
+      let there : slice_get (take high l) (low + k) ≡ Some r = sym (get_dropped (take high l) low k (low + k) (omega arith)) ∙ at in
+      let bound = slice_get_within (take high l) (low + k) r there in
+      let before : low + k < high = omega (arith, bound, length-take high l) in
+      let here : slice_get l (low + k) ≡ Some r = sym (get_taken l high (low + k) before) ∙ there in
+      let h : j < length ls = elim (cases_lt j (length ls)) [
+        | inl i ↦ i
+        | inr i ↦ absurd (let gone = sym (ap (λ x. slice_get x (low + k)) (get_or_past ls j [] i)) ∙ here in cc)
+      ] in
+      run_no_use ls leaves maximal proper j h w goes_on begins (low + k) r here (none (low + k) r (omega arith) before here free))
+
+  -- runs of a leaf are passed
+  pub runs_passed : (all : List Descriptor) (leaf count i : ℕ) (goes_on : Bool) → HasPassed w ls all leaf count → BeginsFree goes_on (leaf_at ls (leaf + 1)) → i ≤ count → AreRunsOfNoUse w goes_on (leaf_at ls leaf) i count → HasPassed w ls all leaf i
+  runs_passed all leaf count i goes_on has begins low none =
+      let l = leaf_at ls leaf in
+      let front = runs_in (take leaf ls) in
+      let a = entries_of front in
+      let b = entries_of (take i l) in
+      let c = entries_of (drop i (take count l)) in
+      let cut : entries_of (take count l) ≡ b ++ c = ap entries_of (sym (take-append-drop i (take count l))) ∙ entries-append (take i (take count l)) (drop i (take count l)) ∙ ap (λ rs. entries_of rs ++ c) (taken_in l count i low) in
+      record {
+        passed = c ++ has.passed;
+        parts = has.parts ∙ ap (λ ds. ds ++ has.passed) (entries-append front (take count l) ∙ ap (λ ds. a ++ ds) cut) ∙ joins_passed a b c has.passed ∙ ap (λ ds. ds ++ (c ++ has.passed)) (sym (entries-append front (take i l)));
+        no_use = all_append (IsOfNoUse (pages_of (runs_in ls)) w) c has.passed (runs_no_use leaf goes_on begins i count none) has.no_use;
+      }
+
+  -- a free run is found behind those that are passed
+  pub found_in : (all : List Descriptor) (leaf i : ℕ) → HasPassed w ls all leaf (i + 1) → IsFreeRun (slice_get (leaf_at ls leaf) i)
+      → (at : IsFreeAt ls leaf i) × ((passed : List Descriptor) × (all ≡ entries_of (runs_to ls leaf i) ++ entry_of at.run ∷ passed) × AllByRecursion (IsOfNoUse (pages_of (runs_in ls)) w) passed)
+  found_in all leaf i has free =
+      let l = leaf_at ls leaf in
+      let front = runs_in (take leaf ls) in
+      let f = free_at (slice_get l i) free in
+      let r = f.0 in
+      let k = slice_get_within l i r f.1 in
+      let h : leaf < length ls = elim (cases_lt leaf (length ls)) [
+        | inl u ↦ u
+        | inr u ↦ absurd (let gone = sym (ap (λ x. slice_get x i) (get_or_past ls leaf [] u)) ∙ f.1 in cc)
+      ] in
+      let more : entries_of (take (i + 1) l) ≡ entries_of (take i l) ++ entry_of r ∷ [] = taken_free l i (i + 1) r refl k (sym (get_or_from_slice_get l i r r f.1)) f.2 in
+      let a = entries_of front in
+      let b = entries_of (take i l) in (
+        record { bound = h; run = r; at = f.1; free = f.2 },
+        (
+          has.passed,
+          has.parts ∙ ap (λ ds. ds ++ has.passed) (entries-append front (take (i + 1) l) ∙ ap (λ ds. a ++ ds) more) ∙ joins_passed a b (entry_of r ∷ []) has.passed ∙ ap (λ ds. ds ++ entry_of r ∷ has.passed) (sym (entries-append front (take i l))),
+          has.no_use,
+        ),
+      )
+    where
+      free_at : (o : Option Run) → IsFreeRun o → (r : Run) × (o ≡ Some r) × (r.mtype ≡ conventional)
+      free_at None e = absurd e
+      free_at (Some r) e = (r, refl, e)
+
+  -- a leaf of no use
+  pub one_of_no_use : (j : ℕ) (goes_on : Bool) → j < length ls → BeginsFree goes_on (leaf_at ls (j + 1)) → IsLeafOfNoUse w goes_on (leaf_at ls j) → AllByRecursion (IsOfNoUse (pages_of (runs_in ls)) w) (entries_of (leaf_at ls j))
+  one_of_no_use j goes_on h begins none = leaf_no_use ls leaves maximal proper j h w goes_on begins none
+
+  -- the leaves of a group whose summary says so
+  pub group_of_no_use : (gs : List Group) (g : ℕ) (group : Group) → AreGroups ls gs → slice_get gs g ≡ Some group → 8 * g + 8 ≤ length ls → may_hold group.summary w ≡ false → w.pages < 2 ^ 64 → w.gain ≤ 3 → AreOfNoUse w ls (8 * g) (8 * g + 8)
+  group_of_no_use gs g group groups at bound f small few j low high =
+      let mark = free_mark (leaf_at ls (j + 1)) in
+      one_of_no_use j mark.0 (omega (arith, high, bound)) mark.1 (grouped_leaf_of_no_use group.summary w ls j mark.0 f small few (groups g group at j low high (inr (omega arith))) mark.2)
+    where
+      free_mark : (l : List Run) → (mark : Bool) × BeginsFree mark l × (mark ≡ true → IsFreeRun (slice_get l 0))
+      free_mark [] = (false, (λ f. absurd f), λ e. absurd (true≢false (sym e)))
+      free_mark (r ∷ l) = (eqb r.mtype conventional, (λ f. eq-eqb r.mtype conventional f), λ e. eqb-true r.mtype conventional e)
+
+  -- leaves that begin at the limit or above
+  pub limit_of_no_use : (k high : ℕ) → high ≤ length ls → w.limit ≤ first_page (leaf_at ls k) → AreOfNoUse w ls k high
+  limit_of_no_use k high bound limit j low below =
+      leaf_no_use ls leaves maximal proper j (omega (arith, below, bound)) w true (λ f. refl) (inl (omega (arith, limit, leaf_firsts_rise ls leaves (maximal_are_runs (runs_in ls) maximal) k j [] low (omega (arith, below, bound)))))

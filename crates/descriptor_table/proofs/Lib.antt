@@ -21,3 +21,4 @@ pub mod LaterEntries
 pub mod FreeBounds
 pub mod NoUse
 pub mod Downward
+pub mod Grouped

@@ -16,7 +16,7 @@ use Rattle.page_ranges.proofs.MaximalRuns.{maximal_are_runs}
 use Rattle.page_ranges.proofs.RunLists.{IsProperRun, proper_runs}
 use Rattle.descriptor_table.specs.declared.wanted.Wanted.{Wanted}
 use Rattle.descriptor_table.specs.Leaves.{first_page, leaf_at, run_before, runs_in, AreLeaves}
-use Rattle.descriptor_table.specs.Summaries.{BeginsFree, IsFreeRun, IsLeafOfNoUse, may_be}
+use Rattle.descriptor_table.specs.Summaries.{BeginsFree, IsFreeRun, IsLeafOfNoUse, RunGainsLittle, may_be}
 use Rattle.descriptor_table.specs.Tables.{entry_of, IsBlockBelow}
 use Rattle.descriptor_table.specs.Wanting.{IsOfNoUse, entries_of, is_of, most_gain}
 use Rattle.descriptor_table.proofs.FreeBounds.{may_be_most}
@@ -33,7 +33,7 @@ get_all P (y ∷ xs) zero x a e = let same : y ≡ x = cc in subst P same a.0
 get_all P (y ∷ xs) (suc i) x a e = get_all P xs i x a.1 e
 
 -- what holds of the free runs of some, index by index, holds of their entries
-all_entries : (P : Descriptor → Type 0) (rs : List Run) → ((i : ℕ) (r : Run) → slice_get rs i ≡ Some r → r.mtype ≡ conventional → P (entry_of r)) → AllByRecursion P (entries_of rs)
+pub all_entries : (P : Descriptor → Type 0) (rs : List Run) → ((i : ℕ) (r : Run) → slice_get rs i ≡ Some r → r.mtype ≡ conventional → P (entry_of r)) → AllByRecursion P (entries_of rs)
 all_entries P [] f = tt
 all_entries P (r ∷ rs) f = elim (cases_Bool (eqb r.mtype conventional)) [
   | inl t ↦ rw t (f 0 r refl (eqb-true r.mtype conventional t), all_entries P rs (λ i q at free. f (suc i) q at free))
@@ -170,22 +170,24 @@ module _ (ls : List (List Run)) (leaves : AreLeaves ls) (maximal : AreMaximalRun
         subst IsFreeRun (slice_get_past rs (offset ls j + i + 1) (omega (arith, offset_next ls j h, last, ap (λ xs. length (runs_in xs)) all))) free
   ]
 
+  pub run_no_use : (w : Wanted) (goes_on : Bool) → BeginsFree goes_on (leaf_at ls (j + 1)) → (i : ℕ) (r : Run) → slice_get l i ≡ Some r → RunGainsLittle w (run_before l i) r (slice_get l (i + 1)) × (i + 1 ≡ length l → goes_on ≡ false) → IsOfNoUse (pages_of rs) w (entry_of r)
+  run_no_use w goes_on begins i r at little =
+      let k = slice_get_within l i r at in
+      let here : slice_get rs (offset ls j + i) ≡ Some r = in_leaf ls j i h k ∙ at in
+      let t = w.mtype in
+      let above = above_case rs maximal proper (offset ls j + i) r t (slice_get rs (offset ls j + i + 1)) here refl in
+      let low : is_of t (page_below (pages_of rs) r.range.first) ≤ may_be t (run_before l i) = omega (arith, below_is rs maximal proper (offset ls j + i) r t here, below_in i t k) in
+      let high : is_of t (page_at (pages_of rs) (r.range.first + r.range.pages)) ≤ may_be t (slice_get l (i + 1)) = omega (arith, above.0, above_may_be i t) in
+      inr (record {
+        within = λ n. omega (arith, little.0.within n, gain_grows w.pages r.range.pages _ _ _ _ low high);
+        beyond = λ c. elim (cases_lt (i + 1) (length l)) [
+          | inl u ↦ little.0.beyond (subst IsFreeRun (above_in i u) (above.1 c))
+          | inr u ↦ let last : i + 1 ≡ length l = omega (arith, k, u) in absurd (next_leaf_free i goes_on begins last (little.1 last) (above.1 c))
+        ];
+      })
+
   pub leaf_no_use : (w : Wanted) (goes_on : Bool) → BeginsFree goes_on (leaf_at ls (j + 1)) → IsLeafOfNoUse w goes_on l → AllByRecursion (IsOfNoUse (pages_of rs) w) (entries_of l)
   leaf_no_use w goes_on begins none = all_entries (IsOfNoUse (pages_of rs) w) l (λ i r at free. elim none [
     | inl limit ↦ inl (omega (arith, limit, get_all (λ s. first_page l ≤ s.range.first) l i r (begin_by_first l (leaf_runs ls j [] (maximal_are_runs rs maximal) h)) at))
-    | inr f ↦
-        let little = f i r at free in
-        let k = slice_get_within l i r at in
-        let here : slice_get rs (offset ls j + i) ≡ Some r = in_leaf ls j i h k ∙ at in
-        let t = w.mtype in
-        let above = above_case rs maximal proper (offset ls j + i) r t (slice_get rs (offset ls j + i + 1)) here refl in
-        let low : is_of t (page_below (pages_of rs) r.range.first) ≤ may_be t (run_before l i) = omega (arith, below_is rs maximal proper (offset ls j + i) r t here, below_in i t k) in
-        let high : is_of t (page_at (pages_of rs) (r.range.first + r.range.pages)) ≤ may_be t (slice_get l (i + 1)) = omega (arith, above.0, above_may_be i t) in
-        inr (record {
-          within = λ n. omega (arith, little.0.within n, gain_grows w.pages r.range.pages _ _ _ _ low high);
-          beyond = λ c. elim (cases_lt (i + 1) (length l)) [
-            | inl u ↦ little.0.beyond (subst IsFreeRun (above_in i u) (above.1 c))
-            | inr u ↦ let last : i + 1 ≡ length l = omega (arith, k, u) in absurd (next_leaf_free i goes_on begins last (little.1 last) (above.1 c))
-          ];
-        })
+    | inr f ↦ run_no_use w goes_on begins i r at (f i r (omega arith) (slice_get_within l i r at) at free)
   ])

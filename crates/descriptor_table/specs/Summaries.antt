@@ -1,22 +1,32 @@
 -- What the free runs among some runs may be, in a few numbers.
-use Rattle.std.specs.Prelude.{◌≡◌, ℕ, ◌+◌, ◌%◌, ◌⊎◌, ◌<◌, ◌≤◌, ◌^◌, Bool, true, false, ◌&&◌, ◌==◌, nat_le, max, List, length, Option, Some, None, if◌then◌else◌, slice_get, bit_or}
+use Rattle.std.specs.Prelude.{◌≡◌, ℕ, ◌+◌, ◌*◌, ◌%◌, ◌⊎◌, ◌<◌, ◌≤◌, ◌^◌, Bool, true, false, ◌&&◌, ◌==◌, nat_le, max, List, length, Option, Some, None, if◌then◌else◌, slice_get, bit_or, [], map}
 use Rattle.std.specs.Int.{bit_at}
 use Rattle.page_ranges.specs.declared.ranges.Run.{Run}
 use Rattle.page_ranges.specs.MemoryTypes.{conventional}
+use Rattle.descriptor_table.specs.declared.groups.Group.{Group}
 use Rattle.descriptor_table.specs.declared.summaries.Summary.{Summary}
 use Rattle.descriptor_table.specs.declared.wanted.Wanted.{Wanted}
-use Rattle.descriptor_table.specs.Leaves.{first_page, run_before}
+use Rattle.descriptor_table.specs.Leaves.{first_page, leaf_at, run_before, runs_in, AreLeaves, BeginIn}
+use Rattle.descriptor_table.specs.Tables.{IsTable}
 use Rattle.descriptor_table.specs.Wanting.{most_gain}
 
 -- the bit of a number
 abbrev pub bit_of : ℕ → ℕ → ℕ
 bit_of bits n = bit_at bits (n % 64)
 
+-- a number of a length and a type, by which few lengths and types share a bit
+abbrev pub pair_of : ℕ → ℕ → ℕ
+pair_of n t = n % 64 + 11 * t
+
 -- what a placement of a number of pages of a type gains at most
 abbrev pub most_gained : Summary → ℕ → ℕ → ℕ
 most_gained s n t =
-    if bit_of s.lengths n == 1 then 1 + bit_of s.beside t + bit_of s.between t
+    if bit_of s.lengths n == 1 then 1 + bit_of s.beside t + bit_of s.between (pair_of n t)
     else bit_of s.beside t
+
+-- any request may be met
+abbrev pub AllowsAll : Summary → Type 0
+AllowsAll s = (n t : ℕ) → n < 2 ^ 64 → (n ≤ s.longest) × (3 ≤ most_gained s n t)
 
 -- whether a free run may be of use
 abbrev pub may_hold : Summary → Wanted → Bool
@@ -47,7 +57,7 @@ pub record AllowsRun (s : Summary) (below : Option Run) (r : Run)
   pub within : (n t : ℕ) → n ≤ r.range.pages
       → (n ≤ s.longest)
       × (most_gain n r.range.pages (may_be t below) (may_be t above) ≤ most_gained s n t)
-  pub beyond : IsFreeRun above → (n t : ℕ) → n < 2 ^ 64 → (n ≤ s.longest) × (3 ≤ most_gained s n t)
+  pub beyond : IsFreeRun above → AllowsAll s
 
 -- it allows each free run of some
 abbrev pub Allows : Summary → List Run → Type 0
@@ -70,15 +80,57 @@ pub record RunGainsLittle (w : Wanted) (below : Option Run) (r : Run)
       → most_gain w.pages r.range.pages (may_be w.mtype below) (may_be w.mtype above) < w.gain
   pub beyond : IsFreeRun above → 3 < w.gain
 
--- A leaf begins at the limit or above, or none of its free runs is of use. A free run may go on in
+-- No placement gains enough in the free runs of a leaf between two indices. A free run may go on in
 -- the leaf above where a mark is set.
+abbrev pub AreRunsOfNoUse : Wanted → Bool → List Run → ℕ → ℕ → Type 0
+AreRunsOfNoUse w goes_on l low high =
+    (i : ℕ) (r : Run) → low ≤ i → i < high → slice_get l i ≡ Some r → r.mtype ≡ conventional
+    → RunGainsLittle w (run_before l i) r (slice_get l (i + 1))
+    × (i + 1 ≡ length l → goes_on ≡ false)
+
+-- a leaf begins at the limit or above, or none of its free runs is of use
 abbrev pub IsLeafOfNoUse : Wanted → Bool → List Run → Type 0
 IsLeafOfNoUse w goes_on l =
-    (w.limit ≤ first_page l)
-    ⊎ ((i : ℕ) (r : Run) → slice_get l i ≡ Some r → r.mtype ≡ conventional
-    → RunGainsLittle w (run_before l i) r (slice_get l (i + 1))
-    × (i + 1 ≡ length l → goes_on ≡ false))
+    (w.limit ≤ first_page l) ⊎ AreRunsOfNoUse w goes_on l 0 (length l)
 
--- how many runs of a leaf are looked at: all, or none if none is of use
-abbrev pub LooksAt : Wanted → Bool → List Run → ℕ → Type 0
-LooksAt w goes_on l count = (count ≡ length l) ⊎ ((count ≡ 0) × IsLeafOfNoUse w goes_on l)
+-- The answer is the last free run of the first ones of a leaf, but for some of no use; or all are of
+-- no use.
+abbrev pub IsLastOfUse : Wanted → Bool → List Run → ℕ → Option ℕ → Type 0
+IsLastOfUse w goes_on l count None = AreRunsOfNoUse w goes_on l 0 count
+IsLastOfUse w goes_on l count (Some i) =
+    (i < count) × IsFreeRun (slice_get l i) × AreRunsOfNoUse w goes_on l (i + 1) count
+
+-- ---- groups of leaves
+
+-- A summary allows each free run of the leaf at an index; any request, if a free run at its end is
+-- followed by one in the next leaf.
+pub record AllowsLeaf (s : Summary) (ls : List (List Run)) (j : ℕ) : Type 0 where
+  pub runs : Allows s (leaf_at ls j)
+  pub joins : (i : ℕ) → i + 1 ≡ length (leaf_at ls j) → IsFreeRun (slice_get (leaf_at ls j) i)
+      → IsFreeRun (slice_get (leaf_at ls (j + 1)) 0) → AllowsAll s
+
+-- each group's summary allows the eight leaves of the group, but for some between two indices
+abbrev pub AreGroupsBut : List (List Run) → List Group → ℕ → ℕ → Type 0
+AreGroupsBut ls gs low high =
+    (g : ℕ) (group : Group) → slice_get gs g ≡ Some group
+    → (j : ℕ) → 8 * g ≤ j → j < 8 * g + 8 → (j < low) ⊎ (high ≤ j)
+    → AllowsLeaf group.summary ls j
+
+-- each group's summary allows the eight leaves of the group
+abbrev pub AreGroups : List (List Run) → List Group → Type 0
+AreGroups ls gs = AreGroupsBut ls gs 0 0
+
+-- A table in leaves with all that is kept of them (`IsLeafTable`), and its groups.
+pub record IsGroupedTable (ls : List (List Run)) (count : ℕ) (ns ms : List ℕ)
+    (gs : List Group) : Type 0 where
+  pub table : IsTable (runs_in ls) count
+  pub leaves : AreLeaves ls
+  pub begun : BeginIn [] ls ns
+  pub sizes : ms ≡ map length ls
+  pub groups : AreGroups ls gs
+
+-- Leaves before an index stay as they are, and so do those from another one on if there are as many
+-- leaves as before.
+pub record KeepsLeaves (old new : List (List Run)) (low high : ℕ) : Type 0 where
+  pub before : (j : ℕ) → j < low → leaf_at new j ≡ leaf_at old j
+  pub behind : length new ≡ length old → (j : ℕ) → high ≤ j → leaf_at new j ≡ leaf_at old j

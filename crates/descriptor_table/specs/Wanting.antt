@@ -1,5 +1,5 @@
 -- What a search for room looks for in the conventional entries of a memory map.
-use Rattle.std.specs.Prelude.{◌≡◌, ◌⊎◌, ℕ, ◌+◌, ◌<◌, ◌≤◌, ◌==◌, max, List, [], ◌∷◌, ◌++◌, filter, length, map, take, Option, Some, None, if◌then◌else◌, slice_get}
+use Rattle.std.specs.Prelude.{◌≡◌, ◌⊎◌, ℕ, ◌+◌, ◌<◌, ◌≤◌, ◌==◌, max, List, ◌∷◌, ◌++◌, filter, length, map, take, Option, Some, None, if◌then◌else◌, slice_get}
 use Rattle.std.specs.List.{AllByRecursion}
 use Rattle.page_ranges.specs.declared.ranges.Descriptor.{Descriptor}
 use Rattle.page_ranges.specs.declared.ranges.Run.{Run}
@@ -67,12 +67,16 @@ pub record IsFreeEntryAt (ls : List (List Run)) (leaf index : ℕ) (f : FreeEntr
   pub entry : f.entry ≡ entry_of run
   pub is : IsFreeEntry (pages_of (runs_in ls)) f
 
--- the last conventional run of some, by its index
-abbrev pub IsLastFree : List Run → Option ℕ → Type 0
-IsLastFree rs None = entries_of rs ≡ []
-IsLastFree rs (Some i) =
-    (r : Run) × (slice_get rs i ≡ Some r) × (r.mtype ≡ conventional)
-    × (entries_of rs ≡ entries_of (take i rs) ++ entry_of r ∷ [])
+-- no conventional run of the leaves between two indices is an entry of use
+abbrev pub AreOfNoUse : Wanted → List (List Run) → ℕ → ℕ → Type 0
+AreOfNoUse w ls low high =
+    (j : ℕ) → low ≤ j → j < high
+    → AllByRecursion (IsOfNoUse (pages_of (runs_in ls)) w) (entries_of (leaf_at ls j))
+
+-- the answer is a leaf before an index, and those between are of no use; or all before it are
+abbrev pub YieldsLeaf : Wanted → List (List Run) → ℕ → Option ℕ → Type 0
+YieldsLeaf w ls high None = AreOfNoUse w ls 0 high
+YieldsLeaf w ls high (Some j) = (j < high) × AreOfNoUse w ls (j + 1) high
 
 -- The answer is the highest conventional run before a place, but for some of no use; or all are of
 -- no use.

@@ -1,5 +1,5 @@
 //! The conventional entries of a memory map from the highest down.
-ghost use Rattle.std.specs.Prelude.{◌≡◌, ◌+◌, ◌<◌, ◌≤◌, ◌==◌, [], filter, length, take, IfSome, IfNone, slice_get};
+ghost use Rattle.std.specs.Prelude.{◌≡◌, ◌+◌, ◌-◌, ◌<◌, ◌≤◌, ◌==◌, [], filter, length, take, true, false, IfSome, IfNone, slice_get};
 ghost use Rattle.std.specs.Option.{option_map};
 ghost use Rattle.page_ranges.specs.MemoryTypes.{conventional};
 ghost use Rattle.page_ranges.specs.Memory.{IsProperMemory};
@@ -7,31 +7,20 @@ ghost use Rattle.page_ranges.specs.MemoryMap.{memory_map};
 ghost use Rattle.page_ranges.specs.Runs.{pages_of, AreMaximalRuns};
 ghost use Rattle.descriptor_table.specs.FreeLists.{IsFreeEntry};
 ghost use Rattle.descriptor_table.specs.Leaves.{leaf_at, run_before, runs_in, AreLeaves};
-ghost use Rattle.descriptor_table.specs.Summaries.{BeginsFree, LooksAt};
-ghost use Rattle.descriptor_table.specs.Wanting.{IsFreeAt, IsFreeEntryAt, IsLastFree, YieldsPlace, YieldsWanted};
+ghost use Rattle.descriptor_table.specs.Summaries.{AreGroups, BeginsFree, IsLeafOfNoUse};
+ghost use Rattle.descriptor_table.specs.Wanting.{AreOfNoUse, IsFreeAt, IsFreeEntryAt, YieldsLeaf, YieldsPlace, YieldsWanted};
 
 use crate::free_entries::{FreeEntry, block_above, block_below, block_of};
+use crate::groups::{GROUP_SIZE, Group, begins_free, group_at, leaf_begins_free};
 use crate::leaves::Leaf;
+use crate::summaries::last_of_use;
 use crate::wanted::Wanted;
-use page_ranges::{MemoryType, Run};
+use page_ranges::Run;
 use std::alloc::{Allocator, Global};
 use std::marker::Model;
 
 /// No placement gains more.
 const MOST_GAIN: u64 = 3;
-
-/// The index of the last free one of some runs.
-#[inline(always)]
-fn last_free(runs: &[Run]) -> Option<usize>
-    ensures { IsLastFree runs.now result }
-{
-    for index in (0..runs.len()).rev() {
-        if runs[index].mtype == MemoryType::conventional() {
-            return Some(index);
-        }
-    }
-    None
-}
 
 /// The runs of the leaf at an index; none where there is no such leaf.
 #[inline(always)]
@@ -44,52 +33,140 @@ fn runs_of<A: Allocator + Copy>(leaves: &[Leaf<A>], leaf: usize) -> &[Run]
     leaves[leaf].runs()
 }
 
-/// Whether the leaf at an index begins with a free run.
+/// Whether the leaf above one begins with a free run.
 #[inline(always)]
-fn begins_free<A: Allocator + Copy>(leaves: &[Leaf<A>], leaf: usize) -> bool
-    ensures { BeginsFree result (leaf_at leaves.now leaf) }
+fn next_begins_free<A: Allocator + Copy>(leaves: &[Leaf<A>], leaf: usize) -> bool
+    ensures { BeginsFree result (leaf_at leaves.now (leaf + 1)) }
 {
-    leaf < leaves.len() && leaves[leaf].begins_free()
+    leaf < leaves.len() && begins_free(leaves, leaf + 1)
 }
 
-/// How many runs of a leaf are to be looked at: all, or none if none is of use. `goes_on` says whether
-/// a free run follows the leaf.
+/// Whether a leaf may be of use. `goes_on` says whether a free run follows it.
 #[inline(always)]
-fn runs_of_use<A: Allocator + Copy>(leaf: &Leaf<A>, wanted: &Wanted, goes_on: bool) -> usize
-    ensures { LooksAt wanted.now goes_on leaf.now result }
+fn may_hold<A: Allocator + Copy>(
+    leaves: &[Leaf<A>],
+    leaf: usize,
+    wanted: &Wanted,
+    goes_on: bool,
+) -> bool
+    requires { leaf < length leaves.now }
+    ensures { result ≡ false → IsLeafOfNoUse wanted.now goes_on (leaf_at leaves.now leaf) }
 {
-    if leaf.may_hold(wanted, goes_on) {
-        leaf.runs().len()
-    } else {
-        0
+    leaves[leaf].may_hold(wanted, goes_on)
+}
+
+/// Whether a group ends before a leaf, none of whose leaves is of use by what is known of the group.
+#[inline(always)]
+fn ends_group_of_no_use<A: Allocator + Copy>(
+    leaves: &[Leaf<A>],
+    groups: &[Group],
+    leaf: usize,
+    wanted: &Wanted,
+) -> bool
+    requires leaves { AreLeaves leaves.now }
+    requires maximal { AreMaximalRuns (runs_in leaves.now) }
+    requires proper { IsProperMemory (pages_of (runs_in leaves.now)) }
+    requires groups { AreGroups leaves.now groups.now }
+    requires leaf { (0 < leaf) × (leaf ≤ length leaves.now) }
+    requires gain { wanted.now.gain ≤ 3 }
+    ensures { result ≡ true → (8 ≤ leaf) × AreOfNoUse wanted.now leaves.now (leaf - 8) leaf }
+{
+    if leaf % GROUP_SIZE != 0 {
+        return false;
     }
+    let Some(group) = group_at(groups, leaf / GROUP_SIZE - 1) else {
+        return false;
+    };
+    if group.may_hold(wanted) {
+        return leaves[leaf - GROUP_SIZE].first() >= wanted.limit;
+    }
+    true
+}
+
+/// Leaves before an index are of no use from the index on that is returned; the same one, if the leaf
+/// before it may be of use. `goes_on` says whether the leaf at the index begins with a free run.
+#[inline(always)]
+fn of_no_use_from<A: Allocator + Copy>(
+    leaves: &[Leaf<A>],
+    groups: &[Group],
+    leaf: usize,
+    wanted: &Wanted,
+    goes_on: bool,
+) -> usize
+    requires leaves { AreLeaves leaves.now }
+    requires maximal { AreMaximalRuns (runs_in leaves.now) }
+    requires proper { IsProperMemory (pages_of (runs_in leaves.now)) }
+    requires groups { AreGroups leaves.now groups.now }
+    requires leaf { (0 < leaf) × (leaf ≤ length leaves.now) }
+    requires begins { BeginsFree goes_on (leaf_at leaves.now leaf) }
+    requires gain { wanted.now.gain ≤ 3 }
+    ensures bound { result ≤ leaf }
+    ensures none { AreOfNoUse wanted.now leaves.now result leaf }
+{
+    if ends_group_of_no_use(leaves, groups, leaf, wanted) {
+        return leaf - GROUP_SIZE;
+    }
+    if may_hold(leaves, leaf - 1, wanted, goes_on) {
+        return leaf;
+    }
+    leaf - 1
+}
+
+/// The highest leaf before an index that may be of use; `None` where none is.
+#[inline(always)]
+fn leaf_of_use<A: Allocator + Copy>(
+    leaves: &[Leaf<A>],
+    groups: &[Group],
+    high: usize,
+    wanted: &Wanted,
+) -> Option<usize>
+    requires leaves { AreLeaves leaves.now }
+    requires maximal { AreMaximalRuns (runs_in leaves.now) }
+    requires proper { IsProperMemory (pages_of (runs_in leaves.now)) }
+    requires groups { AreGroups leaves.now groups.now }
+    requires high { high ≤ length leaves.now }
+    requires gain { wanted.now.gain ≤ 3 }
+    ensures { YieldsLeaf wanted.now leaves.now high result }
+{
+    let mut leaf = high;
+    let mut goes_on = begins_free(leaves, leaf);
+    while leaf > 0 {
+        let low = of_no_use_from(leaves, groups, leaf, wanted, goes_on);
+        if low == leaf {
+            return Some(leaf - 1);
+        }
+        leaf = low;
+        goes_on = leaf_begins_free(leaves, leaf);
+    }
+    None
 }
 
 /// The highest free run that may be of use, by its leaf and its index there, of the runs of some leaves
 /// and the first runs of the next one; `None` where none is of use.
 fn next_place<A: Allocator + Copy>(
     leaves: &[Leaf<A>],
+    groups: &[Group],
     from: (usize, usize),
     wanted: &Wanted,
 ) -> Option<(usize, usize)>
     requires leaves { AreLeaves leaves.now }
     requires maximal { AreMaximalRuns (runs_in leaves.now) }
     requires proper { IsProperMemory (pages_of (runs_in leaves.now)) }
+    requires groups { AreGroups leaves.now groups.now }
     requires leaf { from.0 ≤ length leaves.now }
     requires count { from.1 ≤ length (leaf_at leaves.now from.0) }
+    requires gain { wanted.now.gain ≤ 3 }
     ensures { YieldsPlace wanted.now leaves.now from.0 from.1 result }
 {
     let (mut leaf, mut count) = from;
     loop {
-        if let Some(index) = last_free(&runs_of(leaves, leaf)[..count]) {
+        let runs = runs_of(leaves, leaf);
+        let goes_on = next_begins_free(leaves, leaf);
+        if let Some(index) = last_of_use(runs, count, wanted, goes_on) {
             return Some((leaf, index));
         }
-        if leaf == 0 {
-            return None;
-        }
-        let goes_on = begins_free(leaves, leaf);
-        leaf -= 1;
-        count = runs_of_use(&leaves[leaf], wanted, goes_on);
+        leaf = leaf_of_use(leaves, groups, leaf, wanted)?;
+        count = leaves[leaf].runs().len();
     }
 }
 
@@ -157,6 +234,7 @@ fn entry_at<A: Allocator + Copy>(leaves: &[Leaf<A>], leaf: usize, index: usize) 
 #[derive(Drop)]
 pub struct EntriesDown<'a, A: Allocator = Global> {
     leaves: &'a [Leaf<A>],
+    groups: &'a [Group],
     // The leaves before this one are still to come, and that many runs of it.
     leaf: usize,
     count: usize,
@@ -168,6 +246,7 @@ impl<'a, A: Allocator> Model for EntriesDown<'a, A> {
     ghost use Rattle.page_ranges.specs.Runs.{pages_of, AreMaximalRuns};
     ghost use Rattle.descriptor_table.specs.FreeLists.{FreeList};
     ghost use Rattle.descriptor_table.specs.Leaves.{leaf_at, runs_in, AreLeaves};
+    ghost use Rattle.descriptor_table.specs.Summaries.{AreGroups};
     ghost use Rattle.descriptor_table.specs.Wanting.{entries_of, runs_to};
 
     ghost Value = { FreeList };
@@ -181,20 +260,22 @@ impl<'a, A: Allocator> Model for EntriesDown<'a, A> {
 
     ghost invariant = { λ e. AreLeaves e.leaves.now × AreMaximalRuns (runs_in e.leaves.now)
         × IsProperMemory (pages_of (runs_in e.leaves.now)) × (e.leaf ≤ length e.leaves.now)
-        × (e.count ≤ length (leaf_at e.leaves.now e.leaf)) };
+        × (e.count ≤ length (leaf_at e.leaves.now e.leaf)) × AreGroups e.leaves.now e.groups.now };
 }
 
 impl<'a, A: Allocator + Copy> EntriesDown<'a, A> {
-    pub(crate) fn new(leaves: &'a [Leaf<A>]) -> EntriesDown<'a, A>
+    pub(crate) fn new(leaves: &'a [Leaf<A>], groups: &'a [Group]) -> EntriesDown<'a, A>
         requires leaves { AreLeaves leaves.now }
         requires maximal { AreMaximalRuns (runs_in leaves.now) }
         requires proper { IsProperMemory (pages_of (runs_in leaves.now)) }
+        requires groups { AreGroups leaves.now groups.now }
         ensures memory { result.memory ≡ pages_of (runs_in leaves.now) }
         ensures entries { result.entries ≡ filter (λ e. e.mtype == conventional)
             (memory_map (pages_of (runs_in leaves.now))) }
     {
         EntriesDown {
             leaves,
+            groups,
             leaf: leaves.len(),
             count: 0,
         }
@@ -208,7 +289,7 @@ impl<'a, A: Allocator + Copy> EntriesDown<'a, A> {
         if wanted.gain > MOST_GAIN {
             return None;
         }
-        let (leaf, index) = next_place(self.leaves, (self.leaf, self.count), wanted)?;
+        let (leaf, index) = next_place(self.leaves, self.groups, (self.leaf, self.count), wanted)?;
         self.leaf = leaf;
         self.count = index;
         Some(entry_at(self.leaves, leaf, index))

@@ -1,7 +1,7 @@
 //! Runs in leaves.
-ghost use Rattle.std.specs.Prelude.{◌≡◌, ◌+◌, ◌-◌, ◌<◌, ◌≤◌, ◌++◌, length, map, take, drop, false, IfOk, OnOk, OnErr};
+ghost use Rattle.std.specs.Prelude.{◌≡◌, ℕ, ◌+◌, ◌-◌, ◌<◌, ◌≤◌, ◌++◌, length, map, take, drop, true, false, IfOk, OnOk, OnErr, slice_get};
 ghost use Rattle.descriptor_table.specs.Leaves.{first_page, runs_in, AreLeaves};
-ghost use Rattle.descriptor_table.specs.Summaries.{BeginsFree, EndsFree, IsLeafOfNoUse};
+ghost use Rattle.descriptor_table.specs.Summaries.{Allows, AllowsAll, BeginsFree, EndsFree, IsFreeRun, IsLeafOfNoUse};
 
 use crate::run_arrays::replace_runs;
 use crate::summaries::{Summary, begins_free, ends_free, summary_of};
@@ -97,6 +97,19 @@ impl<A: Allocator + Copy> Leaf<A> {
         ensures { BeginsFree result self.now }
     {
         self.begins_free
+    }
+
+    /// What the free runs may be; all that may be, if the last run is free and a free run follows the leaf.
+    #[inline(always)]
+    pub(crate) fn summary(&self, goes_on: bool) -> Summary
+        ensures runs { Allows result self.now }
+        ensures joins { goes_on ≡ true → (i : ℕ) → i + 1 ≡ length self.now
+            → IsFreeRun (slice_get self.now i) → AllowsAll result }
+    {
+        if goes_on && self.ends_free {
+            return self.summary.joined(Summary::all());
+        }
+        self.summary
     }
 
     /// Whether a free run may be of use. `goes_on` says whether a free run follows the leaf.

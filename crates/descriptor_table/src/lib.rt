@@ -7,6 +7,7 @@ mod cuts;
 mod entries;
 mod entries_down;
 mod free_entries;
+mod groups;
 mod leaf_searches;
 mod leaves;
 mod retyping;

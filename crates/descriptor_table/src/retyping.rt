@@ -6,6 +6,7 @@ ghost use Rattle.page_ranges.specs.MemoryTypes.{conventional, page_count};
 ghost use Rattle.page_ranges.specs.Memory.{IsPresent, AllInRange, retyped};
 ghost use Rattle.page_ranges.specs.Runs.{pages_of, AreRuns};
 ghost use Rattle.descriptor_table.specs.Leaves.{leaf_at, runs_in, AreLeaves, AreLeavesNear, BeginIn, GrowsBy, IsLeafTable};
+ghost use Rattle.descriptor_table.specs.Summaries.{KeepsLeaves};
 ghost use Rattle.descriptor_table.specs.Tables.{EndBy, IsWindow};
 
 use crate::beginnings::{begun_in, runs_before};
@@ -63,7 +64,7 @@ fn with_neighbour<A: Allocator + Copy>(
 }
 
 /// The indices between which leaves have all runs that share a page with a range or touch it.
-fn leaves_near<A: Allocator + Copy>(
+pub(crate) fn leaves_near<A: Allocator + Copy>(
     leaves: &[Leaf<A>],
     sizes: &Tally<A>,
     range: PageRange,
@@ -121,6 +122,7 @@ fn put_in_new_leaves<A: Allocator + Copy>(
         ++ runs_in (drop near.1 leaves.old.items))) }
     ensures begun { IfOk result (λ _. BeginIn [] leaves.new.items begun.new) }
     ensures sizes { IfOk result (λ _. sizes.new ≡ map length leaves.new.items) }
+    ensures kept { IfOk result (λ _. KeepsLeaves leaves.old.items leaves.new.items near.0 near.1) }
     ensures err { OnErr result ((leaves.new.items ≡ leaves.old.items) × (begun.new ≡ begun.old)
         × (sizes.new ≡ sizes.old)) }
 {
@@ -181,6 +183,7 @@ fn put_in_leaf<A: Allocator + Copy>(
         ++ runs_in (drop (index + 1) leaves.old.items)) }
     ensures begun { BeginIn [] leaves.new.items begun.new }
     ensures sizes { sizes.new ≡ map length leaves.new.items }
+    ensures kept { KeepsLeaves leaves.old.items leaves.new.items index (index + 1) }
 {
     let (low, high) = window;
     let count = leaves[index].runs().len() - (high - low) + parts.len();
@@ -211,6 +214,8 @@ fn retype_in_leaf<A: Allocator + Copy>(
     ensures pages { OnSome result
         (pages_of (runs_in leaves.new.items) ≡ retyped range mtype owner
         (pages_of (runs_in leaves.old.items))) }
+    ensures kept { OnSome result
+        (KeepsLeaves leaves.old.items leaves.new.items index (index + 1)) }
     ensures none { IfNone result ((leaves.new.items ≡ leaves.old.items) × (begun.new ≡ begun.old)
         × (sizes.new ≡ sizes.old)) }
 {
@@ -261,6 +266,7 @@ fn retype_in_new_leaves<A: Allocator + Copy>(
     ensures pages { IfOk result
         (λ n. pages_of (runs_in leaves.new.items) ≡ retyped range mtype owner
         (pages_of (runs_in leaves.old.items))) }
+    ensures kept { IfOk result (λ _. KeepsLeaves leaves.old.items leaves.new.items near.0 near.1) }
     ensures err { OnErr result ((leaves.new.items ≡ leaves.old.items) × (begun.new ≡ begun.old)
         × (sizes.new ≡ sizes.old)) }
 {
@@ -286,17 +292,19 @@ fn retype_in_new_leaves<A: Allocator + Copy>(
 }
 
 /// Gives the pages of a range a type and an owner, and returns how many entries the map then has: in
-/// the leaf of the range where that has room, and else in new leaves.
+/// the leaf that has all runs near the range where that has room, and else in new leaves.
 pub(crate) fn retype_runs<A: Allocator + Copy>(
     leaves: &mut Vec<Leaf<A>, A>,
     begun: &mut Tally<A>,
     sizes: &mut Tally<A>,
     entries: usize,
+    near: (usize, usize),
     range: PageRange,
     mtype: MemoryType,
     owner: Owner,
 ) -> Result<usize, AllocError>
     requires table { IsLeafTable leaves.old.items entries begun.old sizes.old }
+    requires near { AreLeavesNear leaves.old.items range near.0 near.1 }
     requires some { 0 < range.pages }
     requires present { AllInRange (pages_of (runs_in leaves.old.items)) range IsPresent }
     requires owner { mtype ≡ conventional → owner ≡ Given }
@@ -304,10 +312,10 @@ pub(crate) fn retype_runs<A: Allocator + Copy>(
     ensures pages { IfOk result
         (λ n. pages_of (runs_in leaves.new.items) ≡ retyped range mtype owner
         (pages_of (runs_in leaves.old.items))) }
+    ensures kept { IfOk result (λ _. KeepsLeaves leaves.old.items leaves.new.items near.0 near.1) }
     ensures err { OnErr result ((leaves.new.items ≡ leaves.old.items) × (begun.new ≡ begun.old)
         × (sizes.new ≡ sizes.old)) }
 {
-    let near = leaves_near(leaves.as_slice(), sizes, range);
     if near.1 - near.0 == 1 {
         let changed = retype_in_leaf(leaves, begun, sizes, entries, near.0, range, mtype, owner);
         if let Some(entries) = changed {

@@ -1,9 +1,9 @@
 //! What the free runs among some runs may be, in a few numbers.
-ghost use Rattle.std.specs.Prelude.{◌≡◌, ◌↔◌, ℕ, ◌+◌, ◌%◌, ◌<◌, ◌≤◌, ◌^◌, length, IsTrue, slice_get};
+ghost use Rattle.std.specs.Prelude.{◌≡◌, ◌↔◌, ℕ, ◌+◌, ◌%◌, ◌<◌, ◌≤◌, ◌^◌, length, true, false, IsTrue, slice_get};
 ghost use Rattle.std.specs.Option.{option_map};
 ghost use Rattle.page_ranges.specs.MemoryTypes.{conventional};
 ghost use Rattle.descriptor_table.specs.Leaves.{run_before};
-ghost use Rattle.descriptor_table.specs.Summaries.{Allows, AllowsRun, BeginsFree, EndsFree, IsFreeRun, bit_of, joined, may_be, may_hold, most_gained};
+ghost use Rattle.descriptor_table.specs.Summaries.{Allows, AllowsAll, AllowsRun, AreRunsOfNoUse, BeginsFree, EndsFree, IsFreeRun, IsLastOfUse, RunGainsLittle, bit_of, joined, may_be, may_hold, pair_of};
 
 use crate::wanted::Wanted;
 use page_ranges::{MemoryType, Run};
@@ -20,7 +20,7 @@ pub(crate) struct Summary {
     lengths: u64,
     // Bit t % 64 is set if one has a neighbour of the type t.
     beside: u64,
-    // The same of neighbours of one type on both sides.
+    // The bit of n pages and the type t is set if one has n pages and is between two of that type.
     between: u64,
 }
 
@@ -41,6 +41,14 @@ fn bit_of(bits: u64, number: u64) -> u64
     bits >> (number % 64) & 1
 }
 
+/// A number of a length and a type, by which few lengths and types share a bit.
+#[inline(always)]
+fn pair_of(pages: u64, mtype: MemoryType) -> u64
+    ensures { result ≡ pair_of pages mtype }
+{
+    pages % 64 + 11 * u64::from(mtype.number())
+}
+
 /// The bit of a run's type; all bits where the run is not known.
 #[inline(always)]
 fn type_bits(run: Option<&Run>) -> u64
@@ -49,6 +57,29 @@ fn type_bits(run: Option<&Run>) -> u64
     match run {
         Some(run) => with_bit(u64::from(run.mtype.number())),
         None => ALL_BITS,
+    }
+}
+
+/// The bit of a length and a run's type; all bits where the run is not known.
+#[inline(always)]
+fn pair_bits(pages: u64, run: Option<&Run>) -> u64
+    ensures { (t : ℕ) → may_be t (option_map (λ r. r.now) run.entry)
+        ≤ bit_of result (pair_of pages t) }
+{
+    match run {
+        Some(run) => with_bit(pair_of(pages, run.mtype)),
+        None => ALL_BITS,
+    }
+}
+
+/// 1 where a run is of a type, or is not known.
+#[inline(always)]
+fn may_be(mtype: MemoryType, run: Option<&Run>) -> u64
+    ensures { result ≡ may_be mtype (option_map (λ r. r.now) run.entry) }
+{
+    match run {
+        Some(run) => u64::from(run.mtype == mtype),
+        None => 1,
     }
 }
 
@@ -65,7 +96,7 @@ fn is_free(run: Option<&Run>) -> bool
 
 impl Summary {
     /// The summary of no free run.
-    fn none() -> Summary {
+    pub(crate) fn none() -> Summary {
         Summary {
             longest: 0,
             lengths: 0,
@@ -75,8 +106,8 @@ impl Summary {
     }
 
     /// The summary of all that may be.
-    fn all() -> Summary
-        ensures { (n t : ℕ) → n < 2 ^ 64 → (n ≤ result.longest) × (3 ≤ most_gained result n t) }
+    pub(crate) fn all() -> Summary
+        ensures { AllowsAll result }
     {
         Summary {
             longest: ALL_BITS,
@@ -86,29 +117,26 @@ impl Summary {
         }
     }
 
-    /// The summary of a free run between two others, which may not be known.
+    /// The summary of a free run between two others, which may not be known. Where the one above is free
+    /// too, a placement may go on there, and all may be.
     #[inline(always)]
     fn of_free(below: Option<&Run>, run: &Run, above: Option<&Run>) -> Summary
         ensures { AllowsRun result (option_map (λ r. r.now) below.entry) run.now
             (option_map (λ r. r.now) above.entry) }
     {
         let pages = run.range.pages;
-        if is_free(above) {
-            return Summary::all();
-        }
-        let low = type_bits(below);
-        let high = type_bits(above);
+        let all = if is_free(above) { ALL_BITS } else { 0 };
         Summary {
-            longest: pages,
-            lengths: with_bit(pages),
-            beside: low | high,
-            between: low & high,
+            longest: pages.max(all),
+            lengths: with_bit(pages) | all,
+            beside: type_bits(below) | type_bits(above) | all,
+            between: (pair_bits(pages, below) & pair_bits(pages, above)) | all,
         }
     }
 
     /// The summary of what two allow.
     #[inline(always)]
-    fn joined(self, other: Summary) -> Summary
+    pub(crate) fn joined(self, other: Summary) -> Summary
         ensures { result ≡ joined self other }
     {
         Summary {
@@ -128,15 +156,36 @@ impl Summary {
         if self.longest < wanted.pages {
             return false;
         }
-        let mtype = u64::from(wanted.mtype.number());
-        let beside = bit_of(self.beside, mtype);
+        let beside = bit_of(self.beside, u64::from(wanted.mtype.number()));
         let most = if bit_of(self.lengths, wanted.pages) == 1 {
-            1 + beside + bit_of(self.between, mtype)
+            1 + beside + bit_of(self.between, pair_of(wanted.pages, wanted.mtype))
         } else {
             beside
         };
         wanted.gain <= most
     }
+}
+
+/// Whether a placement in a free run between two others may gain enough.
+#[inline(always)]
+fn may_gain(wanted: &Wanted, below: Option<&Run>, run: &Run, above: Option<&Run>) -> bool
+    ensures { result ≡ false → RunGainsLittle wanted.now (option_map (λ r. r.now) below.entry)
+        run.now (option_map (λ r. r.now) above.entry) }
+{
+    if is_free(above) {
+        return true;
+    }
+    if run.range.pages < wanted.pages {
+        return false;
+    }
+    let low = may_be(wanted.mtype, below);
+    let high = may_be(wanted.mtype, above);
+    let most = if run.range.pages == wanted.pages {
+        1 + low + high
+    } else {
+        low.max(high)
+    };
+    wanted.gain <= most
 }
 
 /// The run below the one at an index.
@@ -190,4 +239,43 @@ pub(crate) fn summary_of(runs: &[Run]) -> Summary
         }
     }
     summary
+}
+
+/// Whether the run at an index of a leaf is free and may be of use. `goes_on` says whether a free run
+/// follows the leaf.
+#[inline(always)]
+fn is_of_use(runs: &[Run], index: usize, wanted: &Wanted, goes_on: bool) -> bool
+    requires { index < length runs.now }
+    ensures free { result ≡ true → IsFreeRun (slice_get runs.now index) }
+    ensures none { result ≡ false
+        → AreRunsOfNoUse wanted.now goes_on runs.now index (index + 1) }
+{
+    let run = &runs[index];
+    if run.mtype != MemoryType::conventional() {
+        return false;
+    }
+    if goes_on && index + 1 == runs.len() {
+        return true;
+    }
+    may_gain(wanted, run_below(runs, index), run, run_above(runs, index))
+}
+
+/// The last free run that may be of use among the first runs of a leaf. `goes_on` says whether a free run
+/// follows the leaf.
+#[inline(always)]
+pub(crate) fn last_of_use(
+    runs: &[Run],
+    count: usize,
+    wanted: &Wanted,
+    goes_on: bool,
+) -> Option<usize>
+    requires { count ≤ length runs.now }
+    ensures { IsLastOfUse wanted.now goes_on runs.now count result }
+{
+    for index in (0..count).rev() {
+        if is_of_use(runs, index, wanted, goes_on) {
+            return Some(index);
+        }
+    }
+    None
 }

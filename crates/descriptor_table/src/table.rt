@@ -14,9 +14,10 @@ use crate::cuts::RunList;
 use crate::entries::{MapEntries, count_entries};
 use crate::entries_down::EntriesDown;
 use crate::free_entries::FreeEntries;
+use crate::groups::{Group, make_groups, renew_groups};
 use crate::leaf_searches::{all_in_range, run_at_index, run_in_leaves};
 use crate::leaves::{Leaf, leaves_of, sizes_of};
-use crate::retyping::retype_runs;
+use crate::retyping::{leaves_near, retype_runs};
 use crate::searches::PageTest;
 use crate::tallies::Tally;
 use page_ranges::{Descriptor, MemoryType, Owner, PageRange, Run};
@@ -33,19 +34,23 @@ pub struct RunTable<A: Allocator = Global> {
     entries: usize,
     // How many runs each leaf has.
     sizes: Tally<A>,
+    // What the free runs of groups of leaves may be.
+    groups: Vec<Group, A>,
 }
 
 impl<A: Allocator> Model for RunTable<A> {
     ghost use Rattle.std.specs.Prelude.{List};
     ghost use Rattle.page_ranges.specs.Memory.{Page};
     ghost use Rattle.page_ranges.specs.Runs.{pages_of};
-    ghost use Rattle.descriptor_table.specs.Leaves.{runs_in, IsLeafTable};
+    ghost use Rattle.descriptor_table.specs.Leaves.{runs_in};
+    ghost use Rattle.descriptor_table.specs.Summaries.{IsGroupedTable};
 
     ghost Value = { List Page };
 
     ghost view = { λ t. pages_of (runs_in t.leaves.items) };
 
-    ghost invariant = { λ t. IsLeafTable t.leaves.items t.entries t.begun t.sizes };
+    ghost invariant = { λ t. IsGroupedTable t.leaves.items t.entries t.begun t.sizes
+        t.groups.items };
 }
 
 impl<A: Allocator + Copy> RunTable<A> {
@@ -63,11 +68,14 @@ impl<A: Allocator + Copy> RunTable<A> {
         let leaves = leaves_of(alloc, joined.as_slice())?;
         let begun = Tally::new(alloc, begun_in(alloc, &[], leaves.as_slice())?)?;
         let sizes = Tally::new(alloc, sizes_of(alloc, leaves.as_slice())?)?;
+        let mut groups = Vec::new(alloc);
+        make_groups(leaves.as_slice(), &mut groups);
         Ok(RunTable {
             leaves,
             begun,
             entries,
             sizes,
+            groups,
         })
     }
 
@@ -89,17 +97,22 @@ impl<A: Allocator + Copy> RunTable<A> {
         ensures ok { OnOk result (self.new ≡ retyped range mtype owner self.old) }
         ensures err { OnErr result (self.new ≡ self.old) }
     {
-        if range.pages > 0 {
-            self.entries = retype_runs(
-                &mut self.leaves,
-                &mut self.begun,
-                &mut self.sizes,
-                self.entries,
-                range,
-                mtype,
-                owner,
-            )?;
+        if range.pages == 0 {
+            return Ok(());
         }
+        let count = self.leaves.len();
+        let near = leaves_near(self.leaves.as_slice(), &self.sizes, range);
+        self.entries = retype_runs(
+            &mut self.leaves,
+            &mut self.begun,
+            &mut self.sizes,
+            self.entries,
+            near,
+            range,
+            mtype,
+            owner,
+        )?;
+        renew_groups(self.leaves.as_slice(), &mut self.groups, count, near);
         Ok(())
     }
 
@@ -207,6 +220,6 @@ impl<A: Allocator + Copy> RunTable<A> {
         ensures entries { result.entries ≡ filter (λ e. e.mtype == conventional)
             (memory_map self.now) }
     {
-        EntriesDown::new(self.leaves.as_slice())
+        EntriesDown::new(self.leaves.as_slice(), self.groups.as_slice())
     }
 }

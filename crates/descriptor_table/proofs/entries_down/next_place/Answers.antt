@@ -1,7 +1,9 @@
-use Rattle.std.proofs.Common.{◌-◌, take, ap, sym, ◌∙◌, arith}
+use Rattle.std.proofs.Common.{◌≡◌, ◌-◌, ◌+◌, ◌<◌, [], length, subst, sym, ap, ◌∙◌, arith}
+use Rattle.std.proofs.lemmas.List.{get_or_default}
 use Rattle.descriptor_table.specs.Leaves.{leaf_at}
+use Rattle.descriptor_table.specs.Summaries.{IsLastOfUse}
 use Rattle.descriptor_table.specs.Wanting.{entries_of, runs_to}
-use Rattle.descriptor_table.proofs.Downward.{all_passed, found_in, leaf_passed, looks_bound, looks_in, none_passed}
+use Rattle.descriptor_table.proofs.Downward.{HasPassed, all_passed, found_in, leaf_opened, leaves_passed, none_passed, runs_passed}
 use Rattle.descriptor_table.proofs.entries_down.next_place.Goals as goal
 
 pub loop-index-init : goal.loop-index-init
@@ -10,26 +12,45 @@ loop-index-init g c = record { leaf = c.requires.leaf; count = c.requires.count;
 pub returns-in-Some : goal.returns-in-Some
 returns-in-Some g c =
     let ls = c.args.leaves.now in
-    found_in c.args.wanted.now ls (entries_of (runs_to ls c.args.from.0 c.args.from.1)) c.loop-index.leaf c.loop-index.count c.loop-index.invariant.passed c.runs_of.result.now c.in-Some.index c.runs_of.ensures (rw c.in-Some.is at c.last_free.ensures)
+    let w = c.args.wanted.now in
+    let all = entries_of (runs_to ls c.args.from.0 c.args.from.1) in
+    let leaf = c.loop-index.leaf in
+    let count = c.loop-index.count in
+    let goes_on = c.next_begins_free-goes_on.result in
+    let last = subst (λ l. IsLastOfUse w goes_on l count c.last_of_use.result) c.runs_of-runs.ensures c.last_of_use.ensures in
+    let found = rw c.in-Some.is at last in
+    found_in w ls c.requires.leaves c.requires.maximal c.requires.proper all leaf c.in-Some.index
+    (runs_passed w ls c.requires.leaves c.requires.maximal c.requires.proper all leaf count (c.in-Some.index + 1) goes_on c.loop-index.invariant.passed c.next_begins_free-goes_on.ensures (omega (arith, found.0)) found.2) found.1
 
-pub returns-then-leaf-eq0 : goal.returns-then-leaf-eq0
-returns-then-leaf-eq0 g c =
+pub returns-in_err-leaf : goal.returns-in_err-leaf
+returns-in_err-leaf g c =
     let ls = c.args.leaves.now in
-    all_passed c.args.wanted.now ls (entries_of (runs_to ls c.args.from.0 c.args.from.1)) c.loop-index.leaf c.loop-index.count c.loop-index.invariant.passed c.if-leaf-eq0.true
-    (ap (λ l. entries_of (take c.loop-index.count l)) (sym c.runs_of.ensures) ∙ rw c.in_default.is at c.last_free.ensures)
+    let w = c.args.wanted.now in
+    let all = entries_of (runs_to ls c.args.from.0 c.args.from.1) in
+    let leaf = c.loop-index.leaf in
+    let goes_on = c.next_begins_free-goes_on.result in
+    let last = subst (λ l. IsLastOfUse w goes_on l c.loop-index.count c.last_of_use.result) c.runs_of-runs.ensures c.last_of_use.ensures in
+    let none = rw c.in_default.is at last in
+    let emptied = runs_passed w ls c.requires.leaves c.requires.maximal c.requires.proper all leaf c.loop-index.count 0 goes_on c.loop-index.invariant.passed c.next_begins_free-goes_on.ensures (omega arith) none in
+    rw c.from_residual.ensures (all_passed w ls all (leaves_passed w ls all leaf 0 leaf (omega arith) c.loop-index.invariant.leaf emptied c.in_err-leaf.ensures))
 
 pub loop-index-preserved : goal.loop-index-preserved
 loop-index-preserved g c =
     let ls = c.args.leaves.now in
     let w = c.args.wanted.now in
+    let all = entries_of (runs_to ls c.args.from.0 c.args.from.1) in
     let leaf = c.loop-index.leaf in
-    let goes_on = c.begins_free-goes_on.result in
-    let count = c.runs_of_use-count.result in
-    let bound = c.loop-index.invariant.leaf in
-    let looks = looks_in w goes_on ls (leaf - 1) count c.index-leaves-leaf.result (omega (arith, bound)) c.index-leaves-leaf.is c.runs_of_use-count.ensures in
+    let j = c.in_ok-leaf.leaf in
+    let next = c.in_ok-leaf.ensures in
+    let h : j < length ls = omega (arith, next.0, c.loop-index.invariant.leaf) in
+    let goes_on = c.next_begins_free-goes_on.result in
+    let last = subst (λ l. IsLastOfUse w goes_on l c.loop-index.count c.last_of_use.result) c.runs_of-runs.ensures c.last_of_use.ensures in
+    let none = rw c.in_default.is at last in
+    let emptied = runs_passed w ls c.requires.leaves c.requires.maximal c.requires.proper all leaf c.loop-index.count 0 goes_on c.loop-index.invariant.passed c.next_begins_free-goes_on.ensures (omega arith) none in
+    let l = c.index-leaves-leaf.result in
+    let same : c.runs-count.result.now ≡ leaf_at ls j = c.runs-count.ensures ∙ c.index-leaves-leaf.is ∙ get_or_default ls j l [] h in
     record {
-      leaf = omega (arith, bound);
-      count = looks_bound w goes_on (leaf_at ls (leaf - 1)) count looks;
-      passed = leaf_passed w ls (entries_of (runs_to ls c.args.from.0 c.args.from.1)) leaf c.loop-index.count c.loop-index.invariant.passed (leaf - 1) count goes_on c.requires.leaves c.requires.maximal c.requires.proper bound (omega arith)
-          (ap (λ l. entries_of (take c.loop-index.count l)) (sym c.runs_of.ensures) ∙ rw c.in_default.is at c.last_free.ensures) c.begins_free-goes_on.ensures looks;
+      leaf = omega (arith, h);
+      count = omega (arith, ap length same);
+      passed = subst (λ n. HasPassed w ls all j n) (ap length (sym same)) (leaf_opened w ls all j h (leaves_passed w ls all (leaf - (j + 1)) (j + 1) leaf (omega (arith, next.0)) c.loop-index.invariant.leaf emptied next.1));
     }

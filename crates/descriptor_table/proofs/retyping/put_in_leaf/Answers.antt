@@ -6,6 +6,7 @@ use Rattle.descriptor_table.specs.Leaves.{leaf_at, runs_in}
 use Rattle.descriptor_table.proofs.LeafSplices.{set_runs, replaced_length}
 use Rattle.descriptor_table.proofs.LeafSizes.{size_set, size_set_within}
 use Rattle.descriptor_table.proofs.Begun.{begin_length, leaf_no_fewer, leaf_small, set_within, begin_set}
+use Rattle.descriptor_table.proofs.Grouped.{set_keeps}
 use Rattle.descriptor_table.proofs.retyping.put_in_leaf.Goals as goal
 
 pub returns-clause-runs : goal.returns-clause-runs
@@ -112,3 +113,6 @@ returns-clause-sizes g c =
     let count = length c.runs.result.now - (high - low) + length parts in
     let size : count ≡ length part = omega (arith, ap length was, c.requires.window.0, c.requires.window.1, replaced_length rs parts low high c.requires.window.0 c.requires.window.1) in
     c.set.ensures ∙ ap (λ ns. set ns i count) c.requires.sizes ∙ size_set ls i (i + 1) count c.replace.new.self (omega (arith, size, ap length now)) (omega arith) (omega arith)
+
+pub returns-clause-kept : goal.returns-clause-kept
+returns-clause-kept g c = set_keeps c.args.leaves.now.items c.args.index c.replace.new.self

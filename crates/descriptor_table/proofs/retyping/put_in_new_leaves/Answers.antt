@@ -11,6 +11,7 @@ use Rattle.descriptor_table.proofs.LeafLists.{runs_in-append}
 use Rattle.descriptor_table.proofs.LeafSplices.{leaves_put, put_in}
 use Rattle.descriptor_table.proofs.LeafSizes.{sizes_put, sizes_put_within}
 use Rattle.descriptor_table.proofs.Begun.{begin_length, last_and_part, put_begun, put_within}
+use Rattle.descriptor_table.proofs.Grouped.{put_keeps}
 use Rattle.descriptor_table.proofs.retyping.put_in_new_leaves.Goals as goal
 
 pub returns-clause-leaves : goal.returns-clause-leaves
@@ -148,3 +149,12 @@ returns-clause-sizes g c =
     let drained = items_from_drains done.1 (done.3.1.0, done.3.1.1, λ _. (done.3.0, done.3.1.2)) (YieldsList-from_vec fresh done.2.0 (done.2.1 ∙ c.in_ok-new_leaves.new_leaves.ok.0)) in
     let put = put_in c.splice-2.new.self.items (take from ls) (drop to ls) done.1 fresh done.4 drained in
     rw (put, c.in_ok-new_sizes.ensures, numbers, c.requires.sizes) (sizes_put ls fresh from to)
+
+pub returns-clause-kept : goal.returns-clause-kept
+returns-clause-kept g c =
+    let ls = c.args.leaves.now.items in
+    let fresh = c.in_ok-new_leaves.new_leaves.items in
+    let done = c.in_ok-_given_up.ensures.items in
+    let drained = items_from_drains done.1 (done.3.1.0, done.3.1.1, λ _. (done.3.0, done.3.1.2)) (YieldsList-from_vec fresh done.2.0 (done.2.1 ∙ c.in_ok-new_leaves.new_leaves.ok.0)) in
+    let put = put_in c.splice-2.new.self.items (take c.args.near.0 ls) (drop c.args.near.1 ls) done.1 fresh done.4 drained in
+    put_keeps ls fresh c.splice-2.new.self.items c.args.near.0 c.args.near.1 c.requires.some.0 c.requires.some.1 put

@@ -1,5 +1,6 @@
 use Rattle.std.proofs.Common.{arith}
 use Rattle.descriptor_table.specs.declared.summaries.Summary.{Summary}
+use Rattle.descriptor_table.specs.Summaries.{pair_of}
 use Rattle.descriptor_table.proofs.FreeBounds.{all_bits, gained_all}
 use Rattle.descriptor_table.proofs.summaries.Summary.all.Goals as goal
 
@@ -12,4 +13,4 @@ all = record {
 }
 
 pub returns : goal.returns
-returns c = λ n t h. (omega arith, omega (arith, gained_all all n t (all_bits n) (all_bits t) (all_bits t)))
+returns c = λ n t h. (omega arith, omega (arith, gained_all all n t (all_bits n) (all_bits t) (all_bits (pair_of n t))))

@@ -47,6 +47,7 @@ invariant_of-result g c =
       leaves = c.in_ok-leaves.ensures.leaves;
       begun = rw c.in_ok-begun.ensures (rw c.as_slice-3.ensures.value at c.in_ok-begun_in.ensures);
       sizes = rw c.as_slice-4.ensures.value at (c.in_ok-sizes.ensures ∙ c.in_ok-sizes_of.ensures);
+      groups = rw c.as_slice-5.ensures.value at c.make_groups.ensures;
     }
 
 pub returns : goal.returns

@@ -1,21 +1,44 @@
-use Rattle.std.proofs.Common.{arith}
-use Rattle.descriptor_table.proofs.Splices.{retyped-empty}
+use Rattle.std.proofs.Common.{ap, length, arith}
+use Rattle.descriptor_table.specs.Leaves.{runs_in}
+use Rattle.descriptor_table.proofs.Splices.{present_within, retyped-empty}
+use Rattle.descriptor_table.proofs.Grouped.{kept_below, kept_groups}
+use Rattle.descriptor_table.proofs.TableFacts.{table_runs}
 use Rattle.descriptor_table.proofs.table.RunTable.retype.Goals as goal
 
-pub returns-else-range-gt0-clause-ok : goal.returns-else-range-gt0-clause-ok
-returns-else-range-gt0-clause-ok g c = retyped-empty c.args.range c.args.mtype c.args.owner c.args.self.now (omega arith)
+pub returns-then-range-eq0-clause-ok : goal.returns-then-range-eq0-clause-ok
+returns-then-range-eq0-clause-ok g c = retyped-empty c.args.range c.args.mtype c.args.owner c.args.self.now (omega arith)
+
+pub leaves_near-near-requires-clause-runs : goal.leaves_near-near-requires-clause-runs
+leaves_near-near-requires-clause-runs g c = rw c.as_slice.ensures.value (table_runs (runs_in c.self.inside.leaves.items) c.self.inside.entries c.self.invariant.table)
+
+pub leaves_near-near-requires-clause-leaves : goal.leaves_near-near-requires-clause-leaves
+leaves_near-near-requires-clause-leaves g c = rw c.as_slice.ensures.value c.self.invariant.leaves
+
+pub leaves_near-near-requires-clause-sizes : goal.leaves_near-near-requires-clause-sizes
+leaves_near-near-requires-clause-sizes g c = rw c.as_slice.ensures.value c.self.invariant.sizes
+
+pub leaves_near-near-requires-clause-within : goal.leaves_near-near-requires-clause-within
+leaves_near-near-requires-clause-within g c = present_within _ c.args.range c.self.invariant.table.proper (omega arith) (rw c.self.view_is c.requires.present)
 
 pub retype_runs-requires-clause-table : goal.retype_runs-requires-clause-table
-retype_runs-requires-clause-table g c = c.self.invariant
+retype_runs-requires-clause-table g c = record { table = c.self.invariant.table; leaves = c.self.invariant.leaves; begun = c.self.invariant.begun; sizes = c.self.invariant.sizes }
+
+pub retype_runs-requires-clause-near : goal.retype_runs-requires-clause-near
+retype_runs-requires-clause-near g c = rw c.as_slice.ensures.value at c.leaves_near-near.ensures
 
 pub retype_runs-requires-clause-present : goal.retype_runs-requires-clause-present
 retype_runs-requires-clause-present g c = rw c.self.view_is c.requires.present
 
-pub returns-in_ok-self-inside-clause-ok : goal.returns-in_ok-self-inside-clause-ok
-returns-in_ok-self-inside-clause-ok g c = rw (← c.self.view_is) c.in_ok-self-inside.ensures.pages
+pub renew_groups-requires-clause-as_many : goal.renew_groups-requires-clause-as_many
+renew_groups-requires-clause-as_many g c = λ same.
+    let now = c.as_slice-2.ensures.value in
+    rw now (kept_groups c.self.inside.leaves.items c.retype_runs.new.leaves.items c.self.inside.groups.items c.leaves_near-near.result.0 c.leaves_near-near.result.1 c.self.invariant.groups c.in_ok-self-inside.ensures.kept (omega (arith, same, c.len-count.ensures, ap length now)))
 
-pub invariant_of-self-then-range-gt0 : goal.invariant_of-self-then-range-gt0
-invariant_of-self-then-range-gt0 g c = c.in_ok-self-inside.ensures.table
+pub renew_groups-requires-clause-others : goal.renew_groups-requires-clause-others
+renew_groups-requires-clause-others g c =
+    rw c.as_slice-2.ensures.value (kept_below c.self.inside.leaves.items c.retype_runs.new.leaves.items c.self.inside.groups.items c.leaves_near-near.result.0 c.leaves_near-near.result.1 c.self.invariant.groups c.in_ok-self-inside.ensures.kept)
 
-pub invariant_of-self : goal.invariant_of-self
-invariant_of-self g c = rw (c.in_err-self-inside.ensures.err.0, c.in_err-self-inside.ensures.err.1, c.in_err-self-inside.ensures.err.2) c.self.invariant
+pub invariant_of-self-2 : goal.invariant_of-self-2
+invariant_of-self-2 g c =
+    let table = c.in_ok-self-inside.ensures.table in
+    record { table = table.table; leaves = table.leaves; begun = table.begun; sizes = table.sizes; groups = rw c.as_slice-2.ensures.value at c.renew_groups.ensures }
