@@ -1,8 +1,7 @@
 //! Cores made and given back.
-ghost use Rattle.std.specs.Prelude.{◌≡◌, ◌<◌, Ok, Err, IfSome, MatchOption, MatchResult};
+ghost use Rattle.std.specs.Prelude.{◌≡◌, ◌<◌, IfSome, MatchOption};
 ghost use Rattle.std.specs.Borrow.{sem};
-ghost use Rattle.c_interface.specs.Making.{MakesCore};
-ghost use Rattle.boot_services_c.specs.Blocks.{CoreHeap};
+ghost use Rattle.boot_services_c.specs.MadeCores.{Holds, MakesPlace, Refuses};
 ghost use Rattle.boot_services_c.specs.Places.{freed_at};
 
 use crate::blocks::Block;
@@ -28,12 +27,10 @@ pub extern "C" fn RafkudinMake(
     core: &mut Place,
 ) -> u64
     ensures made { result ≡ 0
-        → MatchOption core.new.held ⊥
-        (λ handle. MakesCore {A = CoreHeap} descriptor_size records.now granule drivers.now
-        (Ok handle.core)) }
+        → Holds descriptor_size records.now granule drivers.now core.new.held }
     ensures refused { 0 < result
-        → MakesCore {A = CoreHeap} descriptor_size records.now granule drivers.now (Err result)
-        × (core.new ≡ core.old) }
+        → Refuses descriptor_size records.now granule drivers.now result }
+    ensures kept { 0 < result → core.new ≡ core.old }
 {
     match made(alloc, records, descriptor_size, granule, drivers) {
         Ok(place) => {
@@ -65,12 +62,7 @@ fn made(
     granule: u64,
     drivers: &[DriverTable],
 ) -> Result<Place, u64>
-    ensures { MatchResult result
-        (λ place. MatchOption place.held ⊥
-        (λ handle. MakesCore {A = CoreHeap} descriptor_size records.now granule drivers.now
-        (Ok handle.core)))
-        (λ status. MakesCore {A = CoreHeap} descriptor_size records.now granule drivers.now
-        (Err status)) }
+    ensures { MakesPlace descriptor_size records.now granule drivers.now result }
 {
     let core = EfiCore::make(alloc, records, descriptor_size, granule, drivers)?;
     pointer_to(alloc, core).ok_or(Status::OutOfResources.number())

@@ -2,10 +2,8 @@
 //!
 //! Of each: ABORTED, after 2^31 calls, UNSUPPORTED, once the boot services have exited, and OUT_OF_RESOURCES,
 //! where memory runs out, are not named again. A refusal leaves the places of the caller's.
-ghost use Rattle.std.specs.Prelude.{◌≡◌, length, map};
-ghost use Rattle.boot_calls.specs.declared.calls.Call.TheVariants as call;
-ghost use Rattle.c_interface.specs.Served.{AnswersStatus, AnswersNumber, AnswersNumbers, AnswersHandles, AnswersGuids, handle_bytes};
-ghost use Rattle.c_machines.specs.Guids.{guid_in, interface_in};
+ghost use Rattle.std.specs.Prelude.{◌≡◌};
+ghost use Rattle.c_interface.specs.Services.{Installs, InstallsAll, Uninstalls, Reinstalls, Registers, LocatesHandles, LocatesBuffer, LocatesProtocol, LocatesPath, HandlesProtocol, Opens, Closes, ListsOpens, ListsGuids, Connects, Disconnects};
 
 use crate::handle::Rafkudin;
 use c_machines::{Guid, Interface};
@@ -22,9 +20,8 @@ pub extern "C" fn RafkudinInstallProtocolInterface(
     kind: u32,
     value: u64,
 ) -> u64
-    ensures { AnswersNumber core.old.core
-        (call.InstallProtocolInterface handle.old (guid_in guid.now) kind value) handle.old result
-        handle.new core.new.core }
+    ensures { Installs core.old.core handle.old guid.now kind value result handle.new
+        core.new.core }
 {
     core.held()
         .install_protocol_interface(handle, guid, kind, value)
@@ -41,8 +38,7 @@ pub extern "C" fn RafkudinUninstallProtocolInterface(
     guid: &Guid,
     value: u64,
 ) -> u64
-    ensures { AnswersStatus core.old.core
-        (call.UninstallProtocolInterface handle (guid_in guid.now) value) result core.new.core }
+    ensures { Uninstalls core.old.core handle guid.now value result core.new.core }
 {
     core.held()
         .uninstall_protocol_interface(handle, guid, value)
@@ -60,28 +56,23 @@ pub extern "C" fn RafkudinReinstallProtocolInterface(
     old_value: u64,
     new_value: u64,
 ) -> u64
-    ensures { AnswersStatus core.old.core
-        (call.ReinstallProtocolInterface handle (guid_in guid.now) old_value new_value) result
-        core.new.core }
+    ensures { Reinstalls core.old.core handle guid.now old_value new_value result core.new.core }
 {
     core.held()
         .reinstall_protocol_interface(handle, guid, old_value, new_value)
 }
 
-/// RegisterProtocolNotify, 7.3.5. The place `registration` is given the registration's key.
+/// RegisterProtocolNotify, 7.3.5. The place `key` is given the registration's key.
 #[unsafe(no_mangle)]
 pub extern "C" fn RafkudinRegisterProtocolNotify(
     core: &mut Rafkudin,
     guid: &Guid,
     event: u64,
-    registration: &mut u64,
+    key: &mut u64,
 ) -> u64
-    ensures { AnswersNumber core.old.core
-        (call.RegisterProtocolNotify (guid_in guid.now) event) registration.old result
-        registration.new core.new.core }
+    ensures { Registers core.old.core guid.now event key.old result key.new core.new.core }
 {
-    core.held()
-        .register_protocol_notify(guid, event, registration)
+    core.held().register_protocol_notify(guid, event, key)
 }
 
 /// LocateHandle, 7.3.6, with a buffer for handles. The place `needed` is given the bytes that all that match
@@ -98,14 +89,13 @@ pub extern "C" fn RafkudinLocateHandleInto(
     needed: &mut u64,
     buffer: &mut [u64],
 ) -> u64
-    ensures { AnswersHandles core.old.core
-        (call.LocateHandle search (guid_in guid.now) key (handle_bytes (length buffer.old)))
-        needed.old buffer.old result needed.new buffer.new core.new.core }
+    ensures { LocatesHandles core.old.core search guid.now key needed.old buffer.old result
+        needed.new buffer.new core.new.core }
 {
     core.held().locate_handle(search, guid, key, needed, buffer)
 }
 
-/// HandleProtocol, 7.3.7. The place `interface` is given the interface's value.
+/// HandleProtocol, 7.3.7. The place `value` is given the interface's value.
 ///
 /// INVALID_PARAMETER: the handle is not live. UNSUPPORTED: the GUID is not on it.
 #[unsafe(no_mangle)]
@@ -113,13 +103,12 @@ pub extern "C" fn RafkudinHandleProtocol(
     core: &mut Rafkudin,
     handle: u64,
     guid: &Guid,
-    interface: &mut u64,
+    value: &mut u64,
 ) -> u64
-    ensures { AnswersNumber core.old.core
-        (call.HandleProtocol handle (guid_in guid.now)) interface.old result interface.new
+    ensures { HandlesProtocol core.old.core handle guid.now value.old result value.new
         core.new.core }
 {
-    core.held().handle_protocol(handle, guid, interface)
+    core.held().handle_protocol(handle, guid, value)
 }
 
 /// LocateDevicePath, 7.3.8. The place `path` has the path's address in the pool, and is given the address
@@ -133,13 +122,14 @@ pub extern "C" fn RafkudinLocateDevicePath(
     path: &mut u64,
     device: &mut u64,
 ) -> u64
-    ensures { AnswersNumbers core.old.core (call.LocateDevicePath (guid_in guid.now) path.old)
-        (device.old, path.old) result (device.new, path.new) core.new.core }
+    ensures { LocatesPath core.old.core guid.now (device.old, path.old) result
+        (device.new, path.new)
+        core.new.core }
 {
     core.held().locate_device_path(guid, path, device)
 }
 
-/// OpenProtocol, 7.3.9. The place `interface` is given the interface's value, but by TEST_PROTOCOL.
+/// OpenProtocol, 7.3.9. The place `value` is given the interface's value, but by TEST_PROTOCOL.
 ///
 /// INVALID_PARAMETER: a handle that is not live, or other attributes. UNSUPPORTED: the GUID is not on the
 /// handle. ALREADY_STARTED: the agent has it open by driver. ACCESS_DENIED: it is open in a
@@ -149,17 +139,16 @@ pub extern "C" fn RafkudinOpenProtocol(
     core: &mut Rafkudin,
     handle: u64,
     guid: &Guid,
-    interface: &mut u64,
+    value: &mut u64,
     agent: u64,
     controller: u64,
     attributes: u32,
 ) -> u64
-    ensures { AnswersNumber core.old.core
-        (call.OpenProtocol handle (guid_in guid.now) agent controller attributes) interface.old
-        result interface.new core.new.core }
+    ensures { Opens core.old.core handle guid.now agent controller attributes value.old result
+        value.new core.new.core }
 {
     core.held()
-        .open_protocol(handle, guid, interface, agent, controller, attributes)
+        .open_protocol(handle, guid, value, agent, controller, attributes)
 }
 
 /// CloseProtocol, 7.3.10.
@@ -174,8 +163,7 @@ pub extern "C" fn RafkudinCloseProtocol(
     agent: u64,
     controller: u64,
 ) -> u64
-    ensures { AnswersStatus core.old.core
-        (call.CloseProtocol handle (guid_in guid.now) agent controller) result core.new.core }
+    ensures { Closes core.old.core handle guid.now agent controller result core.new.core }
 {
     core.held().close_protocol(handle, guid, agent, controller)
 }
@@ -192,8 +180,8 @@ pub extern "C" fn RafkudinOpenProtocolInformation(
     entries: &mut u64,
     count: &mut u64,
 ) -> u64
-    ensures { AnswersNumbers core.old.core (call.OpenProtocolInformation handle (guid_in guid.now))
-        (count.old, entries.old) result (count.new, entries.new) core.new.core }
+    ensures { ListsOpens core.old.core handle guid.now (count.old, entries.old) result
+        (count.new, entries.new) core.new.core }
 {
     core.held()
         .open_protocol_information(handle, guid, count, entries)
@@ -209,8 +197,7 @@ pub extern "C" fn RafkudinConnectDrivers(
     drivers: &[u64],
     recursive: bool,
 ) -> u64
-    ensures { AnswersStatus core.old.core
-        (call.ConnectController handle drivers.now recursive) result core.new.core }
+    ensures { Connects core.old.core handle drivers.now recursive result core.new.core }
 {
     core.held().connect_controller(handle, drivers, recursive)
 }
@@ -220,8 +207,7 @@ pub extern "C" fn RafkudinConnectDrivers(
 /// INVALID_PARAMETER: the handle is not live, or the driver is none. DEVICE_ERROR: they can't be stopped.
 #[unsafe(no_mangle)]
 pub extern "C" fn RafkudinDisconnectDrivers(core: &mut Rafkudin, handle: u64, driver: u64) -> u64
-    ensures { AnswersStatus core.old.core
-        (call.DisconnectController handle driver) result core.new.core }
+    ensures { Disconnects core.old.core handle driver result core.new.core }
 {
     core.held().disconnect_controller(handle, driver)
 }
@@ -237,8 +223,7 @@ pub extern "C" fn RafkudinProtocolsPerHandle(
     buffer: &mut [Guid],
     count: &mut u64,
 ) -> u64
-    ensures { AnswersGuids core.old.core
-        (call.ProtocolsPerHandle handle) count.old buffer.old result count.new buffer.new
+    ensures { ListsGuids core.old.core handle count.old buffer.old result count.new buffer.new
         core.new.core }
 {
     core.held().protocols_per_handle(handle, buffer, count)
@@ -257,14 +242,14 @@ pub extern "C" fn RafkudinLocateHandleBuffer(
     count: &mut u64,
     buffer: &mut u64,
 ) -> u64
-    ensures { AnswersNumbers core.old.core (call.LocateHandleBuffer search (guid_in guid.now) key)
-        (count.old, buffer.old) result (count.new, buffer.new) core.new.core }
+    ensures { LocatesBuffer core.old.core search guid.now key (count.old, buffer.old) result
+        (count.new, buffer.new) core.new.core }
 {
     core.held()
         .locate_handle_buffer(search, guid, key, count, buffer)
 }
 
-/// LocateProtocol, 7.3.16. The place `interface` is given the interface's value.
+/// LocateProtocol, 7.3.16. The place `value` is given the interface's value.
 ///
 /// INVALID_PARAMETER: a key that was never given, or for another GUID. NOT_FOUND: nothing matches.
 #[unsafe(no_mangle)]
@@ -272,13 +257,11 @@ pub extern "C" fn RafkudinLocateProtocol(
     core: &mut Rafkudin,
     guid: &Guid,
     key: u64,
-    interface: &mut u64,
+    value: &mut u64,
 ) -> u64
-    ensures { AnswersNumber core.old.core
-        (call.LocateProtocol (guid_in guid.now) key) interface.old result interface.new
-        core.new.core }
+    ensures { LocatesProtocol core.old.core guid.now key value.old result value.new core.new.core }
 {
-    core.held().locate_protocol(guid, key, interface)
+    core.held().locate_protocol(guid, key, value)
 }
 
 /// InstallMultipleProtocolInterfaces, 7.3.17. The place `handle` has the handle, 0 for a new one, and is
@@ -293,9 +276,7 @@ pub extern "C" fn RafkudinInstallMultipleProtocolInterfaces(
     handle: &mut u64,
     interfaces: &[Interface],
 ) -> u64
-    ensures { AnswersNumber core.old.core
-        (call.InstallMultipleProtocolInterfaces handle.old (map interface_in interfaces.now))
-        handle.old result handle.new core.new.core }
+    ensures { InstallsAll core.old.core handle.old interfaces.now result handle.new core.new.core }
 {
     core.held().install_multiple(handle, interfaces)
 }

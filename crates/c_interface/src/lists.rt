@@ -1,9 +1,10 @@
 //! The services that take or return a list.
-ghost use Rattle.std.specs.Prelude.{◌≡◌, length, map, take};
+ghost use Rattle.std.specs.Prelude.{◌≡◌, map, take};
 ghost use Rattle.boot_calls.specs.declared.calls.Call.TheVariants as call;
 ghost use Rattle.c_interface.specs.Buffers.{laid};
-ghost use Rattle.c_interface.specs.Served.{AnswersStatus, AnswersNumber, AnswersHandles, AnswersGuids, handle_bytes, returned_size, too_many};
-ghost use Rattle.c_machines.specs.Guids.{guid_in, interface_in, standard_guid};
+ghost use Rattle.c_interface.specs.Served.{AnswersNumber, handle_bytes, returned_size, too_many};
+ghost use Rattle.c_interface.specs.Services.{InstallsAll, LocatesHandles, ListsGuids, Connects};
+ghost use Rattle.c_machines.specs.Guids.{interface_in, standard_guid};
 
 use crate::buffers::lay;
 use crate::efi_core::{ABORTED, EfiCore};
@@ -34,9 +35,8 @@ impl<A: Allocator + Copy> EfiCore<A> {
         needed: &mut u64,
         buffer: &mut [u64],
     ) -> u64
-        ensures { AnswersHandles self.old
-            (call.LocateHandle search (guid_in guid.now) key (handle_bytes (length buffer.old)))
-            needed.old buffer.old result needed.new buffer.new self.new }
+        ensures { LocatesHandles self.old search guid.now key needed.old buffer.old result
+            needed.new buffer.new self.new }
     {
         let guid = guid.uuid();
         let size = handle_bytes(buffer.len());
@@ -59,8 +59,7 @@ impl<A: Allocator + Copy> EfiCore<A> {
     ///
     /// BUFFER_TOO_SMALL: it has no room for all of them, and is left; the place is given how many there are.
     pub fn protocols_per_handle(&mut self, handle: u64, buffer: &mut [Guid], count: &mut u64) -> u64
-        ensures { AnswersGuids self.old
-            (call.ProtocolsPerHandle handle) count.old buffer.old result count.new buffer.new
+        ensures { ListsGuids self.old handle count.old buffer.old result count.new buffer.new
             self.new }
     {
         let status = self.answer(&Call::ProtocolsPerHandle { handle });
@@ -78,9 +77,7 @@ impl<A: Allocator + Copy> EfiCore<A> {
     /// InstallMultipleProtocolInterfaces. The place `handle` has the handle, 0 for a new one, and is given it.
     /// This takes no memory but the core's: a list that is too long is refused by its first interfaces.
     pub fn install_multiple(&mut self, handle: &mut u64, interfaces: &[Interface]) -> u64
-        ensures { AnswersNumber self.old
-            (call.InstallMultipleProtocolInterfaces handle.old (map interface_in interfaces.now))
-            handle.old result handle.new self.new }
+        ensures { InstallsAll self.old handle.old interfaces.now result handle.new self.new }
     {
         let pairs = first_pairs(interfaces);
         self.install_pairs(handle, pairs.as_slice())
@@ -102,8 +99,7 @@ impl<A: Allocator + Copy> EfiCore<A> {
 
     /// ConnectController, with the drivers that are tried first.
     pub fn connect_controller(&mut self, handle: u64, drivers: &[u64], recursive: bool) -> u64
-        ensures { AnswersStatus self.old
-            (call.ConnectController handle drivers.now recursive) result self.new }
+        ensures { Connects self.old handle drivers.now recursive result self.new }
     {
         self.forget();
         if self.core.calls_left() == 0 {

@@ -1,7 +1,8 @@
 //! The memory services, and the exit.
 ghost use Rattle.std.specs.Prelude.{◌≡◌};
 ghost use Rattle.boot_calls.specs.declared.calls.Call.TheVariants as call;
-ghost use Rattle.c_interface.specs.Served.{AnswersStatus, AnswersNumber, AnswersMap, AnswersRead};
+ghost use Rattle.c_interface.specs.Served.{AnswersStatus, AnswersRead};
+ghost use Rattle.c_interface.specs.Services.{AllocatesPages, AllocatesPool, Maps};
 
 use crate::efi_core::{ABORTED, EfiCore};
 use boot_core::Call;
@@ -18,8 +19,7 @@ impl<A: Allocator + Copy> EfiCore<A> {
     /// AllocatePages. The place `memory` has the highest address that is asked for, or the very address,
     /// and is given the address of the pages.
     pub fn allocate_pages(&mut self, kind: u32, mtype: u32, pages: u64, memory: &mut u64) -> u64
-        ensures { AnswersNumber self.old
-            (call.AllocatePages kind mtype pages memory.old) memory.old result memory.new self.new }
+        ensures { AllocatesPages self.old kind mtype pages memory.old result memory.new self.new }
     {
         let call = Call::AllocatePages {
             kind,
@@ -41,41 +41,30 @@ impl<A: Allocator + Copy> EfiCore<A> {
     /// their version; where the buffer is too small all but the key.
     pub fn get_memory_map(
         &mut self,
-        buffer: &mut [u8],
+        map: &mut [u8],
         size: &mut u64,
         key: &mut u64,
-        record_size: &mut u64,
+        stride: &mut u64,
         version: &mut u32,
     ) -> u64
-        ensures { AnswersMap self.old buffer.old
-            (record {
-              size = size.old;
-              key = key.old;
-              descriptor_size = record_size.old;
-              version = version.old;
-            }) result buffer.new
-            (record {
-              size = size.new;
-              key = key.new;
-              descriptor_size = record_size.new;
-              version = version.new;
-            }) self.new }
+        ensures { Maps self.old map.old (size.old, key.old, stride.old, version.old) result map.new
+            (size.new, key.new, stride.new, version.new) self.new }
     {
         self.forget();
         if self.core.calls_left() == 0 {
             return ABORTED;
         }
-        let returned = self.core.get_memory_map(buffer);
+        let returned = self.core.get_memory_map(map);
         match returned.status {
             Status::Success => {
                 *size = returned.size;
                 *key = returned.key;
-                *record_size = RECORD_SIZE;
+                *stride = RECORD_SIZE;
                 *version = VERSION;
             }
             Status::BufferTooSmall => {
                 *size = returned.size;
-                *record_size = RECORD_SIZE;
+                *stride = RECORD_SIZE;
                 *version = VERSION;
             }
             _ => {}
@@ -108,8 +97,7 @@ impl<A: Allocator + Copy> EfiCore<A> {
 
     /// AllocatePool. The place `buffer` is given the block's address.
     pub fn allocate_pool(&mut self, mtype: u32, size: u64, buffer: &mut u64) -> u64
-        ensures { AnswersNumber self.old
-            (call.AllocatePool mtype size) buffer.old result buffer.new self.new }
+        ensures { AllocatesPool self.old mtype size buffer.old result buffer.new self.new }
     {
         self.answer_number(&Call::AllocatePool { mtype, size }, buffer)
     }

@@ -1,8 +1,6 @@
 //! The services on handles, interfaces and drivers.
 ghost use Rattle.std.specs.Prelude.{◌≡◌};
-ghost use Rattle.boot_calls.specs.declared.calls.Call.TheVariants as call;
-ghost use Rattle.c_machines.specs.Guids.{guid_in};
-ghost use Rattle.c_interface.specs.Served.{AnswersStatus, AnswersNumber, AnswersNumbers};
+ghost use Rattle.c_interface.specs.Services.{Installs, Uninstalls, Reinstalls, Registers, LocatesBuffer, LocatesProtocol, LocatesPath, HandlesProtocol, Opens, Closes, ListsOpens, Disconnects};
 
 use crate::efi_core::{ABORTED, EfiCore};
 use boot_core::Call;
@@ -18,9 +16,7 @@ impl<A: Allocator + Copy> EfiCore<A> {
         kind: u32,
         value: u64,
     ) -> u64
-        ensures { AnswersNumber self.old
-            (call.InstallProtocolInterface handle.old (guid_in guid.now) kind value) handle.old
-            result handle.new self.new }
+        ensures { Installs self.old handle.old guid.now kind value result handle.new self.new }
     {
         self.forget();
         if self.core.calls_left() == 0 {
@@ -34,8 +30,7 @@ impl<A: Allocator + Copy> EfiCore<A> {
 
     /// UninstallProtocolInterface.
     pub fn uninstall_protocol_interface(&mut self, handle: u64, guid: &Guid, value: u64) -> u64
-        ensures { AnswersStatus self.old
-            (call.UninstallProtocolInterface handle (guid_in guid.now) value) result self.new }
+        ensures { Uninstalls self.old handle guid.now value result self.new }
     {
         self.forget();
         if self.core.calls_left() == 0 {
@@ -53,9 +48,7 @@ impl<A: Allocator + Copy> EfiCore<A> {
         old_value: u64,
         new_value: u64,
     ) -> u64
-        ensures { AnswersStatus self.old
-            (call.ReinstallProtocolInterface handle (guid_in guid.now) old_value new_value) result
-            self.new }
+        ensures { Reinstalls self.old handle guid.now old_value new_value result self.new }
     {
         let guid = guid.uuid();
         self.answer(&Call::ReinstallProtocolInterface {
@@ -66,19 +59,12 @@ impl<A: Allocator + Copy> EfiCore<A> {
         })
     }
 
-    /// RegisterProtocolNotify. The place `registration` is given the registration's key.
-    pub fn register_protocol_notify(
-        &mut self,
-        guid: &Guid,
-        event: u64,
-        registration: &mut u64,
-    ) -> u64
-        ensures { AnswersNumber self.old
-            (call.RegisterProtocolNotify (guid_in guid.now) event) registration.old result
-            registration.new self.new }
+    /// RegisterProtocolNotify. The place `key` is given the registration's key.
+    pub fn register_protocol_notify(&mut self, guid: &Guid, event: u64, key: &mut u64) -> u64
+        ensures { Registers self.old guid.now event key.old result key.new self.new }
     {
         let guid = guid.uuid();
-        self.answer_number(&Call::RegisterProtocolNotify { guid, event }, registration)
+        self.answer_number(&Call::RegisterProtocolNotify { guid, event }, key)
     }
 
     /// LocateHandleBuffer. The places are given how many handles there are, and the address of their block
@@ -91,8 +77,8 @@ impl<A: Allocator + Copy> EfiCore<A> {
         count: &mut u64,
         buffer: &mut u64,
     ) -> u64
-        ensures { AnswersNumbers self.old (call.LocateHandleBuffer search (guid_in guid.now) key)
-            (count.old, buffer.old) result (count.new, buffer.new) self.new }
+        ensures { LocatesBuffer self.old search guid.now key (count.old, buffer.old) result
+            (count.new, buffer.new) self.new }
     {
         let guid = guid.uuid();
         self.answer_numbers(
@@ -102,33 +88,30 @@ impl<A: Allocator + Copy> EfiCore<A> {
         )
     }
 
-    /// LocateProtocol. The place `interface` is given the interface's value.
-    pub fn locate_protocol(&mut self, guid: &Guid, key: u64, interface: &mut u64) -> u64
-        ensures { AnswersNumber self.old
-            (call.LocateProtocol (guid_in guid.now) key) interface.old result interface.new
-            self.new }
+    /// LocateProtocol. The place `value` is given the interface's value.
+    pub fn locate_protocol(&mut self, guid: &Guid, key: u64, value: &mut u64) -> u64
+        ensures { LocatesProtocol self.old guid.now key value.old result value.new self.new }
     {
         self.forget();
         if self.core.calls_left() == 0 {
             return ABORTED;
         }
         let reply = self.core.locate_protocol(guid.uuid(), key);
-        self.tell_number(reply, interface)
+        self.tell_number(reply, value)
     }
 
-    /// OpenProtocol. The place `interface` is given the interface's value, but by TEST_PROTOCOL.
+    /// OpenProtocol. The place `value` is given the interface's value, but by TEST_PROTOCOL.
     pub fn open_protocol(
         &mut self,
         handle: u64,
         guid: &Guid,
-        interface: &mut u64,
+        value: &mut u64,
         agent: u64,
         controller: u64,
         attributes: u32,
     ) -> u64
-        ensures { AnswersNumber self.old
-            (call.OpenProtocol handle (guid_in guid.now) agent controller attributes) interface.old
-            result interface.new self.new }
+        ensures { Opens self.old handle guid.now agent controller attributes value.old result
+            value.new self.new }
     {
         self.forget();
         if self.core.calls_left() == 0 {
@@ -137,13 +120,12 @@ impl<A: Allocator + Copy> EfiCore<A> {
         let reply = self
             .core
             .open_protocol(handle, guid.uuid(), agent, controller, attributes);
-        self.tell_number(reply, interface)
+        self.tell_number(reply, value)
     }
 
     /// CloseProtocol.
     pub fn close_protocol(&mut self, handle: u64, guid: &Guid, agent: u64, controller: u64) -> u64
-        ensures { AnswersStatus self.old
-            (call.CloseProtocol handle (guid_in guid.now) agent controller) result self.new }
+        ensures { Closes self.old handle guid.now agent controller result self.new }
     {
         self.forget();
         if self.core.calls_left() == 0 {
@@ -164,8 +146,8 @@ impl<A: Allocator + Copy> EfiCore<A> {
         count: &mut u64,
         entries: &mut u64,
     ) -> u64
-        ensures { AnswersNumbers self.old (call.OpenProtocolInformation handle (guid_in guid.now))
-            (count.old, entries.old) result (count.new, entries.new) self.new }
+        ensures { ListsOpens self.old handle guid.now (count.old, entries.old) result
+            (count.new, entries.new) self.new }
     {
         let guid = guid.uuid();
         self.answer_numbers(
@@ -175,23 +157,21 @@ impl<A: Allocator + Copy> EfiCore<A> {
         )
     }
 
-    /// HandleProtocol. The place `interface` is given the interface's value.
-    pub fn handle_protocol(&mut self, handle: u64, guid: &Guid, interface: &mut u64) -> u64
-        ensures { AnswersNumber self.old
-            (call.HandleProtocol handle (guid_in guid.now)) interface.old result interface.new
-            self.new }
+    /// HandleProtocol. The place `value` is given the interface's value.
+    pub fn handle_protocol(&mut self, handle: u64, guid: &Guid, value: &mut u64) -> u64
+        ensures { HandlesProtocol self.old handle guid.now value.old result value.new self.new }
     {
         self.forget();
         if self.core.calls_left() == 0 {
             return ABORTED;
         }
         let reply = self.core.handle_protocol(handle, guid.uuid());
-        self.tell_number(reply, interface)
+        self.tell_number(reply, value)
     }
 
     /// DisconnectController.
     pub fn disconnect_controller(&mut self, handle: u64, driver: u64) -> u64
-        ensures { AnswersStatus self.old (call.DisconnectController handle driver) result self.new }
+        ensures { Disconnects self.old handle driver result self.new }
     {
         self.answer(&Call::DisconnectController { handle, driver })
     }
@@ -199,8 +179,8 @@ impl<A: Allocator + Copy> EfiCore<A> {
     /// LocateDevicePath. The place `path` has the path's address in the pool, and is given the address behind
     /// the nodes that matched; the place `device` is given the handle.
     pub fn locate_device_path(&mut self, guid: &Guid, path: &mut u64, device: &mut u64) -> u64
-        ensures { AnswersNumbers self.old (call.LocateDevicePath (guid_in guid.now) path.old)
-            (device.old, path.old) result (device.new, path.new) self.new }
+        ensures { LocatesPath self.old guid.now (device.old, path.old) result (device.new, path.new)
+            self.new }
     {
         let guid = guid.uuid();
         let call = Call::LocateDevicePath {

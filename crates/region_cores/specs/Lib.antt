@@ -1,3 +1,4 @@
 pub mod Cores
 pub mod Lending
+pub mod MadeCores
 pub mod Places

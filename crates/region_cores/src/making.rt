@@ -1,7 +1,6 @@
 //! Cores made.
-ghost use Rattle.std.specs.Prelude.{◌≡◌, Ok, Err, IfSome, MatchOption, MatchResult};
-ghost use Rattle.c_interface.specs.Making.{MakesCore};
-ghost use Rattle.region_cores.specs.Cores.{CoreHeap};
+ghost use Rattle.std.specs.Prelude.{◌≡◌, IfSome, MatchOption};
+ghost use Rattle.region_cores.specs.MadeCores.{MakesPlace};
 
 use crate::handle::Rafkudin;
 use crate::lasting::Lasting;
@@ -23,12 +22,7 @@ pub fn make_in(
     granule: u64,
     drivers: &[DriverTable],
 ) -> Result<Place, u64>
-    ensures { MatchResult result
-        (λ place. MatchOption place.held ⊥
-        (λ handle. MakesCore {A = CoreHeap} descriptor_size records.now granule drivers.now
-        (Ok handle.core)))
-        (λ status. MakesCore {A = CoreHeap} descriptor_size records.now granule drivers.now
-        (Err status)) }
+    ensures { MakesPlace descriptor_size records.now granule drivers.now result }
 {
     if !are_tables(drivers) {
         return Err(Status::InvalidParameter.number());

@@ -1,7 +1,6 @@
 //! Cores made.
-ghost use Rattle.std.specs.Prelude.{◌≡◌, ◌<◌, Ok, Err, MatchOption};
-ghost use Rattle.c_interface.specs.Making.{MakesCore};
-ghost use Rattle.region_cores.specs.Cores.{CoreHeap};
+ghost use Rattle.std.specs.Prelude.{◌≡◌, ◌<◌};
+ghost use Rattle.region_cores.specs.MadeCores.{Holds, Refuses};
 ghost use Rattle.region_services_c.specs.Rooms.{room_for};
 
 use c_machines::DriverTable;
@@ -38,12 +37,10 @@ pub extern "C" fn RafkudinMakeInRegion(
     core: &mut Place,
 ) -> u64
     ensures made { result ≡ 0
-        → MatchOption core.new.held ⊥
-        (λ handle. MakesCore {A = CoreHeap} descriptor_size records.now granule drivers.now
-        (Ok handle.core)) }
+        → Holds descriptor_size records.now granule drivers.now core.new.held }
     ensures refused { 0 < result
-        → MakesCore {A = CoreHeap} descriptor_size records.now granule drivers.now (Err result)
-        × (core.new ≡ core.old) }
+        → Refuses descriptor_size records.now granule drivers.now result }
+    ensures kept { 0 < result → core.new ≡ core.old }
 {
     match make_in(region, records, descriptor_size, granule, drivers) {
         Ok(place) => {

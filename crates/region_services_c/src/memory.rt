@@ -4,7 +4,8 @@
 //! OUT_OF_RESOURCES, where memory runs out, are not named again. A refusal leaves the places of the caller's.
 ghost use Rattle.std.specs.Prelude.{◌≡◌};
 ghost use Rattle.boot_calls.specs.declared.calls.Call.TheVariants as call;
-ghost use Rattle.c_interface.specs.Served.{AnswersStatus, AnswersNumber, AnswersMap, AnswersRead};
+ghost use Rattle.c_interface.specs.Served.{AnswersStatus, AnswersRead};
+ghost use Rattle.c_interface.specs.Services.{AllocatesPages, AllocatesPool, Maps};
 
 use region_cores::Rafkudin;
 
@@ -21,8 +22,7 @@ pub extern "C" fn RafkudinAllocatePages(
     pages: u64,
     memory: &mut u64,
 ) -> u64
-    ensures { AnswersNumber core.old.core
-        (call.AllocatePages kind mtype pages memory.old) memory.old result memory.new
+    ensures { AllocatesPages core.old.core kind mtype pages memory.old result memory.new
         core.new.core }
 {
     core.held().allocate_pages(kind, mtype, pages, memory)
@@ -46,28 +46,16 @@ pub extern "C" fn RafkudinFreePages(core: &mut Rafkudin, memory: u64, pages: u64
 #[unsafe(no_mangle)]
 pub extern "C" fn RafkudinGetMemoryMapInto(
     core: &mut Rafkudin,
-    buffer: &mut [u8],
+    map: &mut [u8],
     size: &mut u64,
     key: &mut u64,
-    record_size: &mut u64,
+    stride: &mut u64,
     version: &mut u32,
 ) -> u64
-    ensures { AnswersMap core.old.core buffer.old
-        (record {
-          size = size.old;
-          key = key.old;
-          descriptor_size = record_size.old;
-          version = version.old;
-        }) result buffer.new
-        (record {
-          size = size.new;
-          key = key.new;
-          descriptor_size = record_size.new;
-          version = version.new;
-        }) core.new.core }
+    ensures { Maps core.old.core map.old (size.old, key.old, stride.old, version.old) result map.new
+        (size.new, key.new, stride.new, version.new) core.new.core }
 {
-    core.held()
-        .get_memory_map(buffer, size, key, record_size, version)
+    core.held().get_memory_map(map, size, key, stride, version)
 }
 
 /// AllocatePool, 7.2.4. The place `buffer` is given the block's address.
@@ -81,8 +69,7 @@ pub extern "C" fn RafkudinAllocatePool(
     size: u64,
     buffer: &mut u64,
 ) -> u64
-    ensures { AnswersNumber core.old.core
-        (call.AllocatePool mtype size) buffer.old result buffer.new core.new.core }
+    ensures { AllocatesPool core.old.core mtype size buffer.old result buffer.new core.new.core }
 {
     core.held().allocate_pool(mtype, size, buffer)
 }

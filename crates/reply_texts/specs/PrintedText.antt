@@ -1,5 +1,6 @@
 -- What is printed of a trace line.
-use Rattle.std.specs.Prelude.{ℕ, ◌*◌, List, [], ◌++◌, length, flat_map, codes, Option, Some, None, Result, Ok, Err, Vec}
+use Rattle.std.specs.Prelude.{ℕ, ◌*◌, List, [], ◌++◌, length, flat_map, codes, Option, Some, None, OnOk, Result, Ok, Err, String, Vec}
+use Rattle.std.specs.declared.alloc.AllocError.{AllocError}
 use Rattle.std.specs.Fmt.{decimal}
 use Rattle.page_ranges.specs.declared.ranges.Descriptor.{Descriptor}
 use Rattle.page_ranges.specs.MemoryTypes.{page_size}
@@ -17,8 +18,13 @@ use Rattle.reply_texts.specs.ListTexts.{events_text, guids_text, numbers_text}
 use Rattle.trace_verbs.specs.declared.verbs.Verb.{Verb}
 use Rattle.trace_verbs.specs.declared.verbs.Verb.TheVariants as verb
 use Rattle.trace_verbs.specs.Verbs.{verb_name}
-use Rattle.text_lines.specs.Printed.{hexadecimal, space, line_feed}
+use Rattle.text_lines.specs.Printed.{Gains, hexadecimal, space, line_feed}
 use Rattle.hex.specs.Hex.{encode_lower}
+
+-- The bytes are appended to a text, unless memory runs out.
+abbrev pub Prints : {A : Type 0} → Result (Unit {0}) AllocError → String A → String A → List ℕ
+    → Type 0
+Prints printed old new bytes = OnOk printed (Gains old new bytes)
 
 -- the start of each reply: the line number and the verb
 abbrev pub reply_start : ℕ → Verb → List ℕ

@@ -1,6 +1,6 @@
 //! Lists in replies.
-ghost use Rattle.std.specs.Prelude.{◌≡◌, OnOk};
-ghost use Rattle.text_lines.specs.Printed.{Gains};
+ghost use Rattle.std.specs.Prelude.{◌≡◌};
+ghost use Rattle.reply_texts.specs.PrintedText.{Prints};
 ghost use Rattle.reply_texts.specs.ListTexts.{events_text, guids_text, numbers_text, separator_at};
 
 use std::alloc::{AllocError, Allocator};
@@ -18,7 +18,7 @@ pub(crate) fn print_numbers<A: Allocator>(
     text: &mut String<A>,
     numbers: &[u64],
 ) -> Result<(), AllocError>
-    ensures { OnOk result (Gains text.old text.new (numbers_text numbers.now)) }
+    ensures { Prints result text.old text.new (numbers_text numbers.now) }
 {
     for (index, number) in numbers.iter().enumerate() {
         let separator = separator_at(index);
@@ -32,7 +32,7 @@ pub(crate) fn print_events<A: Allocator>(
     text: &mut String<A>,
     events: &[u64],
 ) -> Result<(), AllocError>
-    ensures { OnOk result (Gains text.old text.new (events_text events.now)) }
+    ensures { Prints result text.old text.new (events_text events.now) }
 {
     if events.is_empty() {
         return write!(text, "-");
@@ -45,7 +45,7 @@ pub(crate) fn print_guids<A: Allocator>(
     text: &mut String<A>,
     guids: &[Uuid],
 ) -> Result<(), AllocError>
-    ensures { OnOk result (Gains text.old text.new (guids_text guids.now)) }
+    ensures { Prints result text.old text.new (guids_text guids.now) }
 {
     for (index, guid) in guids.iter().enumerate() {
         let separator = separator_at(index);

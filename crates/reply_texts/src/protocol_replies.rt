@@ -1,7 +1,6 @@
 //! The lines of replies of the protocol services.
-ghost use Rattle.std.specs.Prelude.{Ok, OnOk};
-ghost use Rattle.text_lines.specs.Printed.{Gains};
-ghost use Rattle.reply_texts.specs.PrintedText.{events_field, guids_field, handles_fields, installed_fields, interface_field, located_line, opened_line, path_fields, pool_list_fields, protocol_text, registration_field, returned_line};
+ghost use Rattle.std.specs.Prelude.{Ok};
+ghost use Rattle.reply_texts.specs.PrintedText.{Prints, events_field, guids_field, handles_fields, installed_fields, interface_field, located_line, opened_line, path_fields, pool_list_fields, protocol_text, registration_field, returned_line};
 
 use crate::list_texts::{print_events, print_guids, print_numbers};
 use crate::replies::{print_result, print_size, print_status};
@@ -18,7 +17,7 @@ pub(crate) fn print_protocols<A: Allocator>(
     number: u64,
     reply: &Reply<A>,
 ) -> Result<(), AllocError>
-    ensures { OnOk result (Gains text.old text.new (protocol_text number reply.now)) }
+    ensures { Prints result text.old text.new (protocol_text number reply.now) }
 {
     match reply {
         Reply::InstallProtocolInterface(result) => {
@@ -66,8 +65,8 @@ fn print_installed<A: Allocator>(
     verb: Verb,
     done: &Result<Installed<A>, Status>,
 ) -> Result<(), AllocError>
-    ensures { OnOk result
-        (Gains text.old text.new (returned_line installed_fields number verb done.now)) }
+    ensures { Prints result text.old text.new
+        (returned_line installed_fields number verb done.now) }
 {
     match done {
         Ok(returned) => {
@@ -88,8 +87,7 @@ fn print_signaled<A: Allocator>(
     verb: Verb,
     done: &Result<Vec<u64, A>, Status>,
 ) -> Result<(), AllocError>
-    ensures { OnOk result
-        (Gains text.old text.new (returned_line events_field number verb done.now)) }
+    ensures { Prints result text.old text.new (returned_line events_field number verb done.now) }
 {
     match done {
         Ok(events) => {
@@ -109,8 +107,8 @@ fn print_pool_list<A: Allocator>(
     verb: Verb,
     done: &Result<PoolList<A>, Status>,
 ) -> Result<(), AllocError>
-    ensures { OnOk result
-        (Gains text.old text.new (returned_line pool_list_fields number verb done.now)) }
+    ensures { Prints result text.old text.new
+        (returned_line pool_list_fields number verb done.now) }
 {
     match done {
         Ok(returned) => {
@@ -133,8 +131,7 @@ fn print_interface<A: Allocator>(
     verb: Verb,
     done: Result<u64, Status>,
 ) -> Result<(), AllocError>
-    ensures { OnOk result
-        (Gains text.old text.new (returned_line interface_field number verb done)) }
+    ensures { Prints result text.old text.new (returned_line interface_field number verb done) }
 {
     match done {
         Ok(value) => {
@@ -151,7 +148,7 @@ fn print_opened<A: Allocator>(
     number: u64,
     done: Result<Option<u64>, Status>,
 ) -> Result<(), AllocError>
-    ensures { OnOk result (Gains text.old text.new (opened_line number done)) }
+    ensures { Prints result text.old text.new (opened_line number done) }
 {
     match done {
         Ok(Some(value)) => print_interface(text, number, Verb::Open, Ok(value)),
@@ -166,8 +163,8 @@ fn print_registration<A: Allocator>(
     number: u64,
     done: Result<u64, Status>,
 ) -> Result<(), AllocError>
-    ensures { OnOk result
-        (Gains text.old text.new (returned_line registration_field number Verb.Notify done)) }
+    ensures { Prints result text.old text.new
+        (returned_line registration_field number Verb.Notify done) }
 {
     match done {
         Ok(key) => {
@@ -184,8 +181,8 @@ fn print_protocols_on<A: Allocator>(
     number: u64,
     done: &Result<Vec<Uuid, A>, Status>,
 ) -> Result<(), AllocError>
-    ensures { OnOk result
-        (Gains text.old text.new (returned_line guids_field number Verb.Protocols done.now)) }
+    ensures { Prints result text.old text.new
+        (returned_line guids_field number Verb.Protocols done.now) }
 {
     match done {
         Ok(guids) => {
@@ -204,8 +201,7 @@ fn print_path<A: Allocator>(
     number: u64,
     done: Result<(u64, u64), Status>,
 ) -> Result<(), AllocError>
-    ensures { OnOk result
-        (Gains text.old text.new (returned_line path_fields number Verb.Path done)) }
+    ensures { Prints result text.old text.new (returned_line path_fields number Verb.Path done) }
 {
     match done {
         Ok((handle, address)) => {
@@ -226,8 +222,8 @@ fn print_handles<A: Allocator>(
     verb: Verb,
     returned: &LocateReply<A>,
 ) -> Result<(), AllocError>
-    ensures { OnOk result
-        (Gains text.old text.new (returned_line handles_fields number verb (Ok returned.now))) }
+    ensures { Prints result text.old text.new
+        (returned_line handles_fields number verb (Ok returned.now)) }
 {
     let verb = verb.name();
     let size = returned.size;
@@ -242,8 +238,8 @@ fn print_located<A: Allocator>(
     number: u64,
     returned: &LocateReply<A>,
 ) -> Result<(), AllocError>
-    ensures { OnOk result
-        (Gains text.old text.new (located_line number returned.now returned.now.status)) }
+    ensures { Prints result text.old text.new
+        (located_line number returned.now returned.now.status) }
 {
     match returned.status {
         Status::Success => print_handles(text, number, Verb::Locate, returned),

@@ -1,9 +1,8 @@
 //! The lines of replies.
-ghost use Rattle.std.specs.Prelude.{◌<◌, IfOk, OnOk, flat_map};
-ghost use Rattle.text_lines.specs.Printed.{Gains};
+ghost use Rattle.std.specs.Prelude.{◌<◌, IfOk, flat_map};
 ghost use Rattle.page_ranges.specs.MemoryTypes.{page_count};
 ghost use Rattle.std.specs.List.{AllByRecursion};
-ghost use Rattle.reply_texts.specs.PrintedText.{bytes_line, descriptor_line, map_line, map_text, read_line, reply_text, result_line, size_line, status_line, value_line};
+ghost use Rattle.reply_texts.specs.PrintedText.{Prints, bytes_line, descriptor_line, map_line, map_text, read_line, reply_text, result_line, size_line, status_line, value_line};
 ghost use Rattle.reply_texts.specs.CallText.{CarriesEntries, HoldsEntries};
 ghost use Rattle.map_keys.specs.Records.{IsRecordEntry};
 ghost use Rattle.page_ranges.specs.Statuses.{name_of};
@@ -49,7 +48,7 @@ pub fn print_reply<A: Allocator + Copy>(
     reply: &Reply<A>,
 ) -> Result<(), AllocError>
     requires { AllByRecursion IsRecordEntry entries.now }
-    ensures { OnOk result (Gains text.old text.new (reply_text number entries.now reply.now)) }
+    ensures { Prints result text.old text.new (reply_text number entries.now reply.now) }
 {
     match reply {
         Reply::AllocatePages(Ok(placed)) => {
@@ -79,7 +78,7 @@ pub(crate) fn print_result<A: Allocator>(
     verb: Verb,
     done: Result<(), Status>,
 ) -> Result<(), AllocError>
-    ensures { OnOk result (Gains text.old text.new (result_line number verb done)) }
+    ensures { Prints result text.old text.new (result_line number verb done) }
 {
     match done {
         Ok(()) => print_status(text, number, verb, Status::Success),
@@ -95,7 +94,7 @@ fn print_read<A: Allocator + Copy>(
     status: Status,
     bytes: &[u8],
 ) -> Result<(), AllocError>
-    ensures { OnOk result (Gains text.old text.new (read_line number bytes.now status)) }
+    ensures { Prints result text.old text.new (read_line number bytes.now status) }
 {
     match status {
         Status::Success => print_bytes(alloc, text, number, Verb::Read, bytes),
@@ -111,7 +110,7 @@ fn print_bytes<A: Allocator + Copy>(
     verb: Verb,
     bytes: &[u8],
 ) -> Result<(), AllocError>
-    ensures { OnOk result (Gains text.old text.new (bytes_line number verb bytes.now)) }
+    ensures { Prints result text.old text.new (bytes_line number verb bytes.now) }
 {
     let verb = verb.name();
     let digits = hex::encode(alloc, bytes)?;
@@ -126,7 +125,7 @@ fn print_value<A: Allocator>(
     name: &str,
     value: u64,
 ) -> Result<(), AllocError>
-    ensures { OnOk result (Gains text.old text.new (value_line number verb name.now value)) }
+    ensures { Prints result text.old text.new (value_line number verb name.now value) }
 {
     let verb = verb.name();
     writeln!(text, "{number} {verb} SUCCESS {name}=0x{value:x}")
@@ -139,7 +138,7 @@ pub(crate) fn print_status<A: Allocator>(
     verb: Verb,
     status: Status,
 ) -> Result<(), AllocError>
-    ensures { OnOk result (Gains text.old text.new (status_line number verb (name_of status))) }
+    ensures { Prints result text.old text.new (status_line number verb (name_of status)) }
 {
     let verb = verb.name();
     let status = status.name();
@@ -154,8 +153,8 @@ fn print_map<A: Allocator>(
     reply: &MapReply,
 ) -> Result<(), AllocError>
     requires { AllByRecursion IsRecordEntry entries.now }
-    ensures { OnOk result
-        (Gains text.old text.new (map_text number entries.now reply.now reply.now.status)) }
+    ensures { Prints result text.old text.new
+        (map_text number entries.now reply.now reply.now.status) }
 {
     match reply.status {
         Status::Success => {
@@ -173,7 +172,7 @@ fn print_map_line<A: Allocator>(
     number: u64,
     reply: &MapReply,
 ) -> Result<(), AllocError>
-    ensures { OnOk result (Gains text.old text.new (map_line number reply.now)) }
+    ensures { Prints result text.old text.new (map_line number reply.now) }
 {
     let verb = Verb::Map.name();
     let size = reply.size;
@@ -193,7 +192,7 @@ pub(crate) fn print_size<A: Allocator>(
     verb: Verb,
     size: u64,
 ) -> Result<(), AllocError>
-    ensures { OnOk result (Gains text.old text.new (size_line number verb size)) }
+    ensures { Prints result text.old text.new (size_line number verb size) }
 {
     let verb = verb.name();
     writeln!(text, "{number} {verb} BUFFER_TOO_SMALL size={size}")
@@ -205,7 +204,7 @@ fn print_entries<A: Allocator>(
     entries: &[Descriptor],
 ) -> Result<(), AllocError>
     requires { AllByRecursion IsRecordEntry entries.now }
-    ensures { OnOk result (Gains text.old text.new (flat_map descriptor_line entries.now)) }
+    ensures { Prints result text.old text.new (flat_map descriptor_line entries.now) }
 {
     for entry in entries {
         print_descriptor(text, entry)?;
@@ -219,7 +218,7 @@ pub fn print_descriptor<A: Allocator>(
     entry: &Descriptor,
 ) -> Result<(), AllocError>
     requires { entry.now.first < page_count }
-    ensures { OnOk result (Gains text.old text.new (descriptor_line entry.now)) }
+    ensures { Prints result text.old text.new (descriptor_line entry.now) }
 {
     let mtype = entry.mtype.number();
     let address = entry.first * PAGE_SIZE;

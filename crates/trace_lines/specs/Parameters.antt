@@ -1,5 +1,5 @@
 -- The parameters of a trace line.
-use Rattle.std.specs.Prelude.{ℕ, ◌^◌, ◌==◌, nat_le, nat_lt, Bool, List, [], ◌∷◌, codes, Result, Ok, Err, if◌then◌else◌}
+use Rattle.std.specs.Prelude.{◌≡◌, ◌⊎◌, ℕ, ◌^◌, ◌==◌, nat_le, nat_lt, Bool, List, [], ◌∷◌, codes, Result, Ok, Err, if◌then◌else◌}
 use Rattle.std.specs.Str.{bytes_eq}
 use Rattle.hex.specs.Hex.{decode_of}
 use Rattle.hex.specs.declared.error.FromHexError.{FromHexError}
@@ -9,6 +9,10 @@ use Rattle.text_lines.specs.FirstFault.{◌>>=◌, or_fault}
 use Rattle.text_lines.specs.Numbers.{number_of}
 use Rattle.trace_lines.specs.declared.faults.TraceFault.{TraceFault}
 use Rattle.trace_lines.specs.declared.faults.TraceFault.TheVariants as fault
+
+-- What is read is this, unless memory runs out.
+abbrev pub ReadsAs : {T : Type 0} → Result T TraceFault → Result T TraceFault → Type 0
+ReadsAs read wanted = (read ≡ Err fault.OutOfMemory) ⊎ (read ≡ wanted)
 
 -- ---- numbers
 

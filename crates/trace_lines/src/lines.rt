@@ -1,5 +1,6 @@
 //! What a line asks for.
-ghost use Rattle.std.specs.Prelude.{◌≡◌, ◌⊎◌, [], ◌∷◌, Err, map};
+ghost use Rattle.std.specs.Prelude.{◌≡◌, [], ◌∷◌, map};
+ghost use Rattle.trace_lines.specs.Parameters.{ReadsAs};
 ghost use Rattle.trace_lines.specs.TraceLine.{call_of, call_of_words, line_of};
 
 use crate::faults::TraceFault;
@@ -29,7 +30,7 @@ pub fn read_call<A: Allocator + Copy>(
     alloc: A,
     line: &[u8],
 ) -> Result<Option<TraceCall<A>>, TraceFault>
-    ensures { (result ≡ Err TraceFault.OutOfMemory) ⊎ (result ≡ line_of line.now) }
+    ensures { ReadsAs result (line_of line.now) }
 {
     if line.len() > MAX_LINE_LENGTH {
         return Err(TraceFault::Long);
@@ -43,8 +44,7 @@ fn read_words<A: Allocator + Copy>(
     alloc: A,
     words: &[&[u8]],
 ) -> Result<Option<TraceCall<A>>, TraceFault>
-    ensures { (result ≡ Err TraceFault.OutOfMemory)
-        ⊎ (result ≡ call_of_words (map (λ word. word.now) words.now)) }
+    ensures { ReadsAs result (call_of_words (map (λ word. word.now) words.now)) }
 {
     let [name, parameters @ ..] = words else {
         return Ok(None);
@@ -62,8 +62,7 @@ fn read_verb<A: Allocator + Copy>(
     verb: Verb,
     parameters: &[&[u8]],
 ) -> Result<TraceCall<A>, TraceFault>
-    ensures { (result ≡ Err TraceFault.OutOfMemory)
-        ⊎ (result ≡ call_of verb (map (λ word. word.now) parameters.now)) }
+    ensures { ReadsAs result (call_of verb (map (λ word. word.now) parameters.now)) }
 {
     match verb {
         Verb::Pages => read_pages(parameters),
@@ -174,8 +173,7 @@ fn read_pool_read<A: Allocator>(parameters: &[&[u8]]) -> Result<TraceCall<A>, Tr
 
 /// What `write` asks for.
 fn read_pool_write<A: Allocator>(alloc: A, parameters: &[&[u8]]) -> Result<TraceCall<A>, TraceFault>
-    ensures { (result ≡ Err TraceFault.OutOfMemory)
-        ⊎ (result ≡ call_of Verb.Write (map (λ word. word.now) parameters.now)) }
+    ensures { ReadsAs result (call_of Verb.Write (map (λ word. word.now) parameters.now)) }
 {
     let [address, bytes] = parameters else {
         return Err(TraceFault::Words);

@@ -1,6 +1,6 @@
 //! The parameters of a trace line.
-ghost use Rattle.std.specs.Prelude.{◌≡◌, ◌⊎◌, Err, map};
-ghost use Rattle.trace_lines.specs.Parameters.{bytes_of, flag_of, guid_of, pairs_of, u32_of, u64_of, u64_up_to, u64s_of};
+ghost use Rattle.std.specs.Prelude.{◌≡◌, map};
+ghost use Rattle.trace_lines.specs.Parameters.{ReadsAs, bytes_of, flag_of, guid_of, pairs_of, u32_of, u64_of, u64_up_to, u64s_of};
 
 use crate::faults::TraceFault;
 use boot_calls::{CallBytes, CallHandles, CallPairs};
@@ -45,8 +45,7 @@ pub fn read_flag(word: &[u8]) -> Result<bool, TraceFault>
 
 /// Handles, numbers of 64 bits from left to right.
 pub fn read_handles<A: Allocator>(alloc: A, words: &[&[u8]]) -> Result<CallHandles<A>, TraceFault>
-    ensures { (result ≡ Err TraceFault.OutOfMemory)
-        ⊎ (result ≡ u64s_of (map (λ word. word.now) words.now)) }
+    ensures { ReadsAs result (u64s_of (map (λ word. word.now) words.now)) }
 {
     let mut handles = Vec::with_capacity(alloc, words.len())?;
     for word in words {
@@ -57,7 +56,7 @@ pub fn read_handles<A: Allocator>(alloc: A, words: &[&[u8]]) -> Result<CallHandl
 
 /// Bytes: two hexadecimal digits for each, or `-` for none.
 pub fn read_bytes<A: Allocator>(alloc: A, word: &[u8]) -> Result<CallBytes<A>, TraceFault>
-    ensures { (result ≡ Err TraceFault.OutOfMemory) ⊎ (result ≡ bytes_of word.now) }
+    ensures { ReadsAs result (bytes_of word.now) }
 {
     match word {
         [] => Err(TraceFault::Hex),
@@ -78,8 +77,7 @@ pub fn read_guid(word: &[u8]) -> Result<Uuid, TraceFault>
 
 /// Pairs of a GUID and a value, from left to right. A word that is left over belongs to none.
 pub fn read_pairs<A: Allocator>(alloc: A, words: &[&[u8]]) -> Result<CallPairs<A>, TraceFault>
-    ensures { (result ≡ Err TraceFault.OutOfMemory)
-        ⊎ (result ≡ pairs_of (map (λ word. word.now) words.now)) }
+    ensures { ReadsAs result (pairs_of (map (λ word. word.now) words.now)) }
 {
     let mut pairs = Vec::with_capacity(alloc, words.len() / 2)?;
     let mut rest = words;

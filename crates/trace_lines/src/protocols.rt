@@ -1,5 +1,6 @@
 //! What the verbs of the protocol services ask for.
-ghost use Rattle.std.specs.Prelude.{◌≡◌, ◌⊎◌, [], ◌∷◌, Err, map};
+ghost use Rattle.std.specs.Prelude.{◌≡◌, [], ◌∷◌, map};
+ghost use Rattle.trace_lines.specs.Parameters.{ReadsAs};
 ghost use Rattle.trace_lines.specs.TraceLine.{call_of};
 
 use crate::faults::TraceFault;
@@ -29,8 +30,7 @@ pub fn read_install_many<A: Allocator + Copy>(
     alloc: A,
     parameters: &[&[u8]],
 ) -> Result<TraceCall<A>, TraceFault>
-    ensures { (result ≡ Err TraceFault.OutOfMemory)
-        ⊎ (result ≡ call_of Verb.InstallMany (map (λ word. word.now) parameters.now)) }
+    ensures { ReadsAs result (call_of Verb.InstallMany (map (λ word. word.now) parameters.now)) }
 {
     let [handle, words @ ..] = parameters else {
         return Err(TraceFault::Words);
@@ -202,8 +202,7 @@ pub fn read_connect<A: Allocator + Copy>(
     alloc: A,
     parameters: &[&[u8]],
 ) -> Result<TraceCall<A>, TraceFault>
-    ensures { (result ≡ Err TraceFault.OutOfMemory)
-        ⊎ (result ≡ call_of Verb.Connect (map (λ word. word.now) parameters.now)) }
+    ensures { ReadsAs result (call_of Verb.Connect (map (λ word. word.now) parameters.now)) }
 {
     let [handle, recursive, drivers @ ..] = parameters else {
         return Err(TraceFault::Words);

@@ -7,4 +7,4 @@ use Rattle.c_interface.specs.Served.{AnswersNumber}
 use Rattle.boot_services_c.proofs.protocols.RafkudinLocateProtocol.Goals as goal
 
 pub returns : goal.returns
-returns c = subst (λ (core : EfiCoreValue Global). AnswersNumber core (call.LocateProtocol (guid_in c.args.guid.now) c.args.key) c.args.interface.now c.locate_protocol.result c.locate_protocol.new.interface c.locate_protocol.new.self) c.held.ensures.value c.locate_protocol.ensures
+returns c = subst (λ (core : EfiCoreValue Global). AnswersNumber core (call.LocateProtocol (guid_in c.args.guid.now) c.args.key) c.args.value.now c.locate_protocol.result c.locate_protocol.new.value c.locate_protocol.new.self) c.held.ensures.value c.locate_protocol.ensures

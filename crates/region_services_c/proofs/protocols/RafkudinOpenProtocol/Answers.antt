@@ -6,4 +6,4 @@ use Rattle.c_interface.specs.Served.{AnswersNumber}
 use Rattle.region_services_c.proofs.protocols.RafkudinOpenProtocol.Goals as goal
 
 pub returns : goal.returns
-returns c = subst (λ (core : Core). AnswersNumber core (call.OpenProtocol c.args.handle (guid_in c.args.guid.now) c.args.agent c.args.controller c.args.attributes) c.args.interface.now c.open_protocol.result c.open_protocol.new.interface c.open_protocol.new.self) c.held.ensures.value c.open_protocol.ensures
+returns c = subst (λ (core : Core). AnswersNumber core (call.OpenProtocol c.args.handle (guid_in c.args.guid.now) c.args.agent c.args.controller c.args.attributes) c.args.value.now c.open_protocol.result c.open_protocol.new.value c.open_protocol.new.self) c.held.ensures.value c.open_protocol.ensures

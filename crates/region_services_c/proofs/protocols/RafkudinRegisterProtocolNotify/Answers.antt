@@ -6,4 +6,4 @@ use Rattle.c_interface.specs.Served.{AnswersNumber}
 use Rattle.region_services_c.proofs.protocols.RafkudinRegisterProtocolNotify.Goals as goal
 
 pub returns : goal.returns
-returns c = subst (λ (core : Core). AnswersNumber core (call.RegisterProtocolNotify (guid_in c.args.guid.now) c.args.event) c.args.registration.now c.register_protocol_notify.result c.register_protocol_notify.new.registration c.register_protocol_notify.new.self) c.held.ensures.value c.register_protocol_notify.ensures
+returns c = subst (λ (core : Core). AnswersNumber core (call.RegisterProtocolNotify (guid_in c.args.guid.now) c.args.event) c.args.key.now c.register_protocol_notify.result c.register_protocol_notify.new.key c.register_protocol_notify.new.self) c.held.ensures.value c.register_protocol_notify.ensures

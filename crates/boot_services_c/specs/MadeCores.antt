@@ -1,0 +1,24 @@
+-- What is made of records and tables, as a place of the caller's has it.
+use Rattle.std.specs.Prelude.{ℕ, List, Result, Ok, Err, MatchOption, MatchResult}
+use Rattle.c_machines.specs.declared.drivers.DriverTable.{DriverTable}
+use Rattle.c_interface.specs.Making.{MakesCore}
+use Rattle.boot_services_c.specs.Blocks.{CoreHeap}
+use Rattle.boot_services_c.specs.Places.{Held}
+use Rattle.boot_services_c.specs.declared.place.Place.{Place}
+
+-- The core that is held is the one that the records and tables describe.
+abbrev pub Holds : ℕ → List ℕ → ℕ → List DriverTable → Held → Type 0
+Holds size records granule tables held =
+    MatchOption held ⊥
+    (λ handle. MakesCore {A = CoreHeap} size records granule tables (Ok handle.core))
+
+-- No core is made, with this status.
+abbrev pub Refuses : ℕ → List ℕ → ℕ → List DriverTable → ℕ → Type 0
+Refuses size records granule tables status =
+    MakesCore {A = CoreHeap} size records granule tables (Err status)
+
+-- The place holds the core that the records and tables describe, or none is made.
+abbrev pub MakesPlace : ℕ → List ℕ → ℕ → List DriverTable → Result Place ℕ → Type 0
+MakesPlace size records granule tables made =
+    MatchResult made (λ place. Holds size records granule tables place.held)
+    (Refuses size records granule tables)
