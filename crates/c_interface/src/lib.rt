@@ -5,11 +5,17 @@
 mod buffers;
 mod checks;
 mod efi_core;
+mod entries;
 mod lists;
 mod making;
 mod memory;
+mod opening;
 mod protocols;
+mod questions;
+mod removals;
 mod replies;
 
+pub use boot_core::OpenItem;
 pub use checks::{MapEntry, check_block};
 pub use efi_core::{ABORTED, EfiCore, LastBlock};
+pub use entries::{BlockEntry, OpenEntry, RunEntry};
