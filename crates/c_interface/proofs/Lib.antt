@@ -1,4 +1,8 @@
 mod Blocks
 mod FoundEntries
+mod FoundRuns
+mod ListedItems
 mod LongLists
+mod LongRemovals
+mod Opened
 mod ReturnedLists

@@ -2,7 +2,10 @@ pub mod Buffers
 pub mod Checks
 pub mod EfiCores
 pub mod Making
+pub mod Opening
+pub mod Questions
 pub mod Replies
 pub mod Served
+pub mod Removals
 pub mod Services
 pub mod Turns

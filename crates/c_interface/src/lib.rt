@@ -5,14 +5,19 @@
 mod buffers;
 mod checks;
 mod efi_core;
+mod entries;
 mod lists;
 mod making;
 mod memory;
+mod opening;
 mod protocols;
+mod questions;
+mod removals;
 mod replies;
 mod turns;
 
-pub use boot_core::{Agent, DriverTurns};
+pub use boot_core::{Agent, DriverTurns, OpenItem};
 pub use checks::{MapEntry, check_block};
 pub use efi_core::{ABORTED, EfiCore, LastBlock};
+pub use entries::{BlockEntry, OpenEntry, RunEntry};
 pub use turns::{connect_next, connect_record};

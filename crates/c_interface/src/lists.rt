@@ -128,7 +128,7 @@ fn returned_size(status: Status, size: u64) -> Option<u64>
 }
 
 /// The first interfaces as pairs of GUID and value, at most one more than may be installed at once.
-fn first_pairs(interfaces: &[Interface]) -> ArrayVec<(Uuid, u64), TOO_MANY>
+pub(crate) fn first_pairs(interfaces: &[Interface]) -> ArrayVec<(Uuid, u64), TOO_MANY>
     ensures { result.items ≡ map interface_in (take too_many interfaces.now) }
 {
     let count = interfaces.len().min(TOO_MANY);
