@@ -4,3 +4,4 @@ pub mod EfiCores
 pub mod Making
 pub mod Replies
 pub mod Served
+pub mod Paths

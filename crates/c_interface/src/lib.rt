@@ -8,6 +8,7 @@ mod efi_core;
 mod lists;
 mod making;
 mod memory;
+mod paths;
 mod protocols;
 mod replies;
 
