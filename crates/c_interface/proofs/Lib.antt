@@ -6,3 +6,5 @@ mod LongLists
 mod LongRemovals
 mod Opened
 mod ReturnedLists
+pub mod InstalledPaths
+pub mod LocatedHere

@@ -9,3 +9,4 @@ pub mod Served
 pub mod Removals
 pub mod Services
 pub mod Turns
+pub mod Paths

@@ -6,6 +6,7 @@ ghost use Rattle.boot_replies.specs.Certified.{certified};
 ghost use Rattle.boot_core.specs.Machines.{kept_map};
 ghost use Rattle.c_interface.specs.Buffers.{laid};
 ghost use Rattle.c_interface.specs.EfiCores.{LeavesBlock, certifying_core, forgotten, last_events};
+ghost use Rattle.c_interface.specs.Paths.{with_reply};
 ghost use Rattle.c_interface.specs.Replies.{number_in, returned_or, status_in};
 ghost use Rattle.c_interface.specs.Served.{AnswersStatus, AnswersNumber, AnswersNumbers, ReturnsBlock};
 
@@ -123,6 +124,16 @@ impl<A: Allocator + Copy> EfiCore<A> {
     {
         let status = status_in(&reply).number();
         self.keep(reply, LastBlock::Nothing);
+        status
+    }
+
+    /// The same, beside the block that the call before left.
+    pub(crate) fn tell_beside(&mut self, reply: Reply<A>) -> u64
+        ensures status { result ≡ status_number (status_in reply) }
+        ensures core { self.new ≡ with_reply self.old reply }
+    {
+        let status = status_in(&reply).number();
+        self.last = Some(reply);
         status
     }
 

@@ -10,6 +10,7 @@ mod lists;
 mod making;
 mod memory;
 mod opening;
+mod paths;
 mod protocols;
 mod questions;
 mod removals;

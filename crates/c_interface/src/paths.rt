@@ -1,0 +1,121 @@
+//! Device paths in the caller's memory.
+ghost use Rattle.std.specs.Prelude.{◌≡◌, ◌+◌, ◌≤◌, option_and_then};
+ghost use Rattle.c_machines.specs.Guids.{guid_in};
+ghost use Rattle.c_interface.specs.EfiCores.{meanings};
+ghost use Rattle.c_interface.specs.Replies.{number_in};
+ghost use Rattle.c_interface.specs.Paths.{AnswersPath, InstallsBlock, InstallsPath, RunsUntilRefused, path_calls, with_core};
+
+use crate::efi_core::{ABORTED, EfiCore};
+use crate::replies::{number_in, status_in};
+use boot_core::{Call, Reply};
+use c_machines::Guid;
+use device_path_locate::{device_path_guid, read_path};
+use page_ranges::Status;
+use std::alloc::Allocator;
+
+/// The memory type of the block that a path is copied to: boot services data.
+const PATH_TYPE: u32 = 4;
+
+/// How many calls an installation makes at most.
+const MOST_PATH_CALLS: u64 = 4;
+
+impl<A: Allocator + Copy> EfiCore<A> {
+    /// LocateDevicePath with a path in the caller's memory. The place `matched` is given how many bytes of
+    /// the path's nodes match, the place `device` the handle.
+    ///
+    /// INVALID_PARAMETER: the bytes begin with no path. NOT_FOUND: no handle matches.
+    pub fn locate_path(
+        &mut self,
+        guid: &Guid,
+        path: &[u8],
+        device: &mut u64,
+        matched: &mut u64,
+    ) -> u64
+        ensures { AnswersPath self.old (guid_in guid.now) path.now (device.old, matched.old) result
+            (device.new, matched.new) self.new }
+    {
+        self.forget();
+        if self.core.calls_left() == 0 {
+            return ABORTED;
+        }
+        match self.core.locate_path(guid.uuid(), path) {
+            Ok((handle, size)) => {
+                *device = handle;
+                *matched = size as u64;
+                Status::Success.number()
+            }
+            Err(status) => status.number(),
+        }
+    }
+
+    /// Installs a device path that is in the caller's memory: copies it to a block of the pool, and installs
+    /// the block's address by InstallMultipleProtocolInterfaces. The place `handle` has the handle, 0 for a
+    /// new one, and is given it, the place `address` the block's address. Where that is refused the block is
+    /// given back. These are three or four calls.
+    ///
+    /// INVALID_PARAMETER: the bytes begin with no path; then no call is made.
+    pub fn install_path(&mut self, handle: &mut u64, path: &[u8], address: &mut u64) -> u64
+        ensures { InstallsPath self.old path.now (handle.old, address.old) result
+            (handle.new, address.new) self.new }
+    {
+        if read_path(path).is_none() {
+            self.forget();
+            return Status::InvalidParameter.number();
+        }
+        if self.core.calls_left() < MOST_PATH_CALLS {
+            self.forget();
+            return ABORTED;
+        }
+        let status = self.answer(&Call::AllocatePool {
+            mtype: PATH_TYPE,
+            size: path.len() as u64,
+        });
+        match self.last_number() {
+            Some(block) => self.install_at(handle, path, block, address),
+            None => status,
+        }
+    }
+
+    // The number that the reply to the last call carries.
+    fn last_number(&self) -> Option<u64>
+        ensures { result ≡ option_and_then number_in self.now.last }
+    {
+        match self.last_reply() {
+            Some(reply) => number_in(reply),
+            None => None,
+        }
+    }
+
+    // What follows the block of a path.
+    fn install_at(&mut self, handle: &mut u64, path: &[u8], block: u64, address: &mut u64) -> u64
+        requires { 3 ≤ self.old.core.state.calls_left }
+        ensures { InstallsBlock self.old path.now block (handle.old, address.old) result
+            (handle.new, address.new) self.new }
+    {
+        let reply = self.write_path(*handle, path, block);
+        if status_in(&reply) != Status::Success {
+            let _freed = self.core.free_pool(block);
+            return self.tell_beside(reply);
+        }
+        *handle = number_in(&reply).unwrap_or(*handle);
+        *address = block;
+        self.tell_beside(reply)
+    }
+
+    // Writes a path to its block, and installs the block's address.
+    fn write_path(&mut self, handle: u64, path: &[u8], block: u64) -> Reply<A>
+        requires { 2 ≤ self.old.core.state.calls_left }
+        ensures run { RunsUntilRefused (meanings self.old) self.old.core.state
+            (path_calls handle path.now block) result self.new.core.state }
+        ensures counted { self.old.core.state.calls_left ≤ self.new.core.state.calls_left + 2 }
+        ensures drivers { self.new.core.drivers ≡ self.old.core.drivers }
+        ensures others { self.new ≡ with_core self.old self.new.core }
+    {
+        let written = self.core.pool_write(block, path);
+        if status_in(&written) != Status::Success {
+            return written;
+        }
+        let pair = [(device_path_guid(), block)];
+        self.core.install_multiple(handle, &pair)
+    }
+}
