@@ -13,7 +13,8 @@ pub mod PlannedStops
 pub mod AfterStops
 pub mod StopSets
 pub mod PairMembers
-pub mod ManagedPairs
+pub mod MadeHandles
+pub mod Unobstructed
 pub mod NewPairs
 pub mod Left
 pub mod Idle

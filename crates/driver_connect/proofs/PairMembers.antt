@@ -3,12 +3,12 @@ use Rattle.std.proofs.Common.{◌≡◌, ℕ, ◌==◌, ◌||◌, Bool, true, fa
 use Rattle.std.specs.List.{list_any}
 use Rattle.std.proofs.lemmas.Bool.Decides.{eqb_tells}
 use Rattle.std.proofs.lemmas.Bool.{ne_eqb, eq-eqb}
-use Rattle.open_agents.specs.Blocks.{Block, ChangesBlock, block_at, with_last}
+use Rattle.guid_handles.specs.Blocks.{Block, ChangesBlock, block_at, with_last}
 use Rattle.driver_connect.specs.Stopping.{same_pair, has_pair}
 use Rattle.driver_connect.specs.PairSets.{AreMembers}
 use Rattle.driver_connect.proofs.Filters.{any_more}
 
-equal_round : (x y : ℕ) → (x == y) ≡ (y == x)
+pub equal_round : (x y : ℕ) → (x == y) ≡ (y == x)
 equal_round x y = elim (eqb_tells x y) [
   | inl t ↦ t.0 ∙ sym (eq-eqb y x (sym t.1))
   | inr f ↦ f.0 ∙ sym (ne_eqb y x (λ e. f.1 (sym e)))

@@ -1,11 +1,12 @@
 -- The stop set is the least closed set, and rounds make it.
-use Rattle.std.proofs.Common.{◌≡◌, ◌⊎◌, ℕ, zero, suc, ◌+◌, ◌<◌, ◌≤◌, not, true, false, List, [], ◌∷◌, map, length, Option, Some, None, inl, inr, refl, sym, ◌∙◌, arith}
+use Rattle.std.proofs.Common.{◌≡◌, ◌⊎◌, ℕ, zero, suc, ◌+◌, ◌-◌, ◌<◌, ◌≤◌, not, true, false, List, [], ◌∷◌, map, length, Option, Some, None, inl, inr, refl, sym, ap, ◌∙◌, arith}
 use Rattle.std.specs.List.{filter}
 use Rattle.std.proofs.lemmas.Bool.{cases_Bool}
 use Rattle.std.proofs.lemmas.Bool.Decides.{eqb_tells}
 use Rattle.guid_handles.specs.HandleTables.{HandleTable, maker_of}
 use Rattle.guid_handles.proofs.SortedLists.{filter_shorter}
 use Rattle.open_agents.specs.declared.items.OpenRecord.{OpenRecord}
+use Rattle.open_agents.specs.Blocks.{items_in}
 use Rattle.open_agents.specs.OpenItems.{is_for_driver}
 use Rattle.driver_connect.specs.Stopping.{same_pair, has_pair, pair_of, with_pair, with_pairs, is_maker, manages_made, managers_of_made, round, rounds, stop_set}
 use Rattle.driver_connect.specs.Laws.{IsClosed}
@@ -203,3 +204,23 @@ is_closed t opens pairs = record {
 pub is_least : (t : HandleTable) (opens : List OpenRecord) (pairs set : List (ℕ × ℕ)) → IsClosed t opens pairs set → IsWithin (stop_set t opens pairs) set
 is_least t opens pairs set c =
     rounds_within (length t.handles + length opens) t opens (with_pairs [] pairs) set (all_within [] pairs set (λ p h. absurd (let e : false ≡ true = h in cc)) c.given) c.managers
+
+-- ---- more rounds
+
+rounds_sum : (k j : ℕ) (t : HandleTable) (opens : List OpenRecord) (s : List (ℕ × ℕ)) → rounds (k + j) t opens s ≡ rounds j t opens (rounds k t opens s)
+rounds_sum zero j t opens s = ap (λ n. rounds n t opens s) (let e : 0 + j ≡ j = omega arith in e)
+rounds_sum (suc k) j t opens s = ap (λ n. rounds n t opens s) (let e : suc k + j ≡ suc (k + j) = omega arith in e) ∙ rounds_sum k j t opens (round t opens s)
+
+-- rounds beyond the number of handles and items add nothing
+pub more_rounds : (most : ℕ) (t : HandleTable) (opens : List OpenRecord) (pairs : List (ℕ × ℕ)) → length t.handles + length opens ≤ most → rounds most t opens (with_pairs [] pairs) ≡ stop_set t opens pairs
+more_rounds most t opens pairs l =
+    let least = length t.handles + length opens in
+    let rest : most ≡ least + (most - least) = omega (arith, l) in
+    ap (λ k. rounds k t opens (with_pairs [] pairs)) rest
+    ∙ rounds_sum least (most - least) t opens (with_pairs [] pairs)
+    ∙ rounds_end (most - least) t opens (stop_set t opens pairs) (is_settled t opens pairs)
+
+pub fewer_items : (slots : List (Option OpenRecord)) → length (items_in slots) ≤ length slots
+fewer_items [] = omega arith
+fewer_items (None ∷ ss) = omega (arith, fewer_items ss)
+fewer_items (Some o ∷ ss) = omega (arith, fewer_items ss)

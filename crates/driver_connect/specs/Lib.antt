@@ -1,7 +1,6 @@
 pub mod Drivers
 pub mod Stopping
 pub mod PairSets
-pub mod Managed
 pub mod Room
 pub mod Starting
 pub mod Readiness

@@ -1,7 +1,7 @@
 -- Pairs that are kept twice: in the order in which they joined, and by their controllers.
 use Rattle.std.specs.Prelude.{◌≡◌, ℕ, ◌==◌, List}
 use Rattle.std.specs.List.{list_any}
-use Rattle.open_agents.specs.Blocks.{Block, block_at}
+use Rattle.guid_handles.specs.Blocks.{Block, block_at}
 use Rattle.driver_connect.specs.Stopping.{has_pair}
 
 -- the block of each controller has the agents of its pairs

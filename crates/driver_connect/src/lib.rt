@@ -6,7 +6,7 @@ mod candidates;
 mod connecting;
 mod driver;
 mod laws;
-mod managed;
+mod made;
 mod pair_set;
 mod pairs;
 mod progress;

@@ -2,7 +2,7 @@
 ghost use Rattle.std.specs.Prelude.{◌≡◌, ◌<◌, ◌++◌, [], ◌∷◌, length, OnOk, vec_len, vec_capacity};
 ghost use Rattle.driver_connect.specs.Stopping as spec;
 
-use open_agents::Blocks;
+use guid_handles::Blocks;
 use std::alloc::{AllocError, Allocator};
 use std::marker::Model;
 

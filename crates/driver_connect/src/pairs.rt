@@ -1,9 +1,8 @@
 //! Pairs of a controller and the agent of a driver, and the stop set of some.
 ghost use Rattle.std.specs.Prelude.{◌≡◌, ◌≤◌, IfOk, OnOk, length, drop};
 ghost use Rattle.driver_connect.specs.Stopping as spec;
-ghost use Rattle.driver_connect.specs.Managed.{all_managed as managed_all};
 
-use crate::managed::{Managed, all_managed, managers_among};
+use crate::made::made_by;
 use crate::pair_set::PairSet;
 use guid_handles::Handles;
 use open_agents::Opens;
@@ -43,36 +42,17 @@ pub(crate) fn is_made_by<A: Allocator + Copy>(
     }
 }
 
-/// The handles that some pairs made, ascending.
-pub(crate) fn made_by<A: Allocator + Copy>(
-    alloc: A,
-    handles: &Handles<A>,
-    pairs: &PairSet<A>,
-) -> Result<Vec<u64, A>, AllocError>
-    ensures { IfOk result (λ v. v.items ≡ spec.made_by handles.now pairs.now) }
-{
-    let mut made = Vec::new(alloc);
-    let numbers = handles.all();
-    for n in numbers {
-        if is_made_by(handles, pairs, *n) {
-            made.push(*n)?;
-        }
-    }
-    Ok(made)
-}
-
-/// The pairs that manage a handle that some pairs made, by all that manage made handles.
+/// The pairs that manage a handle that some pairs made, in the order of their items.
 fn managers_of_made<A: Allocator + Copy>(
     alloc: A,
     handles: &Handles<A>,
     opens: &Opens<A>,
-    managed: &[Managed],
     pairs: &[(u64, u64)],
 ) -> Result<Vec<(u64, u64), A>, AllocError>
-    requires { managed.now ≡ managed_all handles.now opens.now }
     ensures { IfOk result (λ v. v.items ≡ spec.managers_of_made handles.now opens.now pairs.now) }
 {
-    managers_among(alloc, managed, pairs)
+    let made = made_by(alloc, handles, pairs)?;
+    opens.managers_of_any(made.as_slice())
 }
 
 /// Adds the managers of the handles that the pairs of a set from a place on made.
@@ -81,16 +61,14 @@ fn add_managers<A: Allocator + Copy>(
     set: &mut PairSet<A>,
     handles: &Handles<A>,
     opens: &Opens<A>,
-    managed: &[Managed],
     from: usize,
 ) -> Result<(), AllocError>
-    requires managed { managed.now ≡ managed_all handles.now opens.now }
-    requires place { from ≤ length set.old }
+    requires { from ≤ length set.old }
     ensures { OnOk result
         (set.new ≡ spec.with_pairs set.old
         (spec.managers_of_made handles.now opens.now (drop from set.old))) }
 {
-    let managers = managers_of_made(alloc, handles, opens, managed, &set.as_slice()[from..])?;
+    let managers = managers_of_made(alloc, handles, opens, &set.as_slice()[from..])?;
     add_pairs(set, managers.as_slice())
 }
 
@@ -101,16 +79,14 @@ fn add_rounds<A: Allocator + Copy>(
     set: &mut PairSet<A>,
     handles: &Handles<A>,
     opens: &Opens<A>,
-    managed: &[Managed],
     count: usize,
 ) -> Result<(), AllocError>
-    requires { managed.now ≡ managed_all handles.now opens.now }
     ensures { OnOk result (set.new ≡ spec.rounds count handles.now opens.now set.old) }
 {
     let mut asked = 0;
     for k in 0..count {
         let before = set.len();
-        add_managers(alloc, set, handles, opens, managed, asked)?;
+        add_managers(alloc, set, handles, opens, asked)?;
         if set.len() == before {
             return Ok(());
         }
@@ -130,14 +106,8 @@ pub(crate) fn stop_set<A: Allocator + Copy>(
 {
     let mut set = PairSet::new(alloc);
     add_pairs(&mut set, pairs)?;
-    let managed = all_managed(alloc, handles, opens)?;
-    add_rounds(
-        alloc,
-        &mut set,
-        handles,
-        opens,
-        managed.as_slice(),
-        handles.all().len() + opens.len(),
-    )?;
+    // There are at most this many items, and further rounds add nothing.
+    let most = handles.all().len() + opens.slots().len();
+    add_rounds(alloc, &mut set, handles, opens, most)?;
     Ok(set)
 }

@@ -1,18 +1,21 @@
 //! Stopping drivers, with the handles that they made.
-ghost use Rattle.std.specs.Prelude.{◌≡◌, ◌==◌, ◌||◌, [], false, IfOk, OnErr, map};
+ghost use Rattle.std.specs.Prelude.{◌≡◌, ◌==◌, ◌||◌, not, [], false, IfOk, OnErr, map};
 ghost use Rattle.std.specs.List.{list_all, list_any, filter};
+ghost use Rattle.open_agents.specs.Blocks.{items_at};
 ghost use Rattle.open_agents.specs.OpenItems.{without_items};
 ghost use Rattle.driver_connect.specs.Stopping as spec;
 
 use crate::agents::{driver_binding, driver_of, may_stop_at};
 use crate::driver::Driver;
+use crate::made::made_by;
 use crate::pair_set::PairSet;
-use crate::pairs::{is_made_by, made_by, stop_set};
+use crate::pairs::{is_made_by, stop_set};
 use crate::protocols::protocols_on;
 use crate::view::View;
 use guid_handles::Handles;
 use open_agents::{
-    BY_CHILD_CONTROLLER, BY_HANDLE_PROTOCOL, GET_PROTOCOL, OpenRecord, Opens, TEST_PROTOCOL,
+    BY_CHILD_CONTROLLER, BY_HANDLE_PROTOCOL, GET_PROTOCOL, Near, OpenRecord, Opens, TEST_PROTOCOL,
+    item_at,
 };
 use page_ranges::Status;
 use std::alloc::{AllocError, Allocator, Global};
@@ -77,20 +80,41 @@ fn is_no_obstacle<A: Allocator + Copy>(
         || (o.attributes == BY_CHILD_CONTROLLER && is_made_by(handles, set, o.controller))
 }
 
-/// Whether the items on the handles that go are no obstacles.
+/// Whether the items on a handle are no obstacles, among those near it.
+fn is_unobstructed_on<A: Allocator + Copy>(
+    handles: &Handles<A>,
+    near: Near<'_>,
+    set: &PairSet<A>,
+    handle: u64,
+) -> bool
+    ensures { result
+        ≡ list_all
+        (λ o. not (o.handle == handle) || spec.is_no_obstacle handles.now set.now o)
+        (items_at near.entry.slots.now near.entry.places.now) }
+{
+    for place in near.places {
+        if let Some(o) = item_at(near.slots, *place) {
+            if o.handle == handle && !is_no_obstacle(handles, set, o) {
+                return false;
+            }
+        }
+    }
+    true
+}
+
+/// Whether the items on the handles that go, which the pairs of the set made, are no obstacles.
 fn is_unobstructed<A: Allocator + Copy>(
     handles: &Handles<A>,
     opens: &Opens<A>,
     set: &PairSet<A>,
+    made: &[u64],
 ) -> bool
+    requires { made.now ≡ spec.made_by handles.now set.now }
     ensures { result ≡ spec.is_unobstructed handles.now opens.now set.now }
 {
-    let slots = opens.slots();
-    for slot in slots {
-        if let Some(o) = slot {
-            if is_made_by(handles, set, o.handle) && !is_no_obstacle(handles, set, o) {
-                return false;
-            }
+    for n in made {
+        if !is_unobstructed_on(handles, opens.near(*n), set, *n) {
+            return false;
         }
     }
     true
@@ -136,9 +160,12 @@ fn can_be_stopped<D: Driver, A: Allocator + Copy>(
         ≡ spec.can_be_stopped
         (map D.meaning drivers.now) handles.now opens.now set.now handle opener) }
 {
+    if !may_all_stop(alloc, drivers, handles, opens, set.as_slice())? {
+        return Ok(false);
+    }
+    let made = made_by(alloc, handles, set.as_slice())?;
     Ok(
-        may_all_stop(alloc, drivers, handles, opens, set.as_slice())?
-            && is_unobstructed(handles, opens, set)
+        is_unobstructed(handles, opens, set, made.as_slice())
             && !is_made_by(handles, set, handle)
             && spares_opener(handles, set, opener),
     )
@@ -208,7 +235,7 @@ impl<A: Allocator + Copy> StopPlan<A> {
             });
         }
         let pairs = stop_set(alloc, handles, opens, pairs)?;
-        let handles = made_by(alloc, handles, &pairs)?;
+        let handles = made_by(alloc, handles, pairs.as_slice())?;
         Ok(StopPlan { pairs, handles })
     }
 

@@ -115,7 +115,7 @@ keys_filed n fs at f a h e =
 
 -- ---- the keys of one handle
 
-rows_lives : (fs : List FiledRow) (at : ℕ) (f new : FiledRow) → slice_get fs at ≡ Some f → new.row.live ≡ f.row.live → new.gone ≡ f.gone → lives (rows_in (set fs at new)) ≡ lives (rows_in fs)
+pub rows_lives : (fs : List FiledRow) (at : ℕ) (f new : FiledRow) → slice_get fs at ≡ Some f → new.row.live ≡ f.row.live → new.gone ≡ f.gone → lives (rows_in (set fs at new)) ≡ lives (rows_in fs)
 rows_lives [] zero f new e l g = refl
 rows_lives [] (suc at) f new e l g = refl
 rows_lives (x ∷ xs) zero f new e l g =

@@ -13,3 +13,6 @@ pub mod Apart
 pub mod Found
 pub mod Stored
 pub mod Following
+pub mod BlockLists
+pub mod PlaceLists
+pub mod Made

@@ -5,3 +5,6 @@ pub mod Indexes
 pub mod Slots
 pub mod Stores
 pub mod KeyRoom
+pub mod Blocks
+pub mod Places
+pub mod MadeOn

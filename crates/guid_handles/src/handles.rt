@@ -5,6 +5,7 @@ ghost use Rattle.guid_handles.specs.HandleTables.{numbers, same_guid, has_number
 ghost use Rattle.guid_handles.specs.HandleChanges.{IsHandleTable, max_handles, max_installed, has_guid_twice, is_dead, is_taken, past_limit, refusal, with_interfaces, with_handle, install_refusal, install_many_refusal, Installs, without_handle, without_interface, with_value};
 ghost use Rattle.guid_handles.specs.Indexes.{AreAbsent, ChangesKeys, HaveSameKeys, SetsKey, is_row_of, key_at};
 ghost use Rattle.guid_handles.specs.Slots.{record_at, with_stamp};
+ghost use Rattle.guid_handles.specs.MadeOn.{made_on};
 ghost use Rattle.guid_handles.specs.Stores.{AgreeOnKeys};
 
 use crate::groups::Groups;
@@ -158,6 +159,13 @@ impl<A: Allocator + Copy> Handles<A> {
         ensures { result ≡ maker_of self.now handle }
     {
         self.rows.find(handle).and_then(|h| h.maker)
+    }
+
+    /// The numbers of the handles that drivers made on a controller, ascending.
+    pub fn made_on(&self, controller: u64) -> &[usize]
+        ensures { result.now ≡ made_on self.now controller }
+    {
+        self.rows.made_on(controller)
     }
 
     /// The interface of a GUID on a handle.

@@ -1,17 +1,22 @@
 //! The handle table: handles, the protocol interfaces on them, and how they are found.
 #![tactic(auto)]
 
+mod blocks;
 mod groups;
 mod guid_group;
 mod guids;
 mod handle_keys;
 mod handle_row;
 mod handles;
+mod place_block;
+mod places;
 mod records;
 mod room;
 mod rows;
 mod searches;
 
+pub use blocks::Blocks;
 pub use guids::is_same_guid;
 pub use handles::{Handles, MAX_HANDLES, MAX_INSTALLED, has_guid_twice};
+pub use places::add_place;
 pub use records::{Interface, LiveHandle};

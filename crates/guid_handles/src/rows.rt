@@ -4,7 +4,10 @@ ghost use Rattle.std.specs.List.{find, filter, AllByRecursion};
 ghost use Rattle.guid_handles.specs.HandleTables.{has_number};
 ghost use Rattle.guid_handles.specs.Sorting.{Ascending, place};
 ghost use Rattle.guid_handles.specs.Indexes.{lives, row_numbers, keys_on, is_row_of, filed_number, filed_numbers, is_filed_at, rows_in, ChangesKeys};
+ghost use Rattle.guid_handles.specs.Blocks.{with_last, without_place};
+ghost use Rattle.guid_handles.specs.MadeOn.{ChangesMade, numbers_made_on};
 
+use crate::blocks::Blocks;
 use crate::handle_row::HandleRow;
 use crate::records::LiveHandle;
 use crate::room::{make_room, push_with_room};
@@ -15,23 +18,26 @@ use std::marker::Model;
 /// How many rows of handles that are gone stay, beside as many as there are live handles.
 const MOST_GONE: usize = 32;
 
-/// The live handles by ascending number, and beside them their numbers alone. The row of a handle
-/// that goes stays until most rows are such rows.
+/// The live handles by ascending number, and beside them their numbers alone and those that drivers
+/// made. The row of a handle that goes stays until most rows are such rows.
 #[derive(Drop)]
 pub(crate) struct Rows<A: Allocator> {
     rows: Vec<HandleRow<A>, A>,
     numbers: Vec<u64, A>,
+    // Those that drivers made, by the controllers of these.
+    made: Blocks<A>,
 }
 
 impl<A: Allocator> Model for Rows<A> {
     ghost use Rattle.std.specs.Prelude.{List};
-    ghost use Rattle.guid_handles.specs.Indexes.{Row, AreRows, rows_in};
+    ghost use Rattle.guid_handles.specs.Indexes.{Row, rows_in};
+    ghost use Rattle.guid_handles.specs.MadeOn.{AreRowsNoted};
 
     ghost Value = { List Row };
 
     ghost view = { λ r. rows_in r.rows.items };
 
-    ghost invariant = { λ r. AreRows r.rows.items r.numbers.items };
+    ghost invariant = { λ r. AreRowsNoted r.rows.items r.numbers.items r.made };
 }
 
 /// How many rows have lower numbers.
@@ -159,6 +165,26 @@ fn tidy<A: Allocator + Copy>(rows: &mut Vec<HandleRow<A>, A>, live: usize)
     }
 }
 
+/// Notes a handle by the controller of its maker, if it has one. On an `Err` nothing changes.
+fn note_made<A: Allocator + Copy>(made: &mut Blocks<A>, live: LiveHandle) -> Result<(), AllocError>
+    ensures ok { OnOk result (ChangesMade live.maker (with_last live.number) made.old made.new) }
+    ensures err { OnErr result (made.new ≡ made.old) }
+{
+    match live.maker {
+        Some((controller, _)) => made.push(controller, live.number as usize),
+        None => Ok(()),
+    }
+}
+
+/// Takes a handle out of those by the controllers of their makers.
+fn forget_made<A: Allocator + Copy>(made: &mut Blocks<A>, live: LiveHandle)
+    ensures { ChangesMade live.maker (without_place live.number) made.old made.new }
+{
+    if let Some((controller, _)) = live.maker {
+        made.remove(controller, live.number as usize);
+    }
+}
+
 impl<A: Allocator + Copy> Rows<A> {
     /// No handles. This takes no memory.
     pub(crate) fn new(alloc: A) -> Rows<A>
@@ -167,6 +193,7 @@ impl<A: Allocator + Copy> Rows<A> {
         Rows {
             rows: Vec::new(alloc),
             numbers: Vec::new(alloc),
+            made: Blocks::new(alloc),
         }
     }
 
@@ -177,7 +204,12 @@ impl<A: Allocator + Copy> Rows<A> {
         let alloc = *self.numbers.allocator();
         let numbers = Vec::from_slice(alloc, self.numbers.as_slice())?;
         let rows = copy_rows(alloc, self.rows.as_slice())?;
-        Ok(Rows { rows, numbers })
+        let made = self.made.try_copy()?;
+        Ok(Rows {
+            rows,
+            numbers,
+            made,
+        })
     }
 
     /// The numbers, ascending.
@@ -185,6 +217,13 @@ impl<A: Allocator + Copy> Rows<A> {
         ensures { result.now ≡ row_numbers self.now }
     {
         self.numbers.as_slice()
+    }
+
+    /// The numbers of the handles that drivers made on a controller, ascending.
+    pub(crate) fn made_on(&self, controller: u64) -> &[usize]
+        ensures { result.now ≡ numbers_made_on controller (lives self.now) }
+    {
+        self.made.places(controller)
     }
 
     /// The handle of a number.
@@ -217,7 +256,9 @@ impl<A: Allocator + Copy> Rows<A> {
         let row = HandleRow::new(*self.numbers.allocator(), live)?;
         clear_above(&mut self.rows, live.number);
         make_room(&mut self.rows)?;
-        self.numbers.push(live.number)?;
+        self.numbers.reserve(1)?;
+        note_made(&mut self.made, live)?;
+        push_with_room(&mut self.numbers, live.number);
         push_with_room(&mut self.rows, row);
         Ok(())
     }
@@ -227,8 +268,10 @@ impl<A: Allocator + Copy> Rows<A> {
         ensures { self.new ≡ filter (λ r. not (is_row_of number r)) self.old }
     {
         if let Some(at) = place_of(self.rows.as_slice(), number) {
+            let live = self.rows[at].live();
             self.rows[at].mark_gone();
             remove_number(&mut self.numbers, number);
+            forget_made(&mut self.made, live);
             tidy(&mut self.rows, self.numbers.len());
         }
     }

@@ -12,7 +12,7 @@ use Rattle.open_agents.specs.OpenRule.{add_or_stop, has_equal, has_of_agent, has
 use Rattle.open_agents.proofs.Placed.{none_of_agent_0}
 use Rattle.open_agents.specs.Blocks.{block_size, is_near}
 
-first_part : (a b : Bool) → (a && b) ≡ true → a ≡ true
+pub first_part : (a b : Bool) → (a && b) ≡ true → a ≡ true
 first_part a b h = elim (cases_Bool a) [
   | inl e ↦ e
   | inr e ↦ let n = rw e at h in cc
@@ -27,17 +27,17 @@ or_true : (a : Bool) → (a || true) ≡ true
 or_true true = refl
 or_true false = refl
 
-controller_near : (n : ℕ) (o : OpenRecord) → (n == 0) ≡ false → (o.controller == n) ≡ true → is_near n o ≡ true
+pub controller_near : (n : ℕ) (o : OpenRecord) → (n == 0) ≡ false → (o.controller == n) ≡ true → is_near n o ≡ true
 controller_near n o z h =
     let e : o.controller ≡ n = is_same o.controller n h in
     rw (e, z, eq-eqb (n / block_size) (n / block_size) refl) (or_true ((o.handle / block_size) == (n / block_size)))
 
-handle_near : (n : ℕ) (o : OpenRecord) → (o.handle == n) ≡ true → is_near n o ≡ true
+pub handle_near : (n : ℕ) (o : OpenRecord) → (o.handle == n) ≡ true → is_near n o ≡ true
 handle_near n o h =
     let e : o.handle ≡ n = is_same o.handle n h in
     rw (e, eq-eqb (n / block_size) (n / block_size) refl) refl
 
-second_part : (a b : Bool) → (a && b) ≡ true → b ≡ true
+pub second_part : (a b : Bool) → (a && b) ≡ true → b ≡ true
 second_part true b h = h
 second_part false b h = cc
 

@@ -1,3 +1,3 @@
-pub mod BlockLists
 pub mod Placed
 pub mod Asked
+pub mod Managing

@@ -12,12 +12,13 @@ use Rattle.guid_handles.proofs.GuidOrder.{same_guid-true, and_false}
 use Rattle.guid_handles.proofs.Grouped.{is_same}
 use Rattle.open_agents.specs.declared.items.OpenRecord.{OpenRecord}
 use Rattle.open_agents.specs.OpenItems.{is_equal_item, counted}
-use Rattle.open_agents.specs.Blocks.{Block, HoldsAt, IsOpenStore, ChangesBlocks, IsFree, IsNoted, Notes, are_equal, block_at, block_of, block_size, second_block, is_in, is_near, item_at, items_at, items_in, passes, places_from, with_last, without_place}
+use Rattle.guid_handles.specs.Blocks.{Block, ChangesBlocks, IsFree, block_at, with_last, without_place}
+use Rattle.open_agents.specs.Blocks.{HoldsAt, IsOpenStore, IsNoted, Notes, are_equal, block_of, block_size, second_block, is_in, is_near, item_at, items_at, items_in, passes, places_from}
 
 -- ---- items by places
 
 -- the items at the places of those that pass a test are those
-placed_items : (q : OpenRecord → Bool) (all slots : List (Option OpenRecord)) (i : ℕ) → ((k : ℕ) → item_at all (i + k) ≡ item_at slots k) → items_at all (places_from i q slots) ≡ filter q (items_in slots)
+pub placed_items : (q : OpenRecord → Bool) (all slots : List (Option OpenRecord)) (i : ℕ) → ((k : ℕ) → item_at all (i + k) ≡ item_at slots k) → items_at all (places_from i q slots) ≡ filter q (items_in slots)
 placed_items q all [] i h = refl
 placed_items q all (None ∷ ss) i h =
     placed_items q all ss (i + 1) (λ k. ap (item_at all) (omega arith) ∙ h (suc k))
@@ -110,7 +111,7 @@ ascending_vacated R (Some o ∷ ss) zero h = h.1
 ascending_vacated R (None ∷ ss) (suc k) h = ascending_vacated R ss k h
 ascending_vacated R (Some o ∷ ss) (suc k) h = (all_vacated (R o) ss k h.0, ascending_vacated R ss k h.1)
 
-places_above : (q : OpenRecord → Bool) (slots : List (Option OpenRecord)) (i : ℕ) → AllByRecursion (λ x. i ≤ x) (places_from i q slots)
+pub places_above : (q : OpenRecord → Bool) (slots : List (Option OpenRecord)) (i : ℕ) → AllByRecursion (λ x. i ≤ x) (places_from i q slots)
 places_above q [] i = tt
 places_above q (s ∷ ss) i =
     let rest : AllByRecursion (λ x. i ≤ x) (places_from (i + 1) q ss) = all_map (λ x. i + 1 ≤ x) (λ x. i ≤ x) (λ x l. omega (arith, l)) (places_from (i + 1) q ss) (places_above q ss (i + 1)) in

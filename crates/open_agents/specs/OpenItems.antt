@@ -66,6 +66,14 @@ is_kept opens n guid = list_any (λ i. keeps i.attributes) (items_on opens n gui
 abbrev pub managers_of : List OpenRecord → ℕ → List (ℕ × ℕ)
 managers_of opens n = map (λ o. (o.controller, o.agent)) (filter (manages n) opens)
 
+-- an item makes its pair manage one of some handles
+abbrev pub manages_any : List ℕ → OpenRecord → Bool
+manages_any ns o = is_for_driver o.attributes && list_any (λ n. o.controller == n) ns
+
+-- the controller and the agent of each item that makes them manage one of some handles
+abbrev pub managers_of_any : List OpenRecord → List ℕ → List (ℕ × ℕ)
+managers_of_any opens ns = map (λ o. (o.controller, o.agent)) (filter (manages_any ns) opens)
+
 -- ---- what changes
 
 abbrev pub counted : (OpenRecord → Bool) → OpenRecord → OpenRecord

@@ -2,6 +2,7 @@
 ghost use Rattle.std.specs.Prelude.{◌≡◌};
 ghost use Rattle.open_agents.specs.OpenItems as spec;
 
+use crate::attributes::is_for_driver;
 use guid_handles::is_same_guid;
 use page_ranges::Status;
 use uuid::Uuid;
@@ -77,4 +78,11 @@ pub(crate) fn item_of(o: &OpenRecord) -> OpenItem
         attributes: o.attributes,
         count: o.count,
     }
+}
+
+/// Whether an item makes its pair manage a handle.
+pub(crate) fn manages(o: &OpenRecord, handle: u64) -> bool
+    ensures { result ≡ spec.manages handle o.now }
+{
+    is_for_driver(o.attributes) && o.controller == handle
 }

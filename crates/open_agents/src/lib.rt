@@ -2,11 +2,10 @@
 #![tactic(auto)]
 
 mod attributes;
-mod blocks;
 mod items;
+mod managers;
 mod near;
 mod opens;
-mod place_block;
 mod questions;
 mod store;
 
@@ -14,6 +13,6 @@ pub use attributes::{
     BY_CHILD_CONTROLLER, BY_DRIVER, BY_HANDLE_PROTOCOL, EXCLUSIVE, GET_PROTOCOL, TEST_PROTOCOL,
     is_for_driver,
 };
-pub use blocks::Blocks;
 pub use items::{Decision, OpenItem, OpenRecord};
+pub use near::{Near, item_at};
 pub use opens::Opens;

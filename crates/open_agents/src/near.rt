@@ -6,13 +6,13 @@ use crate::items::OpenRecord;
 
 /// The items on the handles of a block: all items, and the places of those.
 #[derive(Clone, Copy)]
-pub(crate) struct Near<'a> {
-    pub(crate) slots: &'a [Option<OpenRecord>],
-    pub(crate) places: &'a [usize],
+pub struct Near<'a> {
+    pub slots: &'a [Option<OpenRecord>],
+    pub places: &'a [usize],
 }
 
 /// The item at a place, if there is one.
-pub(crate) fn item_at(slots: &[Option<OpenRecord>], place: usize) -> Option<&OpenRecord>
+pub fn item_at(slots: &[Option<OpenRecord>], place: usize) -> Option<&OpenRecord>
     ensures { option_map (λ o. o.now) result ≡ item_at slots.now place }
 {
     match slots.get(place) {

@@ -4,7 +4,7 @@ ghost use Rattle.std.specs.List.{AllByRecursion, filter, list_any};
 ghost use Rattle.guid_handles.specs.HandleTables.{carries, is_live};
 ghost use Rattle.guid_handles.specs.HandleChanges.{is_dead as dead};
 ghost use Rattle.open_agents.specs.OpenItems as spec;
-ghost use Rattle.open_agents.specs.OpenItems.{is_closed_by, names, items_on, managers_of, with_item, CanCount, without_items};
+ghost use Rattle.open_agents.specs.OpenItems.{is_closed_by, names, items_on, managers_of, managers_of_any, with_item, CanCount, without_items};
 ghost use Rattle.open_agents.specs.OpenRule as rule;
 ghost use Rattle.open_agents.specs.Blocks.{is_near, items_at, items_in};
 
@@ -12,7 +12,8 @@ use crate::attributes::{
     BY_CHILD_CONTROLLER, BY_DRIVER, EXCLUSIVE, is_exclusive, is_for_driver, is_known, needs_agent,
     needs_controller,
 };
-use crate::items::{Decision, OpenItem, OpenRecord, is_open_on, item_of};
+use crate::items::{Decision, OpenItem, OpenRecord, is_open_on, item_of, manages};
+use crate::managers;
 use crate::near::{Near, item_at};
 use crate::questions::{
     find_closed, find_equal, find_last_naming, find_last_of_pair, find_naming, find_of_pair,
@@ -75,8 +76,9 @@ impl<A: Allocator + Copy> Opens<A> {
         count_items(self.items.slots())
     }
 
-    /// The items in the block of a handle.
-    fn near(&self, handle: u64) -> Near<'_>
+    /// The items in the block of a handle: those on it, and those of it as a controller, if it is not
+    /// 0, are among them.
+    pub fn near(&self, handle: u64) -> Near<'_>
         ensures { items_at result.slots.now result.places.now ≡ filter (is_near handle) self.now }
     {
         self.items.near(handle)
@@ -350,6 +352,15 @@ impl<A: Allocator + Copy> Opens<A> {
         }
         managers_near(self.items.allocator(), self.near(handle), handle)
     }
+
+    /// The pairs of controller and agent that manage one of some handles, none of which is 0, in the
+    /// order of their items.
+    pub fn managers_of_any(&self, handles: &[u64]) -> Result<Vec<(u64, u64), A>, AllocError>
+        requires { AllByRecursion (λ n. (n == 0) ≡ false) handles.now }
+        ensures { IfOk result (λ v. v.items ≡ managers_of_any self.now handles.now) }
+    {
+        managers::of_any(&self.items, handles)
+    }
 }
 
 /// What is to be done about a call of OpenProtocol, by the items on its handle.
@@ -508,11 +519,4 @@ fn managers_among<A: Allocator>(
         }
     }
     Ok(found)
-}
-
-/// Whether an item makes its pair manage a handle.
-fn manages(o: &OpenRecord, handle: u64) -> bool
-    ensures { result ≡ spec.manages handle o.now }
-{
-    is_for_driver(o.attributes) && o.controller == handle
 }

@@ -1,17 +1,27 @@
 //! The open items at their places, and where those on each handle and of each controller are.
-ghost use Rattle.std.specs.Prelude.{◌≡◌, ◌<◌, ◌^◌, ◌==◌, ◌++◌, ◌∷◌, [], None, true, false, length, map, is_some, slice_set, vec_len, vec_capacity, IfOk, OnOk, OnErr};
+ghost use Rattle.std.specs.Prelude.{◌≡◌, ◌<◌, ◌/◌, ◌^◌, ◌==◌, ◌++◌, ◌∷◌, [], None, true, false, length, map, is_some, slice_set, vec_len, vec_capacity, IfOk, OnOk, OnErr};
 ghost use Rattle.std.specs.List.{filter, list_any, AllByRecursion};
 ghost use Rattle.open_agents.specs.OpenItems as spec;
 ghost use Rattle.open_agents.specs.OpenItems.{CanCount};
 ghost use Rattle.open_agents.specs.Blocks as other;
-ghost use Rattle.open_agents.specs.Blocks.{HoldsAt, Notes, are_equal, is_near, item_at as there, items_at, items_in};
+ghost use Rattle.open_agents.specs.Blocks.{HoldsAt, Notes, are_equal, block_size, is_near, item_at as there, items_at, items_in, places_from};
 
-use crate::blocks::{Blocks, block_of};
 use crate::items::OpenRecord;
 use crate::near::Near;
+use guid_handles::Blocks;
 use std::alloc::{AllocError, Allocator};
 use std::marker::Model;
 use uuid::Uuid;
+
+/// How many handles share a block.
+const BLOCK_SIZE: u64 = 8;
+
+/// The block of a handle.
+fn block_of(handle: u64) -> u64
+    ensures { result ≡ handle / block_size }
+{
+    handle / BLOCK_SIZE
+}
 
 /// The open items, each once. An item that is closed leaves its place empty.
 #[derive(Drop)]
@@ -79,6 +89,7 @@ impl<A: Allocator + Copy> ItemStore<A> {
     /// The items in the block of a handle.
     pub(crate) fn near(&self, handle: u64) -> Near<'_>
         ensures slots { result.slots.now ≡ self.now }
+        ensures places { result.places.now ≡ places_from 0 (is_near handle) self.now }
         ensures items { items_at result.slots.now result.places.now ≡ filter (is_near handle)
             (items_in self.now) }
     {

@@ -7,8 +7,8 @@ use Rattle.driver_connect.proofs.pairs.add_rounds.Goals as goal
 pub loop-k-init : goal.loop-k-init
 loop-k-init g c = record { so_far = search rules; older = none_asked c.args.handles.now c.args.opens.now c.args.set.now }
 
-pub add_managers-requires-clause-place : goal.add_managers-requires-clause-place
-add_managers-requires-clause-place g c = c.loop-k.invariant.older.0
+pub add_managers-requires : goal.add_managers-requires
+add_managers-requires g c = c.loop-k.invariant.older.0
 
 pub returns-then-len-before : goal.returns-then-len-before
 returns-then-len-before g c =

@@ -1,5 +1,11 @@
-use Rattle.driver_connect.proofs.ManagedPairs.{are_managers}
+use Rattle.std.proofs.Common.{ap, ◌∙◌}
+use Rattle.open_agents.specs.OpenItems.{managers_of_any}
+use Rattle.driver_connect.proofs.MadeHandles.{managers_of_made_handles}
 use Rattle.driver_connect.proofs.pairs.managers_of_made.Goals as goal
 
 pub returns : goal.returns
-returns g c = rw (c.requires, are_managers c.args.handles.now c.args.opens.now c.args.pairs.now) at c.managers_among.ensures
+returns g c =
+    let t = c.args.handles.now in
+    let opens = c.args.opens.now in
+    let same = ap (managers_of_any opens) (c.as_slice.ensures.value ∙ c.in_ok-made.ensures.made) ∙ managers_of_made_handles t opens c.args.pairs.now in
+    rw same at c.managers_of_any.ensures

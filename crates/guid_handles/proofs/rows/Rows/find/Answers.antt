@@ -8,7 +8,7 @@ returns-in-Some g c =
     let rows = c.self.inside.rows.items in
     let there = rw c.as_slice.ensures.value at c.in-Some.ensures.there in
     let row = got rows c.in-Some.at _ (filed_there c.args.number rows c.in-Some.at there) c.index.ensures in
-    rw (← c.self.view_is, c.live.ensures) (live_filed c.args.number rows c.in-Some.at _ c.self.invariant.filed there row)
+    rw (← c.self.view_is, c.live.ensures) (live_filed c.args.number rows c.in-Some.at _ c.self.invariant.rows.filed there row)
 
 pub returns-in-None : goal.returns-in-None
 returns-in-None g c = rw (← c.self.view_is) (no_live _ c.args.number (rw c.as_slice.ensures.value at c.in-None.ensures.none))

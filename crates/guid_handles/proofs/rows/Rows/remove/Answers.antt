@@ -1,6 +1,8 @@
-use Rattle.std.proofs.Common.{refl}
+use Rattle.std.proofs.Common.{sym, ◌∙◌}
+use Rattle.std.proofs.lemmas.Option.{same_Some}
 use Rattle.guid_handles.proofs.Grouped.{got}
-use Rattle.guid_handles.proofs.FiledRows.{filed_there, marked_ascend, rows_without}
+use Rattle.guid_handles.proofs.FiledRows.{filed_there, marked_ascend}
+use Rattle.guid_handles.proofs.Made.{rows_without}
 use Rattle.guid_handles.proofs.Numbered.{none_removed}
 use Rattle.guid_handles.proofs.rows.Rows.remove.Goals as goal
 
@@ -9,23 +11,27 @@ tidy-requires g c =
     let rows = c.self.inside.rows.items in
     let there = rw c.as_slice.ensures.value at c.in-Some.ensures.there in
     let row = got rows c.in-Some.at _ (filed_there c.args.number rows c.in-Some.at there) c.index_mut.ensures.value in
-    marked_ascend rows c.in-Some.at _ _ c.self.invariant.filed row c.mark_gone.ensures.row
+    marked_ascend rows c.in-Some.at _ _ c.self.invariant.rows.filed row c.mark_gone.ensures.row
 
 pub invariant_of-self : goal.invariant_of-self
 invariant_of-self g c =
     let rows = c.self.inside.rows.items in
     let there = rw c.as_slice.ensures.value at c.in-Some.ensures.there in
     let row = got rows c.in-Some.at _ (filed_there c.args.number rows c.in-Some.at there) c.index_mut.ensures.value in
+    let same = same_Some _ _ (sym (got rows c.in-Some.at _ (filed_there c.args.number rows c.in-Some.at there) c.index.ensures) ∙ row) in
+    let change = rw (c.live-live.ensures, same) at c.forget_made.ensures in
     rw c.remove_number.ensures
-    (rows_without c.args.number rows _ _ _ c.in-Some.at _ _ c.self.invariant there row c.mark_gone.ensures.row c.mark_gone.ensures.gone refl c.tidy.ensures.same c.tidy.ensures.filed).1
+    (rows_without c.args.number rows _ _ c.in-Some.at _ _ _ _ c.self.invariant there row c.mark_gone.ensures.row c.mark_gone.ensures.gone c.tidy.ensures.same c.tidy.ensures.filed change).1
 
 pub returns-in-Some : goal.returns-in-Some
 returns-in-Some g c =
     let rows = c.self.inside.rows.items in
     let there = rw c.as_slice.ensures.value at c.in-Some.ensures.there in
     let row = got rows c.in-Some.at _ (filed_there c.args.number rows c.in-Some.at there) c.index_mut.ensures.value in
+    let same = same_Some _ _ (sym (got rows c.in-Some.at _ (filed_there c.args.number rows c.in-Some.at there) c.index.ensures) ∙ row) in
+    let change = rw (c.live-live.ensures, same) at c.forget_made.ensures in
     rw (← c.self.view_is)
-    (rows_without c.args.number rows _ _ _ c.in-Some.at _ _ c.self.invariant there row c.mark_gone.ensures.row c.mark_gone.ensures.gone refl c.tidy.ensures.same c.tidy.ensures.filed).0
+    (rows_without c.args.number rows _ _ c.in-Some.at _ _ _ _ c.self.invariant there row c.mark_gone.ensures.row c.mark_gone.ensures.gone c.tidy.ensures.same c.tidy.ensures.filed change).0
 
 pub returns-in_default : goal.returns-in_default
 returns-in_default g c = rw (← c.self.view_is) (none_removed _ c.args.number (rw c.as_slice.ensures.value at c.in_default.ensures.none))

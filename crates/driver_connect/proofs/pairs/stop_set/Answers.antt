@@ -1,0 +1,13 @@
+use Rattle.std.proofs.Common.{length, ap, ◌∙◌, ◌≤◌, ◌+◌, arith}
+use Rattle.open_agents.specs.Blocks.{items_in}
+use Rattle.driver_connect.specs.Stopping.{rounds}
+use Rattle.driver_connect.proofs.StopSets.{fewer_items, more_rounds}
+use Rattle.driver_connect.proofs.pairs.stop_set.Goals as goal
+
+pub returns : goal.returns
+returns g c =
+    let t = c.args.handles.now in
+    let opens = c.args.opens.now in
+    let begun = rw (c.in_ok-add_pairs.ensures, c.new-set.ensures) at c.in_ok-add_rounds.ensures in
+    let bound : length opens ≤ length c.slots.result.now = rw (← c.slots.ensures) (fewer_items c.slots.result.now) in
+    begun ∙ more_rounds (length c.all.result.now + length c.slots.result.now) t opens c.args.pairs.now (omega (arith, bound, c.all.ensures.count))

@@ -1,0 +1,16 @@
+use Rattle.guid_handles.specs.Blocks.{with_last}
+use Rattle.std.proofs.Common.{refl}
+use Rattle.guid_handles.proofs.Grouped.{got}
+use Rattle.guid_handles.proofs.BlockLists.{blocks_set, changes_block, last_held}
+use Rattle.guid_handles.proofs.blocks.Blocks.push_at.Goals as goal
+
+pub invariant_of-self-2 : goal.invariant_of-self-2
+invariant_of-self-2 g c =
+    let place = rw (← c.self.view_is) at c.requires in
+    blocks_set _ _ _ _ c.self.invariant (got _ _ _ place.0 c.index_mut.ensures.value) c.push.ensures.number (rw c.in_ok-push.ensures.ok (last_held c.args.place _))
+
+pub returns-clause-ok : goal.returns-clause-ok
+returns-clause-ok g c =
+    let place = rw (← c.self.view_is) at c.requires in
+    rw (← c.self.view_is, c.in_ok-push.ensures.ok)
+    (changes_block _ c.args.number _ _ (with_last c.args.place) place (got _ _ _ place.0 c.index_mut.ensures.value) refl)

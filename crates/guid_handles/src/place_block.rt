@@ -1,0 +1,93 @@
+//! One block of places.
+ghost use Rattle.std.specs.Prelude.{◌≡◌, ◌==◌, not, length, IfOk, OnOk, OnErr};
+ghost use Rattle.std.specs.List.{filter};
+ghost use Rattle.guid_handles.specs.Blocks.{empty_block, with_last, without_place};
+
+use std::alloc::{AllocError, Allocator};
+use std::marker::Model;
+
+/// The places in a block, and its number.
+#[derive(Drop)]
+pub(crate) struct PlaceBlock<A: Allocator> {
+    number: u64,
+    places: Vec<usize, A>,
+}
+
+impl<A: Allocator> Model for PlaceBlock<A> {
+    ghost use Rattle.guid_handles.specs.Blocks.{Block};
+
+    ghost Value = { Block };
+
+    ghost view = { λ b. record { number = b.number; places = b.places.items } };
+}
+
+/// Takes a place out of others.
+fn drop_place<A: Allocator>(places: &mut Vec<usize, A>, place: usize)
+    ensures { places.new.items ≡ filter (λ x. not (x == place)) places.old.items }
+{
+    places.retain(
+        |x: &usize| -> bool
+            ensures { result ≡ not (x.now == place) }
+        { *x != place },
+    );
+}
+
+impl<A: Allocator + Copy> PlaceBlock<A> {
+    /// A block of one place.
+    pub(crate) fn new(alloc: A, number: u64, place: usize) -> Result<PlaceBlock<A>, AllocError>
+        ensures { IfOk result (λ b. b ≡ with_last place (empty_block number)) }
+    {
+        let mut places = Vec::new(alloc);
+        places.push(place)?;
+        Ok(PlaceBlock { number, places })
+    }
+
+    /// The same block, in memory of its own.
+    pub(crate) fn try_copy(&self) -> Result<PlaceBlock<A>, AllocError>
+        ensures { IfOk result (λ copy. copy ≡ self.now) }
+    {
+        let places = Vec::from_slice(*self.places.allocator(), self.places.as_slice())?;
+        Ok(PlaceBlock {
+            number: self.number,
+            places,
+        })
+    }
+
+    /// The number of the block.
+    pub(crate) fn number(&self) -> u64
+        ensures { result ≡ self.now.number }
+    {
+        self.number
+    }
+
+    /// The places.
+    pub(crate) fn places(&self) -> &[usize]
+        ensures { result.now ≡ self.now.places }
+    {
+        self.places.as_slice()
+    }
+
+    /// Whether there are no places.
+    pub(crate) fn is_empty(&self) -> bool
+        ensures { result ≡ (length self.now.places == 0) }
+    {
+        self.places.is_empty()
+    }
+
+    /// Appends a place. On an `Err` the block is as it was.
+    pub(crate) fn push(&mut self, place: usize) -> Result<(), AllocError>
+        ensures number { self.new.number ≡ self.old.number }
+        ensures ok { OnOk result (self.new ≡ with_last place self.old) }
+        ensures err { OnErr result (self.new ≡ self.old) }
+    {
+        self.places.push(place)?;
+        Ok(())
+    }
+
+    /// Takes out a place.
+    pub(crate) fn remove(&mut self, place: usize)
+        ensures { self.new ≡ without_place place self.old }
+    {
+        drop_place(&mut self.places, place);
+    }
+}

@@ -1,5 +1,0 @@
-use Rattle.std.proofs.Common.{◌≡◌, take}
-use Rattle.open_agents.proofs.blocks.Blocks.try_copy.Given as goal
-
-abbrev pub invariant-loop-block : goal.invariant-loop-block
-invariant-loop-block g l = l.blocks.items ≡ take l.block-index l.self
