@@ -5,6 +5,7 @@
 mod buffers;
 mod checks;
 mod efi_core;
+mod lines;
 mod lists;
 mod making;
 mod memory;
