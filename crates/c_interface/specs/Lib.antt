@@ -1,6 +1,7 @@
 pub mod Buffers
 pub mod Checks
 pub mod EfiCores
+pub mod Lines
 pub mod Making
 pub mod Opening
 pub mod Questions

@@ -36,9 +36,9 @@ pub enum LastBlock<A: Allocator = Global> {
 pub struct EfiCore<A: Allocator = Global> {
     pub(crate) alloc: A,
     pub(crate) core: Core<TableDriver, A>,
-    certifies: bool,
+    pub(crate) certifies: bool,
     last: Option<Reply<A>>,
-    block: LastBlock<A>,
+    pub(crate) block: LastBlock<A>,
 }
 
 impl<A: Allocator> Model for EfiCore<A> {

@@ -6,6 +6,7 @@ mod buffers;
 mod checks;
 mod efi_core;
 mod entries;
+mod lines;
 mod lists;
 mod making;
 mod memory;

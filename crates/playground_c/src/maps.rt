@@ -1,0 +1,45 @@
+//! The memory map, without a call.
+ghost use Rattle.std.specs.Prelude.{◌≡◌, length, slice_get};
+ghost use Rattle.page_ranges.specs.MemoryMap.{memory_map};
+ghost use Rattle.c_interface.specs.Checks.{ReturnsEntry};
+ghost use Rattle.playground_c.specs.Versions.{version};
+
+use c_interface::MapEntry;
+use region_cores::Rafkudin;
+
+/// The version of the module, 0.1.0.
+const VERSION: u32 = 0x100;
+
+/// The version of the module: the major number in the bits from 16 on, the minor one in those from 8 on.
+#[unsafe(no_mangle)]
+pub extern "C" fn PlaygroundVersion() -> u32
+    ensures { result ≡ version }
+{
+    VERSION
+}
+
+/// How many entries the memory map has.
+#[unsafe(no_mangle)]
+pub extern "C" fn PlaygroundDescriptors(core: &mut Rafkudin) -> usize
+    ensures count { result ≡ length (memory_map core.old.core.core.state.parts.book.memory) }
+    ensures kept { core.new.core ≡ core.old.core }
+{
+    core.held().descriptors()
+}
+
+/// The entry of the memory map at an index, by ascending address.
+///
+/// NOT_FOUND: there is none.
+#[unsafe(no_mangle)]
+pub extern "C" fn PlaygroundDescriptor(
+    core: &mut Rafkudin,
+    index: usize,
+    entry: &mut MapEntry,
+) -> u64
+    ensures returned { ReturnsEntry
+        (slice_get (memory_map core.old.core.core.state.parts.book.memory) index) entry.old result
+        entry.new }
+    ensures kept { core.new.core ≡ core.old.core }
+{
+    core.held().descriptor(index, entry)
+}
