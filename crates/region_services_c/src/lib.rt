@@ -6,3 +6,4 @@ mod making;
 mod memory;
 mod protocols;
 mod questions;
+mod turns;
