@@ -14,6 +14,7 @@ pub mod LeafLists
 pub mod LeafSizes
 pub mod Places
 pub mod LeafSplices
+pub mod TwoLeaves
 pub mod RunArrays
 pub mod Tallied
 pub mod Begun

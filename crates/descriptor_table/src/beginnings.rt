@@ -23,7 +23,7 @@ pub(crate) fn runs_before<A: Allocator + Copy>(leaves: &[Leaf<A>], index: usize)
 }
 
 /// How many entries begin in runs that come behind others.
-fn count_begun(before: &[Run], runs: &[Run]) -> usize
+pub(crate) fn count_begun(before: &[Run], runs: &[Run]) -> usize
     requires runs { AreRuns (before.now ++ runs.now) }
     requires ends { EndBy page_count (before.now ++ runs.now) }
     ensures count { entry_count (before.now ++ runs.now) ≡ entry_count before.now + result }

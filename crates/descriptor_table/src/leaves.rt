@@ -75,11 +75,11 @@ impl<A: Allocator + Copy> Leaf<A> {
         self.runs.as_slice()
     }
 
-    /// Puts runs in the place of some of the leaf's.
+    /// Puts runs in the place of some of the leaf's, which is not left empty.
     pub(crate) fn replace(&mut self, low: usize, high: usize, parts: &[Run])
         requires order { low ≤ high }
         requires bound { high ≤ length self.old }
-        requires some { 0 < length parts.now }
+        requires some { high < length self.old + low + length parts.now }
         requires fits { length self.old + length parts.now ≤ 32 + (high - low) }
         ensures { self.new ≡ take low self.old ++ (parts.now ++ drop high self.old) }
     {

@@ -1,21 +1,22 @@
 //! A range of a table that gets a type and an owner.
-ghost use Rattle.std.specs.Prelude.{◌≡◌, ◌+◌, ◌-◌, ◌<◌, ◌≤◌, ◌^◌, ◌++◌, [], length, map, take, drop, IfOk, OnErr, IfSome, OnSome, IfNone};
+ghost use Rattle.std.specs.Prelude.{◌≡◌, ℕ, ◌+◌, ◌-◌, ◌<◌, ◌≤◌, ◌^◌, ◌++◌, ◌∷◌, [], length, map, set, take, drop, IfOk, OnErr, IfSome, OnSome, IfNone};
 ghost use Rattle.std.specs.List.{splice};
 ghost use Rattle.page_ranges.specs.declared.ranges.Owner.TheVariants.{Given};
 ghost use Rattle.page_ranges.specs.MemoryTypes.{conventional, page_count};
 ghost use Rattle.page_ranges.specs.Memory.{IsPresent, AllInRange, retyped};
 ghost use Rattle.page_ranges.specs.Runs.{pages_of, AreRuns};
-ghost use Rattle.descriptor_table.specs.Leaves.{leaf_at, runs_in, AreLeaves, AreLeavesNear, BeginIn, GrowsBy, IsLeafTable};
+ghost use Rattle.descriptor_table.specs.Leaves.{leaf_at, put_across, runs_in, IsLeaf, AreLeaves, AreLeavesNear, BeginIn, GrowsBy, IsLeafTable};
 ghost use Rattle.descriptor_table.specs.Summaries.{KeepsLeaves};
 ghost use Rattle.descriptor_table.specs.Tables.{EndBy, IsWindow};
+ghost use Rattle.descriptor_table.specs.Tallies.{total};
 
-use crate::beginnings::{begun_in, runs_before};
+use crate::beginnings::{begun_in, count_begun, runs_before};
 use crate::cursors::count_leaves_by_from;
 use crate::cuts::push_retyped;
 use crate::entries::count_entries;
 use crate::leaf_searches::count_leaves_below;
 use crate::leaves::{LEAF_SIZE, Leaf, leaves_of, runs_of_leaves, sizes_of};
-use crate::searches::{count_beginning_by_from, count_ending_below};
+use crate::searches::{count_beginning_by, count_beginning_by_from, count_ending_below};
 use crate::tallies::Tally;
 use arrayvec::ArrayVec;
 use page_ranges::{MemoryType, Owner, PageRange, Run};
@@ -244,6 +245,196 @@ fn retype_in_leaf<A: Allocator + Copy>(
     Some(entries + new_entries - old_entries)
 }
 
+/// How many of some parts come into the first of two leaves that have so many runs before them and
+/// behind them: as many as make the leaves alike in size.
+fn share_of_first(before: usize, parts: usize, behind: usize) -> usize
+    requires before { before ≤ 32 }
+    requires behind { behind ≤ 32 }
+    requires some { 0 < parts }
+    requires enough { 2 ≤ before + parts + behind }
+    requires fits { before + parts + behind ≤ 64 }
+    ensures bound { result ≤ parts }
+    ensures first { (0 < before + result) × (before + result ≤ 32) }
+    ensures second { (result < parts + behind) × (parts + behind ≤ result + 32) }
+{
+    let half = (before + parts + behind) / 2;
+    half.saturating_sub(before).min(parts)
+}
+
+/// Puts runs behind those before an index of one leaf, and before those from an index of the next one on.
+fn replace_two<A: Allocator + Copy>(
+    leaves: &mut Vec<Leaf<A>, A>,
+    index: usize,
+    window: (usize, usize),
+    front: &[Run],
+    back: &[Run],
+)
+    requires index { index + 1 < length leaves.old.items }
+    requires low { window.0 ≤ length (leaf_at leaves.old.items index) }
+    requires high { window.1 ≤ length (leaf_at leaves.old.items (index + 1)) }
+    requires first { IsLeaf (take window.0 (leaf_at leaves.old.items index) ++ front.now) }
+    requires second { IsLeaf (back.now ++ drop window.1 (leaf_at leaves.old.items (index + 1))) }
+    ensures { leaves.new.items ≡ set
+        (set leaves.old.items index (take window.0 (leaf_at leaves.old.items index) ++ front.now))
+        (index + 1) (back.now ++ drop window.1 (leaf_at leaves.old.items (index + 1))) }
+{
+    let (low, high) = window;
+    let count = leaves[index].runs().len();
+    leaves[index].replace(low, count, front);
+    leaves[index + 1].replace(0, high, back);
+}
+
+/// Counts anew how many entries begin in each of two leaves, and how many runs they have.
+fn recount<A: Allocator + Copy>(
+    leaves: &[Leaf<A>],
+    begun: &mut Tally<A>,
+    sizes: &mut Tally<A>,
+    index: usize,
+)
+    requires leaves { AreLeaves leaves.now }
+    requires runs { AreRuns (runs_in leaves.now) }
+    requires ends { EndBy page_count (runs_in leaves.now) }
+    requires index { index + 1 < length leaves.now }
+    requires begun_length { length begun.old ≡ length leaves.now }
+    requires few { total begun.old ≤ page_count }
+    requires begun { (n m : ℕ) → BeginIn (runs_in (take index leaves.now))
+        (leaf_at leaves.now index ∷ leaf_at leaves.now (index + 1) ∷ []) (n ∷ m ∷ [])
+        → BeginIn [] leaves.now (set (set begun.old index n) (index + 1) m) }
+    requires sizes_length { length sizes.old ≡ length leaves.now }
+    requires few_runs { total sizes.old ≤ page_count }
+    requires sizes { set (set sizes.old index (length (leaf_at leaves.now index)))
+        (index + 1) (length (leaf_at leaves.now (index + 1))) ≡ map length leaves.now }
+    ensures begun { BeginIn [] leaves.now begun.new }
+    ensures sizes { sizes.new ≡ map length leaves.now }
+{
+    let first = leaves[index].runs();
+    let second = leaves[index + 1].runs();
+    begun.set(index, count_begun(runs_before(leaves, index), first) as u8);
+    begun.set(index + 1, count_begun(first, second) as u8);
+    sizes.set(index, first.len() as u8);
+    sizes.set(index + 1, second.len() as u8);
+}
+
+/// Puts parts in the place of the runs from an index of one leaf up to an index of the next one; the
+/// two have room for them. `entries` are how many entries the map of those runs has, and that of the
+/// parts.
+fn put_across<A: Allocator + Copy>(
+    leaves: &mut Vec<Leaf<A>, A>,
+    begun: &mut Tally<A>,
+    sizes: &mut Tally<A>,
+    index: usize,
+    window: (usize, usize),
+    parts: &[Run],
+    entries: (usize, usize),
+)
+    requires leaves { AreLeaves leaves.old.items }
+    requires old { AreRuns (runs_in leaves.old.items) × EndBy page_count (runs_in leaves.old.items) }
+    requires index { index + 1 < length leaves.old.items }
+    requires low { window.0 ≤ length (leaf_at leaves.old.items index) }
+    requires high { window.1 ≤ length (leaf_at leaves.old.items (index + 1)) }
+    requires some { 0 < length parts.now }
+    requires enough { 2 ≤ window.0 + length parts.now
+        + (length (leaf_at leaves.old.items (index + 1)) - window.1) }
+    requires fits { window.0 + length parts.now
+        + (length (leaf_at leaves.old.items (index + 1)) - window.1) ≤ 64 }
+    requires begun { BeginIn [] leaves.old.items begun.old }
+    requires sizes { sizes.old ≡ map length leaves.old.items }
+    requires grows { GrowsBy (runs_in (take (index + 2) leaves.old.items))
+        (runs_in (take index leaves.old.items)
+        ++ put_across leaves.old.items index window.0 window.1 parts.now)
+        (runs_in (drop (index + 2) leaves.old.items)) entries.0 entries.1 }
+    requires order { AreRuns
+        (runs_in (take index leaves.old.items)
+        ++ (put_across leaves.old.items index window.0 window.1 parts.now
+        ++ runs_in (drop (index + 2) leaves.old.items))) }
+    requires ends { EndBy page_count
+        (runs_in (take index leaves.old.items)
+        ++ (put_across leaves.old.items index window.0 window.1 parts.now
+        ++ runs_in (drop (index + 2) leaves.old.items))) }
+    ensures leaves { AreLeaves leaves.new.items }
+    ensures runs { runs_in leaves.new.items ≡ runs_in (take index leaves.old.items)
+        ++ (put_across leaves.old.items index window.0 window.1 parts.now
+        ++ runs_in (drop (index + 2) leaves.old.items)) }
+    ensures begun { BeginIn [] leaves.new.items begun.new }
+    ensures sizes { sizes.new ≡ map length leaves.new.items }
+    ensures kept { KeepsLeaves leaves.old.items leaves.new.items index (index + 2) }
+{
+    let behind = leaves[index + 1].runs().len() - window.1;
+    let share = share_of_first(window.0, parts.len(), behind);
+    replace_two(leaves, index, window, &parts[..share], &parts[share..]);
+    recount(leaves.as_slice(), begun, sizes, index);
+}
+
+/// The runs from an index of one leaf up to an index of the next one; `None` where they are many.
+fn runs_across(
+    first: &[Run],
+    low: usize,
+    second: &[Run],
+    high: usize,
+) -> Option<ArrayVec<Run, MOST_PARTS>>
+    requires low { low ≤ length first.now }
+    requires high { high ≤ length second.now }
+    ensures { IfSome result (λ runs. runs.items ≡ drop low first.now ++ take high second.now) }
+{
+    let mut runs = ArrayVec::new();
+    let Ok(()) = runs.try_extend_from_slice(&first[low..]) else {
+        return None;
+    };
+    let Ok(()) = runs.try_extend_from_slice(&second[..high]) else {
+        return None;
+    };
+    Some(runs)
+}
+
+/// Gives the pages of a range a type and an owner within the two leaves that have all runs near it, and
+/// returns how many entries the map then has; `None`, and nothing changes, where many runs are near it,
+/// the leaves have no room for the runs that come, or few runs are left in them. It takes no memory.
+fn retype_across<A: Allocator + Copy>(
+    leaves: &mut Vec<Leaf<A>, A>,
+    begun: &mut Tally<A>,
+    sizes: &mut Tally<A>,
+    entries: usize,
+    index: usize,
+    range: PageRange,
+    mtype: MemoryType,
+    owner: Owner,
+) -> Option<usize>
+    requires table { IsLeafTable leaves.old.items entries begun.old sizes.old }
+    requires near { AreLeavesNear leaves.old.items range index (index + 2) }
+    requires some { 0 < range.pages }
+    requires present { AllInRange (pages_of (runs_in leaves.old.items)) range IsPresent }
+    requires owner { mtype ≡ conventional → owner ≡ Given }
+    ensures table { IfSome result (λ n. IsLeafTable leaves.new.items n begun.new sizes.new) }
+    ensures pages { OnSome result
+        (pages_of (runs_in leaves.new.items) ≡ retyped range mtype owner
+        (pages_of (runs_in leaves.old.items))) }
+    ensures kept { OnSome result
+        (KeepsLeaves leaves.old.items leaves.new.items index (index + 2)) }
+    ensures none { IfNone result ((leaves.new.items ≡ leaves.old.items) × (begun.new ≡ begun.old)
+        × (sizes.new ≡ sizes.old)) }
+{
+    let first = leaves[index].runs();
+    let second = leaves[index + 1].runs();
+    let low = count_ending_below(first, range.first);
+    let high = count_beginning_by(second, range.first + range.pages);
+    let near_runs = runs_across(first, low, second, high)?;
+    let gone = near_runs.as_slice();
+    let mut parts = ArrayVec::<Run, MOST_PARTS>::new();
+    let Ok(()) = push_retyped(&mut parts, gone, range, mtype, owner) else {
+        return None;
+    };
+    let come = parts.as_slice();
+    let count = low + come.len() + (second.len() - high);
+    if come.is_empty() || count <= JOINED_SIZE || count > 2 * LEAF_SIZE {
+        return None;
+    }
+    let old_entries = count_entries(gone);
+    let new_entries = count_entries(come);
+    let entries_of = (old_entries, new_entries);
+    put_across(leaves, begun, sizes, index, (low, high), come, entries_of);
+    Some(entries + new_entries - old_entries)
+}
+
 /// Gives the pages of a range a type and an owner by new leaves in the place of those that have all
 /// runs near it, and returns how many entries the map then has. All memory is taken before the leaves
 /// change.
@@ -292,7 +483,7 @@ fn retype_in_new_leaves<A: Allocator + Copy>(
 }
 
 /// Gives the pages of a range a type and an owner, and returns how many entries the map then has: in
-/// the leaf that has all runs near the range where that has room, and else in new leaves.
+/// the leaf or the two leaves of the range where these have room, and else in new leaves.
 pub(crate) fn retype_runs<A: Allocator + Copy>(
     leaves: &mut Vec<Leaf<A>, A>,
     begun: &mut Tally<A>,
@@ -316,11 +507,13 @@ pub(crate) fn retype_runs<A: Allocator + Copy>(
     ensures err { OnErr result ((leaves.new.items ≡ leaves.old.items) × (begun.new ≡ begun.old)
         × (sizes.new ≡ sizes.old)) }
 {
-    if near.1 - near.0 == 1 {
-        let changed = retype_in_leaf(leaves, begun, sizes, entries, near.0, range, mtype, owner);
-        if let Some(entries) = changed {
-            return Ok(entries);
-        }
+    let changed = match near.1 - near.0 {
+        1 => retype_in_leaf(leaves, begun, sizes, entries, near.0, range, mtype, owner),
+        2 => retype_across(leaves, begun, sizes, entries, near.0, range, mtype, owner),
+        _ => None,
+    };
+    if let Some(entries) = changed {
+        return Ok(entries);
     }
     retype_in_new_leaves(leaves, begun, sizes, entries, near, range, mtype, owner)
 }
