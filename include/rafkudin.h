@@ -27,8 +27,9 @@
  * STATUSES. Services return an EFI_STATUS. SUCCESS is 0. Any other is a refusal, which leaves the
  * core as it was, but for the number of calls left, and for RafkudinEvents and RafkudinCertificate,
  * which no longer report the call before. It leaves what the call's pointers lead to as well, but
- * for what is said of BUFFER_TOO_SMALL. Where several refusals apply, the call returns the one that
- * is named first. These hold for every service, and are not repeated below:
+ * for what is said of BUFFER_TOO_SMALL, of OpenProtocol and of HandleProtocol. Where several
+ * refusals apply, the call returns the one that is named first. These hold for every service, and
+ * are not repeated below:
  * - First of all, ABORTED: the core has served its 2^31 calls. Refused ones count too.
  * - Then UNSUPPORTED: boot services have ended. Every service returns it from then on.
  * - Last of all, OUT_OF_RESOURCES: the heap refused the core memory for its own tables.
@@ -214,6 +215,45 @@ struct rafkudin_descriptor {
     rafkudin_uint64 attribute;
 };
 
+/* A live block of the pool. */
+struct rafkudin_block {
+    rafkudin_uint64 address;
+    rafkudin_uint64 size;
+    uint32_t type; /* EFI_MEMORY_TYPE */
+};
+
+/* Whose pages are: the machine's own or free, placed by AllocatePages, or the pool's. */
+#define RAFKUDIN_GIVEN 0U
+#define RAFKUDIN_PLACED 1U
+#define RAFKUDIN_POOL 2U
+
+/* Pages in a row of one type, one set of attributes and one owner. Those beside it differ. */
+struct rafkudin_run {
+    uint32_t type;
+    uint32_t owner;
+    rafkudin_uint64 physical_start;  /* an address, a multiple of 4,096 */
+    rafkudin_uint64 number_of_pages; /* at least 1 */
+    rafkudin_uint64 attribute;
+};
+
+/* What is open on an interface: an EFI_OPEN_PROTOCOL_INFORMATION_ENTRY. */
+struct rafkudin_item {
+    rafkudin_uint64 agent;
+    rafkudin_uint64 controller;
+    uint32_t attributes;
+    uint32_t open_count;
+};
+
+/* The same with its interface. */
+struct rafkudin_open {
+    rafkudin_uint64 handle;
+    struct rafkudin_guid guid;
+    rafkudin_uint64 agent;
+    rafkudin_uint64 controller;
+    uint32_t attributes;
+    uint32_t open_count;
+};
+
 /* ---- The core itself. None of these is a service, and none uses up a call. ---- */
 
 /* Makes a core, and puts its pointer into *core.
@@ -275,6 +315,69 @@ RAFKUDIN_API rafkudin_uint64 RafkudinCallsLeft(const struct rafkudin *core);
 
 /* The version of the library, as RAFKUDIN_VERSION: it equals that of the header that fits it. */
 RAFKUDIN_API uint32_t RafkudinVersion(void);
+
+/* ---- Questions: what there is, one item after the other ----
+ *
+ * None is a service, uses up a call, takes memory or changes anything, the map's key included; all
+ * work once boot services have ended too. *block and the others are set on SUCCESS.
+ *
+ * NOT_FOUND: there is no such item. A loop over all ends with it:
+ *
+ *     for (address = 0; RafkudinBlockFrom(core, address, &block) == 0; address = block.address + 1)
+ *     for (index = 0; RafkudinHandle(core, index, &handle) == 0; index++)
+ */
+
+/* The live block of the pool with the lowest address at or above `address`. */
+RAFKUDIN_API rafkudin_uint64 RafkudinBlockFrom(const struct rafkudin *core,
+                                               rafkudin_uint64 address,
+                                               struct rafkudin_block *block);
+
+/* How many runs of pages there are; and the one at an index, from 0 on, by ascending address. */
+RAFKUDIN_API size_t RafkudinRuns(const struct rafkudin *core);
+RAFKUDIN_API rafkudin_uint64 RafkudinRun(const struct rafkudin *core, size_t index,
+                                         struct rafkudin_run *run);
+
+/* The handle at an index, from 0 on, by ascending numbers: among all live ones, or among those that
+ * carry a GUID. */
+RAFKUDIN_API rafkudin_uint64 RafkudinHandle(const struct rafkudin *core, size_t index,
+                                            rafkudin_uint64 *handle);
+RAFKUDIN_API rafkudin_uint64 RafkudinHolder(const struct rafkudin *core,
+                                            const struct rafkudin_guid *Protocol, size_t index,
+                                            rafkudin_uint64 *handle);
+
+/* The same handles all at once, in a buffer of the caller's, which has room for `room` handles;
+ * *count is how many there are. BUFFER_TOO_SMALL: there is no room for all of them, and none is
+ * written; *count is set too. */
+RAFKUDIN_API rafkudin_uint64 RafkudinHandlesInto(const struct rafkudin *core,
+                                                 rafkudin_uint64 *buffer, size_t room,
+                                                 rafkudin_uint64 *count);
+RAFKUDIN_API rafkudin_uint64 RafkudinHoldersInto(const struct rafkudin *core,
+                                                 const struct rafkudin_guid *Protocol,
+                                                 rafkudin_uint64 *buffer, size_t room,
+                                                 rafkudin_uint64 *count);
+
+/* The interface at an index, from 0 on, among those on a handle, in order of installation. */
+RAFKUDIN_API rafkudin_uint64 RafkudinInterface(const struct rafkudin *core, rafkudin_uint64 handle,
+                                               size_t index, struct rafkudin_interface *interface);
+
+/* The item at an index, from 0 on, among those that are open on an interface, oldest first. */
+RAFKUDIN_API rafkudin_uint64 RafkudinOpenItem(const struct rafkudin *core, rafkudin_uint64 handle,
+                                              const struct rafkudin_guid *Protocol, size_t index,
+                                              struct rafkudin_item *item);
+
+/* The item at an index, from 0 on, among those that an agent has open, oldest first. Each such
+ * question goes along all open items. */
+RAFKUDIN_API rafkudin_uint64 RafkudinAgentItem(const struct rafkudin *core, rafkudin_uint64 agent,
+                                               size_t index, struct rafkudin_open *item);
+
+/* OpenProtocolInformation with a buffer of the caller's, which has room for `room` items: what is
+ * open on an interface, oldest first, and in *EntryCount how many items that are.
+ *
+ * NOT_FOUND: the handle is not live or lacks the GUID. BUFFER_TOO_SMALL: there is no room for all
+ * of them, and none is written; *EntryCount is set too. */
+RAFKUDIN_API rafkudin_uint64 RafkudinOpenProtocolInformationInto(
+    const struct rafkudin *core, rafkudin_uint64 Handle, const struct rafkudin_guid *Protocol,
+    struct rafkudin_item *EntryBuffer, size_t room, rafkudin_uint64 *EntryCount);
 
 /* ---- A placement with no core, and the check of one ---- */
 
@@ -393,6 +496,17 @@ RAFKUDIN_API rafkudin_uint64
 RafkudinUninstallProtocolInterface(struct rafkudin *core, rafkudin_uint64 Handle,
                                    const struct rafkudin_guid *Protocol, rafkudin_uint64 Interface);
 
+/* Uninstalls the `count` interfaces of an array from a handle, one after the other as
+ * RafkudinUninstallProtocolInterface does, or none: a refusal leaves all of them, with what is open
+ * on them. Of no interfaces it is SUCCESS. The standard's service takes the interfaces as
+ * arguments.
+ *
+ * INVALID_PARAMETER: more than 16 interfaces; one that RafkudinUninstallProtocolInterface refuses
+ * at its turn. */
+RAFKUDIN_API rafkudin_uint64 RafkudinUninstallMultipleProtocolInterfaces(
+    struct rafkudin *core, rafkudin_uint64 Handle, const struct rafkudin_interface *interfaces,
+    size_t count);
+
 /* Stops the driver that has the interface open, sets its value to `NewInterface`, signals the
  * events of its GUID, and connects the handle recursively. Refusals as of
  * UninstallProtocolInterface, for `OldInterface`. */
@@ -460,7 +574,10 @@ RAFKUDIN_API rafkudin_uint64 RafkudinProtocolsPerHandle(struct rafkudin *core,
  * attributes; a handle, or an agent or controller other than 0, that is not live; an agent or
  * controller of 0 where the attributes need one; a child controller that is the handle itself.
  * UNSUPPORTED: the handle lacks the GUID. ALREADY_STARTED: this agent has it open by driver
- * already. ACCESS_DENIED: it is open by a driver or exclusively, and that can't be ended. */
+ * already. ACCESS_DENIED: it is open by a driver or exclusively, and that can't be ended.
+ *
+ * As in the reference implementation, which shipped programs rely on, *Interface is set with
+ * ALREADY_STARTED too, and is 0 with UNSUPPORTED; not so with RAFKUDIN_TEST_PROTOCOL. */
 RAFKUDIN_API rafkudin_uint64 RafkudinOpenProtocol(struct rafkudin *core, rafkudin_uint64 Handle,
                                                   const struct rafkudin_guid *Protocol,
                                                   rafkudin_uint64 *Interface,
@@ -491,7 +608,7 @@ RAFKUDIN_API rafkudin_uint64 RafkudinOpenProtocolInformation(struct rafkudin *co
                                                              rafkudin_uint64 *EntryCount);
 
 /* OpenProtocol by RAFKUDIN_BY_HANDLE_PROTOCOL, with no agent and no controller. INVALID_PARAMETER:
- * the handle is not live. UNSUPPORTED: it lacks the GUID. */
+ * the handle is not live. UNSUPPORTED: it lacks the GUID, and *Interface is 0. */
 RAFKUDIN_API rafkudin_uint64 RafkudinHandleProtocol(struct rafkudin *core, rafkudin_uint64 Handle,
                                                     const struct rafkudin_guid *Protocol,
                                                     rafkudin_uint64 *Interface);

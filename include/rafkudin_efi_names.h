@@ -27,6 +27,7 @@
 #define LocateHandleBuffer RafkudinLocateHandleBuffer
 #define LocateProtocol RafkudinLocateProtocol
 #define InstallMultipleProtocolInterfaces RafkudinInstallMultipleProtocolInterfaces
+#define UninstallMultipleProtocolInterfaces RafkudinUninstallMultipleProtocolInterfaces
 #define ExitBootServices RafkudinExitBootServices
 
 #endif

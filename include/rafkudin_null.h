@@ -58,6 +58,116 @@ static inline rafkudin_uint64 rafkudin_descriptor(const struct rafkudin *core, s
 }
 #define RafkudinDescriptor rafkudin_descriptor
 
+static inline rafkudin_uint64 rafkudin_block_from(const struct rafkudin *core,
+                                                  rafkudin_uint64 address,
+                                                  struct rafkudin_block *block)
+{
+    if (core == NULL || block == NULL)
+        return RAFKUDIN_INVALID_PARAMETER;
+    return RafkudinBlockFrom(core, address, block);
+}
+#define RafkudinBlockFrom rafkudin_block_from
+
+static inline rafkudin_uint64 rafkudin_run(const struct rafkudin *core, size_t index,
+                                           struct rafkudin_run *run)
+{
+    if (core == NULL || run == NULL)
+        return RAFKUDIN_INVALID_PARAMETER;
+    return RafkudinRun(core, index, run);
+}
+#define RafkudinRun rafkudin_run
+
+static inline rafkudin_uint64 rafkudin_handle(const struct rafkudin *core, size_t index,
+                                              rafkudin_uint64 *handle)
+{
+    if (core == NULL || handle == NULL)
+        return RAFKUDIN_INVALID_PARAMETER;
+    return RafkudinHandle(core, index, handle);
+}
+#define RafkudinHandle rafkudin_handle
+
+static inline rafkudin_uint64 rafkudin_holder(const struct rafkudin *core,
+                                              const struct rafkudin_guid *Protocol, size_t index,
+                                              rafkudin_uint64 *handle)
+{
+    if (core == NULL || Protocol == NULL || handle == NULL)
+        return RAFKUDIN_INVALID_PARAMETER;
+    return RafkudinHolder(core, Protocol, index, handle);
+}
+#define RafkudinHolder rafkudin_holder
+
+static inline rafkudin_uint64 rafkudin_handles_into(const struct rafkudin *core,
+                                                    rafkudin_uint64 *buffer, size_t room,
+                                                    rafkudin_uint64 *count)
+{
+    rafkudin_uint64 nothing = 0;
+
+    if (core == NULL || count == NULL || (buffer == NULL && room != 0))
+        return RAFKUDIN_INVALID_PARAMETER;
+    return RafkudinHandlesInto(core, buffer == NULL ? &nothing : buffer, room, count);
+}
+#define RafkudinHandlesInto rafkudin_handles_into
+
+static inline rafkudin_uint64 rafkudin_holders_into(const struct rafkudin *core,
+                                                    const struct rafkudin_guid *Protocol,
+                                                    rafkudin_uint64 *buffer, size_t room,
+                                                    rafkudin_uint64 *count)
+{
+    rafkudin_uint64 nothing = 0;
+
+    if (core == NULL || Protocol == NULL || count == NULL || (buffer == NULL && room != 0))
+        return RAFKUDIN_INVALID_PARAMETER;
+    return RafkudinHoldersInto(core, Protocol, buffer == NULL ? &nothing : buffer, room, count);
+}
+#define RafkudinHoldersInto rafkudin_holders_into
+
+static inline rafkudin_uint64 rafkudin_interface(const struct rafkudin *core,
+                                                 rafkudin_uint64 handle, size_t index,
+                                                 struct rafkudin_interface *interface)
+{
+    if (core == NULL || interface == NULL)
+        return RAFKUDIN_INVALID_PARAMETER;
+    return RafkudinInterface(core, handle, index, interface);
+}
+#define RafkudinInterface rafkudin_interface
+
+static inline rafkudin_uint64 rafkudin_open_item(const struct rafkudin *core,
+                                                 rafkudin_uint64 handle,
+                                                 const struct rafkudin_guid *Protocol, size_t index,
+                                                 struct rafkudin_item *item)
+{
+    if (core == NULL || Protocol == NULL || item == NULL)
+        return RAFKUDIN_INVALID_PARAMETER;
+    return RafkudinOpenItem(core, handle, Protocol, index, item);
+}
+#define RafkudinOpenItem rafkudin_open_item
+
+static inline rafkudin_uint64 rafkudin_agent_item(const struct rafkudin *core,
+                                                  rafkudin_uint64 agent, size_t index,
+                                                  struct rafkudin_open *item)
+{
+    if (core == NULL || item == NULL)
+        return RAFKUDIN_INVALID_PARAMETER;
+    return RafkudinAgentItem(core, agent, index, item);
+}
+#define RafkudinAgentItem rafkudin_agent_item
+
+static inline rafkudin_uint64 rafkudin_open_protocol_information_into(
+    const struct rafkudin *core, rafkudin_uint64 Handle, const struct rafkudin_guid *Protocol,
+    struct rafkudin_item *EntryBuffer, size_t room, rafkudin_uint64 *EntryCount)
+{
+    rafkudin_uint64 nothing = 0;
+
+    if (core == NULL || Protocol == NULL || EntryCount == NULL ||
+        (EntryBuffer == NULL && room != 0))
+        return RAFKUDIN_INVALID_PARAMETER;
+    if (EntryBuffer == NULL)
+        EntryBuffer = (struct rafkudin_item *)(void *)&nothing;
+    return RafkudinOpenProtocolInformationInto(core, Handle, Protocol, EntryBuffer, room,
+                                               EntryCount);
+}
+#define RafkudinOpenProtocolInformationInto rafkudin_open_protocol_information_into
+
 static inline rafkudin_uint64 rafkudin_place(const uint8_t *records, size_t size,
                                              size_t descriptor_size, rafkudin_uint64 granule,
                                              uint32_t MemoryType, rafkudin_uint64 Pages,
@@ -189,6 +299,21 @@ rafkudin_uninstall_protocol_interface(struct rafkudin *core, rafkudin_uint64 Han
     return RafkudinUninstallProtocolInterface(core, Handle, Protocol, Interface);
 }
 #define RafkudinUninstallProtocolInterface rafkudin_uninstall_protocol_interface
+
+static inline rafkudin_uint64
+rafkudin_uninstall_multiple_protocol_interfaces(struct rafkudin *core, rafkudin_uint64 Handle,
+                                                const struct rafkudin_interface *interfaces,
+                                                size_t count)
+{
+    rafkudin_uint64 nothing = 0;
+
+    if (core == NULL || (interfaces == NULL && count != 0))
+        return RAFKUDIN_INVALID_PARAMETER;
+    if (interfaces == NULL)
+        interfaces = (const struct rafkudin_interface *)(void *)&nothing;
+    return RafkudinUninstallMultipleProtocolInterfaces(core, Handle, interfaces, count);
+}
+#define RafkudinUninstallMultipleProtocolInterfaces rafkudin_uninstall_multiple_protocol_interfaces
 
 static inline rafkudin_uint64
 rafkudin_reinstall_protocol_interface(struct rafkudin *core, rafkudin_uint64 Handle,

@@ -38,13 +38,7 @@ void each_held(void (*visit)(const struct held *held, void *context), void *cont
         visit(&held[i], context);
 }
 
-/* The library gives no interface with ALREADY_STARTED, which the reference implementation does and
- * shipped drivers rely on; so it is asked for. Every other refusal writes null. */
-static void *value_of_refused(EFI_STATUS status, EFI_HANDLE handle, const EFI_GUID *guid)
-{
-    return status == EFI_ALREADY_STARTED ? interface_of(NUMBER(handle), guid) : NULL;
-}
-
+/* Every refusal but ALREADY_STARTED writes null. */
 static EFI_STATUS EFIAPI OpenProtocol(EFI_HANDLE handle, const EFI_GUID *guid, void **interface,
                                       EFI_HANDLE agent, EFI_HANDLE controller, uint32_t attributes)
 {
@@ -59,8 +53,7 @@ static EFI_STATUS EFIAPI OpenProtocol(EFI_HANDLE handle, const EFI_GUID *guid, v
         stop_holders(number, guid) == EFI_SUCCESS)
         status = core_open(number, guid, &value, NUMBER(agent), NUMBER(controller), attributes);
     if (attributes != RAFKUDIN_TEST_PROTOCOL)
-        *interface = status == EFI_SUCCESS ? POINTER(path_from_core(guid, value))
-                                           : value_of_refused(status, handle, guid);
+        *interface = POINTER(path_from_core(guid, value));
     if (status == EFI_SUCCESS && (attributes & HOLDING) != 0) {
         struct held it = {number, NUMBER(agent), NUMBER(controller), 0, *guid, attributes, {0}};
 

@@ -279,6 +279,31 @@ static void try_standard(struct rafkudin *core)
     HOLDS(RafkudinCallsLeft(core) == left - 4);
 }
 
+/* What OpenProtocol and HandleProtocol give with a refusal, of a disk of value 0x10 on handle 1. */
+static void try_opens(struct rafkudin *core)
+{
+    static const struct rafkudin_guid missing = {{3}};
+    uint64_t value = LEFT;
+
+    HOLDS(RafkudinOpenProtocol(core, 1, &disk, &value, 1, 1, RAFKUDIN_BY_DRIVER) ==
+          RAFKUDIN_SUCCESS);
+    HOLDS(value == 0x10);
+    value = LEFT;
+    HOLDS(RafkudinOpenProtocol(core, 1, &disk, &value, 1, 1, RAFKUDIN_BY_DRIVER) ==
+          RAFKUDIN_ALREADY_STARTED);
+    HOLDS(value == 0x10);
+    HOLDS(RafkudinCloseProtocol(core, 1, &disk, 1, 1) == RAFKUDIN_SUCCESS);
+    value = LEFT;
+    HOLDS(RafkudinOpenProtocol(core, 1, &missing, &value, 0, 0, RAFKUDIN_TEST_PROTOCOL) ==
+              RAFKUDIN_UNSUPPORTED &&
+          value == LEFT);
+    HOLDS(RafkudinOpenProtocol(core, 1, &missing, &value, 1, 0, RAFKUDIN_GET_PROTOCOL) ==
+              RAFKUDIN_UNSUPPORTED &&
+          value == 0);
+    value = LEFT;
+    HOLDS(RafkudinHandleProtocol(core, 1, &missing, &value) == RAFKUDIN_UNSUPPORTED && value == 0);
+}
+
 /* A handle with two interfaces, their events, and their GUIDs in buffers of all lengths. */
 static void try_handles(struct rafkudin *core)
 {
@@ -298,8 +323,56 @@ static void try_handles(struct rafkudin *core)
           RAFKUDIN_SUCCESS);
     HOLDS(value == LEFT);
     HOLDS(RafkudinConnectDrivers(core, 1, NULL, 0, true) == RAFKUDIN_NOT_FOUND);
+    try_opens(core);
     try_standard(core);
     try_search(core);
+}
+
+/* All of some interfaces of a handle go or none, in a call that may be refused at each of them. */
+static void try_uninstalls(void)
+{
+    static const struct rafkudin_guid third = {{3}};
+    struct rafkudin_interface all[3] = {{disk, 0x10}, {files, 0x20}, {third, 0x30}}, many[17];
+    struct rafkudin_interface wrong[3] = {{disk, 0x10}, {files, 0x21}, {third, 0x30}};
+    struct rafkudin_interface twice[2] = {{disk, 0x10}, {disk, 0x10}};
+    struct rafkudin *core = make_core();
+    uint64_t handle = 0, left, value = LEFT, count = 0;
+    struct rafkudin_guid order[3];
+    struct rafkudin_item item;
+
+    HOLDS(RafkudinInstallMultipleProtocolInterfaces(core, &handle, all, 3) == RAFKUDIN_SUCCESS);
+    HOLDS(RafkudinOpenProtocol(core, handle, &disk, &value, handle, 0, RAFKUDIN_GET_PROTOCOL) ==
+          RAFKUDIN_SUCCESS);
+    HOLDS(RafkudinOpenProtocol(core, handle, &third, &value, handle, 0, RAFKUDIN_EXCLUSIVE) ==
+          RAFKUDIN_SUCCESS);
+    for (size_t i = 0; i < 17; i++)
+        many[i] = all[0];
+    left = RafkudinCallsLeft(core);
+    HOLDS(RafkudinUninstallMultipleProtocolInterfaces(core, handle, all, 3) ==
+          RAFKUDIN_INVALID_PARAMETER);
+    HOLDS(RafkudinUninstallMultipleProtocolInterfaces(core, handle, wrong, 2) ==
+          RAFKUDIN_INVALID_PARAMETER);
+    HOLDS(RafkudinUninstallMultipleProtocolInterfaces(core, handle, twice, 2) ==
+          RAFKUDIN_INVALID_PARAMETER);
+    HOLDS(RafkudinUninstallMultipleProtocolInterfaces(core, handle, many, 17) ==
+          RAFKUDIN_INVALID_PARAMETER);
+    HOLDS(RafkudinUninstallMultipleProtocolInterfaces(core, handle + 1, all, 1) ==
+          RAFKUDIN_INVALID_PARAMETER);
+    HOLDS(RafkudinUninstallMultipleProtocolInterfaces(core, handle, NULL, 0) == RAFKUDIN_SUCCESS);
+    HOLDS(RafkudinCallsLeft(core) == left - 6);
+    HOLDS(RafkudinProtocolsPerHandle(core, handle, order, 3, &count) == RAFKUDIN_SUCCESS);
+    for (size_t i = 0; i < 3; i++)
+        HOLDS(memcmp(&order[i], &all[i].guid, sizeof order[i]) == 0);
+    HOLDS(RafkudinOpenItem(core, handle, &disk, 0, &item) == RAFKUDIN_SUCCESS);
+    HOLDS(RafkudinUninstallMultipleProtocolInterfaces(core, handle, all, 2) == RAFKUDIN_SUCCESS);
+    HOLDS(RafkudinOpenItem(core, handle, &disk, 0, &item) == RAFKUDIN_NOT_FOUND);
+    HOLDS(RafkudinHandleProtocol(core, handle, &third, &value) == RAFKUDIN_SUCCESS &&
+          value == 0x30);
+    HOLDS(RafkudinCloseProtocol(core, handle, &third, handle, 0) == RAFKUDIN_SUCCESS);
+    HOLDS(RafkudinUninstallMultipleProtocolInterfaces(core, handle, all + 2, 1) ==
+          RAFKUDIN_SUCCESS);
+    HOLDS(RafkudinHandle(core, 0, &handle) == RAFKUDIN_NOT_FOUND);
+    RafkudinFree(core);
 }
 
 /* The pool's bytes, empty ranges among them. */
@@ -413,6 +486,7 @@ int main(void)
     try_entries(core);
     try_refusals(core);
     try_handles(core);
+    try_uninstalls();
     try_pool(core);
     try_certificates(core);
     try_exit(core);

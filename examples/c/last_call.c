@@ -88,6 +88,7 @@ static void try_handles(struct rafkudin *core, uint64_t handle)
     ABORTED(RafkudinInstallMultipleProtocolInterfaces(core, &new_handle, &interface, 1));
     HOLDS(new_handle == 0);
     ABORTED(RafkudinUninstallProtocolInterface(core, handle, &disk, 0x10));
+    ABORTED(RafkudinUninstallMultipleProtocolInterfaces(core, handle, &interface, 1));
     ABORTED(RafkudinReinstallProtocolInterface(core, handle, &disk, 0x10, 0x20));
     ABORTED(RafkudinRegisterProtocolNotify(core, &disk, 7, &number));
     ABORTED(RafkudinLocateHandleInto(core, 0, &disk, 0, &number, handles, 2));

@@ -57,6 +57,47 @@ static void try_no_core(void)
     HOLDS(RafkudinEvents(NULL, &number, 1) == 0);
 }
 
+/* Each null pointer of the questions. */
+static void try_questions(struct rafkudin *core)
+{
+    struct rafkudin_interface interface;
+    struct rafkudin_block block;
+    struct rafkudin_item item;
+    struct rafkudin_open open;
+    struct rafkudin_run run;
+    uint64_t number = 0;
+
+    REFUSED(RafkudinBlockFrom(NULL, 0, &block));
+    REFUSED(RafkudinBlockFrom(core, 0, NULL));
+    REFUSED(RafkudinRun(NULL, 0, &run));
+    REFUSED(RafkudinRun(core, 0, NULL));
+    REFUSED(RafkudinHandle(NULL, 0, &number));
+    REFUSED(RafkudinHandle(core, 0, NULL));
+    REFUSED(RafkudinHolder(NULL, &disk, 0, &number));
+    REFUSED(RafkudinHolder(core, NULL, 0, &number));
+    REFUSED(RafkudinHolder(core, &disk, 0, NULL));
+    REFUSED(RafkudinHandlesInto(NULL, &number, 1, &number));
+    REFUSED(RafkudinHandlesInto(core, NULL, 1, &number));
+    REFUSED(RafkudinHandlesInto(core, &number, 1, NULL));
+    REFUSED(RafkudinHoldersInto(NULL, &disk, &number, 1, &number));
+    REFUSED(RafkudinHoldersInto(core, NULL, &number, 1, &number));
+    REFUSED(RafkudinHoldersInto(core, &disk, NULL, 1, &number));
+    REFUSED(RafkudinHoldersInto(core, &disk, &number, 1, NULL));
+    REFUSED(RafkudinInterface(NULL, 1, 0, &interface));
+    REFUSED(RafkudinInterface(core, 1, 0, NULL));
+    REFUSED(RafkudinOpenItem(NULL, 1, &disk, 0, &item));
+    REFUSED(RafkudinOpenItem(core, 1, NULL, 0, &item));
+    REFUSED(RafkudinOpenItem(core, 1, &disk, 0, NULL));
+    REFUSED(RafkudinAgentItem(NULL, 1, 0, &open));
+    REFUSED(RafkudinAgentItem(core, 1, 0, NULL));
+    REFUSED(RafkudinOpenProtocolInformationInto(NULL, 1, &disk, &item, 1, &number));
+    REFUSED(RafkudinOpenProtocolInformationInto(core, 1, NULL, &item, 1, &number));
+    REFUSED(RafkudinOpenProtocolInformationInto(core, 1, &disk, NULL, 1, &number));
+    REFUSED(RafkudinOpenProtocolInformationInto(core, 1, &disk, &item, 1, NULL));
+    HOLDS(RafkudinOpenProtocolInformationInto(core, 1, &disk, NULL, 0, &number) ==
+          RAFKUDIN_SUCCESS);
+}
+
 /* Each service with no core. */
 static void try_null_core(void)
 {
@@ -76,6 +117,7 @@ static void try_null_core(void)
     REFUSED(RafkudinPoolWrite(NULL, 8, &byte, 1));
     REFUSED(RafkudinInstallProtocolInterface(NULL, &one, &disk, 0, 0));
     REFUSED(RafkudinInstallMultipleProtocolInterfaces(NULL, &one, &interface, 1));
+    REFUSED(RafkudinUninstallMultipleProtocolInterfaces(NULL, 1, &interface, 1));
     REFUSED(RafkudinUninstallProtocolInterface(NULL, 1, &disk, 0));
     REFUSED(RafkudinReinstallProtocolInterface(NULL, 1, &disk, 0, 0));
     REFUSED(RafkudinRegisterProtocolNotify(NULL, &disk, 0, &one));
@@ -140,6 +182,7 @@ static void try_null_parameters(struct rafkudin *core)
     REFUSED(RafkudinInstallProtocolInterface(core, &one, NULL, 0, 0));
     REFUSED(RafkudinInstallMultipleProtocolInterfaces(core, NULL, NULL, 0));
     REFUSED(RafkudinInstallMultipleProtocolInterfaces(core, &one, NULL, 1));
+    REFUSED(RafkudinUninstallMultipleProtocolInterfaces(core, 1, NULL, 1));
     REFUSED(RafkudinUninstallProtocolInterface(core, 1, NULL, 0));
     REFUSED(RafkudinReinstallProtocolInterface(core, 1, NULL, 0, 0));
     REFUSED(RafkudinRegisterProtocolNotify(core, NULL, 0, &one));
@@ -192,6 +235,7 @@ int main(void)
     try_no_core();
     try_null_core();
     try_null_parameters(core);
+    try_questions(core);
     try_allowed(core);
     try_turns(core);
     RafkudinFree(core);

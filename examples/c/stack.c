@@ -169,6 +169,16 @@ static void uninstall(void)
     RafkudinUninstallProtocolInterface(core, one, &bus, 6);
 }
 
+static void uninstall_many(void)
+{
+    struct rafkudin_interface many[16];
+
+    memset(many, 0, sizeof many);
+    for (unsigned at = 0; at < 16; at++)
+        many[at].guid.bytes[1] = (uint8_t)(at + 1);
+    RafkudinUninstallMultipleProtocolInterfaces(core, one - 1, many, 16);
+}
+
 static void give_back(void)
 {
     RafkudinFree(core);
@@ -194,7 +204,7 @@ static void measure(const char *name, void (*calls)(void))
     run(calls);
     while (left < STACK && stack[left] == PATTERN)
         left++;
-    printf("%-42s %6zu\n", name, STACK - left);
+    printf("%-43s %6zu\n", name, STACK - left);
     if (STACK - left > most)
         most = STACK - left;
 }
@@ -219,6 +229,7 @@ int main(int count, char **words)
     measure("RafkudinLocateHandleBuffer", locate);
     measure("RafkudinDisconnectController", disconnect);
     measure("RafkudinUninstallProtocolInterface", uninstall);
+    measure("RafkudinUninstallMultipleProtocolInterfaces", uninstall_many);
     measure("RafkudinFree", give_back);
     return count == 2 && most > strtoull(words[1], NULL, 10);
 }

@@ -126,6 +126,11 @@ static void use_handles(struct rafkudin *core)
     seen(RafkudinDisconnectController(core, handle, 0, 0));
     seen(RafkudinInstallProtocolInterface(core, &handle, &files, 0, 9));
     seen(RafkudinUninstallProtocolInterface(core, handle, &files, 9));
+    both[0].guid = files;
+    both[1].guid = disk;
+    other = 0;
+    seen(RafkudinInstallMultipleProtocolInterfaces(core, &other, both, 2));
+    seen(RafkudinUninstallMultipleProtocolInterfaces(core, other, both, 2));
 }
 
 uint64_t run_workload(void)

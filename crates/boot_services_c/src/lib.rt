@@ -3,6 +3,7 @@
 #![tactic(auto)]
 
 mod blocks;
+mod contents;
 mod handle;
 mod making;
 mod memory;

@@ -3,7 +3,9 @@
 //! Of each: ABORTED, after 2^31 calls, UNSUPPORTED, once the boot services have exited, and OUT_OF_RESOURCES,
 //! where memory runs out, are not named again. A refusal leaves the places of the caller's.
 ghost use Rattle.std.specs.Prelude.{◌≡◌};
-ghost use Rattle.c_interface.specs.Services.{Installs, InstallsAll, Uninstalls, Reinstalls, Registers, LocatesHandles, LocatesBuffer, LocatesProtocol, LocatesPath, HandlesProtocol, Opens, Closes, ListsOpens, ListsGuids, Connects, Disconnects};
+ghost use Rattle.c_interface.specs.Opening.{HandlesGiving, OpensGiving};
+ghost use Rattle.c_interface.specs.Removals.{UninstallsAll};
+ghost use Rattle.c_interface.specs.Services.{Installs, InstallsAll, Uninstalls, Reinstalls, Registers, LocatesHandles, LocatesBuffer, LocatesProtocol, LocatesPath, Closes, ListsOpens, ListsGuids, Connects, Disconnects};
 
 use crate::handle::Rafkudin;
 use c_machines::{Guid, Interface};
@@ -95,7 +97,7 @@ pub extern "C" fn RafkudinLocateHandleInto(
     core.held().locate_handle(search, guid, key, needed, buffer)
 }
 
-/// HandleProtocol, 7.3.7. The place `value` is given the interface's value.
+/// HandleProtocol, 7.3.7. The place `value` is given the interface's value, and 0 with UNSUPPORTED.
 ///
 /// INVALID_PARAMETER: the handle is not live. UNSUPPORTED: the GUID is not on it.
 #[unsafe(no_mangle)]
@@ -105,10 +107,10 @@ pub extern "C" fn RafkudinHandleProtocol(
     guid: &Guid,
     value: &mut u64,
 ) -> u64
-    ensures { HandlesProtocol core.old.core handle guid.now value.old result value.new
+    ensures { HandlesGiving core.old.core handle guid.now value.old result value.new
         core.new.core }
 {
-    core.held().handle_protocol(handle, guid, value)
+    core.held().handle_giving(handle, guid, value)
 }
 
 /// LocateDevicePath, 7.3.8. The place `path` has the path's address in the pool, and is given the address
@@ -129,7 +131,8 @@ pub extern "C" fn RafkudinLocateDevicePath(
     core.held().locate_device_path(guid, path, device)
 }
 
-/// OpenProtocol, 7.3.9. The place `value` is given the interface's value, but by TEST_PROTOCOL.
+/// OpenProtocol, 7.3.9. The place `value` is given the interface's value, also with ALREADY_STARTED, and 0 with
+/// UNSUPPORTED; TEST_PROTOCOL leaves it.
 ///
 /// INVALID_PARAMETER: a handle that is not live, or other attributes. UNSUPPORTED: the GUID is not on the
 /// handle. ALREADY_STARTED: the agent has it open by driver. ACCESS_DENIED: it is open in a
@@ -144,11 +147,11 @@ pub extern "C" fn RafkudinOpenProtocol(
     controller: u64,
     attributes: u32,
 ) -> u64
-    ensures { Opens core.old.core handle guid.now agent controller attributes value.old result
-        value.new core.new.core }
+    ensures { OpensGiving core.old.core handle guid.now agent controller attributes value.old
+        result value.new core.new.core }
 {
     core.held()
-        .open_protocol(handle, guid, value, agent, controller, attributes)
+        .open_giving(handle, guid, value, agent, controller, attributes)
 }
 
 /// CloseProtocol, 7.3.10.
@@ -279,4 +282,18 @@ pub extern "C" fn RafkudinInstallMultipleProtocolInterfaces(
     ensures { InstallsAll core.old.core handle.old interfaces.now result handle.new core.new.core }
 {
     core.held().install_multiple(handle, interfaces)
+}
+
+/// UninstallMultipleProtocolInterfaces, 7.3.18: all of some interfaces of a handle go, one after the other, or none.
+///
+/// INVALID_PARAMETER: there are more than 16, or UninstallProtocolInterface would refuse one of them at its turn.
+#[unsafe(no_mangle)]
+pub extern "C" fn RafkudinUninstallMultipleProtocolInterfaces(
+    core: &mut Rafkudin,
+    handle: u64,
+    interfaces: &[Interface],
+) -> u64
+    ensures { UninstallsAll core.old.core handle interfaces.now result core.new.core }
+{
+    core.held().uninstall_multiple(handle, interfaces)
 }

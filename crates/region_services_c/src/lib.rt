@@ -2,6 +2,7 @@
 //! functions of `boot_services_c`, but that what takes memory takes a region; it calls no heap.
 #![tactic(auto)]
 
+mod contents;
 mod making;
 mod memory;
 mod protocols;
