@@ -6,6 +6,7 @@ mod blocks;
 mod handle;
 mod making;
 mod memory;
+mod paths;
 mod place;
 mod placing;
 mod protocols;

@@ -4,5 +4,6 @@
 
 mod making;
 mod memory;
+mod paths;
 mod protocols;
 mod questions;
