@@ -711,6 +711,38 @@ RAFKUDIN_API void RafkudinConnectRecord(struct rafkudin_turns *turns,
                                         struct rafkudin_binding *drivers, size_t count,
                                         bool was_started);
 
+/* ---- Device paths in the caller's memory, which lie in no block of the pool ---- */
+
+/* LocateDevicePath with a path of `length` bytes or fewer at `path`, as an image or a stack has it:
+ * puts the handle into *Device, and into *matched how many bytes of the path's nodes matched, so
+ * that `path + *matched` is what the standard sets *DevicePath to. The bytes are read as if they
+ * lay in a block of the pool, during the call alone. The call takes no memory, and counts as one
+ * service.
+ *
+ * INVALID_PARAMETER: the bytes begin with no device path, or it goes on behind them. NOT_FOUND: no
+ * handle matches. */
+RAFKUDIN_API rafkudin_uint64 RafkudinLocatePath(struct rafkudin *core,
+                                                const struct rafkudin_guid *Protocol,
+                                                const uint8_t *path, size_t length,
+                                                rafkudin_uint64 *matched,
+                                                rafkudin_uint64 *Device);
+
+/* Installs a device path that lies at `path`: AllocatePool of `length` bytes of boot services data,
+ * PoolWrite of the bytes to that block, and InstallMultipleProtocolInterfaces of the block's address
+ * as the device path of *Handle; where that is 0 of a new handle, which *Handle then is. *address is
+ * the block's address then, which is the value of the interface: whoever uninstalls that frees the
+ * block. The caller's bytes are read during the call alone. Where InstallMultipleProtocolInterfaces
+ * is refused, FreePool gives the block back; only where the heap then refuses memory for that, the
+ * block stays. The three or four services count as such, and the call's events are those of the
+ * installation, its certificate that of the block.
+ *
+ * INVALID_PARAMETER: the bytes begin with no device path, or it goes on behind them; then no service
+ * is called. ABORTED: fewer than four services can still be called; then none is. Else what the
+ * first of the services returns that is refused. */
+RAFKUDIN_API rafkudin_uint64 RafkudinInstallPath(struct rafkudin *core, rafkudin_uint64 *Handle,
+                                                 const uint8_t *path, size_t length,
+                                                 rafkudin_uint64 *address);
+
 /* ---- The end of the boot services, section 7.4.6 ---- */
 
 /* Ends the boot services where `MapKey` is the current key, as GetMemoryMap returns it: each call

@@ -486,6 +486,37 @@ static inline rafkudin_uint64 rafkudin_locate_device_path(struct rafkudin *core,
 }
 #define RafkudinLocateDevicePath rafkudin_locate_device_path
 
+static inline rafkudin_uint64 rafkudin_locate_path(struct rafkudin *core,
+                                                   const struct rafkudin_guid *Protocol,
+                                                   const uint8_t *path, size_t length,
+                                                   rafkudin_uint64 *matched,
+                                                   rafkudin_uint64 *Device)
+{
+    rafkudin_uint64 nothing = 0;
+
+    if (core == NULL || Protocol == NULL || (path == NULL && length != 0) || matched == NULL ||
+        Device == NULL)
+        return RAFKUDIN_INVALID_PARAMETER;
+    if (path == NULL)
+        path = (const uint8_t *)(void *)&nothing;
+    return RafkudinLocatePath(core, Protocol, path, length, matched, Device);
+}
+#define RafkudinLocatePath rafkudin_locate_path
+
+static inline rafkudin_uint64 rafkudin_install_path(struct rafkudin *core,
+                                                    rafkudin_uint64 *Handle, const uint8_t *path,
+                                                    size_t length, rafkudin_uint64 *address)
+{
+    rafkudin_uint64 nothing = 0;
+
+    if (core == NULL || Handle == NULL || (path == NULL && length != 0) || address == NULL)
+        return RAFKUDIN_INVALID_PARAMETER;
+    if (path == NULL)
+        path = (const uint8_t *)(void *)&nothing;
+    return RafkudinInstallPath(core, Handle, path, length, address);
+}
+#define RafkudinInstallPath rafkudin_install_path
+
 static inline rafkudin_uint64 rafkudin_exit_boot_services(struct rafkudin *core,
                                                           rafkudin_uint64 ImageHandle,
                                                           rafkudin_uint64 MapKey)

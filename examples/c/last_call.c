@@ -81,6 +81,7 @@ static void try_memory(struct rafkudin *core, struct served served)
 static void try_handles(struct rafkudin *core, uint64_t handle)
 {
     const struct rafkudin_interface interface = {disk, 0x20};
+    static const uint8_t path[] = {0x7f, 0xff, 4, 0};
     struct rafkudin_guid guids[1] = {{{9}}};
     uint64_t new_handle = 0, number = LEFT, other = LEFT, handles[2] = {LEFT, LEFT};
 
@@ -102,6 +103,9 @@ static void try_handles(struct rafkudin *core, uint64_t handle)
     ABORTED(RafkudinConnectDrivers(core, handle, handles, 0, true));
     ABORTED(RafkudinDisconnectDrivers(core, handle, 0));
     ABORTED(RafkudinLocateDevicePath(core, &disk, &number, &other));
+    ABORTED(RafkudinLocatePath(core, &disk, path, sizeof path, &number, &other));
+    ABORTED(RafkudinInstallPath(core, &new_handle, path, sizeof path, &number));
+    HOLDS(new_handle == 0);
     HOLDS(number == LEFT && other == LEFT && handles[0] == LEFT && handles[1] == LEFT);
     HOLDS(guids[0].bytes[0] == 9);
 }

@@ -133,6 +133,8 @@ static void try_null_core(void)
     REFUSED(RafkudinConnectController(NULL, 1, NULL, 0, false));
     REFUSED(RafkudinDisconnectController(NULL, 1, 0, 0));
     REFUSED(RafkudinLocateDevicePath(NULL, &disk, &one, &two));
+    REFUSED(RafkudinLocatePath(NULL, &disk, &byte, 1, &one, &two));
+    REFUSED(RafkudinInstallPath(NULL, &one, &byte, 1, &two));
     REFUSED(RafkudinExitBootServices(NULL, 1, 1));
 }
 
@@ -209,6 +211,13 @@ static void try_null_parameters(struct rafkudin *core)
     REFUSED(RafkudinLocateDevicePath(core, NULL, &one, &two));
     REFUSED(RafkudinLocateDevicePath(core, &disk, NULL, &two));
     REFUSED(RafkudinLocateDevicePath(core, &disk, &one, NULL));
+    REFUSED(RafkudinLocatePath(core, NULL, &byte, 1, &one, &two));
+    REFUSED(RafkudinLocatePath(core, &disk, NULL, 1, &one, &two));
+    REFUSED(RafkudinLocatePath(core, &disk, &byte, 1, NULL, &two));
+    REFUSED(RafkudinLocatePath(core, &disk, &byte, 1, &one, NULL));
+    REFUSED(RafkudinInstallPath(core, NULL, &byte, 1, &two));
+    REFUSED(RafkudinInstallPath(core, &one, NULL, 1, &two));
+    REFUSED(RafkudinInstallPath(core, &one, &byte, 1, NULL));
     HOLDS(RafkudinCallsLeft(core) == left && one == 0 && two == 0 && three == 0);
 }
 

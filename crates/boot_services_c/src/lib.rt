@@ -7,6 +7,7 @@ mod contents;
 mod handle;
 mod making;
 mod memory;
+mod paths;
 mod place;
 mod placing;
 mod protocols;

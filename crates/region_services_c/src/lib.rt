@@ -5,6 +5,7 @@
 mod contents;
 mod making;
 mod memory;
+mod paths;
 mod protocols;
 mod questions;
 mod turns;
