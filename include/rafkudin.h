@@ -8,10 +8,10 @@
  * NAMES. There are 24 services. 22 of them have their names in the UEFI Specification 2.10 with
  * Rafkudin in front, and its parameters in its order, with the core in front; where one is left out
  * or added, the comment at the function says so. RafkudinPoolRead and RafkudinPoolWrite are in no
- * standard: by them a caller reaches the bytes of the pool. All other functions are no services. Of
- * sections 7.2 and 7.3 only UninstallMultipleProtocolInterfaces is missing. rafkudin_efi_names.h
- * has the standard's names without a prefix, as macros. Every symbol of the library begins with
- * Rafkudin, but for the three of its heap.
+ * standard: by them a caller reaches the bytes of the pool. UninstallMultipleProtocolInterfaces is
+ * here too, in no trace of the program; so all services of sections 7.2 and 7.3 are here. Other
+ * functions are no services. rafkudin_efi_names.h has the standard's names without a prefix, as
+ * macros. Every symbol of the library begins with Rafkudin, but for the three of its heap.
  *
  * NUMBERS. A page has 4,096 bytes. Addresses and sizes are in bytes, numbers of pages in pages. A
  * handle is a number, from 1 up; 0 is the null handle. An event is any number of the caller's.
@@ -63,7 +63,7 @@
  * docs/C.md says what these owe, how to link, and how a firmware builds the library. On x86-64 it
  * runs on every processor and may be interrupted anywhere, as it uses no byte below the stack
  * pointer. ReinstallProtocolInterface and ConnectController take up to 36 KB of stack, RafkudinMake
- * 28 KB, all others up to 7 KB. */
+ * 28 KB; docs/C.md says what was measured of others. */
 #ifndef RAFKUDIN_H
 #define RAFKUDIN_H
 
