@@ -8,10 +8,10 @@
  * NAMES. There are 24 services. 22 of them have their names in the UEFI Specification 2.10 with
  * Rafkudin in front, and its parameters in its order, with the core in front; where one is left out
  * or added, the comment at the function says so. RafkudinPoolRead and RafkudinPoolWrite are in no
- * standard: by them a caller reaches the bytes of the pool. All other functions are no services. Of
- * sections 7.2 and 7.3 only UninstallMultipleProtocolInterfaces is missing. rafkudin_efi_names.h
- * has the standard's names without a prefix, as macros. Every symbol of the library begins with
- * Rafkudin, but for the three of its heap.
+ * standard: by them a caller reaches the bytes of the pool. UninstallMultipleProtocolInterfaces is
+ * here too, in no trace of the program; so all services of sections 7.2 and 7.3 are here. Other
+ * functions are no services. rafkudin_efi_names.h has the standard's names without a prefix, as
+ * macros. Every symbol of the library begins with Rafkudin, but for the three of its heap.
  *
  * NUMBERS. A page has 4,096 bytes. Addresses and sizes are in bytes, numbers of pages in pages. A
  * handle is a number, from 1 up; 0 is the null handle. An event is any number of the caller's.
@@ -35,10 +35,11 @@
  * - Last of all, OUT_OF_RESOURCES: the heap refused the core memory for its own tables.
  *   GetMemoryMap, ExitBootServices, PoolRead, PoolWrite, CloseProtocol, HandleProtocol,
  *   LocateDevicePath and LocateProtocol never ask for any.
- * OUT_OF_RESOURCES may take the place of five refusals that are named before it, as the core needs
+ * OUT_OF_RESOURCES may take the place of six refusals that are named before it, as the core needs
  * memory to decide them: ACCESS_DENIED of UninstallProtocolInterface, of
  * ReinstallProtocolInterface, and of an exclusive OpenProtocol for which a driver must be stopped;
- * NOT_FOUND of ConnectController; DEVICE_ERROR of DisconnectController.
+ * NOT_FOUND of ConnectController; DEVICE_ERROR of DisconnectController; INVALID_PARAMETER of
+ * UninstallMultipleProtocolInterfaces with up to 16 interfaces.
  *
  * WHAT THE CALLER OWES. Nothing checks it, and the proofs hold only where it holds:
  * - `core` is a pointer that RafkudinMake set, and RafkudinFree has not been called with it.
@@ -63,7 +64,7 @@
  * docs/C.md says what these owe, how to link, and how a firmware builds the library. On x86-64 it
  * runs on every processor and may be interrupted anywhere, as it uses no byte below the stack
  * pointer. ReinstallProtocolInterface and ConnectController take up to 36 KB of stack, RafkudinMake
- * 28 KB, all others up to 7 KB. */
+ * 28 KB; docs/C.md says what was measured of others. */
 #ifndef RAFKUDIN_H
 #define RAFKUDIN_H
 
@@ -645,11 +646,20 @@ RAFKUDIN_API rafkudin_uint64 RafkudinLocateDevicePath(struct rafkudin *core,
                                                       rafkudin_uint64 *DevicePath,
                                                       rafkudin_uint64 *Device);
 
+/* ---- The end of the boot services, section 7.4.6 ---- */
+
+/* Ends the boot services where `MapKey` is the current key, as GetMemoryMap returns it: each call
+ * that changes the type of a page makes another. `ImageHandle` plays no part.
+ * INVALID_PARAMETER: another key. */
+RAFKUDIN_API rafkudin_uint64 RafkudinExitBootServices(struct rafkudin *core,
+                                                      rafkudin_uint64 ImageHandle,
+                                                      rafkudin_uint64 MapKey);
+
 /* ---- Drivers that are code. None of these is a service, and none uses up a call. ----
  *
- * The drivers of RafkudinMake have fixed answers. A driver that is code (EFI_DRIVER_BINDING_PROTOCOL)
- * calls the services itself, so no service can run it: here the library says what comes next by the
- * rule of ConnectController, and the caller carries it out:
+ * The drivers of RafkudinMake have fixed answers. A driver that is code, as every
+ * EFI_DRIVER_BINDING_PROTOCOL is, calls the services itself, so no service can run it: here the
+ * library says what comes next by the rule of ConnectController, and the caller carries it out:
  *
  *     struct rafkudin_binding drivers[..], driver;
  *     struct rafkudin_turns turns;
@@ -728,29 +738,20 @@ RAFKUDIN_API rafkudin_uint64 RafkudinLocatePath(struct rafkudin *core,
                                                 rafkudin_uint64 *Device);
 
 /* Installs a device path that lies at `path`: AllocatePool of `length` bytes of boot services data,
- * PoolWrite of the bytes to that block, and InstallMultipleProtocolInterfaces of the block's address
- * as the device path of *Handle; where that is 0 of a new handle, which *Handle then is. *address is
- * the block's address then, which is the value of the interface: whoever uninstalls that frees the
- * block. The caller's bytes are read during the call alone. Where InstallMultipleProtocolInterfaces
- * is refused, FreePool gives the block back; only where the heap then refuses memory for that, the
- * block stays. The three or four services count as such, and the call's events are those of the
- * installation, its certificate that of the block.
+ * PoolWrite of the bytes to that block, and InstallMultipleProtocolInterfaces of the block's
+ * address as the device path of *Handle; where that is 0 of a new handle, which *Handle then is.
+ * *address is the block's address then, which is the value of the interface: whoever uninstalls
+ * that frees the block. The caller's bytes are read during the call alone. Where
+ * InstallMultipleProtocolInterfaces is refused, FreePool gives the block back; only where the heap
+ * then refuses memory for that, the block stays. The three or four services count as such, and the
+ * call's events are those of the installation, its certificate that of the block.
  *
- * INVALID_PARAMETER: the bytes begin with no device path, or it goes on behind them; then no service
- * is called. ABORTED: fewer than four services can still be called; then none is. Else what the
- * first of the services returns that is refused. */
+ * INVALID_PARAMETER: the bytes begin with no device path, or it goes on behind them; then no
+ * service is called. ABORTED: fewer than four services can still be called; then none is. Else what
+ * the first of the services returns that is refused. */
 RAFKUDIN_API rafkudin_uint64 RafkudinInstallPath(struct rafkudin *core, rafkudin_uint64 *Handle,
                                                  const uint8_t *path, size_t length,
                                                  rafkudin_uint64 *address);
-
-/* ---- The end of the boot services, section 7.4.6 ---- */
-
-/* Ends the boot services where `MapKey` is the current key, as GetMemoryMap returns it: each call
- * that changes the type of a page makes another. `ImageHandle` plays no part.
- * INVALID_PARAMETER: another key. */
-RAFKUDIN_API rafkudin_uint64 RafkudinExitBootServices(struct rafkudin *core,
-                                                      rafkudin_uint64 ImageHandle,
-                                                      rafkudin_uint64 MapKey);
 
 #ifndef RAFKUDIN_NO_NULL_CHECKS
 #include "rafkudin_null.h"

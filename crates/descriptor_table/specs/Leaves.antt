@@ -22,7 +22,8 @@ leaf_at ls i = slice_index_or ls i []
 
 -- parts between the first runs of a leaf, up to an index, and those of the next leaf from an index on
 abbrev pub put_across : List (List Run) → ℕ → ℕ → ℕ → List Run → List Run
-put_across ls i low high parts = take low (leaf_at ls i) ++ (parts ++ drop high (leaf_at ls (i + 1)))
+put_across ls i low high parts =
+    take low (leaf_at ls i) ++ (parts ++ drop high (leaf_at ls (i + 1)))
 
 -- a leaf has at least one run, and at most 32
 abbrev pub IsLeaf : List Run → Type 0

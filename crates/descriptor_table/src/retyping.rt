@@ -245,7 +245,7 @@ fn retype_in_leaf<A: Allocator + Copy>(
     Some(entries + new_entries - old_entries)
 }
 
-/// How many of some parts come into the first of two leaves that have so many runs before them and
+/// How many of some parts come into the first of two leaves with a number of runs before them and one
 /// behind them: as many as make the leaves alike in size.
 fn share_of_first(before: usize, parts: usize, behind: usize) -> usize
     requires before { before ≤ 32 }
@@ -328,7 +328,8 @@ fn put_across<A: Allocator + Copy>(
     entries: (usize, usize),
 )
     requires leaves { AreLeaves leaves.old.items }
-    requires old { AreRuns (runs_in leaves.old.items) × EndBy page_count (runs_in leaves.old.items) }
+    requires old { AreRuns (runs_in leaves.old.items)
+        × EndBy page_count (runs_in leaves.old.items) }
     requires index { index + 1 < length leaves.old.items }
     requires low { window.0 ≤ length (leaf_at leaves.old.items index) }
     requires high { window.1 ≤ length (leaf_at leaves.old.items (index + 1)) }

@@ -107,7 +107,8 @@ pub fn begin_turns<A: Allocator + Copy>(
     named: &[u64],
     drivers: &mut [Agent],
 ) -> Result<DriverTurns, Status>
-    ensures turns { spec.BeginsTurns handles.now controller named.now drivers.old result drivers.new }
+    ensures turns { spec.BeginsTurns handles.now controller named.now drivers.old result
+        drivers.new }
     ensures count { length drivers.new ≡ length drivers.old }
 {
     if is_refused(handles, controller, named) {

@@ -24,7 +24,9 @@ block_at blocks b = one_or_empty b (find (is_numbered b) blocks)
 
 -- the place of the block of a number
 abbrev pub IsPlaceOf : ℕ → List Block → ℕ → Type 0
-IsPlaceOf b blocks at = (at < length blocks) × (find (is_numbered b) blocks ≡ slice_get blocks at) × (at ≡ place (λ k. nat_lt k.number b) blocks)
+IsPlaceOf b blocks at =
+    (at < length blocks) × (find (is_numbered b) blocks ≡ slice_get blocks at)
+    × (at ≡ place (λ k. nat_lt k.number b) blocks)
 
 -- blocks by ascending numbers
 abbrev pub AscendByNumber : List Block → Type 0
@@ -45,11 +47,13 @@ without_place at k = record k { places = filter (λ x. not (x == at)) k.places }
 
 -- the block of one number changes, and no other
 abbrev pub ChangesBlock : ℕ → (Block → Block) → List Block → List Block → Type 0
-ChangesBlock b f old new = (m : ℕ) → block_at new m ≡ cond (b == m) (f (block_at old m)) (block_at old m)
+ChangesBlock b f old new =
+    (m : ℕ) → block_at new m ≡ cond (b == m) (f (block_at old m)) (block_at old m)
 
 -- the blocks of two numbers change, which may be one, and no other
 abbrev pub ChangesBlocks : ℕ → ℕ → (Block → Block) → List Block → List Block → Type 0
-ChangesBlocks b c f old new = (m : ℕ) → block_at new m ≡ cond ((b == m) || (c == m)) (f (block_at old m)) (block_at old m)
+ChangesBlocks b c f old new =
+    (m : ℕ) → block_at new m ≡ cond ((b == m) || (c == m)) (f (block_at old m)) (block_at old m)
 
 -- no block has a place
 abbrev pub IsFree : ℕ → List Block → Type 0
