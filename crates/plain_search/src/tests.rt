@@ -8,6 +8,7 @@ ghost use Rattle.placement_certificate.specs.Placement.{IsProperRequest};
 ghost use Rattle.plain_search.specs.RunsBy.{AreRunsBy};
 
 mod choices;
+mod wide_tables;
 
 use super::*;
 use page_ranges::{Descriptor, MemoryType, Owner, PAGE_COUNT, PageRange, Run};

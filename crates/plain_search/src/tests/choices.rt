@@ -94,7 +94,7 @@ fn chosen(alloc: Global, runs: &[Run], request: &Request) -> Result<Option<Certi
 }
 
 // A request on a machine with granules of 16 pages, of a type whose pages lie in whole granules.
-fn in_granules(number: u32, pages: u64, limit: u64) -> Request
+pub fn in_granules(number: u32, pages: u64, limit: u64) -> Request
     ensures { 0 < pages → pages % 16 ≡ 0 → is_granular number ≡ true → IsProperRequest result }
 {
     Request {
@@ -310,7 +310,12 @@ fn drawn_kind(draw: u64) -> (u32, u64)
     }
 }
 
-fn push_run(runs: &mut Vec<Run>, first: u64, pages: u64, kind: (u32, u64)) -> Result<(), AllocError>
+pub fn push_run(
+    runs: &mut Vec<Run>,
+    first: u64,
+    pages: u64,
+    kind: (u32, u64),
+) -> Result<(), AllocError>
     requires runs { AreRunsBy first runs.old.items }
     requires proper { IsProperMemory (pages_of runs.old.items) }
     requires some { 0 < pages }
@@ -324,14 +329,21 @@ fn push_run(runs: &mut Vec<Run>, first: u64, pages: u64, kind: (u32, u64)) -> Re
     Ok(())
 }
 
-fn next_draw(draw: u64) -> u64 {
+pub fn next_draw(draw: u64) -> u64 {
     draw.wrapping_mul(6_364_136_223_846_793_005)
         .wrapping_add(1_442_695_040_888_963_407)
 }
 
-// A machine of eight runs, each of up to the given number of pages and with a hole of a page below it or none, of
+// A machine of some runs, each of up to the given number of pages and with a hole of a page below it or none, of
 // the given number of kinds.
-fn drawn_machine(alloc: Global, seed: u64, most: u64, kinds: u64) -> Result<Vec<Run>, AllocError>
+pub fn drawn_machine(
+    alloc: Global,
+    seed: u64,
+    count: u64,
+    most: u64,
+    kinds: u64,
+) -> Result<Vec<Run>, AllocError>
+    requires count { count ≤ 2000 }
     requires most { (0 < most) × (most ≤ 11) }
     requires kinds { 0 < kinds }
     ensures runs { IfOk result (λ v. AreRuns v.items) }
@@ -340,7 +352,7 @@ fn drawn_machine(alloc: Global, seed: u64, most: u64, kinds: u64) -> Result<Vec<
     let mut runs = Vec::new(alloc);
     let mut draw = next_draw(seed);
     let mut end = 0;
-    for _turn in 0..8_u64 {
+    for _turn in 0..count {
         draw = next_draw(draw);
         let first = end + (draw >> 33) % 6 / 5;
         let pages = (draw >> 40) % most + 1;
@@ -428,7 +440,7 @@ fn disagreements_in_granules(alloc: Global, runs: &[Run]) -> Result<usize, Alloc
 #[test]
 fn agrees_with_the_plain_search(rt: HostRuntime) -> Result<(), AllocError> {
     for seed in 0..200 {
-        let runs = drawn_machine(rt.alloc(), seed, 4, 6)?;
+        let runs = drawn_machine(rt.alloc(), seed, 8, 4, 6)?;
         assert_eq!(rt; disagreements(rt.alloc(), runs.as_slice())?, 0, "at {seed}");
     }
     Ok(())
@@ -438,7 +450,7 @@ fn agrees_with_the_plain_search(rt: HostRuntime) -> Result<(), AllocError> {
 #[test]
 fn agrees_in_granules(rt: HostRuntime) -> Result<(), AllocError> {
     for seed in 0..200 {
-        let runs = drawn_machine(rt.alloc(), seed, 11, 12)?;
+        let runs = drawn_machine(rt.alloc(), seed, 8, 11, 12)?;
         assert_eq!(rt;
             disagreements_in_granules(rt.alloc(), runs.as_slice())?,
             0,

@@ -1,0 +1,227 @@
+//! The best start in tables of many leaves, as they change, beside a search over single pages.
+ghost use Rattle.std.specs.Prelude.{◌≡◌, IsTrue, IfOk};
+ghost use Rattle.page_ranges.specs.Memory.{AllInRange, IsPresent, IsProperMemory};
+ghost use Rattle.page_ranges.specs.Runs.{pages_of, AreRuns};
+ghost use Rattle.placement_certificate.specs.Placement.{IsProperRequest};
+
+use super::choices::{drawn_machine, in_granules, next_draw, push_run};
+use super::request;
+use descriptor_table::RunTable;
+use page_ranges::{MemoryType, Owner, PageRange, Run, is_specific_purpose};
+use placement_certificate::Request;
+use placement_chooser::best_start;
+use std::alloc::{AllocError, Global};
+use std::process::Abort;
+
+/// The type and the attributes of a page that is present.
+type Page = Option<(u32, u64)>;
+
+// The page of each number up to the last one of a machine.
+fn pages_by_number(alloc: Global, runs: &[Run]) -> Result<Vec<Page>, AllocError> {
+    let mut list = Vec::new(alloc);
+    for run in runs {
+        for _hole in list.len() as u64..run.range.first {
+            list.push(None)?;
+        }
+        for _page in 0..run.range.pages {
+            list.push(Some((run.mtype.number(), run.attributes)))?;
+        }
+    }
+    Ok(list)
+}
+
+fn page_at(list: &[Page], number: u64) -> Page {
+    *list.get(number as usize)?
+}
+
+// A page once a range has a type.
+fn page_after(list: &[Page], number: u64, range: PageRange, mtype: MemoryType) -> Page {
+    let (was, attributes) = page_at(list, number)?;
+    if number.wrapping_sub(range.first) < range.pages {
+        return Some((mtype.number(), mtype.attributes_as(attributes)));
+    }
+    Some((was, attributes))
+}
+
+// By how many entries the map grows, with as many pages added as the range has: there are no more entries in
+// the range and behind it than that.
+fn growth(list: &[Page], range: PageRange, mtype: MemoryType) -> u64 {
+    let mut count = range.pages.wrapping_add(1);
+    for number in range.first..range.first.saturating_add(range.pages).saturating_add(1) {
+        let below = number.wrapping_sub(1);
+        let page = page_at(list, number);
+        if page.is_some() && page != page_at(list, below) {
+            count = count.wrapping_sub(1);
+        }
+        let page = page_after(list, number, range, mtype);
+        if page.is_some() && page != page_after(list, below, range, mtype) {
+            count = count.wrapping_add(1);
+        }
+    }
+    count
+}
+
+fn is_available(page: Page) -> bool {
+    match page {
+        Some((number, attributes)) => number == 7 && !is_specific_purpose(attributes),
+        None => false,
+    }
+}
+
+// The highest of the starts after which the map is shortest, by trying each from the highest down.
+fn start_by_pages(list: &[Page], request: &Request) -> Option<u64> {
+    let mut best = None;
+    let mut room = 0_u64;
+    for number in (0..list.len() as u64).rev() {
+        let is_below = number < request.limit && is_available(page_at(list, number));
+        room = if is_below { room.saturating_add(1) } else { 0 };
+        if room >= request.pages && number & request.granule.wrapping_sub(1) == 0 {
+            let range = PageRange {
+                first: number,
+                pages: request.pages,
+            };
+            let count = growth(list, range, request.mtype);
+            best = match best {
+                Some((least, start)) if least <= count => Some((least, start)),
+                _ => Some((count, number)),
+            };
+        }
+    }
+    Some(best?.1)
+}
+
+// Whether all pages of a range of few pages are present.
+fn are_present(table: &RunTable, range: PageRange) -> bool
+    ensures { IsTrue result → AllInRange table.now range IsPresent }
+{
+    if range.first > 100_000 || range.pages > 1_000 {
+        return false;
+    }
+    for page in range.first..range.first + range.pages {
+        if table.run_at(page).is_none() {
+            return false;
+        }
+    }
+    true
+}
+
+// Gives the pages of a range a type, if all are present.
+fn change(
+    table: &mut RunTable,
+    list: &mut [Page],
+    range: PageRange,
+    mtype: MemoryType,
+) -> Result<(), AllocError> {
+    if !are_present(table, range) {
+        return Ok(());
+    }
+    table.retype(range, mtype, Owner::Given)?;
+    for number in range.first..range.first.saturating_add(range.pages) {
+        let page = page_after(list, number, range, mtype);
+        if let Some(place) = list.get_mut(number as usize) {
+            *place = page;
+        }
+    }
+    Ok(())
+}
+
+// A request for up to 24 pages, or for up to 48 in granules of 16.
+fn drawn_request(draw: u64) -> Request
+    ensures { IsProperRequest result }
+{
+    let limit = draw >> 16 & 0x7fff;
+    let pages = (draw >> 40) % 24 + 1;
+    match draw >> 56 & 7 {
+        0 => in_granules(6, 16, limit),
+        1 => in_granules(10, 32, u64::MAX),
+        2 => request(4, pages, limit),
+        3 => request(6, pages, u64::MAX),
+        4 => request(5, pages % 3 + 1, u64::MAX),
+        _ => request(4, pages % 6 + 1, u64::MAX),
+    }
+}
+
+// Places pages by drawn requests and frees drawn ranges, and asserts that each place is the best.
+fn assert_places(
+    rt: &(impl AllocGlobal + Abort),
+    runs: &[Run],
+    seed: u64,
+    calls: u64,
+) -> Result<(), AllocError>
+    requires runs { AreRuns runs.now }
+    requires proper { IsProperMemory (pages_of runs.now) }
+{
+    let mut table = RunTable::from_runs(rt.alloc(), runs)?;
+    let mut list = pages_by_number(rt.alloc(), runs)?;
+    let mut draw = seed;
+    for _call in 0..calls {
+        draw = next_draw(draw);
+        let request = drawn_request(draw);
+        let found = best_start(&table, &request);
+        assert!(rt;
+            found == start_by_pages(list.as_slice(), &request),
+            "at {seed}"
+        );
+        if let Some(first) = found {
+            let range = PageRange {
+                first,
+                pages: request.pages,
+            };
+            change(&mut table, list.as_mut_slice(), range, request.mtype)?;
+        }
+        let range = PageRange {
+            first: draw >> 20 & 0xfff,
+            pages: draw >> 32 & 3,
+        };
+        change(&mut table, list.as_mut_slice(), range, MemoryType::new(7))?;
+    }
+    Ok(())
+}
+
+/// Tables of up to 2,000 runs.
+#[test]
+fn places_as_pages_say(rt: HostRuntime) -> Result<(), AllocError> {
+    for seed in 0..1_000 {
+        let count = if seed % 8 == 0 { 2 * seed } else { seed / 4 };
+        let runs = drawn_machine(rt.alloc(), seed, count, 11, 12)?;
+        assert_places(&rt, runs.as_slice(), seed, 6)?;
+    }
+    Ok(())
+}
+
+// A machine on which each leaf looks as if pages of type 6 could fill three pages between two of that type: it has
+// three free pages elsewhere, and 67 between two of that type, which share a bit with three.
+fn promising_machine(alloc: Global) -> Result<Vec<Run>, AllocError>
+    ensures runs { IfOk result (λ v. AreRuns v.items) }
+    ensures proper { IfOk result (λ v. IsProperMemory (pages_of v.items)) }
+{
+    let mut runs = Vec::new(alloc);
+    let mut end = 0;
+    for turn in 0..1_800_u64 {
+        let (pages, kind) = match turn % 6 {
+            0 => (3, (7, 0xf)),
+            1 => (1, (5, 0x8000_0000_0000_000f)),
+            2 => (1, (6, 0x8000_0000_0000_000f)),
+            3 => (67, (7, 0xf)),
+            4 => (1, (6, 0x8000_0000_0000_000f)),
+            _ => (1, (5, 0x8000_0000_0000_000f)),
+        };
+        push_run(&mut runs, end, pages, kind)?;
+        end += pages;
+    }
+    Ok(runs)
+}
+
+/// A search that opens each leaf and finds nothing better there.
+#[test]
+fn finds_the_best_where_all_leaves_look_promising(rt: HostRuntime) -> Result<(), AllocError> {
+    let runs = promising_machine(rt.alloc())?;
+    let table = RunTable::from_runs(rt.alloc(), runs.as_slice())?;
+    let list = pages_by_number(rt.alloc(), runs.as_slice())?;
+    for pages in 1..5 {
+        let request = request(6, pages, u64::MAX);
+        let found = best_start(&table, &request);
+        assert!(rt; found.is_some() && found == start_by_pages(list.as_slice(), &request));
+    }
+    Ok(())
+}
