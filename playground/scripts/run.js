@@ -10,6 +10,12 @@ const CHANGES_A_MAP = 64;
 // Of a map that is longer the changes are kept once in a number of calls.
 const LONG_MAP = 1000;
 const CHANGES_NO_MAP = /^\d+ (?:map|read|write|install|install-many|uninstall|reinstall|open|close|handle-protocol|notify|locate|locate-protocol|protocols|connect|disconnect|path|list) /;
+// Calls that change the map at one address, of the reply or of the line, or not at all: what a pool takes and gives back has
+// the buffer in it. Of them the entry there is looked at, and now and then the whole map all the same.
+const POOL = /^\d+ pool SUCCESS address=(0x[0-9a-f]+)/;
+const FREE_POOL = /^\d+ free-pool /;
+const FREED = /^free-pool (0x[0-9a-fA-F]{1,16}|[0-9]{1,19})$/;
+const REPLIES_A_MAP = 1024;
 const EXITED = /^\d+ exit SUCCESS/;
 
 /** The lines of bytes, without their line feeds. The end of the bytes ends a line that has a byte. */
@@ -87,6 +93,13 @@ export class History {
   }
 }
 
+/** The address that is the only one at which a call may have changed the map, where there is such a one. */
+function placeOf(head, line) {
+  const [, taken] = POOL.exec(head) ?? [];
+  const [, freed] = !taken && FREE_POOL.test(head) ? FREED.exec(String.fromCharCode(...line)) ?? [] : [];
+  return taken ?? freed ? BigInt(taken ?? freed) : null;
+}
+
 /** What a line prints, cut into its first line, the lines below, and the certificate block. */
 function replyOf(number, text) {
   const block = text.startsWith(CERTIFICATE) ? 0 : text.indexOf(`\n${CERTIFICATE}`) + 1;
@@ -142,13 +155,18 @@ export class Run {
     const reply = replyOf(this.number, text);
     this.replies.push(reply);
     if (EXITED.test(reply.head)) this.exitedAt = Math.min(this.exitedAt, this.replies.length);
-    this.look(reply);
+    this.look(reply, value);
   }
 
   // Keeps the memory map after a reply.
-  look(reply) {
+  look(reply, line) {
     const { history, replies } = this;
     if (CHANGES_NO_MAP.test(reply.head)) {
+      history.counted(history.counts[replies.length - 1]);
+      return;
+    }
+    const place = placeOf(reply.head, line);
+    if (place !== null && replies.length % REPLIES_A_MAP !== 0 && this.core.isAsRead(place)) {
       history.counted(history.counts[replies.length - 1]);
       return;
     }
