@@ -14,6 +14,8 @@ const ENTRY_WORDS = 8;
 const ENTRY_NUMBERS = 4;
 // A line that is longer is at fault, whatever is behind that.
 const LONGEST_LINE = 65_537;
+// A text that is longer is left to the decoder, which takes a while to begin.
+const SHORT = 200;
 // The header of a module with a memory of 64 bits.
 const MEMORY64 = Uint8Array.of(0, 0x61, 0x73, 0x6d, 1, 0, 0, 0, 5, 3, 1, 4, 1);
 
@@ -22,6 +24,11 @@ const CORE_BYTES = 256 * MIB;
 const LINE_BYTES = 64 * MIB;
 
 export const runsHere = () => typeof WebAssembly === "object" && WebAssembly.validate(MEMORY64);
+
+function isAscii(bytes) {
+  for (let index = 0; index < bytes.length; index += 1) if (bytes[index] > 127) return false;
+  return true;
+}
 
 // Whether words of entries are the same, but for those that say nothing.
 function areSame(words, others) {
@@ -200,7 +207,8 @@ export class Core {
       return this.text();
     }
     if (status !== SUCCESS) throw new Fault("out of memory");
-    return this.decoder.decode(module.bytes(room.text.at, length));
+    const bytes = module.bytes(room.text.at, length);
+    return length <= SHORT && isAscii(bytes) ? String.fromCharCode.apply(null, bytes) : this.decoder.decode(bytes);
   }
 
   /** How many entries the memory map has. */

@@ -62,7 +62,7 @@ class Page {
     this.room = new Room(module);
     this.run = null;
     this.turn = 0;
-    this.editor = new Editor($("trace-text"), $("gutter"), () => this.changed("trace"));
+    this.editor = new Editor($("trace-text"), $("gutter"), $("bands"), () => this.changed("trace"));
     this.replies = new Replies($("replies"), {
       chosen: (count) => this.go(count, true),
       verdict: (block) => this.verdictOf(block),

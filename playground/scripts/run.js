@@ -15,6 +15,7 @@ const CHANGES_NO_MAP = /^\d+ (?:map|read|write|install|install-many|uninstall|re
 const POOL = /^\d+ pool SUCCESS address=(0x[0-9a-f]+)/;
 const FREE_POOL = /^\d+ free-pool /;
 const FREED = /^free-pool (0x[0-9a-fA-F]{1,16}|[0-9]{1,19})$/;
+const LONGEST_FREED = 40;
 const REPLIES_A_MAP = 1024;
 const EXITED = /^\d+ exit SUCCESS/;
 
@@ -95,9 +96,11 @@ export class History {
 
 /** The address that is the only one at which a call may have changed the map, where there is such a one. */
 function placeOf(head, line) {
-  const [, taken] = POOL.exec(head) ?? [];
-  const [, freed] = !taken && FREE_POOL.test(head) ? FREED.exec(String.fromCharCode(...line)) ?? [] : [];
-  return taken ?? freed ? BigInt(taken ?? freed) : null;
+  const taken = POOL.exec(head);
+  if (taken) return BigInt(taken[1]);
+  if (line.length > LONGEST_FREED || !FREE_POOL.test(head)) return null;
+  const freed = FREED.exec(String.fromCharCode.apply(null, line));
+  return freed ? BigInt(freed[1]) : null;
 }
 
 /** What a line prints, cut into its first line, the lines below, and the certificate block. */
