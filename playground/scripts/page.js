@@ -190,7 +190,8 @@ class Page {
     this.seconds = (performance.now() - began) / 1000;
     this.tellRun(run, performance.now() - began);
     this.maps.show(run);
-    this.go(run.replies.length, false);
+    // Up to the last call that boot services take, if they end.
+    this.go(Math.min(run.replies.length, run.exitedAt - 1), false);
     if (run.fault) this.replies.toEnd();
     if (!this.isEdited) this.offer(run.replies.findLast((it) => it.block)?.block);
   }
