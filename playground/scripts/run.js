@@ -7,7 +7,7 @@ const CERTIFICATE = "certificate\n";
 // How often the clock is looked at, and how often a whole map is kept beside the changes between two.
 const LINES_A_LOOK = 32;
 const CHANGES_A_MAP = 64;
-// Of a map that is longer the changes are kept once in a number of calls.
+// Of a map that is longer the changes are kept once in a number of calls: four, if it is twice as long.
 const LONG_MAP = 1000;
 const CHANGES_NO_MAP = /^\d+ (?:map|read|write|install|install-many|uninstall|reinstall|open|close|handle-protocol|notify|locate|locate-protocol|protocols|connect|disconnect|path|list) /;
 // Calls that change the map at one address, of the reply or of the line, or not at all: what a pool takes and gives back has
@@ -175,7 +175,7 @@ export class Run {
     }
     const number = this.core.descriptors();
     history.counted(number);
-    const seldom = Math.max(1, Math.ceil(number / LONG_MAP));
+    const seldom = Math.max(1, Math.ceil((number / LONG_MAP) ** 2));
     if (replies.length % seldom === 0) this.keepMap();
   }
 
