@@ -11,8 +11,11 @@ const UNIT = 16;
 // An entry of a memory map: its type, four bytes that say nothing, its start, its pages and its attributes.
 const ENTRY = 32;
 const ENTRY_WORDS = 8;
+const ENTRY_NUMBERS = 4;
 // A line that is longer is at fault, whatever is behind that.
 const LONGEST_LINE = 65_537;
+// A text that is longer is left to the decoder, which takes a while to begin.
+const SHORT = 200;
 // The header of a module with a memory of 64 bits.
 const MEMORY64 = Uint8Array.of(0, 0x61, 0x73, 0x6d, 1, 0, 0, 0, 5, 3, 1, 4, 1);
 
@@ -21,6 +24,19 @@ const CORE_BYTES = 256 * MIB;
 const LINE_BYTES = 64 * MIB;
 
 export const runsHere = () => typeof WebAssembly === "object" && WebAssembly.validate(MEMORY64);
+
+function isAscii(bytes) {
+  for (let index = 0; index < bytes.length; index += 1) if (bytes[index] > 127) return false;
+  return true;
+}
+
+// Whether words of entries are the same, but for those that say nothing.
+function areSame(words, others) {
+  for (let index = 0; index < words.length; index += 1) {
+    if (words[index] !== others[index] && index % ENTRY_WORDS !== 1) return false;
+  }
+  return true;
+}
 
 /** Memory that one thing has for itself, and that goes to the next once that is at its end. */
 class Region {
@@ -191,7 +207,8 @@ export class Core {
       return this.text();
     }
     if (status !== SUCCESS) throw new Fault("out of memory");
-    return this.decoder.decode(module.bytes(room.text.at, length));
+    const bytes = module.bytes(room.text.at, length);
+    return length <= SHORT && isAscii(bytes) ? String.fromCharCode.apply(null, bytes) : this.decoder.decode(bytes);
   }
 
   /** How many entries the memory map has. */
@@ -207,11 +224,33 @@ export class Core {
     const at = room.entriesAt(count);
     for (let index = 0; index < count; index += 1) calls.PlaygroundDescriptor(this.pointer, room.indexes[index], room.places[index]);
     const words = new Uint32Array(memory.buffer, at, ENTRY_WORDS * count);
-    if (this.words?.length === words.length && this.words.every((word, index) => index % ENTRY_WORDS === 1 || word === words[index])) {
-      return false;
-    }
+    if (this.words?.length === words.length && areSame(this.words, words)) return false;
     this.words = words.slice();
     return true;
+  }
+
+  /** Whether the memory map is as it was last read, after a call that changes it at this address or not at all. */
+  isAsRead(address) {
+    const { room } = this;
+    const { calls, memory } = room.module;
+    const index = this.indexOf(address);
+    if (index < 0 || ENTRY_WORDS * this.descriptors() !== this.words.length) return false;
+    calls.PlaygroundDescriptor(this.pointer, room.indexes[index], room.places[index]);
+    const entry = new Uint32Array(memory.buffer, Number(room.places[index]), ENTRY_WORDS);
+    return areSame(this.words.subarray(ENTRY_WORDS * index, ENTRY_WORDS * (index + 1)), entry);
+  }
+
+  // The entry of the map, as it was last read, that an address is in.
+  indexOf(address) {
+    const numbers = new BigUint64Array(this.words.buffer);
+    let low = 0;
+    let high = numbers.length / ENTRY_NUMBERS;
+    while (high - low > 1) {
+      const middle = (low + high) >> 1;
+      if (numbers[ENTRY_NUMBERS * middle + 1] <= address) low = middle; else high = middle;
+    }
+    const [start, pages] = [numbers[ENTRY_NUMBERS * low + 1], numbers[ENTRY_NUMBERS * low + 2]];
+    return address >= start && (address - start) / PAGE < pages ? low : -1;
   }
 
   /** The entries of the memory map, as it was last read. */

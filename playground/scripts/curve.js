@@ -1,7 +1,9 @@
 // How many entries the memory map has, along the calls of a trace: a line chart with a mark at one of them.
 import { plural } from "./types.js";
 
-const LEFT = 40;
+// The line is above the slider, from its first place to its last.
+const LEFT = 46;
+const RIGHT = 46;
 const TOP = 10;
 const BOTTOM = 18;
 const HEIGHT = 130;
@@ -36,7 +38,7 @@ export class Curve {
 
   replyAt(event) {
     const box = this.canvas.getBoundingClientRect();
-    const share = (event.clientX - box.left - LEFT) / (box.width - LEFT - 8);
+    const share = (event.clientX - box.left - LEFT) / (box.width - LEFT - RIGHT);
     return Math.round(Math.max(0, Math.min(1, share)) * (this.counts.length - 1));
   }
 
@@ -54,7 +56,7 @@ export class Curve {
     const colour = (name) => style.getPropertyValue(name).trim();
     const ends = this.endsOf();
     const place = {
-      x: (reply) => LEFT + (reply / Math.max(1, counts.length - 1)) * (width - LEFT - 8),
+      x: (reply) => LEFT + (reply / Math.max(1, counts.length - 1)) * (width - LEFT - RIGHT),
       y: (count) => TOP + (1 - (count - ends.low) / (ends.high - ends.low)) * (HEIGHT - TOP - BOTTOM),
     };
     this.drawGrid(context, ends, place, width, colour);
@@ -83,14 +85,14 @@ export class Curve {
       const y = Math.round(place.y(count)) + 0.5;
       context.beginPath();
       context.moveTo(LEFT, y);
-      context.lineTo(width - 8, y);
+      context.lineTo(width - RIGHT, y);
       context.stroke();
       context.fillText(String(count), LEFT - 6, y + 4);
     }
     context.textAlign = "left";
     context.fillText("start", LEFT, HEIGHT - 4);
     context.textAlign = "right";
-    context.fillText(plural(this.counts.length - 1, "reply", "replies"), width - 8, HEIGHT - 4);
+    context.fillText(plural(this.counts.length - 1, "reply", "replies"), width - RIGHT, HEIGHT - 4);
   }
 
   // Of the replies that share a column of pixels, the least and the most are drawn.

@@ -1,39 +1,47 @@
 // The trace's text with the numbers of its lines, a line that is marked, and one that is at fault.
 
 const LINE = 20;
+const ABOVE = 8;
 
 export class Editor {
-  constructor(area, gutter, changed) {
+  constructor(area, gutter, bands, changed) {
     this.area = area;
     this.gutter = gutter;
+    this.bands = bands;
     this.marked = 0;
     this.fault = null;
-    this.count = 1;
     area.addEventListener("input", () => {
-      this.measure();
+      this.measure(area.value);
+      this.draw();
       changed();
     });
     area.addEventListener("scroll", () => this.draw());
     new ResizeObserver(() => this.draw()).observe(area);
+    this.measure("");
   }
 
   get text() {
     return this.area.value;
   }
 
+  // The width of the numbers is set first: with a long text each change of its own width takes a while.
   set text(text) {
+    this.marked = 0;
+    this.measure(text);
     this.area.value = text;
     this.area.scrollTop = 0;
-    this.measure();
+    this.draw();
   }
 
   // Counts the lines, for the numbers beside them.
-  measure() {
+  measure(text) {
     let count = 1;
-    const { value } = this.area;
-    for (let at = value.indexOf("\n"); at >= 0; at = value.indexOf("\n", at + 1)) count += 1;
+    for (let at = text.indexOf("\n"); at >= 0; at = text.indexOf("\n", at + 1)) count += 1;
     this.count = count;
-    this.draw();
+    const digits = Math.max(2, String(count).length);
+    if (digits === this.digits) return;
+    this.digits = digits;
+    this.gutter.parentElement.style.setProperty("--digits", String(digits));
   }
 
   /** Marks a line, and brings it into view where asked to. */
@@ -49,28 +57,33 @@ export class Editor {
 
   /** Marks the line at fault, or none. */
   blame(fault) {
+    if (fault === this.fault) return;
     this.fault = fault;
     this.draw();
   }
 
-  // The numbers of the lines that are in view.
+  // The numbers of the lines that are in view, and a band behind each line that is marked.
   draw() {
-    const { area, gutter } = this;
-    const first = Math.floor(area.scrollTop / LINE);
-    const last = Math.min(this.count, first + Math.ceil(area.clientHeight / LINE) + 1);
-    gutter.style.setProperty("--digits", String(Math.max(2, String(this.count).length)));
+    const { area, gutter, bands } = this;
+    const { scrollTop, clientHeight } = area;
+    const first = Math.floor(scrollTop / LINE);
+    const last = Math.min(this.count, first + Math.ceil(clientHeight / LINE) + 1);
     const rows = [];
+    const marks = [];
     for (let number = first + 1; number <= last; number += 1) {
-      const row = document.createElement("div");
-      row.textContent = String(number);
-      row.style.top = `${8 + (number - 1) * LINE - area.scrollTop}px`;
-      if (number === this.marked) row.className = "marked";
-      if (this.fault?.number === number) {
-        row.className = "fault";
-        row.title = this.fault.text;
-      }
+      const isFault = this.fault?.number === number;
+      const kind = isFault ? "fault" : number === this.marked ? "marked" : "";
+      const row = Object.assign(document.createElement("div"), { className: kind, textContent: String(number) });
+      row.style.top = `${ABOVE + (number - 1) * LINE - scrollTop}px`;
+      if (isFault) row.title = this.fault.text;
       rows.push(row);
+      if (kind) {
+        const band = Object.assign(document.createElement("div"), { className: kind });
+        band.style.top = row.style.top;
+        marks.push(band);
+      }
     }
     gutter.replaceChildren(...rows);
+    bands.replaceChildren(...marks);
   }
 }

@@ -89,9 +89,11 @@ export class MapView {
     add(entries, 1);
     const items = [...numbers].sort((one, other) => one[1].type - other[1].type).map(([name, { type, counts }]) => {
       const item = document.createElement("li");
-      const chip = document.createElement("span");
+      const chip = document.createElement("i");
       chip.style.background = colourOf(type);
-      item.append(chip, `${name}: ${counts[0]} → ${counts[1]}`);
+      const number = Object.assign(document.createElement(counts[0] === counts[1] ? "span" : "strong"),
+        { textContent: counts[0] === counts[1] ? counts[0] : `${counts[0]} → ${counts[1]}` });
+      item.append(chip, `${name} `, number);
       item.title = `${plural(counts[0], "descriptor")} before, ${counts[1]} after`;
       return item;
     });

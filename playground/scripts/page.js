@@ -10,12 +10,22 @@ import { plural, sizeOf } from "./types.js";
 import { MapView } from "./map_view.js";
 import { WhereView } from "./where_view.js";
 
-const SLICE = 24;
+const SLICE = 40;
 const PAUSE = 300;
 const OWN = "own";
 const TELL_BROWSERS = "This page needs WebAssembly with a memory of 64 bits (memory64): Chromium and the browsers built on it have it from version 133 on, Firefox from 134 on.";
 const $ = (id) => document.getElementById(id);
 const encoder = new TextEncoder();
+
+// Lets the page be drawn and used. A timer would come back later: browsers hold them up.
+const breath = () => new Promise((done) => {
+  const { port1, port2 } = new MessageChannel();
+  port1.onmessage = () => {
+    port1.close();
+    done();
+  };
+  port2.postMessage(null);
+});
 
 const files = new Map();
 
@@ -52,7 +62,7 @@ class Page {
     this.room = new Room(module);
     this.run = null;
     this.turn = 0;
-    this.editor = new Editor($("trace-text"), $("gutter"), () => this.changed("trace"));
+    this.editor = new Editor($("trace-text"), $("gutter"), $("bands"), () => this.changed("trace"));
     this.replies = new Replies($("replies"), {
       chosen: (count) => this.go(count, true),
       verdict: (block) => this.verdictOf(block),
@@ -173,14 +183,15 @@ class Page {
       this.replies.take(run.replies, run.fault);
       if (!run.isDone) {
         this.tellRun(run, performance.now() - began);
-        await new Promise((done) => { setTimeout(done); });
+        await breath();
         if (turn !== this.turn) return;
       }
     }
     this.seconds = (performance.now() - began) / 1000;
     this.tellRun(run, performance.now() - began);
     this.maps.show(run);
-    this.go(run.replies.length, false);
+    // Up to the last call that boot services take, if they end.
+    this.go(Math.min(run.replies.length, run.exitedAt - 1), false);
     if (run.fault) this.replies.toEnd();
     if (!this.isEdited) this.offer(run.replies.findLast((it) => it.block)?.block);
   }

@@ -18,14 +18,17 @@ const weightOf = (entry) => 1 + Math.log2(Number(entry.pages));
 
 export const widthOf = (entries) => entries.reduce((sum, entry) => sum + weightOf(entry), 0);
 
+const isGap = (before, entry) => before !== undefined && before.first + before.pages !== entry.first;
+
+const gapsOf = (entries) => entries.filter((entry, index) => isGap(entries[index - 1], entry)).length;
+
 /** The blocks of a map, one after the other, in rows as words in lines. */
 export function rowsOf(entries, step, room) {
   const rows = [];
   let at = 0;
   entries.forEach((entry, index) => {
-    const before = entries[index - 1];
     let wide = Math.max(1, step * weightOf(entry));
-    if (before && before.first + before.pages !== entry.first) at += GAP;
+    if (isGap(entries[index - 1], entry)) at += GAP;
     if (rows.length === 0 || at + wide > room) {
       rows.push([]);
       at = 0;
@@ -54,6 +57,7 @@ export class Picture {
     this.chosen = -1;
     this.leastRows = 0;
     this.weight = 0;
+    this.gaps = 0;
     this.marks = null;
     canvas.addEventListener("pointermove", (event) => this.pointAt(event));
     canvas.addEventListener("pointerdown", (event) => this.pointAt(event));
@@ -67,6 +71,8 @@ export class Picture {
   show(entries, weight = 0, marks = null) {
     this.entries = entries;
     this.weight = Math.max(weight, widthOf(entries));
+    // Maps that share a scale share it whatever gaps they have.
+    this.gaps = weight > 0 ? 0 : gapsOf(entries);
     this.marks = marks;
     this.chosen = Math.min(this.chosen, entries.length - 1);
     this.draw();
@@ -86,7 +92,7 @@ export class Picture {
     this.left = Math.min(14 + 6.7 * highest.length, width / 3);
     const room = width - this.left;
     this.step = this.marks ? ROW_STEP + 16 : ROW_STEP;
-    this.rows = rowsOf(entries, stepOf(this.weight, room), room);
+    this.rows = rowsOf(entries, stepOf(this.weight, room - GAP * this.gaps), room);
     this.leastRows = Math.max(this.leastRows, this.rows.length);
     this.resize(width, this.leastRows * this.step);
     context.setTransform(this.scale, 0, 0, this.scale, 0, 0);
@@ -189,11 +195,13 @@ export class Picture {
     this.tip.replaceChildren(...lines.map((line, at) => Object.assign(document.createElement(at ? "div" : "strong"),
       { textContent: line })));
     if (this.described) this.described(lines.join("; "));
-    if (x === undefined) [x, y] = this.corner(index);
+    const isPointed = x !== undefined;
+    if (!isPointed) [x, y] = this.corner(index);
     const wide = this.tip.offsetWidth;
     const high = this.tip.offsetHeight;
+    const above = y - high - (isPointed ? 10 : this.step + 6);
     this.tip.style.left = `${Math.max(4, Math.min(x + 14, window.innerWidth - wide - 8))}px`;
-    this.tip.style.top = `${y + high + 22 > window.innerHeight ? y - high - 10 : y + 16}px`;
+    this.tip.style.top = `${y + high + 22 > window.innerHeight ? above : y + (isPointed ? 16 : 6)}px`;
   }
 
   // Where a block's lower left corner is in the window.

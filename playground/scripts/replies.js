@@ -41,6 +41,7 @@ export class Replies {
     for (let index = this.starts.length - 1; index < replies.length; index += 1) {
       this.starts.push(this.starts[index] + this.rowsOf(index));
     }
+    this.list.style.setProperty("--digits", String(String(replies[replies.length - 1]?.number ?? 0).length));
     this.later();
   }
 
@@ -100,7 +101,7 @@ export class Replies {
 
   draw() {
     const { inner, list } = this;
-    inner.style.height = `${Math.min(HIGHEST, this.total * ROW + 8)}px`;
+    inner.style.height = `${Math.min(HIGHEST, this.total * ROW + 14)}px`;
     const first = Math.max(0, Math.floor(list.scrollTop / ROW) - 2);
     const end = Math.min(this.total, first + Math.ceil(list.clientHeight / ROW) + 5);
     const rows = [];

@@ -7,9 +7,16 @@ const CERTIFICATE = "certificate\n";
 // How often the clock is looked at, and how often a whole map is kept beside the changes between two.
 const LINES_A_LOOK = 32;
 const CHANGES_A_MAP = 64;
-// Of a map that is longer the changes are kept once in a number of calls.
+// Of a map that is longer the changes are kept once in a number of calls: four, if it is twice as long.
 const LONG_MAP = 1000;
 const CHANGES_NO_MAP = /^\d+ (?:map|read|write|install|install-many|uninstall|reinstall|open|close|handle-protocol|notify|locate|locate-protocol|protocols|connect|disconnect|path|list) /;
+// Calls that change the map at one address, of the reply or of the line, or not at all: what a pool takes and gives back has
+// the buffer in it. Of them the entry there is looked at, and now and then the whole map all the same.
+const POOL = /^\d+ pool SUCCESS address=(0x[0-9a-f]+)/;
+const FREE_POOL = /^\d+ free-pool /;
+const FREED = /^free-pool (0x[0-9a-fA-F]{1,16}|[0-9]{1,19})$/;
+const LONGEST_FREED = 40;
+const REPLIES_A_MAP = 1024;
 const EXITED = /^\d+ exit SUCCESS/;
 
 /** The lines of bytes, without their line feeds. The end of the bytes ends a line that has a byte. */
@@ -87,6 +94,15 @@ export class History {
   }
 }
 
+/** The address that is the only one at which a call may have changed the map, where there is such a one. */
+function placeOf(head, line) {
+  const taken = POOL.exec(head);
+  if (taken) return BigInt(taken[1]);
+  if (line.length > LONGEST_FREED || !FREE_POOL.test(head)) return null;
+  const freed = FREED.exec(String.fromCharCode.apply(null, line));
+  return freed ? BigInt(freed[1]) : null;
+}
+
 /** What a line prints, cut into its first line, the lines below, and the certificate block. */
 function replyOf(number, text) {
   const block = text.startsWith(CERTIFICATE) ? 0 : text.indexOf(`\n${CERTIFICATE}`) + 1;
@@ -142,19 +158,24 @@ export class Run {
     const reply = replyOf(this.number, text);
     this.replies.push(reply);
     if (EXITED.test(reply.head)) this.exitedAt = Math.min(this.exitedAt, this.replies.length);
-    this.look(reply);
+    this.look(reply, value);
   }
 
   // Keeps the memory map after a reply.
-  look(reply) {
+  look(reply, line) {
     const { history, replies } = this;
     if (CHANGES_NO_MAP.test(reply.head)) {
       history.counted(history.counts[replies.length - 1]);
       return;
     }
+    const place = placeOf(reply.head, line);
+    if (place !== null && replies.length % REPLIES_A_MAP !== 0 && this.core.isAsRead(place)) {
+      history.counted(history.counts[replies.length - 1]);
+      return;
+    }
     const number = this.core.descriptors();
     history.counted(number);
-    const seldom = Math.max(1, Math.ceil(number / LONG_MAP));
+    const seldom = Math.max(1, Math.ceil((number / LONG_MAP) ** 2));
     if (replies.length % seldom === 0) this.keepMap();
   }
 
