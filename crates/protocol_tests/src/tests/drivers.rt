@@ -6,7 +6,6 @@ mod refusals;
 pub mod steps;
 mod tables;
 mod views;
-mod wholes;
 
 use arrayvec::ArrayVec;
 use driver_connect::{StartPlan, TableDriver, driver_binding};

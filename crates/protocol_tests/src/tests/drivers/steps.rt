@@ -43,8 +43,8 @@ pub enum Step {
 /// The lists that drivers are tried on.
 #[derive(Drop)]
 pub struct Lists<A: Allocator> {
-    pub handles: Handles<A>,
-    pub opens: Opens<A>,
+    handles: Handles<A>,
+    opens: Opens<A>,
     notify: Notify<A>,
 }
 
