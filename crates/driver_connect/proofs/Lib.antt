@@ -25,3 +25,4 @@ pub mod Samples
 pub mod TurnsTaken
 pub mod DriverLists
 pub mod TurnSteps
+pub mod StopsInOrder

@@ -1,6 +1,7 @@
 //! The laws of stopping and connecting, each the contract of a function that does nothing.
 ghost use Rattle.driver_connect.specs.DriverTurns.{OrderLaw, TurnsLaw};
 ghost use Rattle.driver_connect.specs.Laws.{GoneLaw, MakersItemLaw, NothingCarriedOutLaw, ReadyLaw, RoundsLaw, StaysLaw, StopSetLaw, VersionsLaw};
+ghost use Rattle.driver_connect.specs.StopOrder.{StopOrderLaw};
 ghost use Rattle.driver_connect.specs.StartOrder.{StartOrderLaw};
 ghost use Rattle.driver_connect.specs.Turns.{StartsLaw, TriedOnceLaw};
 
@@ -75,4 +76,10 @@ pub fn order_law()
 /// its order, and come to its end.
 pub fn turns_law()
     ensures { TurnsLaw }
+{}
+
+/// A caller that stops the drivers of a stop itself is given its pairs, those on a child before the
+/// pair that made it.
+pub fn stop_order_law()
+    ensures { StopOrderLaw }
 {}

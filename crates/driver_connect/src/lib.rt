@@ -15,6 +15,7 @@ mod progress;
 mod protocols;
 mod readiness;
 mod starting;
+mod stop_order;
 mod stopping;
 mod table;
 mod view;
@@ -25,10 +26,12 @@ pub use driver::Driver;
 pub use driver_turns::{DriverTurns, begin_turns};
 pub use laws::{
     gone_law, makers_item_law, nothing_carried_out_law, order_law, ready_law, rounds_law,
-    start_order_law, starts_law, stays_law, stop_set_law, tried_once_law, turns_law, versions_law,
+    start_order_law, starts_law, stays_law, stop_order_law, stop_set_law, tried_once_law,
+    turns_law, versions_law,
 };
 pub use readiness::may_start_after;
 pub use starting::Connecting;
+pub use stop_order::{children_of, managers_to_stop};
 pub use stopping::{StopPlan, disconnect, stop};
 pub use table::TableDriver;
 pub use view::{ProtocolView, StartPlan, View};

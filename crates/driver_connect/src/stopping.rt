@@ -239,6 +239,13 @@ impl<A: Allocator + Copy> StopPlan<A> {
         Ok(StopPlan { pairs, handles })
     }
 
+    /// The pairs that the stop takes out.
+    pub(crate) fn pairs(&self) -> &[(u64, u64)]
+        ensures { result.now ≡ self.now.pairs }
+    {
+        self.pairs.as_slice()
+    }
+
     /// Whether the stop takes out a handle.
     pub(crate) fn takes_handles(&self) -> bool
         ensures { result ≡ false → self.now.handles ≡ [] }
@@ -317,7 +324,7 @@ pub fn stop<D: Driver, A: Allocator + Copy>(
 }
 
 /// The pairs that manage a handle, those of one driver alone if it is not 0.
-fn managers_meant<A: Allocator + Copy>(
+pub(crate) fn managers_meant<A: Allocator + Copy>(
     opens: &Opens<A>,
     handle: u64,
     driver: u64,
