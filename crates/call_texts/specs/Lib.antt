@@ -1,0 +1,3 @@
+pub mod CallText
+pub mod WordText
+pub mod Laws

@@ -1,0 +1,9 @@
+//! Calls as lines of a trace, printed.
+#![tactic(auto)]
+
+mod calls;
+mod laws;
+mod words;
+
+pub use calls::print_call;
+pub use laws::{printed_call_law, printed_lines_law};
