@@ -1,5 +1,6 @@
 -- The lines of calls, read back.
-use Rattle.std.proofs.Common.{◌≡◌, ℕ, ◌≤◌, List, [], ◌∷◌, length, Some, Ok, refl, ap, ◌∙◌, arith, le-ltb}
+use Rattle.std.proofs.Common.{◌≡◌, ℕ, ◌≤◌, List, [], ◌∷◌, length, Some, Ok, refl, ap, ◌∙◌, arith, le-ltb, true, nat_le}
+use Rattle.std.proofs.lemmas.Bool.{and_parts, leb-true}
 use Rattle.boot_calls.specs.declared.calls.Call.{Call}
 use Rattle.boot_calls.specs.declared.calls.Call.TheVariants as call
 use Rattle.trace_verbs.specs.declared.verbs.Verb.{Verb}
@@ -11,7 +12,7 @@ use Rattle.trace_lines.specs.declared.lines.TraceCall.TheVariants.{Service}
 use Rattle.trace_lines.specs.Laws.{HasCallNumbers}
 use Rattle.trace_lines.specs.TraceLine.{call_of, call_of_words, largest_buffer, line_of, longest_read}
 use Rattle.call_texts.specs.CallText.{call_line, parameters_of, verb_of}
-use Rattle.call_texts.specs.Laws.{IsWithinLine}
+use Rattle.call_texts.specs.CallLines.{has_line, may_ask}
 use Rattle.call_texts.proofs.SpacedLines.{AreWords, IsWord, spaced_line}
 use Rattle.call_texts.proofs.ReadWords.{bytes_are_word, decimal_word, decimal_words, even_words, flag_is_word, guid_is_word, hexadecimal_word, pairs_are_words, plain_bytes, read_32, read_bytes, read_decimal, read_flag, read_guid, read_hexadecimal, read_numbers, read_pairs, read_up_to, then_read}
 
@@ -100,16 +101,16 @@ parameters_are_words (call.DisconnectController handle driver) h = (decimal_word
 parameters_are_words (call.LocateDevicePath guid address) h = (guid_is_word guid, (hexadecimal_word address, tt))
 parameters_are_words (call.ExitBootServices key) h = (decimal_word key, tt)
 
-parameters_read : {A : Type 0} (c : Call A) → HasCallNumbers c → IsWithinLine c → call_of (verb_of c) (parameters_of c) ≡ Ok (Service c)
+parameters_read : {A : Type 0} (c : Call A) → HasCallNumbers c → may_ask c ≡ true → call_of (verb_of c) (parameters_of c) ≡ Ok (Service c)
 parameters_read (call.AllocatePages kind t pages memory) h w = then_read _ kind _ _ (read_32 kind h.0) (then_read _ t _ _ (read_32 t h.1) (then_read _ pages _ _ (read_decimal pages h.2) (then_read _ memory _ _ (read_hexadecimal memory h.3) refl)))
 parameters_read (call.FreePages memory pages) h w = then_read _ memory _ _ (read_hexadecimal memory h.0) (then_read _ pages _ _ (read_decimal pages h.1) refl)
-parameters_read (call.GetMemoryMap size) h w = then_read _ size _ _ (read_up_to largest_buffer size h w) refl
+parameters_read (call.GetMemoryMap size) h w = then_read _ size _ _ (read_up_to largest_buffer size h (leb-true size largest_buffer w)) refl
 parameters_read (call.AllocatePool t size) h w = then_read _ t _ _ (read_32 t h.0) (then_read _ size _ _ (read_decimal size h.1) refl)
 parameters_read (call.FreePool address) h w = then_read _ address _ _ (read_hexadecimal address h) refl
-parameters_read (call.PoolRead address size) h w = then_read _ address _ _ (read_hexadecimal address h.0) (then_read _ size _ _ (read_up_to longest_read size h.1 w) refl)
+parameters_read (call.PoolRead address size) h w = then_read _ address _ _ (read_hexadecimal address h.0) (then_read _ size _ _ (read_up_to longest_read size h.1 (leb-true size longest_read w)) refl)
 parameters_read (call.PoolWrite address bytes) h w = then_read _ address _ _ (read_hexadecimal address h.0) (then_read _ bytes _ _ (read_bytes bytes h.1) refl)
 parameters_read (call.InstallProtocolInterface handle guid kind value) h w = then_read _ handle _ _ (read_decimal handle h.0) (then_read _ guid _ _ (read_guid guid h.1) (then_read _ kind _ _ (read_32 kind h.2) (then_read _ value _ _ (read_hexadecimal value h.3) refl)))
-parameters_read (call.InstallMultipleProtocolInterfaces handle []) h w = absurd (omega (arith, w))
+parameters_read (call.InstallMultipleProtocolInterfaces handle []) h w = absurd (cc)
 parameters_read (call.InstallMultipleProtocolInterfaces handle (p ∷ pairs)) h w =
     rw (even_words pairs)
     (then_read _ handle _ _ (read_decimal handle h.0) (then_read _ (p ∷ pairs) _ _ (read_pairs (p ∷ pairs) h.1) refl))
@@ -129,8 +130,10 @@ parameters_read (call.DisconnectController handle driver) h w = then_read _ hand
 parameters_read (call.LocateDevicePath guid address) h w = then_read _ guid _ _ (read_guid guid h.0) (then_read _ address _ _ (read_hexadecimal address h.1) refl)
 parameters_read (call.ExitBootServices key) h w = then_read _ key _ _ (read_decimal key h) refl
 
-pub printed_call : {A : Type 0} (c : Call A) → HasCallNumbers c → IsWithinLine c → length (call_line c) ≤ longest_line → line_of (call_line c) ≡ Ok (Some (Service c))
-printed_call c h w short =
+pub printed_call : {A : Type 0} (c : Call A) → HasCallNumbers c → has_line c ≡ true → line_of (call_line c) ≡ Ok (Some (Service c))
+printed_call c h w =
+    let parts = and_parts (may_ask c) (nat_le (length (call_line c)) longest_line) w in
+    let short : length (call_line c) ≤ longest_line = leb-true (length (call_line c)) longest_line parts.1 in
     rw (le-ltb longest_line (length (call_line c)) short)
     (ap call_of_words (spaced_line (verb_name (verb_of c)) (parameters_of c) (verb_is_word (verb_of c)) (parameters_are_words c h))
-    ∙ verb_read (verb_of c) (parameters_of c) (Service c) (parameters_read c h w))
+    ∙ verb_read (verb_of c) (parameters_of c) (Service c) (parameters_read c h parts.0))
