@@ -1,0 +1,4 @@
+pub mod SpacedLines
+pub mod ReadWords
+pub mod ReadCalls
+pub mod PrintedTraces

@@ -1,0 +1,4 @@
+pub mod CallText
+pub mod WordText
+pub mod Laws
+pub mod CallLines
