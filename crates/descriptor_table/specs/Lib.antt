@@ -5,3 +5,6 @@ pub mod Leaves
 pub mod Tallies
 pub mod Wanting
 pub mod Summaries
+pub mod LeafChanges
+pub mod LeafWalks
+pub mod LeafSummaries

@@ -8,6 +8,7 @@ ghost use Rattle.page_ranges.specs.Memory.{page_at, IsProperMemory};
 ghost use Rattle.page_ranges.specs.Cursors.{IsBlockAt};
 ghost use Rattle.page_ranges.specs.Runs.{page_in, pages_of, runs_of, AreRuns, AreMaximalRuns, IsInRun};
 ghost use Rattle.descriptor_table.specs.Leaves.{first_page, runs_in, AreLeaves};
+ghost use Rattle.descriptor_table.specs.LeafWalks.{EndsAbove};
 ghost use Rattle.descriptor_table.specs.Tables.{entry_of, EndBy, HoldsPage};
 
 use crate::leaf_searches::count_leaves_by;
@@ -29,8 +30,7 @@ fn count_ending_by(runs: &[Run], page: u64) -> usize
     requires ends { EndBy page_count runs.now }
     ensures bound { result ≤ length runs.now }
     ensures by { AllWithin (λ r. r.range.first + r.range.pages ≤ page) runs.now 0 result }
-    ensures above { AllWithin (λ r. page < r.range.first + r.range.pages) runs.now result
-        (length runs.now) }
+    ensures above { AllWithin (EndsAbove page) runs.now result (length runs.now) }
 {
     runs.partition_point(
         |run: &Run| -> bool
@@ -63,8 +63,7 @@ fn count_ending_by_from(runs: &[Run], page: u64, start: usize) -> usize
     requires start { start ≤ length runs.now }
     ensures bound { result ≤ length runs.now }
     ensures by { AllWithin (λ r. r.range.first + r.range.pages ≤ page) runs.now 0 result }
-    ensures above { AllWithin (λ r. page < r.range.first + r.range.pages) runs.now result
-        (length runs.now) }
+    ensures above { AllWithin (EndsAbove page) runs.now result (length runs.now) }
 {
     if all_end_by(runs, page, start) {
         for index in start..start + STEPS.min(runs.len() - start) {
@@ -83,8 +82,7 @@ fn run_from(runs: &[Run], page: u64, index: usize) -> Option<Run>
     requires runs { AreRuns runs.now }
     requires bound { index ≤ length runs.now }
     requires by { AllWithin (λ r. r.range.first + r.range.pages ≤ page) runs.now 0 index }
-    requires above { AllWithin (λ r. page < r.range.first + r.range.pages) runs.now index
-        (length runs.now) }
+    requires above { AllWithin (EndsAbove page) runs.now index (length runs.now) }
     ensures page { page_at (pages_of runs.now) page ≡ option_map (page_in page) result }
     ensures member { IfSome result (λ r. Contains runs.now r × IsInRun r page) }
 {
@@ -136,14 +134,14 @@ impl<'a, A: Allocator> Model for RunCursor<'a, A> {
     ghost use Rattle.std.specs.Prelude.{List};
     ghost use Rattle.page_ranges.specs.Memory.{Page, IsProperMemory};
     ghost use Rattle.page_ranges.specs.Runs.{pages_of, AreMaximalRuns};
-    ghost use Rattle.descriptor_table.specs.Leaves.{runs_in, AreLeaves};
+    ghost use Rattle.descriptor_table.specs.Leaves.{runs_in};
+    ghost use Rattle.descriptor_table.specs.LeafWalks.{AreProperLeaves};
 
     ghost Value = { List Page };
 
     ghost view = { λ c. pages_of (runs_in c.leaves.now) };
 
-    ghost invariant = { λ c. AreLeaves c.leaves.now × AreMaximalRuns (runs_in c.leaves.now)
-        × IsProperMemory (pages_of (runs_in c.leaves.now)) };
+    ghost invariant = { λ c. AreProperLeaves c.leaves.now };
 }
 
 impl<'a, A: Allocator + Copy> RunCursor<'a, A> {

@@ -4,6 +4,7 @@ ghost use Rattle.page_ranges.specs.declared.ranges.Run.{Run};
 ghost use Rattle.page_ranges.specs.MemoryTypes.{page_count};
 ghost use Rattle.page_ranges.specs.Memory.{row, retyped};
 ghost use Rattle.page_ranges.specs.Runs.{page_in, pages_of, should_be_one_run, AreRuns, AreMaximalRuns};
+ghost use Rattle.descriptor_table.specs.LeafChanges.{AppendsPart, RetypesRuns};
 ghost use Rattle.descriptor_table.specs.Tables.{EndBy, AreMaximalUpTo, PutsBehind};
 
 use arrayvec::{ArrayVec, CapacityError};
@@ -93,8 +94,7 @@ fn push_part<L: RunList>(runs: &mut L, run: &Run, first: u64, end: u64) -> Resul
     requires up { first ≤ end }
     requires within { end ≤ page_count }
     ensures pages { OnOk result
-        (pages_of (L.items runs.new) ≡ pages_of (L.items runs.old)
-        ++ row (end - first) (page_in first run.now)) }
+        (AppendsPart first end run.now (L.items runs.old) (L.items runs.new)) }
     ensures order { OnOk result (AreMaximalUpTo end (L.items runs.new)) }
 {
     if first == end {
@@ -119,8 +119,7 @@ pub(crate) fn push_retyped<L: RunList>(
     requires runs { AreRuns runs.now }
     requires ends { EndBy page_count runs.now }
     requires within { range.first + range.pages ≤ page_count }
-    ensures pages { OnOk result
-        (pages_of (L.items parts.new) ≡ retyped range mtype owner (pages_of runs.now)) }
+    ensures pages { OnOk result (RetypesRuns range mtype owner runs.now (L.items parts.new)) }
     ensures order { OnOk result (AreMaximalRuns (L.items parts.new)) }
 {
     for run in runs {

@@ -5,6 +5,7 @@ ghost use Rattle.page_ranges.specs.MemoryTypes.{page_count};
 ghost use Rattle.page_ranges.specs.MemoryMap.{memory_map, should_be_one};
 ghost use Rattle.page_ranges.specs.Runs.{pages_of, AreRuns};
 ghost use Rattle.descriptor_table.specs.Leaves.{runs_in, entry_count, AreLeaves};
+ghost use Rattle.descriptor_table.specs.LeafWalks.{entry_up_to, map_of};
 ghost use Rattle.descriptor_table.specs.Tables.{entry_of, EndBy};
 
 use crate::beginnings::runs_before;
@@ -98,14 +99,8 @@ fn end_of_entry<A: Allocator + Copy>(first: &Run, walk: &mut Walk<'_, A>) -> u64
     ensures low { first.now.range.first ≤ result }
     ensures runs { AreRuns walk.new.rest }
     ensures ends { EndBy page_count walk.new.rest }
-    ensures entry { memory_map (pages_of (first.now ∷ walk.old.rest))
-        ≡ record {
-          mtype = first.now.mtype;
-          first = first.now.range.first;
-          pages = result - first.now.range.first;
-          attributes = first.now.attributes;
-        }
-        ∷ memory_map (pages_of walk.new.rest) }
+    ensures entry { map_of (first.now ∷ walk.old.rest)
+        ≡ entry_up_to first.now result ∷ map_of walk.new.rest }
 {
     let mut last = *first;
     while let Some(run) = walk.peek() {

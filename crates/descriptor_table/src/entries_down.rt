@@ -7,6 +7,7 @@ ghost use Rattle.page_ranges.specs.MemoryMap.{memory_map};
 ghost use Rattle.page_ranges.specs.Runs.{pages_of, AreMaximalRuns};
 ghost use Rattle.descriptor_table.specs.FreeLists.{IsFreeEntry};
 ghost use Rattle.descriptor_table.specs.Leaves.{leaf_at, run_before, runs_in, AreLeaves};
+ghost use Rattle.descriptor_table.specs.LeafWalks.{free_in, run_above, run_below};
 ghost use Rattle.descriptor_table.specs.Summaries.{AreGroups, BeginsFree, IsLeafOfNoUse};
 ghost use Rattle.descriptor_table.specs.Wanting.{AreOfNoUse, IsFreeAt, IsFreeEntryAt, YieldsLeaf, YieldsPlace, YieldsWanted};
 
@@ -184,8 +185,7 @@ fn run_below<A: Allocator + Copy>(leaves: &[Leaf<A>], leaf: usize, index: usize)
     requires leaves { AreLeaves leaves.now }
     requires leaf { leaf < length leaves.now }
     requires index { index < length (leaf_at leaves.now leaf) }
-    ensures { option_map (λ r. r.now) result ≡ run_before (runs_in leaves.now)
-        (length (runs_in (take leaf leaves.now)) + index) }
+    ensures { option_map (λ r. r.now) result ≡ run_below leaves.now leaf index }
 {
     if index > 0 {
         return run_at(runs_of(leaves, leaf), index - 1);
@@ -203,8 +203,7 @@ fn run_above<A: Allocator + Copy>(leaves: &[Leaf<A>], leaf: usize, index: usize)
     requires leaves { AreLeaves leaves.now }
     requires leaf { leaf < length leaves.now }
     requires index { index < length (leaf_at leaves.now leaf) }
-    ensures { option_map (λ r. r.now) result ≡ slice_get (runs_in leaves.now)
-        (length (runs_in (take leaf leaves.now)) + index + 1) }
+    ensures { option_map (λ r. r.now) result ≡ run_above leaves.now leaf index }
 {
     let runs = runs_of(leaves, leaf);
     if index + 1 < runs.len() {
@@ -245,6 +244,7 @@ impl<'a, A: Allocator> Model for EntriesDown<'a, A> {
     ghost use Rattle.page_ranges.specs.Memory.{IsProperMemory};
     ghost use Rattle.page_ranges.specs.Runs.{pages_of, AreMaximalRuns};
     ghost use Rattle.descriptor_table.specs.FreeLists.{FreeList};
+    ghost use Rattle.descriptor_table.specs.LeafWalks.{AreLeavesDownFrom};
     ghost use Rattle.descriptor_table.specs.Leaves.{leaf_at, runs_in, AreLeaves};
     ghost use Rattle.descriptor_table.specs.Summaries.{AreGroups};
     ghost use Rattle.descriptor_table.specs.Wanting.{entries_of, runs_to};
@@ -258,9 +258,7 @@ impl<'a, A: Allocator> Model for EntriesDown<'a, A> {
               (runs_to e.leaves.now e.leaf e.count);
         } };
 
-    ghost invariant = { λ e. AreLeaves e.leaves.now × AreMaximalRuns (runs_in e.leaves.now)
-        × IsProperMemory (pages_of (runs_in e.leaves.now)) × (e.leaf ≤ length e.leaves.now)
-        × (e.count ≤ length (leaf_at e.leaves.now e.leaf)) × AreGroups e.leaves.now e.groups.now };
+    ghost invariant = { λ e. AreLeavesDownFrom e.leaves.now e.groups.now e.leaf e.count };
 }
 
 impl<'a, A: Allocator + Copy> EntriesDown<'a, A> {
@@ -270,8 +268,7 @@ impl<'a, A: Allocator + Copy> EntriesDown<'a, A> {
         requires proper { IsProperMemory (pages_of (runs_in leaves.now)) }
         requires groups { AreGroups leaves.now groups.now }
         ensures memory { result.memory ≡ pages_of (runs_in leaves.now) }
-        ensures entries { result.entries ≡ filter (λ e. e.mtype == conventional)
-            (memory_map (pages_of (runs_in leaves.now))) }
+        ensures entries { result.entries ≡ free_in (runs_in leaves.now) }
     {
         EntriesDown {
             leaves,

@@ -7,7 +7,8 @@ ghost use Rattle.page_ranges.specs.MemoryMap.{memory_map};
 ghost use Rattle.page_ranges.specs.Cursors.{IsBlockAt};
 ghost use Rattle.page_ranges.specs.Runs.{pages_of, AreMaximalRuns};
 ghost use Rattle.descriptor_table.specs.Leaves.{runs_in, AreLeaves, IsPlace};
-ghost use Rattle.descriptor_table.specs.Tables.{entry_of, IsBlockBelow};
+ghost use Rattle.descriptor_table.specs.LeafWalks.{IsAboveRun, IsBelowRun, free_in};
+ghost use Rattle.descriptor_table.specs.Tables.{entry_of};
 
 use crate::leaves::Leaf;
 use crate::walks::Walk;
@@ -43,9 +44,7 @@ pub(crate) fn block_of(run: &Run) -> Descriptor
 pub(crate) fn block_below(below: Option<&Run>, run: &Run) -> Option<Descriptor>
     requires { IfSome (option_map (λ r. r.now) below)
         (λ r. r.range.first + r.range.pages ≤ page_count) }
-    ensures { (rs ss : List Run) → AreMaximalRuns rs → IsProperMemory (pages_of rs)
-        → IsPlace rs (record { before = option_map (λ r. r.now) below.entry; rest = run.now ∷ ss })
-        → IsBlockBelow (pages_of rs) run.now.range.first result }
+    ensures { IsBelowRun (option_map (λ r. r.now) below.entry) run.now result }
 {
     let Some(below) = below else {
         return None;
@@ -61,10 +60,7 @@ pub(crate) fn block_below(below: Option<&Run>, run: &Run) -> Option<Descriptor>
 #[inline(always)]
 pub(crate) fn block_above(run: &Run, above: Option<&Run>) -> Option<Descriptor>
     requires { run.now.range.first + run.now.range.pages ≤ page_count }
-    ensures { (rs ss : List Run) (o : Option Run) → AreMaximalRuns rs
-        → IsProperMemory (pages_of rs) → IsPlace rs (record { before = o; rest = run.now ∷ ss })
-        → option_map (λ r. r.now) above.entry ≡ slice_get ss 0
-        → IsBlockAt (pages_of rs) (run.now.range.first + run.now.range.pages) result }
+    ensures { IsAboveRun run.now (option_map (λ r. r.now) above.entry) result }
 {
     let Some(above) = above else {
         return None;
@@ -82,8 +78,7 @@ fn pass_to_free<A: Allocator + Copy>(walk: &mut Walk<'_, A>)
     requires { AreMaximalRuns walk.old.rest }
     ensures place { (rs : List Run) → IsPlace rs walk.old → IsPlace rs walk.new }
     ensures free { (r : Run) → slice_get walk.new.rest 0 ≡ Some r → r.mtype ≡ conventional }
-    ensures passed { filter (λ e. e.mtype == conventional) (memory_map (pages_of walk.old.rest))
-        ≡ filter (λ e. e.mtype == conventional) (memory_map (pages_of walk.new.rest)) }
+    ensures passed { free_in walk.old.rest ≡ free_in walk.new.rest }
 {
     while let Some(run) = walk.peek() {
         if run.mtype == MemoryType::conventional() {
@@ -107,6 +102,7 @@ impl<'a, A: Allocator> Model for FreeEntries<'a, A> {
     ghost use Rattle.page_ranges.specs.MemoryMap.{memory_map};
     ghost use Rattle.page_ranges.specs.Runs.{pages_of, AreMaximalRuns};
     ghost use Rattle.descriptor_table.specs.FreeLists.{FreeList};
+    ghost use Rattle.descriptor_table.specs.LeafWalks.{IsProperPlace, free_in};
     ghost use Rattle.descriptor_table.specs.Leaves.{runs_in, IsPlace};
 
     ghost Value = { FreeList };
@@ -114,13 +110,10 @@ impl<'a, A: Allocator> Model for FreeEntries<'a, A> {
     ghost view = { λ e.
         record {
           memory = pages_of (runs_in e.leaves.now);
-          entries = filter
-              (λ d. d.mtype == conventional) (memory_map (pages_of e.walk.rest));
+          entries = free_in e.walk.rest;
         } };
 
-    ghost invariant = { λ e. AreMaximalRuns (runs_in e.leaves.now)
-        × IsProperMemory (pages_of (runs_in e.leaves.now))
-        × IsPlace (runs_in e.leaves.now) e.walk };
+    ghost invariant = { λ e. IsProperPlace (runs_in e.leaves.now) e.walk };
 }
 
 impl<'a, A: Allocator + Copy> FreeEntries<'a, A> {
@@ -131,8 +124,7 @@ impl<'a, A: Allocator + Copy> FreeEntries<'a, A> {
         requires maximal { AreMaximalRuns (runs_in leaves.now) }
         requires proper { IsProperMemory (pages_of (runs_in leaves.now)) }
         ensures memory { result.memory ≡ pages_of (runs_in leaves.now) }
-        ensures entries { result.entries ≡ filter (λ e. e.mtype == conventional)
-            (memory_map (pages_of (runs_in leaves.now))) }
+        ensures entries { result.entries ≡ free_in (runs_in leaves.now) }
     {
         FreeEntries {
             leaves,

@@ -2,6 +2,7 @@
 ghost use Rattle.std.specs.Prelude.{◌≡◌, ℕ, ◌+◌, ◌-◌, ◌*◌, ◌^◌, ◌<◌, ◌≤◌, ◌⊎◌, length, slice_get};
 ghost use Rattle.std.specs.Option.{option_map};
 ghost use Rattle.descriptor_table.specs.Leaves.{leaf_at};
+ghost use Rattle.descriptor_table.specs.LeafSummaries.{AllowNext, AllowsAlso};
 ghost use Rattle.descriptor_table.specs.Summaries.{AllowsLeaf, AreGroups, AreGroupsBut, BeginsFree, may_hold};
 
 use crate::leaves::Leaf;
@@ -76,9 +77,7 @@ impl Group {
     fn changed<A: Allocator + Copy>(&self, leaves: &[Leaf<A>], number: usize, leaf: usize) -> Group
         requires leaf { leaf < length leaves.now }
         requires number { 8 * number ≤ leaf }
-        ensures { (j : ℕ) → 8 * number ≤ j → j < 8 * number + 8
-            → (j ≡ leaf) ⊎ AllowsLeaf self.now.summary leaves.now j
-            → AllowsLeaf result.summary leaves.now j }
+        ensures { AllowsAlso leaf leaves.now number self.now.summary result.summary }
     {
         if self.changes >= MOST_CHANGES {
             return Group {
@@ -104,8 +103,7 @@ pub(crate) fn group_at(groups: &[Group], number: usize) -> Option<&Group>
 /// Makes the summary of the group of a leaf anew, where the leaf has changed.
 fn change_group<A: Allocator + Copy>(leaves: &[Leaf<A>], groups: &mut Vec<Group, A>, leaf: usize)
     requires { leaf < length leaves.now }
-    ensures { (high : ℕ) → AreGroupsBut leaves.now groups.old.items leaf high
-        → AreGroupsBut leaves.now groups.new.items (leaf + 1) high }
+    ensures { AllowNext leaves.now leaf groups.old.items groups.new.items }
 {
     let number = leaf / GROUP_SIZE;
     let Some(group) = group_at(groups.as_slice(), number) else {

@@ -28,16 +28,14 @@ pub(crate) struct Leaf<A: Allocator = Global> {
 impl<A: Allocator> Model for Leaf<A> {
     ghost use Rattle.std.specs.Prelude.{◌≡◌, List};
     ghost use Rattle.page_ranges.specs.declared.ranges.Run.{Run};
-    ghost use Rattle.descriptor_table.specs.Leaves.{first_page};
-    ghost use Rattle.descriptor_table.specs.Summaries.{Allows, BeginsFree, EndsFree};
+    ghost use Rattle.descriptor_table.specs.LeafSummaries.{IsKeptOf};
 
     ghost Value = { List Run };
 
     ghost view = { λ l. l.runs.value.items };
 
-    ghost invariant = { λ l. (l.first ≡ first_page l.runs.value.items)
-        × BeginsFree l.begins_free l.runs.value.items × EndsFree l.ends_free l.runs.value.items
-        × Allows l.summary l.runs.value.items };
+    ghost invariant = { λ l.
+        IsKeptOf l.runs.value.items l.first l.begins_free l.ends_free l.summary };
 }
 
 impl<A: Allocator + Copy> Leaf<A> {

@@ -6,6 +6,7 @@ ghost use Rattle.page_ranges.specs.MemoryTypes.{conventional, page_count};
 ghost use Rattle.page_ranges.specs.Memory.{IsPresent, AllInRange, retyped};
 ghost use Rattle.page_ranges.specs.Runs.{pages_of, AreRuns};
 ghost use Rattle.descriptor_table.specs.Leaves.{leaf_at, put_across, runs_in, IsLeaf, AreLeaves, AreLeavesNear, BeginIn, GrowsBy, IsLeafTable};
+ghost use Rattle.descriptor_table.specs.LeafChanges.{AreOtherSizes, BeginInOthers, GrowsAcross, GrowsBetween, GrowsIn, Retypes, count_across, runs_with, runs_with_across, runs_with_in, with_parts, with_two};
 ghost use Rattle.descriptor_table.specs.Summaries.{KeepsLeaves};
 ghost use Rattle.descriptor_table.specs.Tables.{EndBy, IsWindow};
 ghost use Rattle.descriptor_table.specs.Tallies.{total};
@@ -103,24 +104,15 @@ fn put_in_new_leaves<A: Allocator + Copy>(
     requires window { (window.0 ≤ window.1) × (window.1 ≤ length runs.items) }
     requires begun { BeginIn [] leaves.old.items begun.old }
     requires sizes { sizes.old ≡ map length leaves.old.items }
-    requires grows { GrowsBy (runs_in (take near.1 leaves.old.items))
-        (runs_in (take near.0 leaves.old.items)
-        ++ (take window.0 runs.items ++ (parts.items ++ drop window.1 runs.items)))
-        (runs_in (drop near.1 leaves.old.items)) entries.0 entries.1 }
+    requires grows { GrowsBetween leaves.old.items near runs.items window parts.items entries }
     requires few { entries.1 < 2 ^ 63 }
     requires order { AreRuns
-        (runs_in (take near.0 leaves.old.items)
-        ++ ((take window.0 runs.items ++ (parts.items ++ drop window.1 runs.items))
-        ++ runs_in (drop near.1 leaves.old.items))) }
+        (runs_with leaves.old.items near (with_parts runs.items window parts.items)) }
     requires ends { EndBy page_count
-        (runs_in (take near.0 leaves.old.items)
-        ++ ((take window.0 runs.items ++ (parts.items ++ drop window.1 runs.items))
-        ++ runs_in (drop near.1 leaves.old.items))) }
+        (runs_with leaves.old.items near (with_parts runs.items window parts.items)) }
     ensures leaves { IfOk result (λ _. AreLeaves leaves.new.items) }
-    ensures runs { IfOk result
-        (λ _. runs_in leaves.new.items ≡ runs_in (take near.0 leaves.old.items)
-        ++ ((take window.0 runs.items ++ (parts.items ++ drop window.1 runs.items))
-        ++ runs_in (drop near.1 leaves.old.items))) }
+    ensures runs { IfOk result (λ _. runs_in leaves.new.items
+        ≡ runs_with leaves.old.items near (with_parts runs.items window parts.items)) }
     ensures begun { IfOk result (λ _. BeginIn [] leaves.new.items begun.new) }
     ensures sizes { IfOk result (λ _. sizes.new ≡ map length leaves.new.items) }
     ensures kept { IfOk result (λ _. KeepsLeaves leaves.old.items leaves.new.items near.0 near.1) }
@@ -165,23 +157,12 @@ fn put_in_leaf<A: Allocator + Copy>(
         + (window.1 - window.0) }
     requires begun { BeginIn [] leaves.old.items begun.old }
     requires sizes { sizes.old ≡ map length leaves.old.items }
-    requires grows { GrowsBy (runs_in (take (index + 1) leaves.old.items))
-        (runs_in (take index leaves.old.items)
-        ++ splice (leaf_at leaves.old.items index) window.0 window.1 parts.now)
-        (runs_in (drop (index + 1) leaves.old.items)) entries.0 entries.1 }
+    requires grows { GrowsIn leaves.old.items index window parts.now entries }
     requires few { entries.1 < 2 ^ 63 }
-    requires order { AreRuns
-        (runs_in (take index leaves.old.items)
-        ++ (splice (leaf_at leaves.old.items index) window.0 window.1 parts.now
-        ++ runs_in (drop (index + 1) leaves.old.items))) }
-    requires ends { EndBy page_count
-        (runs_in (take index leaves.old.items)
-        ++ (splice (leaf_at leaves.old.items index) window.0 window.1 parts.now
-        ++ runs_in (drop (index + 1) leaves.old.items))) }
+    requires order { AreRuns (runs_with_in leaves.old.items index window parts.now) }
+    requires ends { EndBy page_count (runs_with_in leaves.old.items index window parts.now) }
     ensures leaves { AreLeaves leaves.new.items }
-    ensures runs { runs_in leaves.new.items ≡ runs_in (take index leaves.old.items)
-        ++ (splice (leaf_at leaves.old.items index) window.0 window.1 parts.now
-        ++ runs_in (drop (index + 1) leaves.old.items)) }
+    ensures runs { runs_in leaves.new.items ≡ runs_with_in leaves.old.items index window parts.now }
     ensures begun { BeginIn [] leaves.new.items begun.new }
     ensures sizes { sizes.new ≡ map length leaves.new.items }
     ensures kept { KeepsLeaves leaves.old.items leaves.new.items index (index + 1) }
@@ -212,9 +193,7 @@ fn retype_in_leaf<A: Allocator + Copy>(
     requires present { AllInRange (pages_of (runs_in leaves.old.items)) range IsPresent }
     requires owner { mtype ≡ conventional → owner ≡ Given }
     ensures table { IfSome result (λ n. IsLeafTable leaves.new.items n begun.new sizes.new) }
-    ensures pages { OnSome result
-        (pages_of (runs_in leaves.new.items) ≡ retyped range mtype owner
-        (pages_of (runs_in leaves.old.items))) }
+    ensures pages { OnSome result (Retypes range mtype owner leaves.old.items leaves.new.items) }
     ensures kept { OnSome result
         (KeepsLeaves leaves.old.items leaves.new.items index (index + 1)) }
     ensures none { IfNone result ((leaves.new.items ≡ leaves.old.items) × (begun.new ≡ begun.old)
@@ -274,9 +253,7 @@ fn replace_two<A: Allocator + Copy>(
     requires high { window.1 ≤ length (leaf_at leaves.old.items (index + 1)) }
     requires first { IsLeaf (take window.0 (leaf_at leaves.old.items index) ++ front.now) }
     requires second { IsLeaf (back.now ++ drop window.1 (leaf_at leaves.old.items (index + 1))) }
-    ensures { leaves.new.items ≡ set
-        (set leaves.old.items index (take window.0 (leaf_at leaves.old.items index) ++ front.now))
-        (index + 1) (back.now ++ drop window.1 (leaf_at leaves.old.items (index + 1))) }
+    ensures { leaves.new.items ≡ with_two leaves.old.items index window front.now back.now }
 {
     let (low, high) = window;
     let count = leaves[index].runs().len();
@@ -297,13 +274,10 @@ fn recount<A: Allocator + Copy>(
     requires index { index + 1 < length leaves.now }
     requires begun_length { length begun.old ≡ length leaves.now }
     requires few { total begun.old ≤ page_count }
-    requires begun { (n m : ℕ) → BeginIn (runs_in (take index leaves.now))
-        (leaf_at leaves.now index ∷ leaf_at leaves.now (index + 1) ∷ []) (n ∷ m ∷ [])
-        → BeginIn [] leaves.now (set (set begun.old index n) (index + 1) m) }
+    requires begun { BeginInOthers leaves.now index begun.old }
     requires sizes_length { length sizes.old ≡ length leaves.now }
     requires few_runs { total sizes.old ≤ page_count }
-    requires sizes { set (set sizes.old index (length (leaf_at leaves.now index)))
-        (index + 1) (length (leaf_at leaves.now (index + 1))) ≡ map length leaves.now }
+    requires sizes { AreOtherSizes leaves.now index sizes.old }
     ensures begun { BeginIn [] leaves.now begun.new }
     ensures sizes { sizes.new ≡ map length leaves.now }
 {
@@ -334,28 +308,17 @@ fn put_across<A: Allocator + Copy>(
     requires low { window.0 ≤ length (leaf_at leaves.old.items index) }
     requires high { window.1 ≤ length (leaf_at leaves.old.items (index + 1)) }
     requires some { 0 < length parts.now }
-    requires enough { 2 ≤ window.0 + length parts.now
-        + (length (leaf_at leaves.old.items (index + 1)) - window.1) }
-    requires fits { window.0 + length parts.now
-        + (length (leaf_at leaves.old.items (index + 1)) - window.1) ≤ 64 }
+    requires enough { 2 ≤ count_across leaves.old.items index window parts.now }
+    requires fits { count_across leaves.old.items index window parts.now ≤ 64 }
     requires begun { BeginIn [] leaves.old.items begun.old }
     requires sizes { sizes.old ≡ map length leaves.old.items }
-    requires grows { GrowsBy (runs_in (take (index + 2) leaves.old.items))
-        (runs_in (take index leaves.old.items)
-        ++ put_across leaves.old.items index window.0 window.1 parts.now)
-        (runs_in (drop (index + 2) leaves.old.items)) entries.0 entries.1 }
-    requires order { AreRuns
-        (runs_in (take index leaves.old.items)
-        ++ (put_across leaves.old.items index window.0 window.1 parts.now
-        ++ runs_in (drop (index + 2) leaves.old.items))) }
+    requires grows { GrowsAcross leaves.old.items index window parts.now entries }
+    requires order { AreRuns (runs_with_across leaves.old.items index window parts.now) }
     requires ends { EndBy page_count
-        (runs_in (take index leaves.old.items)
-        ++ (put_across leaves.old.items index window.0 window.1 parts.now
-        ++ runs_in (drop (index + 2) leaves.old.items))) }
+        (runs_with_across leaves.old.items index window parts.now) }
     ensures leaves { AreLeaves leaves.new.items }
-    ensures runs { runs_in leaves.new.items ≡ runs_in (take index leaves.old.items)
-        ++ (put_across leaves.old.items index window.0 window.1 parts.now
-        ++ runs_in (drop (index + 2) leaves.old.items)) }
+    ensures runs { runs_in leaves.new.items
+        ≡ runs_with_across leaves.old.items index window parts.now }
     ensures begun { BeginIn [] leaves.new.items begun.new }
     ensures sizes { sizes.new ≡ map length leaves.new.items }
     ensures kept { KeepsLeaves leaves.old.items leaves.new.items index (index + 2) }
@@ -406,9 +369,7 @@ fn retype_across<A: Allocator + Copy>(
     requires present { AllInRange (pages_of (runs_in leaves.old.items)) range IsPresent }
     requires owner { mtype ≡ conventional → owner ≡ Given }
     ensures table { IfSome result (λ n. IsLeafTable leaves.new.items n begun.new sizes.new) }
-    ensures pages { OnSome result
-        (pages_of (runs_in leaves.new.items) ≡ retyped range mtype owner
-        (pages_of (runs_in leaves.old.items))) }
+    ensures pages { OnSome result (Retypes range mtype owner leaves.old.items leaves.new.items) }
     ensures kept { OnSome result
         (KeepsLeaves leaves.old.items leaves.new.items index (index + 2)) }
     ensures none { IfNone result ((leaves.new.items ≡ leaves.old.items) × (begun.new ≡ begun.old)
@@ -455,9 +416,7 @@ fn retype_in_new_leaves<A: Allocator + Copy>(
     requires present { AllInRange (pages_of (runs_in leaves.old.items)) range IsPresent }
     requires owner { mtype ≡ conventional → owner ≡ Given }
     ensures table { IfOk result (λ n. IsLeafTable leaves.new.items n begun.new sizes.new) }
-    ensures pages { IfOk result
-        (λ n. pages_of (runs_in leaves.new.items) ≡ retyped range mtype owner
-        (pages_of (runs_in leaves.old.items))) }
+    ensures pages { IfOk result (λ n. Retypes range mtype owner leaves.old.items leaves.new.items) }
     ensures kept { IfOk result (λ _. KeepsLeaves leaves.old.items leaves.new.items near.0 near.1) }
     ensures err { OnErr result ((leaves.new.items ≡ leaves.old.items) × (begun.new ≡ begun.old)
         × (sizes.new ≡ sizes.old)) }
@@ -501,9 +460,7 @@ pub(crate) fn retype_runs<A: Allocator + Copy>(
     requires present { AllInRange (pages_of (runs_in leaves.old.items)) range IsPresent }
     requires owner { mtype ≡ conventional → owner ≡ Given }
     ensures table { IfOk result (λ n. IsLeafTable leaves.new.items n begun.new sizes.new) }
-    ensures pages { IfOk result
-        (λ n. pages_of (runs_in leaves.new.items) ≡ retyped range mtype owner
-        (pages_of (runs_in leaves.old.items))) }
+    ensures pages { IfOk result (λ n. Retypes range mtype owner leaves.old.items leaves.new.items) }
     ensures kept { IfOk result (λ _. KeepsLeaves leaves.old.items leaves.new.items near.0 near.1) }
     ensures err { OnErr result ((leaves.new.items ≡ leaves.old.items) × (begun.new ≡ begun.old)
         × (sizes.new ≡ sizes.old)) }

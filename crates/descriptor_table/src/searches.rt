@@ -4,6 +4,7 @@ ghost use Rattle.std.specs.List.{AllWithin};
 ghost use Rattle.std.specs.Option.{option_map};
 ghost use Rattle.page_ranges.specs.Memory.{page_at};
 ghost use Rattle.page_ranges.specs.Runs.{page_in, pages_of, AreRuns, IsInRun};
+ghost use Rattle.descriptor_table.specs.LeafWalks.{EndsFrom};
 ghost use Rattle.descriptor_table.specs.PageTests.{Passes};
 
 use page_ranges::{MemoryType, Owner, Run};
@@ -13,8 +14,7 @@ pub(crate) fn count_ending_below(runs: &[Run], page: u64) -> usize
     requires { AreRuns runs.now }
     ensures bound { result ≤ length runs.now }
     ensures below { AllWithin (λ r. r.range.first + r.range.pages < page) runs.now 0 result }
-    ensures above { AllWithin (λ r. page ≤ r.range.first + r.range.pages) runs.now result
-        (length runs.now) }
+    ensures above { AllWithin (EndsFrom page) runs.now result (length runs.now) }
 {
     runs.partition_point(
         |run: &Run| -> bool

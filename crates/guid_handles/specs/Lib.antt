@@ -8,3 +8,5 @@ pub mod KeyRoom
 pub mod Blocks
 pub mod Places
 pub mod MadeOn
+pub mod TableSteps
+pub mod TurnSteps

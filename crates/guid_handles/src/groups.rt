@@ -4,6 +4,7 @@ ghost use Rattle.std.specs.List.{find, list_any, AllByRecursion};
 ghost use Rattle.guid_handles.specs.HandleTables.{same_guid};
 ghost use Rattle.guid_handles.specs.Sorting.{Ascending, place, kept_if};
 ghost use Rattle.guid_handles.specs.Indexes.{AreInTurn, AscendByGuid, ChangesTurns, HaveSameKeys, IsPlaceOf, SetsKey, is_before, is_group_of, key_at, key_in, turns_of, with_turn, without_turn};
+ghost use Rattle.guid_handles.specs.TurnSteps.{moved_turn, turn_after};
 
 use crate::guid_group::GuidGroup;
 use crate::guids::{is_lower_guid, is_same_guid};
@@ -105,8 +106,7 @@ impl<A: Allocator + Copy> Groups<A> {
     /// The handle and the stamp of the interface of a GUID with the least stamp above a mark.
     pub(crate) fn after(&self, guid: Uuid, mark: u64) -> Option<(u64, u64)>
         ensures after { result
-            ≡ option_map (λ t. (t.handle, t.stamp))
-            (find (λ t. nat_lt mark t.stamp) (turns_of self.now guid)) }
+            ≡ turn_after mark (turns_of self.now guid) }
         ensures ascending { AreInTurn (turns_of self.now guid) }
     {
         match group_of(self.groups.as_slice(), guid) {
@@ -220,8 +220,7 @@ impl<A: Allocator + Copy> Groups<A> {
         requires there { list_any (λ t. t.stamp == own) (turns_of self.old guid) ≡ true }
         requires last { AllByRecursion (λ t. t.stamp < stamp) (turns_of self.old guid) }
         ensures keys { HaveSameKeys self.old self.new }
-        ensures turns { ChangesTurns guid (λ ts. with_turn handle stamp (without_turn own ts))
-            self.old self.new }
+        ensures turns { ChangesTurns guid (moved_turn handle own stamp) self.old self.new }
     {
         self.groups[at].move_last(handle, own, stamp);
     }
@@ -232,8 +231,7 @@ impl<A: Allocator + Copy> Groups<A> {
         requires there { list_any (λ t. t.stamp == own) (turns_of self.old guid) ≡ true }
         requires last { AllByRecursion (λ t. t.stamp < stamp) (turns_of self.old guid) }
         ensures keys { HaveSameKeys self.old self.new }
-        ensures turns { ChangesTurns guid (λ ts. with_turn handle stamp (without_turn own ts))
-            self.old self.new }
+        ensures turns { ChangesTurns guid (moved_turn handle own stamp) self.old self.new }
     {
         if let Some(at) = place_of(self.groups.as_slice(), guid) {
             self.move_last_at(at, guid, handle, own, stamp);

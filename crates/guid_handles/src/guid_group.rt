@@ -3,6 +3,7 @@ ghost use Rattle.std.specs.Prelude.{◌≡◌, ◌<◌, ◌==◌, ◌≤◌, ℕ
 ghost use Rattle.std.specs.List.{find, list_any, AllByRecursion};
 ghost use Rattle.guid_handles.specs.Sorting.{Ascending};
 ghost use Rattle.guid_handles.specs.Indexes.{AreInTurn, SetsKeyIn, is_bare, key_in, with_turn, without_turn};
+ghost use Rattle.guid_handles.specs.TurnSteps.{moved_turn, turn_after};
 
 use crate::room::insert_with_room;
 use crate::searches::{count_less, is_number_at, nth_key};
@@ -84,8 +85,7 @@ impl<A: Allocator + Copy> GuidGroup<A> {
     /// The handle and the stamp of the interface with the least stamp above a mark.
     pub(crate) fn after(&self, mark: u64) -> Option<(u64, u64)>
         ensures after { result
-            ≡ option_map (λ t. (t.handle, t.stamp))
-            (find (λ t. nat_lt mark t.stamp) self.now.turns) }
+            ≡ turn_after mark self.now.turns }
         ensures ascending { AreInTurn self.now.turns }
     {
         self.turns.after(mark)
@@ -149,7 +149,7 @@ impl<A: Allocator + Copy> GuidGroup<A> {
         requires there { list_any (λ t. t.stamp == own) self.old.turns ≡ true }
         requires last { AllByRecursion (λ t. t.stamp < stamp) self.old.turns }
         ensures { self.new ≡ record self.old {
-          turns = with_turn handle stamp (without_turn own self.old.turns);
+          turns = moved_turn handle own stamp self.old.turns;
         } }
     {
         self.turns.move_last(handle, own, stamp);

@@ -6,6 +6,7 @@ ghost use Rattle.guid_handles.specs.HandleChanges.{IsHandleTable, max_handles, m
 ghost use Rattle.guid_handles.specs.Indexes.{AreAbsent, ChangesKeys, ChangesTurns, HaveSameKeys, HaveSameTurns, SetsKey, is_row_of, key_at, turns_of, with_turn};
 ghost use Rattle.guid_handles.specs.Slots.{record_at, with_stamp};
 ghost use Rattle.guid_handles.specs.MadeOn.{made_on};
+ghost use Rattle.guid_handles.specs.TableSteps.{AreOthersLower, AreOthersOlder, InstallsMany, InstallsOne, MakesHandle, MakesHandleWith, taken_back, taken_out, without_last_handle};
 ghost use Rattle.guid_handles.specs.Stores.{AgreeOnKeys};
 
 use crate::groups::Groups;
@@ -392,13 +393,9 @@ impl<A: Allocator + Copy> Handles<A> {
 
     /// Takes back the interface of a GUID on a handle, which was installed last, and its stamp.
     fn take_back(&mut self, handle: u64, guid: Uuid)
-        requires newest { AllByRecursion (λ i. i.stamp < self.old.last_stamp)
-            (filter (λ i. not (is_at handle guid i)) self.old.interfaces) }
+        requires newest { AreOthersOlder handle guid self.old }
         requires some { 0 < self.old.last_stamp }
-        ensures { self.new ≡ record self.old {
-          interfaces = filter (λ i. not (is_at handle guid i)) self.old.interfaces;
-          last_stamp = self.old.last_stamp - 1;
-        } }
+        ensures { self.new ≡ taken_back handle guid self.old }
     {
         self.take_out(handle, guid);
         self.last_stamp -= 1;
@@ -429,8 +426,7 @@ impl<A: Allocator + Copy> Handles<A> {
     fn make_bare(&mut self, maker: Option<(u64, u64)>) -> Result<u64, AllocError>
         requires room { length self.old.handles < max_handles }
         requires numbers { self.old.last_number < 2 ^ 62 }
-        ensures ok { IfOk result (λ n. (n ≡ self.old.last_number + 1)
-            × (self.new ≡ with_handle maker self.old)) }
+        ensures ok { IfOk result (λ n. MakesHandle maker self.old n self.new) }
         ensures proper { IsHandleTable self.old }
         ensures err { OnErr result (self.new ≡ self.old) }
     {
@@ -443,12 +439,9 @@ impl<A: Allocator + Copy> Handles<A> {
     /// Takes back the handle that was made last, which has no interfaces, and its number.
     fn unmake(&mut self)
         requires bare { list_any (is_on self.old.last_number) self.old.interfaces ≡ false }
-        requires lower { AllByRecursion (λ n. n < self.old.last_number)
-            (filter (λ n. not (n == self.old.last_number)) (numbers self.old)) }
+        requires lower { AreOthersLower self.old }
         requires some { 0 < self.old.last_number }
-        ensures { self.new ≡ record (without_handle self.old.last_number self.old) {
-          last_number = self.old.last_number - 1;
-        } }
+        ensures { self.new ≡ without_last_handle self.old }
     {
         self.remove_bare(self.last_number);
         self.last_number -= 1;
@@ -464,8 +457,7 @@ impl<A: Allocator + Copy> Handles<A> {
         requires once { has_guid_twice pairs.now ≡ false }
         requires numbers { self.old.last_number < 2 ^ 62 }
         requires stamps { self.old.last_stamp < 2 ^ 62 }
-        ensures ok { IfOk result (λ n. (n ≡ self.old.last_number + 1)
-            × (self.new ≡ with_interfaces n pairs.now (with_handle maker self.old))) }
+        ensures ok { IfOk result (λ n. MakesHandleWith maker pairs.now self.old n self.new) }
         ensures err { OnErr result (self.new ≡ self.old) }
     {
         let number = self.make_bare(maker)?;
@@ -506,8 +498,7 @@ impl<A: Allocator + Copy> Handles<A> {
     pub fn install(&mut self, handle: u64, guid: Uuid, kind: u32, value: u64) -> Result<u64, Status>
         requires numbers { self.old.last_number < 2 ^ 62 }
         requires stamps { self.old.last_stamp < 2 ^ 62 }
-        ensures installs { Installs self.old handle ((guid, value) ∷ [])
-            (install_refusal self.old handle guid kind) result self.new }
+        ensures installs { InstallsOne self.old handle guid kind value result self.new }
         ensures numbers { self.new.last_number ≤ self.old.last_number + 1 }
         ensures stamps { self.new.last_stamp ≤ self.old.last_stamp + 1 }
     {
@@ -522,8 +513,7 @@ impl<A: Allocator + Copy> Handles<A> {
     pub fn install_many(&mut self, handle: u64, pairs: &[(Uuid, u64)]) -> Result<u64, Status>
         requires numbers { self.old.last_number < 2 ^ 62 }
         requires stamps { self.old.last_stamp < 2 ^ 62 }
-        ensures installs { Installs self.old handle pairs.now
-            (install_many_refusal self.old handle pairs.now) result self.new }
+        ensures installs { InstallsMany self.old handle pairs.now result self.new }
         ensures numbers { self.new.last_number ≤ self.old.last_number + 1 }
         ensures stamps { self.new.last_stamp ≤ self.old.last_stamp + max_installed }
     {
@@ -546,9 +536,8 @@ impl<A: Allocator + Copy> Handles<A> {
         requires once { has_guid_twice pairs.now ≡ false }
         requires numbers { self.old.last_number < 2 ^ 62 }
         requires stamps { self.old.last_stamp < 2 ^ 62 }
-        ensures ok { IfOk result (λ n. (n ≡ self.old.last_number + 1)
-            × (self.new
-            ≡ with_interfaces n pairs.now (with_handle (Some (controller, agent)) self.old))) }
+        ensures ok { IfOk result (λ n.
+            MakesHandleWith (Some (controller, agent)) pairs.now self.old n self.new) }
         ensures err { OnErr result (self.new ≡ self.old) }
     {
         self.install_on_new(Some((controller, agent)), pairs)
@@ -556,9 +545,7 @@ impl<A: Allocator + Copy> Handles<A> {
 
     /// Takes out an interface, and leaves its handle.
     fn take_out(&mut self, handle: u64, guid: Uuid)
-        ensures { self.new ≡ record self.old {
-          interfaces = filter (λ i. not (is_at handle guid i)) self.old.interfaces;
-        } }
+        ensures { self.new ≡ taken_out handle guid self.old }
     {
         if let Some(key) = key_of(&self.rows, &self.records, &self.groups, handle, guid) {
             let stamp = take_record(&mut self.records, key);

@@ -3,6 +3,7 @@ ghost use Rattle.std.specs.Prelude.{◌≡◌, ◌<◌, ◌≤◌, ◌==◌, [],
 ghost use Rattle.std.specs.List.{find, list_any, AllByRecursion};
 ghost use Rattle.guid_handles.specs.Sorting.{kept_if, place};
 ghost use Rattle.guid_handles.specs.Indexes.{AreInTurn, with_turn, without_turn};
+ghost use Rattle.guid_handles.specs.TurnSteps.{moved_turn, turn_after};
 
 use crate::records::Turn;
 use crate::room::push_with_room;
@@ -100,7 +101,7 @@ impl<A: Allocator + Copy> Turns<A> {
     /// The handle and the stamp of the first turn above a mark.
     pub(crate) fn after(&self, mark: u64) -> Option<(u64, u64)>
         ensures after { result
-            ≡ option_map (λ t. (t.handle, t.stamp)) (find (λ t. nat_lt mark t.stamp) self.now) }
+            ≡ turn_after mark self.now }
         ensures ascending { AreInTurn self.now }
     {
         let turns = self.turns.as_slice();
@@ -132,7 +133,7 @@ impl<A: Allocator + Copy> Turns<A> {
     pub(crate) fn move_last(&mut self, handle: u64, own: u64, stamp: u64)
         requires there { list_any (λ t. t.stamp == own) self.old ≡ true }
         requires last { AllByRecursion (λ t. t.stamp < stamp) self.old }
-        ensures { self.new ≡ with_turn handle stamp (without_turn own self.old) }
+        ensures { self.new ≡ moved_turn handle own stamp self.old }
     {
         let at = count_lower(self.turns.as_slice(), own);
         if is_turn_at(self.turns.as_slice(), at, own) {

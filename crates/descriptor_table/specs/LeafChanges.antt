@@ -1,0 +1,98 @@
+-- What leaves hold once some of their runs gave way to others.
+use Rattle.std.specs.Prelude.{◌≡◌, ℕ, ◌+◌, ◌-◌, List, [], ◌∷◌, ◌++◌, length, map, set, take, drop}
+use Rattle.std.specs.List.{splice}
+use Rattle.page_ranges.specs.declared.ranges.Owner.{Owner}
+use Rattle.page_ranges.specs.declared.ranges.PageRange.{PageRange}
+use Rattle.page_ranges.specs.declared.ranges.Run.{Run}
+use Rattle.page_ranges.specs.Memory.{retyped, row}
+use Rattle.page_ranges.specs.Runs.{page_in, pages_of}
+use Rattle.descriptor_table.specs.Leaves.{leaf_at, put_across, runs_in, BeginIn, GrowsBy}
+
+-- ---- the runs of all leaves
+
+-- some runs, with parts in the place of those in a window
+abbrev pub with_parts : List Run → ℕ × ℕ → List Run → List Run
+with_parts runs window parts = take window.0 runs ++ (parts ++ drop window.1 runs)
+
+-- the runs of all leaves, with others in the place of those of the leaves between two indices
+abbrev pub runs_with : List (List Run) → ℕ × ℕ → List Run → List Run
+runs_with ls near runs = runs_in (take near.0 ls) ++ (runs ++ runs_in (drop near.1 ls))
+
+-- the runs of all leaves, with parts in the place of a window of the leaf at an index
+abbrev pub runs_with_in : List (List Run) → ℕ → ℕ × ℕ → List Run → List Run
+runs_with_in ls index window parts =
+    runs_in (take index ls)
+    ++ (splice (leaf_at ls index) window.0 window.1 parts ++ runs_in (drop (index + 1) ls))
+
+-- the runs of all leaves, with parts in the place of those from an index of one leaf up to an index
+-- of the next one
+abbrev pub runs_with_across : List (List Run) → ℕ → ℕ × ℕ → List Run → List Run
+runs_with_across ls index window parts =
+    runs_in (take index ls)
+    ++ (put_across ls index window.0 window.1 parts ++ runs_in (drop (index + 2) ls))
+
+-- how many runs two leaves have, with parts in the place of those from an index of the first up to
+-- an index of the second
+abbrev pub count_across : List (List Run) → ℕ → ℕ × ℕ → List Run → ℕ
+count_across ls index window parts =
+    window.0 + length parts + (length (leaf_at ls (index + 1)) - window.1)
+
+-- two leaves have new runs behind the first ones of the one, and before the last ones of the other
+abbrev pub with_two : List (List Run) → ℕ → ℕ × ℕ → List Run → List Run → List (List Run)
+with_two ls index window front back =
+    set (set ls index (take window.0 (leaf_at ls index) ++ front))
+    (index + 1) (back ++ drop window.1 (leaf_at ls (index + 1)))
+
+-- ---- the entries of the map
+
+-- Of the leaves between two indices a window of runs gives way to parts: the map has a number of
+-- entries less and a number more.
+abbrev pub GrowsBetween : List (List Run) → ℕ × ℕ → List Run → ℕ × ℕ → List Run → ℕ × ℕ → Type 0
+GrowsBetween ls near runs window parts entries =
+    GrowsBy (runs_in (take near.1 ls)) (runs_in (take near.0 ls) ++ with_parts runs window parts)
+    (runs_in (drop near.1 ls)) entries.0 entries.1
+
+-- the same of a window of the leaf at an index
+abbrev pub GrowsIn : List (List Run) → ℕ → ℕ × ℕ → List Run → ℕ × ℕ → Type 0
+GrowsIn ls index window parts entries =
+    GrowsBy (runs_in (take (index + 1) ls))
+    (runs_in (take index ls) ++ splice (leaf_at ls index) window.0 window.1 parts)
+    (runs_in (drop (index + 1) ls)) entries.0 entries.1
+
+-- the same of the runs from an index of one leaf up to an index of the next one
+abbrev pub GrowsAcross : List (List Run) → ℕ → ℕ × ℕ → List Run → ℕ × ℕ → Type 0
+GrowsAcross ls index window parts entries =
+    GrowsBy (runs_in (take (index + 2) ls))
+    (runs_in (take index ls) ++ put_across ls index window.0 window.1 parts)
+    (runs_in (drop (index + 2) ls)) entries.0 entries.1
+
+-- ---- numbers of two leaves
+
+-- How many entries begin in each leaf is right, but for the leaf at an index and the next one.
+abbrev pub BeginInOthers : List (List Run) → ℕ → List ℕ → Type 0
+BeginInOthers ls index ns = (n m : ℕ)
+    → BeginIn (runs_in (take index ls))
+    (leaf_at ls index ∷ leaf_at ls (index + 1) ∷ []) (n ∷ m ∷ [])
+    → BeginIn [] ls (set (set ns index n) (index + 1) m)
+
+-- How many runs each leaf has is right, but for the leaf at an index and the next one.
+abbrev pub AreOtherSizes : List (List Run) → ℕ → List ℕ → Type 0
+AreOtherSizes ls index ns =
+    set (set ns index (length (leaf_at ls index))) (index + 1) (length (leaf_at ls (index + 1)))
+    ≡ map length ls
+
+-- ---- the pages of runs
+
+-- the pages of runs become those of a part of a run behind others, from one page up to another
+abbrev pub AppendsPart : ℕ → ℕ → Run → List Run → List Run → Type 0
+AppendsPart first end run old new =
+    pages_of new ≡ pages_of old ++ row (end - first) (page_in first run)
+
+-- the pages of a range have a type and an owner in the new runs, and the others are as in the old
+abbrev pub RetypesRuns : PageRange → ℕ → Owner → List Run → List Run → Type 0
+RetypesRuns range mtype owner old new = pages_of new ≡ retyped range mtype owner (pages_of old)
+
+-- the same of the runs of leaves
+abbrev pub Retypes : PageRange → ℕ → Owner → List (List Run) → List (List Run) → Type 0
+Retypes range mtype owner old new =
+    pages_of (runs_in new) ≡ retyped range mtype owner (pages_of (runs_in old))

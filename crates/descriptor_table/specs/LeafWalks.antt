@@ -1,0 +1,86 @@
+-- Walks along the runs of leaves, and the entries that they come to.
+use Rattle.std.specs.Prelude.{◌≡◌, ℕ, ◌+◌, ◌-◌, ◌<◌, ◌≤◌, ◌==◌, List, ◌∷◌, Option, filter, length, take, slice_get}
+use Rattle.page_ranges.specs.declared.ranges.Descriptor.{Descriptor}
+use Rattle.page_ranges.specs.declared.ranges.Run.{Run}
+use Rattle.page_ranges.specs.MemoryTypes.{conventional}
+use Rattle.page_ranges.specs.Memory.{IsProperMemory}
+use Rattle.page_ranges.specs.MemoryMap.{memory_map}
+use Rattle.page_ranges.specs.Cursors.{IsBlockAt}
+use Rattle.page_ranges.specs.Runs.{pages_of, AreMaximalRuns}
+use Rattle.descriptor_table.specs.declared.groups.Group.{Group}
+use Rattle.descriptor_table.specs.Leaves.{leaf_at, run_before, runs_in, AreLeaves, IsPlace, RunPlace}
+use Rattle.descriptor_table.specs.Summaries.{AreGroups}
+use Rattle.descriptor_table.specs.Tables.{IsBlockBelow}
+
+-- ---- runs by their ends
+
+-- a run ends above a page
+abbrev pub EndsAbove : ℕ → Run → Type 0
+EndsAbove page r = page < r.range.first + r.range.pages
+
+-- a run ends at a page or above it
+abbrev pub EndsFrom : ℕ → Run → Type 0
+EndsFrom page r = page ≤ r.range.first + r.range.pages
+
+-- ---- entries
+
+-- the memory map of some runs
+abbrev pub map_of : List Run → List Descriptor
+map_of rs = memory_map (pages_of rs)
+
+-- the conventional entries of the memory map of some runs
+abbrev pub free_in : List Run → List Descriptor
+free_in rs = filter (λ e. e.mtype == conventional) (memory_map (pages_of rs))
+
+-- the entry that begins with a run and ends where a page begins
+abbrev pub entry_up_to : Run → ℕ → Descriptor
+entry_up_to r end =
+    record {
+      mtype = r.mtype;
+      first = r.range.first;
+      pages = end - r.range.first;
+      attributes = r.attributes;
+    }
+
+-- ---- places in leaves
+
+-- the run before the one at an index of a leaf
+abbrev pub run_below : List (List Run) → ℕ → ℕ → Option Run
+run_below ls leaf index = run_before (runs_in ls) (length (runs_in (take leaf ls)) + index)
+
+-- the run after the one at an index of a leaf
+abbrev pub run_above : List (List Run) → ℕ → ℕ → Option Run
+run_above ls leaf index = slice_get (runs_in ls) (length (runs_in (take leaf ls)) + index + 1)
+
+-- maximal runs that make a proper memory, and a place among them
+abbrev pub IsProperPlace : List Run → RunPlace → Type 0
+IsProperPlace rs p = AreMaximalRuns rs × IsProperMemory (pages_of rs) × IsPlace rs p
+
+-- leaves whose runs are maximal and make a proper memory
+abbrev pub AreProperLeaves : List (List Run) → Type 0
+AreProperLeaves ls =
+    AreLeaves ls × AreMaximalRuns (runs_in ls) × IsProperMemory (pages_of (runs_in ls))
+
+-- Leaves whose runs are maximal and make a proper memory; an index of one of them or their number,
+-- and a number of runs of that leaf; and the groups of the leaves.
+abbrev pub AreLeavesDownFrom : List (List Run) → List Group → ℕ → ℕ → Type 0
+AreLeavesDownFrom ls gs leaf count = AreLeaves ls × AreMaximalRuns (runs_in ls)
+    × IsProperMemory (pages_of (runs_in ls)) × (leaf ≤ length ls)
+    × (count ≤ length (leaf_at ls leaf)) × AreGroups ls gs
+
+-- ---- blocks beside a run
+
+-- In each memory of maximal runs in which a run comes right behind another one, or is the first, the
+-- answer is a block with the page just below it.
+abbrev pub IsBelowRun : Option Run → Run → Option Descriptor → Type 0
+IsBelowRun below r result = (rs ss : List Run) → AreMaximalRuns rs → IsProperMemory (pages_of rs)
+    → IsPlace rs (record { before = below; rest = r ∷ ss })
+    → IsBlockBelow (pages_of rs) r.range.first result
+
+-- In each memory of maximal runs in which another one comes right behind a run, or the run is the
+-- last, the answer is a block with the page just behind it.
+abbrev pub IsAboveRun : Run → Option Run → Option Descriptor → Type 0
+IsAboveRun r above result = (rs ss : List Run) (o : Option Run) → AreMaximalRuns rs
+    → IsProperMemory (pages_of rs) → IsPlace rs (record { before = o; rest = r ∷ ss })
+    → above ≡ slice_get ss 0
+    → IsBlockAt (pages_of rs) (r.range.first + r.range.pages) result

@@ -1,0 +1,61 @@
+-- What single steps do to the handle table, and what they return.
+use Rattle.std.specs.Prelude.{◌≡◌, ℕ, ◌+◌, ◌-◌, ◌<◌, ◌==◌, not, List, [], ◌∷◌, Option, Result}
+use Rattle.std.specs.List.{filter, AllByRecursion}
+use Rattle.page_ranges.specs.declared.statuses.Status.{Status}
+use Rattle.guid_handles.specs.declared.records.Interface.{Interface}
+use Rattle.guid_handles.specs.HandleTables.{HandleTable, is_at, numbers}
+use Rattle.guid_handles.specs.HandleChanges.{Installs, install_refusal, install_many_refusal, with_handle, with_interfaces, without_handle}
+
+-- ---- a handle that comes or goes
+
+-- A handle is made, with the number after the last, and has no interface yet.
+abbrev pub MakesHandle : Option (ℕ × ℕ) → HandleTable → ℕ → HandleTable → Type 0
+MakesHandle maker t n new = (n ≡ t.last_number + 1) × (new ≡ with_handle maker t)
+
+-- A handle is made, with the number after the last, and the pairs are installed on it.
+abbrev pub MakesHandleWith : Option (ℕ × ℕ) → List (List ℕ × ℕ) → HandleTable → ℕ → HandleTable
+    → Type 0
+MakesHandleWith maker pairs t n new =
+    (n ≡ t.last_number + 1) × (new ≡ with_interfaces n pairs (with_handle maker t))
+
+-- all handles but the last have numbers below its own
+abbrev pub AreOthersLower : HandleTable → Type 0
+AreOthersLower t =
+    AllByRecursion (λ n. n < t.last_number) (filter (λ n. not (n == t.last_number)) (numbers t))
+
+-- the last handle goes, and its number is free again
+abbrev pub without_last_handle : HandleTable → HandleTable
+without_last_handle t =
+    record (without_handle t.last_number t) { last_number = t.last_number - 1 }
+
+-- ---- an interface that comes or goes
+
+-- What the installation of one interface returns, and the table after it.
+abbrev pub InstallsOne : HandleTable → ℕ → List ℕ → ℕ → ℕ → Result ℕ Status → HandleTable → Type 0
+InstallsOne t handle guid kind value result new =
+    Installs t handle ((guid, value) ∷ []) (install_refusal t handle guid kind) result new
+
+-- What the installation of several interfaces returns, and the table after it.
+abbrev pub InstallsMany : HandleTable → ℕ → List (List ℕ × ℕ) → Result ℕ Status → HandleTable
+    → Type 0
+InstallsMany t handle pairs result new =
+    Installs t handle pairs (install_many_refusal t handle pairs) result new
+
+-- the interfaces but that of a GUID on a handle
+abbrev pub interfaces_but : ℕ → List ℕ → HandleTable → List Interface
+interfaces_but n guid t = filter (λ i. not (is_at n guid i)) t.interfaces
+
+-- the interface of a GUID on a handle goes, and the handle stays
+abbrev pub taken_out : ℕ → List ℕ → HandleTable → HandleTable
+taken_out n guid t = record t { interfaces = interfaces_but n guid t }
+
+-- the interface of a GUID on a handle goes with its stamp, which was the last
+abbrev pub taken_back : ℕ → List ℕ → HandleTable → HandleTable
+taken_back n guid t = record t {
+  interfaces = interfaces_but n guid t;
+  last_stamp = t.last_stamp - 1;
+}
+
+-- all interfaces but that of a GUID on a handle have stamps below the last
+abbrev pub AreOthersOlder : ℕ → List ℕ → HandleTable → Type 0
+AreOthersOlder n guid t = AllByRecursion (λ i. i.stamp < t.last_stamp) (interfaces_but n guid t)
