@@ -9,7 +9,7 @@ use Rattle.page_ranges.specs.Cursors.{IsBlockAt}
 use Rattle.page_ranges.specs.MemoryMap.{memory_map, should_be_one}
 use Rattle.page_ranges.specs.Runs.{pages_of, AreRuns, AreMaximalRuns}
 use Rattle.descriptor_table.specs.Tables.{entry_of, EndBy, IsBlockBelow}
-use Rattle.descriptor_table.specs.Leaves.{RunPlace, PassesRun, IsPlace, run_before}
+use Rattle.descriptor_table.specs.Leaves.{RunPlace, PassesRun, IsPlace, run_before, runs_from}
 use Rattle.descriptor_table.proofs.FreeRuns.{free_from, free_here, free_member, above_touching, above_gap, above_last, below_touching, below_gap, below_first}
 use Rattle.descriptor_table.proofs.EntryRuns.{stretched, entry_to, goes_on_in, ends_before_next, ends_at_last}
 
@@ -29,6 +29,11 @@ pub some_next : (rs : List Run) (r : Run) → slice_get rs 0 ≡ Some r → (ss 
 some_next [] r e = absurd cc
 some_next (q ∷ rs) r e = let same : q ≡ r = cc in (rs, ap (λ x. x ∷ rs) same)
 
+-- the runs that are to come are the one that is passed now and those after it
+pub passed_first : (old new : RunPlace) (o : Option Run) → PassesRun old o new → old.rest ≡ runs_from o new.rest
+passed_first old new None p = p.0
+passed_first old new (Some r) p = p.0
+
 -- ---- the runs of an entry
 
 module _ (q last run : Run) (old new : List Run) (next : old ≡ run ∷ new) (runs : AreRuns (last ∷ old)) where
@@ -44,13 +49,11 @@ module _ (q last run : Run) (old new : List Run) (next : old ≡ run ∷ new) (r
   pub next_goes_on : should_be_one (entry_of last) (entry_of run) ≡ true → stretched q (memory_map (pages_of (last ∷ old))) ≡ stretched q (memory_map (pages_of (run ∷ new)))
   next_goes_on t = ap (λ ss. stretched q (memory_map (pages_of (last ∷ ss)))) next ∙ goes_on_in q last run new both t
 
-  pub entry_is_done : should_be_one (entry_of last) (entry_of run) ≡ false → stretched q (memory_map (pages_of (last ∷ old))) ≡ entry_to q last ∷ memory_map (pages_of old)
-  entry_is_done f =
-      ap (λ ss. stretched q (memory_map (pages_of (last ∷ ss)))) next ∙ ends_before_next q last run new both f ∙ ap (λ ss. entry_to q last ∷ memory_map (pages_of ss)) (sym next)
+  pub entry_is_done : should_be_one (entry_of last) (entry_of run) ≡ false → stretched q (memory_map (pages_of (last ∷ old))) ≡ entry_to q last ∷ memory_map (pages_of (run ∷ new))
+  entry_is_done f = ap (λ ss. stretched q (memory_map (pages_of (last ∷ ss)))) next ∙ ends_before_next q last run new both f
 
-pub last_entry_done : (q last : Run) (old : List Run) → old ≡ [] → AreRuns (last ∷ old) → stretched q (memory_map (pages_of (last ∷ old))) ≡ entry_to q last ∷ memory_map (pages_of old)
-last_entry_done q last old e a =
-    ap (λ ss. stretched q (memory_map (pages_of (last ∷ ss)))) e ∙ ends_at_last q last a.0 ∙ ap (λ ss. entry_to q last ∷ memory_map (pages_of ss)) (sym e)
+pub last_entry_done : (q last : Run) (old : List Run) → old ≡ [] → AreRuns (last ∷ old) → stretched q (memory_map (pages_of (last ∷ old))) ≡ entry_to q last ∷ memory_map (pages_of [])
+last_entry_done q last old e a = ap (λ ss. stretched q (memory_map (pages_of (last ∷ ss)))) e ∙ ends_at_last q last a.0
 
 -- ---- places by index
 

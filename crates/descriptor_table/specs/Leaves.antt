@@ -87,6 +87,11 @@ abbrev pub PassesRun : RunPlace → Option Run → RunPlace → Type 0
 PassesRun old None new = (old.rest ≡ []) × (new ≡ old)
 PassesRun old (Some r) new = (old.rest ≡ r ∷ new.rest) × (new.before ≡ Some r)
 
+-- the runs from one on that was passed last; none where there is no such run
+abbrev pub runs_from : Option Run → List Run → List Run
+runs_from None rs = []
+runs_from (Some r) rs = r ∷ rs
+
 -- the run before the one at an index
 abbrev pub run_before : List Run → ℕ → Option Run
 run_before rs zero = None

@@ -1,10 +1,10 @@
 //! The memory map of runs: owners do not split its entries.
-ghost use Rattle.std.specs.Prelude.{◌≡◌, ◌+◌, ◌-◌, ◌<◌, ◌≤◌, ◌^◌, ◌∷◌, length, take, drop};
+ghost use Rattle.std.specs.Prelude.{◌≡◌, ◌+◌, ◌-◌, ◌<◌, ◌≤◌, ◌^◌, ◌∷◌, length, take, drop, option_map};
 ghost use Rattle.std.specs.Iterator.{YieldsFirst, item_count};
 ghost use Rattle.page_ranges.specs.MemoryTypes.{page_count};
 ghost use Rattle.page_ranges.specs.MemoryMap.{memory_map, should_be_one};
 ghost use Rattle.page_ranges.specs.Runs.{pages_of, AreRuns};
-ghost use Rattle.descriptor_table.specs.Leaves.{runs_in, entry_count, AreLeaves};
+ghost use Rattle.descriptor_table.specs.Leaves.{runs_in, runs_from, entry_count, AreLeaves};
 ghost use Rattle.descriptor_table.specs.LeafWalks.{entry_up_to, map_of};
 ghost use Rattle.descriptor_table.specs.Tables.{entry_of, EndBy};
 
@@ -44,22 +44,27 @@ pub(crate) fn count_entries(runs: &[Run]) -> usize
 /// The entries of a memory map, by ascending page.
 #[derive(Drop)]
 pub struct MapEntries<'a, A: Allocator = Global> {
+    // The first run of the next entry, and a walk that passed it.
+    first: Option<&'a Run>,
     walk: Walk<'a, A>,
 }
 
 impl<'a, A: Allocator> Model for MapEntries<'a, A> {
-    ghost use Rattle.std.specs.Prelude.{List};
+    ghost use Rattle.std.specs.Prelude.{List, option_map};
     ghost use Rattle.page_ranges.specs.declared.ranges.Descriptor.{Descriptor};
     ghost use Rattle.page_ranges.specs.MemoryTypes.{page_count};
     ghost use Rattle.page_ranges.specs.MemoryMap.{memory_map};
     ghost use Rattle.page_ranges.specs.Runs.{pages_of, AreRuns};
+    ghost use Rattle.descriptor_table.specs.Leaves.{runs_from};
     ghost use Rattle.descriptor_table.specs.Tables.{EndBy};
 
     ghost Value = { List Descriptor };
 
-    ghost view = { λ e. memory_map (pages_of e.walk.rest) };
+    ghost view = { λ e.
+        memory_map (pages_of (runs_from (option_map (λ r. r.now) e.first) e.walk.rest)) };
 
-    ghost invariant = { λ e. AreRuns e.walk.rest × EndBy page_count e.walk.rest };
+    ghost invariant = { λ e. AreRuns (runs_from (option_map (λ r. r.now) e.first) e.walk.rest)
+        × EndBy page_count (runs_from (option_map (λ r. r.now) e.first) e.walk.rest) };
 }
 
 impl<'a, A: Allocator + Copy> MapEntries<'a, A> {
@@ -69,9 +74,9 @@ impl<'a, A: Allocator + Copy> MapEntries<'a, A> {
         requires ends { EndBy page_count (runs_in leaves.now) }
         ensures { result ≡ memory_map (pages_of (runs_in leaves.now)) }
     {
-        MapEntries {
-            walk: Walk::new(leaves),
-        }
+        let mut walk = Walk::new(leaves);
+        let first = walk.next();
+        MapEntries { first, walk }
     }
 
     /// The entries that begin in the leaves from an index on.
@@ -83,34 +88,40 @@ impl<'a, A: Allocator + Copy> MapEntries<'a, A> {
         ensures { result ≡ drop (entry_count (runs_in (take index leaves.now)))
             (memory_map (pages_of (runs_in leaves.now))) }
     {
-        let mut walk = Walk::new(&leaves[index..]);
         let Some(last) = runs_before(leaves, index).last() else {
-            return MapEntries { walk };
+            return MapEntries::new(&leaves[index..]);
         };
-        let _ = end_of_entry(last, &mut walk);
-        MapEntries { walk }
+        let mut walk = Walk::new(&leaves[index..]);
+        let (_, first) = end_of_entry(last, &mut walk);
+        MapEntries { first, walk }
     }
 }
 
-/// Takes the runs that go on in a run's entry, and answers the page behind the entry.
-fn end_of_entry<A: Allocator + Copy>(first: &Run, walk: &mut Walk<'_, A>) -> u64
+/// Passes the runs that go on in a run's entry, and the one after them. Answers the page behind the
+/// entry, and that run.
+#[inline(always)]
+fn end_of_entry<'a, A: Allocator + Copy>(
+    first: &'a Run,
+    walk: &mut Walk<'a, A>,
+) -> (u64, Option<&'a Run>)
     requires runs { AreRuns (first.now ∷ walk.old.rest) }
     requires ends { EndBy page_count (first.now ∷ walk.old.rest) }
-    ensures low { first.now.range.first ≤ result }
-    ensures runs { AreRuns walk.new.rest }
-    ensures ends { EndBy page_count walk.new.rest }
+    ensures low { first.now.range.first ≤ result.0 }
+    ensures runs { AreRuns (runs_from (option_map (λ r. r.now) result.1) walk.new.rest) }
+    ensures ends { EndBy page_count
+        (runs_from (option_map (λ r. r.now) result.1) walk.new.rest) }
     ensures entry { map_of (first.now ∷ walk.old.rest)
-        ≡ entry_up_to first.now result ∷ map_of walk.new.rest }
+        ≡ entry_up_to first.now result.0
+        ∷ map_of (runs_from (option_map (λ r. r.now) result.1) walk.new.rest) }
 {
-    let mut last = *first;
-    while let Some(run) = walk.peek() {
-        if !goes_on(&last, run) {
-            return last.range.first + last.range.pages;
+    let mut last = first;
+    while let Some(run) = walk.next() {
+        if !goes_on(last, run) {
+            return (last.range.first + last.range.pages, Some(run));
         }
-        last = *run;
-        let _ = walk.next();
+        last = run;
     }
-    last.range.first + last.range.pages
+    (last.range.first + last.range.pages, None)
 }
 
 impl<'a, A: Allocator + Copy> Iterator for MapEntries<'a, A> {
@@ -121,8 +132,9 @@ impl<'a, A: Allocator + Copy> Iterator for MapEntries<'a, A> {
     ghost remaining = { item_count (λ e. e) };
 
     fn next(&mut self) -> Option<Descriptor> {
-        let first = self.walk.next()?;
-        let end = end_of_entry(first, &mut self.walk);
+        let first = self.first?;
+        let (end, next) = end_of_entry(first, &mut self.walk);
+        self.first = next;
         Some(Descriptor {
             mtype: first.mtype,
             first: first.range.first,

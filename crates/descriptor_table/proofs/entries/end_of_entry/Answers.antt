@@ -2,7 +2,7 @@ use Rattle.std.proofs.Common.{◌∷◌, ◌∙◌, sym, subst, arith}
 use Rattle.page_ranges.specs.MemoryTypes.{page_count}
 use Rattle.descriptor_table.specs.Tables.{EndBy}
 use Rattle.descriptor_table.proofs.EntryRuns.{stretched_first}
-use Rattle.descriptor_table.proofs.Places.{passes, none_next, some_next, next_runs, next_from, next_goes_on, entry_is_done, last_entry_done}
+use Rattle.descriptor_table.proofs.Places.{next_runs, next_from, next_goes_on, entry_is_done, last_entry_done}
 use Rattle.descriptor_table.proofs.entries.end_of_entry.Goals as goal
 
 pub loop-run-init : goal.loop-run-init
@@ -18,23 +18,32 @@ loop-run-preserved g c =
     let i = c.loop-run.invariant in
     let old = c.loop-run.walk.rest in
     let new = c.next.new.self.rest in
-    let last = c.loop-run.last in
+    let last = c.loop-run.last.now in
     let run = c.in-Some.run'.now in
-    let p = passes c.loop-run.walk c.next.new.self _ run c.next.ensures (sym c.in-Some.ensures) in
+    let p = c.in-Some.ensures.0 in
     record {
-      low = omega (arith, next_from c.args.first.now last run old new p.0 i.runs);
-      runs = next_runs c.args.first.now last run old new p.0 i.runs;
-      ends = (subst (λ ss. EndBy page_count (last ∷ ss)) p.0 i.ends).1;
-      entry = i.entry ∙ next_goes_on c.args.first.now last run old new p.0 i.runs (sym c.goes_on.ensures ∙ c.if-not-goes_on.false);
+      low = omega (arith, i.low, next_from c.args.first.now last run old new p i.runs);
+      runs = next_runs c.args.first.now last run old new p i.runs;
+      ends = (subst (λ ss. EndBy page_count (last ∷ ss)) p i.ends).1;
+      entry = i.entry ∙ next_goes_on c.args.first.now last run old new p i.runs (sym c.goes_on.ensures ∙ c.if-not-goes_on.false);
     }
 
-pub returns-then-not-goes_on-clause-entry : goal.returns-then-not-goes_on-clause-entry
-returns-then-not-goes_on-clause-entry g c =
+pub returns-then-not-goes_on : goal.returns-then-not-goes_on
+returns-then-not-goes_on g c =
     let i = c.loop-run.invariant in
-    let next = some_next c.loop-run.walk.rest c.in-Some.run'.now (sym c.in-Some.ensures) in
-    i.entry ∙ entry_is_done c.args.first.now c.loop-run.last c.in-Some.run'.now c.loop-run.walk.rest next.0 next.1 i.runs (sym c.goes_on.ensures ∙ c.if-not-goes_on.true)
+    let old = c.loop-run.walk.rest in
+    let new = c.next.new.self.rest in
+    let last = c.loop-run.last.now in
+    let run = c.in-Some.run'.now in
+    let p = c.in-Some.ensures.0 in
+    record {
+      low = omega (arith, i.low);
+      runs = next_runs c.args.first.now last run old new p i.runs;
+      ends = (subst (λ ss. EndBy page_count (last ∷ ss)) p i.ends).1;
+      entry = i.entry ∙ entry_is_done c.args.first.now last run old new p i.runs (sym c.goes_on.ensures ∙ c.if-not-goes_on.true);
+    }
 
 pub returns-clause-entry : goal.returns-clause-entry
 returns-clause-entry g c =
     let i = c.loop-run.invariant in
-    i.entry ∙ last_entry_done c.args.first.now c.loop-run.last c.loop-run.walk.rest (none_next c.loop-run.walk.rest (sym c.in_default.ensures)) i.runs
+    i.entry ∙ last_entry_done c.args.first.now c.loop-run.last.now c.loop-run.walk.rest c.in_default.ensures.0 i.runs

@@ -14,18 +14,16 @@ use Rattle.descriptor_table.proofs.entries.MapEntries.from_leaf.Goals as goal
 rest_of_leaves : (ls : List (List Run)) (i : ℕ) → runs_in (take (length ls - i) (drop i ls)) ≡ runs_in (drop i ls)
 rest_of_leaves ls i = ap runs_in (take_all (length ls - i) (drop i ls) (omega (arith, length-drop i ls)))
 
-pub invariant_of-result : goal.invariant_of-result
-invariant_of-result g c =
-    let ls = c.args.leaves.now in
-    let i = c.args.index in (
-      rw (c.new-walk.ensures.rest ∙ rest_of_leaves c.args.leaves.now c.args.index) (behind_front ls i AreRuns runs-right c.requires.runs),
-      rw (c.new-walk.ensures.rest ∙ rest_of_leaves c.args.leaves.now c.args.index) (behind_front ls i (EndBy page_count) (all_append_right (λ r. r.range.first + r.range.pages ≤ page_count)) c.requires.ends),
-    )
+pub new-requires-clause-runs : goal.new-requires-clause-runs
+new-requires-clause-runs g c = subst AreRuns (sym (rest_of_leaves c.args.leaves.now c.args.index)) (behind_front c.args.leaves.now c.args.index AreRuns runs-right c.requires.runs)
+
+pub new-requires-clause-ends : goal.new-requires-clause-ends
+new-requires-clause-ends g c = subst (EndBy page_count) (sym (rest_of_leaves c.args.leaves.now c.args.index)) (behind_front c.args.leaves.now c.args.index (EndBy page_count) (all_append_right (λ r. r.range.first + r.range.pages ≤ page_count)) c.requires.ends)
 
 pub returns-in_default : goal.returns-in_default
 returns-in_default g c =
     let before = c.runs_before.result.now in
-    ap (λ rs. memory_map (pages_of rs)) (c.new-walk.ensures.rest ∙ rest_of_leaves c.args.leaves.now c.args.index) ∙ all_entries c.args.leaves.now c.args.index before c.runs_before.ensures (no_last before c.in_default.ensures.value)
+    c.new.ensures ∙ ap (λ rs. memory_map (pages_of rs)) (rest_of_leaves c.args.leaves.now c.args.index) ∙ all_entries c.args.leaves.now c.args.index before c.runs_before.ensures (no_last before c.in_default.ensures.value)
 
 pub end_of_entry-requires-clause-runs : goal.end_of_entry-requires-clause-runs
 end_of_entry-requires-clause-runs g c =
@@ -41,5 +39,5 @@ pub returns : goal.returns
 returns g c =
     let last = c.in-Some.last.now in
     let ls = c.args.leaves.now in
-    later_entries ls c.args.index c.runs_before.result.now c.runs_before.ensures last c.in-Some.ensures.value _ (memory_map (pages_of c.end_of_entry.new.walk.rest)) c.requires.runs
+    later_entries ls c.args.index c.runs_before.result.now c.runs_before.ensures last c.in-Some.ensures.value _ _ c.requires.runs
     (ap (λ rs. memory_map (pages_of (last ∷ rs))) (sym (c.new-walk.ensures.rest ∙ rest_of_leaves c.args.leaves.now c.args.index)) ∙ c.end_of_entry.ensures.entry)
