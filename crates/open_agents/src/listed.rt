@@ -57,7 +57,8 @@ fn nth_near(near: Near<'_>, handle: u64, guid: Uuid, index: usize) -> Option<Ope
 /// Writes the items of an interface that are near it, as many as fit, and returns how many there are.
 fn write_near(near: Near<'_>, handle: u64, guid: Uuid, out: &mut [OpenItem]) -> usize
     ensures count { result ≡ length (items_on (items_near near.entry) handle guid) }
-    ensures written { out.new ≡ written_over (items_on (items_near near.entry) handle guid) out.old }
+    ensures written { out.new
+        ≡ written_over (items_on (items_near near.entry) handle guid) out.old }
 {
     let mut count = 0;
     for place in near.places {
