@@ -1,10 +1,12 @@
 -- The open items at their places, and where those on each handle and of each controller are, in
 -- blocks.
-use Rattle.std.specs.Prelude.{◌≡◌, ℕ, ◌+◌, ◌/◌, ◌==◌, ◌||◌, Bool, true, false, cond, List, [], ◌∷◌, Option, Some, None, slice_index_or}
-use Rattle.std.specs.List.{AllByRecursion}
+use Rattle.std.specs.Prelude.{◌≡◌, ℕ, ◌+◌, ◌/◌, ◌==◌, ◌||◌, ◌&&◌, Bool, true, false, cond, List, [], ◌∷◌, Option, Some, None, slice_index_or, IfSome, IfNone}
+use Rattle.std.specs.List.{list_any, AllByRecursion}
 use Rattle.guid_handles.specs.Sorting.{Ascending}
 use Rattle.guid_handles.specs.Blocks.{Block, block_at}
+use Rattle.guid_handles.specs.Places.{has_place}
 use Rattle.open_agents.specs.declared.items.OpenRecord.{OpenRecord}
+use Rattle.open_agents.specs.declared.near.Near.{Near}
 use Rattle.open_agents.specs.OpenItems.{is_equal_item}
 
 -- ---- items at places
@@ -27,6 +29,10 @@ abbrev pub items_at : List (Option OpenRecord) → List ℕ → List OpenRecord
 items_at slots [] = []
 items_at slots (k ∷ ks) = with_first (item_at slots k) (items_at slots ks)
 
+-- the items near a handle
+abbrev pub items_near : Near → List OpenRecord
+items_near near = items_at near.slots.now near.places.now
+
 abbrev pub passes : (OpenRecord → Bool) → Option OpenRecord → Bool
 passes p None = false
 passes p (Some o) = p o
@@ -34,6 +40,26 @@ passes p (Some o) = p o
 -- an item that passes a test is at a place
 abbrev pub HoldsAt : (OpenRecord → Bool) → List (Option OpenRecord) → ℕ → Type 0
 HoldsAt p slots at = passes p (item_at slots at) ≡ true
+
+-- ---- items near a handle
+
+-- Where a place is returned, an item that passes a test is there.
+abbrev pub Finds : (OpenRecord → Bool) → Near → Option ℕ → Type 0
+Finds p near result = IfSome result (HoldsAt p near.slots.now)
+
+-- Where no place is returned, no item near the handle passes the test.
+abbrev pub MissesNone : (OpenRecord → Bool) → Near → Option ℕ → Type 0
+MissesNone p near result = IfNone result (list_any p (items_near near) ≡ false)
+
+-- an item near a handle that passes a test is at a place
+abbrev pub is_near_at : (OpenRecord → Bool) → Near → ℕ → Bool
+is_near_at p near k = has_place near.places.now k && passes p (item_at near.slots.now k)
+
+-- ---- the places of items
+
+-- some places are those of the items that pass a test
+abbrev pub ArePlacesOf : (OpenRecord → Bool) → List (Option OpenRecord) → List ℕ → Type 0
+ArePlacesOf p slots places = (k : ℕ) → has_place places k ≡ passes p (item_at slots k)
 
 -- the places of the items that pass a test, where the first place has a number
 abbrev pub places_from : ℕ → (OpenRecord → Bool) → List (Option OpenRecord) → List ℕ

@@ -32,6 +32,19 @@ is_equal_item n guid agent controller a o =
 abbrev pub manages : ℕ → OpenRecord → Bool
 manages n o = is_for_driver o.attributes && (o.controller == n)
 
+-- an item is of an agent, with some attributes, on an interface
+abbrev pub is_open_with : ℕ → List ℕ → ℕ → ℕ → OpenRecord → Bool
+is_open_with n guid agent a o = is_open_on n guid o && ((o.agent == agent) && (o.attributes == a))
+
+-- an item is for a driver, on an interface
+abbrev pub is_driving : ℕ → List ℕ → OpenRecord → Bool
+is_driving n guid o = is_open_on n guid o && is_for_driver o.attributes
+
+-- an item is for a driver or exclusive, on an interface
+abbrev pub is_holding : ℕ → List ℕ → OpenRecord → Bool
+is_holding n guid o =
+    is_open_on n guid o && (is_for_driver o.attributes || is_exclusive o.attributes)
+
 -- an item names a handle
 abbrev pub names : ℕ → OpenRecord → Bool
 names n o = (o.handle == n) || ((o.agent == n) || (o.controller == n))
@@ -59,12 +72,20 @@ is_driven opens n guid = list_any (λ i. is_for_driver i.attributes) (items_on o
 abbrev pub keeps : ℕ → Bool
 keeps a = (a == 0x8) || (a == 0x20)
 
+-- an item keeps an interface
+abbrev pub is_keeping : ℕ → List ℕ → OpenRecord → Bool
+is_keeping n guid o = is_open_on n guid o && keeps o.attributes
+
 abbrev pub is_kept : List OpenRecord → ℕ → List ℕ → Bool
 is_kept opens n guid = list_any (λ i. keeps i.attributes) (items_on opens n guid)
 
+-- the controller and the agent of an item
+abbrev pub manager_of : OpenRecord → ℕ × ℕ
+manager_of o = (o.controller, o.agent)
+
 -- the controller and the agent of each item that makes them manage a handle
 abbrev pub managers_of : List OpenRecord → ℕ → List (ℕ × ℕ)
-managers_of opens n = map (λ o. (o.controller, o.agent)) (filter (manages n) opens)
+managers_of opens n = map manager_of (filter (manages n) opens)
 
 -- an item makes its pair manage one of some handles
 abbrev pub manages_any : List ℕ → OpenRecord → Bool
@@ -72,18 +93,23 @@ manages_any ns o = is_for_driver o.attributes && list_any (λ n. o.controller ==
 
 -- the controller and the agent of each item that makes them manage one of some handles
 abbrev pub managers_of_any : List OpenRecord → List ℕ → List (ℕ × ℕ)
-managers_of_any opens ns = map (λ o. (o.controller, o.agent)) (filter (manages_any ns) opens)
+managers_of_any opens ns = map manager_of (filter (manages_any ns) opens)
 
 -- ---- what changes
 
 abbrev pub counted : (OpenRecord → Bool) → OpenRecord → OpenRecord
 counted is_equal o = cond (is_equal o) (record o { count = o.count + 1 }) o
 
+-- an equal item's count rises
+abbrev pub with_count : ℕ → List ℕ → ℕ → ℕ → ℕ → List OpenRecord → List OpenRecord
+with_count n guid agent controller a opens =
+    map (counted (is_equal_item n guid agent controller a)) opens
+
 -- An equal item's count rises; without one there is a new item of count 1, but none for agent 0.
 abbrev pub with_item : ℕ → List ℕ → ℕ → ℕ → ℕ → List OpenRecord → List OpenRecord
 with_item n guid agent controller a opens =
     cond (list_any (is_equal_item n guid agent controller a) opens)
-    (map (counted (is_equal_item n guid agent controller a)) opens)
+    (with_count n guid agent controller a opens)
     (cond (agent == 0) opens
     (opens
     ++ record {

@@ -7,7 +7,7 @@ use Rattle.guid_handles.specs.HandleChanges.{is_dead}
 use Rattle.open_agents.specs.declared.items.OpenRecord.{OpenRecord}
 use Rattle.open_agents.specs.declared.items.Decision.{Decision}
 use Rattle.open_agents.specs.declared.items.Decision.TheVariants.{Refuse, Count, Add, StopFirst}
-use Rattle.open_agents.specs.OpenItems.{is_for_driver, is_exclusive, is_open_on, is_equal_item}
+use Rattle.open_agents.specs.OpenItems.{is_for_driver, is_exclusive, is_open_on, is_equal_item, is_open_with, is_holding}
 
 -- ---- attributes
 
@@ -41,14 +41,11 @@ has_equal opens n guid agent controller a = list_any (is_equal_item n guid agent
 
 -- an item of an agent, with some attributes
 abbrev pub has_of_agent : List OpenRecord → ℕ → List ℕ → ℕ → ℕ → Bool
-has_of_agent opens n guid agent a =
-    list_any (λ o. is_open_on n guid o && ((o.agent == agent) && (o.attributes == a))) opens
+has_of_agent opens n guid agent a = list_any (is_open_with n guid agent a) opens
 
 -- an item for a driver or an exclusive one
 abbrev pub has_holder : List OpenRecord → ℕ → List ℕ → Bool
-has_holder opens n guid =
-    list_any
-    (λ o. is_open_on n guid o && (is_for_driver o.attributes || is_exclusive o.attributes)) opens
+has_holder opens n guid = list_any (is_holding n guid) opens
 
 abbrev pub has_exclusive : List OpenRecord → ℕ → List ℕ → Bool
 has_exclusive opens n guid = list_any (λ o. is_open_on n guid o && is_exclusive o.attributes) opens

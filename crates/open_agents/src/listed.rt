@@ -1,7 +1,7 @@
 //! Open items, one after the other.
 ghost use Rattle.std.specs.Prelude.{◌≡◌, length, slice_get, slice_set};
 ghost use Rattle.guid_handles.specs.HandleTables.{written_over};
-ghost use Rattle.open_agents.specs.Blocks.{items_at, items_in};
+ghost use Rattle.open_agents.specs.Blocks.{items_in, items_near};
 ghost use Rattle.open_agents.specs.Listed.{items_of};
 ghost use Rattle.open_agents.specs.OpenItems.{items_on};
 
@@ -38,9 +38,7 @@ impl<A: Allocator + Copy> Opens<A> {
 
 /// The item at an index among those of an interface that are near it.
 fn nth_near(near: Near<'_>, handle: u64, guid: Uuid, index: usize) -> Option<OpenItem>
-    ensures { result
-        ≡ slice_get (items_on (items_at near.entry.slots.now near.entry.places.now) handle guid)
-        index }
+    ensures { result ≡ slice_get (items_on (items_near near.entry) handle guid) index }
 {
     let mut left = index;
     for place in near.places {
@@ -58,11 +56,9 @@ fn nth_near(near: Near<'_>, handle: u64, guid: Uuid, index: usize) -> Option<Ope
 
 /// Writes the items of an interface that are near it, as many as fit, and returns how many there are.
 fn write_near(near: Near<'_>, handle: u64, guid: Uuid, out: &mut [OpenItem]) -> usize
-    ensures count { result
-        ≡ length (items_on (items_at near.entry.slots.now near.entry.places.now) handle guid) }
+    ensures count { result ≡ length (items_on (items_near near.entry) handle guid) }
     ensures written { out.new
-        ≡ written_over (items_on (items_at near.entry.slots.now near.entry.places.now) handle guid)
-        out.old }
+        ≡ written_over (items_on (items_near near.entry) handle guid) out.old }
 {
     let mut count = 0;
     for place in near.places {

@@ -6,7 +6,8 @@ ghost use Rattle.guid_handles.specs.HandleChanges.{is_dead as dead};
 ghost use Rattle.open_agents.specs.OpenItems as spec;
 ghost use Rattle.open_agents.specs.OpenItems.{is_closed_by, names, items_on, managers_of, managers_of_any, with_item, CanCount, without_items};
 ghost use Rattle.open_agents.specs.OpenRule as rule;
-ghost use Rattle.open_agents.specs.Blocks.{is_near, items_at, items_in};
+ghost use Rattle.open_agents.specs.OpenRule.{has_equal};
+ghost use Rattle.open_agents.specs.Blocks.{is_near, items_in, items_near};
 
 use crate::attributes::{
     BY_CHILD_CONTROLLER, BY_DRIVER, EXCLUSIVE, is_exclusive, is_for_driver, is_known, needs_agent,
@@ -79,7 +80,7 @@ impl<A: Allocator + Copy> Opens<A> {
     /// The items in the block of a handle: those on it, and those of it as a controller, if it is not
     /// 0, are among them.
     pub fn near(&self, handle: u64) -> Near<'_>
-        ensures { items_at result.slots.now result.places.now ≡ filter (is_near handle) self.now }
+        ensures { items_near result ≡ filter (is_near handle) self.now }
     {
         self.items.near(handle)
     }
@@ -284,7 +285,7 @@ impl<A: Allocator + Copy> Opens<A> {
         ensures ok { OnOk result
             (self.new ≡ with_item handle guid agent controller attributes self.old) }
         ensures err { OnErr result (self.new ≡ self.old) }
-        ensures counts { rule.has_equal self.old handle guid agent controller attributes ≡ true
+        ensures counts { has_equal self.old handle guid agent controller attributes ≡ true
             → IsOk result }
         ensures no_agent { agent ≡ 0 → IsOk result }
     {
@@ -376,7 +377,7 @@ fn decide_among<A: Allocator + Copy>(
 ) -> Decision
     requires { carried ≡ carries handles.now guid handle }
     ensures { result ≡ rule.open_rule handles.now
-        (items_at on.entry.slots.now on.entry.places.now) handle guid agent controller attributes }
+        (items_near on.entry) handle guid agent controller attributes }
 {
     if !is_known(attributes)
         || !is_live_if(handles, carried, handle, guid)
@@ -462,11 +463,8 @@ fn items_among<A: Allocator>(
     handle: u64,
     guid: Uuid,
 ) -> Result<Vec<OpenItem, A>, AllocError>
-    ensures items { IfOk result
-        (λ v. v.items
-        ≡ items_on (items_at near.entry.slots.now near.entry.places.now) handle guid) }
-    ensures none { items_on (items_at near.entry.slots.now near.entry.places.now) handle guid ≡ []
-        → IsOk result }
+    ensures items { IfOk result (λ v. v.items ≡ items_on (items_near near.entry) handle guid) }
+    ensures none { items_on (items_near near.entry) handle guid ≡ [] → IsOk result }
 {
     let mut found = Vec::new(alloc);
     for place in near.places {
@@ -485,10 +483,8 @@ fn managers_near<A: Allocator>(
     near: Near<'_>,
     handle: u64,
 ) -> Result<Vec<(u64, u64), A>, AllocError>
-    ensures pairs { IfOk result
-        (λ v. v.items ≡ managers_of (items_at near.entry.slots.now near.entry.places.now) handle) }
-    ensures none { managers_of (items_at near.entry.slots.now near.entry.places.now) handle ≡ []
-        → IsOk result }
+    ensures pairs { IfOk result (λ v. v.items ≡ managers_of (items_near near.entry) handle) }
+    ensures none { managers_of (items_near near.entry) handle ≡ [] → IsOk result }
 {
     let mut found = Vec::new(alloc);
     for place in near.places {

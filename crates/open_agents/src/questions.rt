@@ -2,8 +2,8 @@
 ghost use Rattle.std.specs.Prelude.{◌≡◌, ◌==◌, ◌&&◌, ◌||◌, false, IfSome, IfNone};
 ghost use Rattle.std.specs.List.{list_any};
 ghost use Rattle.open_agents.specs.OpenItems as spec;
-ghost use Rattle.open_agents.specs.OpenItems.{is_closed_by};
-ghost use Rattle.open_agents.specs.Blocks.{HoldsAt, items_at, items_in};
+ghost use Rattle.open_agents.specs.OpenItems.{is_closed_by, is_equal_item, is_of_pair};
+ghost use Rattle.open_agents.specs.Blocks.{Finds, HoldsAt, MissesNone, items_in, items_near};
 ghost use Rattle.open_agents.specs.OpenRule as rule;
 
 use crate::attributes::{BY_CHILD_CONTROLLER, BY_DRIVER, EXCLUSIVE, is_exclusive, is_for_driver};
@@ -21,9 +21,7 @@ pub(crate) fn has_equal(
     attributes: u32,
 ) -> bool
     ensures { result
-        ≡ rule.has_equal
-        (items_at near.entry.slots.now near.entry.places.now) handle guid agent controller
-        attributes }
+        ≡ rule.has_equal (items_near near.entry) handle guid agent controller attributes }
 {
     for place in near.places {
         if let Some(o) = item_at(near.slots, *place) {
@@ -43,9 +41,7 @@ pub(crate) fn has_of_agent(
     agent: u64,
     attributes: u32,
 ) -> bool
-    ensures { result
-        ≡ rule.has_of_agent
-        (items_at near.entry.slots.now near.entry.places.now) handle guid agent attributes }
+    ensures { result ≡ rule.has_of_agent (items_near near.entry) handle guid agent attributes }
 {
     for place in near.places {
         if let Some(o) = item_at(near.slots, *place) {
@@ -59,17 +55,14 @@ pub(crate) fn has_of_agent(
 
 /// Whether an item is of an agent, with some attributes, on an interface.
 fn is_of_agent(o: &OpenRecord, handle: u64, guid: Uuid, agent: u64, attributes: u32) -> bool
-    ensures { result
-        ≡ (spec.is_open_on handle guid o.now
-        && ((o.now.agent == agent) && (o.now.attributes == attributes))) }
+    ensures { result ≡ spec.is_open_with handle guid agent attributes o.now }
 {
     o.agent == agent && o.attributes == attributes && is_open_on(o, handle, guid)
 }
 
 /// Whether an interface is open for a driver or exclusively.
 pub(crate) fn is_held(near: Near<'_>, handle: u64, guid: Uuid) -> bool
-    ensures { result
-        ≡ rule.has_holder (items_at near.entry.slots.now near.entry.places.now) handle guid }
+    ensures { result ≡ rule.has_holder (items_near near.entry) handle guid }
 {
     for place in near.places {
         if let Some(o) = item_at(near.slots, *place) {
@@ -83,17 +76,14 @@ pub(crate) fn is_held(near: Near<'_>, handle: u64, guid: Uuid) -> bool
 
 /// Whether an item is for a driver or exclusive, on an interface.
 fn holds(o: &OpenRecord, handle: u64, guid: Uuid) -> bool
-    ensures { result
-        ≡ (spec.is_open_on handle guid o.now
-        && (spec.is_for_driver o.now.attributes || spec.is_exclusive o.now.attributes)) }
+    ensures { result ≡ spec.is_holding handle guid o.now }
 {
     (is_for_driver(o.attributes) || is_exclusive(o.attributes)) && is_open_on(o, handle, guid)
 }
 
 /// Whether an interface is open exclusively.
 pub(crate) fn has_exclusive(near: Near<'_>, handle: u64, guid: Uuid) -> bool
-    ensures { result
-        ≡ rule.has_exclusive (items_at near.entry.slots.now near.entry.places.now) handle guid }
+    ensures { result ≡ rule.has_exclusive (items_near near.entry) handle guid }
 {
     for place in near.places {
         if let Some(o) = item_at(near.slots, *place) {
@@ -114,9 +104,7 @@ fn excludes(o: &OpenRecord, handle: u64, guid: Uuid) -> bool
 
 /// Whether a driver has an interface open.
 pub(crate) fn is_any_driving(near: Near<'_>, handle: u64, guid: Uuid) -> bool
-    ensures { result
-        ≡ list_any (λ o. spec.is_open_on handle guid o && spec.is_for_driver o.attributes)
-        (items_at near.entry.slots.now near.entry.places.now) }
+    ensures { result ≡ list_any (spec.is_driving handle guid) (items_near near.entry) }
 {
     for place in near.places {
         if let Some(o) = item_at(near.slots, *place) {
@@ -130,15 +118,14 @@ pub(crate) fn is_any_driving(near: Near<'_>, handle: u64, guid: Uuid) -> bool
 
 /// Whether an item is for a driver, on an interface.
 fn is_driving(o: &OpenRecord, handle: u64, guid: Uuid) -> bool
-    ensures { result ≡ (spec.is_open_on handle guid o.now && spec.is_for_driver o.now.attributes) }
+    ensures { result ≡ spec.is_driving handle guid o.now }
 {
     is_for_driver(o.attributes) && is_open_on(o, handle, guid)
 }
 
 /// Whether an item keeps an interface.
 pub(crate) fn is_any_keeping(near: Near<'_>, handle: u64, guid: Uuid) -> bool
-    ensures { result ≡ list_any (λ o. spec.is_open_on handle guid o && spec.keeps o.attributes)
-        (items_at near.entry.slots.now near.entry.places.now) }
+    ensures { result ≡ list_any (spec.is_keeping handle guid) (items_near near.entry) }
 {
     for place in near.places {
         if let Some(o) = item_at(near.slots, *place) {
@@ -152,7 +139,7 @@ pub(crate) fn is_any_keeping(near: Near<'_>, handle: u64, guid: Uuid) -> bool
 
 /// Whether an item is for a child, or exclusive and of no driver, on an interface.
 fn keeps(o: &OpenRecord, handle: u64, guid: Uuid) -> bool
-    ensures { result ≡ (spec.is_open_on handle guid o.now && spec.keeps o.now.attributes) }
+    ensures { result ≡ spec.is_keeping handle guid o.now }
 {
     (o.attributes == BY_CHILD_CONTROLLER || o.attributes == EXCLUSIVE)
         && is_open_on(o, handle, guid)
@@ -181,8 +168,7 @@ fn names_handle(o: &OpenRecord, handle: u64) -> bool
 
 /// The first item for a driver on an interface that is not exclusive.
 pub(crate) fn first_driver_item(near: Near<'_>, handle: u64, guid: Uuid) -> Option<OpenRecord>
-    ensures { result
-        ≡ rule.driver_item (items_at near.entry.slots.now near.entry.places.now) handle guid }
+    ensures { result ≡ rule.driver_item (items_near near.entry) handle guid }
 {
     for place in near.places {
         if let Some(o) = item_at(near.slots, *place) {
@@ -203,12 +189,10 @@ pub(crate) fn find_equal(
     controller: u64,
     attributes: u32,
 ) -> Option<usize>
-    ensures there { IfSome result
-        (HoldsAt
-        (spec.is_equal_item handle guid agent controller attributes) near.entry.slots.now) }
-    ensures none { IfNone result
-        (list_any (spec.is_equal_item handle guid agent controller attributes)
-        (items_at near.entry.slots.now near.entry.places.now) ≡ false) }
+    ensures there { Finds
+        (is_equal_item handle guid agent controller attributes) near.entry result }
+    ensures none { MissesNone
+        (is_equal_item handle guid agent controller attributes) near.entry result }
 {
     for place in near.places {
         if let Some(o) = item_at(near.slots, *place) {
@@ -228,11 +212,8 @@ pub(crate) fn find_closed(
     agent: u64,
     controller: u64,
 ) -> Option<usize>
-    ensures there { IfSome result
-        (HoldsAt (is_closed_by handle guid agent controller) near.entry.slots.now) }
-    ensures none { IfNone result
-        (list_any (is_closed_by handle guid agent controller)
-        (items_at near.entry.slots.now near.entry.places.now) ≡ false) }
+    ensures there { Finds (is_closed_by handle guid agent controller) near.entry result }
+    ensures none { MissesNone (is_closed_by handle guid agent controller) near.entry result }
 {
     for place in near.places {
         if let Some(o) = item_at(near.slots, *place) {
@@ -246,10 +227,8 @@ pub(crate) fn find_closed(
 
 /// The place of an item of an interface.
 pub(crate) fn find_open_on(near: Near<'_>, handle: u64, guid: Uuid) -> Option<usize>
-    ensures there { IfSome result (HoldsAt (spec.is_open_on handle guid) near.entry.slots.now) }
-    ensures none { IfNone result
-        (list_any (spec.is_open_on handle guid)
-        (items_at near.entry.slots.now near.entry.places.now) ≡ false) }
+    ensures there { Finds (spec.is_open_on handle guid) near.entry result }
+    ensures none { MissesNone (spec.is_open_on handle guid) near.entry result }
 {
     for place in near.places {
         if let Some(o) = item_at(near.slots, *place) {
@@ -263,11 +242,8 @@ pub(crate) fn find_open_on(near: Near<'_>, handle: u64, guid: Uuid) -> Option<us
 
 /// The place of an item of a controller and an agent, among those near.
 pub(crate) fn find_of_pair(near: Near<'_>, controller: u64, agent: u64) -> Option<usize>
-    ensures there { IfSome result
-        (HoldsAt (spec.is_of_pair controller agent) near.entry.slots.now) }
-    ensures none { IfNone result
-        (list_any (spec.is_of_pair controller agent)
-        (items_at near.entry.slots.now near.entry.places.now) ≡ false) }
+    ensures there { Finds (spec.is_of_pair controller agent) near.entry result }
+    ensures none { MissesNone (spec.is_of_pair controller agent) near.entry result }
 {
     for place in near.places {
         if let Some(o) = item_at(near.slots, *place) {
@@ -281,10 +257,8 @@ pub(crate) fn find_of_pair(near: Near<'_>, controller: u64, agent: u64) -> Optio
 
 /// The place of an item that names a handle, among those near.
 pub(crate) fn find_naming(near: Near<'_>, handle: u64) -> Option<usize>
-    ensures there { IfSome result (HoldsAt (spec.names handle) near.entry.slots.now) }
-    ensures none { IfNone result
-        (list_any (spec.names handle) (items_at near.entry.slots.now near.entry.places.now)
-        ≡ false) }
+    ensures there { Finds (spec.names handle) near.entry result }
+    ensures none { MissesNone (spec.names handle) near.entry result }
 {
     for place in near.places {
         if let Some(o) = item_at(near.slots, *place) {
@@ -304,7 +278,7 @@ pub(crate) fn find_last_of_pair(
 ) -> Option<usize>
     ensures there { IfSome result (HoldsAt (spec.is_of_pair controller agent) slots.now) }
     ensures none { IfNone result
-        (list_any (spec.is_of_pair controller agent) (items_in slots.now) ≡ false) }
+        (list_any (is_of_pair controller agent) (items_in slots.now) ≡ false) }
 {
     for place in (0..slots.len()).rev() {
         if let Some(o) = &slots[place] {

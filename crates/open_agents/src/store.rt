@@ -2,9 +2,9 @@
 ghost use Rattle.std.specs.Prelude.{◌≡◌, ◌<◌, ◌/◌, ◌^◌, ◌==◌, ◌++◌, ◌∷◌, [], None, true, false, length, map, is_some, slice_set, vec_len, vec_capacity, IfOk, OnOk, OnErr};
 ghost use Rattle.std.specs.List.{filter, list_any, AllByRecursion};
 ghost use Rattle.open_agents.specs.OpenItems as spec;
-ghost use Rattle.open_agents.specs.OpenItems.{CanCount};
+ghost use Rattle.open_agents.specs.OpenItems.{CanCount, is_equal_item, with_count};
 ghost use Rattle.open_agents.specs.Blocks as other;
-ghost use Rattle.open_agents.specs.Blocks.{HoldsAt, Notes, are_equal, block_size, is_near, item_at as there, items_at, items_in, places_from};
+ghost use Rattle.open_agents.specs.Blocks.{HoldsAt, Notes, are_equal, block_size, is_near, item_at as there, items_in, items_near, places_from};
 
 use crate::items::OpenRecord;
 use crate::near::Near;
@@ -90,8 +90,7 @@ impl<A: Allocator + Copy> ItemStore<A> {
     pub(crate) fn near(&self, handle: u64) -> Near<'_>
         ensures slots { result.slots.now ≡ self.now }
         ensures places { result.places.now ≡ places_from 0 (is_near handle) self.now }
-        ensures items { items_at result.slots.now result.places.now ≡ filter (is_near handle)
-            (items_in self.now) }
+        ensures items { items_near result ≡ filter (is_near handle) (items_in self.now) }
     {
         Near {
             slots: self.slots.as_slice(),
@@ -118,11 +117,10 @@ impl<A: Allocator + Copy> ItemStore<A> {
         attributes: u32,
     )
         requires there { HoldsAt
-            (spec.is_equal_item handle guid agent controller attributes) self.old place }
+            (is_equal_item handle guid agent controller attributes) self.old place }
         requires counts { CanCount handle guid agent controller attributes (items_in self.old) }
         ensures { items_in self.new
-            ≡ map (spec.counted (spec.is_equal_item handle guid agent controller attributes))
-            (items_in self.old) }
+            ≡ with_count handle guid agent controller attributes (items_in self.old) }
     {
         if let Some(item) = self.slots[place] {
             let mut counted = item;
