@@ -3,3 +3,4 @@ pub mod SpanSteps
 pub mod Fronts
 pub mod PathMatches
 pub mod SharedFronts
+pub mod Walks

@@ -2,11 +2,11 @@
 use Rattle.std.proofs.Common.{◌≡◌, ℕ, ◌+◌, ◌<◌, ◌≤◌, ◌++◌, nat_lt, List, length, take, drop, get_or, IfSome, Option, Some, None, option_map, option_and_then, refl, sym, ap, ◌∙◌, arith, append_assoc, inl, inr, lt-ltb, le-ltb}
 use Rattle.std.proofs.lemmas.List.{drop_more, length-append, take_at}
 use Rattle.std.proofs.lemmas.Bool.{cases_Bool, cases_lt}
-use Rattle.std.specs.List.{AllByRecursion, concat, cons_option, filter_map}
+use Rattle.std.specs.List.{concat, cons_option, filter_map}
 use Rattle.pool_services.specs.Extents.{Extent, tail_at}
 use Rattle.guid_handles.specs.HandleTables.{HandleTable}
 use Rattle.device_path_locate.specs.declared.spans.PathSpan.{PathSpan}
-use Rattle.device_path_locate.specs.DevicePaths.{IsPathNode, Node, end_of_path, first_instance, path_in, span_of}
+use Rattle.device_path_locate.specs.DevicePaths.{Node, end_of_path, first_instance, path_in, span_of}
 use Rattle.device_path_locate.specs.Locating.{located_bytes, located_match, located_path, longer_of, longest, path_at, whole_bytes}
 use Rattle.device_path_locate.specs.Reading.{IsBestMatch, IsFoundFrom, longer_if, matched_bytes}
 use Rattle.device_path_locate.proofs.NodeLists.{begins_with}

@@ -1,4 +1,5 @@
 pub mod DevicePaths
 pub mod Locating
 pub mod Reading
+pub mod Boundaries
 pub mod Laws

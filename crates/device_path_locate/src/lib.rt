@@ -2,6 +2,7 @@
 #![tactic(auto)]
 
 mod laws;
+mod marks;
 mod matches;
 mod nodes;
 mod prefixes;

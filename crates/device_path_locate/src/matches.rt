@@ -1,10 +1,11 @@
 //! The handles that device paths lead to.
 ghost use Rattle.std.specs.Prelude.{◌≡◌, ◌&&◌, ◌≤◌, ◌<◌, IfOk, IfSome, length, option_map};
-ghost use Rattle.std.specs.List.{concat};
+ghost use Rattle.std.specs.List.{AllByRecursion, concat};
 ghost use Rattle.device_path_locate.specs.DevicePaths.{first_instance, path_in};
 ghost use Rattle.device_path_locate.specs.Locating.{are_same, device_path_guid, has_path_installed, is_path_of_any, located, located_bytes, path_at, path_of, whole_bytes};
 ghost use Rattle.device_path_locate.specs.Reading.{IsBestMatch, IsBoundary, IsMatch, longer_if, matched_bytes};
 
+use crate::marks::{MARKS, marks_of};
 use crate::prefixes::matched_size;
 use crate::spans::read_path;
 use guid_handles::Handles;
@@ -12,6 +13,9 @@ use page_ranges::Status;
 use pool_services::Pools;
 use std::alloc::Allocator;
 use uuid::Uuid;
+
+/// So many bytes have no more nodes than there would be marks.
+const UNMARKED: usize = 4 * MARKS;
 
 /// The GUID of device paths (EFI_DEVICE_PATH_PROTOCOL_GUID), 09576e91-6d3f-11d2-8e39-00a0c969723b.
 pub fn device_path_guid() -> Uuid
@@ -54,20 +58,22 @@ fn whole_of<'a, A: Allocator + Copy>(
 }
 
 /// A handle whose path matches the bytes of some nodes, with how many it matches: all of its own. One that
-/// matches fewer bytes than `from`, where a node ends, may be passed over.
+/// matches fewer bytes than `from`, where a node ends, may be passed over. Nodes end at the marks too.
 fn match_of<A: Allocator + Copy>(
     handles: &Handles<A>,
     pools: &Pools<A>,
     handle: u64,
     nodes: &[u8],
     from: usize,
+    marks: &[usize],
 ) -> Option<(u64, usize)>
-    requires { IsBoundary nodes.now from }
+    requires boundary { IsBoundary nodes.now from }
+    requires marked { AllByRecursion (IsBoundary nodes.now) marks.now }
     ensures found { IsMatch handles.now pools.now handle nodes.now from result }
     ensures boundary { IfSome result (λ m. IsBoundary nodes.now m.1) }
 {
     let path = pools.tail(handles.interface(handle, device_path_guid())?)?;
-    Some((handle, matched_size(path, nodes, from)?))
+    Some((handle, matched_size(path, nodes, from, marks)?))
 }
 
 /// How many bytes a match has, none if there is none.
@@ -92,6 +98,44 @@ fn longer(best: Option<(u64, usize)>, found: Option<(u64, usize)>) -> Option<(u6
 }
 
 /// The longest match of the bytes of some nodes among the handles that carry a GUID, of equally long
+/// ones that of the lowest handle. Nodes end at the marks.
+fn best_from<A: Allocator + Copy>(
+    handles: &Handles<A>,
+    pools: &Pools<A>,
+    guid: Uuid,
+    nodes: &[u8],
+    marks: &[usize],
+) -> Option<(u64, usize)>
+    requires { AllByRecursion (IsBoundary nodes.now) marks.now }
+    ensures found { IsBestMatch handles.now pools.now guid nodes.now result }
+    ensures within { IfSome result (λ m. m.1 ≤ length nodes.now) }
+{
+    let holders = handles.by_protocol(guid);
+    let mut best = None;
+    for handle in holders {
+        best = longer(
+            best,
+            match_of(handles, pools, *handle, nodes, bytes_of(best), marks),
+        );
+    }
+    best
+}
+
+/// The same of many nodes. They are walked over beforehand, so that the paths which end in one of them
+/// do not each cost a walk over all.
+fn best_of_many<A: Allocator + Copy>(
+    handles: &Handles<A>,
+    pools: &Pools<A>,
+    guid: Uuid,
+    nodes: &[u8],
+) -> Option<(u64, usize)>
+    ensures found { IsBestMatch handles.now pools.now guid nodes.now result }
+    ensures within { IfSome result (λ m. m.1 ≤ length nodes.now) }
+{
+    best_from(handles, pools, guid, nodes, &marks_of(nodes))
+}
+
+/// The longest match of the bytes of some nodes among the handles that carry a GUID, of equally long
 /// ones that of the lowest handle.
 fn best_match<A: Allocator + Copy>(
     handles: &Handles<A>,
@@ -102,15 +146,11 @@ fn best_match<A: Allocator + Copy>(
     ensures found { IsBestMatch handles.now pools.now guid nodes.now result }
     ensures within { IfSome result (λ m. m.1 ≤ length nodes.now) }
 {
-    let holders = handles.by_protocol(guid);
-    let mut best = None;
-    for handle in holders {
-        best = longer(
-            best,
-            match_of(handles, pools, *handle, nodes, bytes_of(best)),
-        );
+    if nodes.len() <= UNMARKED {
+        best_from(handles, pools, guid, nodes, &[])
+    } else {
+        best_of_many(handles, pools, guid, nodes)
     }
-    best
 }
 
 /// The handle that carries a GUID and whose device path leads furthest along the path that some bytes

@@ -1,6 +1,7 @@
 //! The nodes of a device path.
 ghost use Rattle.std.specs.Prelude.{◌≡◌, ◌≤◌, length, option_map};
 ghost use Rattle.device_path_locate.specs.DevicePaths.{is_inner};
+ghost use Rattle.device_path_locate.specs.Boundaries.{IsReturnedNode};
 ghost use Rattle.device_path_locate.specs.Reading.{IsFrontNode};
 
 use byteorder::{ByteOrder, LittleEndian};
@@ -22,7 +23,8 @@ const MIN_LENGTH: usize = HEADER_SIZE;
 
 /// The node at the front of some bytes. `None` where they run out in it, or its length is too small.
 pub(crate) fn front_node(bytes: &[u8]) -> Option<&[u8]>
-    ensures { IsFrontNode bytes.now (option_map (λ s. s.now) result) }
+    ensures path { IsFrontNode bytes.now (option_map (λ s. s.now) result) }
+    ensures node { IsReturnedNode bytes.now (option_map (λ s. s.now) result) }
 {
     if bytes.len() < HEADER_SIZE {
         return None;

@@ -10,7 +10,7 @@ loop-whole-preserved c =
     let bytes = c.args.bytes.now in
     let w = c.loop-whole.whole in
     let n = c.in_ok-node.node.now in
-    let h : IsFrontNode (drop w bytes) (Some n) = rw take_rest at c.in_ok-node.ensures in
+    let h : IsFrontNode (drop w bytes) (Some n) = rw take_rest at c.in_ok-node.ensures.path in
     let e = sym c.eq.ensures ∙ c.if-eq.false in
     let i = sym c.is_inner.ensures ∙ c.if-not-is_inner.false in
     record {

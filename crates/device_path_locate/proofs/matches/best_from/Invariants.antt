@@ -3,7 +3,7 @@ use Rattle.std.specs.List.{AllByRecursion, concat, filter_map}
 use Rattle.device_path_locate.specs.DevicePaths.{Node}
 use Rattle.device_path_locate.specs.Locating.{longest, match_of}
 use Rattle.device_path_locate.specs.Reading.{IsBoundary, IsInstanceNode, longer_if}
-use Rattle.device_path_locate.proofs.matches.best_match.Given as goal
+use Rattle.device_path_locate.proofs.matches.best_from.Given as goal
 
 abbrev pub invariant-loop-handle : goal.invariant-loop-handle
 invariant-loop-handle g l = record {

@@ -2,7 +2,7 @@ use Rattle.device_path_locate.specs.Locating.{longest, match_of}
 use Rattle.device_path_locate.specs.Reading.{IsBoundary}
 use Rattle.std.specs.List.{filter_map}
 use Rattle.device_path_locate.proofs.PathMatches.{longer_keeps, one_more}
-use Rattle.device_path_locate.proofs.matches.best_match.Goals as goal
+use Rattle.device_path_locate.proofs.matches.best_from.Goals as goal
 
 pub loop-handle-preserved : goal.loop-handle-preserved
 loop-handle-preserved g c =
