@@ -12,35 +12,33 @@ use std::alloc::{AllocError, Allocator};
 /// The bytes of a record (EFI_MEMORY_DESCRIPTOR, with 8 bytes more).
 pub(crate) const RECORD_SIZE: usize = 48;
 
-/// Writes a number of 4 bytes at an index.
-fn put_u32(bytes: &mut [u8], at: usize, number: u32)
-    requires { at + 4 ≤ length bytes.old }
-    ensures { bytes.new ≡ take at bytes.old ++ little_bytes 4 number ++ drop (at + 4) bytes.old }
+/// The bytes of an entry's record.
+#[inline(always)]
+fn record_bytes(entry: &Descriptor) -> [u8; RECORD_SIZE]
+    requires { entry.now.first < page_count }
+    ensures { result ≡ record_of entry.now }
 {
-    LittleEndian::write_u32(&mut bytes[at..], number);
-}
-
-/// Writes a number of 8 bytes at an index.
-fn put_u64(bytes: &mut [u8], at: usize, number: u64)
-    requires { at + 8 ≤ length bytes.old }
-    ensures { bytes.new ≡ take at bytes.old ++ little_bytes 8 number ++ drop (at + 8) bytes.old }
-{
-    LittleEndian::write_u64(&mut bytes[at..], number);
+    let t = entry.mtype.number().to_le_bytes();
+    let s = (entry.first * PAGE_SIZE).to_le_bytes();
+    let p = entry.pages.to_le_bytes();
+    let a = entry.attributes.to_le_bytes();
+    [
+        t[0], t[1], t[2], t[3], 0, 0, 0, 0, s[0], s[1], s[2], s[3], s[4], s[5], s[6], s[7], 0, 0,
+        0, 0, 0, 0, 0, 0, p[0], p[1], p[2], p[3], p[4], p[5], p[6], p[7], a[0], a[1], a[2], a[3],
+        a[4], a[5], a[6], a[7], 0, 0, 0, 0, 0, 0, 0, 0,
+    ]
 }
 
 /// Writes the record of an entry into the front of some bytes.
+#[inline(always)]
 pub(crate) fn write_record(bytes: &mut [u8], entry: &Descriptor)
     requires room { record_size ≤ length bytes.old }
     requires within { entry.now.first < page_count }
     ensures { bytes.new ≡ record_of entry.now ++ drop record_size bytes.old }
 {
-    put_u32(bytes, 0, entry.mtype.number());
-    put_u32(bytes, 4, 0);
-    put_u64(bytes, 8, entry.first * PAGE_SIZE);
-    put_u64(bytes, 16, 0);
-    put_u64(bytes, 24, entry.pages);
-    put_u64(bytes, 32, entry.attributes);
-    put_u64(bytes, 40, 0);
+    if let Some(record) = bytes.first_chunk_mut() {
+        *record = record_bytes(entry);
+    }
 }
 
 /// The entry of a record, if the bytes are one.
