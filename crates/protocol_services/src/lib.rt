@@ -9,6 +9,7 @@ mod removing;
 mod removing_many;
 mod saved;
 mod searches;
+mod stops;
 
 pub use list_bytes::{handle_bytes, item_bytes};
 pub use protocols::Protocols;

@@ -161,7 +161,7 @@ impl<A: Allocator + Copy> Protocols<A> {
     }
 
     /// What the stop of the drivers of some items takes out.
-    fn plan_among(&self, items: &[OpenItem]) -> Result<StopPlan<A>, AllocError>
+    pub(crate) fn plan_among(&self, items: &[OpenItem]) -> Result<StopPlan<A>, AllocError>
         ensures { IfOk result
             (λ plan. plan ≡ planned_stop self.now.handles self.now.opens
             (map (λ i. (i.controller, i.agent))
