@@ -6,8 +6,8 @@ use Rattle.text_lines.specs.Lines.{longest_line}
 use Rattle.trace_lines.specs.TraceLine.{largest_buffer, longest_read}
 use Rattle.call_texts.specs.CallText.{call_line, call_text}
 
--- A line may ask for a buffer for the memory map and for a read of so many bytes at most, and for
--- one interface at least.
+-- A line may ask for a buffer for the memory map and for a read of the pool up to their bounds, and
+-- for one interface at least.
 abbrev pub may_ask : {A : Type 0} → Call A → Bool
 may_ask (call.GetMemoryMap size) = nat_le size largest_buffer
 may_ask (call.PoolRead address size) = nat_le size longest_read
