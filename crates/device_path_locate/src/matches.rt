@@ -14,7 +14,7 @@ use pool_services::Pools;
 use std::alloc::Allocator;
 use uuid::Uuid;
 
-/// So many bytes have no more nodes than there would be marks.
+/// The most bytes whose nodes are left unmarked, since they are no more than the marks.
 const UNMARKED: usize = 4 * MARKS;
 
 /// The GUID of device paths (EFI_DEVICE_PATH_PROTOCOL_GUID), 09576e91-6d3f-11d2-8e39-00a0c969723b.
