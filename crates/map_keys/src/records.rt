@@ -1,8 +1,7 @@
 //! Records of 48 bytes, each of which spells an entry of a memory map.
-ghost use Rattle.std.specs.Prelude.{◌≡◌, ◌<◌, ◌≤◌, ◌+◌, ◌++◌, length, take, drop, IfOk};
+ghost use Rattle.std.specs.Prelude.{◌≡◌, ◌<◌, ◌≤◌, ◌*◌, ◌++◌, length, drop, IfOk};
 ghost use Rattle.std.specs.Option.{option_map};
-ghost use Rattle.byteorder.specs.Endian.{little_bytes};
-ghost use Rattle.page_ranges.specs.MemoryTypes.{page_count};
+ghost use Rattle.page_ranges.specs.MemoryTypes.{page_count, page_size};
 ghost use Rattle.map_keys.specs.Records.{ReadBackLaw, ReadsRecord, ReadsRecords, record_of, record_size};
 
 use byteorder::{ByteOrder, LittleEndian};
@@ -12,6 +11,19 @@ use std::alloc::{AllocError, Allocator};
 /// The bytes of a record (EFI_MEMORY_DESCRIPTOR, with 8 bytes more).
 pub(crate) const RECORD_SIZE: usize = 48;
 
+/// A page has 2 to the power of this many bytes.
+const PAGE_SHIFT: u32 = 12;
+
+/// The address of a page. A page number has 52 bits, so the rotation is the product; the compiler
+/// makes one store of its 8 bytes, where it takes those of the product apart.
+#[inline(always)]
+fn address_of(page: u64) -> u64
+    requires { page < page_count }
+    ensures { result ≡ page * page_size }
+{
+    page.rotate_left(PAGE_SHIFT)
+}
+
 /// The bytes of an entry's record.
 #[inline(always)]
 fn record_bytes(entry: &Descriptor) -> [u8; RECORD_SIZE]
@@ -19,7 +31,7 @@ fn record_bytes(entry: &Descriptor) -> [u8; RECORD_SIZE]
     ensures { result ≡ record_of entry.now }
 {
     let t = entry.mtype.number().to_le_bytes();
-    let s = (entry.first * PAGE_SIZE).to_le_bytes();
+    let s = address_of(entry.first).to_le_bytes();
     let p = entry.pages.to_le_bytes();
     let a = entry.attributes.to_le_bytes();
     [
