@@ -1,18 +1,23 @@
 /* What a call of the library costs:
  *
  *     measure [--reps COUNT] [--certify] [LOAD ..]
+ *     measure [--reps COUNT] --growth MOST
  *
- * LOAD is pages-100, pages-1000, pages-10000 or pages-100000 (the number of live allocations, of
- * mixed types and sizes), pool-10000 (of blocks), handles-64, handles-1024 or handles-4096 (of
- * handles), drivers-64, drivers-1024 or drivers-4096 (of handles, on which a driver is started and
- * stopped), or keys-10000 (of registrations); without any all are run. It prints nanoseconds a
- * call, the least of COUNT repetitions, each on a new core; what a call asks for is drawn before
- * the clock starts. `refused` is a call that is refused at once: what any call costs at least. With
- * --certify the core keeps the certificates of placements. */
+ * LOAD is pages-100, pages-1000, pages-10000, pages-100000 or pages-1000000 (the number of live
+ * allocations, of mixed types and sizes), crowded-65536 (of descriptors, where a request finds no
+ * place), pool-10000 (of blocks), handles-64, handles-1024 or handles-4096 (of handles),
+ * drivers-64, drivers-1024 or drivers-4096 (of handles, on which a driver is started and stopped),
+ * or keys-10000 (of registrations); without any all are run. It prints nanoseconds a call, the
+ * least of COUNT repetitions, each on a new core; what a call asks for is drawn before the clock
+ * starts. `refused` is a call that is refused at once: what any call costs at least. With --certify
+ * the core keeps the certificates of placements. With --growth two tables in Markdown are printed:
+ * of what calls on pages cost in a churn at 100 live allocations, ten times as many and so on up to
+ * MOST, and of a request that nothing can hold, without and with certificates. */
 #include "fault.h"
 #include "machine.h"
 #include "meter.h"
 
+#include <inttypes.h>
 #include <stdio.h>
 #include <stdlib.h>
 #include <string.h>
@@ -28,6 +33,10 @@
 
 /* How often the memory map is got at a time. */
 #define MAPS 5
+
+/* The requests that find no place, and the pages of a free range there. */
+#define VAIN_REQUESTS 200
+#define CROWDED_PAGES 4
 
 /* The kinds of protocols of the handles, how many agents open them, and how many searches there
  * are. */
@@ -260,6 +269,17 @@ static void run_pages(struct load *load, size_t live)
 static void run_pool(struct load *load, size_t live)
 {
     run_memory(load, &pool, live);
+}
+
+/* Requests of more pages than any free range has. */
+static void run_crowded(struct load *load, size_t descriptors)
+{
+    (void)descriptors;
+    for (size_t at = 0; at < VAIN_REQUESTS; at++)
+        load->requests[at] =
+            (struct request){(uint32_t)draw_between(load, 1, 6), CROWDED_PAGES + 1, 0};
+    time_calls(load, "no place", "AllocatePages", VAIN_REQUESTS, place_pages);
+    time_calls(load, "refused", "FreePages", REFUSED_CALLS, refused_call);
 }
 
 /* The kind of a handle's first interface, whose value is the handle. */
@@ -524,21 +544,6 @@ static void run_keys(struct load *load, size_t keys)
     time_calls(load, "serve", "LocateProtocol", keys, take_value);
 }
 
-/* The loads, and how often each is repeated. */
-static const struct {
-    const char *name;
-    void (*run)(struct load *load, size_t live);
-    size_t live;
-    int repetitions;
-} loads[] = {
-    {"pages-100", run_pages, 100, 15},          {"pages-1000", run_pages, 1000, 9},
-    {"pages-10000", run_pages, 10000, 3},       {"pages-100000", run_pages, 100000, 1},
-    {"pool-10000", run_pool, 10000, 5},         {"handles-64", run_handles, 64, 15},
-    {"handles-1024", run_handles, 1024, 9},     {"handles-4096", run_handles, 4096, 5},
-    {"drivers-64", run_drivers, 64, 15},        {"drivers-1024", run_drivers, 1024, 9},
-    {"drivers-4096", run_drivers, 4096, 5},   {"keys-10000", run_keys, 10000, 3},
-};
-
 /* The machine's driver: it needs an interface of a kind, and opens it. */
 static void add_driver(struct machine *machine, const struct rafkudin_guid *kind)
 {
@@ -588,16 +593,54 @@ static uint64_t make_machine(struct machine *machine, size_t live)
     return middle * PAGE;
 }
 
-/* Runs a load the given number of times, each on a new core. */
-static void repeat(size_t index, int repetitions, bool certify)
+/* A machine of the given number of ranges of a few pages, free ones and others in turn. */
+static uint64_t make_crowded_machine(struct machine *machine, size_t descriptors)
+{
+    uint64_t page = 1;
+
+    for (size_t at = 0; at < descriptors; at++)
+        page = add_range(machine, at % 2 != 0 ? RAFKUDIN_CONVENTIONAL : RAFKUDIN_ACPI_RECLAIM, page,
+                         CROWDED_PAGES);
+    machine->granule = 1;
+    machine->drivers = grow(NULL, sizeof *machine->drivers);
+    return page * PAGE;
+}
+
+/* The loads, the machine of each, and how often each is repeated. */
+static const struct {
+    const char *name;
+    void (*run)(struct load *load, size_t live);
+    uint64_t (*make)(struct machine *machine, size_t live);
+    size_t live;
+    int repetitions;
+} loads[] = {
+    {"pages-100", run_pages, make_machine, 100, 15},
+    {"pages-1000", run_pages, make_machine, 1000, 9},
+    {"pages-10000", run_pages, make_machine, 10000, 3},
+    {"pages-100000", run_pages, make_machine, 100000, 1},
+    {"pages-1000000", run_pages, make_machine, 1000000, 1},
+    {"crowded-65536", run_crowded, make_crowded_machine, 65536, 5},
+    {"pool-10000", run_pool, make_machine, 10000, 5},
+    {"handles-64", run_handles, make_machine, 64, 15},
+    {"handles-1024", run_handles, make_machine, 1024, 9},
+    {"handles-4096", run_handles, make_machine, 4096, 5},
+    {"drivers-64", run_drivers, make_machine, 64, 15},
+    {"drivers-1024", run_drivers, make_machine, 1024, 9},
+    {"drivers-4096", run_drivers, make_machine, 4096, 5},
+    {"keys-10000", run_keys, make_machine, 10000, 3},
+};
+
+/* Runs a load the given number of times, or as often as it says, each time on a new core. */
+static void repeat(struct meter *meter, size_t index, int repetitions, bool certify)
 {
     static struct load load;
     size_t live = loads[index].live, room = live * 2 + LONGEST_REFILL;
     struct machine machine = {0};
-    struct meter meter = {0};
 
-    load.meter = &meter;
-    load.middle = make_machine(&machine, live);
+    if (repetitions == 0)
+        repetitions = loads[index].repetitions;
+    load.meter = meter;
+    load.middle = loads[index].make(&machine, live);
     load.held = grow(NULL, room * sizeof *load.held);
     load.requests = grow(NULL, room * sizeof *load.requests);
     load.given = grow(NULL, room * sizeof *load.given);
@@ -610,13 +653,11 @@ static void repeat(size_t index, int repetitions, bool certify)
         load.count = 0;
         load.core = machine_core(&machine);
         RafkudinCertify(load.core, certify);
-        meter_begin(&meter);
+        meter_begin(meter);
         loads[index].run(&load, live);
-        meter_end(&meter);
+        meter_end(meter);
         RafkudinFree(load.core);
     }
-    printf("%s\n", loads[index].name);
-    meter_print(&meter);
     machine_free(&machine);
     free(load.held);
     free(load.requests);
@@ -625,34 +666,110 @@ static void repeat(size_t index, int repetitions, bool certify)
     load.map = NULL;
 }
 
-/* Runs the loads of a name, or all where there is none; the given number of times, or as often as each says. */
+/* Runs the loads of a name, or all where there is none, and prints what their calls cost. */
 static void run_loads(const char *name, int repetitions, bool certify)
 {
     size_t ran = 0;
 
     for (size_t index = 0; index < sizeof loads / sizeof *loads; index++) {
+        struct meter meter = {0};
+
         if (name != NULL && strcmp(name, loads[index].name) != 0)
             continue;
-        repeat(index, repetitions != 0 ? repetitions : loads[index].repetitions, certify);
+        repeat(&meter, index, repetitions, certify);
+        printf("%s\n", loads[index].name);
+        meter_print(&meter);
         ran++;
     }
     if (ran == 0)
         fail("there is no load %s", name);
 }
 
+/* Prints a number, rounded, with a comma before each three of its digits. */
+static void print_number(double number)
+{
+    uint64_t whole = (uint64_t)(number + 0.5), part = 1;
+
+    while (whole / part >= 1000)
+        part *= 1000;
+    printf("%" PRIu64, whole / part);
+    while (part != 1) {
+        part /= 1000;
+        printf(",%03" PRIu64, whole / part % 1000);
+    }
+}
+
+/* Prints the rows of what calls on pages cost at a number of live allocations. */
+static void print_calls(const struct meter *meter, size_t live)
+{
+    static const char *const services[] = {"AllocatePages", "FreePages", "GetMemoryMap"};
+
+    printf("| ");
+    print_number((double)live);
+    for (size_t at = 0; at < sizeof services / sizeof *services; at++) {
+        printf("%s | %s%s | ", at == 0 ? "" : "|", services[at],
+               at == 0 ? ", in a churn" : "");
+        print_number(meter_least(meter, "churn", services[at]));
+        printf(" |\n");
+    }
+    fflush(stdout);
+}
+
+/* Prints what calls on pages cost, by the number of live allocations up to the most. */
+static void print_growth(int repetitions, size_t most)
+{
+    printf("| Live | Call | Library |\n|---|---|---|\n");
+    for (size_t index = 0; index < sizeof loads / sizeof *loads; index++) {
+        struct meter meter = {0};
+
+        if (loads[index].run != run_pages || loads[index].live > most)
+            continue;
+        repeat(&meter, index, repetitions, false);
+        print_calls(&meter, loads[index].live);
+    }
+}
+
+/* Prints what a request costs that nothing can hold. */
+static void print_vain(int repetitions)
+{
+    for (size_t index = 0; index < sizeof loads / sizeof *loads; index++) {
+        if (loads[index].run != run_crowded)
+            continue;
+        printf("\n| Descriptors | A request that nothing can hold | Library |\n|---|---|---|\n");
+        for (int certify = 0; certify < 2; certify++) {
+            struct meter meter = {0};
+
+            repeat(&meter, index, repetitions, certify != 0);
+            printf("| ");
+            print_number((double)loads[index].live);
+            printf(" | %s certificates | ", certify != 0 ? "with" : "without");
+            print_number(meter_least(&meter, "no place", "AllocatePages"));
+            printf(" |\n");
+        }
+    }
+}
+
 int main(int count, char **words)
 {
-    int repetitions = 0, at = 1;
+    int repetitions = 0, most = 0, at = 1;
     bool certify = false;
 
     fault_program = "measure";
     for (; at < count && strncmp(words[at], "--", 2) == 0; at++) {
         if (strcmp(words[at], "--certify") == 0)
             certify = true;
+        else if (strcmp(words[at], "--growth") == 0 && at + 1 < count && atoi(words[at + 1]) > 0)
+            most = atoi(words[++at]);
         else if (strcmp(words[at], "--reps") == 0 && at + 1 < count && atoi(words[at + 1]) > 0)
             repetitions = atoi(words[++at]);
         else
-            fail("usage: measure [--reps COUNT] [--certify] [LOAD ..]");
+            fail("usage: measure [--reps COUNT] [--certify] [LOAD ..]\n"
+                 "       measure [--reps COUNT] --growth MOST");
+    }
+    if (most != 0) {
+        print_growth(repetitions, (size_t)most);
+        print_vain(repetitions);
+        return 0;
     }
     if (at == count)
         run_loads(NULL, repetitions, certify);

@@ -63,6 +63,14 @@ void meter_end(struct meter *meter)
             row->least = row->time;
 }
 
+double meter_least(const struct meter *meter, const char *phase, const char *service)
+{
+    for (const struct row *row = meter->rows; row != meter->rows + meter->count; row++)
+        if (strcmp(row->phase, phase) == 0 && strcmp(row->service, service) == 0)
+            return (double)row->least / (double)row->calls;
+    fail("there is no row %s %s", phase, service);
+}
+
 void meter_print(const struct meter *meter)
 {
     printf("  %-8s %-34s %8s %8s %10s\n", "phase", "service", "calls", "refused", "ns a call");

@@ -37,6 +37,9 @@ void meter_stop(struct meter *meter, const char *phase, const char *service, uin
 /* Ends a repetition: of each row's times the least is kept. */
 void meter_end(struct meter *meter);
 
+/* The least time of a row, in nanoseconds a call. */
+double meter_least(const struct meter *meter, const char *phase, const char *service);
+
 /* Prints a line for each row: phase, service, calls, refused ones among them, and nanoseconds a
  * call. */
 void meter_print(const struct meter *meter);
