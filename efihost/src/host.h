@@ -269,13 +269,17 @@ void found(enum finding kind, const struct origin *origin, const char *format, .
 size_t findings_count(void);
 const char *finding_name(enum finding kind);
 void write_findings(FILE *file);
+void write_text(FILE *file, const char *text);
 void found_access(uint64_t address, uint64_t instruction, bool write);
 void stop_at_access(uint64_t instruction);
 void look_for_leaks(struct image *image, const char *when);
 
-/* ---- report.c ---- */
+/* ---- report.c, left.c ---- */
 void open_report(const char *file);
 void save_pictures(void);
+void count_left(void);
+void print_left(FILE *file);
+void write_left(FILE *file);
 NO_RETURN void finish(enum ending ending, const char *format, ...)
     __attribute__((format(printf, 2, 3)));
 
