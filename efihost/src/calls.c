@@ -98,29 +98,47 @@ static bool behind_call(const struct image *image, uint64_t address)
            (at[-6] == 0xff && (at[-5] & 0x38) == 0x10);
 }
 
-/* The callers' callers: words of the stack that point behind a call instruction of an image. It reads
- * all of the stack, which a sanitizer would not have. */
+/* How many words of the stack, from `at` on, may be looked at. */
+static size_t words_above(const uint64_t *at)
+{
+    size_t count = NUMBER(at) < host.stack_end ? (host.stack_end - NUMBER(at)) / sizeof *at : 0;
+
+    return count < LOOKED_AT ? count : LOOKED_AT;
+}
+
+/* The first of these words that points to where images are, or their end. It reads all of the
+ * stack, which a sanitizer would not have. */
+__attribute__((no_sanitize_address)) static const uint64_t *next_pointer(const uint64_t *at,
+                                                                         const uint64_t *end)
+{
+    uint64_t start = host.images_start, size = host.images_end - start;
+
+    while (end - at >= 4 && !((at[0] - start < size) | (at[1] - start < size) |
+                              (at[2] - start < size) | (at[3] - start < size)))
+        at += 4;
+    while (at < end && *at - start >= size)
+        at++;
+    return at;
+}
+
+/* The callers' callers: words of the stack that point behind a call instruction of an image. */
 __attribute__((no_sanitize_address)) static void walk(struct origin *origin, uint64_t caller)
 {
-    const uint64_t *at;
+    const uint64_t *at, *end;
     size_t count = 0;
 
     if (host.call == NULL || host.call->caller != caller || host.call->frame < host.stack ||
         host.call->frame >= host.stack_end)
         return;
     at = (const uint64_t *)POINTER(host.call->frame) + 2;
-    for (unsigned i = 0; i < LOOKED_AT && count < TRAIL; i++) {
-        struct image *image;
+    end = at + words_above(at);
+    for (at = next_pointer(at, end); at < end && count < TRAIL; at = next_pointer(at + 1, end)) {
+        struct image *image = image_at(*at);
 
-        if (NUMBER(at + i) >= host.stack_end)
-            return;
-        if (at[i] - host.images_start >= host.images_end - host.images_start)
-            continue;
-        image = image_at(at[i]);
-        if (image == NULL || !behind_call(image, at[i]))
+        if (image == NULL || !behind_call(image, *at))
             continue;
         origin->trail[count].image = image;
-        origin->trail[count++].address = at[i] - image->base;
+        origin->trail[count++].address = *at - image->base;
     }
 }
 

@@ -92,16 +92,20 @@ uint64_t core_free_pool(uint64_t address)
     return status;
 }
 
+void trace_write(uint64_t address, const void *bytes, size_t count, uint64_t status)
+{
+    fprintf(trace_calls(), "write 0x%lx ", address);
+    trace_bytes(trace_calls(), bytes, count);
+    trace_call_ends();
+    trace_status("write", status);
+}
+
 uint64_t core_write(uint64_t address, const void *bytes, size_t count)
 {
     uint64_t status = RafkudinPoolWrite(host.core, address, bytes, count);
 
-    if (tracing()) {
-        fprintf(trace_calls(), "write 0x%lx ", address);
-        trace_bytes(trace_calls(), bytes, count);
-        trace_call_ends();
-        trace_status("write", status);
-    }
+    if (tracing())
+        trace_write(address, bytes, count, status);
     return status;
 }
 

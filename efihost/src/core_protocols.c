@@ -85,6 +85,18 @@ uint64_t core_uninstall(uint64_t handle, const void *guid, uint64_t value)
     return status;
 }
 
+/* A trace has no such call: it says what the interfaces are uninstalled by one by one. */
+uint64_t core_uninstall_many(uint64_t handle, const struct rafkudin_interface *list, size_t count)
+{
+    uint64_t status = RafkudinUninstallMultipleProtocolInterfaces(host.core, handle, list, count);
+
+    for (size_t i = 0; tracing() && status == RAFKUDIN_SUCCESS && i < count; i++) {
+        trace_call("uninstall %lu %s 0x%lx", handle, guid_text(&list[i].guid), list[i].value);
+        trace_status("uninstall", status);
+    }
+    return status;
+}
+
 uint64_t core_reinstall(uint64_t handle, const void *guid, uint64_t old, uint64_t value)
 {
     struct rafkudin_guid copy = core_guid(guid);
@@ -234,15 +246,18 @@ uint64_t core_handle_protocol(uint64_t handle, const void *guid, uint64_t *value
     return status;
 }
 
-uint64_t core_path(const void *guid, uint64_t *address, uint64_t *handle)
+/* The path lies in the host's memory; in a trace it is written to a block of the pool first, and
+ * looked up there. */
+uint64_t core_locate_path(const void *guid, const uint8_t *path, size_t length, uint64_t block,
+                          uint64_t *matched, uint64_t *handle)
 {
     struct rafkudin_guid copy = core_guid(guid);
-    uint64_t asked = *address;
-    uint64_t status = RafkudinLocateDevicePath(host.core, &copy, address, handle);
+    uint64_t status = RafkudinLocatePath(host.core, &copy, path, length, matched, handle);
 
     if (tracing()) {
-        trace_call("path %s 0x%lx", guid_text(guid), asked);
-        trace_reply("path", status, "handle=%lu address=0x%lx", *handle, *address);
+        trace_write(block, path, length, RAFKUDIN_SUCCESS);
+        trace_call("path %s 0x%lx", guid_text(guid), block);
+        trace_reply("path", status, "handle=%lu address=0x%lx", *handle, block + *matched);
     }
     return status;
 }

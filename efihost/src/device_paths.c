@@ -1,9 +1,10 @@
 /* Device paths.
  *
- * The library follows those in its own pool alone, and real ones lie in images and on stacks too.
- * So the value that the core has of a device path's interface is the address of a copy in a pool
- * block of the host's, whose bytes the core is given by PoolWrite; the caller's pointer is kept
- * beside it. A path that its owner changes after it is installed is to the core what it was. */
+ * The library follows those of interfaces in its own pool alone, and real ones lie in images and on
+ * stacks too. So the value that the core has of a device path's interface is the address of a copy
+ * in a pool block of the host's, whose bytes the core is given by PoolWrite; the caller's pointer
+ * is kept beside it. A path that its owner changes after it is installed is to the core what it was.
+ * A path that is looked up is read where it lies. */
 #include "host.h"
 
 #include <stdlib.h>
@@ -20,7 +21,7 @@ static struct shadow {
 static size_t shadow_count;
 static uint64_t scratch, room_at, room_left;
 
-/* A block for the paths that are looked up, and none yet for those that are installed. */
+/* A block for the paths that a trace looks up, and none yet for those that are installed. */
 void make_path_room(void)
 {
     if (core_pool(RAFKUDIN_BOOT_SERVICES_DATA, LONGEST, &scratch) != EFI_SUCCESS)
@@ -126,16 +127,12 @@ void path_drop(uint64_t value)
 /* The handle with the interface whose path is the longest front of a path, and the bytes of it. */
 EFI_STATUS locate_path(const void *guid, const void *path, uint64_t *handle, uint64_t *matched)
 {
-    uint64_t address = scratch;
     size_t length = path_length(path);
     uint8_t copy[LONGEST];
-    EFI_STATUS status;
 
+    *matched = 0;
     if (length == 0)
         return EFI_INVALID_PARAMETER;
     copy_path(copy, path, length);
-    core_write(scratch, copy, length);
-    status = core_path(guid, &address, handle);
-    *matched = status == EFI_SUCCESS ? address - scratch : 0;
-    return status;
+    return core_locate_path(guid, copy, length, scratch, matched, handle);
 }

@@ -1,217 +1,185 @@
-/* Drivers that are code.
+/* Drivers that are code, and how they are started.
  *
- * The library's drivers have fixed answers, and its ConnectController and DisconnectController make
- * no use of others; nor does an exclusive open, an uninstall or a reinstall stop one. So the host
- * asks the drivers here by the rules of the standard, and stops those that hold what is wanted
- * before the core is asked again. An iterator of the library takes the place of this file. */
+ * Whose turn it is on a controller is what the library says (RafkudinConnectBegin and the functions
+ * behind it); here they are asked and started, and the controllers below are connected in turn.
+ * Drivers call the services themselves, so a connect or a stop may run inside of another: what one
+ * goes by is its own, and nothing of it is kept. */
 #include "host.h"
 
-#include <string.h>
+#include <stdlib.h>
 
-#define MOST_BINDINGS 256U
-#define MOST_ENTRIES 512U
-#define DEEPEST 8U
+bool is_live(uint64_t handle)
+{
+    struct rafkudin_interface first;
 
-typedef EFI_OPEN_PROTOCOL_INFORMATION_ENTRY ENTRY;
+    return RafkudinInterface(host.core, handle, 0, &first) == RAFKUDIN_SUCCESS;
+}
 
-struct bindings {
-    EFI_DRIVER_BINDING_PROTOCOL *list[MOST_BINDINGS];
-    uint64_t handles[MOST_BINDINGS];
+/* Adds a handle to a list, unless it is there. */
+void add_handle(struct handles *handles, uint64_t handle)
+{
+    for (size_t i = 0; i < handles->count; i++)
+        if (handles->list[i] == handle)
+            return;
+    if (handles->count == handles->room) {
+        handles->room = handles->room == 0 ? 16 : 2 * handles->room;
+        handles->list = must(realloc(handles->list, handles->room * sizeof *handles->list));
+    }
+    handles->list[handles->count++] = handle;
+}
+
+/* The live handles that carry a GUID, by ascending numbers. */
+struct handles handles_with(const void *guid)
+{
+    struct rafkudin_guid wanted = core_guid(guid);
+    struct handles handles = {NULL, 0, 0};
+    uint64_t count = 0;
+
+    if (RafkudinHoldersInto(host.core, &wanted, NULL, 0, &count) != RAFKUDIN_BUFFER_TOO_SMALL)
+        return handles;
+    handles.list = must(malloc(count * sizeof *handles.list));
+    handles.room = count;
+    if (RafkudinHoldersInto(host.core, &wanted, handles.list, count, &count) == RAFKUDIN_SUCCESS)
+        handles.count = count;
+    return handles;
+}
+
+/* ---- The drivers of one controller ---- */
+
+struct drivers {
+    struct rafkudin_binding *list;
     size_t count;
 };
 
-/* Moves the binding at a place to the front of those from `to` on. */
-static void move_up(struct bindings *all, size_t from, size_t to)
+/* All drivers, by ascending handle. */
+static struct drivers find_drivers(void)
 {
-    EFI_DRIVER_BINDING_PROTOCOL *binding = all->list[from];
-    uint64_t handle = all->handles[from];
+    struct handles handles = handles_with(&driver_binding_guid);
+    struct drivers drivers = {must(calloc(handles.count + 1, sizeof *drivers.list)), 0};
 
-    memmove(&all->list[to + 1], &all->list[to], (from - to) * sizeof all->list[0]);
-    memmove(&all->handles[to + 1], &all->handles[to], (from - to) * sizeof all->handles[0]);
-    all->list[to] = binding;
-    all->handles[to] = handle;
-}
-
-/* All drivers: first those that the caller names, then the highest version first. */
-static void find_bindings(struct bindings *all, const EFI_HANDLE *first)
-{
-    static uint64_t handles[RAFKUDIN_MAX_HANDLES];
-    uint64_t size = sizeof handles;
-    size_t named = 0;
-
-    all->count = 0;
-    if (core_locate(RAFKUDIN_BY_PROTOCOL, &driver_binding_guid, 0, &size, handles) != EFI_SUCCESS)
-        return;
-    for (size_t i = 0; i < size / 8 && all->count < MOST_BINDINGS; i++) {
-        EFI_DRIVER_BINDING_PROTOCOL *binding = interface_of(handles[i], &driver_binding_guid);
-        size_t place = 0;
+    for (size_t i = 0; i < handles.count; i++) {
+        EFI_DRIVER_BINDING_PROTOCOL *binding =
+            interface_of(handles.list[i], &driver_binding_guid);
 
         if (binding == NULL)
             continue;
-        all->list[all->count] = binding;
-        all->handles[all->count] = handles[i];
-        while (place < all->count && all->list[place]->Version >= binding->Version)
-            place++;
-        move_up(all, all->count++, place);
+        drivers.list[drivers.count].handle = handles.list[i];
+        drivers.list[drivers.count].driver = NUMBER(binding);
+        drivers.list[drivers.count++].version = binding->Version;
     }
-    for (; first != NULL && *first != NULL; first++)
-        for (size_t i = named; i < all->count; i++)
-            if (HANDLE(all->handles[i]) == *first || all->list[i]->ImageHandle == *first)
-                move_up(all, i, named++);
+    free(handles.list);
+    return drivers;
 }
 
-/* Starts the first driver that supports the controller and was not tried before. */
-static bool start_next(struct bindings *all, uint64_t handle, EFI_DEVICE_PATH_PROTOCOL *rest,
-                       bool *started)
+/* Takes a driver's turn: whether it supports the controller, and so was started; *done, whether it
+ * could be. One that is gone by now, or has another interface, supports nothing. */
+static bool take_turn(const struct rafkudin_binding *driver, EFI_HANDLE controller,
+                      EFI_DEVICE_PATH_PROTOCOL *rest, bool *done)
 {
-    for (size_t i = 0; i < all->count; i++) {
-        EFI_DRIVER_BINDING_PROTOCOL *binding = all->list[i];
+    EFI_DRIVER_BINDING_PROTOCOL *binding = POINTER(driver->driver);
 
-        if (binding == NULL || binding->Supported(binding, HANDLE(handle), rest) != EFI_SUCCESS)
-            continue;
-        all->list[i] = NULL;
-        if (binding->Start(binding, HANDLE(handle), rest) == EFI_SUCCESS)
-            *started = true;
-        return true;
-    }
-    return false;
+    if (interface_of(driver->handle, &driver_binding_guid) != binding ||
+        EFI_ERROR(binding->Supported(binding, controller, rest)))
+        return false;
+    if (!EFI_ERROR(binding->Start(binding, controller, rest)))
+        *done = true;
+    return true;
 }
 
-static bool is_handle(uint64_t handle)
+static bool is_end_of_path(const EFI_DEVICE_PATH_PROTOCOL *path)
 {
-    static struct rafkudin_guid list[1024];
-    uint64_t count = 0;
-
-    return core_protocols(handle, list, LENGTH(list), &count) == EFI_SUCCESS;
+    return path != NULL && (path->Type & 0x7f) == 0x7f && path->SubType == 0xff;
 }
 
-static EFI_STATUS connect_at(uint64_t handle, const EFI_HANDLE *first,
-                             EFI_DEVICE_PATH_PROTOCOL *rest, unsigned depth)
+/* Connects one controller. NOT_FOUND: no driver was started, and the rest of the path is not its
+ * end. */
+static EFI_STATUS connect_one(uint64_t controller, const EFI_HANDLE *first,
+                              EFI_DEVICE_PATH_PROTOCOL *rest)
 {
-    struct bindings all;
-    ENTRY entries[MOST_ENTRIES];
-    bool started = false;
-    size_t count;
+    uint64_t named[RAFKUDIN_MAX_DRIVERS_TO_TRY];
+    struct rafkudin_binding driver;
+    struct rafkudin_turns turns;
+    struct drivers drivers;
+    bool done = is_end_of_path(rest);
+    size_t named_count;
+    EFI_STATUS status;
 
-    if (!is_handle(handle))
+    if (!is_live(controller))
         return EFI_INVALID_PARAMETER;
-    find_bindings(&all, first);
-    while (start_next(&all, handle, rest, &started))
-        continue;
-    if (rest != NULL && (rest->Type & 0x7f) == 0x7f && rest->SubType == 0xff)
-        started = true;
-    count = depth == 0 ? 0 : open_entries(handle, NULL, entries, LENGTH(entries));
-    for (size_t i = 0; i < count; i++) {
-        bool seen = entries[i].Attributes != RAFKUDIN_BY_CHILD_CONTROLLER;
-
-        for (size_t k = 0; k < i; k++)
-            seen |= entries[k].Attributes == RAFKUDIN_BY_CHILD_CONTROLLER &&
-                    entries[k].ControllerHandle == entries[i].ControllerHandle;
-        if (!seen)
-            connect_at(NUMBER(entries[i].ControllerHandle), NULL, NULL, depth - 1);
-    }
-    return started ? EFI_SUCCESS : EFI_NOT_FOUND;
+    named_count = name_drivers(controller, first, named);
+    drivers = find_drivers();
+    status = RafkudinConnectBegin(host.core, controller, named, named_count, drivers.list,
+                                  drivers.count, &turns);
+    while (status == EFI_SUCCESS && RafkudinConnectNext(&turns, drivers.list, drivers.count,
+                                                        &driver) == RAFKUDIN_SUCCESS)
+        RafkudinConnectRecord(&turns, drivers.list, drivers.count,
+                              take_turn(&driver, HANDLE(controller), rest, &done));
+    free(drivers.list);
+    if (status != EFI_SUCCESS)
+        return status;
+    return done ? EFI_SUCCESS : EFI_NOT_FOUND;
 }
 
-EFI_STATUS connect_controller(uint64_t handle, const EFI_HANDLE *first,
+/* ---- The controllers below ---- */
+
+static int compare_handles(const void *one, const void *other)
+{
+    uint64_t first = *(const uint64_t *)one, second = *(const uint64_t *)other;
+
+    return (first > second) - (first < second);
+}
+
+/* The handles for which a controller is open as for a child, ascending. */
+static struct handles children_of(uint64_t controller)
+{
+    struct handles children = {NULL, 0, 0};
+    struct rafkudin_interface on;
+    struct rafkudin_item item;
+
+    for (size_t i = 0; RafkudinInterface(host.core, controller, i, &on) == RAFKUDIN_SUCCESS; i++)
+        for (size_t k = 0; RafkudinOpenItem(host.core, controller, &on.guid, k, &item) ==
+                           RAFKUDIN_SUCCESS; k++)
+            if (item.attributes == RAFKUDIN_BY_CHILD_CONTROLLER)
+                add_handle(&children, item.controller);
+    if (children.count > 1)
+        qsort(children.list, children.count, sizeof *children.list, compare_handles);
+    return children;
+}
+
+/* Puts the children of a controller before all that waits, unless they have waited before. */
+static void let_wait(struct handles *waiting, struct handles *seen, uint64_t controller)
+{
+    struct handles children = children_of(controller);
+
+    for (size_t i = children.count; i-- > 0;) {
+        size_t count = seen->count;
+
+        add_handle(seen, children.list[i]);
+        if (seen->count > count)
+            add_handle(waiting, children.list[i]);
+    }
+    free(children.list);
+}
+
+/* ConnectController: with `recursive` also all controllers below, each once, and all below one
+ * before the next. */
+EFI_STATUS connect_controller(uint64_t controller, const EFI_HANDLE *first,
                               EFI_DEVICE_PATH_PROTOCOL *rest, bool recursive)
 {
-    return connect_at(handle, first, rest, recursive ? DEEPEST : 0);
-}
+    EFI_STATUS status = connect_one(controller, first, rest);
+    struct handles waiting = {NULL, 0, 0}, seen = {NULL, 0, 0};
 
-/* The children of a controller that an agent has, or of them the one that is named. */
-static size_t children_of(const ENTRY *entries, size_t count, EFI_HANDLE agent, uint64_t child,
-                          EFI_HANDLE *children)
-{
-    size_t made = 0;
+    if (!recursive || status == EFI_INVALID_PARAMETER)
+        return status;
+    add_handle(&seen, controller);
+    let_wait(&waiting, &seen, controller);
+    while (waiting.count > 0) {
+        uint64_t next = waiting.list[--waiting.count];
 
-    for (size_t i = 0; i < count; i++) {
-        bool counts = entries[i].Attributes == RAFKUDIN_BY_CHILD_CONTROLLER &&
-                      entries[i].AgentHandle == agent &&
-                      (child == 0 || NUMBER(entries[i].ControllerHandle) == child);
-
-        for (size_t k = 0; k < made; k++)
-            counts &= children[k] != entries[i].ControllerHandle;
-        if (counts)
-            children[made++] = entries[i].ControllerHandle;
+        connect_one(next, NULL, NULL);
+        let_wait(&waiting, &seen, next);
     }
-    return made;
-}
-
-/* Stops one driver on a controller: its children first, then, where none is named or the last one
- * was, the driver itself. */
-static EFI_STATUS stop_driver(uint64_t handle, EFI_HANDLE agent, uint64_t child,
-                              const ENTRY *entries, size_t count)
-{
-    EFI_DRIVER_BINDING_PROTOCOL *binding = interface_of(NUMBER(agent), &driver_binding_guid);
-    EFI_HANDLE children[MOST_ENTRIES], all[MOST_ENTRIES];
-    size_t made = children_of(entries, count, agent, child, children);
-    size_t total = children_of(entries, count, agent, 0, all);
-    EFI_STATUS status = EFI_SUCCESS;
-
-    if (binding == NULL)
-        return EFI_SUCCESS;
-    if (child != 0 && made == 0)
-        return EFI_NOT_FOUND;
-    if (made > 0)
-        status = binding->Stop(binding, HANDLE(handle), made, children);
-    if (status == EFI_SUCCESS && (child == 0 || made == total))
-        status = binding->Stop(binding, HANDLE(handle), 0, NULL);
+    free(waiting.list);
+    free(seen.list);
     return status;
-}
-
-/* The next driver that manages a controller and was not stopped before, or NULL. */
-static EFI_HANDLE next_agent(uint64_t handle, uint64_t driver, const ENTRY *entries, size_t count,
-                             const EFI_HANDLE *done, size_t done_count)
-{
-    for (size_t i = 0; i < count; i++) {
-        bool counts = (entries[i].Attributes & RAFKUDIN_BY_DRIVER) != 0 &&
-                      NUMBER(entries[i].ControllerHandle) == handle &&
-                      (driver == 0 || NUMBER(entries[i].AgentHandle) == driver);
-
-        for (size_t k = 0; k < done_count; k++)
-            counts &= done[k] != entries[i].AgentHandle;
-        if (counts)
-            return entries[i].AgentHandle;
-    }
-    return NULL;
-}
-
-EFI_STATUS disconnect_controller(uint64_t handle, uint64_t driver, uint64_t child)
-{
-    ENTRY entries[MOST_ENTRIES];
-    EFI_HANDLE done[MOST_BINDINGS], agent;
-    EFI_STATUS result = EFI_SUCCESS;
-    size_t done_count = 0, count;
-
-    if (!is_handle(handle) || (child != 0 && !is_handle(child)) ||
-        (driver != 0 && interface_of(driver, &driver_binding_guid) == NULL))
-        return EFI_INVALID_PARAMETER;
-    for (;;) {
-        count = open_entries(handle, NULL, entries, LENGTH(entries));
-        agent = next_agent(handle, driver, entries, count, done, done_count);
-        if (agent == NULL || done_count == MOST_BINDINGS)
-            return result;
-        done[done_count++] = agent;
-        if (stop_driver(handle, agent, child, entries, count) != EFI_SUCCESS)
-            result = EFI_DEVICE_ERROR;
-    }
-}
-
-/* Stops the drivers that have an interface open by driver. ACCESS_DENIED: there is none, or one
- * can't be stopped. */
-EFI_STATUS stop_holders(uint64_t handle, const void *guid)
-{
-    ENTRY entries[MOST_ENTRIES];
-    size_t count = open_entries(handle, guid, entries, LENGTH(entries)), stopped = 0;
-
-    for (size_t i = 0; i < count; i++) {
-        if ((entries[i].Attributes & RAFKUDIN_BY_DRIVER) == 0)
-            continue;
-        if (disconnect_controller(NUMBER(entries[i].ControllerHandle),
-                                  NUMBER(entries[i].AgentHandle), 0) != EFI_SUCCESS)
-            return EFI_ACCESS_DENIED;
-        stopped++;
-    }
-    return stopped == 0 ? EFI_ACCESS_DENIED : EFI_SUCCESS;
 }

@@ -201,7 +201,7 @@ void look_for_leaks(struct image *image, const char *when)
 
 /* ---- The report for programs ---- */
 
-static void write_text(FILE *file, const char *text)
+void write_text(FILE *file, const char *text)
 {
     fputc('"', file);
     for (; *text != 0; text++) {

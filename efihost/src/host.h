@@ -113,6 +113,7 @@ void trace_call(const char *format, ...) __attribute__((format(printf, 1, 2)));
 void trace_call_ends(void);
 void trace_bytes(FILE *file, const uint8_t *bytes, size_t count);
 void trace_status(const char *verb, uint64_t status);
+void trace_write(uint64_t address, const void *bytes, size_t count, uint64_t status);
 void trace_refusal(const char *verb, uint64_t status, uint64_t size);
 void trace_reply(const char *verb, uint64_t status, const char *format, ...)
     __attribute__((format(printf, 3, 4)));
@@ -129,6 +130,8 @@ struct rafkudin_guid core_guid(const void *guid);
 uint64_t core_install(uint64_t *handle, const void *guid, uint32_t kind, uint64_t value);
 uint64_t core_install_many(uint64_t *handle, const struct rafkudin_interface *list, size_t count);
 uint64_t core_uninstall(uint64_t handle, const void *guid, uint64_t value);
+uint64_t core_uninstall_many(uint64_t handle, const struct rafkudin_interface *list,
+                             size_t count);
 uint64_t core_reinstall(uint64_t handle, const void *guid, uint64_t old, uint64_t value);
 uint64_t core_notify(const void *guid, uint64_t event, uint64_t *key);
 uint64_t core_locate(uint32_t search, const void *guid, uint64_t key, uint64_t *size,
@@ -143,7 +146,8 @@ uint64_t core_open(uint64_t handle, const void *guid, uint64_t *value, uint64_t 
 uint64_t core_close(uint64_t handle, const void *guid, uint64_t agent, uint64_t controller);
 uint64_t core_information(uint64_t handle, const void *guid, uint64_t *address, uint64_t *count);
 uint64_t core_handle_protocol(uint64_t handle, const void *guid, uint64_t *value);
-uint64_t core_path(const void *guid, uint64_t *address, uint64_t *handle);
+uint64_t core_locate_path(const void *guid, const uint8_t *path, size_t length, uint64_t block,
+                          uint64_t *matched, uint64_t *handle);
 
 /* ---- calls.c: who calls which service ---- */
 #define HERE NUMBER(__builtin_return_address(0))
@@ -265,13 +269,17 @@ void found(enum finding kind, const struct origin *origin, const char *format, .
 size_t findings_count(void);
 const char *finding_name(enum finding kind);
 void write_findings(FILE *file);
+void write_text(FILE *file, const char *text);
 void found_access(uint64_t address, uint64_t instruction, bool write);
 void stop_at_access(uint64_t instruction);
 void look_for_leaks(struct image *image, const char *when);
 
-/* ---- report.c ---- */
+/* ---- report.c, left.c ---- */
 void open_report(const char *file);
 void save_pictures(void);
+void count_left(void);
+void print_left(FILE *file);
+void write_left(FILE *file);
 NO_RETURN void finish(enum ending ending, const char *format, ...)
     __attribute__((format(printf, 2, 3)));
 
@@ -307,7 +315,6 @@ struct image {
 struct image *image_at(uint64_t address);
 struct image *image_of(EFI_HANDLE handle);
 struct image *first_image(void);
-void keep_image(struct image *image);
 void read_symbols(struct image *image, const char *file);
 const char *place_text(struct image *image, uint64_t address);
 const char *where(uint64_t address);
@@ -340,7 +347,7 @@ void signal_exit_boot_services(void);
 size_t events_of(const struct image *image);
 void fill_event_services(EFI_BOOT_SERVICES *boot);
 
-/* ---- protocols.c, device_paths.c, drivers.c, open_items.c ---- */
+/* ---- protocols.c, device_paths.c ---- */
 EFI_STATUS install_one(uint64_t *handle, const void *guid, uint32_t kind, uint64_t value);
 EFI_STATUS uninstall_one(uint64_t handle, const void *guid, uint64_t value);
 void *interface_of(uint64_t handle, const void *guid);
@@ -353,12 +360,6 @@ uint64_t path_from_core(const void *guid, uint64_t value);
 uint64_t path_installed(uint64_t handle, const void *guid, uint64_t value);
 void path_drop(uint64_t value);
 EFI_STATUS locate_path(const void *guid, const void *path, uint64_t *handle, uint64_t *matched);
-EFI_STATUS connect_controller(uint64_t handle, const EFI_HANDLE *first,
-                              EFI_DEVICE_PATH_PROTOCOL *rest, bool recursive);
-EFI_STATUS disconnect_controller(uint64_t handle, uint64_t driver, uint64_t child);
-EFI_STATUS stop_holders(uint64_t handle, const void *guid);
-size_t open_entries(uint64_t handle, const void *guid, EFI_OPEN_PROTOCOL_INFORMATION_ENTRY *list,
-                    size_t room);
 struct held {
     uint64_t handle, agent, controller, value;
     EFI_GUID guid;
@@ -368,6 +369,25 @@ struct held {
 void hold(const struct held *held);
 void let_go(uint64_t handle, const void *guid, uint64_t agent, uint64_t controller, bool all);
 void each_held(void (*visit)(const struct held *held, void *context), void *context);
+
+/* ---- drivers.c, overrides.c, stops.c ---- */
+struct handles {
+    uint64_t *list;
+    size_t count, room;
+};
+enum stopped {
+    NONE_TO_STOP,
+    ALL_STOPPED,
+    NOT_ALL_STOPPED,
+};
+bool is_live(uint64_t handle);
+void add_handle(struct handles *handles, uint64_t handle);
+struct handles handles_with(const void *guid);
+size_t name_drivers(uint64_t controller, const EFI_HANDLE *first, uint64_t *list);
+EFI_STATUS connect_controller(uint64_t controller, const EFI_HANDLE *first,
+                              EFI_DEVICE_PATH_PROTOCOL *rest, bool recursive);
+EFI_STATUS disconnect_controller(uint64_t controller, uint64_t driver, uint64_t child);
+enum stopped stop_drivers_on(uint64_t handle, const void *guid);
 
 /* ---- console.c, screen.c, text_in.c, keys.c ---- */
 #define SCREEN_COLUMNS 80

@@ -8,6 +8,11 @@
 
 static struct image *images;
 
+struct image *first_image(void)
+{
+    return images;
+}
+
 /* The live image with an address in it, or NULL. */
 struct image *image_at(uint64_t address)
 {
@@ -259,6 +264,7 @@ EFI_STATUS EFIAPI ExitBootServices(EFI_HANDLE handle, UINTN key)
     if (status != EFI_SUCCESS)
         ANSWER(status);
     zone_look_at_all("when boot services end");
+    count_left();
     signal_exit_boot_services();
     host.exited = true;
     if (host.checks)

@@ -38,6 +38,19 @@ void each_held(void (*visit)(const struct held *held, void *context), void *cont
         visit(&held[i], context);
 }
 
+/* Whether an interface is open exclusively, so that no stop of a driver makes way for another. */
+static bool is_exclusive(uint64_t handle, const EFI_GUID *guid)
+{
+    struct rafkudin_guid copy = core_guid(guid);
+    struct rafkudin_item item;
+
+    for (size_t i = 0;
+         RafkudinOpenItem(host.core, handle, &copy, i, &item) == RAFKUDIN_SUCCESS; i++)
+        if ((item.attributes & RAFKUDIN_EXCLUSIVE) != 0)
+            return true;
+    return false;
+}
+
 /* Every refusal but ALREADY_STARTED writes null. */
 static EFI_STATUS EFIAPI OpenProtocol(EFI_HANDLE handle, const EFI_GUID *guid, void **interface,
                                       EFI_HANDLE agent, EFI_HANDLE controller, uint32_t attributes)
@@ -50,7 +63,7 @@ static EFI_STATUS EFIAPI OpenProtocol(EFI_HANDLE handle, const EFI_GUID *guid, v
         ANSWER(EFI_INVALID_PARAMETER);
     status = core_open(number, guid, &value, NUMBER(agent), NUMBER(controller), attributes);
     if (status == EFI_ACCESS_DENIED && (attributes & RAFKUDIN_EXCLUSIVE) != 0 &&
-        stop_holders(number, guid) == EFI_SUCCESS)
+        !is_exclusive(number, guid) && stop_drivers_on(number, guid) == ALL_STOPPED)
         status = core_open(number, guid, &value, NUMBER(agent), NUMBER(controller), attributes);
     if (attributes != RAFKUDIN_TEST_PROTOCOL)
         *interface = POINTER(path_from_core(guid, value));

@@ -22,14 +22,20 @@ EFI_STATUS install_one(uint64_t *handle, const void *guid, uint32_t kind, uint64
     return status;
 }
 
-/* Where a driver has the interface open the host stops it first. */
+/* Where a driver has the interface open it is stopped first. Where the interface can't go all the
+ * same, the drivers that were stopped are connected again. */
 EFI_STATUS uninstall_one(uint64_t handle, const void *guid, uint64_t value)
 {
     uint64_t core_value = path_installed(handle, guid, value);
     EFI_STATUS status = core_uninstall(handle, guid, core_value);
+    enum stopped stopped = NONE_TO_STOP;
 
-    if (status == EFI_ACCESS_DENIED && stop_holders(handle, guid) == EFI_SUCCESS)
+    if (status == EFI_ACCESS_DENIED)
+        stopped = stop_drivers_on(handle, guid);
+    if (stopped == ALL_STOPPED)
         status = core_uninstall(handle, guid, core_value);
+    if (status != EFI_SUCCESS && stopped != NONE_TO_STOP)
+        connect_controller(handle, NULL, NULL, true);
     if (status != EFI_SUCCESS)
         return status;
     if (core_value != value)
@@ -80,6 +86,7 @@ static EFI_STATUS EFIAPI ReinstallProtocolInterface(EFI_HANDLE handle, const EFI
     SERVICE("ReinstallProtocolInterface", NUMBER(handle), NUMBER(guid), NUMBER(old),
             NUMBER(interface));
     uint64_t number = NUMBER(handle), core_old, core_new;
+    enum stopped stopped = NONE_TO_STOP;
     EFI_STATUS status;
 
     if (guid == NULL)
@@ -87,16 +94,16 @@ static EFI_STATUS EFIAPI ReinstallProtocolInterface(EFI_HANDLE handle, const EFI
     core_old = path_installed(number, guid, NUMBER(old));
     core_new = path_to_core(guid, NUMBER(interface));
     status = core_reinstall(number, guid, core_old, core_new);
-    if (status == EFI_ACCESS_DENIED && stop_holders(number, guid) == EFI_SUCCESS)
+    if (status == EFI_ACCESS_DENIED)
+        stopped = stop_drivers_on(number, guid);
+    if (stopped == ALL_STOPPED)
         status = core_reinstall(number, guid, core_old, core_new);
-    if (status != EFI_SUCCESS) {
-        if (core_new != NUMBER(interface))
-            path_drop(core_new);
-        ANSWER(status);
-    }
-    if (core_old != NUMBER(old))
+    if (status == EFI_SUCCESS && core_old != NUMBER(old))
         path_drop(core_old);
-    connect_controller(number, NULL, NULL, true);
+    if (status != EFI_SUCCESS && core_new != NUMBER(interface))
+        path_drop(core_new);
+    if (status == EFI_SUCCESS || stopped != NONE_TO_STOP)
+        connect_controller(number, NULL, NULL, true);
     ANSWER(status);
 }
 
@@ -165,28 +172,63 @@ static EFI_STATUS EFIAPI InstallMultipleProtocolInterfaces(EFI_HANDLE *handle, .
     ANSWER(install_list(handle, list, count));
 }
 
-/* The library lacks this service: the interfaces are uninstalled one after the other, and where one
- * is refused those before it are installed again. */
+/* Stops what has one of the interfaces open, up to the first that can't be stopped. */
+static enum stopped stop_drivers_on_list(uint64_t handle, const struct listed *list, size_t count)
+{
+    enum stopped all = NONE_TO_STOP;
+
+    for (size_t i = 0; i < count && all != NOT_ALL_STOPPED; i++) {
+        enum stopped here = stop_drivers_on(handle, list[i].guid);
+
+        if (here != NONE_TO_STOP)
+            all = here;
+    }
+    return all;
+}
+
+/* All interfaces go or none; before they do, the drivers that have one open are stopped, as for
+ * UninstallProtocolInterface. */
+static EFI_STATUS uninstall_list(uint64_t handle, const struct listed *list, size_t count)
+{
+    struct rafkudin_interface interfaces[MOST_INTERFACES];
+    enum stopped stopped = NONE_TO_STOP;
+    bool are_there = true;
+    EFI_STATUS status;
+
+    for (size_t i = 0; i < count; i++) {
+        interfaces[i].guid = core_guid(list[i].guid);
+        interfaces[i].value = path_installed(handle, list[i].guid, list[i].value);
+        are_there &= interface_of(handle, list[i].guid) == POINTER(list[i].value);
+    }
+    status = core_uninstall_many(handle, interfaces, count);
+    if (status == EFI_INVALID_PARAMETER && are_there)
+        stopped = stop_drivers_on_list(handle, list, count);
+    if (stopped == ALL_STOPPED)
+        status = core_uninstall_many(handle, interfaces, count);
+    if (status != EFI_SUCCESS && stopped != NONE_TO_STOP)
+        connect_controller(handle, NULL, NULL, true);
+    for (size_t i = 0; status == EFI_SUCCESS && i < count; i++) {
+        if (interfaces[i].value != list[i].value)
+            path_drop(interfaces[i].value);
+        let_go(handle, list[i].guid, 0, 0, true);
+    }
+    return status;
+}
+
 static EFI_STATUS EFIAPI UninstallMultipleProtocolInterfaces(EFI_HANDLE handle, ...)
 {
     SERVICE("UninstallMultipleProtocolInterfaces", NUMBER(handle));
     struct listed list[MOST_INTERFACES];
     __builtin_ms_va_list words;
-    uint64_t number = NUMBER(handle);
-    size_t count, done = 0;
+    size_t count;
     bool fits;
 
     __builtin_ms_va_start(words, handle);
     fits = read_list(words, list, &count);
     __builtin_ms_va_end(words);
-    while (fits && done < count &&
-           uninstall_one(number, list[done].guid, list[done].value) == EFI_SUCCESS)
-        done++;
-    if (fits && done == count)
-        ANSWER(EFI_SUCCESS);
-    while (done-- > 0)
-        install_one(&number, list[done].guid, 0, list[done].value);
-    ANSWER(EFI_INVALID_PARAMETER);
+    if (!fits)
+        ANSWER(EFI_INVALID_PARAMETER);
+    ANSWER(uninstall_list(NUMBER(handle), list, count));
 }
 
 static EFI_STATUS EFIAPI RegisterProtocolNotify(const EFI_GUID *guid, EFI_EVENT event, void **key)

@@ -36,15 +36,11 @@ static void write_report(enum ending ending, const char *why)
 {
     if (json == NULL)
         return;
-    fprintf(json, "{\n  \"ending\": \"%s\",\n  \"status\": %d,\n  \"why\": \"",
+    fprintf(json, "{\n  \"ending\": \"%s\",\n  \"status\": %d,\n  \"why\": ",
             ending_name(ending), (int)ending);
-    for (; *why != 0; why++) {
-        if (*why == '"' || *why == '\\')
-            fputc('\\', json);
-        if ((unsigned char)*why >= ' ')
-            fputc(*why, json);
-    }
-    fprintf(json, "\",\n  \"calls\": %lu,\n", host.calls);
+    write_text(json, why);
+    fprintf(json, ",\n  \"calls\": %lu,\n", host.calls);
+    write_left(json);
     write_findings(json);
     fprintf(json, "}\n");
     fclose(json);
@@ -62,6 +58,7 @@ static void print_report(enum ending ending, const char *why)
         fputc('\n', stderr);
     }
     print_passed_over(stderr);
+    print_left(stderr);
     if (host.checks)
         fprintf(stderr, "efihost: %zu finding%s in %lu calls of services\n", findings_count(),
                 findings_count() == 1 ? "" : "s", host.calls);
