@@ -9,3 +9,4 @@ pub mod Laws
 pub mod Turns
 pub mod StartOrder
 pub mod DriverTurns
+pub mod AfterStop
