@@ -1,6 +1,7 @@
 //! What C asks of a core one item after the other. None of these is a service or takes memory of the machine.
-ghost use Rattle.std.specs.Prelude.{◌≡◌, length, slice_get};
-ghost use Rattle.c_interface.specs.Questions.{FillsWith, ReturnsFound, ReturnsItems, agent_item_at, block_from, carries_in, handle_at, holder_at, holders, interface_at, live_handles, open_on, page_run, page_runs};
+ghost use Rattle.std.specs.Prelude.{◌≡◌, length};
+ghost use Rattle.c_interface.specs.Items.{ListsItems, open_item_at};
+ghost use Rattle.c_interface.specs.Questions.{FillsWith, ReturnsFound, agent_item_at, block_from, handle_at, holder_at, holders, interface_at, live_handles, page_run, page_runs};
 
 use crate::handle::Rafkudin;
 use c_interface::{BlockEntry, OpenEntry, OpenItem, RunEntry};
@@ -130,7 +131,7 @@ pub extern "C" fn RafkudinOpenItem(
     item: &mut OpenItem,
 ) -> u64
     ensures returned { ReturnsFound
-        (slice_get (open_on core.old.core handle guid.now) index) item.old result item.new }
+        (open_item_at core.old.core handle guid.now index) item.old result item.new }
     ensures kept { core.new.core ≡ core.old.core }
 {
     core.held().open_item(handle, guid, index, item)
@@ -166,8 +167,8 @@ pub extern "C" fn RafkudinOpenProtocolInformationInto(
     buffer: &mut [OpenItem],
     count: &mut u64,
 ) -> u64
-    ensures returned { ReturnsItems (carries_in core.old.core handle guid.now)
-        (open_on core.old.core handle guid.now) count.old buffer.old result count.new buffer.new }
+    ensures returned { ListsItems
+        core.old.core handle guid.now count.old buffer.old result count.new buffer.new }
     ensures kept { core.new.core ≡ core.old.core }
 {
     core.held().open_items(handle, guid, buffer, count)

@@ -1,6 +1,6 @@
 -- What OpenProtocol and HandleProtocol give the caller's variable beside the interface that they
 -- return.
-use Rattle.std.specs.Prelude.{◌≡◌, ℕ, ◌==◌, not, Bool, true, cond, Option, Some, None}
+use Rattle.std.specs.Prelude.{◌≡◌, ℕ, ◌==◌, not, Bool, true, cond, List, MatchOption, Option, Some, None}
 use Rattle.page_ranges.specs.declared.statuses.Status.{Status}
 use Rattle.page_ranges.specs.declared.statuses.Status.TheVariants.{AlreadyStarted, Unsupported}
 use Rattle.guid_handles.specs.HandleTables.{HandleTable, value_at}
@@ -10,6 +10,7 @@ use Rattle.boot_replies.specs.declared.replies.Reply.{Reply}
 use Rattle.c_machines.specs.declared.guids.Guid.{Guid}
 use Rattle.c_machines.specs.Guids.{guid_in}
 use Rattle.c_interface.specs.EfiCores.{EfiCoreValue}
+use Rattle.c_interface.specs.Items.{value_on}
 use Rattle.c_interface.specs.Replies.{number_in, returned_or, status_in}
 use Rattle.c_interface.specs.Served.{Answers}
 
@@ -64,3 +65,9 @@ abbrev pub OpensGiving : {A : Type 0} → EfiCoreValue A → ℕ → Guid → �
 OpensGiving old handle guid agent controller attributes value status new_value new =
     AnswersOpen old (call.OpenProtocol handle (guid_in guid) agent controller attributes) value
     status new_value new
+
+-- What the last call gives that opened an interface and returned a number or left one.
+abbrev pub GivesLast : {A : Type 0} → EfiCoreValue A → ℕ → List ℕ → ℕ → ℕ → Type 0
+GivesLast c handle guid returned result =
+    MatchOption c.last (result ≡ returned)
+    (λ answer. result ≡ given_by (status_in answer) (value_on c handle guid) returned)

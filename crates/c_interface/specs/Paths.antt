@@ -44,11 +44,11 @@ most_path_calls = 4
 
 -- the drivers, the switch and the block of a core are as they were, and this reply is that of the
 -- last call
-pub record IsLeft {A : Type 0} (old : EfiCoreValue A) (told : Reply A) (new : EfiCoreValue A)
+pub record IsLeft {A : Type 0} (old : EfiCoreValue A) (reply : Reply A) (new : EfiCoreValue A)
     : Type 0 where
   pub drivers : new.core.drivers ≡ old.core.drivers
   pub certifies : new.certifies ≡ old.certifies
-  pub last : new.last ≡ Some told
+  pub last : new.last ≡ Some reply
   pub block : new.block ≡ old.block
 
 -- the same core, with this reply as that of the last call
@@ -71,21 +71,21 @@ path_calls handle path address =
 -- Calls are made in order up to the first that is refused, and the last reply is this one.
 abbrev pub RunsUntilRefused : {A : Type 0} → List Meaning → State → List (Call A) → Reply A → State
     → Type 0
-RunsUntilRefused ds old [] told new = ⊥
-RunsUntilRefused ds old (c ∷ []) told new = Step ds old c told new
-RunsUntilRefused {A = A} ds old (c ∷ calls) told new =
-    (Step ds old c told new × (status_in told ≢ Success))
+RunsUntilRefused ds old [] reply new = ⊥
+RunsUntilRefused ds old (c ∷ []) reply new = Step ds old c reply new
+RunsUntilRefused {A = A} ds old (c ∷ calls) reply new =
+    (Step ds old c reply new × (status_in reply ≢ Success))
     ⊎ ((answer : Reply A) × (next : State) × Step ds old c answer next
-    × (status_in answer ≡ Success) × RunsUntilRefused ds next calls told new)
+    × (status_in answer ≡ Success) × RunsUntilRefused ds next calls reply new)
 
 -- an installation that is done, whose handle and block are in the caller's variables; or one that
 -- was refused, whose block is given back
 abbrev pub EndsInstallation : {A : Type 0} → List Meaning → State → ℕ → Reply A → ℕ × ℕ → ℕ × ℕ
     → State → Type 0
-EndsInstallation {A = A} ds made address told before after new =
-    ((status_in told ≡ Success) × (after ≡ (unwrap_or (number_in told) before.0, address))
+EndsInstallation {A = A} ds made address reply before after new =
+    ((status_in reply ≡ Success) × (after ≡ (unwrap_or (number_in reply) before.0, address))
     × (new ≡ made))
-    ⊎ ((status_in told ≢ Success) × (after ≡ before)
+    ⊎ ((status_in reply ≢ Success) × (after ≡ before)
     × ((freed : Reply A) × Step ds made (call.FreePool address) freed new))
 
 -- What follows the block of a path: the path is written to it and installed. The last reply of these
@@ -93,11 +93,11 @@ EndsInstallation {A = A} ds made address told before after new =
 abbrev pub InstallsBlock : {A : Type 0} → EfiCoreValue A → List ℕ → ℕ → ℕ × ℕ → ℕ → ℕ × ℕ
     → EfiCoreValue A → Type 0
 InstallsBlock {A = A} first path address before status after new =
-    (told : Reply A) × (made : State)
-    × RunsUntilRefused (meanings first) first.core.state (path_calls before.0 path address) told
+    (reply : Reply A) × (made : State)
+    × RunsUntilRefused (meanings first) first.core.state (path_calls before.0 path address) reply
     made
-    × EndsInstallation (meanings first) made address told before after new.core.state
-    × (status ≡ status_number (status_in told)) × IsLeft first told new
+    × EndsInstallation (meanings first) made address reply before after new.core.state
+    × (status ≡ status_number (status_in reply)) × IsLeft first reply new
 
 -- the same where there is a block; else AllocatePool was refused, and nothing follows
 abbrev pub InstallsAt : {A : Type 0} → EfiCoreValue A → List ℕ → Option ℕ → Reply A → ℕ × ℕ → ℕ

@@ -1,7 +1,8 @@
 //! The memory map without a call, and the check of a certificate block.
-ghost use Rattle.std.specs.Prelude.{◌≡◌, length, slice_get};
+ghost use Rattle.std.specs.Prelude.{◌≡◌, length};
 ghost use Rattle.page_ranges.specs.MemoryMap.{memory_map};
 ghost use Rattle.c_interface.specs.Checks.{ChecksBlock, ReturnsEntry};
+ghost use Rattle.c_interface.specs.Items.{map_entry};
 
 use crate::efi_core::EfiCore;
 use certificate_blocks::{BlockFault, judge_block};
@@ -31,9 +32,7 @@ impl<A: Allocator + Copy> EfiCore<A> {
     ///
     /// NOT_FOUND: there is none.
     pub fn descriptor(&self, index: usize, entry: &mut MapEntry) -> u64
-        ensures { ReturnsEntry
-            (slice_get (memory_map self.now.core.state.parts.book.memory) index) entry.old result
-            entry.new }
+        ensures { ReturnsEntry (map_entry self.now index) entry.old result entry.new }
     {
         // This contract says that the memory is proper, and so that an entry's address is one of 64 bits.
         let _count = self.core.descriptors();

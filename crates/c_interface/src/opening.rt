@@ -1,9 +1,9 @@
 //! OpenProtocol and HandleProtocol as shipped programs rely on them.
-ghost use Rattle.std.specs.Prelude.{◌≡◌, MatchOption};
-ghost use Rattle.guid_handles.specs.HandleTables.{value_at};
+ghost use Rattle.std.specs.Prelude.{◌≡◌};
 ghost use Rattle.c_machines.specs.Guids.{guid_in};
-ghost use Rattle.c_interface.specs.Opening.{HandlesGiving, OpensGiving, given_by};
-ghost use Rattle.c_interface.specs.Replies.{returned_or, status_in};
+ghost use Rattle.c_interface.specs.Items.{value_on};
+ghost use Rattle.c_interface.specs.Opening.{GivesLast, HandlesGiving, OpensGiving, given_by};
+ghost use Rattle.c_interface.specs.Replies.{returned_or};
 
 use crate::efi_core::EfiCore;
 use crate::replies::status_in;
@@ -54,11 +54,7 @@ impl<A: Allocator + Copy> EfiCore<A> {
 
     /// What the last call gives, which opened an interface and returned a number or left one.
     fn given(&self, handle: u64, guid: &Guid, returned: u64) -> u64
-        ensures { MatchOption self.now.last (result ≡ returned)
-            (λ answer. result
-            ≡ given_by (status_in answer)
-            (value_at self.now.core.state.parts.lists.handles handle (guid_in guid.now))
-            returned) }
+        ensures { GivesLast self.now handle (guid_in guid.now) returned result }
     {
         let guid = guid.uuid();
         match self.last_reply() {
@@ -69,9 +65,7 @@ impl<A: Allocator + Copy> EfiCore<A> {
 
     /// What a call gives by its status.
     fn given_by(&self, status: Status, handle: u64, guid: Uuid, returned: u64) -> u64
-        ensures { result
-            ≡ given_by status
-            (value_at self.now.core.state.parts.lists.handles handle guid) returned }
+        ensures { result ≡ given_by status (value_on self.now handle guid) returned }
     {
         match status {
             Status::AlreadyStarted => {

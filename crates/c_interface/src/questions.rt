@@ -1,6 +1,7 @@
 //! Questions: what the core has, one item after the other. None is a call of a service.
-ghost use Rattle.std.specs.Prelude.{◌≡◌, length, slice_get};
-ghost use Rattle.c_interface.specs.Questions.{FillsWith, ReturnsFound, ReturnsItems, agent_item_at, block_from, carries_in, handle_at, holder_at, holders, interface_at, live_handles, open_on, page_run, page_runs};
+ghost use Rattle.std.specs.Prelude.{◌≡◌, length};
+ghost use Rattle.c_interface.specs.Items.{ListsItems, open_item_at};
+ghost use Rattle.c_interface.specs.Questions.{FillsWith, ReturnsFound, agent_item_at, block_from, handle_at, holder_at, holders, interface_at, live_handles, page_run, page_runs};
 
 use crate::buffers::lay;
 use crate::efi_core::EfiCore;
@@ -94,7 +95,7 @@ impl<A: Allocator + Copy> EfiCore<A> {
     /// NOT_FOUND: there is none.
     pub fn open_item(&self, handle: u64, guid: &Guid, index: usize, item: &mut OpenItem) -> u64
         ensures { ReturnsFound
-            (slice_get (open_on self.now handle guid.now) index) item.old result item.new }
+            (open_item_at self.now handle guid.now index) item.old result item.new }
     {
         put_found(self.core.open_item(handle, guid.uuid(), index), item)
     }
@@ -121,8 +122,8 @@ impl<A: Allocator + Copy> EfiCore<A> {
         buffer: &mut [OpenItem],
         count: &mut u64,
     ) -> u64
-        ensures { ReturnsItems (carries_in self.now handle guid.now)
-            (open_on self.now handle guid.now) count.old buffer.old result count.new buffer.new }
+        ensures { ListsItems
+            self.now handle guid.now count.old buffer.old result count.new buffer.new }
     {
         let guid = guid.uuid();
         let Some(needed) = self.core.write_open_items(handle, guid, &mut []) else {

@@ -1,5 +1,5 @@
 //! What comes next where a caller in C starts and stops drivers itself. None is a call.
-ghost use Rattle.driver_connect.specs.DriverTurns.{after_outcome, next_driver, pass_of};
+ghost use Rattle.driver_connect.specs.DriverTurns.{EndsTurn, next_driver, pass_of};
 ghost use Rattle.std.specs.Prelude.{◌≡◌};
 ghost use Rattle.c_interface.specs.Turns.{ReturnsDriver, ReturnsTurns};
 
@@ -54,8 +54,7 @@ pub fn connect_next(turns: &DriverTurns, drivers: &[Agent], driver: &mut Agent) 
 
 /// Records what came of the turn of a driver: whether its start was called.
 pub fn connect_record(turns: &mut DriverTurns, drivers: &mut [Agent], was_started: bool)
-    ensures { pass_of turns.new drivers.new
-        ≡ after_outcome was_started (pass_of turns.old drivers.old) }
+    ensures { EndsTurn was_started turns.old drivers.old turns.new drivers.new }
 {
     turns.record_outcome(drivers, was_started);
 }

@@ -5,6 +5,7 @@ use Rattle.std.specs.declared.vec.Vec.{Vec}
 use Rattle.driver_connect.specs.declared.table.TableDriver.{TableDriver}
 use Rattle.c_machines.specs.declared.drivers.Child.{Child}
 use Rattle.c_machines.specs.declared.drivers.DriverTable.{DriverTable}
+use Rattle.c_machines.specs.declared.guids.Guid.{Guid}
 use Rattle.c_machines.specs.declared.faults.MachineFault.{MachineFault}
 use Rattle.c_machines.specs.declared.faults.MachineFault.TheVariants.{Invalid, OutOfMemory}
 use Rattle.c_machines.specs.Guids.{guid_in, interface_in}
@@ -31,6 +32,14 @@ returned d =
 -- the first interfaces of the child's array, as many as its count says
 abbrev pub child_in : Child → List (List ℕ × ℕ)
 child_in c = map interface_in (take c.count c.interfaces)
+
+-- a value, where a test says that it can be read
+abbrev pub read_if : {X : Type 0} → Bool → X → Option X
+read_if test x = if test then Some x else None
+
+-- the first GUIDs of an array of 8, as many as the count says
+abbrev pub guids_up_to : ℕ → List Guid → Option (List (List ℕ))
+guids_up_to count guids = read_if (nat_le count 8) (map guid_in (take count guids))
 
 -- the first elements of each of the table's arrays, as many as its count says
 abbrev pub driver_in : DriverTable → DriverRecord

@@ -1,9 +1,8 @@
 //! Drivers as C has them, in tables.
-ghost use Rattle.std.specs.Prelude.{◌≡◌, nat_le, map, take, Some, None, if◌then◌else◌};
+ghost use Rattle.std.specs.Prelude.{◌≡◌, map};
 ghost use Rattle.std.specs.Option.{option_map};
 ghost use Rattle.std.specs.List.{list_all};
-ghost use Rattle.c_machines.specs.Guids.{guid_in, interface_in};
-ghost use Rattle.c_machines.specs.DriverTables.{ReadsDrivers, are_tables, fits_child, child_in, children_in, fits, driver_in, returned};
+ghost use Rattle.c_machines.specs.DriverTables.{ReadsDrivers, are_tables, fits_child, child_in, children_in, fits, driver_in, guids_up_to, read_if, returned};
 
 use crate::faults::MachineFault;
 use crate::guids::{Guid, Interface};
@@ -103,8 +102,7 @@ pub fn table_drivers<A: Allocator>(
 
 /// The driver of a table, None where a count is above the length of its array.
 fn driver_in(table: &DriverTable) -> Option<TableDriver>
-    ensures { option_map returned result ≡ (if fits table.now then Some (driver_in table.now)
-        else None) }
+    ensures { option_map returned result ≡ read_if (fits table.now) (driver_in table.now) }
 {
     let needs = guids_in(&table.needs, table.needs_count)?;
     let opens = guids_in(&table.opens, table.opens_count)?;
@@ -119,8 +117,7 @@ fn driver_in(table: &DriverTable) -> Option<TableDriver>
 
 /// The first GUIDs, as many as the count says; None where there are fewer.
 fn guids_in(guids: &[Guid; 8], count: u64) -> Option<ArrayVec<Uuid, MAX_GUIDS>>
-    ensures { option_map (λ list. list.items) result
-        ≡ (if nat_le count 8 then Some (map guid_in (take count guids.now)) else None) }
+    ensures { option_map (λ list. list.items) result ≡ guids_up_to count guids.now }
 {
     if count > MAX_GUIDS as u64 {
         return None;
@@ -135,7 +132,7 @@ fn guids_in(guids: &[Guid; 8], count: u64) -> Option<ArrayVec<Uuid, MAX_GUIDS>>
 /// The interfaces of a child, None where its count is above the length of the array.
 fn child_in(child: &Child) -> Option<ArrayVec<(Uuid, u64), MAX_INTERFACES>>
     ensures { option_map (λ list. list.items) result
-        ≡ (if fits_child child.now then Some (child_in child.now) else None) }
+        ≡ read_if (fits_child child.now) (child_in child.now) }
 {
     if child.count > MAX_INTERFACES as u64 {
         return None;

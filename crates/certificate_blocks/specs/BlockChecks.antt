@@ -1,5 +1,5 @@
 -- What the check of a certificate block says.
-use Rattle.std.specs.Prelude.{◌≡◌, ◌↔◌, ℕ, Bool, List, ◌++◌, codes, IsTrue, Option, Result, Ok, Err, if◌then◌else◌}
+use Rattle.std.specs.Prelude.{◌≡◌, ◌↔◌, ℕ, Bool, List, ◌++◌, codes, IsTrue, Option, Result, Ok, Err, IfSome, if◌then◌else◌}
 use Rattle.std.specs.Io.KnownBytes.{Appends, Keeps}
 use Rattle.page_ranges.specs.declared.ranges.Descriptor.{Descriptor}
 use Rattle.placement_certificate.specs.declared.certificates.Request.{Request}
@@ -42,3 +42,19 @@ Judges can_fail bytes before after (Err fault.Write) =
     × WritesFront before (verdict_text accepted) after
 Judges can_fail bytes before after (Err fault.Read) = IsTrue can_fail
 Judges can_fail bytes before after (Err fault.OutOfMemory) = Unit {0}
+
+-- the same of bytes that may not be known, and of what a writer wrote
+abbrev pub JudgesKnown : {W : Type 0} → Bool → Option (List ℕ) → (W → Option (List ℕ)) → W → W
+    → Result Bool BlockFault → Type 0
+JudgesKnown can_fail left contents old new result =
+    IfSome left (λ bytes. Judges can_fail bytes (contents old) (contents new) result)
+
+-- A write of the verdict failed, and a front of it was written.
+abbrev pub FailsToWrite : {W : Type 0} → (W → Option (List ℕ)) → Bool → W → W → BlockFault → Type 0
+FailsToWrite contents accepted old new e =
+    (e ≡ fault.Write) × WritesFront (contents old) (verdict_text accepted) (contents new)
+
+-- A writer wrote the verdict.
+abbrev pub WritesVerdict : {W : Type 0} → (W → Option (List ℕ)) → Bool → W → W → Type 0
+WritesVerdict contents accepted old new =
+    Appends (contents old) (contents new) (verdict_text accepted)

@@ -1,5 +1,6 @@
 -- What it is to read a part of a certificate block.
 use Rattle.std.specs.Prelude.{◌≡◌, MatchResult, IfSome, IsTrue, ℕ, Bool, List, Option, Some, option_map, Result, Ok, Err}
+use Rattle.std.specs.declared.vec.Vec.{Vec}
 use Rattle.certificate_blocks.specs.declared.faults.BlockFault.{BlockFault}
 use Rattle.certificate_blocks.specs.declared.faults.BlockFault.TheVariants as fault
 use Rattle.text_lines.specs.Lines.{lines_of}
@@ -43,6 +44,18 @@ abbrev pub ReadsFrom : {S Z X A : Type 0} → Bool → (S → Option (List ℕ))
     → BlockReader S Z → Result X BlockFault → BlockReader S Z → Type 0
 ReadsFrom can_fail left reading view old result new =
     Reads can_fail view reading (left_in_reader left old) result (left_in_reader left new)
+
+-- A reader returned the value that the reading gives on the lines that were left of it.
+abbrev pub ReadsValue : {S Z A : Type 0} → Bool → (S → Option (List ℕ)) → Reading A
+    → BlockReader S Z → Result A BlockFault → BlockReader S Z → Type 0
+ReadsValue can_fail left reading old result new =
+    ReadsFrom can_fail left reading (λ x. x) old result new
+
+-- A reader returned the values that the reading gives on the lines that were left of it.
+abbrev pub ReadsAll : {S Z A : Type 0} → Bool → (S → Option (List ℕ)) → Reading (List A)
+    → BlockReader S Z → Result (Vec A Z) BlockFault → BlockReader S Z → Type 0
+ReadsAll can_fail left reading old result new =
+    ReadsFrom can_fail left reading (λ v. v.items) old result new
 
 -- what a block says
 abbrev pub said_by : {A : Type 0} → Block A → List Descriptor × Request × CertificateValue

@@ -64,9 +64,13 @@ line_from number (line ∷ lines) =
 abbrev pub next_line : Reading (ℕ × List ℕ)
 next_line = λ left. line_from left.number left.lines
 
--- what a line says: one carriage return at its end is dropped
+-- the words of a line: one carriage return at its end is dropped
+abbrev pub words_in : List ℕ → List (List ℕ)
+words_in line = words_of (strip_last 13 line)
+
+-- what a line says, by its words
 abbrev pub said : {A : Type 0} → (List (List ℕ) → Option A) → List ℕ → Option A
-said meaning line = meaning (words_of (strip_last 13 line))
+said meaning line = meaning (words_in line)
 
 -- what the next line says
 abbrev pub line : {A : Type 0} → (List (List ℕ) → Option A) → Reading A

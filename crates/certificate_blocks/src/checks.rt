@@ -1,8 +1,6 @@
 //! The check of a certificate block.
-ghost use Rattle.std.specs.Prelude.{◌≡◌, true, IfSome, IfErr, OnOk};
-ghost use Rattle.std.specs.Io.KnownBytes.{Appends};
-ghost use Rattle.text_lines.specs.Printed.{WritesFront};
-ghost use Rattle.certificate_blocks.specs.BlockChecks.{verdict_text, Judges, Writes};
+ghost use Rattle.std.specs.Prelude.{true, IfErr, OnOk};
+ghost use Rattle.certificate_blocks.specs.BlockChecks.{FailsToWrite, JudgesKnown, Writes, WritesVerdict};
 
 use crate::faults::BlockFault;
 use crate::reader::read_block;
@@ -20,8 +18,7 @@ pub fn check_block<A: Allocator + Copy, R: Read + Drop, W: Write>(
     reader: R,
     writer: &mut W,
 ) -> Result<bool, BlockFault>
-    ensures judged { IfSome (R.remaining reader)
-        (λ bytes. Judges true bytes (W.contents writer.old) (W.contents writer.new) result) }
+    ensures judged { JudgesKnown true (R.remaining reader) W.contents writer.old writer.new result }
     ensures written { Writes (W.contents writer.old) (W.contents writer.new) result }
 {
     match BufReader::new(alloc, reader) {
@@ -36,8 +33,8 @@ pub fn judge_block<A: Allocator + Copy, S: ByteSource + Drop, W: Write>(
     source: S,
     writer: &mut W,
 ) -> Result<bool, BlockFault>
-    ensures judged { IfSome (S.left source)
-        (λ bytes. Judges S.can_fail bytes (W.contents writer.old) (W.contents writer.new) result) }
+    ensures judged { JudgesKnown
+        S.can_fail (S.left source) W.contents writer.old writer.new result }
     ensures written { Writes (W.contents writer.old) (W.contents writer.new) result }
 {
     let block = match read_block(alloc, source) {
@@ -53,10 +50,8 @@ pub fn judge_block<A: Allocator + Copy, S: ByteSource + Drop, W: Write>(
 
 /// Writes whether a certificate is accepted.
 fn write_verdict<W: Write>(writer: &mut W, accepted: bool) -> Result<(), BlockFault>
-    ensures ok { OnOk result
-        (Appends (W.contents writer.old) (W.contents writer.new) (verdict_text accepted)) }
-    ensures err { IfErr result (λ fault. (fault ≡ BlockFault.Write)
-        × WritesFront (W.contents writer.old) (verdict_text accepted) (W.contents writer.new)) }
+    ensures ok { OnOk result (WritesVerdict W.contents accepted writer.old writer.new) }
+    ensures err { IfErr result (FailsToWrite W.contents accepted writer.old writer.new) }
 {
     let text = if accepted { "accepted\n" } else { "refused\n" };
     match write_text(writer, text.as_bytes()) {

@@ -1,10 +1,8 @@
 //! Certificate blocks, read line by line.
 ghost use Rattle.std.specs.Prelude.{◌≡◌, IfOk, IfErr, IfSome, map};
-ghost use Rattle.std.specs.Io.BufRead.{strip_last};
-ghost use Rattle.text_lines.specs.Words.{words_of};
 ghost use Rattle.certificate_blocks.specs.BlockLines.{name_alone, number_after, entry_of_words, request_of, bound_of};
-ghost use Rattle.certificate_blocks.specs.Blocks.{next_line, line, times, no_line, block};
-ghost use Rattle.certificate_blocks.specs.BlockReads.{ReadsBlock, ReadsFrom, said_by};
+ghost use Rattle.certificate_blocks.specs.Blocks.{next_line, line, times, no_line, block, words_in};
+ghost use Rattle.certificate_blocks.specs.BlockReads.{ReadsAll, ReadsBlock, ReadsFrom, ReadsValue, said_by};
 
 use crate::faults::BlockFault;
 use crate::line_words::{bound_of, entry_of_words, name_alone, number_after, request_of};
@@ -61,8 +59,7 @@ impl<S: ByteSource + Drop, A: Allocator + Copy> BlockReader<S, A> {
     /// The words of the newest line.
     fn words(&self) -> Result<Vec<&[u8], A>, BlockFault>
         ensures ok { IfOk result
-            (λ words. map (λ word. word.now) words.items
-            ≡ words_of (strip_last 13 self.now.line.items)) }
+            (λ words. map (λ word. word.now) words.items ≡ words_in self.now.line.items) }
         ensures err { IfErr result (λ fault. fault ≡ BlockFault.OutOfMemory) }
     {
         Ok(words_of(self.alloc, without_carriage_return(self.line.as_slice()))?)
@@ -70,8 +67,8 @@ impl<S: ByteSource + Drop, A: Allocator + Copy> BlockReader<S, A> {
 
     /// Reads `NAME`.
     fn name(&mut self, name: &[u8]) -> Result<(), BlockFault>
-        ensures { ReadsFrom S.can_fail S.left (line (name_alone name.now))
-            (λ done. done) self.old result self.new }
+        ensures { ReadsValue
+            S.can_fail S.left (line (name_alone name.now)) self.old result self.new }
     {
         let number = self.next_line()?;
         let words = self.words()?;
@@ -80,8 +77,8 @@ impl<S: ByteSource + Drop, A: Allocator + Copy> BlockReader<S, A> {
 
     /// Reads `NAME NUMBER`.
     fn number_after(&mut self, name: &[u8]) -> Result<u64, BlockFault>
-        ensures { ReadsFrom S.can_fail S.left (line (number_after name.now))
-            (λ n. n) self.old result self.new }
+        ensures { ReadsValue
+            S.can_fail S.left (line (number_after name.now)) self.old result self.new }
     {
         let number = self.next_line()?;
         let words = self.words()?;
@@ -90,8 +87,7 @@ impl<S: ByteSource + Drop, A: Allocator + Copy> BlockReader<S, A> {
 
     /// Reads a map entry.
     fn entry(&mut self) -> Result<Descriptor, BlockFault>
-        ensures { ReadsFrom S.can_fail S.left (line entry_of_words)
-            (λ entry. entry) self.old result self.new }
+        ensures { ReadsValue S.can_fail S.left (line entry_of_words) self.old result self.new }
     {
         let number = self.next_line()?;
         let words = self.words()?;
@@ -100,8 +96,7 @@ impl<S: ByteSource + Drop, A: Allocator + Copy> BlockReader<S, A> {
 
     /// Reads the request.
     fn request(&mut self) -> Result<Request, BlockFault>
-        ensures { ReadsFrom S.can_fail S.left (line request_of)
-            (λ request. request) self.old result self.new }
+        ensures { ReadsValue S.can_fail S.left (line request_of) self.old result self.new }
     {
         let number = self.next_line()?;
         let words = self.words()?;
@@ -110,8 +105,7 @@ impl<S: ByteSource + Drop, A: Allocator + Copy> BlockReader<S, A> {
 
     /// Reads a bound.
     fn bound(&mut self) -> Result<Bound, BlockFault>
-        ensures { ReadsFrom S.can_fail S.left (line bound_of)
-            (λ bound. bound) self.old result self.new }
+        ensures { ReadsValue S.can_fail S.left (line bound_of) self.old result self.new }
     {
         let number = self.next_line()?;
         let words = self.words()?;
@@ -120,8 +114,8 @@ impl<S: ByteSource + Drop, A: Allocator + Copy> BlockReader<S, A> {
 
     /// Reads the given number of map entries.
     fn entries(&mut self, count: u64) -> Result<Vec<Descriptor, A>, BlockFault>
-        ensures { ReadsFrom S.can_fail S.left (times count (line entry_of_words))
-            (λ entries. entries.items) self.old result self.new }
+        ensures { ReadsAll
+            S.can_fail S.left (times count (line entry_of_words)) self.old result self.new }
     {
         let mut entries = Vec::new(self.alloc);
         for _read in 0..count {
@@ -132,8 +126,8 @@ impl<S: ByteSource + Drop, A: Allocator + Copy> BlockReader<S, A> {
 
     /// Reads the given number of bounds.
     fn bounds(&mut self, count: u64) -> Result<Vec<Bound, A>, BlockFault>
-        ensures { ReadsFrom S.can_fail S.left (times count (line bound_of))
-            (λ bounds. bounds.items) self.old result self.new }
+        ensures { ReadsAll
+            S.can_fail S.left (times count (line bound_of)) self.old result self.new }
     {
         let mut bounds = Vec::new(self.alloc);
         for _read in 0..count {
@@ -144,7 +138,7 @@ impl<S: ByteSource + Drop, A: Allocator + Copy> BlockReader<S, A> {
 
     /// Reads that no line is left.
     fn no_line(&mut self) -> Result<(), BlockFault>
-        ensures { ReadsFrom S.can_fail S.left no_line (λ done. done) self.old result self.new }
+        ensures { ReadsValue S.can_fail S.left no_line self.old result self.new }
     {
         let number = self.number;
         match self.source.take_byte() {

@@ -1,13 +1,15 @@
 -- Connecting a handle, and the handles that are made.
 use Rattle.std.specs.Prelude.{◌≡◌, ℕ, zero, suc, ◌||◌, nat_lt, Bool, true, false, not, cond, List, [], ◌∷◌, length, Result, Ok, Err}
+use Rattle.std.specs.declared.vec.Vec.{Vec}
 use Rattle.std.specs.List.{filter}
+use Rattle.std.specs.Result.{result_map_both}
 use Rattle.page_ranges.specs.declared.statuses.Status.{Status}
 use Rattle.page_ranges.specs.declared.statuses.Status.TheVariants.{InvalidParameter, OutOfResources, NotFound}
 use Rattle.guid_handles.specs.HandleTables.{HandleTable, numbers, is_live}
 use Rattle.open_agents.specs.declared.items.OpenRecord.{OpenRecord}
 use Rattle.protocol_notify.specs.declared.notify.Registration.{Registration}
 use Rattle.driver_connect.specs.Drivers.{Meaning}
-use Rattle.driver_connect.specs.Starting.{Site, site, Progress, starts_on, is_any_carried_out}
+use Rattle.driver_connect.specs.Starting.{Site, site, site_of, Progress, starts_on, is_any_carried_out}
 
 -- the handles made after a number was given, ascending
 abbrev pub made_after : ℕ → HandleTable → List ℕ
@@ -64,3 +66,11 @@ Connects c named recursive t opens (Err NotFound) new_t new_opens =
 Connects c named recursive t opens (Err OutOfResources) new_t new_opens =
     (connect_refused t c.controller named ≡ false) × (new_t ≡ t) × (new_opens ≡ opens)
 Connects c named recursive t opens (Err e) new_t new_opens = ⊥
+
+-- The same with drivers of these meanings, and of the call's own result.
+abbrev pub ConnectsBy : {D A : Type 0} → (D → Meaning) → List D → List Registration → ℕ → List ℕ
+    → Bool → HandleTable → List OpenRecord → Result (Vec ℕ A) Status → HandleTable
+    → List OpenRecord → Type 0
+ConnectsBy meaning drivers rs handle named recursive t opens result new_t new_opens =
+    Connects (site_of meaning drivers rs handle) named recursive t opens
+    (result_map_both (λ v. v.items) (λ e. e) result) new_t new_opens

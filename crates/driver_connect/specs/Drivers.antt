@@ -1,6 +1,6 @@
 -- What a driver is shown of a handle, and what it answers.
 use Rattle.std.specs.Prelude.{ℕ, ◌&&◌, nat_lt, Bool, false, not, List, [], ◌∷◌, map, length, Option, Some, None}
-use Rattle.std.specs.List.{filter, list_any, slice_get}
+use Rattle.std.specs.List.{filter, list_all, list_any, slice_get}
 use Rattle.std.specs.Option.{option_map}
 use Rattle.guid_handles.specs.declared.records.Interface.{Interface}
 use Rattle.guid_handles.specs.HandleTables.{HandleTable, same_guid, is_on, value_at}
@@ -46,6 +46,18 @@ sight_of t opens agent controller =
 -- a GUID is there, and not held
 abbrev pub is_free : List ProtocolView → List ℕ → Bool
 is_free protocols guid = list_any (λ v. same_guid v.guid guid && not v.held) protocols
+
+-- what a driver of a table answers: it is supported where each GUID that it needs is there and not
+-- held, and its plan and whether it may be stopped are always the same
+abbrev pub fixed_meaning : ℕ → List (List ℕ) → Plan → Bool → Meaning
+fixed_meaning version needs plan stops =
+    record {
+      version = version;
+      supports = λ s. list_all
+          (is_free s.protocols) needs;
+      plan = λ s. plan;
+      may_stop = λ s. stops;
+    }
 
 -- ---- driver handles
 

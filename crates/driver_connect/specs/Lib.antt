@@ -10,3 +10,4 @@ pub mod Turns
 pub mod StartOrder
 pub mod DriverTurns
 pub mod StopOrder
+pub mod AfterStop

@@ -1,5 +1,5 @@
 -- Starting drivers on one handle.
-use Rattle.std.specs.Prelude.{ℕ, zero, suc, ◌+◌, ◌≤◌, ◌==◌, ◌&&◌, ◌||◌, nat_le, Bool, false, not, cond, List, [], ◌∷◌, ◌++◌, length, Option, Some, None}
+use Rattle.std.specs.Prelude.{ℕ, zero, suc, ◌+◌, ◌≤◌, ◌==◌, ◌&&◌, ◌||◌, nat_le, Bool, false, not, cond, List, [], ◌∷◌, ◌++◌, length, map, Option, Some, None}
 use Rattle.std.specs.List.{list_any, list_all, insert, cons_option}
 use Rattle.guid_handles.specs.HandleTables.{HandleTable, same_guid, holders_of}
 use Rattle.guid_handles.specs.HandleChanges.{max_handles, has_guid_twice, with_interfaces, with_handle}
@@ -70,11 +70,19 @@ pub record Site : Type 0 where
 abbrev pub site : List Meaning → List Registration → ℕ → Site
 site ds rs n = record { drivers = ds; registrations = rs; controller = n }
 
+-- the same of drivers with their meanings
+abbrev pub site_of : {D : Type 0} → (D → Meaning) → List D → List Registration → ℕ → Site
+site_of meaning drivers rs n = site (map meaning drivers) rs n
+
 -- The handles, the open items and the events signaled, as far as a connect has come.
 pub record Progress : Type 0 where
   pub handles : HandleTable
   pub opens : List OpenRecord
   pub events : List ℕ
+
+-- the protocols on a handle, as far as a connect has come
+abbrev pub protocols_at : Progress → ℕ → List ProtocolView
+protocols_at p n = protocols_on p.handles p.opens n
 
 abbrev pub has_guid : List (List ℕ) → List ℕ → Bool
 has_guid guids guid = list_any (same_guid guid) guids
@@ -197,6 +205,10 @@ passes (suc k) c agents p =
     cond (length (pass c agents p).starts == 0) (pass c agents p)
     (joined (pass c agents p).starts []
     (passes k c (pass c agents p).left (pass c agents p).progress))
+
+-- Passes over some drivers. Each is started once at most, so there are enough of them.
+abbrev pub all_passes : Site → List Agent → Progress → Passed
+all_passes c agents p = passes (length agents) c agents p
 
 -- The starts on a handle. Each driver is started once at most, so there are enough passes.
 abbrev pub starts_on : Site → List ℕ → Progress → Passed

@@ -1,9 +1,9 @@
 //! Connecting a handle, and the handles that are made.
 ghost use Rattle.std.specs.Prelude.{◌≡◌, ◌+◌, ◌<◌, ◌≤◌, ◌^◌, true, false, [], map, IfOk, OnOk};
-ghost use Rattle.std.specs.Result.{result_map_both};
 ghost use Rattle.driver_connect.specs.Connecting as spec;
+ghost use Rattle.driver_connect.specs.Connecting.{ConnectsBy};
 ghost use Rattle.driver_connect.specs.Room.{HasRoom, Grows};
-ghost use Rattle.driver_connect.specs.Starting.{site, starts_on, is_any_carried_out as is_any};
+ghost use Rattle.driver_connect.specs.Starting.{site_of, starts_on, is_any_carried_out as is_any};
 
 use crate::driver::Driver;
 use crate::readiness::is_any_ready;
@@ -55,11 +55,11 @@ fn connect_levels<D: Driver, A: Allocator + Copy>(
         (λ b. b
         ≡ is_any
         (starts_on
-        (site (map D.meaning drivers.now) notify.now controller) named.now connecting.old).starts) }
+        (site_of D.meaning drivers.now notify.now controller) named.now connecting.old).starts) }
     ensures progress { OnOk result
         (connecting.new
         ≡ spec.connected levels
-        (site (map D.meaning drivers.now) notify.now controller) named.now connecting.old) }
+        (site_of D.meaning drivers.now notify.now controller) named.now connecting.old) }
     ensures grows { OnOk result (Grows connecting.old.handles connecting.new.handles) }
 {
     let last = connecting.handles.last_number();
@@ -126,9 +126,8 @@ fn connect_copies<D: Driver, A: Allocator + Copy>(
     requires valid { spec.connect_refused handles.old handle named.now ≡ false }
     requires numbers { handles.old.last_number < 2 ^ 61 }
     requires stamps { handles.old.last_stamp < 2 ^ 61 }
-    ensures connects { spec.Connects
-        (site (map D.meaning drivers.now) notify.now handle) named.now recursive handles.old
-        opens.old (result_map_both (λ v. v.items) (λ e. e) result) handles.new opens.new }
+    ensures connects { ConnectsBy D.meaning drivers.now notify.now handle named.now recursive
+        handles.old opens.old result handles.new opens.new }
     ensures numbers { handles.new.last_number ≤ handles.old.last_number + 4096 }
     ensures stamps { handles.new.last_stamp ≤ handles.old.last_stamp + 16384 }
 {
@@ -166,9 +165,8 @@ pub fn connect<D: Driver, A: Allocator + Copy>(
 ) -> Result<Vec<u64, A>, Status>
     requires numbers { handles.old.last_number < 2 ^ 61 }
     requires stamps { handles.old.last_stamp < 2 ^ 61 }
-    ensures connects { spec.Connects
-        (site (map D.meaning drivers.now) notify.now handle) named.now recursive handles.old
-        opens.old (result_map_both (λ v. v.items) (λ e. e) result) handles.new opens.new }
+    ensures connects { ConnectsBy D.meaning drivers.now notify.now handle named.now recursive
+        handles.old opens.old result handles.new opens.new }
     ensures numbers { handles.new.last_number ≤ handles.old.last_number + 4096 }
     ensures stamps { handles.new.last_stamp ≤ handles.old.last_stamp + 16384 }
 {
@@ -197,7 +195,7 @@ pub fn connect_draft<D: Driver, A: Allocator + Copy>(
     requires stamps { draft.old.handles.last_stamp < 2 ^ 61 }
     ensures progress { OnOk result
         (draft.new ≡ spec.connected (spec.levels_below true)
-        (site (map D.meaning drivers.now) notify.now handle) [] draft.old) }
+        (site_of D.meaning drivers.now notify.now handle) [] draft.old) }
     ensures numbers { OnOk result
         (draft.new.handles.last_number ≤ draft.old.handles.last_number + 4096) }
     ensures stamps { OnOk result

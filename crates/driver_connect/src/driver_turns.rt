@@ -81,8 +81,7 @@ impl DriverTurns {
     /// Records what came of a driver's turn: whether its start was called, whatever that returned. This
     /// takes no memory, and does nothing where it is no driver's turn.
     pub fn record_outcome(&mut self, drivers: &mut [Agent], was_started: bool)
-        ensures pass { spec.pass_of self.new drivers.new
-            ≡ spec.after_outcome was_started (spec.pass_of self.old drivers.old) }
+        ensures pass { spec.EndsTurn was_started self.old drivers.old self.new drivers.new }
         ensures count { length drivers.new ≡ length drivers.old }
     {
         if !self.has_turn(drivers) {

@@ -1,10 +1,9 @@
 //! Whether a connect would start a driver, on the lists as they are.
-ghost use Rattle.std.specs.Prelude.{◌≡◌, ◌&&◌, ◌||◌, not, [], false, map, IfOk};
+ghost use Rattle.std.specs.Prelude.{◌≡◌, ◌||◌, false, map, IfOk};
 ghost use Rattle.std.specs.List.{list_any};
-ghost use Rattle.guid_handles.specs.HandleChanges.{with_value};
-ghost use Rattle.open_agents.specs.OpenItems.{is_exclusive, is_for_driver as is_driver, is_open_on, without_items};
+ghost use Rattle.open_agents.specs.OpenItems.{is_exclusive, is_for_driver as is_driver};
 ghost use Rattle.open_agents.specs.OpenRule.{has_holder};
-ghost use Rattle.driver_connect.specs.Stopping.{takes_item, without_handles, without_opens};
+ghost use Rattle.driver_connect.specs.AfterStop.{is_ready_after, leaves_holder, opens_left, shown_after};
 ghost use Rattle.driver_connect.specs.Readiness as spec;
 
 use crate::agents::{Agent, driver_binding, plan_at, supports_at};
@@ -98,10 +97,7 @@ fn has_holder_after<A: Allocator + Copy>(
     handle: u64,
     items: &[OpenItem],
 ) -> bool
-    ensures { result
-        ≡ list_any
-        (λ i. (is_driver i.attributes || is_exclusive i.attributes)
-        && not (takes_item plan.now handle i.agent i.controller)) items.now }
+    ensures { result ≡ leaves_holder plan.now handle items.now }
 {
     items.iter().any(|i| holds(i.attributes) && !plan.takes_item(handle, i.agent, i.controller))
 }
@@ -113,9 +109,7 @@ fn is_held_after<A: Allocator + Copy>(
     handle: u64,
     guid: Uuid,
 ) -> Result<bool, AllocError>
-    ensures { IfOk result
-        (λ b. b
-        ≡ has_holder (without_opens plan.now.handles plan.now.pairs opens.now) handle guid) }
+    ensures { IfOk result (λ b. b ≡ has_holder (opens_left plan.now opens.now) handle guid) }
 {
     let items = opens.items(handle, guid)?;
     Ok(has_holder_after(plan, handle, items.as_slice()))
@@ -131,10 +125,7 @@ fn protocol_after<A: Allocator + Copy>(
     value: u64,
     protocol: &ProtocolView,
 ) -> Result<ProtocolView, AllocError>
-    ensures { IfOk result
-        (λ v. v
-        ≡ spec.protocol_after
-        (without_opens plan.now.handles plan.now.pairs opens.now) handle guid value protocol.now) }
+    ensures { IfOk result (λ v. v ≡ shown_after plan.now opens.now handle guid value protocol.now) }
 {
     if protocol.guid == guid {
         return Ok(ProtocolView {
@@ -162,11 +153,7 @@ fn protocols_after<A: Allocator + Copy>(
     protocols: &[ProtocolView],
 ) -> Result<Vec<ProtocolView, A>, AllocError>
     ensures { IfOk result
-        (λ v. v.items
-        ≡ map
-        (spec.protocol_after
-        (without_opens plan.now.handles plan.now.pairs opens.now) handle guid value)
-        protocols.now) }
+        (λ v. v.items ≡ map (shown_after plan.now opens.now handle guid value) protocols.now) }
 {
     let mut shown = Vec::new(alloc);
     for protocol in protocols {
@@ -188,12 +175,9 @@ pub fn may_start_after<D: Driver, A: Allocator + Copy>(
     guid: Uuid,
     value: u64,
 ) -> Result<bool, AllocError>
-    ensures { IfOk result
-        (λ may. may ≡ false
-        → spec.is_any_ready (map D.meaning drivers.now)
-        (with_value handle guid value (without_handles plan.now.handles handles.now))
-        (without_items (is_open_on handle guid)
-        (without_opens plan.now.handles plan.now.pairs opens.now)) handle [] ≡ false) }
+    ensures { IfOk result (λ may. may ≡ false
+        → is_ready_after (map D.meaning drivers.now)
+        plan.now handles.now opens.now handle guid value ≡ false) }
 {
     if driver_binding() == guid {
         return Ok(true);

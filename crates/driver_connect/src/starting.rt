@@ -1,9 +1,9 @@
 //! Starting drivers on one handle.
-ghost use Rattle.std.specs.Prelude.{◌≡◌, ◌≤◌, ◌++◌, [], true, false, length, map, IfOk, OnOk};
+ghost use Rattle.std.specs.Prelude.{◌≡◌, ◌≤◌, ◌++◌, [], true, false, length, IfOk, OnOk};
 ghost use Rattle.guid_handles.specs.HandleChanges.{max_handles};
-ghost use Rattle.driver_connect.specs.Drivers.{protocols_on};
 ghost use Rattle.driver_connect.specs.Room.{HasRoom, Grows};
 ghost use Rattle.driver_connect.specs.Starting as spec;
+ghost use Rattle.driver_connect.specs.Starting.{protocols_at, site_of};
 
 use crate::agents::{Agent, plan_at, supports_at};
 use crate::candidates::agents_for;
@@ -96,7 +96,7 @@ impl<A: Allocator + Copy> Connecting<A> {
     ) -> Result<(), AllocError>
         requires room { HasRoom self.old.handles }
         requires can { spec.can_start self.old.handles
-            (protocols_on self.old.handles self.old.opens controller) plan.now ≡ true }
+            (protocols_at self.old controller) plan.now ≡ true }
         ensures progress { OnOk result
             (self.new ≡ spec.carried_out notify.now controller agent plan.now self.old) }
         ensures grows { OnOk result (Grows self.old.handles self.new.handles) }
@@ -123,16 +123,15 @@ fn take_turn<D: Driver, A: Allocator + Copy>(
     protocols: &[ProtocolView],
 ) -> Result<Option<bool>, AllocError>
     requires room { HasRoom connecting.old.handles }
-    requires protocols { protocols.now
-        ≡ protocols_on connecting.old.handles connecting.old.opens controller }
+    requires protocols { protocols.now ≡ protocols_at connecting.old controller }
     ensures turn { IfOk result
         (λ t. t
-        ≡ spec.turn (spec.site (map D.meaning drivers.now) notify.now controller) connecting.old
+        ≡ spec.turn (site_of D.meaning drivers.now notify.now controller) connecting.old
         agent.now) }
     ensures progress { OnOk result
         (connecting.new
         ≡ spec.after_turn
-        (spec.site (map D.meaning drivers.now) notify.now controller) connecting.old agent.now) }
+        (site_of D.meaning drivers.now notify.now controller) connecting.old agent.now) }
     ensures stays { IfOk result (λ t. spec.is_change t ≡ false → connecting.new ≡ connecting.old) }
     ensures grows { OnOk result (Grows connecting.old.handles connecting.new.handles) }
 {
@@ -161,9 +160,8 @@ fn refreshed<A: Allocator + Copy>(
     turn: Option<bool>,
 ) -> Result<Vec<ProtocolView, A>, AllocError>
     requires { spec.is_change turn ≡ false
-        → protocols.items ≡ protocols_on connecting.now.handles connecting.now.opens controller }
-    ensures { IfOk result
-        (λ v. v.items ≡ protocols_on connecting.now.handles connecting.now.opens controller) }
+        → protocols.items ≡ protocols_at connecting.now controller }
+    ensures { IfOk result (λ v. v.items ≡ protocols_at connecting.now controller) }
 {
     match turn {
         Some(true) => protocols_on(alloc, &connecting.handles, &connecting.opens, controller),
@@ -203,17 +201,17 @@ fn run_pass<D: Driver, A: Allocator + Copy>(
     ensures starts { IfOk result
         (λ p. p.starts.items
         ≡ (spec.pass
-        (spec.site (map D.meaning drivers.now) notify.now controller) agents.now
+        (site_of D.meaning drivers.now notify.now controller) agents.now
         connecting.old).starts) }
     ensures left { IfOk result
         (λ p. p.left.items
         ≡ (spec.pass
-        (spec.site (map D.meaning drivers.now) notify.now controller) agents.now
+        (site_of D.meaning drivers.now notify.now controller) agents.now
         connecting.old).left) }
     ensures progress { OnOk result
         (connecting.new
         ≡ (spec.pass
-        (spec.site (map D.meaning drivers.now) notify.now controller) agents.now
+        (site_of D.meaning drivers.now notify.now controller) agents.now
         connecting.old).progress) }
     ensures grows { OnOk result (Grows connecting.old.handles connecting.new.handles) }
 {
@@ -251,12 +249,12 @@ pub(crate) fn run_passes<D: Driver, A: Allocator + Copy>(
     ensures starts { IfOk result
         (λ v. v.items
         ≡ (spec.starts_on
-        (spec.site (map D.meaning drivers.now) notify.now controller) named.now
+        (site_of D.meaning drivers.now notify.now controller) named.now
         connecting.old).starts) }
     ensures progress { OnOk result
         (connecting.new
         ≡ (spec.starts_on
-        (spec.site (map D.meaning drivers.now) notify.now controller) named.now
+        (site_of D.meaning drivers.now notify.now controller) named.now
         connecting.old).progress) }
     ensures grows { OnOk result (Grows connecting.old.handles connecting.new.handles) }
 {
@@ -277,13 +275,13 @@ fn run_passes_over<D: Driver, A: Allocator + Copy>(
     requires { HasRoom connecting.old.handles }
     ensures starts { IfOk result
         (λ v. v.items
-        ≡ (spec.passes (length agents.items)
-        (spec.site (map D.meaning drivers.now) notify.now controller) agents.items
+        ≡ (spec.all_passes
+        (site_of D.meaning drivers.now notify.now controller) agents.items
         connecting.old).starts) }
     ensures progress { OnOk result
         (connecting.new
-        ≡ (spec.passes (length agents.items)
-        (spec.site (map D.meaning drivers.now) notify.now controller) agents.items
+        ≡ (spec.all_passes
+        (site_of D.meaning drivers.now notify.now controller) agents.items
         connecting.old).progress) }
     ensures grows { OnOk result (Grows connecting.old.handles connecting.new.handles) }
 {

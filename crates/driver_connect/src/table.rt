@@ -73,17 +73,9 @@ impl StartPlan {
 }
 
 impl Driver for TableDriver {
-    ghost use Rattle.std.specs.List.{list_all};
-    ghost use Rattle.driver_connect.specs.Drivers.{is_free};
+    ghost use Rattle.driver_connect.specs.Drivers.{fixed_meaning};
 
-    ghost meaning = { λ d.
-        record {
-          version = d.version;
-          supports = λ s. list_all
-              (is_free s.protocols) d.needs.items;
-          plan = λ s. d.plan;
-          may_stop = λ s. d.stops;
-        } };
+    ghost meaning = { λ d. fixed_meaning d.version d.needs.items d.plan d.stops };
 
     fn version(&self) -> u32 {
         self.version

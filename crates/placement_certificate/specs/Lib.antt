@@ -3,3 +3,4 @@ pub mod Certificates
 pub mod Laws
 pub mod Acceptance
 pub mod Search
+pub mod Sides

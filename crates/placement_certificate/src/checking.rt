@@ -6,6 +6,7 @@ ghost use Rattle.placement_certificate.specs.Placement.{FillsGranules, IsProperR
 ghost use Rattle.placement_certificate.specs.Certificates.{IsTrueBound, conventional_entries};
 ghost use Rattle.placement_certificate.specs.Acceptance.{IsAccepted};
 ghost use Rattle.placement_certificate.specs.Search.{IsBestOf};
+ghost use Rattle.placement_certificate.specs.Sides.{AreTrueBounds};
 
 use crate::better::{PricedStart, better_of};
 use crate::certificates::{Bound, Certificate, Request};
@@ -54,9 +55,7 @@ fn fills_granules(request: &Request) -> bool
 fn are_true_bounds(map: &[Descriptor], request: &Request, bounds: &[Bound]) -> bool
     requires map { IsMap map.now }
     requires good { IsProperRequest request.now }
-    ensures { IsTrue result
-        ↔ AllZip (IsTrueBound (memory_of map.now) request.now)
-        (conventional_entries (memory_of map.now)) bounds.now }
+    ensures { IsTrue result ↔ AreTrueBounds (memory_of map.now) request.now bounds.now }
 {
     let entries = map.len() as u64;
     let mut search = EntrySearch::new(MapCursor::new(map), MapCursor::new(map));

@@ -93,13 +93,11 @@ impl<C: PageCursor + Drop> Model for EntrySearch<C> {
 
     ghost Value = { List Page };
 
-    ghost use Rattle.std.specs.Prelude.{◌≡◌, ◌<◌};
-    ghost use Rattle.placement_certificate.specs.Laws.{IsStretch};
+    ghost use Rattle.placement_certificate.specs.Sides.{KnowsStretch};
 
     ghost view = { λ s. C.memory s.sides };
 
-    ghost invariant = { λ s. (C.memory s.ends ≡ C.memory s.sides)
-        × (s.first < s.stop → IsStretch (C.memory s.sides) s.first s.stop) };
+    ghost invariant = { λ s. KnowsStretch (C.memory s.ends) (C.memory s.sides) s.first s.stop };
 }
 
 impl<C: PageCursor + Drop> EntrySearch<C> {

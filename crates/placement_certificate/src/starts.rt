@@ -7,6 +7,7 @@ ghost use Rattle.placement_certificate.specs.Placement.{IsPermittedStart, price}
 ghost use Rattle.placement_certificate.specs.Certificates.{IsTrueLeast};
 ghost use Rattle.placement_certificate.specs.Laws.{adds, saves};
 ghost use Rattle.placement_certificate.specs.Search.{AreStartsIn, IsFound, IsTried, IsOnPage, StaysTried};
+ghost use Rattle.placement_certificate.specs.Sides.{IsBelowStart, IsBlockWith, IsSavedAt, last_of_lowest};
 
 use crate::better::{PricedStart, better_of};
 use crate::certificates::Request;
@@ -51,8 +52,7 @@ pub(crate) fn edge_saves(
     outside: &Option<Descriptor>,
     inside: &Option<Descriptor>,
 ) -> u64
-    ensures { (x y : Option Page) → IsOnPage outside.now x → IsOnPage inside.now y
-        → result ≡ saves mtype x y }
+    ensures { IsSavedAt mtype outside.now inside.now result }
 {
     match (outside, inside) {
         (Some(x), Some(y)) => {
@@ -66,8 +66,7 @@ impl EntryStarts {
     // A block with the page just below a start.
     #[inline(always)]
     fn block_below(&self, start: u64) -> Option<Descriptor>
-        ensures { (m : _) → AreStartsIn m self.now → IsIn self.now.entry start
-            → IsOnPage result (page_below m start) }
+        ensures { IsBelowStart self.now start result }
     {
         if self.entry.first < start {
             Some(self.entry)
@@ -130,8 +129,7 @@ impl EntryStarts {
             (C.memory cursor.old) self.now.request self.now.lowest }
         ensures stays { C.memory cursor.new ≡ C.memory cursor.old }
         ensures block { IfSome result
-            (λ b. IsBlock (C.memory cursor.old) b
-            × IsIn b (self.now.lowest + self.now.request.pages - 1)) }
+            (IsBlockWith (C.memory cursor.old) (last_of_lowest self.now)) }
         ensures some { result ≢ None }
     {
         let last = self.lowest + (self.request.pages - 1);

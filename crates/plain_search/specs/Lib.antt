@@ -1,1 +1,2 @@
 pub mod RunsBy
+pub mod PlainAnswers

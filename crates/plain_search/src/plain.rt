@@ -8,6 +8,8 @@ ghost use Rattle.page_ranges.specs.MemoryMap.{memory_map, should_be_one};
 ghost use Rattle.page_ranges.specs.Runs.{page_in, pages_of, AreRuns};
 ghost use Rattle.placement_certificate.specs.Placement.{IsProperRequest, IsPermittedStart, IsAvailable, price};
 ghost use Rattle.placement_certificate.specs.Certificates.{IsTrueLeast, IsTrueCertificate};
+ghost use Rattle.descriptor_table.specs.LeafChanges.{AppendsPart, RetypesRuns};
+ghost use Rattle.plain_search.specs.PlainAnswers.{IsAvailableRun, IsTrueIfAny, PermitsNone};
 ghost use Rattle.plain_search.specs.RunsBy.{AreRunsBy};
 
 use page_ranges::{Descriptor, MemoryType, Owner, PageRange, Run, is_specific_purpose};
@@ -80,8 +82,7 @@ fn placed_runs<A: Allocator + Copy>(
 ) -> Result<Vec<Run, A>, AllocError>
     requires runs { AreRunsBy page_count runs.now }
     requires within { range.first + range.pages ≤ page_count }
-    ensures pages { IfOk result
-        (λ v. pages_of v.items ≡ retyped range mtype Pages (pages_of runs.now)) }
+    ensures pages { IfOk result (λ v. RetypesRuns range mtype Pages runs.now v.items) }
     ensures order { IfOk result (λ v. AreRunsBy page_count v.items) }
 {
     let mut out = Vec::new(alloc);
@@ -112,9 +113,7 @@ fn push_part<A: Allocator>(
 ) -> Result<(), AllocError>
     requires order { AreRunsBy first out.old.items }
     requires up { first ≤ end }
-    ensures pages { OnOk result
-        (pages_of out.new.items ≡ pages_of out.old.items
-        ++ row (end - first) (page_in first run.now)) }
+    ensures pages { OnOk result (AppendsPart first end run.now out.old.items out.new.items) }
     ensures order { OnOk result (AreRunsBy end out.new.items) }
 {
     if first < end {
@@ -142,10 +141,8 @@ pub fn plain_certificate<A: Allocator + Copy>(
     requires runs { AreRuns runs.now }
     requires proper { IsProperMemory (pages_of runs.now) }
     requires good { IsProperRequest request.now }
-    ensures certificate { IfOk result
-        (λ o. IfSome o (λ c. IsTrueCertificate (pages_of runs.now) request.now c)) }
-    ensures none { IfOk result
-        (λ o. o ≡ None → (p : ℕ) → ¬ IsPermittedStart (pages_of runs.now) request.now p) }
+    ensures certificate { IfOk result (IsTrueIfAny runs.now request.now) }
+    ensures none { IfOk result (λ o. o ≡ None → PermitsNone runs.now request.now) }
 {
     let entries = plain_map(alloc, runs)?;
     let mut bounds = Vec::new(alloc);
@@ -221,8 +218,7 @@ fn is_available(runs: &[Run], page: u64) -> bool
 }
 
 fn is_available_run(run: &Run) -> bool
-    ensures { IsTrue result
-        ↔ ((run.now.mtype ≡ conventional) × (is_specific_purpose run.now.attributes ≡ false)) }
+    ensures { IsTrue result ↔ IsAvailableRun run.now }
 {
     run.mtype.number() == 7 && !is_specific_purpose(run.attributes)
 }

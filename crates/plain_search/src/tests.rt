@@ -5,6 +5,7 @@ ghost use Rattle.page_ranges.specs.MemoryTypes.{is_bad_type, page_count};
 ghost use Rattle.page_ranges.specs.Memory.{IsProperMemory};
 ghost use Rattle.page_ranges.specs.Runs.{pages_of};
 ghost use Rattle.placement_certificate.specs.Placement.{IsProperRequest};
+ghost use Rattle.plain_search.specs.PlainAnswers.{given_run};
 ghost use Rattle.plain_search.specs.RunsBy.{AreRunsBy};
 
 mod choices;
@@ -16,13 +17,7 @@ use placement_certificate::{Bound, Request};
 use std::alloc::AllocError;
 
 fn run(first: u64, pages: u64, number: u32, attributes: u64) -> Run
-    ensures { result
-        ≡ record {
-          range = record { first = first; pages = pages };
-          mtype = number;
-          attributes = attributes;
-          owner = Given;
-        } }
+    ensures { result ≡ given_run first pages number attributes }
 {
     Run {
         range: PageRange { first, pages },

@@ -1,7 +1,8 @@
 //! The memory map, without a call.
-ghost use Rattle.std.specs.Prelude.{◌≡◌, length, slice_get};
+ghost use Rattle.std.specs.Prelude.{◌≡◌, length};
 ghost use Rattle.page_ranges.specs.MemoryMap.{memory_map};
 ghost use Rattle.c_interface.specs.Checks.{ReturnsEntry};
+ghost use Rattle.c_interface.specs.Items.{map_entry};
 ghost use Rattle.playground_c.specs.Versions.{version};
 
 use c_interface::MapEntry;
@@ -37,7 +38,7 @@ pub extern "C" fn PlaygroundDescriptor(
     entry: &mut MapEntry,
 ) -> u64
     ensures returned { ReturnsEntry
-        (slice_get (memory_map core.old.core.core.state.parts.book.memory) index) entry.old result
+        (map_entry core.old.core index) entry.old result
         entry.new }
     ensures kept { core.new.core ≡ core.old.core }
 {

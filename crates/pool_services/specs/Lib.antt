@@ -4,3 +4,4 @@ pub mod Rooms
 pub mod PoolRules
 pub mod Laws
 pub mod Searches
+pub mod KeptRooms

@@ -4,6 +4,7 @@ ghost use Rattle.std.specs.List.{find};
 ghost use Rattle.page_ranges.specs.Granules.{IsGranule};
 ghost use Rattle.raw_pool.specs.Blocks.{block_at, cells_for, lowest_fit, new_block, with_block, without_block};
 ghost use Rattle.pool_services.specs.Extents.{IsExtent, address_of, cell_of, cells_in, extent_pages, extent_with_block, max_size, pages_for, tail_in, with_blocks};
+ghost use Rattle.pool_services.specs.KeptRooms.{with_block_at};
 ghost use Rattle.pool_services.specs.Listed.{begins_from, is_from, listed};
 ghost use Rattle.pool_services.specs.Rooms.{room_of};
 ghost use Rattle.pool_services.specs.Searches.{HasRoom, HoldsAddress, IsLastUpTo, IsLocated, written_if};
@@ -67,8 +68,8 @@ pub(crate) struct PoolExtent<A: Allocator> {
 }
 
 impl<A: Allocator> Model for PoolExtent<A> {
-    ghost use Rattle.std.specs.Prelude.{◌≡◌, length};
-    ghost use Rattle.pool_services.specs.Extents.{Extent, cells_in};
+    ghost use Rattle.pool_services.specs.Extents.{Extent};
+    ghost use Rattle.pool_services.specs.KeptRooms.{IsCountedRegion};
 
     ghost Value = { Extent };
 
@@ -81,7 +82,7 @@ impl<A: Allocator> Model for PoolExtent<A> {
         } };
 
     ghost invariant = { λ e.
-        (e.region.cells ≡ cells_in e.range.pages) × (e.live ≡ length e.region.blocks) };
+        IsCountedRegion e.region.cells e.range.pages e.live e.region.blocks };
 }
 
 impl<A: Allocator + Copy> PoolExtent<A> {
@@ -142,8 +143,7 @@ impl<A: Allocator + Copy> PoolExtent<A> {
         ensures cell { result ≡ lowest_fit (cells_in self.old.pages)
             (cells_for size) 0 self.old.blocks }
         ensures extent { MatchOption result (self.new ≡ self.old)
-            (λ cell. self.new
-            ≡ with_blocks (with_block (new_block cell size) self.old.blocks) self.old) }
+            (λ cell. self.new ≡ with_block_at cell size self.old) }
     {
         let cell = self.region.take(size)?;
         self.live += 1;

@@ -47,16 +47,15 @@ pub struct Pools<A: Allocator = Global> {
 }
 
 impl<A: Allocator> Model for Pools<A> {
-    ghost use Rattle.std.specs.Prelude.{◌≡◌, List, map};
-    ghost use Rattle.pool_services.specs.Extents.{AreExtents, Extent};
-    ghost use Rattle.pool_services.specs.Rooms.{room_of};
+    ghost use Rattle.std.specs.Prelude.{List};
+    ghost use Rattle.pool_services.specs.Extents.{Extent};
+    ghost use Rattle.pool_services.specs.KeptRooms.{AreExtentsWithRooms};
 
     ghost Value = { List Extent };
 
     ghost view = { λ p. p.extents.items };
 
-    ghost invariant = { λ p.
-        AreExtents p.extents.items × (p.rooms.rooms.items ≡ map room_of p.extents.items) };
+    ghost invariant = { λ p. AreExtentsWithRooms p.extents.items p.rooms.rooms.items };
 }
 
 impl<A: Allocator + Copy> Pools<A> {

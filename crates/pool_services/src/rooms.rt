@@ -1,6 +1,7 @@
 //! What a search asks of each extent, kept in a row so that it looks at few of the extents themselves.
 ghost use Rattle.std.specs.Prelude.{◌≡◌, ℕ, ◌+◌, ◌*◌, ◌/◌, ◌%◌, ◌<◌, ◌≤◌, ◌^◌, [], set, take, drop, ◌++◌, length, min, slice_index, vec_len, vec_capacity, OnOk};
 ghost use Rattle.std.specs.List.{insert};
+ghost use Rattle.pool_services.specs.KeptRooms.{BoundsClass, HasPlaceIn, IsFirstOfAll, without_room};
 ghost use Rattle.pool_services.specs.Rooms.{AreBounded, AreBoundedBut, Covers, HasPlace, IsFirstServing, IsRaised, IsRoomAt, KeepsBounds, class_of, serves, slot, stretch};
 
 use crate::room::insert_with_room;
@@ -77,8 +78,7 @@ fn cells_in_class(room: Room, class: usize) -> u32
 /// The most cells that a room of a class has, of those from one index up to another.
 fn most_in_class(rooms: &[Room], start: usize, end: usize, class: usize) -> u32
     requires { end ≤ length rooms.now }
-    ensures { (i : ℕ) → (r : Room) → start ≤ i → i < end → IsRoomAt rooms.now i r
-        → class_of r.mtype ≡ class → r.longest ≤ result }
+    ensures { BoundsClass rooms.now start end class result }
 {
     let mut most = 0;
     for at in start..end {
@@ -209,8 +209,7 @@ impl<A: Allocator + Copy> Rooms<A> {
 
     /// The first room of a type that has a number of cells.
     pub(crate) fn first(&mut self, mtype: MemoryType, cells: usize) -> Option<usize>
-        ensures first { IsFirstServing mtype cells self.old.rooms.items 0
-            (length self.old.rooms.items) result }
+        ensures first { IsFirstOfAll mtype cells self.old.rooms.items result }
         ensures rooms { self.new.rooms ≡ self.old.rooms }
     {
         first_room(self.rooms.as_slice(), &mut self.bounds, mtype, cells)
@@ -228,9 +227,7 @@ impl<A: Allocator + Copy> Rooms<A> {
     /// Takes memory for one room more.
     pub(crate) fn reserve_one(&mut self) -> Result<(), AllocError>
         ensures rooms { self.new.rooms.items ≡ self.old.rooms.items }
-        ensures place { OnOk result
-            (HasPlace (vec_len self.new.rooms) (vec_capacity self.new.rooms)
-            (vec_len self.new.bounds)) }
+        ensures place { OnOk result (HasPlaceIn self.new.rooms self.new.bounds) }
     {
         self.rooms.reserve(1)?;
         extend_bounds(&mut self.bounds, CLASSES * (self.rooms.len() / STRETCH + 1))
@@ -239,8 +236,7 @@ impl<A: Allocator + Copy> Rooms<A> {
     /// Inserts a room, for which there is memory.
     pub(crate) fn insert(&mut self, at: usize, room: Room)
         requires index { at ≤ length self.old.rooms.items }
-        requires place { HasPlace (vec_len self.old.rooms) (vec_capacity self.old.rooms)
-            (vec_len self.old.bounds) }
+        requires place { HasPlaceIn self.old.rooms self.old.bounds }
         ensures { self.new.rooms.items ≡ insert self.old.rooms.items at room }
     {
         insert_with_room(&mut self.rooms, at, room);
@@ -252,8 +248,7 @@ impl<A: Allocator + Copy> Rooms<A> {
     /// Takes a room away.
     pub(crate) fn remove(&mut self, at: usize)
         requires { at < length self.old.rooms.items }
-        ensures { self.new.rooms.items ≡ take at self.old.rooms.items
-            ++ drop (at + 1) self.old.rooms.items }
+        ensures { self.new.rooms.items ≡ without_room at self.old.rooms.items }
     {
         self.rooms.remove(at);
         let last = STRETCH * (at / STRETCH) + (STRETCH - 1);

@@ -1,7 +1,8 @@
 //! Finding an extent, and the place of a new one.
 ghost use Rattle.std.specs.Prelude.{◌≡◌, ◌<◌, ◌≤◌, nat_le, length, map, vec_len, vec_capacity};
 ghost use Rattle.pool_services.specs.Extents.{AreExtents, IsExtent, with_extent};
-ghost use Rattle.pool_services.specs.Rooms.{HasPlace, room_of};
+ghost use Rattle.pool_services.specs.KeptRooms.{HasPlaceIn};
+ghost use Rattle.pool_services.specs.Rooms.{room_of};
 ghost use Rattle.pool_services.specs.Searches.{IsCountUpTo, IsHolder};
 
 use crate::extents::{HEADER_SIZE, PoolExtent};
@@ -57,8 +58,7 @@ pub(crate) fn add<A: Allocator + Copy>(
     requires order { AreExtents extents.old.items }
     requires room { vec_len extents.old < vec_capacity extents.old }
     requires rooms { rooms.old.rooms.items ≡ map room_of extents.old.items }
-    requires place { HasPlace (vec_len rooms.old.rooms) (vec_capacity rooms.old.rooms)
-        (vec_len rooms.old.bounds) }
+    requires place { HasPlaceIn rooms.old.rooms rooms.old.bounds }
     requires extent { IsExtent extent }
     ensures extents { extents.new.items ≡ with_extent extent extents.old.items }
     ensures rooms { rooms.new.rooms.items ≡ map room_of extents.new.items }

@@ -1,8 +1,8 @@
 -- What installs interfaces and registers for them, and which events are signaled.
-use Rattle.std.specs.Prelude.{◌≡◌, ℕ, ◌+◌, true, false, Bool, List, flat_map, length, Option, Some, None, Result, Ok, Err}
+use Rattle.std.specs.Prelude.{◌≡◌, ℕ, ◌+◌, true, false, Bool, List, [], ◌∷◌, flat_map, length, Option, Some, None, Result, Ok, Err}
 use Rattle.page_ranges.specs.declared.statuses.Status.{Status}
 use Rattle.page_ranges.specs.declared.statuses.Status.TheVariants.{InvalidParameter, OutOfResources, AlreadyStarted}
-use Rattle.guid_handles.specs.HandleChanges.{Installs, install_many_refusal}
+use Rattle.guid_handles.specs.HandleChanges.{Installs, install_many_refusal, install_refusal}
 use Rattle.protocol_notify.specs.declared.notify.Registration.{Registration}
 use Rattle.protocol_notify.specs.Registrations.{events_for, with_registration}
 use Rattle.boot_calls.specs.declared.replies.Installed.{Installed}
@@ -40,6 +40,19 @@ unless_path true refusal = Some AlreadyStarted
 abbrev pub many_refusal : Lists → ℕ → List (List ℕ × ℕ) → Bool → Option Status
 many_refusal l handle pairs has_path =
     unless_path has_path (install_many_refusal l.handles handle pairs)
+
+-- what InstallProtocolInterface returns, and the lists after it
+abbrev pub InstallsInterface : {A : Type 0} → Lists → ℕ → List ℕ → ℕ → ℕ
+    → Result (Installed A) Status → Lists → Type 0
+InstallsInterface l handle guid kind value result new =
+    InstallsPairs l handle ((guid, value) ∷ [])
+    (install_refusal l.handles handle guid kind) result new
+
+-- what InstallMultipleProtocolInterfaces returns, and the lists after it
+abbrev pub InstallsInterfaces : {A : Type 0} → Lists → ℕ → List (List ℕ × ℕ) → Bool
+    → Result (Installed A) Status → Lists → Type 0
+InstallsInterfaces l handle pairs has_path result new =
+    InstallsPairs l handle pairs (many_refusal l handle pairs has_path) result new
 
 -- What RegisterProtocolNotify returns, and the lists after it: a key, or OUT_OF_RESOURCES where
 -- memory runs out.

@@ -9,3 +9,5 @@ pub mod RemovingMany
 pub mod Driving
 pub mod ListBytes
 pub mod Saved
+pub mod RemovalSteps
+pub mod OpeningSteps

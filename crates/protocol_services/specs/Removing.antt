@@ -5,6 +5,7 @@ use Rattle.page_ranges.specs.declared.statuses.Status.{Status}
 use Rattle.page_ranges.specs.declared.statuses.Status.TheVariants.{InvalidParameter, NotFound, AccessDenied, OutOfResources}
 use Rattle.guid_handles.specs.HandleTables.{HandleTable, is_live, value_at}
 use Rattle.guid_handles.specs.HandleChanges.{with_value, without_interface}
+use Rattle.open_agents.specs.declared.items.OpenItem.{OpenItem}
 use Rattle.open_agents.specs.declared.items.OpenRecord.{OpenRecord}
 use Rattle.open_agents.specs.OpenItems.{is_for_driver, is_kept, is_open_on, items_on, names, without_items}
 use Rattle.protocol_notify.specs.Registrations.{events_for}
@@ -28,11 +29,14 @@ removal_refusal t handle guid value =
 
 -- ---- freeing an interface
 
+-- the pairs of controller and agent of the items that are for a driver
+abbrev pub drivers_among : List OpenItem → List (ℕ × ℕ)
+drivers_among items =
+    map (λ i. (i.controller, i.agent)) (filter (λ i. is_for_driver i.attributes) items)
+
 -- the pairs of controller and agent that have an interface open for a driver
 abbrev pub drivers_on : List OpenRecord → ℕ → List ℕ → List (ℕ × ℕ)
-drivers_on opens handle guid =
-    map (λ i. (i.controller, i.agent))
-    (filter (λ i. is_for_driver i.attributes) (items_on opens handle guid))
+drivers_on opens handle guid = drivers_among (items_on opens handle guid)
 
 -- the lists once these are stopped
 abbrev pub once_freed : ℕ → List ℕ → Lists → Lists

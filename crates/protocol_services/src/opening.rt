@@ -2,8 +2,9 @@
 ghost use Rattle.std.specs.Prelude.{◌≡◌, ◌==◌, [], ◌∷◌, true, false, cond, is_some, None, Some, IfOk, map};
 ghost use Rattle.guid_handles.specs.HandleTables.{carries, value_at};
 ghost use Rattle.protocol_services.specs.Lists.{HasRoom, IsRaised};
-ghost use Rattle.open_agents.specs.OpenRule.{has_equal, open_rule};
+ghost use Rattle.open_agents.specs.OpenRule.{has_equal};
 ghost use Rattle.protocol_services.specs.Opening.{Closes, HandlesProtocol, OpensAs, OpensProtocol, ReturnsItems, names_none, test_protocol};
+ghost use Rattle.protocol_services.specs.OpeningSteps.{OpensAgain, OpensAnew, decision};
 
 use crate::protocols::Protocols;
 use driver_connect::{Driver, StopPlan};
@@ -57,8 +58,7 @@ impl<A: Allocator + Copy> Protocols<A> {
         attributes: u32,
     ) -> Decision
         requires { is_some value ≡ carries self.now.handles guid handle }
-        ensures { result
-            ≡ open_rule self.now.handles self.now.opens handle guid agent controller attributes }
+        ensures { result ≡ decision self.now handle guid agent controller attributes }
     {
         self.opens.decide_carried(
             &self.handles,
@@ -83,11 +83,9 @@ impl<A: Allocator + Copy> Protocols<A> {
     ) -> Result<Option<u64>, Status>
         requires room { HasRoom self.old }
         requires value { value ≡ value_at self.old.handles handle guid }
-        ensures adds { OpensAs
-            [] Decision.Add self.old handle guid agent controller attributes result self.new }
-        ensures counts { has_equal self.old.opens handle guid agent controller attributes ≡ true
-            → OpensAs
-            [] Decision.Count self.old handle guid agent controller attributes result self.new }
+        ensures adds { OpensAnew self.old handle guid agent controller attributes result self.new }
+        ensures counts { OpensAgain
+            self.old handle guid agent controller attributes result self.new }
         ensures raised { IsRaised self.old self.new }
     {
         match self.opens.add(handle, guid, agent, controller, attributes) {
@@ -109,8 +107,7 @@ impl<A: Allocator + Copy> Protocols<A> {
     ) -> Result<Option<u64>, Status>
         requires value { value ≡ value_at self.old.handles handle guid }
         requires new { has_equal self.old.opens handle guid agent controller attributes ≡ false }
-        ensures adds { OpensAs
-            [] Decision.Add self.old handle guid agent controller attributes result self.new }
+        ensures adds { OpensAnew self.old handle guid agent controller attributes result self.new }
         ensures raised { IsRaised self.old self.new }
     {
         match self

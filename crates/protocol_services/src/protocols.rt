@@ -1,7 +1,6 @@
 //! The lists of the protocol services, and what installs interfaces.
-ghost use Rattle.std.specs.Prelude.{◌≡◌, [], ◌∷◌, IfOk};
-ghost use Rattle.guid_handles.specs.HandleChanges.{install_refusal};
-ghost use Rattle.protocol_services.specs.Installing.{InstallsPairs, Registers, many_refusal, or_out_of_memory, signaled, unless_path};
+ghost use Rattle.std.specs.Prelude.{◌≡◌, IfOk};
+ghost use Rattle.protocol_services.specs.Installing.{InstallsInterface, InstallsInterfaces, Registers, or_out_of_memory, signaled, unless_path};
 ghost use Rattle.protocol_services.specs.Lists.{HasRoom, IsRaised, no_lists};
 
 use boot_calls::Installed;
@@ -70,8 +69,7 @@ impl<A: Allocator + Copy> Protocols<A> {
         value: u64,
     ) -> Result<Installed<A>, Status>
         requires { HasRoom self.old }
-        ensures installs { InstallsPairs self.old handle ((guid, value) ∷ [])
-            (install_refusal self.old.handles handle guid kind) result self.new }
+        ensures installs { InstallsInterface self.old handle guid kind value result self.new }
         ensures raised { IsRaised self.old self.new }
     {
         let Ok(events) = self.signaled(&[(guid, value)]) else {
@@ -96,8 +94,7 @@ impl<A: Allocator + Copy> Protocols<A> {
         has_path: bool,
     ) -> Result<Installed<A>, Status>
         requires { HasRoom self.old }
-        ensures installs { InstallsPairs self.old handle pairs.now
-            (many_refusal self.old handle pairs.now has_path) result self.new }
+        ensures installs { InstallsInterfaces self.old handle pairs.now has_path result self.new }
         ensures raised { IsRaised self.old self.new }
     {
         let refusal = unless_path(has_path, self.handles.install_many_refusal(handle, pairs));

@@ -1,13 +1,14 @@
 //! Taking interfaces out and putting others in their places.
-ghost use Rattle.std.specs.Prelude.{◌≡◌, ◌<◌, ◌^◌, ◌&&◌, not, true, map, [], None, IfOk, OnOk, OnErr};
-ghost use Rattle.std.specs.List.{filter, list_any};
+ghost use Rattle.std.specs.Prelude.{◌≡◌, ◌<◌, ◌^◌, true, map, IfOk, OnOk, OnErr};
 ghost use Rattle.guid_handles.specs.HandleTables.{carries, value_at};
 ghost use Rattle.guid_handles.specs.HandleChanges.{IsHandleTable};
-ghost use Rattle.open_agents.specs.OpenItems.{is_for_driver, is_open_on, keeps, without_items};
-ghost use Rattle.driver_connect.specs.Stopping.{planned_stop, takes_item, without_handles, without_opens};
+ghost use Rattle.open_agents.specs.OpenItems.{is_open_on, keeps, without_items};
+ghost use Rattle.driver_connect.specs.AfterStop.{opens_left};
+ghost use Rattle.driver_connect.specs.Stopping.{without_handles};
 ghost use Rattle.protocol_notify.specs.Registrations.{events_for};
 ghost use Rattle.protocol_services.specs.Lists.{IsRaised};
 ghost use Rattle.protocol_services.specs.Removing as spec;
+ghost use Rattle.protocol_services.specs.RemovalSteps.{FreesAndReplaces, PlansToFree, TakesOut, freed_and_replaced, leaves_keeper, stop_among, stop_to_free};
 
 use crate::protocols::Protocols;
 use driver_connect::{Connecting, Driver, StopPlan, connect_draft, may_start_after};
@@ -53,9 +54,7 @@ fn drivers_among<A: Allocator>(
     alloc: A,
     items: &[OpenItem],
 ) -> Result<Vec<(u64, u64), A>, AllocError>
-    ensures { IfOk result
-        (λ v. v.items ≡ map (λ i. (i.controller, i.agent))
-        (filter (λ i. is_for_driver i.attributes) items.now)) }
+    ensures { IfOk result (λ v. v.items ≡ spec.drivers_among items.now) }
 {
     let mut pairs = Vec::new(alloc);
     for item in items {
@@ -68,10 +67,7 @@ fn drivers_among<A: Allocator>(
 
 /// Whether an item keeps its interface once a stop is carried out.
 fn is_kept_after<A: Allocator + Copy>(plan: &StopPlan<A>, handle: u64, items: &[OpenItem]) -> bool
-    ensures { result
-        ≡ list_any
-        (λ i. keeps i.attributes && not (takes_item plan.now handle i.agent i.controller))
-        items.now }
+    ensures { result ≡ leaves_keeper plan.now handle items.now }
 {
     items.iter().any(|i| keeps(i.attributes) && !plan.takes_item(handle, i.agent, i.controller))
 }
@@ -95,8 +91,7 @@ fn free<A: Allocator + Copy>(
 )
     ensures handles { handles.new ≡ without_handles plan.now.handles handles.old }
     ensures opens { opens.new
-        ≡ without_items (is_open_on handle guid)
-        (without_opens plan.now.handles plan.now.pairs opens.old) }
+        ≡ without_items (is_open_on handle guid) (opens_left plan.now opens.old) }
 {
     plan.carry_out(handles, opens);
     opens.drop_interface(handle, guid);
@@ -110,9 +105,7 @@ fn take_out<A: Allocator + Copy>(
     guid: Uuid,
 )
     requires { carries handles.old guid handle ≡ true }
-    ensures { record { handles = handles.new; opens = opens.new; registrations = [] }
-        ≡ spec.uninstalled handle guid
-        (record { handles = handles.old; opens = opens.old; registrations = [] }) }
+    ensures { TakesOut handle guid handles.old opens.old handles.new opens.new }
 {
     handles.remove(handle, guid);
     if !handles.is_live(handle) {
@@ -130,10 +123,7 @@ impl<A: Allocator + Copy> Protocols<A> {
         handle: u64,
         guid: Uuid,
     ) -> Result<StopPlan<A>, Status>
-        ensures { spec.Frees None
-            (spec.can_be_freed (map D.meaning drivers.now) self.now handle guid)
-            (λ plan. plan ≡ planned_stop self.now.handles self.now.opens
-            (spec.drivers_on self.now.opens handle guid)) result self.now self.now }
+        ensures { PlansToFree (map D.meaning drivers.now) self.now handle guid result }
     {
         let Ok(items) = self.opens.items(handle, guid) else {
             return Err(Status::OutOfResources);
@@ -162,10 +152,7 @@ impl<A: Allocator + Copy> Protocols<A> {
 
     /// What the stop of the drivers of some items takes out.
     pub(crate) fn plan_among(&self, items: &[OpenItem]) -> Result<StopPlan<A>, AllocError>
-        ensures { IfOk result
-            (λ plan. plan ≡ planned_stop self.now.handles self.now.opens
-            (map (λ i. (i.controller, i.agent))
-            (filter (λ i. is_for_driver i.attributes) items.now))) }
+        ensures { IfOk result (λ plan. plan ≡ stop_among self.now items.now) }
     {
         let pairs = drivers_among(self.alloc, items)?;
         StopPlan::new(self.alloc, &self.handles, &self.opens, pairs.as_slice())
@@ -244,14 +231,11 @@ impl<A: Allocator + Copy> Protocols<A> {
         guid: Uuid,
         value: u64,
     ) -> Result<Vec<u64, A>, AllocError>
-        requires plan { plan.now
-            ≡ planned_stop self.old.handles self.old.opens
-            (spec.drivers_on self.old.opens handle guid) }
+        requires plan { plan.now ≡ stop_to_free self.old handle guid }
         requires there { carries (spec.freed handle guid self.old).handles guid handle ≡ true }
         requires room { spec.HasRoomToReinstall self.old }
-        ensures ok { IfOk result
-            (λ events. spec.Replaces (map D.meaning drivers.now) handle guid value
-            (spec.freed handle guid self.old) events self.new) }
+        ensures ok { FreesAndReplaces
+            D.meaning drivers.now self.old handle guid value result self.new }
         ensures err { OnErr result (self.new ≡ self.old) }
         ensures raised { IsRaised self.old self.new }
     {
@@ -280,13 +264,10 @@ impl<A: Allocator + Copy> Protocols<A> {
         guid: Uuid,
         value: u64,
     ) -> Result<Vec<u64, A>, AllocError>
-        requires plan { plan.now
-            ≡ planned_stop self.old.handles self.old.opens
-            (spec.drivers_on self.old.opens handle guid) }
+        requires plan { plan.now ≡ stop_to_free self.old handle guid }
         requires there { carries (spec.freed handle guid self.old).handles guid handle ≡ true }
         requires stamps { self.old.handles.last_stamp < 2 ^ 62 }
-        ensures lists { OnOk result
-            (self.new ≡ spec.replaced handle guid value (spec.freed handle guid self.old)) }
+        ensures lists { OnOk result (self.new ≡ freed_and_replaced handle guid value self.old) }
         ensures order { OnOk result (IsHandleTable self.new.handles) }
         ensures events { IfOk result
             (λ events. events.items ≡ events_for self.old.registrations guid) }
@@ -311,14 +292,11 @@ impl<A: Allocator + Copy> Protocols<A> {
         guid: Uuid,
         value: u64,
     ) -> Result<Vec<u64, A>, AllocError>
-        requires plan { plan.now
-            ≡ planned_stop self.old.handles self.old.opens
-            (spec.drivers_on self.old.opens handle guid) }
+        requires plan { plan.now ≡ stop_to_free self.old handle guid }
         requires there { carries (spec.freed handle guid self.old).handles guid handle ≡ true }
         requires room { spec.HasRoomToReinstall self.old }
-        ensures ok { IfOk result
-            (λ events. spec.Replaces (map D.meaning drivers.now) handle guid value
-            (spec.freed handle guid self.old) events self.new) }
+        ensures ok { FreesAndReplaces
+            D.meaning drivers.now self.old handle guid value result self.new }
         ensures err { OnErr result (self.new ≡ self.old) }
         ensures raised { IsRaised self.old self.new }
     {

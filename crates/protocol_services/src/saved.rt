@@ -1,5 +1,6 @@
 //! The lists as they were, to be put back.
 ghost use Rattle.std.specs.Prelude.{◌≡◌, IfOk};
+ghost use Rattle.protocol_services.specs.Saved.{put_back, saved_of};
 
 use crate::protocols::Protocols;
 use guid_handles::Handles;
@@ -25,8 +26,7 @@ impl<A: Allocator> Model for SavedLists<A> {
 impl<A: Allocator + Copy> Protocols<A> {
     /// The handles and the open items as they are, in memory of their own.
     pub(crate) fn saved(&self) -> Result<SavedLists<A>, AllocError>
-        ensures { IfOk result
-            (λ saved. saved ≡ record { handles = self.now.handles; opens = self.now.opens }) }
+        ensures { IfOk result (λ saved. saved ≡ saved_of self.now) }
     {
         let handles = self.handles.try_copy()?;
         let opens = self.opens.try_copy()?;
@@ -35,12 +35,7 @@ impl<A: Allocator + Copy> Protocols<A> {
 
     /// Puts the handles and the open items back. The registrations stay.
     pub(crate) fn put_back(&mut self, saved: SavedLists<A>)
-        ensures { self.new
-            ≡ record {
-              handles = saved.handles;
-              opens = saved.opens;
-              registrations = self.old.registrations;
-            } }
+        ensures { self.new ≡ put_back saved self.old }
     {
         let SavedLists { handles, opens } = saved;
         self.handles = handles;

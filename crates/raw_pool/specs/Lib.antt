@@ -5,3 +5,4 @@ pub mod Searches
 pub mod Stores
 pub mod Ownership
 pub mod RawRows
+pub mod Answers

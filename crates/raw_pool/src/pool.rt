@@ -1,6 +1,7 @@
 //! A region of whole pages, whose cells are blocks and free runs.
 ghost use Rattle.std.specs.Prelude.{◌≡◌, ◌≤◌, ◌*◌, ◌^◌, ◌<◌, [], length, IfOk, IsTrue, ◌↔◌};
 ghost use Rattle.std.specs.Option.{is_some, option_map};
+ghost use Rattle.raw_pool.specs.Answers.{bytes_at};
 ghost use Rattle.raw_pool.specs.Blocks.{block_at, cells_for, given, holds_range, longest_run, lowest_fit, taken, written};
 
 use crate::region::Region;
@@ -78,8 +79,7 @@ impl<A: Allocator + Copy> RawPool<A> {
 
     /// The bytes of the block that begins at a cell.
     pub fn bytes(&self, cell: usize) -> Option<&[u8]>
-        ensures { option_map (λ s. s.now) result
-            ≡ option_map (λ b. b.bytes) (block_at cell self.now.blocks) }
+        ensures { option_map (λ s. s.now) result ≡ bytes_at cell self.now.blocks }
     {
         self.store.bytes_of(cell)
     }

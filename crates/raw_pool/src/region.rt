@@ -1,6 +1,7 @@
 //! The memory of a region: one block, with the bytes of its cells and behind them their marks.
 ghost use Rattle.std.specs.Prelude.{◌≡◌, ◌≤◌, ◌<◌, ◌+◌, ◌^◌, [], ◌∷◌, length, replicate, IfOk};
 ghost use Rattle.byteorder.specs.Endian.{little_bytes};
+ghost use Rattle.raw_pool.specs.Answers.{IsUnset};
 ghost use Rattle.raw_pool.specs.Bytes.{with_put, word};
 
 use crate::raw_bytes::{Lease, RawBytes};
@@ -31,9 +32,7 @@ impl<A: Allocator> Region<A> {
     /// Room for the given numbers of bytes and marks, none of which is set. It touches none of the memory.
     pub(crate) fn new(alloc: A, bytes: usize, marks: usize) -> Result<Region<A>, AllocError>
         requires { bytes + marks < 2 ^ 63 }
-        ensures { IfOk result
-            (λ r. (r.bytes ≡ record { set = []; room = bytes })
-            × (r.marks ≡ record { set = []; room = marks })) }
+        ensures { IfOk result (λ r. IsUnset bytes marks r) }
     {
         let (bytes, marks, lease) = Lease::reserve(&alloc, bytes, marks)?;
         Ok(Region {

@@ -4,6 +4,7 @@ ghost use Rattle.std.specs.List.{AllByRecursion};
 ghost use Rattle.std.specs.Option.{is_some, option_map};
 ghost use Rattle.byteorder.specs.Endian.{little_bytes};
 ghost use Rattle.raw_pool.specs.Bytes.{word};
+ghost use Rattle.raw_pool.specs.Answers.{AreCellsIn, bytes_at};
 ghost use Rattle.raw_pool.specs.Blocks.{block_at, cells_for, given, holds_range, longest_run, lowest_fit, taken, written};
 ghost use Rattle.raw_pool.specs.FreeList.{link};
 ghost use Rattle.raw_pool.specs.Searches.{IsCut};
@@ -226,8 +227,7 @@ impl<A: Allocator + Copy> Store<A> {
     /// Makes the cells from a cell up to `end` free. They join the free run `last` before them if it
     /// touches them; the list goes on with `after`.
     fn join(&mut self, last: usize, cell: usize, end: usize, after: usize)
-        requires few { (self.old.cells ≤ 2 ^ 28) × (cell < end) × (end ≤ self.old.cells)
-            × (last ≤ self.old.cells) }
+        requires few { AreCellsIn self.old.cells cell end last }
         requires room { self.old.region.bytes.room ≡ 32 * self.old.cells }
         requires last { last < self.old.cells → IsRunBefore self.old last cell }
         requires set { 32 * cell + 32 ≤ length self.old.region.bytes.set }
@@ -310,8 +310,7 @@ impl<A: Allocator + Copy> Store<A> {
     /// The bytes of the block at a cell.
     pub(crate) fn bytes_of(&self, cell: usize) -> Option<&[u8]>
         requires { IsWholeStore self.now }
-        ensures { option_map (λ s. s.now) result
-            ≡ option_map (λ b. b.bytes) (block_at cell (blocks_of self.now)) }
+        ensures { option_map (λ s. s.now) result ≡ bytes_at cell (blocks_of self.now) }
     {
         let size = self.size_of(cell)?;
         let start = CELL_SIZE * cell + HEADER_SIZE;

@@ -1,9 +1,10 @@
 //! What C asks of a core beside the services.
-ghost use Rattle.std.specs.Prelude.{◌≡◌, length, slice_get};
+ghost use Rattle.std.specs.Prelude.{◌≡◌, length};
 ghost use Rattle.page_ranges.specs.MemoryMap.{memory_map};
 ghost use Rattle.c_interface.specs.Buffers.{laid};
 ghost use Rattle.c_interface.specs.Checks.{ReturnsEntry};
 ghost use Rattle.c_interface.specs.EfiCores.{certifying_core, last_events};
+ghost use Rattle.c_interface.specs.Items.{map_entry};
 ghost use Rattle.c_interface.specs.Served.{ReturnsBlock};
 ghost use Rattle.region_services_c.specs.Versions.{version};
 
@@ -69,7 +70,7 @@ pub extern "C" fn RafkudinDescriptors(core: &mut Rafkudin) -> usize
 #[unsafe(no_mangle)]
 pub extern "C" fn RafkudinDescriptor(core: &mut Rafkudin, index: usize, entry: &mut MapEntry) -> u64
     ensures returned { ReturnsEntry
-        (slice_get (memory_map core.old.core.core.state.parts.book.memory) index) entry.old result
+        (map_entry core.old.core index) entry.old result
         entry.new }
     ensures kept { core.new.core ≡ core.old.core }
 {

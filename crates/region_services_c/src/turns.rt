@@ -1,7 +1,7 @@
 //! What comes next where a caller starts and stops drivers itself. None is a service, and none uses up a call.
 ghost use Rattle.std.specs.Prelude.{◌≡◌};
 ghost use Rattle.c_interface.specs.Turns.{ReturnsDriver, ReturnsTurns};
-ghost use Rattle.driver_connect.specs.DriverTurns.{after_outcome, next_driver, pass_of};
+ghost use Rattle.driver_connect.specs.DriverTurns.{EndsTurn, next_driver, pass_of};
 
 use c_interface::{Agent, DriverTurns, connect_next, connect_record};
 use region_cores::Rafkudin;
@@ -49,8 +49,7 @@ pub extern "C" fn RafkudinConnectRecord(
     drivers: &mut [Agent],
     was_started: bool,
 )
-    ensures { pass_of turns.new drivers.new
-        ≡ after_outcome was_started (pass_of turns.old drivers.old) }
+    ensures { EndsTurn was_started turns.old drivers.old turns.new drivers.new }
 {
     connect_record(turns, drivers, was_started);
 }

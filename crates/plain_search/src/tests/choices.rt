@@ -6,6 +6,7 @@ ghost use Rattle.page_ranges.specs.Granules.{is_granular};
 ghost use Rattle.page_ranges.specs.Memory.{IsProperMemory};
 ghost use Rattle.page_ranges.specs.Runs.{pages_of, AreRuns};
 ghost use Rattle.placement_certificate.specs.Placement.{IsProperRequest};
+ghost use Rattle.plain_search.specs.PlainAnswers.{IsPossibleRun};
 ghost use Rattle.plain_search.specs.RunsBy.{AreRunsBy};
 
 use super::{bound, request, run};
@@ -56,8 +57,7 @@ const LAST_PAGES: [Row; 1] = [(PAGE_COUNT - 8, 8, 7, 0xf)];
 
 // A machine may have the run.
 fn may_stand(first: u64, pages: u64, kind: (u32, u64)) -> bool
-    ensures { IsTrue result → (0 < pages) × (first + pages ≤ page_count)
-        × (kind.0 ≡ conventional → has_runtime kind.1 ≡ false) }
+    ensures { IsTrue result → IsPossibleRun first pages kind }
 {
     let (number, attributes) = kind;
     pages > 0

@@ -1,0 +1,53 @@
+-- The steps of a removal: what is stopped to free an interface, and what goes then.
+use Rattle.std.specs.Prelude.{◌≡◌, ℕ, ◌&&◌, not, Bool, List, [], None, IfOk, map, Result, Vec}
+use Rattle.std.specs.List.{list_any}
+use Rattle.page_ranges.specs.declared.statuses.Status.{Status}
+use Rattle.guid_handles.specs.HandleTables.{HandleTable}
+use Rattle.open_agents.specs.declared.items.OpenItem.{OpenItem}
+use Rattle.open_agents.specs.declared.items.OpenRecord.{OpenRecord}
+use Rattle.open_agents.specs.OpenItems.{keeps}
+use Rattle.driver_connect.specs.Drivers.{Meaning}
+use Rattle.driver_connect.specs.Stopping.{PlannedStop, planned_stop, takes_item}
+use Rattle.protocol_services.specs.Lists.{Lists}
+use Rattle.protocol_services.specs.Removing.{Frees, Replaces, can_be_freed, drivers_among, drivers_on, freed, replaced, uninstalled}
+
+-- what the stop of the drivers of some items takes out
+abbrev pub stop_among : Lists → List OpenItem → PlannedStop
+stop_among l items = planned_stop l.handles l.opens (drivers_among items)
+
+-- what the stop takes out that frees an interface
+abbrev pub stop_to_free : Lists → ℕ → List ℕ → PlannedStop
+stop_to_free l handle guid = planned_stop l.handles l.opens (drivers_on l.opens handle guid)
+
+-- The answer is the stop that frees an interface, or why it can't be freed.
+abbrev pub PlansToFree : List Meaning → Lists → ℕ → List ℕ → Result PlannedStop Status → Type 0
+PlansToFree ds l handle guid result =
+    Frees None (can_be_freed ds l handle guid)
+    (λ plan. plan ≡ stop_to_free l handle guid) result l l
+
+-- a stop leaves one of an interface's items that keeps it
+abbrev pub leaves_keeper : PlannedStop → ℕ → List OpenItem → Bool
+leaves_keeper plan handle items =
+    list_any (λ i. keeps i.attributes && not (takes_item plan handle i.agent i.controller)) items
+
+-- a handle table and open items as lists with no registrations
+abbrev pub lists_of : HandleTable → List OpenRecord → Lists
+lists_of t opens = record { handles = t; opens = opens; registrations = [] }
+
+-- An interface goes from a handle table and open items, and with its last interface its handle.
+abbrev pub TakesOut : ℕ → List ℕ → HandleTable → List OpenRecord → HandleTable → List OpenRecord
+    → Type 0
+TakesOut handle guid t opens new_t new_opens =
+    lists_of new_t new_opens ≡ uninstalled handle guid (lists_of t opens)
+
+-- an interface is freed and has another value and a new stamp
+abbrev pub freed_and_replaced : ℕ → List ℕ → ℕ → Lists → Lists
+freed_and_replaced handle guid value l = replaced handle guid value (freed handle guid l)
+
+-- Where events are returned, an interface was freed, a value was put in place of its own, and the
+-- handle was connected, by drivers of these meanings.
+abbrev pub FreesAndReplaces : {D A E : Type 0} → (D → Meaning) → List D → Lists → ℕ → List ℕ → ℕ
+    → Result (Vec ℕ A) E → Lists → Type 0
+FreesAndReplaces meaning drivers l handle guid value result new =
+    IfOk result
+    (λ events. Replaces (map meaning drivers) handle guid value (freed handle guid l) events new)
