@@ -9,7 +9,7 @@ use Rattle.page_ranges.specs.Cursors.{IsBlockAt}
 use Rattle.page_ranges.specs.MemoryMap.{memory_map, should_be_one}
 use Rattle.page_ranges.specs.Runs.{pages_of, AreRuns, AreMaximalRuns}
 use Rattle.descriptor_table.specs.Tables.{entry_of, EndBy, IsBlockBelow}
-use Rattle.descriptor_table.specs.Leaves.{RunPlace, PassesRun, IsPlace, run_before, runs_from}
+use Rattle.descriptor_table.specs.Leaves.{RunPlace, PassesRun, IsPlace, run_before, runs_with_first}
 use Rattle.descriptor_table.proofs.FreeRuns.{free_from, free_here, free_member, above_touching, above_gap, above_last, below_touching, below_gap, below_first}
 use Rattle.descriptor_table.proofs.EntryRuns.{stretched, entry_to, goes_on_in, ends_before_next, ends_at_last}
 
@@ -30,7 +30,7 @@ some_next [] r e = absurd cc
 some_next (q ∷ rs) r e = let same : q ≡ r = cc in (rs, ap (λ x. x ∷ rs) same)
 
 -- the runs that are to come are the one that is passed now and those after it
-pub passed_first : (old new : RunPlace) (o : Option Run) → PassesRun old o new → old.rest ≡ runs_from o new.rest
+pub passed_first : (old new : RunPlace) (o : Option Run) → PassesRun old o new → old.rest ≡ runs_with_first o new.rest
 passed_first old new None p = p.0
 passed_first old new (Some r) p = p.0
 

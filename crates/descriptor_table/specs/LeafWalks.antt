@@ -25,8 +25,8 @@ EndsFrom page r = page ≤ r.range.first + r.range.pages
 -- ---- entries
 
 -- the memory map of some runs
-abbrev pub map_of : List Run → List Descriptor
-map_of rs = memory_map (pages_of rs)
+abbrev pub map_of_runs : List Run → List Descriptor
+map_of_runs rs = memory_map (pages_of rs)
 
 -- the conventional entries of the memory map of some runs
 abbrev pub free_in : List Run → List Descriptor

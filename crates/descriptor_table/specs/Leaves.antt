@@ -88,9 +88,9 @@ PassesRun old None new = (old.rest ≡ []) × (new ≡ old)
 PassesRun old (Some r) new = (old.rest ≡ r ∷ new.rest) × (new.before ≡ Some r)
 
 -- the runs from one on that was passed last; none where there is no such run
-abbrev pub runs_from : Option Run → List Run → List Run
-runs_from None rs = []
-runs_from (Some r) rs = r ∷ rs
+abbrev pub runs_with_first : Option Run → List Run → List Run
+runs_with_first None rs = []
+runs_with_first (Some r) rs = r ∷ rs
 
 -- the run before the one at an index
 abbrev pub run_before : List Run → ℕ → Option Run

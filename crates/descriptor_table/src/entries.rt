@@ -4,8 +4,8 @@ ghost use Rattle.std.specs.Iterator.{YieldsFirst, item_count};
 ghost use Rattle.page_ranges.specs.MemoryTypes.{page_count};
 ghost use Rattle.page_ranges.specs.MemoryMap.{memory_map, should_be_one};
 ghost use Rattle.page_ranges.specs.Runs.{pages_of, AreRuns};
-ghost use Rattle.descriptor_table.specs.Leaves.{runs_in, runs_from, entry_count, AreLeaves};
-ghost use Rattle.descriptor_table.specs.LeafWalks.{entry_up_to, map_of};
+ghost use Rattle.descriptor_table.specs.Leaves.{runs_in, runs_with_first, entry_count, AreLeaves};
+ghost use Rattle.descriptor_table.specs.LeafWalks.{entry_up_to, map_of_runs};
 ghost use Rattle.descriptor_table.specs.Tables.{entry_of, EndBy};
 
 use crate::beginnings::runs_before;
@@ -55,16 +55,16 @@ impl<'a, A: Allocator> Model for MapEntries<'a, A> {
     ghost use Rattle.page_ranges.specs.MemoryTypes.{page_count};
     ghost use Rattle.page_ranges.specs.MemoryMap.{memory_map};
     ghost use Rattle.page_ranges.specs.Runs.{pages_of, AreRuns};
-    ghost use Rattle.descriptor_table.specs.Leaves.{runs_from};
+    ghost use Rattle.descriptor_table.specs.Leaves.{runs_with_first};
     ghost use Rattle.descriptor_table.specs.Tables.{EndBy};
 
     ghost Value = { List Descriptor };
 
     ghost view = { λ e.
-        memory_map (pages_of (runs_from (option_map (λ r. r.now) e.first) e.walk.rest)) };
+        memory_map (pages_of (runs_with_first (option_map (λ r. r.now) e.first) e.walk.rest)) };
 
-    ghost invariant = { λ e. AreRuns (runs_from (option_map (λ r. r.now) e.first) e.walk.rest)
-        × EndBy page_count (runs_from (option_map (λ r. r.now) e.first) e.walk.rest) };
+    ghost invariant = { λ e. AreRuns (runs_with_first (option_map (λ r. r.now) e.first) e.walk.rest)
+        × EndBy page_count (runs_with_first (option_map (λ r. r.now) e.first) e.walk.rest) };
 }
 
 impl<'a, A: Allocator + Copy> MapEntries<'a, A> {
@@ -107,12 +107,12 @@ fn end_of_entry<'a, A: Allocator + Copy>(
     requires runs { AreRuns (first.now ∷ walk.old.rest) }
     requires ends { EndBy page_count (first.now ∷ walk.old.rest) }
     ensures low { first.now.range.first ≤ result.0 }
-    ensures runs { AreRuns (runs_from (option_map (λ r. r.now) result.1) walk.new.rest) }
+    ensures runs { AreRuns (runs_with_first (option_map (λ r. r.now) result.1) walk.new.rest) }
     ensures ends { EndBy page_count
-        (runs_from (option_map (λ r. r.now) result.1) walk.new.rest) }
-    ensures entry { map_of (first.now ∷ walk.old.rest)
+        (runs_with_first (option_map (λ r. r.now) result.1) walk.new.rest) }
+    ensures entry { map_of_runs (first.now ∷ walk.old.rest)
         ≡ entry_up_to first.now result.0
-        ∷ map_of (runs_from (option_map (λ r. r.now) result.1) walk.new.rest) }
+        ∷ map_of_runs (runs_with_first (option_map (λ r. r.now) result.1) walk.new.rest) }
 {
     let mut last = first;
     while let Some(run) = walk.next() {
