@@ -2,15 +2,15 @@
 use Rattle.std.specs.Prelude.{◌≡◌, ℕ, ◌+◌, ◌-◌, ◌<◌, ◌≤◌, ◌==◌, List, ◌∷◌, Option, filter, length, take, slice_get}
 use Rattle.page_ranges.specs.declared.ranges.Descriptor.{Descriptor}
 use Rattle.page_ranges.specs.declared.ranges.Run.{Run}
-use Rattle.page_ranges.specs.MemoryTypes.{conventional}
+use Rattle.page_ranges.specs.MemoryTypes.{conventional, page_count}
 use Rattle.page_ranges.specs.Memory.{IsProperMemory}
 use Rattle.page_ranges.specs.MemoryMap.{memory_map}
 use Rattle.page_ranges.specs.Cursors.{IsBlockAt}
-use Rattle.page_ranges.specs.Runs.{pages_of, AreMaximalRuns}
+use Rattle.page_ranges.specs.Runs.{pages_of, AreMaximalRuns, AreRuns}
 use Rattle.descriptor_table.specs.declared.groups.Group.{Group}
-use Rattle.descriptor_table.specs.Leaves.{leaf_at, run_before, runs_in, AreLeaves, IsPlace, RunPlace}
+use Rattle.descriptor_table.specs.Leaves.{leaf_at, run_before, runs_in, runs_with_first, AreLeaves, IsPlace, RunPlace}
 use Rattle.descriptor_table.specs.Summaries.{AreGroups}
-use Rattle.descriptor_table.specs.Tables.{IsBlockBelow}
+use Rattle.descriptor_table.specs.Tables.{EndBy, IsBlockBelow}
 
 -- ---- runs by their ends
 
@@ -27,6 +27,14 @@ EndsFrom page r = page ≤ r.range.first + r.range.pages
 -- the memory map of some runs
 abbrev pub map_of_runs : List Run → List Descriptor
 map_of_runs rs = memory_map (pages_of rs)
+
+-- the memory map of a run that was passed, if there is one, and the runs to come
+abbrev pub map_from : Option Run → List Run → List Descriptor
+map_from passed rs = map_of_runs (runs_with_first passed rs)
+
+-- runs in order that lie among all pages
+abbrev pub AreRunsOfPages : List Run → Type 0
+AreRunsOfPages rs = AreRuns rs × EndBy page_count rs
 
 -- the conventional entries of the memory map of some runs
 abbrev pub free_in : List Run → List Descriptor

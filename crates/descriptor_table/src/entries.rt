@@ -5,7 +5,7 @@ ghost use Rattle.page_ranges.specs.MemoryTypes.{page_count};
 ghost use Rattle.page_ranges.specs.MemoryMap.{memory_map, should_be_one};
 ghost use Rattle.page_ranges.specs.Runs.{pages_of, AreRuns};
 ghost use Rattle.descriptor_table.specs.Leaves.{runs_in, runs_with_first, entry_count, AreLeaves};
-ghost use Rattle.descriptor_table.specs.LeafWalks.{entry_up_to, map_of_runs};
+ghost use Rattle.descriptor_table.specs.LeafWalks.{entry_up_to, map_from, map_of_runs};
 ghost use Rattle.descriptor_table.specs.Tables.{entry_of, EndBy};
 
 use crate::beginnings::runs_before;
@@ -52,19 +52,15 @@ pub struct MapEntries<'a, A: Allocator = Global> {
 impl<'a, A: Allocator> Model for MapEntries<'a, A> {
     ghost use Rattle.std.specs.Prelude.{List, option_map};
     ghost use Rattle.page_ranges.specs.declared.ranges.Descriptor.{Descriptor};
-    ghost use Rattle.page_ranges.specs.MemoryTypes.{page_count};
-    ghost use Rattle.page_ranges.specs.MemoryMap.{memory_map};
-    ghost use Rattle.page_ranges.specs.Runs.{pages_of, AreRuns};
     ghost use Rattle.descriptor_table.specs.Leaves.{runs_with_first};
-    ghost use Rattle.descriptor_table.specs.Tables.{EndBy};
+    ghost use Rattle.descriptor_table.specs.LeafWalks.{map_from, AreRunsOfPages};
 
     ghost Value = { List Descriptor };
 
-    ghost view = { λ e.
-        memory_map (pages_of (runs_with_first (option_map (λ r. r.now) e.first) e.walk.rest)) };
+    ghost view = { λ e. map_from (option_map (λ r. r.now) e.first) e.walk.rest };
 
-    ghost invariant = { λ e. AreRuns (runs_with_first (option_map (λ r. r.now) e.first) e.walk.rest)
-        × EndBy page_count (runs_with_first (option_map (λ r. r.now) e.first) e.walk.rest) };
+    ghost invariant = { λ e. AreRunsOfPages
+        (runs_with_first (option_map (λ r. r.now) e.first) e.walk.rest) };
 }
 
 impl<'a, A: Allocator + Copy> MapEntries<'a, A> {
@@ -112,7 +108,7 @@ fn end_of_entry<'a, A: Allocator + Copy>(
         (runs_with_first (option_map (λ r. r.now) result.1) walk.new.rest) }
     ensures entry { map_of_runs (first.now ∷ walk.old.rest)
         ≡ entry_up_to first.now result.0
-        ∷ map_of_runs (runs_with_first (option_map (λ r. r.now) result.1) walk.new.rest) }
+        ∷ map_from (option_map (λ r. r.now) result.1) walk.new.rest }
 {
     let mut last = first;
     while let Some(run) = walk.next() {

@@ -15,4 +15,4 @@ saved_of l = record { handles = l.handles; opens = l.opens }
 -- the lists with those that were kept put back; the registrations stay
 abbrev pub put_back : Saved → Lists → Lists
 put_back saved l =
-    record { handles = saved.handles; opens = saved.opens; registrations = l.registrations; }
+    record { handles = saved.handles; opens = saved.opens; registrations = l.registrations }
