@@ -7,3 +7,4 @@ pub mod Steps
 pub mod Removals
 pub mod Laws
 pub mod PathSteps
+pub mod Stops
