@@ -166,19 +166,21 @@ fn drawn_type(draw: u64) -> MemoryType {
     }
 }
 
-// Places pages by drawn requests and changes drawn ranges, and asserts that each place is the best.
+// Places pages by drawn requests and changes drawn ranges, and asserts that each place is the best. Returns how
+// many requests there is a place for.
 pub fn assert_places(
     rt: &(impl AllocGlobal + Abort),
     runs: &[Run],
     seed: u64,
     calls: u64,
-) -> Result<(), AllocError>
+) -> Result<u64, AllocError>
     requires runs { AreRuns runs.now }
     requires proper { IsProperMemory (pages_of runs.now) }
 {
     let mut table = RunTable::from_runs(rt.alloc(), runs)?;
     let mut list = pages_by_number(rt.alloc(), runs)?;
     let mut draw = seed;
+    let mut placed = 0_u64;
     for _call in 0..calls {
         draw = next_draw(draw);
         let request = drawn_request(draw, list.len());
@@ -193,11 +195,12 @@ pub fn assert_places(
                 pages: request.pages,
             };
             change(&mut table, list.as_mut_slice(), range, request.mtype)?;
+            placed = placed.saturating_add(1);
         }
         let range = drawn_range(draw, list.len());
         change(&mut table, list.as_mut_slice(), range, drawn_type(draw))?;
     }
-    Ok(())
+    Ok(placed)
 }
 
 // How many runs a machine of a seed has, up to how many pages each, and of how many kinds: one in eight is large.
@@ -221,10 +224,12 @@ fn size_of(seed: u64) -> (u64, u64, u64)
 /// Tables of up to 2,000 runs.
 #[test]
 fn places_as_pages_say(rt: HostRuntime) -> Result<(), AllocError> {
+    let mut placed = 0_u64;
     for seed in 0..1_000 {
         let (count, most, kinds) = size_of(seed);
         let runs = drawn_machine(rt.alloc(), seed, count, most, kinds)?;
-        assert_places(&rt, runs.as_slice(), seed, 6)?;
+        placed = placed.saturating_add(assert_places(&rt, runs.as_slice(), seed, 60)?);
     }
+    assert!(rt; placed >= 30_000, "places for {placed}");
     Ok(())
 }
