@@ -51,6 +51,46 @@ fn promising_machine(alloc: Global, best: u64) -> Result<Vec<Run>, AllocError>
     Ok(runs)
 }
 
+// The pages and the kind of the run of a number: each second one is a free page, and that of number `best` of these
+// has two pages.
+fn lone_run(number: u64, best: u64) -> (u64, (u32, u64))
+    ensures pages { (0 < result.0) × (result.0 ≤ 2) }
+    ensures kind { result.1.0 ≡ conventional → has_runtime result.1.1 ≡ false }
+{
+    match number % 2 {
+        0 if number / 2 == best => (2, (7, 0xf)),
+        0 => (1, (7, 0xf)),
+        _ => (1, (5, 0x8000_0000_0000_000f)),
+    }
+}
+
+// A machine on which two pages can lie at just one place.
+fn lone_machine(alloc: Global, best: u64) -> Result<Vec<Run>, AllocError>
+    ensures runs { IfOk result (λ v. AreRuns v.items) }
+    ensures proper { IfOk result (λ v. IsProperMemory (pages_of v.items)) }
+{
+    let mut runs = Vec::new(alloc);
+    let mut end = 0;
+    for number in 0..2 * PARTS {
+        let (pages, kind) = lone_run(number, best);
+        push_run(&mut runs, end, pages, kind)?;
+        end += pages;
+    }
+    Ok(runs)
+}
+
+/// One place, in whichever leaf of its group it lies.
+#[test]
+fn finds_the_one_place(rt: HostRuntime) -> Result<(), AllocError> {
+    for best in 0..PARTS {
+        let runs = lone_machine(rt.alloc(), best)?;
+        let table = RunTable::from_runs(rt.alloc(), runs.as_slice())?;
+        let found = best_start(&table, &request(4, 2, u64::MAX));
+        assert!(rt; found == Some(2 * best), "at {best}");
+    }
+    Ok(())
+}
+
 /// A search that opens each leaf and finds nothing better there.
 #[test]
 fn finds_the_best_where_all_leaves_look_promising(rt: HostRuntime) -> Result<(), AllocError> {
