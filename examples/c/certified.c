@@ -4,8 +4,8 @@
  *     certified CALLS            that many drawn calls, on drawn machines
  *     certified MACHINE TRACE    the calls of a trace, on a machine file
  *
- * All replies must be equal, and the memory maps and their keys. A call that differs is printed on
- * standard error, and then the status is 1. */
+ * All replies must be equal, and every 500 calls the memory maps and their keys. A call that
+ * differs is printed on standard error, and then the status is 1. */
 #include "calls.h"
 #include "fault.h"
 #include "machine.h"

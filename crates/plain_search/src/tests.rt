@@ -9,6 +9,7 @@ ghost use Rattle.plain_search.specs.PlainAnswers.{given_run};
 ghost use Rattle.plain_search.specs.RunsBy.{AreRunsBy};
 
 mod choices;
+mod promising;
 mod wide_tables;
 
 use super::*;

@@ -297,15 +297,21 @@ fn multiples_of_the_granule(rt: HostRuntime) -> Result<(), AllocError> {
     assert_certified(&rt, &IN_GRANULES, &in_granules(0, 16, 79), &bounds, 48)
 }
 
-// A type with attributes, drawn by a number below six, or below twelve for more that are free.
+// A type with attributes, drawn by a number below six, or below twelve for more that are free, or below 24 for
+// more types beside them, of which the last two differ by a multiple of 64.
 fn drawn_kind(draw: u64) -> (u32, u64)
     ensures { result.0 ≡ conventional → has_runtime result.1 ≡ false }
 {
     match draw {
-        0 => (6, 0x8000_0000_0000_000f),
-        1 => (5, 0x8000_0000_0000_0007),
+        0 | 12 | 13 => (6, 0x8000_0000_0000_000f),
+        1 | 14 => (5, 0x8000_0000_0000_0007),
         2 | 6 | 7 => (7, 0x7),
         3 => (7, 0x4_000f),
+        15 => (0, 0xf),
+        16 | 17 => (2, 0xf),
+        18 | 19 => (10, 0xf),
+        20 | 21 => (4, 0xf),
+        22 | 23 => (0x8000_0004, 0xf),
         _ => (7, 0xf),
     }
 }
@@ -344,7 +350,7 @@ pub fn drawn_machine(
     kinds: u64,
 ) -> Result<Vec<Run>, AllocError>
     requires count { count ≤ 2000 }
-    requires most { (0 < most) × (most ≤ 11) }
+    requires most { (0 < most) × (most ≤ 75) }
     requires kinds { 0 < kinds }
     ensures runs { IfOk result (λ v. AreRuns v.items) }
     ensures proper { IfOk result (λ v. IsProperMemory (pages_of v.items)) }

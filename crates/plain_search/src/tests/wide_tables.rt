@@ -1,10 +1,10 @@
 //! The best start in tables of many leaves, as they change, beside a search over single pages.
-ghost use Rattle.std.specs.Prelude.{◌≡◌, IsTrue, IfOk};
+ghost use Rattle.std.specs.Prelude.{◌≡◌, ◌<◌, ◌≤◌, IsTrue};
 ghost use Rattle.page_ranges.specs.Memory.{AllInRange, IsPresent, IsProperMemory};
 ghost use Rattle.page_ranges.specs.Runs.{pages_of, AreRuns};
 ghost use Rattle.placement_certificate.specs.Placement.{IsProperRequest};
 
-use super::choices::{drawn_machine, in_granules, next_draw, push_run};
+use super::choices::{drawn_machine, in_granules, next_draw};
 use super::request;
 use descriptor_table::RunTable;
 use page_ranges::{MemoryType, Owner, PageRange, Run, is_specific_purpose};
@@ -14,10 +14,10 @@ use std::alloc::{AllocError, Global};
 use std::process::Abort;
 
 /// The type and the attributes of a page that is present.
-type Page = Option<(u32, u64)>;
+pub type Page = Option<(u32, u64)>;
 
 // The page of each number up to the last one of a machine.
-fn pages_by_number(alloc: Global, runs: &[Run]) -> Result<Vec<Page>, AllocError> {
+pub fn pages_by_number(alloc: Global, runs: &[Run]) -> Result<Vec<Page>, AllocError> {
     let mut list = Vec::new(alloc);
     for run in runs {
         for _hole in list.len() as u64..run.range.first {
@@ -69,7 +69,7 @@ fn is_available(page: Page) -> bool {
 }
 
 // The highest of the starts after which the map is shortest, by trying each from the highest down.
-fn start_by_pages(list: &[Page], request: &Request) -> Option<u64> {
+pub fn start_by_pages(list: &[Page], request: &Request) -> Option<u64> {
     let mut best = None;
     let mut room = 0_u64;
     for number in (0..list.len() as u64).rev() {
@@ -125,38 +125,65 @@ fn change(
     Ok(())
 }
 
-// A request for up to 24 pages, or for up to 48 in granules of 16.
-fn drawn_request(draw: u64) -> Request
+// A request of a kind of its number, below a limit that lies among twice as many pages as the machine has or
+// for any place: for few pages or many, in granules of 16 or not, and for more pages than there are.
+fn drawn_request(draw: u64, machine_pages: usize) -> Request
     ensures { IsProperRequest result }
 {
-    let limit = draw >> 16 & 0x7fff;
+    let limit = (draw >> 16) % (2 * (machine_pages as u64).min(100_000) + 1);
     let pages = (draw >> 40) % 24 + 1;
-    match draw >> 56 & 7 {
+    match draw >> 56 & 15 {
         0 => in_granules(6, 16, limit),
         1 => in_granules(10, 32, u64::MAX),
-        2 => request(4, pages, limit),
-        3 => request(6, pages, u64::MAX),
-        4 => request(5, pages % 3 + 1, u64::MAX),
+        2 => in_granules(0, 16, u64::MAX),
+        3 => in_granules(5, 48, limit),
+        4 => request(4, pages, limit),
+        5 => request(6, pages, u64::MAX),
+        6 => request(5, pages % 3 + 1, u64::MAX),
+        7 => request(0x8000_0004, pages % 8 + 1, u64::MAX),
+        8 => request(10, pages % 8 + 1, limit),
+        9 => request(2, pages + 60, u64::MAX),
+        10 => request(0, pages % 4 + 1, u64::MAX),
+        11 => request(1, pages + 100_000, u64::MAX),
         _ => request(4, pages % 6 + 1, u64::MAX),
     }
 }
 
-// Places pages by drawn requests and frees drawn ranges, and asserts that each place is the best.
-fn assert_places(
+// A range of up to three pages, perhaps none, among as many as the machine has.
+fn drawn_range(draw: u64, machine_pages: usize) -> PageRange {
+    PageRange {
+        first: (draw >> 20) % (machine_pages as u64).saturating_add(1),
+        pages: draw >> 32 & 3,
+    }
+}
+
+// The type that a drawn range is given: mostly free, and else one that only changes what is beside free pages.
+fn drawn_type(draw: u64) -> MemoryType {
+    match draw >> 60 & 3 {
+        0 => MemoryType::new(6),
+        1 => MemoryType::new(4),
+        _ => MemoryType::new(7),
+    }
+}
+
+// Places pages by drawn requests and changes drawn ranges, and asserts that each place is the best. Returns how
+// many requests there is a place for.
+pub fn assert_places(
     rt: &(impl AllocGlobal + Abort),
     runs: &[Run],
     seed: u64,
     calls: u64,
-) -> Result<(), AllocError>
+) -> Result<u64, AllocError>
     requires runs { AreRuns runs.now }
     requires proper { IsProperMemory (pages_of runs.now) }
 {
     let mut table = RunTable::from_runs(rt.alloc(), runs)?;
     let mut list = pages_by_number(rt.alloc(), runs)?;
     let mut draw = seed;
+    let mut placed = 0_u64;
     for _call in 0..calls {
         draw = next_draw(draw);
-        let request = drawn_request(draw);
+        let request = drawn_request(draw, list.len());
         let found = best_start(&table, &request);
         assert!(rt;
             found == start_by_pages(list.as_slice(), &request),
@@ -168,60 +195,41 @@ fn assert_places(
                 pages: request.pages,
             };
             change(&mut table, list.as_mut_slice(), range, request.mtype)?;
+            placed = placed.saturating_add(1);
         }
-        let range = PageRange {
-            first: draw >> 20 & 0xfff,
-            pages: draw >> 32 & 3,
-        };
-        change(&mut table, list.as_mut_slice(), range, MemoryType::new(7))?;
+        let range = drawn_range(draw, list.len());
+        change(&mut table, list.as_mut_slice(), range, drawn_type(draw))?;
     }
-    Ok(())
+    Ok(placed)
+}
+
+// How many runs a machine of a seed has, up to how many pages each, and of how many kinds: one in eight is large.
+fn size_of(seed: u64) -> (u64, u64, u64)
+    ensures count { seed < 1000 → result.0 ≤ 2000 }
+    ensures most { (0 < result.1) × (result.1 ≤ 75) }
+    ensures kinds { 0 < result.2 }
+{
+    let kinds = match seed % 3 {
+        0 => 6,
+        1 => 12,
+        _ => 24,
+    };
+    match seed % 8 {
+        0 => (seed.saturating_mul(2), 11, kinds),
+        1 => (seed / 8, 75, kinds),
+        _ => (seed / 4, 11, kinds),
+    }
 }
 
 /// Tables of up to 2,000 runs.
 #[test]
 fn places_as_pages_say(rt: HostRuntime) -> Result<(), AllocError> {
+    let mut placed = 0_u64;
     for seed in 0..1_000 {
-        let count = if seed % 8 == 0 { 2 * seed } else { seed / 4 };
-        let runs = drawn_machine(rt.alloc(), seed, count, 11, 12)?;
-        assert_places(&rt, runs.as_slice(), seed, 6)?;
+        let (count, most, kinds) = size_of(seed);
+        let runs = drawn_machine(rt.alloc(), seed, count, most, kinds)?;
+        placed = placed.saturating_add(assert_places(&rt, runs.as_slice(), seed, 60)?);
     }
-    Ok(())
-}
-
-// A machine on which each leaf looks as if pages of type 6 could fill three pages between two of that type: it has
-// three free pages elsewhere, and 67 between two of that type, which share a bit with three.
-fn promising_machine(alloc: Global) -> Result<Vec<Run>, AllocError>
-    ensures runs { IfOk result (λ v. AreRuns v.items) }
-    ensures proper { IfOk result (λ v. IsProperMemory (pages_of v.items)) }
-{
-    let mut runs = Vec::new(alloc);
-    let mut end = 0;
-    for turn in 0..1_800_u64 {
-        let (pages, kind) = match turn % 6 {
-            0 => (3, (7, 0xf)),
-            1 => (1, (5, 0x8000_0000_0000_000f)),
-            2 => (1, (6, 0x8000_0000_0000_000f)),
-            3 => (67, (7, 0xf)),
-            4 => (1, (6, 0x8000_0000_0000_000f)),
-            _ => (1, (5, 0x8000_0000_0000_000f)),
-        };
-        push_run(&mut runs, end, pages, kind)?;
-        end += pages;
-    }
-    Ok(runs)
-}
-
-/// A search that opens each leaf and finds nothing better there.
-#[test]
-fn finds_the_best_where_all_leaves_look_promising(rt: HostRuntime) -> Result<(), AllocError> {
-    let runs = promising_machine(rt.alloc())?;
-    let table = RunTable::from_runs(rt.alloc(), runs.as_slice())?;
-    let list = pages_by_number(rt.alloc(), runs.as_slice())?;
-    for pages in 1..5 {
-        let request = request(6, pages, u64::MAX);
-        let found = best_start(&table, &request);
-        assert!(rt; found.is_some() && found == start_by_pages(list.as_slice(), &request));
-    }
+    assert!(rt; placed >= 30_000, "places for {placed}");
     Ok(())
 }
