@@ -11,3 +11,4 @@ pub mod Removals
 pub mod Services
 pub mod Turns
 pub mod Paths
+pub mod ReplyLines
