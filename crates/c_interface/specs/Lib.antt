@@ -12,3 +12,4 @@ pub mod Services
 pub mod Turns
 pub mod Paths
 pub mod Items
+pub mod ReplyLines

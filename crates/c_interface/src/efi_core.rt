@@ -31,6 +31,25 @@ pub enum LastBlock<A: Allocator = Global> {
     OutOfMemory,
 }
 
+impl<A: Allocator> LastBlock<A> {
+    /// The block's text, put in the front of a buffer, and the number of its bytes into a place.
+    pub(crate) fn returned(&self, buffer: &mut [u8], size: &mut u64) -> u64
+        ensures { ReturnsBlock self.now buffer.old size.old result buffer.new size.new }
+    {
+        let text = match self {
+            LastBlock::Text(text) => text,
+            LastBlock::Nothing => return Status::NotFound.number(),
+            LastBlock::OutOfMemory => return Status::OutOfResources.number(),
+        };
+        *size = text.len() as u64;
+        if buffer.len() < text.len() {
+            return Status::BufferTooSmall.number();
+        }
+        lay(buffer, text.as_slice());
+        Status::Success.number()
+    }
+}
+
 /// A core, and what its last call left to be asked for.
 #[derive(Drop)]
 pub struct EfiCore<A: Allocator = Global> {
@@ -237,17 +256,7 @@ impl<A: Allocator + Copy> EfiCore<A> {
     pub fn block(&self, buffer: &mut [u8], size: &mut u64) -> u64
         ensures { ReturnsBlock self.now.block buffer.old size.old result buffer.new size.new }
     {
-        let text = match &self.block {
-            LastBlock::Text(text) => text,
-            LastBlock::Nothing => return Status::NotFound.number(),
-            LastBlock::OutOfMemory => return Status::OutOfResources.number(),
-        };
-        *size = text.len() as u64;
-        if buffer.len() < text.len() {
-            return Status::BufferTooSmall.number();
-        }
-        lay(buffer, text.as_slice());
-        Status::Success.number()
+        self.block.returned(buffer, size)
     }
 
     /// How many calls may still be made: 2^31 at first.
