@@ -19,7 +19,8 @@ impl<A: Allocator + Copy> Protocols<A> {
     ) -> Result<Vec<(u64, u64), A>, AllocError>
         ensures { IfOk result
             (λ v. v.items ≡ stop_order
-            (planned_stop self.now.handles self.now.opens (drivers_on self.now.opens handle guid))) }
+            (planned_stop self.now.handles self.now.opens
+            (drivers_on self.now.opens handle guid))) }
     {
         let items = self.opens.items(handle, guid)?;
         self.plan_among(items.as_slice())?.order(self.alloc)
