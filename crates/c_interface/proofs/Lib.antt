@@ -8,3 +8,4 @@ mod Opened
 mod ReturnedLists
 pub mod InstalledPaths
 pub mod LocatedHere
+pub mod LaidStops

@@ -16,10 +16,11 @@ mod protocols;
 mod questions;
 mod removals;
 mod replies;
+mod stops;
 mod turns;
 
 pub use boot_core::{Agent, DriverTurns, OpenItem};
 pub use checks::{MapEntry, check_block};
 pub use efi_core::{ABORTED, EfiCore, LastBlock};
-pub use entries::{BlockEntry, OpenEntry, RunEntry};
+pub use entries::{BlockEntry, OpenEntry, RunEntry, StopEntry};
 pub use turns::{connect_next, connect_record};
