@@ -9,3 +9,4 @@ mod ReturnedLists
 pub mod InstalledPaths
 pub mod LocatedHere
 mod PrintedReplies
+pub mod LaidStops

@@ -9,6 +9,7 @@ pub mod Replies
 pub mod Served
 pub mod Removals
 pub mod Services
+pub mod Stops
 pub mod Turns
 pub mod Paths
 pub mod Items

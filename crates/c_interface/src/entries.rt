@@ -2,6 +2,7 @@
 ghost use Rattle.std.specs.Prelude.{◌≡◌, ◌<◌};
 ghost use Rattle.page_ranges.specs.MemoryTypes.{page_count};
 ghost use Rattle.c_interface.specs.Questions.{block_in_c, interface_in_c, open_in_c, owner_number, run_in_c};
+ghost use Rattle.c_interface.specs.Stops.{stop_in_c};
 
 use boot_core::{OpenRecord, PoolBlock};
 use c_machines::{Guid, Interface};
@@ -38,6 +39,14 @@ pub struct OpenEntry {
     pub controller: u64,
     pub attributes: u32,
     pub count: u32,
+}
+
+/// A driver that is to be stopped on a controller: the agent that has it open.
+#[repr(C)]
+#[derive(Clone, Copy, Debug, PartialEq, Eq)]
+pub struct StopEntry {
+    pub controller: u64,
+    pub agent: u64,
 }
 
 /// A live block as C has it.
@@ -97,5 +106,15 @@ pub(crate) fn open_in_c(item: OpenRecord) -> OpenEntry
         controller: item.controller,
         attributes: item.attributes,
         count: item.count,
+    }
+}
+
+/// A pair that is to be stopped as C has it.
+pub(crate) fn stop_in_c(pair: &(u64, u64)) -> StopEntry
+    ensures { result ≡ stop_in_c pair.now }
+{
+    StopEntry {
+        controller: pair.0,
+        agent: pair.1,
     }
 }

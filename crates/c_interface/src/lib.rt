@@ -18,11 +18,12 @@ mod questions;
 mod removals;
 mod replies;
 mod reply_lines;
+mod stops;
 mod turns;
 
 pub use boot_core::{Agent, DriverTurns, OpenItem};
 pub use checks::{MapEntry, check_block};
 pub use efi_core::{ABORTED, EfiCore, LastBlock};
-pub use entries::{BlockEntry, OpenEntry, RunEntry};
+pub use entries::{BlockEntry, OpenEntry, RunEntry, StopEntry};
 pub use laws::printed_reply_law;
 pub use turns::{connect_next, connect_record};

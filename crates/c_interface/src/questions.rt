@@ -152,7 +152,7 @@ fn put_found<T: Copy>(found: Option<T>, place: &mut T) -> u64
 }
 
 /// Lays all of a list into the front of a buffer that has room for them, and puts into a place how many they are.
-fn fill<T: Copy>(items: &[T], buffer: &mut [T], count: &mut u64) -> u64
+pub(crate) fn fill<T: Copy>(items: &[T], buffer: &mut [T], count: &mut u64) -> u64
     ensures { FillsWith items.now result buffer.old count.new buffer.new }
 {
     *count = items.len() as u64;

@@ -4,7 +4,11 @@ use Rattle.c_interface.proofs.efi_core.EfiCore.install_at.Goals as goal
 
 pub returns-then-ne : goal.returns-then-ne
 returns-then-ne g c =
-    let core = ap (λ (x : EfiCoreValue g.row.A.Denot). x.core) c.self.view_is in
-    (c.write_path-reply.result, c.write_path-reply.new.self.core.state, c.write_path-reply.ensures.run,
+    let core = ap (λ (x : EfiCoreValue g.row.A.Denot). x.core) c.self.view_is in (
+      c.write_path-reply.result,
+      c.write_path-reply.new.self.core.state,
+      c.write_path-reply.ensures.run,
       inr (search rules, refl, (c.free_pool-freed.result, rw (c.tell_beside.ensures.core, sym c.write_path-reply.ensures.drivers, sym core) c.free_pool-freed.ensures.step)),
-      c.tell_beside.ensures.status, search rules)
+      c.tell_beside.ensures.status,
+      search rules,
+    )

@@ -1,0 +1,34 @@
+-- What a caller in C learns that stops drivers itself.
+use Rattle.std.specs.Prelude.{◌≡◌, ◌⊎◌, ℕ, List, map}
+use Rattle.page_ranges.specs.Statuses.{status_number}
+use Rattle.page_ranges.specs.declared.statuses.Status.TheVariants.{OutOfResources}
+use Rattle.boot_core.specs.Stops as stops
+use Rattle.c_machines.specs.declared.guids.Guid.{Guid}
+use Rattle.c_machines.specs.Guids.{guid_in}
+use Rattle.c_interface.specs.declared.entries.StopEntry.{StopEntry}
+use Rattle.c_interface.specs.EfiCores.{EfiCoreValue}
+use Rattle.c_interface.specs.Questions.{FillsWith}
+
+-- a pair of controller and agent as C has it
+abbrev pub stop_in_c : ℕ × ℕ → StopEntry
+stop_in_c p = record { controller = p.0; agent = p.1 }
+
+-- the drivers to be stopped, in order, before an interface can be freed of them
+abbrev pub stops_on_interface : {A : Type 0} → EfiCoreValue A → ℕ → Guid → List StopEntry
+stops_on_interface c handle guid =
+    map stop_in_c (stops.stops_on_interface c.core.state.parts.lists handle (guid_in guid))
+
+-- the drivers to be stopped, in order, before a handle can be disconnected
+abbrev pub stops_on_controller : {A : Type 0} → EfiCoreValue A → ℕ → ℕ → List StopEntry
+stops_on_controller c handle driver =
+    map stop_in_c (stops.stops_on_controller c.core.state.parts.lists handle driver)
+
+-- the children of a driver on a controller
+abbrev pub children : {A : Type 0} → EfiCoreValue A → ℕ → ℕ → List ℕ
+children c controller agent = stops.children c.core.state.parts.lists controller agent
+
+-- A list is in the caller's buffer, or memory ran out for it, which leaves the caller's places.
+abbrev pub FillsOrRunsOut : {X : Type 0} → List X → ℕ → List X → ℕ → ℕ → List X → Type 0
+FillsOrRunsOut items count buffer status new_count new_buffer =
+    FillsWith items status buffer new_count new_buffer
+    ⊎ ((status ≡ status_number OutOfResources) × (new_count ≡ count) × (new_buffer ≡ buffer))

@@ -1,0 +1,88 @@
+//! What a caller in C stops that stops drivers itself. None is a call.
+ghost use Rattle.std.specs.Prelude.{◌≡◌, map};
+ghost use Rattle.c_interface.specs.Buffers.{laid};
+ghost use Rattle.c_interface.specs.Questions.{FillsWith};
+ghost use Rattle.c_interface.specs.Stops as spec;
+
+use crate::efi_core::EfiCore;
+use crate::entries::{StopEntry, stop_in_c};
+use crate::questions::fill;
+use c_machines::Guid;
+use page_ranges::Status;
+use std::alloc::Allocator;
+
+impl<A: Allocator + Copy> EfiCore<A> {
+    /// The drivers to be stopped, in order, before an interface can be opened exclusively, taken out or
+    /// replaced, in the front of a buffer. The place `count` is given how many they are.
+    ///
+    /// BUFFER_TOO_SMALL: the buffer has no room for all of them, and is left. OUT_OF_RESOURCES: memory ran
+    /// out, and the place is left too.
+    pub fn stops_on_interface(
+        &self,
+        handle: u64,
+        guid: &Guid,
+        buffer: &mut [StopEntry],
+        count: &mut u64,
+    ) -> u64
+        ensures { spec.FillsOrRunsOut (spec.stops_on_interface self.now handle guid.now)
+            count.old buffer.old result count.new buffer.new }
+    {
+        match self.core.stops_on_interface(handle, guid.uuid()) {
+            Ok(stops) => fill_stops(stops.as_slice(), buffer, count),
+            Err(_) => Status::OutOfResources.number(),
+        }
+    }
+
+    /// The drivers to be stopped, in order, before a handle can be disconnected from all that manage it, or
+    /// from one of them if `driver` is not 0; in the same way.
+    pub fn stops_on_controller(
+        &self,
+        handle: u64,
+        driver: u64,
+        buffer: &mut [StopEntry],
+        count: &mut u64,
+    ) -> u64
+        ensures { spec.FillsOrRunsOut (spec.stops_on_controller self.now handle driver)
+            count.old buffer.old result count.new buffer.new }
+    {
+        match self.core.stops_on_controller(handle, driver) {
+            Ok(stops) => fill_stops(stops.as_slice(), buffer, count),
+            Err(_) => Status::OutOfResources.number(),
+        }
+    }
+
+    /// The children of a driver on a controller: the handles that it made, ascending, and then those for
+    /// which it has the controller open as for a child; in the same way.
+    pub fn children(&self, controller: u64, agent: u64, buffer: &mut [u64], count: &mut u64) -> u64
+        ensures { spec.FillsOrRunsOut (spec.children self.now controller agent)
+            count.old buffer.old result count.new buffer.new }
+    {
+        match self.core.children(controller, agent) {
+            Ok(children) => fill(children.as_slice(), buffer, count),
+            Err(_) => Status::OutOfResources.number(),
+        }
+    }
+}
+
+/// Lays all of some pairs into the front of a buffer that has room for them, and puts into a place how many
+/// they are.
+fn fill_stops(pairs: &[(u64, u64)], buffer: &mut [StopEntry], count: &mut u64) -> u64
+    ensures { FillsWith (map spec.stop_in_c pairs.now) result buffer.old count.new buffer.new }
+{
+    *count = pairs.len() as u64;
+    if buffer.len() < pairs.len() {
+        return Status::BufferTooSmall.number();
+    }
+    lay_stops(buffer, pairs);
+    Status::Success.number()
+}
+
+/// Lays pairs into the front of a buffer, as many as it has room for.
+fn lay_stops(buffer: &mut [StopEntry], pairs: &[(u64, u64)])
+    ensures { buffer.new ≡ laid (map spec.stop_in_c pairs.now) buffer.old }
+{
+    let count = pairs.len().min(buffer.len());
+    for index in 0..count {
+        buffer[index] = stop_in_c(&pairs[index]);
+    }
+}
