@@ -29,8 +29,8 @@ joined certifies None returned block.Nothing lines text l j = j ∙ sym (append-
 printed_last : {A : Type 0} (old : EfiCoreValue A) (last : Option (Reply A)) (left : LastBlock A) (c : Call A) (answer : Reply A) (number : ℕ) (text : Vec ℕ A) → last ≡ Some answer →
     LeavesBlock old.certifies (kept_map old.certifies old.core.state c) (certified old.core.state.parts.book.granule c answer) left → PrintsLast number last left (block.Text text) → PrintsCall old.certifies number old.core.state.parts.book c answer text.items
 printed_last old None left c answer number text e l p = absurd cc
-printed_last {A = A} old (Some told) left c answer number text e l p =
-    let same : told ≡ answer = cc in
+printed_last {A = A} old (Some reply) left c answer number text e l p =
+    let same : reply ≡ answer = cc in
     let q = subst (λ (r : Reply A). PrintsLast number (Some r) left (block.Text text)) same p in
     prints_call old.certifies number old.core.state.parts.book c answer [] text.items (kept_map old.certifies old.core.state c) q.0 q.1 refl refl
     (joined old.certifies (kept_map old.certifies old.core.state c) (certified old.core.state.parts.book.granule c answer) left _ text l q.2)
