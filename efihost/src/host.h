@@ -228,8 +228,8 @@ void ledger_cut_runs(uint64_t at, uint64_t pages);
 void ledger_each_run(void (*visit)(struct run *run, void *context), void *context);
 void ledger_add_freed(uint64_t at, uint64_t size, bool filled, struct origin made);
 struct freed *ledger_freed_with(uint64_t address);
-struct freed *ledger_freed_among(uint64_t at, uint64_t size, size_t *place);
-void ledger_drop_freed(size_t place);
+struct freed *ledger_freed_among(uint64_t at, uint64_t size, size_t *passed);
+void ledger_drop_freed(struct freed *entry);
 
 /* ---- memory.c, red_zones.c ---- */
 EFI_STATUS host_pages(uint32_t kind, uint32_t type, uint64_t pages, uint64_t *at);

@@ -7,6 +7,9 @@
 #define SLOTS 65536U
 #define FREED 256U
 #define PAGES_COUNTED 65536U
+#define PART 256U /* bytes */
+#define PARTS_COUNTED 65536U
+#define LARGE 65536U /* bytes */
 
 static struct block *slots[SLOTS];
 static struct run *runs;
@@ -17,6 +20,11 @@ static size_t freed_next;
 
 /* How many live blocks have a byte in a page, of all pages with the same remainder. */
 static uint32_t blocks_in_page[PAGES_COUNTED];
+
+/* How many remembered freed blocks have a byte in a part of memory, of all parts with the same
+ * remainder; and how many are so large that they are in no such number. */
+static uint16_t freed_in_part[PARTS_COUNTED];
+static size_t large_freed;
 
 static void count_pages(const struct block *block, int by)
 {
@@ -153,14 +161,38 @@ void ledger_each_run(void (*visit)(struct run *run, void *context), void *contex
         visit(&runs[i], context);
 }
 
+static void count_freed(size_t place, int by)
+{
+    uint64_t start = freed_start[place], end = freed_end[place];
+
+    if (end - start > LARGE)
+        large_freed += (size_t)by;
+    else
+        for (uint64_t part = start / PART; part * PART < end; part++)
+            freed_in_part[part % PARTS_COUNTED] += (uint16_t)by;
+}
+
+/* Whether a freed block that is remembered may lie among these bytes. */
+static bool may_be_freed(uint64_t at, uint64_t end)
+{
+    if (large_freed != 0 || end - at > LARGE)
+        return true;
+    for (uint64_t part = at / PART; part * PART < end; part++)
+        if (freed_in_part[part % PARTS_COUNTED] != 0)
+            return true;
+    return false;
+}
+
 void ledger_add_freed(uint64_t at, uint64_t size, bool filled, struct origin made)
 {
     size_t place = freed_next++ % FREED;
     struct freed *entry = &freed[place];
 
     zone_look_at_freed(entry);
+    count_freed(place, -1);
     freed_start[place] = at;
     freed_end[place] = at + (size == 0 ? 1 : size);
+    count_freed(place, 1);
     entry->at = at;
     entry->size = size;
     entry->filled = filled;
@@ -168,15 +200,20 @@ void ledger_add_freed(uint64_t at, uint64_t size, bool filled, struct origin mad
     entry->freed = origin_without_trail();
 }
 
-/* The first from this place on of what was freed that lies among these bytes, and its place; or
- * NULL. */
-struct freed *ledger_freed_among(uint64_t at, uint64_t size, size_t *place)
+/* The latest of what was freed that lies among these bytes, with that many of the latest passed;
+ * or NULL. */
+struct freed *ledger_freed_among(uint64_t at, uint64_t size, size_t *passed)
 {
     uint64_t end = at + size;
 
-    for (; *place < FREED; ++*place)
-        if (freed_start[*place] < end && at < freed_end[*place])
-            return &freed[*place];
+    if (!may_be_freed(at, end))
+        return NULL;
+    for (; *passed < FREED; ++*passed) {
+        size_t place = (freed_next + FREED - 1 - *passed) % FREED;
+
+        if (freed_start[place] < end && at < freed_end[place])
+            return &freed[place];
+    }
     return NULL;
 }
 
@@ -194,9 +231,12 @@ struct freed *ledger_freed_with(uint64_t address)
 }
 
 /* What is placed again is freed memory no longer. */
-void ledger_drop_freed(size_t place)
+void ledger_drop_freed(struct freed *entry)
 {
-    freed[place].filled = false;
-    freed[place].at = UINT64_MAX;
+    size_t place = (size_t)(entry - freed);
+
+    entry->filled = false;
+    entry->at = UINT64_MAX;
+    count_freed(place, -1);
     freed_start[place] = freed_end[place] = 0;
 }

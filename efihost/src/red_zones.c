@@ -155,7 +155,7 @@ void zone_look_at_reuse(uint64_t at, uint64_t size)
         return;
     for (size_t i = 0; (entry = ledger_freed_among(at, size, &i)) != NULL; i++) {
         zone_look_at_freed(entry);
-        ledger_drop_freed(i);
+        ledger_drop_freed(entry);
     }
 }
 
