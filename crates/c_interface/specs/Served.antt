@@ -40,13 +40,13 @@ pub record IsSpent {A : Type 0} (old new : EfiCoreValue A) : Type 0 where
   pub core : new ≡ forgotten old
 
 -- The status of a call, what it writes to the caller's variables, and how it leaves the core: it is
--- a step of the core and the status is that of the reply; or no call could be made, and the places
--- are as they were.
+-- a step of the core and the status is that of the reply; or no call could be made, and the
+-- variables are as they were.
 abbrev pub Answers : {A : Type 0} → EfiCoreValue A → Call A → ℕ → (Reply A → Type 0) → Type 0
     → EfiCoreValue A → Type 0
-Answers {A = A} old c status Tells Keeps new =
+Answers {A = A} old c status Gives Keeps new =
     ((answer : Reply A) × Serves old c answer new × (status ≡ status_number (status_in answer))
-    × Tells answer) ⊎ (IsSpent old new × (status ≡ aborted) × Keeps)
+    × Gives answer) ⊎ (IsSpent old new × (status ≡ aborted) × Keeps)
 
 -- a call that returns its status alone
 abbrev pub AnswersStatus : {A : Type 0} → EfiCoreValue A → Call A → ℕ → EfiCoreValue A → Type 0
@@ -124,7 +124,7 @@ too_many = 17
 
 -- ---- bytes in the caller's buffers
 
--- the places of the caller's that GetMemoryMap fills beside the buffer
+-- the caller's variables that GetMemoryMap fills beside the buffer
 pub record MapPlaces : Type 0 where
   pub size : ℕ
   pub key : ℕ

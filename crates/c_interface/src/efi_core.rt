@@ -32,7 +32,7 @@ pub enum LastBlock<A: Allocator = Global> {
 }
 
 impl<A: Allocator> LastBlock<A> {
-    /// The block's text, put in the front of a buffer, and the number of its bytes into a place.
+    /// The block's text, put in the front of a buffer, and the number of its bytes into a variable.
     pub(crate) fn returned(&self, buffer: &mut [u8], size: &mut u64) -> u64
         ensures { ReturnsBlock self.now buffer.old size.old result buffer.new size.new }
     {
@@ -249,10 +249,10 @@ impl<A: Allocator + Copy> EfiCore<A> {
     }
 
     /// The block of the certificate of the last call, in the front of a buffer; their number is put into
-    /// a place.
+    /// a variable.
     ///
     /// NOT_FOUND: the last call left no block. OUT_OF_RESOURCES: memory ran out for it.
-    /// BUFFER_TOO_SMALL: the place is given the bytes that are needed.
+    /// BUFFER_TOO_SMALL: the variable is given the bytes that are needed.
     pub fn block(&self, buffer: &mut [u8], size: &mut u64) -> u64
         ensures { ReturnsBlock self.now.block buffer.old size.old result buffer.new size.new }
     {

@@ -25,7 +25,7 @@ const MOST_HANDLES: usize = 4096;
 const HANDLE_SIZE: u64 = 8;
 
 impl<A: Allocator + Copy> EfiCore<A> {
-    /// LocateHandle with a buffer for handles. The place `needed` is given the bytes that all that match take, on
+    /// LocateHandle with a buffer for handles. The variable `needed` is given the bytes that all that match take, on
     /// SUCCESS and on BUFFER_TOO_SMALL.
     pub fn locate_handle(
         &mut self,
@@ -55,9 +55,9 @@ impl<A: Allocator + Copy> EfiCore<A> {
         status
     }
 
-    /// ProtocolsPerHandle. The place `count` is given how many GUIDs there are; they are laid into the buffer.
+    /// ProtocolsPerHandle. The variable `count` is given how many GUIDs there are; they are laid into the buffer.
     ///
-    /// BUFFER_TOO_SMALL: it has no room for all of them, and is left; the place is given how many there are.
+    /// BUFFER_TOO_SMALL: it has no room for all of them, and is left; the variable is given how many there are.
     pub fn protocols_per_handle(&mut self, handle: u64, buffer: &mut [Guid], count: &mut u64) -> u64
         ensures { ListsGuids self.old handle count.old buffer.old result count.new buffer.new
             self.new }
@@ -74,7 +74,7 @@ impl<A: Allocator + Copy> EfiCore<A> {
         Status::Success.number()
     }
 
-    /// InstallMultipleProtocolInterfaces. The place `handle` has the handle, 0 for a new one, and is given it.
+    /// InstallMultipleProtocolInterfaces. The variable `handle` has the handle, 0 for a new one, and is given it.
     /// This takes no memory but the core's: a list that is too long is refused by its first interfaces.
     pub fn install_multiple(&mut self, handle: &mut u64, interfaces: &[Interface]) -> u64
         ensures { InstallsAll self.old handle.old interfaces.now result handle.new self.new }

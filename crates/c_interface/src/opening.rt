@@ -16,7 +16,7 @@ use uuid::Uuid;
 const TEST_PROTOCOL: u32 = 4;
 
 impl<A: Allocator + Copy> EfiCore<A> {
-    /// OpenProtocol. The place `value` is given the interface's value, also with ALREADY_STARTED, and 0
+    /// OpenProtocol. The variable `value` is given the interface's value, also with ALREADY_STARTED, and 0
     /// with UNSUPPORTED; TEST_PROTOCOL leaves it.
     #[tactic(auto, using(crate::proofs::Opened::tested, crate::proofs::Opened::opened_gives))]
     pub fn open_giving(
@@ -40,7 +40,7 @@ impl<A: Allocator + Copy> EfiCore<A> {
         status
     }
 
-    /// HandleProtocol. The place `value` is given the interface's value, and 0 with UNSUPPORTED.
+    /// HandleProtocol. The variable `value` is given the interface's value, and 0 with UNSUPPORTED.
     #[tactic(auto, using(crate::proofs::Opened::opened_gives))]
     pub fn handle_giving(&mut self, handle: u64, guid: &Guid, value: &mut u64) -> u64
         ensures { HandlesGiving self.old handle guid.now value.old result value.new
