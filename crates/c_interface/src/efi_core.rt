@@ -1,4 +1,4 @@
-//! A core that answers a caller in C.
+//! A core that a caller in C has.
 ghost use Rattle.std.specs.Prelude.{◌≡◌, false, length, None, Some, true, option_map, IfOk};
 ghost use Rattle.c_interface.specs.EfiCores.{KeepsBlock, with_last};
 ghost use Rattle.page_ranges.specs.Statuses.{status_number};
@@ -136,7 +136,7 @@ impl<A: Allocator + Copy> EfiCore<A> {
         self.block = block;
     }
 
-    /// Keeps the reply to a call that carries no certificate, and answers its status.
+    /// Keeps the reply to a call that carries no certificate, and returns its status.
     pub(crate) fn tell(&mut self, reply: Reply<A>) -> u64
         ensures status { result ≡ status_number (status_in reply) }
         ensures core { self.new ≡ with_last self.old reply LastBlock.Nothing }
@@ -181,7 +181,7 @@ impl<A: Allocator + Copy> EfiCore<A> {
         self.last.as_ref()
     }
 
-    /// Makes a call, and answers its status as a number of EFI_STATUS.
+    /// Makes a call, and returns its status as a number of EFI_STATUS.
     pub(crate) fn answer(&mut self, call: &Call<A>) -> u64
         ensures { AnswersStatus self.old call.now result self.new }
     {

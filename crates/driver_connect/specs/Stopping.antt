@@ -149,7 +149,7 @@ takes_item plan handle agent controller =
     list_any (λ n. (handle == n) || ((agent == n) || (controller == n))) plan.handles
     || has_pair plan.pairs (controller, agent)
 
--- What is answered about a stop of some pairs, and what it leaves: their stop set goes, or all
+-- What is returned of a stop of some pairs, and what it leaves: their stop set goes, or all
 -- stays.
 abbrev pub Stops : List Meaning → HandleTable → List OpenRecord → List (ℕ × ℕ) → ℕ → Option (ℕ × ℕ)
     → Bool → HandleTable → List OpenRecord → Type 0
@@ -179,7 +179,7 @@ is_meant driver p = (driver == 0) || (p.1 == driver)
 abbrev pub managers_meant : List OpenRecord → ℕ → ℕ → List (ℕ × ℕ)
 managers_meant opens handle driver = filter (is_meant driver) (managers_of opens handle)
 
--- What DisconnectController answers, and what it leaves. Where the call is valid, OUT_OF_RESOURCES
+-- What DisconnectController returns, and what it leaves. Where the call is valid, OUT_OF_RESOURCES
 -- means out of memory.
 abbrev pub Disconnects : List Meaning → HandleTable → List OpenRecord → ℕ → ℕ
     → Result (Unit {0}) Status → HandleTable → List OpenRecord → Type 0
