@@ -6,7 +6,7 @@ use Rattle.page_ranges.specs.declared.statuses.Status.TheVariants.{InvalidParame
 use Rattle.guid_handles.specs.HandleTables.{HandleTable, numbers, maker_of, is_live, carries}
 use Rattle.open_agents.specs.declared.items.OpenRecord.{OpenRecord}
 use Rattle.open_agents.specs.OpenItems.{is_for_driver, names, managers_of, without_items}
-use Rattle.driver_connect.specs.Drivers.{Meaning, Sight, sight_of, driver_binding, driver_of, may_stop_at}
+use Rattle.driver_connect.specs.Drivers.{Meaning, ViewValue, sight_of, driver_binding, driver_of, may_stop_at}
 
 -- ---- pairs
 
@@ -65,7 +65,7 @@ stop_set t opens pairs = rounds (length t.handles + length opens) t opens (with_
 -- ---- whether it can be stopped
 
 -- the driver at a place, if there is one, may be stopped on what it is shown
-abbrev pub may_stop_if_any : List Meaning → Option ℕ → Sight → Bool
+abbrev pub may_stop_if_any : List Meaning → Option ℕ → ViewValue → Bool
 may_stop_if_any ds None s = false
 may_stop_if_any ds (Some i) s = may_stop_at ds i s
 
