@@ -16,6 +16,7 @@ use Rattle.c_interface.specs.declared.efi_core.LastBlock.{LastBlock}
 use Rattle.c_interface.specs.declared.efi_core.LastBlock.TheVariants as block
 use Rattle.c_machines.specs.declared.guids.Guid.{Guid}
 use Rattle.c_machines.specs.Guids.{standard_guid}
+use Rattle.guid_handles.specs.HandleChanges.{max_handles}
 use Rattle.c_interface.specs.Buffers.{laid}
 use Rattle.c_interface.specs.EfiCores.{EfiCoreValue, LeavesBlock, forgotten, meanings}
 use Rattle.c_interface.specs.Replies.{status_in, number_in, numbers_in, returned_or}
@@ -68,13 +69,9 @@ AnswersNumbers old c before status after new =
 
 -- ---- lists in the caller's buffers
 
--- the most handles that are live at a time
-abbrev pub most_handles : ℕ
-most_handles = 4096
-
 -- the bytes of a buffer for a number of handles, 8 for each, as far as that many can be live
 abbrev pub handle_bytes : ℕ → ℕ
-handle_bytes room = min room most_handles * 8
+handle_bytes room = min room max_handles * 8
 
 -- the bytes that a status says a list takes
 abbrev pub returned_size : Status → ℕ → Option ℕ

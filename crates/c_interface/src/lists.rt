@@ -11,15 +11,13 @@ use crate::efi_core::{ABORTED, EfiCore};
 use arrayvec::ArrayVec;
 use boot_core::{Call, Reply};
 use c_machines::{Guid, Interface};
+use guid_handles::MAX_HANDLES;
 use page_ranges::Status;
 use std::alloc::Allocator;
 use uuid::Uuid;
 
 /// This many interfaces are too many to be installed at once, whatever they are.
 const TOO_MANY: usize = 17;
-
-/// The most handles that are live at a time.
-const MOST_HANDLES: usize = 4096;
 
 /// The bytes of a handle.
 const HANDLE_SIZE: u64 = 8;
@@ -114,7 +112,7 @@ impl<A: Allocator + Copy> EfiCore<A> {
 fn handle_bytes(room: usize) -> u64
     ensures { result ≡ handle_bytes room }
 {
-    room.min(MOST_HANDLES) as u64 * HANDLE_SIZE
+    room.min(MAX_HANDLES) as u64 * HANDLE_SIZE
 }
 
 /// The bytes that a status says a list takes.

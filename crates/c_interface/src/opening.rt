@@ -8,12 +8,10 @@ ghost use Rattle.c_interface.specs.Replies.{returned_or};
 use crate::efi_core::EfiCore;
 use crate::replies::status_in;
 use c_machines::Guid;
+use open_agents::TEST_PROTOCOL;
 use page_ranges::Status;
 use std::alloc::Allocator;
 use uuid::Uuid;
-
-/// The attributes with which OpenProtocol gives no interface (TEST_PROTOCOL).
-const TEST_PROTOCOL: u32 = 4;
 
 impl<A: Allocator + Copy> EfiCore<A> {
     /// OpenProtocol. The variable `value` is given the interface's value, also with ALREADY_STARTED, and 0
