@@ -16,6 +16,7 @@ same_pair p q = (p.0 == q.0) && (p.1 == q.1)
 abbrev pub has_pair : List (ℕ × ℕ) → ℕ × ℕ → Bool
 has_pair pairs p = list_any (same_pair p) pairs
 
+-- the controller and the agent of an open item
 abbrev pub pair_of : OpenRecord → ℕ × ℕ
 pair_of o = (o.controller, o.agent)
 
