@@ -1,4 +1,4 @@
-//! The calls of the boot services, and what the services on handles answer: plain data.
+//! The calls of the boot services, and what the services on handles return: plain data.
 #![tactic(auto)]
 
 mod calls;

@@ -16,7 +16,7 @@ const RECORD_SIZE: u64 = 48;
 const VERSION: u32 = 1;
 
 impl<A: Allocator + Copy> EfiCore<A> {
-    /// AllocatePages. The place `memory` has the highest address that is asked for, or the very address,
+    /// AllocatePages. The variable `memory` has the highest address that is asked for, or the very address,
     /// and is given the address of the pages.
     pub fn allocate_pages(&mut self, kind: u32, mtype: u32, pages: u64, memory: &mut u64) -> u64
         ensures { AllocatesPages self.old kind mtype pages memory.old result memory.new self.new }
@@ -37,7 +37,7 @@ impl<A: Allocator + Copy> EfiCore<A> {
         self.answer(&Call::FreePages { memory, pages })
     }
 
-    /// GetMemoryMap. The places are given the bytes that the map takes, its key, the bytes of a record and
+    /// GetMemoryMap. The variables are given the bytes that the map takes, its key, the bytes of a record and
     /// their version; where the buffer is too small all but the key.
     pub fn get_memory_map(
         &mut self,
@@ -95,7 +95,7 @@ impl<A: Allocator + Copy> EfiCore<A> {
         self.tell(reply)
     }
 
-    /// AllocatePool. The place `buffer` is given the block's address.
+    /// AllocatePool. The variable `buffer` is given the block's address.
     pub fn allocate_pool(&mut self, mtype: u32, size: u64, buffer: &mut u64) -> u64
         ensures { AllocatesPool self.old mtype size buffer.old result buffer.new self.new }
     {
