@@ -3,6 +3,8 @@
 
 mod calls;
 mod replies;
+mod sizes;
 
 pub use calls::{Call, CallBytes, CallHandles, CallPairs};
 pub use replies::{Installed, LocateReply};
+pub use sizes::{ENTRY_SIZE, HANDLE_SIZE};

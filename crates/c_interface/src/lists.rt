@@ -9,6 +9,7 @@ ghost use Rattle.c_machines.specs.Guids.{interface_in, standard_guid};
 use crate::buffers::lay;
 use crate::efi_core::{ABORTED, EfiCore};
 use arrayvec::ArrayVec;
+use boot_calls::HANDLE_SIZE;
 use boot_core::{Call, Reply};
 use c_machines::{Guid, Interface};
 use guid_handles::MAX_HANDLES;
@@ -18,9 +19,6 @@ use uuid::Uuid;
 
 /// This many interfaces are too many to be installed at once, whatever they are.
 const TOO_MANY: usize = 17;
-
-/// The bytes of a handle.
-const HANDLE_SIZE: u64 = 8;
 
 impl<A: Allocator + Copy> EfiCore<A> {
     /// LocateHandle with a buffer for handles. The variable `needed` is given the bytes that all that match take, on
@@ -112,7 +110,7 @@ impl<A: Allocator + Copy> EfiCore<A> {
 fn handle_bytes(room: usize) -> u64
     ensures { result ≡ handle_bytes room }
 {
-    room.min(MAX_HANDLES) as u64 * HANDLE_SIZE
+    room.min(MAX_HANDLES) as u64 * HANDLE_SIZE as u64
 }
 
 /// The bytes that a status says a list takes.

@@ -6,11 +6,9 @@ ghost use Rattle.c_interface.specs.Services.{AllocatesPages, AllocatesPool, Maps
 
 use crate::efi_core::{ABORTED, EfiCore};
 use boot_core::Call;
+use map_keys::RECORD_SIZE;
 use page_ranges::Status;
 use std::alloc::Allocator;
-
-/// The bytes of a record of the memory map.
-const RECORD_SIZE: u64 = 48;
 
 /// The version of the records (EFI_MEMORY_DESCRIPTOR_VERSION).
 const VERSION: u32 = 1;
@@ -59,12 +57,12 @@ impl<A: Allocator + Copy> EfiCore<A> {
             Status::Success => {
                 *size = returned.size;
                 *key = returned.key;
-                *stride = RECORD_SIZE;
+                *stride = RECORD_SIZE as u64;
                 *version = VERSION;
             }
             Status::BufferTooSmall => {
                 *size = returned.size;
-                *stride = RECORD_SIZE;
+                *stride = RECORD_SIZE as u64;
                 *version = VERSION;
             }
             _ => {}
