@@ -765,8 +765,7 @@ RAFKUDIN_API rafkudin_uint64 RafkudinInstallPath(struct rafkudin *core, rafkudin
  *
  * INVALID_PARAMETER: `MemoryMapSize` is null, or `MemoryMap` is null and the size is not 0.
  * BUFFER_TOO_SMALL: *MemoryMapSize are the bytes needed. The descriptors' size and version are set
- * too, so that a loader can add room for the entries that its own allocation of the buffer makes.
- * */
+ * too, so that a loader can add room for the entries that allocating the buffer makes. */
 static inline rafkudin_uint64 RafkudinGetMemoryMap(struct rafkudin *core,
                                                    rafkudin_uint64 *MemoryMapSize, void *MemoryMap,
                                                    rafkudin_uint64 *MapKey,
@@ -860,8 +859,7 @@ static inline rafkudin_uint64 RafkudinDisconnectController(struct rafkudin *core
     return RafkudinDisconnectDrivers(core, ControllerHandle, DriverImageHandle);
 }
 
-/* The standard's name of a status, without EFI_; "another status" for one that no service returns.
- * */
+/* The standard's name of a status, without EFI_, or "another status". */
 static inline const char *RafkudinStatusName(rafkudin_uint64 status)
 {
     switch (status) {

@@ -71,7 +71,7 @@ static void print_events(struct run *run)
     uint64_t *events = grow(NULL, count * sizeof *events);
 
     if (RafkudinEvents(run->core, events, count) != count)
-        fail("the library tells another number of events");
+        fail("RafkudinEvents returns another number of events");
     text_print(&run->text, " events=%s", count == 0 ? "-" : "");
     print_numbers(run, events, count);
     free(events);
@@ -332,7 +332,7 @@ static void reply_list(struct run *run, const struct call *call)
         struct rafkudin_descriptor entry;
 
         if (RafkudinDescriptor(run->core, index, &entry) != RAFKUDIN_SUCCESS)
-            fail("the library tells fewer descriptors");
+            fail("RafkudinDescriptors returns more than there are");
         print_descriptor(run, &entry);
     }
 }

@@ -1,5 +1,7 @@
 """Machines and traces for check-replies: single lines, machine files, and drawn traces."""
+import os
 import random
+import runpy
 
 DISK = "964e5b21-6459-11d2-8e39-00a0c969723b"
 FILES = "964e5b22-6459-11d2-8e39-00a0c969723b"
@@ -26,13 +28,19 @@ ODD_LINES = [
     "lis\rt", "list\f", "list\0", "list\xc3\xa9", "\xff", "list\xa0", "List", "lists", "free_pages 0 1", "list 1",
 ]
 
-# The words of each verb: i a number of 32 bits, n of 64, g a GUID, x bytes.
-VERBS = {
-    "pages": "iinn", "free-pages": "nn", "map": "n", "exit": "n", "pool": "in", "free-pool": "n", "read": "nn", "write": "nx",
-    "install": "ngin", "install-many": "ngn", "uninstall": "ngn", "reinstall": "ngnn", "open": "ngnni", "close": "ngnn",
-    "information": "ng", "handle-protocol": "ng", "notify": "gn", "locate": "ignn", "locate-buffer": "ign",
-    "locate-protocol": "gn", "protocols": "n", "connect": "nn", "disconnect": "nn", "path": "gn",
-}
+# The letter of a word: i a number of 32 bits, n of 64, g a GUID, x bytes.
+LETTERS = {"KIND": "i", "TYPE": "i", "SEARCH": "i", "ATTRIBUTES": "i", "GUID": "g", "HEX": "x"}
+
+
+def letters_of(words):
+    """The letters of a verb's words, of those that may be repeated once if they are needed."""
+    always, _, more = words.partition(" (")
+    return "".join(LETTERS.get(it, "n") for it in [*always.split(), *(more[:-2].split() if more.endswith("+") else [])])
+
+
+# Each verb with the letters of its words.
+EXPLAIN = runpy.run_path(os.path.join(os.path.dirname(os.path.abspath(__file__)), "..", "..", "tools", "explain"))
+VERBS = {verb: letters_of(words) for verb, words in EXPLAIN["VERBS"].items() if verb != "list"}
 PLAIN = {"i": "1", "n": "1", "g": DISK, "x": "00"}
 
 

@@ -1,4 +1,4 @@
-//! What the protocol services answer.
+//! What the protocol services return.
 use page_ranges::Status;
 use std::alloc::{Allocator, Global};
 

@@ -1,4 +1,4 @@
--- What GetMemoryMap answers through a call, with a buffer that the core makes.
+-- What GetMemoryMap returns through a call, with a buffer that the core makes.
 use Rattle.std.specs.Prelude.{◌≡◌, ◌⊎◌, ℕ, ◌<◌, ◌≤◌, nat_le, List, [], if◌then◌else◌}
 use Rattle.page_ranges.specs.declared.statuses.Status.{Status}
 use Rattle.page_ranges.specs.declared.statuses.Status.TheVariants.{OutOfResources}
@@ -20,7 +20,7 @@ map_bytes b room = if nat_le (map_size b) room then records (memory_map b.memory
 abbrev pub room_for_map : Book → ℕ → ℕ
 room_for_map b room = if nat_le (map_size b) room then map_size b else 0
 
--- What is answered of a buffer of a size, with the bytes that are used of it. Memory for the
+-- What is returned of a buffer of a size, with the bytes that are used of it. Memory for the
 -- core's own buffer may run out where the map has entries and fits, and nowhere else.
 abbrev pub AnswersMap : Book → ℕ → MapReply → List ℕ → Type 0
 AnswersMap b room returned bytes =

@@ -1,4 +1,4 @@
--- What the services answer that put a list into a pool block of its own, which the caller frees.
+-- What the services return that put a list into a pool block of its own, which the caller frees.
 use Rattle.std.specs.Prelude.{◌≡◌, ℕ, ◌<◌, true, false, List, [], ◌∷◌, length, Some, None, Result, Ok, Err}
 use Rattle.page_ranges.specs.declared.statuses.Status.{Status}
 use Rattle.page_ranges.specs.declared.statuses.Status.TheVariants.{InvalidParameter, NotFound, OutOfResources}
@@ -20,7 +20,7 @@ PutsBytes Chosen old bytes returned new =
     FillsPool Chosen old.book old.pools list_type bytes
     (Ok (returned.address, returned.certificate)) new.book new.pools
 
--- What LocateHandleBuffer answers, and the parts after it. OUT_OF_RESOURCES means that the block,
+-- What LocateHandleBuffer returns, and the parts after it. OUT_OF_RESOURCES means that the block,
 -- or what it takes to make it, has no memory.
 abbrev pub LocatesBuffer : {A : Type 0} → Choice → Parts → ℕ → List ℕ → ℕ
     → Result (PoolList A) Status → Parts → Type 0
@@ -45,7 +45,7 @@ PutsItems Chosen old [] returned new =
 PutsItems Chosen old (i ∷ items) returned new =
     PutsBytes Chosen old (item_bytes (i ∷ items)) returned new × (new.lists ≡ old.lists)
 
--- What OpenProtocolInformation answers, and the parts after it. Memory may run out only where there
+-- What OpenProtocolInformation returns, and the parts after it. Memory may run out only where there
 -- are items.
 abbrev pub ListsOpens : {A : Type 0} → Choice → Parts → ℕ → List ℕ → Result (PoolList A) Status
     → Parts → Type 0

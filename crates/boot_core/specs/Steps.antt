@@ -62,7 +62,7 @@ OnLists Rule old new = Rule new.lists × (new.book ≡ old.book) × (new.pools �
 
 -- ---- before the exit and after it
 
--- Before the exit a service goes by its rule. After it, it answers a refusal and leaves all parts
+-- Before the exit a service goes by its rule. After it, it returns a refusal and leaves all parts
 -- as they were.
 abbrev pub WhileOpen : Bool → Parts → Parts → Type 0 → Type 0 → Type 0
 WhileOpen true old new Rule Refusal = Refusal × (new ≡ old)
@@ -93,13 +93,13 @@ ServesSearch {A = A} exited old new answer Rule =
 
 -- ---- the services
 
--- what ExitBootServices answers with a key, where the other is the current one
+-- what ExitBootServices returns with a key, where the other is the current one
 abbrev pub Exits : ℕ → ℕ → Result (Unit {0}) Status → Type 0
 Exits current key (Ok done) = key ≡ current
 Exits current key (Err InvalidParameter) = key ≢ current
 Exits current key (Err status) = ⊥
 
--- what a call answers and how it leaves the parts
+-- what a call returns and how it leaves the parts
 abbrev pub Answers : {A : Type 0} → Setting → Bool → Parts → Call A → Reply A → Parts → Type 0
 Answers S exited old (call.AllocatePages kind t pages address) answer new =
     Serves exited old new answer reply.AllocatePages

@@ -544,7 +544,7 @@ impl<D: Driver, A: Allocator + Copy> Core<D, A> {
         }
     }
 
-    /// ExitBootServices: with the current map key, after which all services answer UNSUPPORTED.
+    /// ExitBootServices: with the current map key, after which all services return UNSUPPORTED.
     ///
     /// INVALID_PARAMETER: another key.
     pub fn exit_boot_services(&mut self, key: u64) -> Reply<A>
@@ -645,7 +645,7 @@ impl<D: Driver, A: Allocator + Copy> Core<D, A> {
         }
     }
 
-    /// Makes the calls in order, and answers the reply to each.
+    /// Makes the calls in order, and returns the reply to each.
     ///
     /// An `Err` means that there was no memory for the replies; then no call was made.
     pub fn run(&mut self, calls: &[Call<A>]) -> Result<Vec<Reply<A>, A>, AllocError>

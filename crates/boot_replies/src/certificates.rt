@@ -4,7 +4,7 @@ ghost use Rattle.page_services.specs.PageRules.{if_counted};
 ghost use Rattle.boot_replies.specs.Certified.{certificate_in, certified, list_request, may_be_certified, request_for, returned_count};
 
 use crate::replies::Reply;
-use boot_calls::Call;
+use boot_calls::{Call, ENTRY_SIZE, HANDLE_SIZE};
 use page_ranges::MemoryType;
 use page_services::placement_request;
 use placement_certificate::{Certificate, Request};
@@ -13,12 +13,6 @@ use std::alloc::Allocator;
 
 /// The memory type of a pool block with a list (EfiBootServicesData).
 pub const LIST_TYPE: u32 = 4;
-
-/// The bytes of a handle.
-const HANDLE_SIZE: u64 = 8;
-
-/// The bytes of an open item (EFI_OPEN_PROTOCOL_INFORMATION_ENTRY).
-const ENTRY_SIZE: u64 = 24;
 
 /// The certificate of the reply to a call on a machine with a granule of this many pages, and the request
 /// that it is for.
@@ -73,12 +67,12 @@ fn request_for<A: Allocator>(granule: u64, call: &Call<A>, reply: &Reply<A>) -> 
         }
         Call::LocateHandleBuffer { .. } => list_request(
             granule,
-            HANDLE_SIZE,
+            HANDLE_SIZE as u64,
             returned_count(reply),
         ),
         Call::OpenProtocolInformation { .. } => list_request(
             granule,
-            ENTRY_SIZE,
+            ENTRY_SIZE as u64,
             returned_count(reply),
         ),
         _ => None,

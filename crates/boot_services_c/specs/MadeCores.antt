@@ -1,4 +1,4 @@
--- What is made of records and tables, as a place of the caller's has it.
+-- What is made of records and tables, as a variable of the caller's has it.
 use Rattle.std.specs.Prelude.{ℕ, List, Result, Ok, Err, MatchOption, MatchResult}
 use Rattle.c_machines.specs.declared.drivers.DriverTable.{DriverTable}
 use Rattle.c_interface.specs.Making.{MakesCore}
@@ -17,7 +17,7 @@ abbrev pub Refuses : ℕ → List ℕ → ℕ → List DriverTable → ℕ → T
 Refuses size records granule tables status =
     MakesCore {A = CoreHeap} size records granule tables (Err status)
 
--- The place holds the core that the records and tables describe, or none is made.
+-- The variable holds the core that the records and tables describe, or none is made.
 abbrev pub MakesPlace : ℕ → List ℕ → ℕ → List DriverTable → Result Place ℕ → Type 0
 MakesPlace size records granule tables made =
     MatchResult made (λ place. Holds size records granule tables place.held)

@@ -13,7 +13,7 @@ use page_ranges::Status;
 use std::alloc::Global;
 
 /// Makes a core of EFI_MEMORY_DESCRIPTORs, a granule of 1 or 16 pages and up to 64 drivers, and puts its
-/// pointer into the place `core`, which a refusal leaves as it is.
+/// pointer into the variable `core`, which a refusal leaves as it is.
 ///
 /// INVALID_PARAMETER: the records describe no machine, or the tables are none of drivers. OUT_OF_RESOURCES:
 /// memory ran out.

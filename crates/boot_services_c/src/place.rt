@@ -1,4 +1,4 @@
-//! The caller's place for the pointer to a core.
+//! The caller's variable for the pointer to a core.
 ghost use Rattle.std.specs.Prelude.{◌≡◌, Some};
 ghost use Rattle.boot_services_c.specs.Places.{Held, held_code, held_at};
 
@@ -21,7 +21,7 @@ impl Model for Place {
 }
 
 impl Place {
-    /// The place with the pointer to the core in a block.
+    /// The variable with the pointer to the core in a block.
     pub(crate) fn new(block: Block<Rafkudin, Global>) -> Place
         ensures { result.held ≡ Some block.value }
     {

@@ -5,7 +5,7 @@ use map_placement::place;
 use std::alloc::Global;
 
 /// Finds the best place for pages of a type on the memory that EFI_MEMORY_DESCRIPTORs state, up to the byte at
-/// the address `limit`. The place `address` is given the address of the first page; a refusal leaves it.
+/// the address `limit`. The variable `address` is given the address of the first page; a refusal leaves it.
 ///
 /// INVALID_PARAMETER: the records state no machine, a memory type that may not be asked for, or no pages.
 /// OUT_OF_RESOURCES: there is no place, or memory ran out.

@@ -31,10 +31,10 @@ pub extern "C" fn RafkudinCertify(core: &mut Rafkudin, certify: bool)
     core.held().certify(certify);
 }
 
-/// The block of the certificate of the last service that was called, in the front of `text`; the place
+/// The block of the certificate of the last service that was called, in the front of `text`; the variable
 /// `length` is given its bytes.
 ///
-/// NOT_FOUND: there is none. BUFFER_TOO_SMALL: the place is given the bytes that are needed.
+/// NOT_FOUND: there is none. BUFFER_TOO_SMALL: the variable is given the bytes that are needed.
 /// OUT_OF_RESOURCES: memory ran out for it.
 #[unsafe(no_mangle)]
 pub extern "C" fn RafkudinCertificate(core: &mut Rafkudin, text: &mut [u8], length: &mut u64) -> u64
@@ -47,7 +47,7 @@ pub extern "C" fn RafkudinCertificate(core: &mut Rafkudin, text: &mut [u8], leng
 
 /// Judges a certificate block: SUCCESS if it is accepted.
 ///
-/// ACCESS_DENIED: it is refused. INVALID_PARAMETER: it is no block; the place `line` is given its first line
+/// ACCESS_DENIED: it is refused. INVALID_PARAMETER: it is no block; the variable `line` is given its first line
 /// that is wrong or missing. OUT_OF_RESOURCES: memory ran out.
 #[unsafe(no_mangle)]
 pub extern "C" fn RafkudinCheck(alloc: Global, text: &[u8], line: &mut u64) -> u64

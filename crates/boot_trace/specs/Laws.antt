@@ -55,7 +55,7 @@ OfRun A ds certify Is =
 
 -- What a call prints is the lines of its reply and, where that carries a certificate, a block: of
 -- the memory map before the call, the call's request and the certificate. The block is read back as
--- these, and its check answers that it is accepted.
+-- these, and its check says that it is accepted.
 abbrev pub PrintsAcceptedBlock : (A : Type 0) → List Meaning → OfLine A
 PrintsAcceptedBlock A ds number (Ok (Some (trace_call.Service c))) old text new =
     (answer : Reply A) × (entries : List Descriptor) × Step ds old c answer new

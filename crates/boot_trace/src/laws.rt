@@ -4,7 +4,7 @@ ghost use Rattle.boot_trace.specs.Laws.{MapEntriesLaw, PrintedBlocksLaw, Printed
 use std::alloc::Allocator;
 
 /// A certificate's block that a run prints is read back as the memory map before the call, the call's
-/// request and the certificate, and its check answers that it is accepted.
+/// request and the certificate, and its check says that it is accepted.
 pub fn printed_blocks_law<A: Allocator>()
     ensures { PrintedBlocksLaw A }
 {}

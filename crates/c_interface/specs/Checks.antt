@@ -25,7 +25,7 @@ ReturnsEntry (Some d) before status after =
 ReturnsEntry None before status after = (status ≡ status_number NotFound) × (after ≡ before)
 
 -- The status of a check: whether the text's certificate is accepted; or the text is no block, and
--- the caller's place has its first line that is wrong or missing; or memory ran out.
+-- the caller's variable has its first line that is wrong or missing; or memory ran out.
 abbrev pub ChecksBlock : List ℕ → ℕ → ℕ → ℕ → Type 0
 ChecksBlock text before status after =
     ((accepted : Bool) × IsVerdict text accepted

@@ -16,6 +16,7 @@ use Rattle.c_interface.specs.declared.efi_core.LastBlock.{LastBlock}
 use Rattle.c_interface.specs.declared.efi_core.LastBlock.TheVariants as block
 use Rattle.c_machines.specs.declared.guids.Guid.{Guid}
 use Rattle.c_machines.specs.Guids.{standard_guid}
+use Rattle.guid_handles.specs.HandleChanges.{max_handles}
 use Rattle.c_interface.specs.Buffers.{laid}
 use Rattle.c_interface.specs.EfiCores.{EfiCoreValue, LeavesBlock, forgotten, meanings}
 use Rattle.c_interface.specs.Replies.{status_in, number_in, numbers_in, returned_or}
@@ -40,13 +41,13 @@ pub record IsSpent {A : Type 0} (old new : EfiCoreValue A) : Type 0 where
   pub core : new ≡ forgotten old
 
 -- The status of a call, what it writes to the caller's variables, and how it leaves the core: it is
--- a step of the core and the status is that of the reply; or no call could be made, and the places
--- are as they were.
+-- a step of the core and the status is that of the reply; or no call could be made, and the
+-- variables are as they were.
 abbrev pub Answers : {A : Type 0} → EfiCoreValue A → Call A → ℕ → (Reply A → Type 0) → Type 0
     → EfiCoreValue A → Type 0
-Answers {A = A} old c status Tells Keeps new =
+Answers {A = A} old c status Gives Keeps new =
     ((answer : Reply A) × Serves old c answer new × (status ≡ status_number (status_in answer))
-    × Tells answer) ⊎ (IsSpent old new × (status ≡ aborted) × Keeps)
+    × Gives answer) ⊎ (IsSpent old new × (status ≡ aborted) × Keeps)
 
 -- a call that returns its status alone
 abbrev pub AnswersStatus : {A : Type 0} → EfiCoreValue A → Call A → ℕ → EfiCoreValue A → Type 0
@@ -68,13 +69,9 @@ AnswersNumbers old c before status after new =
 
 -- ---- lists in the caller's buffers
 
--- the most handles that are live at a time
-abbrev pub most_handles : ℕ
-most_handles = 4096
-
 -- the bytes of a buffer for a number of handles, 8 for each, as far as that many can be live
 abbrev pub handle_bytes : ℕ → ℕ
-handle_bytes room = min room most_handles * 8
+handle_bytes room = min room max_handles * 8
 
 -- the bytes that a status says a list takes
 abbrev pub returned_size : Status → ℕ → Option ℕ
@@ -124,7 +121,7 @@ too_many = 17
 
 -- ---- bytes in the caller's buffers
 
--- the places of the caller's that GetMemoryMap fills beside the buffer
+-- the caller's variables that GetMemoryMap fills beside the buffer
 pub record MapPlaces : Type 0 where
   pub size : ℕ
   pub key : ℕ

@@ -27,7 +27,7 @@ stops_on_controller c handle driver =
 abbrev pub children : {A : Type 0} → EfiCoreValue A → ℕ → ℕ → List ℕ
 children c controller agent = stops.children c.core.state.parts.lists controller agent
 
--- A list is in the caller's buffer, or memory ran out for it, which leaves the caller's places.
+-- A list is in the caller's buffer, or memory ran out for it, which leaves the caller's variables.
 abbrev pub FillsOrRunsOut : {X : Type 0} → List X → ℕ → List X → ℕ → ℕ → List X → Type 0
 FillsOrRunsOut items count buffer status new_count new_buffer =
     FillsWith items status buffer new_count new_buffer

@@ -53,7 +53,7 @@ impl<A: Allocator + Copy> EfiCore<A> {
 
 /// Judges a certificate block: SUCCESS if its certificate is accepted, ACCESS_DENIED if it is refused.
 ///
-/// INVALID_PARAMETER: the text is no block; the place is given its first line that is wrong or missing.
+/// INVALID_PARAMETER: the text is no block; the variable is given its first line that is wrong or missing.
 /// OUT_OF_RESOURCES: memory ran out.
 pub fn check_block<A: Allocator + Copy>(alloc: A, text: &[u8], line: &mut u64) -> u64
     ensures { ChecksBlock text.now line.old result line.new }

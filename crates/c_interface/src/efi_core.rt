@@ -1,4 +1,4 @@
-//! A core that answers a caller in C.
+//! A core that a caller in C has.
 ghost use Rattle.std.specs.Prelude.{◌≡◌, false, length, None, Some, true, option_map, IfOk};
 ghost use Rattle.c_interface.specs.EfiCores.{KeepsBlock, with_last};
 ghost use Rattle.page_ranges.specs.Statuses.{status_number};
@@ -32,7 +32,7 @@ pub enum LastBlock<A: Allocator = Global> {
 }
 
 impl<A: Allocator> LastBlock<A> {
-    /// The block's text, put in the front of a buffer, and the number of its bytes into a place.
+    /// The block's text, put in the front of a buffer, and the number of its bytes into a variable.
     pub(crate) fn returned(&self, buffer: &mut [u8], size: &mut u64) -> u64
         ensures { ReturnsBlock self.now buffer.old size.old result buffer.new size.new }
     {
@@ -136,7 +136,7 @@ impl<A: Allocator + Copy> EfiCore<A> {
         self.block = block;
     }
 
-    /// Keeps the reply to a call that carries no certificate, and answers its status.
+    /// Keeps the reply to a call that carries no certificate, and returns its status.
     pub(crate) fn tell(&mut self, reply: Reply<A>) -> u64
         ensures status { result ≡ status_number (status_in reply) }
         ensures core { self.new ≡ with_last self.old reply LastBlock.Nothing }
@@ -181,7 +181,7 @@ impl<A: Allocator + Copy> EfiCore<A> {
         self.last.as_ref()
     }
 
-    /// Makes a call, and answers its status as a number of EFI_STATUS.
+    /// Makes a call, and returns its status as a number of EFI_STATUS.
     pub(crate) fn answer(&mut self, call: &Call<A>) -> u64
         ensures { AnswersStatus self.old call.now result self.new }
     {
@@ -249,10 +249,10 @@ impl<A: Allocator + Copy> EfiCore<A> {
     }
 
     /// The block of the certificate of the last call, in the front of a buffer; their number is put into
-    /// a place.
+    /// a variable.
     ///
     /// NOT_FOUND: the last call left no block. OUT_OF_RESOURCES: memory ran out for it.
-    /// BUFFER_TOO_SMALL: the place is given the bytes that are needed.
+    /// BUFFER_TOO_SMALL: the variable is given the bytes that are needed.
     pub fn block(&self, buffer: &mut [u8], size: &mut u64) -> u64
         ensures { ReturnsBlock self.now.block buffer.old size.old result buffer.new size.new }
     {

@@ -1,4 +1,4 @@
-//! The boot services as a caller in C has them: statuses as numbers of EFI_STATUS, results in places of
+//! The boot services as a caller in C has them: statuses as numbers of EFI_STATUS, results in variables of
 //! the caller's, GUIDs as the standard's sixteen bytes.
 #![tactic(auto)]
 

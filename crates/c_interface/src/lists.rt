@@ -9,8 +9,10 @@ ghost use Rattle.c_machines.specs.Guids.{interface_in, standard_guid};
 use crate::buffers::lay;
 use crate::efi_core::{ABORTED, EfiCore};
 use arrayvec::ArrayVec;
+use boot_calls::HANDLE_SIZE;
 use boot_core::{Call, Reply};
 use c_machines::{Guid, Interface};
+use guid_handles::MAX_HANDLES;
 use page_ranges::Status;
 use std::alloc::Allocator;
 use uuid::Uuid;
@@ -18,14 +20,8 @@ use uuid::Uuid;
 /// This many interfaces are too many to be installed at once, whatever they are.
 const TOO_MANY: usize = 17;
 
-/// The most handles that are live at a time.
-const MOST_HANDLES: usize = 4096;
-
-/// The bytes of a handle.
-const HANDLE_SIZE: u64 = 8;
-
 impl<A: Allocator + Copy> EfiCore<A> {
-    /// LocateHandle with a buffer for handles. The place `needed` is given the bytes that all that match take, on
+    /// LocateHandle with a buffer for handles. The variable `needed` is given the bytes that all that match take, on
     /// SUCCESS and on BUFFER_TOO_SMALL.
     pub fn locate_handle(
         &mut self,
@@ -55,9 +51,9 @@ impl<A: Allocator + Copy> EfiCore<A> {
         status
     }
 
-    /// ProtocolsPerHandle. The place `count` is given how many GUIDs there are; they are laid into the buffer.
+    /// ProtocolsPerHandle. The variable `count` is given how many GUIDs there are; they are laid into the buffer.
     ///
-    /// BUFFER_TOO_SMALL: it has no room for all of them, and is left; the place is given how many there are.
+    /// BUFFER_TOO_SMALL: it has no room for all of them, and is left; the variable is given how many there are.
     pub fn protocols_per_handle(&mut self, handle: u64, buffer: &mut [Guid], count: &mut u64) -> u64
         ensures { ListsGuids self.old handle count.old buffer.old result count.new buffer.new
             self.new }
@@ -74,7 +70,7 @@ impl<A: Allocator + Copy> EfiCore<A> {
         Status::Success.number()
     }
 
-    /// InstallMultipleProtocolInterfaces. The place `handle` has the handle, 0 for a new one, and is given it.
+    /// InstallMultipleProtocolInterfaces. The variable `handle` has the handle, 0 for a new one, and is given it.
     /// This takes no memory but the core's: a list that is too long is refused by its first interfaces.
     pub fn install_multiple(&mut self, handle: &mut u64, interfaces: &[Interface]) -> u64
         ensures { InstallsAll self.old handle.old interfaces.now result handle.new self.new }
@@ -114,7 +110,7 @@ impl<A: Allocator + Copy> EfiCore<A> {
 fn handle_bytes(room: usize) -> u64
     ensures { result ≡ handle_bytes room }
 {
-    room.min(MOST_HANDLES) as u64 * HANDLE_SIZE
+    room.min(MAX_HANDLES) as u64 * HANDLE_SIZE as u64
 }
 
 /// The bytes that a status says a list takes.

@@ -12,7 +12,7 @@ use std::alloc::Allocator;
 impl<A: Allocator + Copy> EfiCore<A> {
     /// The core of a machine before any call. Its memory is described by records (EFI_MEMORY_DESCRIPTOR) of
     /// `descriptor_size` bytes each, its granule is 1 or 16 pages, and the value of a driver binding
-    /// interface is the place of its driver among the tables.
+    /// interface is the index of its driver among the tables.
     ///
     /// The error is a number of EFI_STATUS. INVALID_PARAMETER: the records describe no machine, or the tables
     /// are none of drivers, which is found before memory is taken. OUT_OF_RESOURCES: memory ran out.

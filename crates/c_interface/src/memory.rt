@@ -6,17 +6,15 @@ ghost use Rattle.c_interface.specs.Services.{AllocatesPages, AllocatesPool, Maps
 
 use crate::efi_core::{ABORTED, EfiCore};
 use boot_core::Call;
+use map_keys::RECORD_SIZE;
 use page_ranges::Status;
 use std::alloc::Allocator;
-
-/// The bytes of a record of the memory map.
-const RECORD_SIZE: u64 = 48;
 
 /// The version of the records (EFI_MEMORY_DESCRIPTOR_VERSION).
 const VERSION: u32 = 1;
 
 impl<A: Allocator + Copy> EfiCore<A> {
-    /// AllocatePages. The place `memory` has the highest address that is asked for, or the very address,
+    /// AllocatePages. The variable `memory` has the highest address that is asked for, or the very address,
     /// and is given the address of the pages.
     pub fn allocate_pages(&mut self, kind: u32, mtype: u32, pages: u64, memory: &mut u64) -> u64
         ensures { AllocatesPages self.old kind mtype pages memory.old result memory.new self.new }
@@ -37,7 +35,7 @@ impl<A: Allocator + Copy> EfiCore<A> {
         self.answer(&Call::FreePages { memory, pages })
     }
 
-    /// GetMemoryMap. The places are given the bytes that the map takes, its key, the bytes of a record and
+    /// GetMemoryMap. The variables are given the bytes that the map takes, its key, the bytes of a record and
     /// their version; where the buffer is too small all but the key.
     pub fn get_memory_map(
         &mut self,
@@ -59,12 +57,12 @@ impl<A: Allocator + Copy> EfiCore<A> {
             Status::Success => {
                 *size = returned.size;
                 *key = returned.key;
-                *stride = RECORD_SIZE;
+                *stride = RECORD_SIZE as u64;
                 *version = VERSION;
             }
             Status::BufferTooSmall => {
                 *size = returned.size;
-                *stride = RECORD_SIZE;
+                *stride = RECORD_SIZE as u64;
                 *version = VERSION;
             }
             _ => {}
@@ -95,7 +93,7 @@ impl<A: Allocator + Copy> EfiCore<A> {
         self.tell(reply)
     }
 
-    /// AllocatePool. The place `buffer` is given the block's address.
+    /// AllocatePool. The variable `buffer` is given the block's address.
     pub fn allocate_pool(&mut self, mtype: u32, size: u64, buffer: &mut u64) -> u64
         ensures { AllocatesPool self.old mtype size buffer.old result buffer.new self.new }
     {

@@ -8,15 +8,13 @@ ghost use Rattle.c_interface.specs.Replies.{returned_or};
 use crate::efi_core::EfiCore;
 use crate::replies::status_in;
 use c_machines::Guid;
+use open_agents::TEST_PROTOCOL;
 use page_ranges::Status;
 use std::alloc::Allocator;
 use uuid::Uuid;
 
-/// The attributes with which OpenProtocol gives no interface (TEST_PROTOCOL).
-const TEST_PROTOCOL: u32 = 4;
-
 impl<A: Allocator + Copy> EfiCore<A> {
-    /// OpenProtocol. The place `value` is given the interface's value, also with ALREADY_STARTED, and 0
+    /// OpenProtocol. The variable `value` is given the interface's value, also with ALREADY_STARTED, and 0
     /// with UNSUPPORTED; TEST_PROTOCOL leaves it.
     #[tactic(auto, using(crate::proofs::Opened::tested, crate::proofs::Opened::opened_gives))]
     pub fn open_giving(
@@ -40,7 +38,7 @@ impl<A: Allocator + Copy> EfiCore<A> {
         status
     }
 
-    /// HandleProtocol. The place `value` is given the interface's value, and 0 with UNSUPPORTED.
+    /// HandleProtocol. The variable `value` is given the interface's value, and 0 with UNSUPPORTED.
     #[tactic(auto, using(crate::proofs::Opened::opened_gives))]
     pub fn handle_giving(&mut self, handle: u64, guid: &Guid, value: &mut u64) -> u64
         ensures { HandlesGiving self.old handle guid.now value.old result value.new

@@ -62,7 +62,7 @@ impl<A: Allocator + Copy> EfiCore<A> {
         put_found(self.core.holder(guid.uuid(), index), handle)
     }
 
-    /// All live handles, by ascending number, in the front of a buffer. The place `count` is given how many
+    /// All live handles, by ascending number, in the front of a buffer. The variable `count` is given how many
     /// there are.
     ///
     /// BUFFER_TOO_SMALL: the buffer has no room for all of them, and is left.
@@ -111,10 +111,10 @@ impl<A: Allocator + Copy> EfiCore<A> {
     }
 
     /// The items open on an interface, in the order in which they were made, in the front of a buffer. The
-    /// place `count` is given how many there are.
+    /// variable `count` is given how many there are.
     ///
     /// NOT_FOUND: the handle is not live, or lacks the GUID. BUFFER_TOO_SMALL: the buffer has no room for
-    /// all of them, and is left; the place is given how many there are.
+    /// all of them, and is left; the variable is given how many there are.
     pub fn open_items(
         &self,
         handle: u64,
@@ -138,7 +138,7 @@ impl<A: Allocator + Copy> EfiCore<A> {
     }
 }
 
-/// Puts what is found into a place of the caller's.
+/// Puts what is found into a variable of the caller's.
 fn put_found<T: Copy>(found: Option<T>, place: &mut T) -> u64
     ensures { ReturnsFound found place.old result place.new }
 {
@@ -151,7 +151,7 @@ fn put_found<T: Copy>(found: Option<T>, place: &mut T) -> u64
     }
 }
 
-/// Lays all of a list into the front of a buffer that has room for them, and puts into a place how many they are.
+/// Lays all of a list into the front of a buffer that has room for them, and puts into a variable how many they are.
 pub(crate) fn fill<T: Copy>(items: &[T], buffer: &mut [T], count: &mut u64) -> u64
     ensures { FillsWith items.now result buffer.old count.new buffer.new }
 {

@@ -13,10 +13,10 @@ use std::alloc::Allocator;
 
 impl<A: Allocator + Copy> EfiCore<A> {
     /// The drivers to be stopped, in order, before an interface can be opened exclusively, taken out or
-    /// replaced, in the front of a buffer. The place `count` is given how many they are.
+    /// replaced, in the front of a buffer. The variable `count` is given how many they are.
     ///
     /// BUFFER_TOO_SMALL: the buffer has no room for all of them, and is left. OUT_OF_RESOURCES: memory ran
-    /// out, and the place is left too.
+    /// out, and the variable is left too.
     pub fn stops_on_interface(
         &self,
         handle: u64,
@@ -64,7 +64,7 @@ impl<A: Allocator + Copy> EfiCore<A> {
     }
 }
 
-/// Lays all of some pairs into the front of a buffer that has room for them, and puts into a place how many
+/// Lays all of some pairs into the front of a buffer that has room for them, and puts into a variable how many
 /// they are.
 fn fill_stops(pairs: &[(u64, u64)], buffer: &mut [StopEntry], count: &mut u64) -> u64
     ensures { FillsWith (map spec.stop_in_c pairs.now) result buffer.old count.new buffer.new }

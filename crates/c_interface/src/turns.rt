@@ -12,7 +12,7 @@ impl<A: Allocator + Copy> EfiCore<A> {
     /// Begins the turns of drivers on a controller, for which a list of drivers is put in order.
     ///
     /// INVALID_PARAMETER: the controller is not live, or more than 16 handles are named. OUT_OF_RESOURCES:
-    /// memory ran out. Either leaves the caller's places as they are.
+    /// memory ran out. Either leaves the caller's variables as they are.
     pub fn connect_begin(
         &self,
         controller: u64,

@@ -6,12 +6,7 @@ use crate::calls::print_call;
 use boot_calls::Call;
 use std::alloc::{AllocError, Allocator};
 use text_lines::MAX_LINE_LENGTH;
-
-/// The most bytes of a buffer for the memory map that a line asks for.
-const MAX_BUFFER_SIZE: u64 = 16_777_216;
-
-/// The most bytes of the pool that a line reads.
-const MAX_READ_SIZE: u64 = 65_536;
+use trace_lines::{MAX_BUFFER_SIZE, MAX_READ_SIZE};
 
 /// The line of a call, with its line feed; None where no line can ask for it.
 pub fn line_for<A: Allocator + Copy>(

@@ -156,7 +156,7 @@ fn best_match<A: Allocator + Copy>(
 /// The handle that carries a GUID and whose device path leads furthest along the path that some bytes
 /// begin with, and how many bytes of that path it matches. The bytes may lie anywhere. All nodes of the
 /// handle's path must be the first of those before the end of the path's first instance. Of equally
-/// long ones the lowest handle is answered. The handles' paths are read as their bytes lie in the pool
+/// long ones the lowest handle is returned. The handles' paths are read as their bytes lie in the pool
 /// now. This takes no memory.
 ///
 /// INVALID_PARAMETER: the bytes begin with no path. NOT_FOUND: no handle's path matches.

@@ -47,8 +47,8 @@ connect_refused t handle named = not (is_live t handle) || nat_lt max_named (len
 abbrev pub first_progress : HandleTable → List OpenRecord → Progress
 first_progress t opens = record { handles = t; opens = opens; events = [] }
 
--- What ConnectController answers, and what it leaves. Where a start on the handle is carried out,
--- its events are answered; otherwise all stays. Where the call is valid, OUT_OF_RESOURCES means out
+-- What ConnectController returns, and what it leaves. Where a start on the handle is carried out,
+-- its events are returned; otherwise all stays. Where the call is valid, OUT_OF_RESOURCES means out
 -- of memory.
 abbrev pub Connects : Site → List ℕ → Bool → HandleTable → List OpenRecord → Result (List ℕ) Status
     → HandleTable → List OpenRecord → Type 0

@@ -11,7 +11,7 @@ use Rattle.driver_connect.specs.declared.view.ProtocolView.{ProtocolView}
 use Rattle.driver_connect.specs.declared.agents.Agent.{Agent}
 
 -- what a driver is shown of a controller: the protocols on it, in order of installation
-pub record Sight : Type 0 where
+pub record ViewValue : Type 0 where
   pub agent : ℕ
   pub controller : ℕ
   pub protocols : List ProtocolView
@@ -21,12 +21,12 @@ pub record Plan : Type 0 where
   pub opens : List (List ℕ)
   pub children : List (List (List ℕ × ℕ))
 
--- what a driver answers on each sight
+-- what a driver answers to each view
 pub record Meaning : Type 0 where
   pub version : ℕ
-  pub supports : Sight → Bool
-  pub plan : Sight → Plan
-  pub may_stop : Sight → Bool
+  pub supports : ViewValue → Bool
+  pub plan : ViewValue → Plan
+  pub may_stop : ViewValue → Bool
 
 -- ---- what is shown
 
@@ -39,7 +39,7 @@ protocol_view opens i =
 abbrev pub protocols_on : HandleTable → List OpenRecord → ℕ → List ProtocolView
 protocols_on t opens n = map (protocol_view opens) (filter (is_on n) t.interfaces)
 
-abbrev pub sight_of : HandleTable → List OpenRecord → ℕ → ℕ → Sight
+abbrev pub sight_of : HandleTable → List OpenRecord → ℕ → ℕ → ViewValue
 sight_of t opens agent controller =
     record { agent = agent; controller = controller; protocols = protocols_on t opens controller }
 
@@ -78,31 +78,31 @@ abbrev pub version_if : Option Meaning → ℕ
 version_if None = 0
 version_if (Some m) = m.version
 
-abbrev pub supports_if : Option Meaning → Sight → Bool
+abbrev pub supports_if : Option Meaning → ViewValue → Bool
 supports_if None s = false
 supports_if (Some m) s = m.supports s
 
-abbrev pub may_stop_if : Option Meaning → Sight → Bool
+abbrev pub may_stop_if : Option Meaning → ViewValue → Bool
 may_stop_if None s = false
 may_stop_if (Some m) s = m.may_stop s
 
 abbrev pub no_plan : Plan
 no_plan = record { opens = []; children = [] }
 
-abbrev pub plan_if : Option Meaning → Sight → Plan
+abbrev pub plan_if : Option Meaning → ViewValue → Plan
 plan_if None s = no_plan
 plan_if (Some m) s = m.plan s
 
 abbrev pub version_at : List Meaning → ℕ → ℕ
 version_at ds i = version_if (slice_get ds i)
 
-abbrev pub supports_at : List Meaning → ℕ → Sight → Bool
+abbrev pub supports_at : List Meaning → ℕ → ViewValue → Bool
 supports_at ds i s = supports_if (slice_get ds i) s
 
-abbrev pub may_stop_at : List Meaning → ℕ → Sight → Bool
+abbrev pub may_stop_at : List Meaning → ℕ → ViewValue → Bool
 may_stop_at ds i s = may_stop_if (slice_get ds i) s
 
-abbrev pub plan_at : List Meaning → ℕ → Sight → Plan
+abbrev pub plan_at : List Meaning → ℕ → ViewValue → Plan
 plan_at ds i s = plan_if (slice_get ds i) s
 
 -- a driver handle with its driver's place and version

@@ -11,7 +11,7 @@ use Rattle.protocol_notify.specs.Registrations.{events_for}
 use Rattle.driver_connect.specs.declared.agents.Agent.{Agent}
 use Rattle.driver_connect.specs.declared.starting.Start.{Start}
 use Rattle.driver_connect.specs.declared.view.ProtocolView.{ProtocolView}
-use Rattle.driver_connect.specs.Drivers.{Meaning, Sight, Plan, sight_of, protocols_on, is_free, driver_binding, agent_of, supports_at, plan_at}
+use Rattle.driver_connect.specs.Drivers.{Meaning, ViewValue, Plan, sight_of, protocols_on, is_free, driver_binding, agent_of, supports_at, plan_at}
 
 -- ---- the list of drivers
 
@@ -138,7 +138,7 @@ carried_out rs controller agent plan p = record {
 }
 
 -- what a driver is shown at its turn
-abbrev pub sight_at : Site → Progress → Agent → Sight
+abbrev pub sight_at : Site → Progress → Agent → ViewValue
 sight_at c p a = sight_of p.handles p.opens a.handle c.controller
 
 abbrev pub is_supported : Site → Progress → Agent → Bool

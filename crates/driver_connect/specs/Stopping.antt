@@ -6,7 +6,7 @@ use Rattle.page_ranges.specs.declared.statuses.Status.TheVariants.{InvalidParame
 use Rattle.guid_handles.specs.HandleTables.{HandleTable, numbers, maker_of, is_live, carries}
 use Rattle.open_agents.specs.declared.items.OpenRecord.{OpenRecord}
 use Rattle.open_agents.specs.OpenItems.{is_for_driver, names, managers_of, without_items}
-use Rattle.driver_connect.specs.Drivers.{Meaning, Sight, sight_of, driver_binding, driver_of, may_stop_at}
+use Rattle.driver_connect.specs.Drivers.{Meaning, ViewValue, sight_of, driver_binding, driver_of, may_stop_at}
 
 -- ---- pairs
 
@@ -16,6 +16,7 @@ same_pair p q = (p.0 == q.0) && (p.1 == q.1)
 abbrev pub has_pair : List (ℕ × ℕ) → ℕ × ℕ → Bool
 has_pair pairs p = list_any (same_pair p) pairs
 
+-- the controller and the agent of an open item
 abbrev pub pair_of : OpenRecord → ℕ × ℕ
 pair_of o = (o.controller, o.agent)
 
@@ -65,7 +66,7 @@ stop_set t opens pairs = rounds (length t.handles + length opens) t opens (with_
 -- ---- whether it can be stopped
 
 -- the driver at a place, if there is one, may be stopped on what it is shown
-abbrev pub may_stop_if_any : List Meaning → Option ℕ → Sight → Bool
+abbrev pub may_stop_if_any : List Meaning → Option ℕ → ViewValue → Bool
 may_stop_if_any ds None s = false
 may_stop_if_any ds (Some i) s = may_stop_at ds i s
 
@@ -149,7 +150,7 @@ takes_item plan handle agent controller =
     list_any (λ n. (handle == n) || ((agent == n) || (controller == n))) plan.handles
     || has_pair plan.pairs (controller, agent)
 
--- What is answered about a stop of some pairs, and what it leaves: their stop set goes, or all
+-- What is returned of a stop of some pairs, and what it leaves: their stop set goes, or all
 -- stays.
 abbrev pub Stops : List Meaning → HandleTable → List OpenRecord → List (ℕ × ℕ) → ℕ → Option (ℕ × ℕ)
     → Bool → HandleTable → List OpenRecord → Type 0
@@ -179,7 +180,7 @@ is_meant driver p = (driver == 0) || (p.1 == driver)
 abbrev pub managers_meant : List OpenRecord → ℕ → ℕ → List (ℕ × ℕ)
 managers_meant opens handle driver = filter (is_meant driver) (managers_of opens handle)
 
--- What DisconnectController answers, and what it leaves. Where the call is valid, OUT_OF_RESOURCES
+-- What DisconnectController returns, and what it leaves. Where the call is valid, OUT_OF_RESOURCES
 -- means out of memory.
 abbrev pub Disconnects : List Meaning → HandleTable → List OpenRecord → ℕ → ℕ
     → Result (Unit {0}) Status → HandleTable → List OpenRecord → Type 0

@@ -38,7 +38,7 @@ fn made_after<A: Allocator + Copy>(
     Ok(made)
 }
 
-/// Connects a controller, and a number of levels of the handles that are made below it. It answers
+/// Connects a controller, and a number of levels of the handles that are made below it. It returns
 /// whether a start on the controller was carried out.
 #[cycle(levels)]
 fn connect_levels<D: Driver, A: Allocator + Copy>(
@@ -151,7 +151,7 @@ fn connect_copies<D: Driver, A: Allocator + Copy>(
 }
 
 /// Starts drivers on a handle, those first that are named, and where `recursive` is set on the
-/// handles that this makes, eight levels deep. It answers the events that are signaled. On an `Err`
+/// handles that this makes, eight levels deep. It returns the events that are signaled. On an `Err`
 /// nothing changes.
 pub fn connect<D: Driver, A: Allocator + Copy>(
     alloc: A,

@@ -67,7 +67,7 @@ impl<A: Allocator + Copy> Connecting<A> {
         })
     }
 
-    /// Puts the changed handles and open items into the place of those that were copied, and answers
+    /// Puts the changed handles and open items into the place of those that were copied, and returns
     /// the events.
     pub fn put_in_place(self, handles: &mut Handles<A>, opens: &mut Opens<A>) -> Vec<u64, A>
         ensures handles { handles.new ≡ self.handles }
@@ -113,7 +113,7 @@ impl<A: Allocator + Copy> Connecting<A> {
 }
 
 /// Starts an agent's driver if it is supported on the controller, whose protocols are given, and
-/// answers whether the start was carried out. It answers none where the driver is not supported.
+/// returns whether the start was carried out. It returns none where the driver is not supported.
 fn take_turn<D: Driver, A: Allocator + Copy>(
     connecting: &mut Connecting<A>,
     drivers: &[D],

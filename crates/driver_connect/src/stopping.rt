@@ -295,7 +295,7 @@ impl<A: Allocator + Copy> StopPlan<A> {
 }
 
 /// Stops pairs of a controller and a driver's agent, and with them the drivers on the handles that
-/// these made, where all can be stopped: those handles go, with each item of the pairs. It answers
+/// these made, where all can be stopped: those handles go, with each item of the pairs. It returns
 /// whether they were stopped. `handle` is the handle of the call, and `opener` the agent and the
 /// controller of a call of OpenProtocol: they must stay. If not all can be stopped, and on an
 /// `Err`, nothing changes.

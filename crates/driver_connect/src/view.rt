@@ -26,9 +26,9 @@ pub struct View<'a> {
 }
 
 impl<'a> Model for View<'a> {
-    ghost use Rattle.driver_connect.specs.Drivers.{Sight};
+    ghost use Rattle.driver_connect.specs.Drivers.{ViewValue};
 
-    ghost Value = { Sight };
+    ghost Value = { ViewValue };
 
     ghost view = { λ v.
         record { agent = v.agent; controller = v.controller; protocols = v.protocols.now } };

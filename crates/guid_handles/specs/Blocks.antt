@@ -39,9 +39,11 @@ pub record AreBlocks (blocks : List Block) : Type 0 where
 
 -- ---- what changes
 
+-- a block once a place has come last
 abbrev pub with_last : ℕ → Block → Block
 with_last at k = record k { places = k.places ++ at ∷ [] }
 
+-- a block once a place is gone
 abbrev pub without_place : ℕ → Block → Block
 without_place at k = record k { places = filter (λ x. not (x == at)) k.places }
 

@@ -24,6 +24,7 @@ has_number n h = h.number == n
 abbrev pub is_on : ℕ → Interface → Bool
 is_on n i = i.handle == n
 
+-- an interface is of a GUID
 abbrev pub is_of : List ℕ → Interface → Bool
 is_of guid i = same_guid i.guid guid
 
@@ -41,6 +42,7 @@ is_live t n = is_some (find (has_number n) t.handles)
 abbrev pub maker_of : HandleTable → ℕ → Option (ℕ × ℕ)
 maker_of t n = option_and_then (λ h. h.maker) (find (has_number n) t.handles)
 
+-- the interface of a GUID on a handle
 abbrev pub interface_at : HandleTable → ℕ → List ℕ → Option Interface
 interface_at t n guid = find (is_at n guid) t.interfaces
 

@@ -555,7 +555,7 @@ impl<A: Allocator + Copy> Handles<A> {
     }
 
     /// Takes out the interface of a GUID on a handle. A handle that is left without interfaces
-    /// goes. The answer is whether it went.
+    /// goes. Returns whether it went.
     pub fn remove(&mut self, handle: u64, guid: Uuid) -> bool
         requires { carries self.old guid handle ≡ true }
         ensures table { self.new ≡ without_interface handle guid self.old }

@@ -9,7 +9,7 @@ use page_ranges::{Descriptor, MemoryType, PAGE_COUNT, PAGE_SIZE};
 use std::alloc::{AllocError, Allocator};
 
 /// The bytes of a record (EFI_MEMORY_DESCRIPTOR, with 8 bytes more).
-pub(crate) const RECORD_SIZE: usize = 48;
+pub const RECORD_SIZE: usize = 48;
 
 /// A page has 2 to the power of this many bytes.
 const PAGE_SHIFT: u32 = 12;

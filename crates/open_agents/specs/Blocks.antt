@@ -33,6 +33,7 @@ items_at slots (k ∷ ks) = with_first (item_at slots k) (items_at slots ks)
 abbrev pub items_near : Near → List OpenRecord
 items_near near = items_at near.slots.now near.places.now
 
+-- there is an item, and it passes a test
 abbrev pub passes : (OpenRecord → Bool) → Option OpenRecord → Bool
 passes p None = false
 passes p (Some o) = p o

@@ -59,6 +59,7 @@ driver_item opens n guid = find (is_driver_item n guid) opens
 
 -- ---- the table
 
+-- the decision of the first line of a table that applies, or else the last one
 abbrev pub first_line : List (Bool × Decision) → Decision → Decision
 first_line [] last = last
 first_line (l ∷ ls) last = cond l.0 l.1 (first_line ls last)

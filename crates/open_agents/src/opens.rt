@@ -169,7 +169,7 @@ impl<A: Allocator + Copy> Opens<A> {
         )
     }
 
-    /// Closes all items of an agent and a controller on an interface, and answers whether there
+    /// Closes all items of an agent and a controller on an interface, and returns whether there
     /// were any.
     pub fn close(&mut self, handle: u64, guid: Uuid, agent: u64, controller: u64) -> bool
         ensures found { result ≡ list_any (is_closed_by handle guid agent controller) self.old }

@@ -7,7 +7,7 @@ use map_placement::place;
 use region_heap::{Region, RegionHeap};
 
 /// Finds the best place for pages of a type on the memory that EFI_MEMORY_DESCRIPTORs state, up to the byte at
-/// the address `limit`. The place `address` is given the address of the first page; a refusal leaves it. The
+/// the address `limit`. The variable `address` is given the address of the first page; a refusal leaves it. The
 /// region is the caller's again afterwards.
 ///
 /// INVALID_PARAMETER: the records state no machine, a memory type that may not be asked for, or no pages.
@@ -41,7 +41,7 @@ pub extern "C" fn RafkudinPlaceInRegion(
 
 /// Judges a certificate block: SUCCESS if it is accepted. The region is the caller's again afterwards.
 ///
-/// ACCESS_DENIED: it is refused. INVALID_PARAMETER: it is no block; the place `line` is given its first line
+/// ACCESS_DENIED: it is refused. INVALID_PARAMETER: it is no block; the variable `line` is given its first line
 /// that is wrong or missing. OUT_OF_RESOURCES: the region is too small.
 #[unsafe(no_mangle)]
 pub extern "C" fn RafkudinCheckInRegion(region: Region, text: &[u8], line: &mut u64) -> u64

@@ -17,9 +17,9 @@ pub extern "C" fn PlaygroundRunLine(core: &mut Rafkudin, number: u64, line: &[u8
     core.held().run_line(number, line)
 }
 
-/// What the last line printed, in the front of `text`; the place `length` is given its bytes.
+/// What the last line printed, in the front of `text`; the variable `length` is given its bytes.
 ///
-/// NOT_FOUND: there is nothing. BUFFER_TOO_SMALL: the place is given the bytes that are needed.
+/// NOT_FOUND: there is nothing. BUFFER_TOO_SMALL: the variable is given the bytes that are needed.
 /// OUT_OF_RESOURCES: memory ran out for it.
 #[unsafe(no_mangle)]
 pub extern "C" fn PlaygroundText(core: &mut Rafkudin, text: &mut [u8], length: &mut u64) -> u64

@@ -12,7 +12,7 @@ use region_cores::{Place, Rafkudin, make_in};
 use region_heap::{Region, RegionHeap};
 
 /// Makes a core of EFI_MEMORY_DESCRIPTORs, a granule of 1 or 16 pages and up to 64 drivers, and puts its
-/// pointer into the place `core`, which a refusal leaves as it is. All that the core allocates lies in the region.
+/// pointer into the variable `core`, which a refusal leaves as it is. All that the core allocates lies in the region.
 ///
 /// INVALID_PARAMETER: the records state no machine, or the tables are none of drivers. OUT_OF_RESOURCES:
 /// the region is too small.

@@ -39,6 +39,7 @@ next_for t rs key = option_and_then (next_of t) (registration_of rs key)
 abbrev pub next_handle : HandleTable → List Registration → ℕ → Option ℕ
 next_handle t rs key = option_map (λ n. n.0) (next_for t rs key)
 
+-- a registration whose mark is the stamp of what was next for it, if anything was
 abbrev pub marked : Option (ℕ × ℕ) → Registration → Registration
 marked None r = r
 marked (Some n) r = record r { mark = n.1 }

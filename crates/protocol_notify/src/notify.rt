@@ -50,7 +50,7 @@ impl<A: Allocator + Copy> Notify<A> {
         }
     }
 
-    /// Registers an event for the interfaces of a GUID that are installed from now on, and answers
+    /// Registers an event for the interfaces of a GUID that are installed from now on, and returns
     /// its key. On an `Err`, which means out of memory, the registrations are as they were.
     pub fn register(&mut self, handles: &Handles<A>, guid: Uuid, event: u64) -> Result<u64, Status>
         requires { length self.old < 2 ^ 62 }

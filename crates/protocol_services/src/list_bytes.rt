@@ -2,15 +2,10 @@
 ghost use Rattle.std.specs.Prelude.{◌≡◌, length, IfOk};
 ghost use Rattle.protocol_services.specs.ListBytes.{entry_of, handle_bytes, item_bytes};
 
+use boot_calls::{ENTRY_SIZE, HANDLE_SIZE};
 use byteorder::{ByteOrder, LittleEndian};
 use open_agents::OpenItem;
 use std::alloc::{AllocError, Allocator};
-
-/// The bytes of a handle in a buffer.
-const HANDLE_SIZE: usize = 8;
-
-/// The bytes of an open item in a buffer (EFI_OPEN_PROTOCOL_INFORMATION_ENTRY).
-const ENTRY_SIZE: usize = 24;
 
 /// The bytes of handles, 8 each.
 pub fn handle_bytes<A: Allocator>(alloc: A, handles: &[u64]) -> Result<Vec<u8, A>, AllocError>

@@ -221,7 +221,7 @@ impl<A: Allocator + Copy> Protocols<A> {
         }
     }
 
-    /// Frees an interface, gives it another value and connects its handle with all below it. It answers
+    /// Frees an interface, gives it another value and connects its handle with all below it. It returns
     /// the events of the GUID, then those of the connect. On an `Err` nothing changes.
     fn replace_freed<D: Driver>(
         &mut self,

@@ -6,7 +6,7 @@ ghost use Rattle.protocol_services.specs.Lists.{IsRaised};
 ghost use Rattle.protocol_services.specs.Searches.{FindsHandles, LocatesHandles, LocatesProtocol, ReturnsHandles, ReturnsProtocols, by_register_notify, next_listed, next_of_guid, once_found};
 
 use crate::protocols::Protocols;
-use boot_calls::LocateReply;
+use boot_calls::{HANDLE_SIZE, LocateReply};
 use page_ranges::Status;
 use std::alloc::{AllocError, Allocator};
 use uuid::Uuid;
@@ -19,9 +19,6 @@ const BY_REGISTER_NOTIFY: u32 = 1;
 
 /// The search for the handles that carry a GUID (ByProtocol).
 const BY_PROTOCOL: u32 = 2;
-
-/// The bytes of a handle in a buffer.
-const HANDLE_SIZE: u64 = 8;
 
 impl<A: Allocator + Copy> Protocols<A> {
     /// The handles that a search is for, ascending, where they fit into `size` bytes, 8 each. All
@@ -165,7 +162,7 @@ fn returned<A: Allocator + Copy>(alloc: A, handles: &[u64], room: u64) -> Locate
     ensures { ReturnsHandles
         (Some handles.now) room result.status result.size result.handles.items }
 {
-    let size = handles.len() as u64 * HANDLE_SIZE;
+    let size = handles.len() as u64 * HANDLE_SIZE as u64;
     if handles.is_empty() {
         return refused(alloc, Status::NotFound, 0);
     }

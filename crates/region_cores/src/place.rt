@@ -1,4 +1,4 @@
-//! The caller's place for the pointer to a core.
+//! The caller's variable for the pointer to a core.
 ghost use Rattle.std.specs.Prelude.{◌≡◌, Some};
 ghost use Rattle.region_cores.specs.Places.{Held, held_code, held_at};
 
@@ -19,7 +19,7 @@ impl Model for Place {
 }
 
 impl Place {
-    /// The place with the pointer to a core.
+    /// The variable with the pointer to a core.
     pub(crate) fn new(handle: Lasting<Rafkudin>) -> Place
         ensures { result.held ≡ Some handle.value }
     {

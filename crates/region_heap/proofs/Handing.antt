@@ -26,8 +26,8 @@ use Rattle.region_heap.specs.contracts.memory.Block as block
 abbrev pub Taken : RattleType
 Taken = option.the_row block.the_row
 
-abbrev pub Told : Place → ℕ → ℕ → Taken.Denot → Type 0
-Told p n a x = IfSome x (λ b. (b.place ≡ p) × (b.units ≡ units_for n) × (n < 2 ^ 63) × (a ≤ 16))
+abbrev pub Known : Place → ℕ → ℕ → Taken.Denot → Type 0
+Known p n a x = IfSome x (λ b. (b.place ≡ p) × (b.units ≡ units_for n) × (n < 2 ^ 63) × (a ≤ 16))
 
 divides : (w : Width) → Dv (bytes w) 16
 divides w8 = tt
@@ -57,15 +57,15 @@ module _ {M : Type 1} {𝓤 : Ura M} (𝓛 : Logic 𝓤) where
       fpack ! (IsBlock p (unit_ptr p at) at u) (λ _. fwand (froom τ b x) (block_owned p at u)) is $ fpack ! ℕ (λ j. fex (IsBlock p (unit_ptr p at) j u) (λ _. fwand (froom τ b x) (block_owned p j u))) at $ done !
 
 module _ {M : Type 1} {𝓤 : Ura M} {𝓛 : Logic 𝓤} {K : Type 0} {Γ : List (Item 𝓤)} {G : Goal 𝓤 𝓛.H} where
-  pub taken : K → (p : Place) (n a : ℕ) (x : Taken.Denot) (v : Val) → Told p n a x
+  pub taken : K → (p : Place) (n a : ℕ) (x : Taken.Denot) (v : Val) → Known p n a x
       → ((at : ℕ) → IsBlock p (unit_ptr p at) at (units_for n) → n < 2 ^ 63 → v ≡ live 1 (vcons (list_val (unit_ptr p at)) vnil) → Seq K 𝓛 (‵ (block_owned p at (units_for n)) ∷ Γ) G)
       → (v ≡ live 0 vnil → Seq K 𝓛 Γ G) → Seq K 𝓛 (‵ (Taken.own_val x (v ∷ [])) ∷ Γ) G
-  taken t p n a None v told some none =
+  taken t p n a None v known some none =
       fpick t (λ us. fsplit t $ feq_l t (λ is. fpick t (λ vss. fsplit t $ feq_l t (λ is'. drop t $ none (ap only is ∙ ap (λ (ws : List Val). live 0 (of_list ws)) is')))))
-  taken t p n a (Some w) v told some none =
+  taken t p n a (Some w) v known some none =
       fpick t (λ us. fsplit t $ feq_l t (λ is. fpick t (λ vss. fsplit t $ feq_l t (λ is'. fsplit t $ move t (1 ∷ []) $ drop t $ fsplit t $ pure_l t (list_own w.ptr vss.0) (λ s.
-      let placed : IsBlock p w.ptr w.at (units_for n) = subst (λ (u : Place × ℕ). IsBlock u.0 w.ptr w.at u.1) (λ i. (told.0 i, told.1 i)) w.placed in
+      let placed : IsBlock p w.ptr w.at (units_for n) = subst (λ (u : Place × ℕ). IsBlock u.0 w.ptr w.at u.1) (λ i. (known.0 i, known.1 i)) w.placed in
       let lies : w.ptr ≡ unit_ptr p w.at = placed.0 in
-      rewrite t 0 (λ (u : Place × ℕ). ‵ (block_owned u.0 w.at u.1)) (λ i. (told.0 i, told.1 i)) refl $
-      some w.at (refl, placed.1, placed.2) told.2
+      rewrite t 0 (λ (u : Place × ℕ). ‵ (block_owned u.0 w.at u.1)) (λ i. (known.0 i, known.1 i)) refl $
+      some w.at (refl, placed.1, placed.2) known.2
       (ap only is ∙ ap (λ (xs : List Val). live 1 (of_list xs)) (is' ∙ ap (λ (xs : List Val). xs ++ []) (list_told w.ptr vss.0 s).0) ∙ (λ i. live 1 (vcons (list_val (lies i)) vnil))))))))

@@ -32,7 +32,7 @@ impl Slot {
         Slot { cells: Some(cells) }
     }
 
-    /// Puts cells in, or none, and answers what was there.
+    /// Puts cells in, or none, and returns what was there.
     pub(crate) fn replace(&self, cells: Option<Cells>) -> Option<Cells>
         requires { IfSome cells (λ c. cells_place c ≡ self.now) }
         ensures { IfSome result (λ c. cells_place c ≡ self.now) }

@@ -22,7 +22,7 @@ const BYTES_FOR_PAGE: u64 = 8192;
 const MOST: u64 = 0xffff_ffff;
 
 /// Makes a core of EFI_MEMORY_DESCRIPTORs, a granule of 1 or 16 pages and up to 64 drivers, and puts its
-/// pointer into the place `core`, which a refusal leaves as it is. All that the core allocates, now and in its
+/// pointer into the variable `core`, which a refusal leaves as it is. All that the core allocates, now and in its
 /// calls, lies in the region.
 ///
 /// INVALID_PARAMETER: the records state no machine, or the tables are none of drivers. OUT_OF_RESOURCES:

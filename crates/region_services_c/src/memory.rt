@@ -1,7 +1,7 @@
 //! The memory services, and the exit (UEFI Specification 2.10, sections 7.2 and 7.4).
 //!
 //! Of each service: ABORTED, after 2^31 calls, UNSUPPORTED, once the boot services have exited, and
-//! OUT_OF_RESOURCES, where memory runs out, are not named again. A refusal leaves the places of the caller's.
+//! OUT_OF_RESOURCES, where memory runs out, are not named again. A refusal leaves the caller's variables.
 ghost use Rattle.std.specs.Prelude.{◌≡◌};
 ghost use Rattle.boot_calls.specs.declared.calls.Call.TheVariants as call;
 ghost use Rattle.c_interface.specs.Served.{AnswersStatus, AnswersRead};
@@ -9,7 +9,7 @@ ghost use Rattle.c_interface.specs.Services.{AllocatesPages, AllocatesPool, Maps
 
 use region_cores::Rafkudin;
 
-/// AllocatePages, 7.2.1. The place `memory` is given the address of the pages; before, it has the last byte
+/// AllocatePages, 7.2.1. The variable `memory` is given the address of the pages; before, it has the last byte
 /// that may belong to them, or their address.
 ///
 /// INVALID_PARAMETER: another kind, a memory type that may not be asked for, or no pages. NOT_FOUND: the
@@ -39,10 +39,10 @@ pub extern "C" fn RafkudinFreePages(core: &mut Rafkudin, memory: u64, pages: u64
     core.held().free_pages(memory, pages)
 }
 
-/// GetMemoryMap, 7.2.3, with a buffer and its room. The places are given the bytes that the map takes, its
+/// GetMemoryMap, 7.2.3, with a buffer and its room. The variables are given the bytes that the map takes, its
 /// key, and the size and the version of its descriptors.
 ///
-/// BUFFER_TOO_SMALL: the places are given theirs too, but for the key.
+/// BUFFER_TOO_SMALL: the variables are given theirs too, but for the key.
 #[unsafe(no_mangle)]
 pub extern "C" fn RafkudinGetMemoryMapInto(
     core: &mut Rafkudin,
@@ -58,7 +58,7 @@ pub extern "C" fn RafkudinGetMemoryMapInto(
     core.held().get_memory_map(map, size, key, stride, version)
 }
 
-/// AllocatePool, 7.2.4. The place `buffer` is given the block's address.
+/// AllocatePool, 7.2.4. The variable `buffer` is given the block's address.
 ///
 /// INVALID_PARAMETER: a memory type that may not be asked for. OUT_OF_RESOURCES: the size is above
 /// 4 GiB, or there is no place.

@@ -30,10 +30,10 @@ pub extern "C" fn RafkudinCertify(core: &mut Rafkudin, certify: bool)
     core.held().certify(certify);
 }
 
-/// The block of the certificate of the last service that was called, in the front of `text`; the place
+/// The block of the certificate of the last service that was called, in the front of `text`; the variable
 /// `length` is given its bytes.
 ///
-/// NOT_FOUND: there is none. BUFFER_TOO_SMALL: the place is given the bytes that are needed.
+/// NOT_FOUND: there is none. BUFFER_TOO_SMALL: the variable is given the bytes that are needed.
 /// OUT_OF_RESOURCES: memory ran out for it.
 #[unsafe(no_mangle)]
 pub extern "C" fn RafkudinCertificate(core: &mut Rafkudin, text: &mut [u8], length: &mut u64) -> u64

@@ -8,7 +8,7 @@ use region_cores::Rafkudin;
 
 /// Begins the turns on a controller of the drivers on a list, which is put in the order in which they are tried:
 /// those of the handles named, and then all others by version. Drivers that are on no live driver handle drop out.
-/// The place `turns` is given the turns.
+/// The variable `turns` is given the turns.
 ///
 /// INVALID_PARAMETER: the controller is not live, or more than 16 handles are named. OUT_OF_RESOURCES: memory ran
 /// out. Either leaves the list.
@@ -27,7 +27,7 @@ pub extern "C" fn RafkudinConnectBegin(
     core.held().connect_begin(controller, named, drivers, turns)
 }
 
-/// The driver whose turn it is, in the place `driver`.
+/// The driver whose turn it is, in the variable `driver`.
 ///
 /// NOT_FOUND: no driver is left to be tried.
 #[unsafe(no_mangle)]

@@ -9,4 +9,4 @@ mod protocols;
 
 pub use faults::TraceFault;
 pub use laws::{call_numbers_law, named_types_law};
-pub use lines::{TraceCall, read_call};
+pub use lines::{MAX_BUFFER_SIZE, MAX_READ_SIZE, TraceCall, read_call};

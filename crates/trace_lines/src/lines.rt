@@ -12,10 +12,10 @@ use text_lines::{MAX_LINE_LENGTH, without_carriage_return, words_of};
 use trace_verbs::{Verb, verb_named};
 
 /// The most bytes of a buffer for the memory map.
-const MAX_BUFFER_SIZE: u64 = 16_777_216;
+pub const MAX_BUFFER_SIZE: u64 = 16_777_216;
 
 /// The most bytes of the pool that one line reads.
-const MAX_READ_SIZE: u64 = 65_536;
+pub const MAX_READ_SIZE: u64 = 65_536;
 
 /// What a trace line asks for.
 #[derive(Drop)]

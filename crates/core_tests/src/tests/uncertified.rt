@@ -1,4 +1,4 @@
-//! A core that returns no certificates, beside one that answers them, on the maps of real firmware.
+//! A core that returns no certificates, beside one that returns them, on the maps of real firmware.
 use super::call_lists::reply_of;
 use super::firmware::core_of_stretches;
 use super::firmware_maps::maps;

@@ -34,5 +34,5 @@ LINES = [
 
 
 def cases():
-    for words, told in LINES:
-        yield words or "no word", {"args": words.replace(" ", "\n"), "stderr": told, "status": "2"}
+    for words, fault in LINES:
+        yield words or "no word", {"args": words.replace(" ", "\n"), "stderr": fault, "status": "2"}

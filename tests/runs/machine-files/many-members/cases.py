@@ -13,9 +13,9 @@ def cases():
     listed = "".join(f"  7 0x{number:x}2000 1 0xf\n" for number in range(1, MOST + 1))
     out = f"1 list descriptors={MOST}\n{listed}"
     yield "the most", {"machine.json": machine_of(MOST), "trace.txt": "list\n", "stdout": out}
-    for name, machine, told in (
+    for name, machine, fault in (
         ("one more", machine_of(MOST + 1), "too many descriptors"),
         ("a fault in the last", machine_of(MOST, ""), "descriptor 65535: attributes"),
     ):
-        stderr = f"bootcore: machine: {told}\n"
+        stderr = f"bootcore: machine: {fault}\n"
         yield name, {"machine.json": machine, "trace.txt": "list\n", "stderr": stderr, "status": "1"}

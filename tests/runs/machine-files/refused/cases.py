@@ -39,6 +39,6 @@ def whole(machine):
 
 
 def cases():
-    for machine, told in MACHINES:
+    for machine, fault in MACHINES:
         files = {"machine.json": whole(machine), "trace.txt": "list\n"}
-        yield repr(machine), {**files, "stderr": f"bootcore: machine: {told}\n", "status": "1"}
+        yield repr(machine), {**files, "stderr": f"bootcore: machine: {fault}\n", "status": "1"}

@@ -32,7 +32,7 @@ use Rattle.region_heap.specs.Ownership.{block_token}
 use Rattle.region_heap.specs.contracts.heap.RegionHeap.take as callee
 use Rattle.region_heap.specs.contracts.heap.RegionHeap.take.Key as take_key
 use Rattle.region_heap.proofs.heap.RegionHeap.take.Met.{met as takes}
-use Rattle.region_heap.proofs.Handing.{Taken, Told, taken, hands_out}
+use Rattle.region_heap.proofs.Handing.{Taken, Known, taken, hands_out}
 use Rattle.region_heap.specs.contracts.heap.RegionHeapAllocator.allocate.{ended, clauses}
 use Rattle.region_heap.specs.contracts.heap.RegionHeapAllocator.allocate.Key.{name as #self}
 use Rattle.region_heap.proofs.heap.RegionHeapAllocator.allocate.Statement.{statement}
@@ -57,9 +57,9 @@ allocate_spec 𝓤 𝓛 𝓜 𝓡 wired =
     enter ! C Λ fn vs Post $
     alloc_all ! (λ l. pass_all ! refl ((tt, tt), ((tt, record { fits = are.1.0.1 }), ((tt, record { fits = are.1.1.0.1 }), tt))) $ let En : Env 𝓤 𝓛.H = env fn.locals l in
     calls_from ! (fm 𝓛 𝓜 𝓡) (raw (k.pre y)) vs (k.post y) (subst (λ (us : List Val). ent 𝓤 (k.pre y) (C take_key.name us (k.post y))) values (takes 𝓤 𝓛 𝓜 𝓡 (compiled.calls-region_heap::heap::RegionHeap::take 𝓡.env wired) y)) (and_then ! (get ! refl) (and_then ! (get ! refl) (and_then ! (get ! refl) (no_more !)))) (λ v.
-    use1 𝓛 (later (some (λ (x : Taken.Denot). (raw (alive 𝓛 T.signature z.0.0 z.0.1) ⊛ ‵ (Taken.own_val x (v ∷ []))) ⊛ some (λ (ls : Lasts callee.ended z.0.0 a). ‵ (lasts callee.ended z.0.0 a ls) ⊛ raw (fact 𝓤 (Told p n al x)))))) (id⊢ 𝓤 (k.post y v)) $
-    await ! tt $ pick ! (λ x. split ! $ move ! (1 ∷ []) $ pick ! (λ _. split ! $ drop ! $ heard ! (Told p n al x) (λ told. split ! $ move ! (1 ∷ []) $
-    taken ! p n al x v told
+    use1 𝓛 (later (some (λ (x : Taken.Denot). (raw (alive 𝓛 T.signature z.0.0 z.0.1) ⊛ ‵ (Taken.own_val x (v ∷ []))) ⊛ some (λ (ls : Lasts callee.ended z.0.0 a). ‵ (lasts callee.ended z.0.0 a ls) ⊛ raw (fact 𝓤 (Known p n al x)))))) (id⊢ 𝓤 (k.post y v)) $
+    await ! tt $ pick ! (λ x. split ! $ move ! (1 ∷ []) $ pick ! (λ _. split ! $ drop ! $ heard ! (Known p n al x) (λ known. split ! $ move ! (1 ∷ []) $
+    taken ! p n al x v known
     (λ at placed small e. let ptr : Ptr = unit_ptr p at in let o : ℕ = p.start + 16 * at in
     use1 𝓛 (‵ (froom τ p.object o) ⊛ ‵ (block_token p τ ptr)) (hands_out 𝓛 p τ at n al asked.0 asked.1 placed small) $ lands_as ! e refl (tt, (record { fits = lit< tt }, ((tt, tt), tt))) $
     first ! $ switches_on ! (get_tag ! (vrt ! refl (fld ! refl (stop !))) (whole !)) $ exec ! C Λ En (arm_body 0 (head (after 1 fn.body))) (then_runs 𝓛 C Λ En (after 2 fn.body) (at_ret En Post)) $

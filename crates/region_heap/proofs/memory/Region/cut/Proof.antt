@@ -41,14 +41,14 @@ cut_spec 𝓤 𝓛 𝓜 𝓡 wired =
     let Post : Val → SProp 𝓤 = (walk_of 𝓛 T stays c).post z in
     let a = z.0.3 in let vss = z.0.4 in
     let x = a.0 in let m : ℕ = a.1.0 in let k : ℕ = a.1.1.0 in let n : ℕ = x.units in
-    let told = sized_told x.start n vss.0 are.0.0 in let fits = told.1 in
+    let known = sized_told x.start n vss.0 are.0.0 in let fits = known.1 in
     let Asked : Type 0 = m + k ≡ n in
     qed 𝓛 ((raw (alive 𝓛 T.signature z.0.0 z.0.1) ⊛ ‵ (owns (types_at T.signature.params z.0.0) a vss)) ∷ raw (fact 𝓤 Asked) ∷ []) ∵ move ! (1 ∷ []) $ heard ! Asked (λ asked. split ! $ move ! (1 ∷ []) $
     fsplit ! $ fsplit ! $ drop ! $ move ! (1 ∷ []) $ drop ! $ in_a_block ! x.start (λ p. bytes_at p (16 * n)) (id⊢ 𝓤 (never 𝓤)) (λ b o at.
     let few : 16 * n < 2 ^ 63 = x.few in let start : Ptr = block_ptr b o in let end : ℕ = o + 16 * m in let behind : Ptr = block_ptr b end in
     use1 𝓛 (‵ (froom (units_of (16 * m + 16 * k)) b o)) (resized 𝓛 b o (16 * n) (16 * m + 16 * k) (omega (arith, asked))) $
     use1 𝓛 (‵ (froom (units_of (16 * m)) b o) ⊛ ‵ (froom (units_of (16 * k)) b end)) (cuts 𝓛 b o (16 * m) (16 * k) (omega arith)) $ split ! $
-    regoal ! (λ (us : List Val). prop (WpFn 𝓤 H C Λ fn us Post)) (λ i. (told.0 ∙ ap (λ (q : Ptr). sized_val q n ∷ []) at) i ++ (are.1.0.0 i ++ (are.1.1.0.0 i ++ []))) refl $
+    regoal ! (λ (us : List Val). prop (WpFn 𝓤 H C Λ fn us Post)) (λ i. (known.0 ∙ ap (λ (q : Ptr). sized_val q n ∷ []) at) i ++ (are.1.0.0 i ++ (are.1.1.0.0 i ++ []))) refl $
     enter ! C Λ fn (sized_val start n ∷ vint w64 m ∷ vint w64 k ∷ []) Post $
     alloc_all ! (λ l. pass_all ! refl ((tt, (tt, (record { fits = fits }, tt))), ((tt, record { fits = are.1.0.1 }), ((tt, record { fits = are.1.1.0.1 }), tt))) $ let En : Env 𝓤 𝓛.H = env fn.locals l in
     sets ! (of_opd ! (get_in ! (fld ! refl (stop !)) (sub ! 0 refl (whole !)))) refl (tt, tt) $

@@ -39,10 +39,10 @@ with_units_spec 𝓤 𝓛 𝓜 𝓡 wired =
     let Post : Val → SProp 𝓤 = (walk_of 𝓛 T stays c).post z in
     let a = z.0.3 in let vss = z.0.4 in
     let x = a.0 in let n : ℕ = x.units in
-    let told = sized_told x.start n vss.0 are.0.0 in let fits = told.1 in
+    let known = sized_told x.start n vss.0 are.0.0 in let fits = known.1 in
     qed 𝓛 ((raw (alive 𝓛 T.signature z.0.0 z.0.1) ⊛ ‵ (owns (types_at T.signature.params z.0.0) a vss)) ∷ ‵ ftrue ∷ []) ∵ move ! (1 ∷ []) $ drop ! $ split ! $ move ! (1 ∷ []) $
     fsplit ! $ fsplit ! $ drop ! $ move ! (1 ∷ []) $ drop ! $
-    regoal ! (λ (us : List Val). prop (WpFn 𝓤 H C Λ fn us Post)) (λ i. told.0 i ++ []) refl $
+    regoal ! (λ (us : List Val). prop (WpFn 𝓤 H C Λ fn us Post)) (λ i. known.0 i ++ []) refl $
     enter ! C Λ fn (sized_val x.start n ∷ []) Post $
     alloc_all ! (λ l. pass_all ! refl ((and_tt _ ((ptr_typed x.start).0), ((ptr_typed x.start).1, (record { fits = fits }, tt))), tt) $ let En : Env 𝓤 𝓛.H = env fn.locals l in
     sets ! (of_opd ! (get_in ! (fld ! refl (stop !)) (sub ! 0 refl (whole !)))) refl (ptr_typed x.start) $

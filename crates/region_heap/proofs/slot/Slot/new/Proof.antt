@@ -43,11 +43,11 @@ new_spec 𝓤 𝓛 𝓜 𝓡 wired =
     proved_at 𝓛 T stays c 𝓜 𝓡 (Goes-blank 𝓛 0 (slot_at 0 T.signature.params) T.kept.0 (λ κs x f. tt), tt) #self fn (compiled.unfolded 𝓤 H 𝓜 𝓡 wired) (λ z are.
     let Post : Val → SProp 𝓤 = (walk_of 𝓛 T stays c).post z in
     let a = z.0.3 in let vss = z.0.4 in let x = a.0 in let p : Place = x.free.place in
-    let told = one (layout cells.the_row) vss.0 (((cells_laws.the_row_laws).lawful 𝓛).typed x vss.0 are.0) in
-    let w : Val = told.0 in let good = told.2 in let v : Val = live 1 (vcons w vnil) in
+    let known = one (layout cells.the_row) vss.0 (((cells_laws.the_row_laws).lawful 𝓛).typed x vss.0 are.0) in
+    let w : Val = known.0 in let good = known.2 in let v : Val = live 1 (vcons w vnil) in
     qed 𝓛 ((raw (alive 𝓛 T.signature z.0.0 z.0.1) ⊛ ‵ (owns (types_at T.signature.params z.0.0) a vss)) ∷ ‵ ftrue ∷ []) ∵ move ! (1 ∷ []) $ drop ! $ split ! $ move ! (1 ∷ []) $
-    fsplit ! $ move ! (1 ∷ []) $ drop ! $ rewrite ! 0 (λ (us : List Val). ‵ ((cells.the_row).own_val x us)) told.1 refl $
-    regoal ! (λ (us : List Val). prop (WpFn 𝓤 H C Λ fn us Post)) (λ i. told.1 i ++ []) refl $
+    fsplit ! $ move ! (1 ∷ []) $ drop ! $ rewrite ! 0 (λ (us : List Val). ‵ ((cells.the_row).own_val x us)) known.1 refl $
+    regoal ! (λ (us : List Val). prop (WpFn 𝓤 H C Λ fn us Post)) (λ i. known.1 i ++ []) refl $
     enter ! C Λ fn (w ∷ []) Post $
     alloc_all ! (λ l. pass_all ! refl (good, tt) $ let En : Env 𝓤 𝓛.H = env fn.locals l in
     sets ! (of_opd ! (get ! refl)) refl good $

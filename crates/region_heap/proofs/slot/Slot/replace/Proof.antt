@@ -40,11 +40,11 @@ replace_spec 𝓤 𝓛 𝓜 𝓡 wired =
     let Post : Val → SProp 𝓤 = (walk_of 𝓛 T stays c).post z in
     let a = z.0.3 in let vss = z.0.4 in let κ : Lft = z.0.0.0 in let q : Share = z.0.1.0 in
     let b = a.0.ref_ptr.0 in let o = a.0.ref_ptr.1 in let p : Place = a.0.now in let new = a.1.0 in
-    let told = one (layout Held) vss.1.0 ((held_Lawful 𝓛).typed new vss.1.0 are.1.0) in
-    let w : Val = told.0 in let good = told.2 in
+    let known = one (layout Held) vss.1.0 ((held_Lawful 𝓛).typed new vss.1.0 are.1.0) in
+    let w : Val = known.0 in let good = known.2 in
     qed 𝓛 (((‵ (flft κ q) ⊛ ‵ ftrue) ⊛ ‵ (owns (types_at T.signature.params z.0.0) a vss)) ∷ (‵ (ftok every) ⊛ raw (fact 𝓤 (At p new))) ∷ []) ∵
-    move ! (1 ∷ []) $ split ! $ move ! (1 ∷ []) $ heard ! (At p new) (λ asked. move ! (1 ∷ []) $ split ! $ split ! $ move ! (2 ∷ []) $ fsplit3 ! $ fsplit ! $ rewrite ! 2 (λ (us : List Val). ‵ (Held.own_val new us)) told.1 refl $ keep ! (1 ∷ 4 ∷ 6 ∷ 2 ∷ []) $
-    regoal ! (λ (us : List Val). prop (WpFn 𝓤 H C Λ fn us Post)) (λ i. are.0.0 i ++ (told.1 i ++ [])) refl $
+    move ! (1 ∷ []) $ split ! $ move ! (1 ∷ []) $ heard ! (At p new) (λ asked. move ! (1 ∷ []) $ split ! $ split ! $ move ! (2 ∷ []) $ fsplit3 ! $ fsplit ! $ rewrite ! 2 (λ (us : List Val). ‵ (Held.own_val new us)) known.1 refl $ keep ! (1 ∷ 4 ∷ 6 ∷ 2 ∷ []) $
+    regoal ! (λ (us : List Val). prop (WpFn 𝓤 H C Λ fn us Post)) (λ i. are.0.0 i ++ (known.1 i ++ [])) refl $
     enter ! C Λ fn (vptr b o ∷ w ∷ []) Post $
     alloc_all ! (λ l. pass_all ! refl ((tt, tt), (good, tt)) $ let En : Env 𝓤 𝓛.H = env fn.locals l in
     opens p b o ! tt (λ x v lies typed.
