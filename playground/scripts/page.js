@@ -214,7 +214,8 @@ class Page {
     $("machine-file").open = true;
     $("run-said").textContent = "the machine file is refused";
     $("trace-said").textContent = "";
-    this.replies.take([], fault);
+    this.replies.take([], { text: fault.message });
+    this.editor.mark(0, false);
     this.maps.clear();
     this.where.clear();
   }
