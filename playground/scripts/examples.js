@@ -3,7 +3,7 @@
 export const MACHINES = [
   ["Small examples", [
     ["a", "machine A: 8 MiB in four entries", "machine-a.json"],
-    ["drivers", "real firmware, with three drivers", "driver-boot/machine.json"],
+    ["drivers", "real firmware with drivers", "driver-boot/machine.json"],
     ["boot", "OVMF as it starts, 256 MB", "firmware-boot/machine.json"],
     ["granule", "a granule of 16 pages, as on AArch64", "granule/machine.json"],
     ["specific", "memory of specific purpose", "specific-purpose/machine.json"],

@@ -22,9 +22,12 @@ export async function fragmentOf(value) {
   return PREFIX + lettersOf(await through(bytes, new CompressionStream("deflate-raw")));
 }
 
+/** Whether a fragment is one of these, and not a place on the page. */
+export const isLink = (fragment) => fragment.startsWith(PREFIX);
+
 /** The value that a fragment says; null where it says none. */
 export async function valueOf(fragment) {
-  if (!fragment.startsWith(PREFIX)) return null;
+  if (!isLink(fragment)) return null;
   try {
     const bytes = await through(bytesOf(fragment.slice(PREFIX.length)), new DecompressionStream("deflate-raw"));
     const value = JSON.parse(new TextDecoder().decode(bytes));

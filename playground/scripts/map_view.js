@@ -13,11 +13,13 @@ export class MapView {
     this.$ = $;
     this.count = 0;
     this.run = null;
+    this.earlier = null;
     const described = (words) => { $("entry-said").textContent = words; };
     this.before = new Picture($("before"), $("tip"), described);
     this.after = new Picture($("after"), $("tip"), described);
     this.curve = new Curve($("curve"), moved);
     $("slider").addEventListener("input", () => this.later(moved));
+    $("before-what").addEventListener("change", () => this.run && this.go(this.count));
     $("back").addEventListener("click", () => moved(Math.max(0, this.count - 1)));
     $("forth").addEventListener("click", () => moved(Math.min(Number($("slider").max), this.count + 1)));
     window.addEventListener("theme", () => {
@@ -47,7 +49,6 @@ export class MapView {
     this.run = run;
     $("map-panel").hidden = false;
     $("slider").max = replies.length;
-    this.first = history.after(0);
     this.weight = 0;
     const each = Math.max(1, Math.floor(history.changes.length / SAMPLES));
     for (let index = history.changes.length - 1; index >= 0; index -= each) {
@@ -55,9 +56,8 @@ export class MapView {
     }
     this.before.reset();
     this.after.reset();
-    this.before.show(this.first, this.weight);
-    $("before-said").textContent = `before: ${entriesIn(this.first.length)}`;
-    $("map-said").textContent = `${entriesIn(this.first.length)} at first, ${history.most.toLocaleString("en")} at most, `
+    this.earlier = null;
+    $("map-said").textContent = `${entriesIn(history.counts[0])} at first, ${history.most.toLocaleString("en")} at most, `
       + `${history.counts[history.counts.length - 1].toLocaleString("en")} in the end`;
   }
 
@@ -66,26 +66,32 @@ export class MapView {
     const { $ } = this;
     const { history, replies } = this.run;
     const entries = history.after(count);
+    const from = $("before-what").value === "reply" ? Math.max(0, count - 1) : 0;
+    const earlier = history.after(from);
     this.count = count;
     $("slider").value = count;
     $("slider").setAttribute("aria-valuetext", `after reply ${count} of ${replies.length}`);
     $("at-said").textContent = count === 0 ? "before the first call" : replies[count - 1].head;
     $("after-said").textContent = count === 0 ? `now: ${entriesIn(entries.length)}`
       : `after line ${replies[count - 1].number}: ${entriesIn(history.counts[count])}`;
+    $("before-said").textContent = entriesIn(history.counts[from]);
+    if (earlier !== this.earlier) this.before.show(earlier, this.weight);
+    this.earlier = earlier;
     this.after.show(entries, this.weight);
     this.curve.show(history.counts, count);
-    this.tellTypes(entries);
+    this.tellTypes(earlier, entries);
     return entries;
   }
 
-  tellTypes(entries) {
+  // How many entries each type has, before and after.
+  tellTypes(earlier, entries) {
     const numbers = new Map();
     const add = (list, place) => list.forEach(({ type }) => {
       const name = nameOf(type);
       if (!numbers.has(name)) numbers.set(name, { type, counts: [0, 0] });
       numbers.get(name).counts[place] += 1;
     });
-    add(this.first, 0);
+    add(earlier, 0);
     add(entries, 1);
     const items = [...numbers].sort((one, other) => one[1].type - other[1].type).map(([name, { type, counts }]) => {
       const item = document.createElement("li");

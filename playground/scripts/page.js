@@ -2,7 +2,7 @@
 import { Room, Module, runsHere } from "./core.js";
 import { Editor } from "./editor.js";
 import { MACHINES, TRACES } from "./examples.js";
-import { fragmentOf, valueOf } from "./link.js";
+import { fragmentOf, isLink, valueOf } from "./link.js";
 import { Fault, readMachine } from "./machine.js";
 import { Replies } from "./replies.js";
 import { Run, wholeCheck, wholeRun } from "./run.js";
@@ -99,7 +99,9 @@ class Page {
     document.addEventListener("keydown", (event) => {
       if (event.key === "Enter" && (event.ctrlKey || event.metaKey)) this.start();
     });
-    window.addEventListener("hashchange", () => this.open());
+    window.addEventListener("hashchange", () => {
+      if (isLink(location.hash)) this.open();
+    });
   }
 
   // ---- What is run
@@ -212,7 +214,8 @@ class Page {
     $("machine-file").open = true;
     $("run-said").textContent = "the machine file is refused";
     $("trace-said").textContent = "";
-    this.replies.take([], fault);
+    this.replies.take([], { text: fault.message });
+    this.editor.mark(0, false);
     this.maps.clear();
     this.where.clear();
   }
