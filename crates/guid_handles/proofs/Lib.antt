@@ -7,6 +7,7 @@ pub mod Grouped
 pub mod Beside
 pub mod Numbered
 pub mod FiledRows
+pub mod SlidRows
 pub mod Slotted
 pub mod Filed
 pub mod InTurn

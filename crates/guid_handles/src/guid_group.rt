@@ -5,8 +5,8 @@ ghost use Rattle.guid_handles.specs.Sorting.{Ascending};
 ghost use Rattle.guid_handles.specs.Indexes.{AreInTurn, SetsKeyIn, is_bare, key_in, with_turn, without_turn};
 ghost use Rattle.guid_handles.specs.TurnSteps.{moved_turn, turn_after};
 
-use crate::room::insert_with_room;
 use crate::searches::{count_less, is_number_at, nth_key};
+use crate::sliding_row::SlidingRow;
 use crate::turns::Turns;
 use std::alloc::{AllocError, Allocator};
 use std::marker::Model;
@@ -17,8 +17,8 @@ use uuid::Uuid;
 #[derive(Drop)]
 pub(crate) struct GuidGroup<A: Allocator> {
     guid: Uuid,
-    holders: Vec<u64, A>,
-    keys: Vec<usize, A>,
+    holders: SlidingRow<u64, A>,
+    keys: SlidingRow<usize, A>,
     turns: Turns<A>,
 }
 
@@ -44,8 +44,8 @@ impl<A: Allocator + Copy> GuidGroup<A> {
     {
         GuidGroup {
             guid,
-            holders: Vec::new(alloc),
-            keys: Vec::new(alloc),
+            holders: SlidingRow::new(alloc),
+            keys: SlidingRow::new(alloc),
             turns: Turns::new(alloc),
         }
     }
@@ -54,9 +54,8 @@ impl<A: Allocator + Copy> GuidGroup<A> {
     pub(crate) fn try_copy(&self) -> Result<GuidGroup<A>, AllocError>
         ensures { IfOk result (λ copy. copy ≡ self.now) }
     {
-        let alloc = *self.holders.allocator();
-        let holders = Vec::from_slice(alloc, self.holders.as_slice())?;
-        let keys = Vec::from_slice(alloc, self.keys.as_slice())?;
+        let holders = self.holders.try_copy()?;
+        let keys = self.keys.try_copy()?;
         let turns = self.turns.try_copy()?;
         Ok(GuidGroup {
             guid: self.guid,
@@ -95,7 +94,7 @@ impl<A: Allocator + Copy> GuidGroup<A> {
     pub(crate) fn is_bare(&self) -> bool
         ensures { result ≡ is_bare self.now }
     {
-        self.holders.is_empty() && self.turns.is_empty()
+        self.holders.as_slice().is_empty() && self.turns.is_empty()
     }
 
     /// The key beside a handle.
@@ -122,11 +121,11 @@ impl<A: Allocator + Copy> GuidGroup<A> {
         ensures err { OnErr result (self.new ≡ self.old) }
     {
         let at = count_less(self.holders.as_slice(), handle);
-        self.keys.reserve(1)?;
-        self.holders.reserve(1)?;
+        self.keys.reserve()?;
+        self.holders.reserve()?;
         self.turns.push(handle, stamp)?;
-        insert_with_room(&mut self.holders, at, handle);
-        insert_with_room(&mut self.keys, at, key);
+        self.holders.insert(at, handle);
+        self.keys.insert(at, key);
         Ok(())
     }
 

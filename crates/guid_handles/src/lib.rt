@@ -14,6 +14,7 @@ mod records;
 mod room;
 mod rows;
 mod searches;
+mod sliding_row;
 mod turns;
 
 pub use blocks::Blocks;

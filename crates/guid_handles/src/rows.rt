@@ -12,6 +12,7 @@ use crate::handle_row::HandleRow;
 use crate::records::LiveHandle;
 use crate::room::{make_room, push_with_room};
 use crate::searches::remove_number;
+use crate::sliding_row::SlidingRow;
 use std::alloc::{AllocError, Allocator};
 use std::marker::Model;
 
@@ -23,7 +24,7 @@ const MOST_GONE: usize = 32;
 #[derive(Drop)]
 pub(crate) struct Rows<A: Allocator> {
     rows: Vec<HandleRow<A>, A>,
-    numbers: Vec<u64, A>,
+    numbers: SlidingRow<u64, A>,
     // Those that drivers made, by the controllers of these.
     made: Blocks<A>,
 }
@@ -192,7 +193,7 @@ impl<A: Allocator + Copy> Rows<A> {
     {
         Rows {
             rows: Vec::new(alloc),
-            numbers: Vec::new(alloc),
+            numbers: SlidingRow::new(alloc),
             made: Blocks::new(alloc),
         }
     }
@@ -202,7 +203,7 @@ impl<A: Allocator + Copy> Rows<A> {
         ensures { IfOk result (λ copy. copy ≡ self.now) }
     {
         let alloc = *self.numbers.allocator();
-        let numbers = Vec::from_slice(alloc, self.numbers.as_slice())?;
+        let numbers = self.numbers.try_copy()?;
         let rows = copy_rows(alloc, self.rows.as_slice())?;
         let made = self.made.try_copy()?;
         Ok(Rows {
@@ -256,9 +257,9 @@ impl<A: Allocator + Copy> Rows<A> {
         let row = HandleRow::new(*self.numbers.allocator(), live)?;
         clear_above(&mut self.rows, live.number);
         make_room(&mut self.rows)?;
-        self.numbers.reserve(1)?;
+        self.numbers.reserve()?;
         note_made(&mut self.made, live)?;
-        push_with_room(&mut self.numbers, live.number);
+        self.numbers.push(live.number);
         push_with_room(&mut self.rows, row);
         Ok(())
     }
@@ -272,7 +273,7 @@ impl<A: Allocator + Copy> Rows<A> {
             self.rows[at].mark_gone();
             remove_number(&mut self.numbers, number);
             forget_made(&mut self.made, live);
-            tidy(&mut self.rows, self.numbers.len());
+            tidy(&mut self.rows, self.numbers.as_slice().len());
         }
     }
 

@@ -6,14 +6,14 @@ ghost use Rattle.guid_handles.specs.Indexes.{AreInTurn, with_turn, without_turn}
 ghost use Rattle.guid_handles.specs.TurnSteps.{moved_turn, turn_after};
 
 use crate::records::Turn;
-use crate::room::push_with_room;
+use crate::sliding_row::SlidingRow;
 use std::alloc::{AllocError, Allocator};
 use std::marker::Model;
 
 /// The interfaces of one GUID by ascending stamps.
 #[derive(Drop)]
 pub(crate) struct Turns<A: Allocator> {
-    turns: Vec<Turn, A>,
+    turns: SlidingRow<Turn, A>,
 }
 
 impl<A: Allocator> Model for Turns<A> {
@@ -79,7 +79,7 @@ impl<A: Allocator + Copy> Turns<A> {
         ensures { result ≡ [] }
     {
         Turns {
-            turns: Vec::new(alloc),
+            turns: SlidingRow::new(alloc),
         }
     }
 
@@ -87,7 +87,7 @@ impl<A: Allocator + Copy> Turns<A> {
     pub(crate) fn try_copy(&self) -> Result<Turns<A>, AllocError>
         ensures { IfOk result (λ copy. copy ≡ self.now) }
     {
-        let turns = Vec::from_slice(*self.turns.allocator(), self.turns.as_slice())?;
+        let turns = self.turns.try_copy()?;
         Ok(Turns { turns })
     }
 
@@ -95,7 +95,7 @@ impl<A: Allocator + Copy> Turns<A> {
     pub(crate) fn is_empty(&self) -> bool
         ensures { result ≡ (length self.now == 0) }
     {
-        self.turns.is_empty()
+        self.turns.as_slice().is_empty()
     }
 
     /// The handle and the stamp of the first turn above a mark.
@@ -115,7 +115,9 @@ impl<A: Allocator + Copy> Turns<A> {
         ensures ok { OnOk result (self.new ≡ with_turn handle stamp self.old) }
         ensures err { OnErr result (self.new ≡ self.old) }
     {
-        self.turns.push(Turn { stamp, handle })?;
+        self.turns.reserve()?;
+        let turn = Turn { stamp, handle };
+        self.turns.push(turn);
         Ok(())
     }
 
@@ -138,7 +140,7 @@ impl<A: Allocator + Copy> Turns<A> {
         let at = count_lower(self.turns.as_slice(), own);
         if is_turn_at(self.turns.as_slice(), at, own) {
             self.turns.remove(at);
-            push_with_room(&mut self.turns, Turn { stamp, handle });
+            self.turns.push(Turn { stamp, handle });
         }
     }
 }

@@ -2,3 +2,4 @@ pub mod Placed
 pub mod Asked
 pub mod ListedItems
 pub mod Managing
+pub mod Used

@@ -72,7 +72,7 @@ places_from k p (s ∷ ss) =
 
 -- how many handles share a block
 abbrev pub block_size : ℕ
-block_size = 8
+block_size = 4
 
 -- the block of an item's controller, or of its handle where it has none
 abbrev pub second_block : OpenRecord → ℕ

@@ -28,6 +28,17 @@ pub struct OpenItem {
     pub count: u32,
 }
 
+/// How an interface is open, as far as its removal goes.
+#[derive(Clone, Copy, Debug, PartialEq, Eq)]
+pub struct Usage {
+    /// There is an open item on it.
+    pub is_open: bool,
+    /// A driver has it open.
+    pub is_driven: bool,
+    /// An item keeps it: one for a child, or exclusive and of no driver.
+    pub is_kept: bool,
+}
+
 /// What is to be done about a call of OpenProtocol.
 #[derive(Clone, Copy, Debug, PartialEq, Eq)]
 pub enum Decision {

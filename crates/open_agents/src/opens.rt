@@ -13,13 +13,12 @@ use crate::attributes::{
     BY_CHILD_CONTROLLER, BY_DRIVER, EXCLUSIVE, is_exclusive, is_for_driver, is_known, needs_agent,
     needs_controller,
 };
-use crate::items::{Decision, OpenItem, OpenRecord, is_open_on, item_of, manages};
+use crate::items::{Decision, OpenItem, OpenRecord, Usage, is_open_on, item_of, manages};
 use crate::managers;
 use crate::near::{Near, item_at};
 use crate::questions::{
     find_closed, find_equal, find_last_naming, find_last_of_pair, find_naming, find_of_pair,
-    find_open_on, first_driver_item, has_equal, has_exclusive, has_of_agent, is_any_driving,
-    is_any_keeping, is_held,
+    find_open_on, first_driver_item, has_equal, has_exclusive, has_of_agent, is_held, usage_near,
 };
 use crate::store::{ItemStore, count_items};
 use guid_handles::Handles;
@@ -92,18 +91,13 @@ impl<A: Allocator + Copy> Opens<A> {
         is_held(self.near(handle), handle, guid)
     }
 
-    /// Whether a driver has an interface open.
-    pub fn is_driven(&self, handle: u64, guid: Uuid) -> bool
-        ensures { result ≡ spec.is_driven self.now handle guid }
+    /// How an interface is open.
+    pub fn usage(&self, handle: u64, guid: Uuid) -> Usage
+        ensures open { result.is_open ≡ list_any (spec.is_open_on handle guid) self.now }
+        ensures driven { result.is_driven ≡ spec.is_driven self.now handle guid }
+        ensures kept { result.is_kept ≡ spec.is_kept self.now handle guid }
     {
-        is_any_driving(self.near(handle), handle, guid)
-    }
-
-    /// Whether an item keeps an interface: it is for a child, or exclusive and of no driver.
-    pub fn is_kept(&self, handle: u64, guid: Uuid) -> bool
-        ensures { result ≡ spec.is_kept self.now handle guid }
-    {
-        is_any_keeping(self.near(handle), handle, guid)
+        usage_near(self.near(handle), handle, guid)
     }
 
     /// What is to be done about a call of OpenProtocol. This takes no memory.

@@ -3,11 +3,11 @@ ghost use Rattle.std.specs.Prelude.{◌≡◌, ◌==◌, ◌&&◌, ◌||◌, fal
 ghost use Rattle.std.specs.List.{list_any};
 ghost use Rattle.open_agents.specs.OpenItems as spec;
 ghost use Rattle.open_agents.specs.OpenItems.{is_closed_by, is_equal_item, is_of_pair};
-ghost use Rattle.open_agents.specs.Blocks.{Finds, HoldsAt, MissesNone, items_in, items_near};
+ghost use Rattle.open_agents.specs.Blocks.{Finds, HoldsAt, MissesNone, item_at as there, items_in, items_near, passes};
 ghost use Rattle.open_agents.specs.OpenRule as rule;
 
 use crate::attributes::{BY_CHILD_CONTROLLER, BY_DRIVER, EXCLUSIVE, is_exclusive, is_for_driver};
-use crate::items::{OpenRecord, is_equal_item, is_of_pair, is_open_on};
+use crate::items::{OpenRecord, Usage, is_equal_item, is_of_pair, is_open_on};
 use crate::near::{Near, item_at};
 use uuid::Uuid;
 
@@ -102,47 +102,69 @@ fn excludes(o: &OpenRecord, handle: u64, guid: Uuid) -> bool
     is_exclusive(o.attributes) && is_open_on(o, handle, guid)
 }
 
-/// Whether a driver has an interface open.
-pub(crate) fn is_any_driving(near: Near<'_>, handle: u64, guid: Uuid) -> bool
-    ensures { result ≡ list_any (spec.is_driving handle guid) (items_near near.entry) }
+/// How an interface is open by the items near it.
+pub(crate) fn usage_near(near: Near<'_>, handle: u64, guid: Uuid) -> Usage
+    ensures open { result.is_open
+        ≡ list_any (spec.is_open_on handle guid) (items_near near.entry) }
+    ensures driven { result.is_driven
+        ≡ list_any (spec.is_driving handle guid) (items_near near.entry) }
+    ensures kept { result.is_kept
+        ≡ list_any (spec.is_keeping handle guid) (items_near near.entry) }
 {
+    let mut usage = Usage {
+        is_open: false,
+        is_driven: false,
+        is_kept: false,
+    };
     for place in near.places {
-        if let Some(o) = item_at(near.slots, *place) {
-            if is_driving(o, handle, guid) {
-                return true;
-            }
-        }
+        usage = with_place(usage, near.slots, *place, handle, guid);
     }
-    false
+    usage
 }
 
-/// Whether an item is for a driver, on an interface.
-fn is_driving(o: &OpenRecord, handle: u64, guid: Uuid) -> bool
-    ensures { result ≡ spec.is_driving handle guid o.now }
+/// How an interface is open by some items and the one at a place, if there is one.
+fn with_place(
+    usage: Usage,
+    slots: &[Option<OpenRecord>],
+    place: usize,
+    handle: u64,
+    guid: Uuid,
+) -> Usage
+    ensures open { result.is_open
+        ≡ (usage.is_open || passes (spec.is_open_on handle guid) (there slots.now place)) }
+    ensures driven { result.is_driven
+        ≡ (usage.is_driven || passes (spec.is_driving handle guid) (there slots.now place)) }
+    ensures kept { result.is_kept
+        ≡ (usage.is_kept || passes (spec.is_keeping handle guid) (there slots.now place)) }
 {
-    is_for_driver(o.attributes) && is_open_on(o, handle, guid)
-}
-
-/// Whether an item keeps an interface.
-pub(crate) fn is_any_keeping(near: Near<'_>, handle: u64, guid: Uuid) -> bool
-    ensures { result ≡ list_any (spec.is_keeping handle guid) (items_near near.entry) }
-{
-    for place in near.places {
-        if let Some(o) = item_at(near.slots, *place) {
-            if keeps(o, handle, guid) {
-                return true;
-            }
-        }
+    match item_at(slots, place) {
+        Some(o) => with_use(usage, o, handle, guid),
+        None => usage,
     }
-    false
 }
 
-/// Whether an item is for a child, or exclusive and of no driver, on an interface.
-fn keeps(o: &OpenRecord, handle: u64, guid: Uuid) -> bool
-    ensures { result ≡ spec.is_keeping handle guid o.now }
+/// How an interface is open by some items and another one.
+fn with_use(usage: Usage, o: &OpenRecord, handle: u64, guid: Uuid) -> Usage
+    ensures open { result.is_open ≡ (usage.is_open || spec.is_open_on handle guid o.now) }
+    ensures driven { result.is_driven ≡ (usage.is_driven || spec.is_driving handle guid o.now) }
+    ensures kept { result.is_kept ≡ (usage.is_kept || spec.is_keeping handle guid o.now) }
 {
-    (o.attributes == BY_CHILD_CONTROLLER || o.attributes == EXCLUSIVE)
-        && is_open_on(o, handle, guid)
+    if !is_open_on(o, handle, guid) {
+        return usage;
+    }
+    Usage {
+        is_open: true,
+        is_driven: usage.is_driven || is_for_driver(o.attributes),
+        is_kept: usage.is_kept || keeps(o.attributes),
+    }
+}
+
+/// Whether an open with some attributes keeps its interface: one for a child, or an exclusive one of
+/// no driver.
+fn keeps(attributes: u32) -> bool
+    ensures { result ≡ spec.keeps attributes }
+{
+    attributes == BY_CHILD_CONTROLLER || attributes == EXCLUSIVE
 }
 
 /// Whether an item is of an agent and a controller, on an interface.

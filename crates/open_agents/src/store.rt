@@ -14,7 +14,7 @@ use std::marker::Model;
 use uuid::Uuid;
 
 /// How many handles share a block.
-const BLOCK_SIZE: u64 = 8;
+const BLOCK_SIZE: u64 = 4;
 
 /// The block of a handle.
 fn block_of(handle: u64) -> u64

@@ -112,6 +112,16 @@ impl<A: Allocator + Copy> Protocols<A> {
     fn signaled(&self, pairs: &[(Uuid, u64)]) -> Result<Vec<u64, A>, AllocError>
         ensures { IfOk result (λ events. events.items ≡ signaled self.now.registrations pairs.now) }
     {
+        match pairs {
+            [pair] => self.registrations.signaled(pair.0),
+            _ => self.signaled_in_turn(pairs),
+        }
+    }
+
+    /// The events of the pairs, one after the other.
+    fn signaled_in_turn(&self, pairs: &[(Uuid, u64)]) -> Result<Vec<u64, A>, AllocError>
+        ensures { IfOk result (λ events. events.items ≡ signaled self.now.registrations pairs.now) }
+    {
         let mut events = Vec::new(self.alloc);
         for pair in pairs {
             let more = self.registrations.signaled(pair.0)?;

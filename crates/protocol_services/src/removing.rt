@@ -1,5 +1,6 @@
 //! Taking interfaces out and putting others in their places.
 ghost use Rattle.std.specs.Prelude.{◌≡◌, ◌<◌, ◌^◌, true, map, IfOk, OnOk, OnErr};
+ghost use Rattle.std.specs.List.{list_any};
 ghost use Rattle.guid_handles.specs.HandleTables.{carries, value_at};
 ghost use Rattle.guid_handles.specs.HandleChanges.{IsHandleTable};
 ghost use Rattle.open_agents.specs.OpenItems.{is_open_on, keeps, without_items};
@@ -13,7 +14,7 @@ ghost use Rattle.protocol_services.specs.RemovalSteps.{FreesAndReplaces, PlansTo
 use crate::protocols::Protocols;
 use driver_connect::{Connecting, Driver, StopPlan, connect_draft, may_start_after};
 use guid_handles::Handles;
-use open_agents::{BY_CHILD_CONTROLLER, EXCLUSIVE, OpenItem, Opens, is_for_driver};
+use open_agents::{BY_CHILD_CONTROLLER, EXCLUSIVE, OpenItem, Opens, Usage, is_for_driver};
 use page_ranges::Status;
 use std::alloc::{AllocError, Allocator};
 use uuid::Uuid;
@@ -97,6 +98,17 @@ fn free<A: Allocator + Copy>(
     opens.drop_interface(handle, guid);
 }
 
+/// Takes out the items of an interface, which are not looked for where there are none.
+fn drop_items<A: Allocator + Copy>(items: &mut Opens<A>, is_open: bool, handle: u64, guid: Uuid)
+    requires { is_open ≡ list_any (is_open_on handle guid) items.old }
+    ensures { items.new ≡ without_items (is_open_on handle guid) items.old }
+{
+    if !is_open {
+        return;
+    }
+    items.drop_interface(handle, guid);
+}
+
 /// Takes an interface out, and with the last one its handle, with the items that name it.
 fn take_out<A: Allocator + Copy>(
     handles: &mut Handles<A>,
@@ -107,8 +119,7 @@ fn take_out<A: Allocator + Copy>(
     requires { carries handles.old guid handle ≡ true }
     ensures { TakesOut handle guid handles.old opens.old handles.new opens.new }
 {
-    handles.remove(handle, guid);
-    if !handles.is_live(handle) {
+    if handles.remove(handle, guid) {
         opens.drop_handle(handle);
     }
 }
@@ -178,16 +189,21 @@ impl<A: Allocator + Copy> Protocols<A> {
         if let Some(status) = removal_refusal(&self.handles, handle, guid, value) {
             return Err(status);
         }
-        if self.opens.is_driven(handle, guid) {
+        let Usage {
+            is_open,
+            is_driven,
+            is_kept,
+        } = self.opens.usage(handle, guid);
+        if is_driven {
             let plan = self.plan_to_free(drivers, handle, guid)?;
             free(&plan, &mut self.handles, &mut self.opens, handle, guid);
             take_out(&mut self.handles, &mut self.opens, handle, guid);
             return Ok(());
         }
-        if self.opens.is_kept(handle, guid) {
+        if is_kept {
             return Err(Status::AccessDenied);
         }
-        self.opens.drop_interface(handle, guid);
+        drop_items(&mut self.opens, is_open, handle, guid);
         take_out(&mut self.handles, &mut self.opens, handle, guid);
         Ok(())
     }

@@ -7,10 +7,13 @@ mod handle_limits;
 mod installing;
 mod listing;
 mod lists;
+mod many_handles;
 mod opening;
+mod plain_drivers;
 mod plain_lists;
 mod plain_opens;
 mod searching;
+mod tallies;
 
 use boot_core::{Call, Core, Machine, Reply};
 use driver_connect::{Driver, TableDriver};

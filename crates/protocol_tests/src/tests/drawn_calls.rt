@@ -1,30 +1,12 @@
 //! Calls drawn one after the other, on ten machines.
 use super::draws::Draws;
 use super::plain_lists::{Lists, empty_lists};
+use super::tallies::{Service, Tally, assert_least, count};
 use super::{installing, opening, searching, small_core};
 use boot_core::Core;
 use driver_connect::TableDriver;
 use page_ranges::Status;
 use std::process::Abort;
-
-/// A service that is called; the searches of LocateHandle count as services of their own.
-#[derive(Clone, Copy, PartialEq)]
-enum Service {
-    Install,
-    InstallMany,
-    Register,
-    LocateAll,
-    LocateNext,
-    LocateHolders,
-    LocateNone,
-    LocateBuffer,
-    LocateProtocol,
-    Protocols,
-    Open,
-    Close,
-    HandleProtocol,
-    Information,
-}
 
 /// Each service, the more often the oftener it is drawn.
 const SERVICES: [Service; 24] = [
@@ -77,15 +59,10 @@ fn status_of(
         Service::Close => opening::close(rt, core, lists, draws),
         Service::HandleProtocol => opening::handle_protocol(rt, core, lists, draws),
         Service::Information => opening::information(rt, core, lists, draws),
+        Service::Uninstall | Service::Connect | Service::Disconnect => {
+            panic!(rt; "no service of these machines")
+        }
     }
-}
-
-/// How often a service returned a status.
-#[derive(Drop)]
-struct Tally {
-    service: Service,
-    status: Status,
-    calls: u64,
 }
 
 /// The least of each that is wanted of 5,000 calls.
@@ -131,33 +108,6 @@ const LEAST: &[(Service, Status, u64)] = &[
 /// Calls that are made of one machine.
 const CALLS: u32 = 500;
 
-/// How often a service returned a status.
-fn calls_of(tallies: &[Tally], service: Service, status: Status) -> u64 {
-    for tally in tallies {
-        if tally.service == service && tally.status == status {
-            return tally.calls;
-        }
-    }
-    0
-}
-
-/// Counts a call.
-fn count(rt: &impl Abort, tallies: &mut Vec<Tally>, service: Service, status: Status) {
-    for tally in tallies.iter_mut() {
-        if tally.service == service && tally.status == status {
-            tally.calls = tally.calls.saturating_add(1);
-            return;
-        }
-    }
-    tallies
-        .push(Tally {
-            service,
-            status,
-            calls: 1,
-        })
-        .expect(rt, "memory");
-}
-
 /// Makes the calls of one machine.
 fn make_calls(rt: &(impl AllocGlobal + Abort), tallies: &mut Vec<Tally>, seed: u64) {
     let mut core = small_core(rt);
@@ -177,8 +127,5 @@ fn drawn_calls(rt: HostRuntime) {
     for seed in 0..10u64 {
         make_calls(&rt, &mut tallies, seed);
     }
-    for (row, (service, status, least)) in LEAST.iter().enumerate() {
-        let calls = calls_of(tallies.as_slice(), *service, *status);
-        assert!(rt; calls >= *least, "row {row}: {calls} calls");
-    }
+    assert_least(&rt, tallies.as_slice(), LEAST);
 }

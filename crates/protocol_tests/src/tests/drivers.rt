@@ -6,6 +6,7 @@ mod refusals;
 pub mod steps;
 mod tables;
 mod views;
+pub mod wholes;
 
 use arrayvec::ArrayVec;
 use driver_connect::{StartPlan, TableDriver, driver_binding};

@@ -3,6 +3,7 @@ mod handles;
 mod open_pairs;
 mod opens;
 mod orders;
+mod refused_growth;
 mod registrations;
 
 use super::guid;

@@ -59,11 +59,12 @@ pub fn returned_of(rt: &(impl AllocGlobal + Abort), reply: &Reply) -> Returned {
         Reply::OpenProtocol(Ok(Some(value))) | Reply::HandleProtocol(Ok(value)) => {
             tell(rt, Status::Success, &[*value])
         }
-        Reply::OpenProtocol(Ok(None)) | Reply::CloseProtocol(Ok(())) => {
-            tell(rt, Status::Success, &[])
-        }
+        Reply::OpenProtocol(Ok(None))
+        | Reply::CloseProtocol(Ok(()))
+        | Reply::UninstallProtocolInterface(Ok(())) => tell(rt, Status::Success, &[]),
         Reply::OpenProtocol(Err(status))
         | Reply::CloseProtocol(Err(status))
+        | Reply::UninstallProtocolInterface(Err(status))
         | Reply::HandleProtocol(Err(status)) => tell(rt, *status, &[]),
         _ => panic!(rt; "another reply"),
     }

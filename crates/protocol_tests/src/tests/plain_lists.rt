@@ -3,6 +3,9 @@ use super::{Returned, tell, tell_one};
 use page_ranges::Status;
 use std::process::Abort;
 
+/// The most handles that can be live.
+pub const MOST_HANDLES: u64 = 4096;
+
 /// The value of a GUID on a handle, with the stamp of its installation.
 #[derive(Clone, Copy)]
 pub struct Interface {
@@ -23,6 +26,39 @@ pub struct Item {
     pub count: u32,
 }
 
+/// A controller and an agent.
+#[derive(Clone, Copy, PartialEq)]
+pub struct Pair {
+    pub controller: u64,
+    pub agent: u64,
+}
+
+/// A handle that a driver made.
+#[derive(Clone, Copy)]
+pub struct Made {
+    pub handle: u64,
+    pub by: Pair,
+}
+
+/// Why a stop is refused.
+#[derive(Clone, Copy, PartialEq)]
+pub enum Hindrance {
+    /// An agent is no driver handle.
+    NoDriver,
+    /// A driver does not stop.
+    Stays,
+    /// An item of another pair is on a handle that would go.
+    Item,
+    /// The handle of the call would go.
+    Handle,
+    /// The agent or the controller of an open would go.
+    Opener,
+    /// The agent of an open is one that would be stopped.
+    Agent,
+    /// An item would be left on the interface.
+    Kept,
+}
+
 /// An event for a GUID, with the stamp of the last interface that was taken by the key.
 #[derive(Clone, Copy)]
 pub struct Registration {
@@ -36,18 +72,25 @@ pub struct Registration {
 #[derive(Drop)]
 pub struct Lists {
     pub handles: Vec<u64>,
+    pub made: Vec<Made>,
     pub interfaces: Vec<Interface>,
     pub items: Vec<Item>,
     pub registrations: Vec<Registration>,
+    /// Why stops were refused.
+    pub hindrances: Vec<Hindrance>,
+    pub last_number: u64,
     pub last_stamp: u64,
 }
 
 pub fn empty_lists(rt: &impl AllocGlobal) -> Lists {
     Lists {
         handles: Vec::new(rt.alloc()),
+        made: Vec::new(rt.alloc()),
         interfaces: Vec::new(rt.alloc()),
         items: Vec::new(rt.alloc()),
         registrations: Vec::new(rt.alloc()),
+        hindrances: Vec::new(rt.alloc()),
+        last_number: 0,
         last_stamp: 0,
     }
 }
@@ -74,6 +117,16 @@ impl Lists {
             }
         }
         None
+    }
+
+    /// The GUID on a handle that was installed first.
+    pub fn first_guid(&self, handle: u64) -> u8 {
+        for i in &self.interfaces {
+            if i.handle == handle {
+                return i.guid;
+            }
+        }
+        0
     }
 
     /// Whether a GUID occurs twice among some pairs, or is on the handle.
@@ -131,7 +184,7 @@ impl Lists {
     }
 
     /// Puts an interface at the end, with the next stamp.
-    fn push_interface(&mut self, rt: &impl Abort, handle: u64, guid: u8, value: u64) {
+    pub fn push_interface(&mut self, rt: &impl Abort, handle: u64, guid: u8, value: u64) {
         self.last_stamp = self.last_stamp.saturating_add(1);
         let stamp = self.last_stamp;
         self.interfaces
@@ -144,14 +197,47 @@ impl Lists {
             .expect(rt, "memory");
     }
 
+    /// Makes a handle with the next number.
+    pub fn make_handle(&mut self, rt: &impl Abort) -> u64 {
+        self.last_number = self.last_number.saturating_add(1);
+        self.handles.push(self.last_number).expect(rt, "memory");
+        self.last_number
+    }
+
     /// A handle, a new one for 0.
     fn given_or_new(&mut self, rt: &impl Abort, handle: u64) -> u64 {
         if handle != 0 {
             return handle;
         }
-        let number = self.count().saturating_add(1);
-        self.handles.push(number).expect(rt, "memory");
-        number
+        self.make_handle(rt)
+    }
+
+    /// Whether an interface is on a handle.
+    fn has_any(&self, handle: u64) -> bool {
+        for i in &self.interfaces {
+            if i.handle == handle {
+                return true;
+            }
+        }
+        false
+    }
+
+    /// Takes out an interface with the items on it, and with the last one its handle.
+    pub fn drop_interface(&mut self, handle: u64, guid: u8) {
+        self.interfaces
+            .retain(|i| i.handle != handle || i.guid != guid);
+        self.items.retain(|i| i.handle != handle || i.guid != guid);
+        if !self.has_any(handle) {
+            self.drop_handle(handle);
+        }
+    }
+
+    /// Takes out a handle with its interfaces and the items that name it.
+    pub fn drop_handle(&mut self, handle: u64) {
+        self.handles.retain(|n| *n != handle);
+        self.made.retain(|m| m.handle != handle);
+        self.interfaces.retain(|i| i.handle != handle);
+        self.items.retain(|i| i.handle != handle && i.agent != handle && i.controller != handle);
     }
 
     /// Puts the events for a GUID behind some numbers.
@@ -185,6 +271,9 @@ pub fn install(
 ) -> Returned {
     if kind != 0 || lists.is_bad(handle, pairs) {
         return tell(rt, Status::InvalidParameter, &[]);
+    }
+    if handle == 0 && lists.count() >= MOST_HANDLES {
+        return tell(rt, Status::OutOfResources, &[]);
     }
     let handle = lists.given_or_new(rt, handle);
     let mut reply = tell(rt, Status::Success, &[handle]);

@@ -100,7 +100,7 @@ fn item_refusal(items: &[Item], open: &Item) -> Option<Status> {
 }
 
 /// The refusal of an open.
-fn refusal(lists: &Lists, open: &Item) -> Option<Status> {
+pub fn refusal(lists: &Lists, open: &Item) -> Option<Status> {
     if !KNOWN.contains(&open.attributes) || names_badly(lists, open) {
         Some(Status::InvalidParameter)
     } else if lists.value(open.handle, open.guid).is_none() {

@@ -1,5 +1,6 @@
 //! Calls for which memory runs out, sooner and later.
 use super::steps::{Lists, Step, assert_step, no_lists, status_of};
+use super::wholes::{assert_unchanged, whole_of};
 use super::{BINDING, add_children, opening, table};
 use driver_connect::TableDriver;
 use linked_list_allocator::LocalHeap;
@@ -129,11 +130,13 @@ fn is_refused(
     let heap = LocalHeap::new(rt.alloc(), HEAP).expect(rt, "memory");
     let mut lists = no_lists(&heap);
     assert_each(rt, &heap, &mut lists, drivers, before);
+    let whole = whole_of(rt, &lists);
     let used = heap.used();
     let status = status_with(rt, &heap, &mut lists, drivers, call, left);
     let is_refused = status == Status::OutOfResources;
     if is_refused {
         assert!(rt; heap.used() == used, "{left} bytes left");
+        assert_unchanged(rt, &whole, &lists);
         assert_each(rt, &heap, &mut lists, drivers, call);
     }
     assert_each(rt, &heap, &mut lists, drivers, after);

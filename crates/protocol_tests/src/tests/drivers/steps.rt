@@ -43,8 +43,8 @@ pub enum Step {
 /// The lists that drivers are tried on.
 #[derive(Drop)]
 pub struct Lists<A: Allocator> {
-    handles: Handles<A>,
-    opens: Opens<A>,
+    pub handles: Handles<A>,
+    pub opens: Opens<A>,
     notify: Notify<A>,
 }
 

@@ -1,6 +1,8 @@
-use Rattle.std.proofs.Common.{sym, ◌∙◌, Some}
+use Rattle.std.proofs.Common.{sym, ap, ◌∙◌, Some, slice_set}
+use Rattle.std.proofs.lemmas.List.{set-get_or}
 use Rattle.guid_handles.specs.Indexes.{with_turn}
 use Rattle.guid_handles.proofs.Grouped.{got, groups_set, key_changed, key_there, turns_set, turns_there}
+use Rattle.guid_handles.proofs.SlidRows.{on_err}
 use Rattle.guid_handles.proofs.groups.Groups.add_at.Goals as goal
 
 pub add-requires-clause-absent : goal.add-requires-clause-absent
@@ -31,3 +33,9 @@ returns-clause-turns g c =
     let place = rw (← c.self.view_is) at c.requires.place in
     rw (← c.self.view_is)
     (turns_set _ c.args.guid _ _ _ (with_turn c.args.handle c.args.stamp) place (got _ _ _ place.0 c.index_mut.ensures.value) c.add.ensures.guid c.in_ok-add.ensures.turns)
+
+pub returns-in_err-add-clause-err : goal.returns-in_err-add-clause-err
+returns-in_err-add-clause-err g c =
+    let groups = c.self.inside.groups.items in
+    on_err c.from_residual.result _
+    (rw (← c.self.view_is) (ap (λ group. slice_set groups c.args.at group) (c.in_err-add.ensures.err ∙ c.index_mut.ensures.value) ∙ set-get_or groups c.args.at _))

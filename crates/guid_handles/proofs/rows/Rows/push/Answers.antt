@@ -22,11 +22,11 @@ invariant_of-self-in_err-note_made g c =
 pub invariant_of-self-2 : goal.invariant_of-self-2
 invariant_of-self-2 g c =
     let row : FiledRow = record { row = record { live = c.args.live; keys = [] }; gone = false } in
-    rw (c.push_with_room-2.ensures, c.make_room.ensures.items, c.push_with_room.ensures, c.reserve.ensures.items, c.in_ok-row.ensures)
+    rw (c.push_with_room.ensures, c.make_room.ensures.items, c.push.ensures, c.reserve.ensures.items, c.in_ok-row.ensures)
     (rows_push _ _ _ row _ _ c.self.invariant c.clear_above.ensures.same c.clear_above.ensures.filed refl c.clear_above.ensures.below (rw (← c.self.view_is) at c.requires) c.in_ok-note_made.ensures.ok)
 
 pub returns-clause-ok : goal.returns-clause-ok
 returns-clause-ok g c =
     let row : FiledRow = record { row = record { live = c.args.live; keys = [] }; gone = false } in
-    rw (← c.self.view_is, c.push_with_room-2.ensures, c.make_room.ensures.items, c.in_ok-row.ensures)
+    rw (← c.self.view_is, c.push_with_room.ensures, c.make_room.ensures.items, c.in_ok-row.ensures)
     (rows_pushed c.clear_above.new.rows.items row refl ∙ ap (λ rs. rs ++ row.row ∷ []) c.clear_above.ensures.same)

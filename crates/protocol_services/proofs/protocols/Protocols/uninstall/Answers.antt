@@ -41,7 +41,7 @@ returns-then-is_kept-clause-uninstalls g c =
     let l : Lists = record { handles = c.self.inside.handles; opens = c.self.inside.opens; registrations = c.self.inside.registrations } in
     let none : removal_refusal l.handles c.args.handle c.args.guid c.args.value ≡ None = sym c.removal_refusal.ensures ∙ none_left c.removal_refusal.result c.in_default.not-Some in
     rw (← c.self.view_is)
-    (kept_in_place (map g.D.Driver.meaning c.args.drivers.now) l c.args.handle c.args.guid c.args.value none (sym c.is_driven.ensures ∙ c.if-is_driven.false) (sym c.is_kept.ensures ∙ c.if-is_kept.true))
+    (kept_in_place (map g.D.Driver.meaning c.args.drivers.now) l c.args.handle c.args.guid c.args.value none (sym c.usage-is_open.ensures.driven ∙ c.if-is_driven.false) (sym c.usage-is_open.ensures.kept ∙ c.if-is_kept.true))
 
 pub returns-then-is_kept-clause-raised : goal.returns-then-is_kept-clause-raised
 returns-then-is_kept-clause-raised g c = stays_raised c.args.self.now
@@ -52,8 +52,8 @@ returns-clause-uninstalls g c =
     let left : Lists = record { handles = c.take_out-2.new.handles; opens = c.take_out-2.new.opens; registrations = [] } in
     let none : removal_refusal l.handles c.args.handle c.args.guid c.args.value ≡ None = sym c.removal_refusal.ensures ∙ none_left c.removal_refusal.result c.in_default.not-Some in
     rw (← c.self.view_is)
-    (uninstalled_in_place (map g.D.Driver.meaning c.args.drivers.now) l left (record left { registrations = l.registrations }) c.args.handle c.args.guid c.args.value none (sym c.is_driven.ensures ∙ c.if-is_driven.false)
-    (sym c.is_kept.ensures ∙ c.if-is_kept.false) (rw c.drop_interface.ensures at c.take_out-2.ensures) refl)
+    (uninstalled_in_place (map g.D.Driver.meaning c.args.drivers.now) l left (record left { registrations = l.registrations }) c.args.handle c.args.guid c.args.value none (sym c.usage-is_open.ensures.driven ∙ c.if-is_driven.false)
+    (sym c.usage-is_open.ensures.kept ∙ c.if-is_kept.false) (rw c.drop_items.ensures at c.take_out-2.ensures) refl)
 
 pub returns-clause-raised : goal.returns-clause-raised
 returns-clause-raised g c =
@@ -62,4 +62,4 @@ returns-clause-raised g c =
     let left : Lists = record { handles = c.take_out-2.new.handles; opens = c.take_out-2.new.opens; registrations = [] } in
     rw (← c.self.view_is)
     (uninstalled_raised l (without_opens_on c.args.handle c.args.guid start) left (record left { registrations = l.registrations }) c.args.handle c.args.guid
-    (sym (idle_freed start c.args.handle c.args.guid (sym c.is_driven.ensures ∙ c.if-is_driven.false))) (rw c.drop_interface.ensures at c.take_out-2.ensures) refl)
+    (sym (idle_freed start c.args.handle c.args.guid (sym c.usage-is_open.ensures.driven ∙ c.if-is_driven.false))) (rw c.drop_items.ensures at c.take_out-2.ensures) refl)

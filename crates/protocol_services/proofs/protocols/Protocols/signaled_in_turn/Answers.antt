@@ -2,7 +2,7 @@ use Rattle.std.proofs.Common.{◌++◌, ap, ◌∙◌}
 use Rattle.protocol_notify.specs.Registrations.{events_for}
 use Rattle.protocol_services.specs.Lists.{Lists}
 use Rattle.protocol_services.proofs.Signals.{signaled_more}
-use Rattle.protocol_services.proofs.protocols.Protocols.signaled.Goals as goal
+use Rattle.protocol_services.proofs.protocols.Protocols.signaled_in_turn.Goals as goal
 
 pub loop-pair-preserved : goal.loop-pair-preserved
 loop-pair-preserved g c =

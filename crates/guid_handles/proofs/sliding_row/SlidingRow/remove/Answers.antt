@@ -1,0 +1,19 @@
+use Rattle.std.proofs.Common.{◌≡◌, ◌+◌, ◌-◌, drop, refl, ap, ◌∙◌, arith}
+use Rattle.std.proofs.Math.Seq.{paste}
+use Rattle.guid_handles.proofs.SlidRows.{below_end, slid_back, slid_front}
+use Rattle.guid_handles.proofs.sliding_row.SlidingRow.remove.Goals as goal
+
+pub returns-then-at-len-clause-items : goal.returns-then-at-len-clause-items
+returns-then-at-len-clause-items g c =
+    let xs = c.self.inside.values.items in
+    let gone = c.self.inside.gone in
+    let low = below_end xs gone c.args.at (rw (← c.self.view_is) at c.requires) in
+    let count : gone + c.args.at - gone ≡ c.args.at = omega arith in
+    rw (← c.self.view_is)
+    (ap (drop (gone + 1)) (c.copy_within.ensures.items ∙ ap (λ k. paste xs (gone + 1) (drop gone xs) k) count) ∙ slid_front xs gone c.args.at low)
+
+pub returns-clause-items : goal.returns-clause-items
+returns-clause-items g c =
+    let xs = c.self.inside.values.items in
+    let gone = c.self.inside.gone in
+    rw (← c.self.view_is) (ap (drop gone) c.remove.ensures.items ∙ slid_back xs gone c.args.at _ refl (below_end xs gone c.args.at (rw (← c.self.view_is) at c.requires)))
