@@ -19,20 +19,33 @@ impl<A: Allocator + Copy> EfiCore<A> {
     pub fn allocate_pages(&mut self, kind: u32, mtype: u32, pages: u64, memory: &mut u64) -> u64
         ensures { AllocatesPages self.old kind mtype pages memory.old result memory.new self.new }
     {
-        let call = Call::AllocatePages {
-            kind,
-            mtype,
-            pages,
-            memory: *memory,
-        };
-        self.answer_number(&call, memory)
+        if self.certifies {
+            let call = Call::AllocatePages {
+                kind,
+                mtype,
+                pages,
+                memory: *memory,
+            };
+            return self.answer_number(&call, memory);
+        }
+        self.forget();
+        if self.core.calls_left() == 0 {
+            return ABORTED;
+        }
+        let reply = self.core.allocate_pages(kind, mtype, pages, *memory);
+        self.tell_number(reply, memory)
     }
 
     /// FreePages.
     pub fn free_pages(&mut self, memory: u64, pages: u64) -> u64
         ensures { AnswersStatus self.old (call.FreePages memory pages) result self.new }
     {
-        self.answer(&Call::FreePages { memory, pages })
+        self.forget();
+        if self.core.calls_left() == 0 {
+            return ABORTED;
+        }
+        let reply = self.core.free_pages(memory, pages);
+        self.tell(reply)
     }
 
     /// GetMemoryMap. The variables are given the bytes that the map takes, its key, the bytes of a record and
@@ -97,7 +110,15 @@ impl<A: Allocator + Copy> EfiCore<A> {
     pub fn allocate_pool(&mut self, mtype: u32, size: u64, buffer: &mut u64) -> u64
         ensures { AllocatesPool self.old mtype size buffer.old result buffer.new self.new }
     {
-        self.answer_number(&Call::AllocatePool { mtype, size }, buffer)
+        if self.certifies {
+            return self.answer_number(&Call::AllocatePool { mtype, size }, buffer);
+        }
+        self.forget();
+        if self.core.calls_left() == 0 {
+            return ABORTED;
+        }
+        let reply = self.core.allocate_pool(mtype, size);
+        self.tell_number(reply, buffer)
     }
 
     /// FreePool.
