@@ -17,7 +17,7 @@ use std::alloc::Allocator;
 const PATH_TYPE: u32 = 4;
 
 /// How many calls an installation makes at most.
-const MOST_PATH_CALLS: u64 = 4;
+const MAX_PATH_CALLS: u64 = 4;
 
 impl<A: Allocator + Copy> EfiCore<A> {
     /// LocateDevicePath with a path in the caller's memory. The variable `matched` is given how many bytes of
@@ -62,7 +62,7 @@ impl<A: Allocator + Copy> EfiCore<A> {
             self.forget();
             return Status::InvalidParameter.number();
         }
-        if self.core.calls_left() < MOST_PATH_CALLS {
+        if self.core.calls_left() < MAX_PATH_CALLS {
             self.forget();
             return ABORTED;
         }

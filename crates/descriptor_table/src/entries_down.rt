@@ -21,7 +21,7 @@ use std::alloc::{Allocator, Global};
 use std::marker::Model;
 
 /// No placement gains more.
-const MOST_GAIN: u64 = 3;
+const MAX_GAIN: u64 = 3;
 
 /// The runs of the leaf at an index; none where there is no such leaf.
 #[inline(always)]
@@ -283,7 +283,7 @@ impl<'a, A: Allocator + Copy> EntriesDown<'a, A> {
         ensures stays { self.new.memory ≡ self.old.memory }
         ensures next { YieldsWanted wanted.now self.old result self.new }
     {
-        if wanted.gain > MOST_GAIN {
+        if wanted.gain > MAX_GAIN {
             return None;
         }
         let (leaf, index) = next_place(self.leaves, self.groups, (self.leaf, self.count), wanted)?;

@@ -14,7 +14,7 @@ use std::alloc::Allocator;
 pub(crate) const GROUP_SIZE: usize = 8;
 
 /// A group's summary is made anew once it was joined with that many others.
-const MOST_CHANGES: u8 = 8;
+const MAX_CHANGES: u8 = 8;
 
 /// What the free runs of a group of leaves may be.
 #[derive(Clone, Copy)]
@@ -79,7 +79,7 @@ impl Group {
         requires number { 8 * number ≤ leaf }
         ensures { AllowsAlso leaf leaves.now number self.now.summary result.summary }
     {
-        if self.changes >= MOST_CHANGES {
+        if self.changes >= MAX_CHANGES {
             return Group {
                 summary: summary_from(leaves, number * GROUP_SIZE),
                 changes: 0,

@@ -27,7 +27,7 @@ use std::alloc::{AllocError, Allocator};
 const JOINED_SIZE: usize = 24;
 
 /// At most this many runs come into a leaf in the place of others; more come in new leaves.
-const MOST_PARTS: usize = 8;
+const MAX_PARTS: usize = 8;
 
 /// The indices between which runs share a page with a range or touch it.
 fn window_of(runs: &[Run], range: PageRange) -> (usize, usize)
@@ -204,7 +204,7 @@ fn retype_in_leaf<A: Allocator + Copy>(
     let room = LEAF_SIZE + (window.1 - window.0) - runs.len();
     let gone = &runs[window.0..window.1];
     let old_entries = count_entries(gone);
-    let mut parts = ArrayVec::<Run, MOST_PARTS>::new();
+    let mut parts = ArrayVec::<Run, MAX_PARTS>::new();
     let Ok(()) = push_retyped(&mut parts, gone, range, mtype, owner) else {
         return None;
     };
@@ -335,7 +335,7 @@ fn runs_across(
     low: usize,
     second: &[Run],
     high: usize,
-) -> Option<ArrayVec<Run, MOST_PARTS>>
+) -> Option<ArrayVec<Run, MAX_PARTS>>
     requires low { low ≤ length first.now }
     requires high { high ≤ length second.now }
     ensures { IfSome result (λ runs. runs.items ≡ drop low first.now ++ take high second.now) }
@@ -381,7 +381,7 @@ fn retype_across<A: Allocator + Copy>(
     let high = count_beginning_by(second, range.first + range.pages);
     let near_runs = runs_across(first, low, second, high)?;
     let gone = near_runs.as_slice();
-    let mut parts = ArrayVec::<Run, MOST_PARTS>::new();
+    let mut parts = ArrayVec::<Run, MAX_PARTS>::new();
     let Ok(()) = push_retyped(&mut parts, gone, range, mtype, owner) else {
         return None;
     };

@@ -17,7 +17,7 @@ use std::alloc::{AllocError, Allocator};
 use std::marker::Model;
 
 /// How many rows of handles that are gone stay, beside as many as there are live handles.
-const MOST_GONE: usize = 32;
+const MAX_GONE: usize = 32;
 
 /// The live handles by ascending number, and beside them their numbers alone and those that drivers
 /// made. The row of a handle that goes stays until most rows are such rows.
@@ -161,7 +161,7 @@ fn tidy<A: Allocator + Copy>(rows: &mut Vec<HandleRow<A>, A>, live: usize)
     ensures same { rows_in rows.new.items ≡ rows_in rows.old.items }
     ensures filed { Ascending (λ a b. a < b) (filed_numbers rows.new.items) }
 {
-    if rows.len() / 2 > live.saturating_add(MOST_GONE / 2) {
+    if rows.len() / 2 > live.saturating_add(MAX_GONE / 2) {
         drop_gone(rows);
     }
 }

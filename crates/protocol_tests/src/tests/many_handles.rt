@@ -3,7 +3,7 @@ use super::draws::Draws;
 use super::drivers::{self, BINDING, add_children, opening, table};
 use super::listing::assert_list;
 use super::plain_drivers::{self, CHILD_VALUE, PlainDriver};
-use super::plain_lists::{self, Hindrance, Item, Lists, MOST_HANDLES, Made, empty_lists};
+use super::plain_lists::{self, Hindrance, Item, Lists, MAX_HANDLES, Made, empty_lists};
 use super::tallies::{Service, Tally, assert_least, count};
 use super::{Returned, Services, assert_tells, plain_opens, small_machine};
 use boot_core::{Call, CallHandles, Core};
@@ -338,7 +338,7 @@ fn status_of(rt: &(impl AllocGlobal + Abort), both: &mut Both, service: Service)
 
 /// Asserts that the handles are those of the plain lists.
 fn assert_handles(rt: &(impl AllocGlobal + Abort), both: &mut Both) {
-    let size = MOST_HANDLES * 8;
+    let size = MAX_HANDLES * 8;
     let call = Call::LocateHandle {
         search: 0,
         guid: drivers::guid(1),

@@ -1,6 +1,6 @@
 //! Drivers on plain lists: what starts, what stops, and what goes with it.
 use super::drivers::BINDING;
-use super::plain_lists::{Hindrance, Interface, Item, Lists, MOST_HANDLES, Made, Pair};
+use super::plain_lists::{Hindrance, Interface, Item, Lists, MAX_HANDLES, Made, Pair};
 use super::{Returned, plain_opens, tell};
 use page_ranges::Status;
 use std::process::Abort;
@@ -291,9 +291,9 @@ pub fn open(
 /// is that of their numbers where each is a new handle.
 fn candidates(rt: &(impl AllocGlobal + Abort), lists: &Lists, drivers: &[PlainDriver]) -> Vec<u64> {
     let mut found = Vec::new(rt.alloc());
-    for version in 0u32..MOST_VERSIONS {
+    for version in 0u32..MAX_VERSIONS {
         for i in &lists.interfaces {
-            if is_binding_of(drivers, i, MOST_VERSIONS - version) {
+            if is_binding_of(drivers, i, MAX_VERSIONS - version) {
                 found.push(i.handle).expect(rt, "memory");
             }
         }
@@ -310,7 +310,7 @@ fn is_binding_of(drivers: &[PlainDriver], i: &Interface, version: u32) -> bool {
 }
 
 /// Versions are at most this.
-const MOST_VERSIONS: u32 = 4;
+const MAX_VERSIONS: u32 = 4;
 
 /// Whether an interface is there and no driver and no exclusive agent has it open.
 fn is_free(lists: &Lists, handle: u64, guid: u8) -> bool {
@@ -324,7 +324,7 @@ fn is_free(lists: &Lists, handle: u64, guid: u8) -> bool {
 
 /// Starts a driver on a controller, where there is room for its child.
 fn start(rt: &impl Abort, lists: &mut Lists, driver: &PlainDriver, pair: Pair) -> bool {
-    if driver.child != 0 && lists.count() >= MOST_HANDLES {
+    if driver.child != 0 && lists.count() >= MAX_HANDLES {
         return false;
     }
     let item = Item {

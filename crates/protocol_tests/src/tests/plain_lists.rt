@@ -4,7 +4,7 @@ use page_ranges::Status;
 use std::process::Abort;
 
 /// The most handles that can be live.
-pub const MOST_HANDLES: u64 = 4096;
+pub const MAX_HANDLES: u64 = 4096;
 
 /// The value of a GUID on a handle, with the stamp of its installation.
 #[derive(Clone, Copy)]
@@ -272,7 +272,7 @@ pub fn install(
     if kind != 0 || lists.is_bad(handle, pairs) {
         return tell(rt, Status::InvalidParameter, &[]);
     }
-    if handle == 0 && lists.count() >= MOST_HANDLES {
+    if handle == 0 && lists.count() >= MAX_HANDLES {
         return tell(rt, Status::OutOfResources, &[]);
     }
     let handle = lists.given_or_new(rt, handle);

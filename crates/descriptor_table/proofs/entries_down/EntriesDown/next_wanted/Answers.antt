@@ -4,8 +4,8 @@ use Rattle.descriptor_table.specs.Wanting.{entries_of, runs_to}
 use Rattle.descriptor_table.proofs.Downward.{too_much}
 use Rattle.descriptor_table.proofs.entries_down.EntriesDown.next_wanted.Goals as goal
 
-pub returns-then-wanted-gt-MOST_GAIN-clause-next : goal.returns-then-wanted-gt-MOST_GAIN-clause-next
-returns-then-wanted-gt-MOST_GAIN-clause-next g c = too_much c.args.self.now.memory c.args.wanted.now c.args.self.now.entries (omega arith)
+pub returns-then-wanted-gt-MAX_GAIN-clause-next : goal.returns-then-wanted-gt-MAX_GAIN-clause-next
+returns-then-wanted-gt-MAX_GAIN-clause-next g c = too_much c.args.self.now.memory c.args.wanted.now c.args.self.now.entries (omega arith)
 
 pub returns-clause-next : goal.returns-clause-next
 returns-clause-next g c =

@@ -3,8 +3,8 @@ use Rattle.descriptor_table.specs.Summaries.{AllowsLeaf}
 use Rattle.descriptor_table.proofs.Grouped.{leaf_left, leaf_right}
 use Rattle.descriptor_table.proofs.groups.Group.changed.Goals as goal
 
-pub returns-then-self-ge-MOST_CHANGES : goal.returns-then-self-ge-MOST_CHANGES
-returns-then-self-ge-MOST_CHANGES g c = λ j low high side. c.summary_from.ensures j (omega (arith, low)) (omega (arith, high))
+pub returns-then-self-ge-MAX_CHANGES : goal.returns-then-self-ge-MAX_CHANGES
+returns-then-self-ge-MAX_CHANGES g c = λ j low high side. c.summary_from.ensures j (omega (arith, low)) (omega (arith, high))
 
 pub returns : goal.returns
 returns g c = λ j low high side.
