@@ -721,6 +721,61 @@ RAFKUDIN_API void RafkudinConnectRecord(struct rafkudin_turns *turns,
                                         struct rafkudin_binding *drivers, size_t count,
                                         bool was_started);
 
+/* Nor can a service stop such a driver: an OpenProtocol with RAFKUDIN_EXCLUSIVE, an uninstall or a
+ * reinstall of an interface that one has open by driver is ACCESS_DENIED, and DisconnectController
+ * is DEVICE_ERROR. So the caller stops these drivers before it calls the service:
+ *
+ *     struct rafkudin_stop stops[..];
+ *     rafkudin_uint64 children[..];
+ *
+ *     status = RafkudinStopsOnInterface(core, handle, &guid, stops, room, &count);
+ *     for (i = 0; i < count; i++) {
+ *         status = RafkudinChildren(core, stops[i].controller, stops[i].agent, children, ..);
+ *         .. Stop() of the driver stops[i].agent on the controller, first with its children ..
+ *     }
+ *
+ * What Stop() itself uninstalls has drivers of its own to be stopped, so stops nest. After a stop
+ * that changed what is open the list is asked for anew.
+ *
+ * The lists are written to the front of a buffer that has room for `room` entries; *count is how
+ * many there are. A handle that is not live, or lacks the GUID, has none.
+ *
+ * BUFFER_TOO_SMALL: there is no room for all of them, and none is written; *count is set too.
+ * OUT_OF_RESOURCES: memory was refused; *count stays as it is. */
+
+/* A driver that is to be stopped on a controller: its driver handle, which has something there open
+ * by driver. */
+struct rafkudin_stop {
+    rafkudin_uint64 controller;
+    rafkudin_uint64 agent;
+};
+
+/* The drivers to be stopped, in order, before an interface can be opened exclusively, uninstalled
+ * or reinstalled: those that have it open by driver. Where drivers of RafkudinMake made handles,
+ * the drivers on these are among them, the controller that was made last first. */
+RAFKUDIN_API rafkudin_uint64 RafkudinStopsOnInterface(const struct rafkudin *core,
+                                                      rafkudin_uint64 Handle,
+                                                      const struct rafkudin_guid *Protocol,
+                                                      struct rafkudin_stop *stops, size_t room,
+                                                      rafkudin_uint64 *count);
+
+/* The same before a controller is disconnected: from all drivers that manage it, or from one where
+ * `DriverImageHandle` is not 0. */
+RAFKUDIN_API rafkudin_uint64 RafkudinStopsOnController(const struct rafkudin *core,
+                                                       rafkudin_uint64 ControllerHandle,
+                                                       rafkudin_uint64 DriverImageHandle,
+                                                       struct rafkudin_stop *stops, size_t room,
+                                                       rafkudin_uint64 *count);
+
+/* The children of a driver on a controller, each once: those that a driver of RafkudinMake made, by
+ * ascending handle, and then the handles for which the agent has an interface of the controller
+ * open by RAFKUDIN_BY_CHILD_CONTROLLER. */
+RAFKUDIN_API rafkudin_uint64 RafkudinChildren(const struct rafkudin *core,
+                                              rafkudin_uint64 ControllerHandle,
+                                              rafkudin_uint64 AgentHandle,
+                                              rafkudin_uint64 *children, size_t room,
+                                              rafkudin_uint64 *count);
+
 /* ---- Device paths in the caller's memory, which lie in no block of the pool ---- */
 
 /* LocateDevicePath with a path of `length` bytes or fewer at `path`, as an image or a stack has it:

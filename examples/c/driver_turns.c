@@ -1,8 +1,9 @@
-/* Drivers that are code, by the turns of rafkudin.h. Drawn drivers run on two cores: on one as
- * tables of RafkudinMake, by ConnectController, and on the other as code that this program calls in
- * the turns that the library says. Both have to come to the same handles, interfaces, open items
- * and events. Then a driver opens, makes children and fails half way, in each order. Each point
- * that is not as said is printed on standard error, and then the status is 1. */
+/* Drivers that are code, by the turns and the stops of rafkudin.h. Drawn drivers run on two cores:
+ * on one as tables of RafkudinMake, by the services that start and stop them, and on the other as
+ * code that this program calls in the order that the library says. Both have to come to the same
+ * handles, interfaces, open items and events. Then a driver opens, makes children and fails half
+ * way, in each order. Each point that is not as said is printed on standard error, and then the
+ * status is 1. */
 #include "points.h"
 
 #include <rafkudin.h>
@@ -26,6 +27,10 @@ struct events {
     uint64_t list[4096];
     size_t count;
 };
+
+/* Whether drivers are stopped too. Then a driver that is code has its controller open for each of
+ * its children, of which none is a driver handle, and nothing else is open so. */
+static bool has_stops;
 
 static uint64_t drawn = 1;
 
@@ -121,7 +126,19 @@ static bool carries(struct rafkudin *core, uint64_t handle, const struct rafkudi
     return RafkudinHandleProtocol(core, handle, guid, &value) == RAFKUDIN_SUCCESS;
 }
 
-/* Whether two cores have the same handles, interfaces and open items. */
+/* Takes out the items that are open for a child. */
+static size_t without_children(uint8_t *items, size_t count)
+{
+    size_t kept = 0;
+
+    for (size_t i = 0; i < count; i++)
+        if (number_at(items + 24 * i + 16, 4) != RAFKUDIN_BY_CHILD_CONTROLLER)
+            memmove(items + 24 * kept++, items + 24 * i, 24);
+    return kept;
+}
+
+/* Whether two cores have the same handles, interfaces and open items, but for those of the second
+ * that are for children where drivers are stopped. */
 static bool are_same(struct rafkudin *one, struct rafkudin *two)
 {
     static uint64_t handles[2][MOST];
@@ -142,11 +159,14 @@ static bool are_same(struct rafkudin *one, struct rafkudin *two)
         for (size_t k = 0; k < counts[0]; k++) {
             uint64_t values[2] = {0, 0};
             size_t open = items_of(one, handles[0][i], &guids[0][k], items[0]);
+            size_t other = items_of(two, handles[0][i], &guids[0][k], items[1]);
+
+            if (has_stops)
+                other = without_children(items[1], other);
 
             RafkudinHandleProtocol(one, handles[0][i], &guids[0][k], &values[0]);
             RafkudinHandleProtocol(two, handles[0][i], &guids[0][k], &values[1]);
-            if (values[0] != values[1] ||
-                items_of(two, handles[0][i], &guids[0][k], items[1]) != open ||
+            if (values[0] != values[1] || other != open ||
                 memcmp(items[0], items[1], open * 24) != 0)
                 return false;
         }
@@ -211,6 +231,12 @@ static bool start(struct rafkudin *core, const struct rafkudin_driver *driver, u
                                                         driver->children[i].count) ==
               RAFKUDIN_SUCCESS);
         note_events(core, events);
+        if (has_stops) {
+            uint64_t value = 0;
+
+            HOLDS(RafkudinOpenProtocol(core, handle, &driver->opens[0], &value, agent, child,
+                                       RAFKUDIN_BY_CHILD_CONTROLLER) == RAFKUDIN_SUCCESS);
+        }
     }
     return true;
 }
@@ -269,6 +295,89 @@ static uint64_t connect_by_turns(struct rafkudin *core, uint64_t handle, const u
     return is_any_carried_out ? RAFKUDIN_SUCCESS : RAFKUDIN_NOT_FOUND;
 }
 
+/* ---- Stops ---- */
+
+static bool stop(struct rafkudin *core, const struct rafkudin_stop *pair);
+
+static bool stop_each(struct rafkudin *core, const struct rafkudin_stop *stops, uint64_t count)
+{
+    for (uint64_t i = 0; i < count; i++)
+        if (!stop(core, &stops[i]))
+            return false;
+    return true;
+}
+
+/* Stops the drivers that have an interface open. */
+static bool free_by_turns(struct rafkudin *core, uint64_t handle, const struct rafkudin_guid *guid)
+{
+    struct rafkudin_stop stops[MOST];
+    uint64_t count = 0;
+
+    return RafkudinStopsOnInterface(core, handle, guid, stops, MOST, &count) == RAFKUDIN_SUCCESS &&
+           stop_each(core, stops, count);
+}
+
+/* Stops the drivers that manage a controller, or one of them. */
+static bool disconnect_by_turns(struct rafkudin *core, uint64_t controller, uint64_t driver)
+{
+    struct rafkudin_stop stops[MOST];
+    uint64_t count = 0;
+
+    return RafkudinStopsOnController(core, controller, driver, stops, MOST, &count) ==
+               RAFKUDIN_SUCCESS &&
+           stop_each(core, stops, count);
+}
+
+/* Whether a handle is that of a driver that lets itself be stopped. */
+static bool can_stop(struct rafkudin *core, uint64_t agent)
+{
+    uint64_t value = 0;
+
+    return RafkudinHandleProtocol(core, agent, &driver_binding, &value) == RAFKUDIN_SUCCESS &&
+           value < DRIVERS && tables[value].stops;
+}
+
+/* A child goes with its interfaces, once the drivers that have them open are stopped. */
+static bool take_out(struct rafkudin *core, uint64_t child)
+{
+    struct rafkudin_interface interface;
+
+    while (RafkudinInterface(core, child, 0, &interface) == RAFKUDIN_SUCCESS)
+        if (!free_by_turns(core, child, &interface.guid) ||
+            RafkudinUninstallProtocolInterface(core, child, &interface.guid, interface.value) !=
+                RAFKUDIN_SUCCESS)
+            return false;
+    return true;
+}
+
+/* Stop() of a driver on a controller: it closes all that it has open for it, and then its children
+ * go, with the drivers on them. */
+static bool stop(struct rafkudin *core, const struct rafkudin_stop *pair)
+{
+    uint64_t children[MOST], count = 0;
+    struct rafkudin_open item;
+    size_t index = 0;
+
+    if (!can_stop(core, pair->agent) ||
+        RafkudinChildren(core, pair->controller, pair->agent, children, MOST, &count) !=
+            RAFKUDIN_SUCCESS)
+        return false;
+    while (RafkudinAgentItem(core, pair->agent, index, &item) == RAFKUDIN_SUCCESS) {
+        if (item.controller != pair->controller)
+            index++;
+        else if (RafkudinCloseProtocol(core, item.handle, &item.guid, pair->agent,
+                                       pair->controller) != RAFKUDIN_SUCCESS)
+            return false;
+    }
+    for (uint64_t i = 0; i < count; i++)
+        if (!disconnect_by_turns(core, children[i], 0))
+            return false;
+    for (uint64_t i = 0; i < count; i++)
+        if (!take_out(core, children[i]))
+            return false;
+    return true;
+}
+
 /* ---- Drawn drivers ---- */
 
 static void draw_tables(void)
@@ -278,7 +387,7 @@ static void draw_tables(void)
         struct rafkudin_driver *driver = &tables[i];
 
         driver->version = draw(3);
-        driver->stops = true;
+        driver->stops = !has_stops || draw(6) != 0;
         driver->needs_count = draw(3);
         driver->opens_count = draw(8) == 0 ? 0 : 1 + draw(2);
         driver->children_count = draw(3);
@@ -289,11 +398,29 @@ static void draw_tables(void)
             driver->children[k].count = draw(16) == 0 ? 0 : 1 + draw(2);
             for (unsigned m = 0; m < 4; m++) {
                 driver->children[k].interfaces[m].guid =
-                    draw(8) == 0 ? driver_binding : protocol(draw(PROTOCOLS));
+                    draw(8) == 0 && !has_stops ? driver_binding : protocol(draw(PROTOCOLS));
                 driver->children[k].interfaces[m].value = draw(DRIVERS);
             }
         }
     }
+}
+
+static bool are_same_events(const struct events *one, const struct events *two)
+{
+    return one->count == two->count && memcmp(one->list, two->list, one->count * 8) == 0;
+}
+
+/* Whether an agent has an interface open for a controller by driver. */
+static bool is_driven_by(struct rafkudin *core, uint64_t handle, const struct rafkudin_guid *guid,
+                         uint64_t agent, uint64_t controller)
+{
+    struct rafkudin_item item;
+
+    for (size_t i = 0; RafkudinOpenItem(core, handle, guid, i, &item) == RAFKUDIN_SUCCESS; i++)
+        if (item.agent == agent && item.controller == controller &&
+            (item.attributes & RAFKUDIN_BY_DRIVER) != 0)
+            return true;
+    return false;
 }
 
 /* One step on both cores, the same: an interface, a connect, an open or a close. */
@@ -313,20 +440,27 @@ static bool try_step(struct rafkudin *by_tables, struct rafkudin *by_turns)
     case 0:
     case 1:
     case 2:
-        one = two = draw(2) == 0 ? 0 : handle;
+        one = two = draw(2) == 0 || (has_stops && memcmp(&guid, &driver_binding, 16) == 0) ? 0
+                                                                                         : handle;
         status = RafkudinInstallProtocolInterface(by_tables, &one, &guid, 0, value);
         return RafkudinInstallProtocolInterface(by_turns, &two, &guid, 0, value) == status &&
                one == two;
     case 3:
-        if ((attributes & RAFKUDIN_EXCLUSIVE) != 0 && is_held(by_turns, handle, &guid))
+        if ((attributes & RAFKUDIN_EXCLUSIVE) != 0 &&
+            (has_stops || is_held(by_turns, handle, &guid)))
+            return true;
+        if (attributes == RAFKUDIN_BY_CHILD_CONTROLLER && has_stops)
             return true;
         status = RafkudinOpenProtocol(by_tables, handle, &guid, &one, agent, agent, attributes);
         return RafkudinOpenProtocol(by_turns, handle, &guid, &two, agent, agent, attributes) ==
                    status &&
                one == two;
     case 4:
-        status = RafkudinCloseProtocol(by_tables, handle, &guid, agent, handle);
-        return RafkudinCloseProtocol(by_turns, handle, &guid, agent, handle) == status;
+        one = has_stops ? agent : handle;
+        if (has_stops && is_driven_by(by_turns, handle, &guid, agent, one))
+            return true;
+        status = RafkudinCloseProtocol(by_tables, handle, &guid, agent, one);
+        return RafkudinCloseProtocol(by_turns, handle, &guid, agent, one) == status;
     default: {
         bool recursive = draw(2) == 0;
 
@@ -334,14 +468,84 @@ static bool try_step(struct rafkudin *by_tables, struct rafkudin *by_turns)
         note_events(by_tables, &events[0]);
         return connect_by_turns(by_turns, handle, named, named_count, recursive ? DEEPEST : 1,
                                 &events[1]) == status &&
-               events[0].count == events[1].count &&
-               memcmp(events[0].list, events[1].list, events[0].count * 8) == 0;
+               are_same_events(&events[0], &events[1]);
     }
     }
 }
 
-static void try_drawn(unsigned runs)
+/* An exclusive open on both cores, which is closed again. */
+static bool try_exclusive(struct rafkudin *by_tables, struct rafkudin *by_turns, uint64_t handle,
+                          const struct rafkudin_guid *guid, uint64_t agent)
 {
+    uint32_t attributes = RAFKUDIN_EXCLUSIVE | (draw(2) == 0 ? RAFKUDIN_BY_DRIVER : 0U);
+    uint64_t one = 0, two = 0, status;
+
+    status = RafkudinOpenProtocol(by_tables, handle, guid, &one, agent, agent, attributes);
+    if (status == RAFKUDIN_SUCCESS && !free_by_turns(by_turns, handle, guid))
+        return false;
+    if (RafkudinOpenProtocol(by_turns, handle, guid, &two, agent, agent, attributes) != status ||
+        one != two)
+        return false;
+    if (status != RAFKUDIN_SUCCESS)
+        return true;
+    status = RafkudinCloseProtocol(by_tables, handle, guid, agent, agent);
+    return RafkudinCloseProtocol(by_turns, handle, guid, agent, agent) == status;
+}
+
+/* An uninstall or a reinstall on both cores. */
+static bool try_removal(struct rafkudin *by_tables, struct rafkudin *by_turns, uint64_t handle,
+                        const struct rafkudin_guid *guid)
+{
+    static struct events events[2];
+    uint64_t old = draw(DRIVERS + 1), new = draw(DRIVERS + 1), status;
+    bool is_uninstall = draw(2) == 0;
+
+    events[0].count = events[1].count = 0;
+    if (draw(8) != 0)
+        RafkudinHandleProtocol(by_turns, handle, guid, &old);
+    status = is_uninstall
+                 ? RafkudinUninstallProtocolInterface(by_tables, handle, guid, old)
+                 : RafkudinReinstallProtocolInterface(by_tables, handle, guid, old, new);
+    note_events(by_tables, &events[0]);
+    if (status == RAFKUDIN_SUCCESS && !free_by_turns(by_turns, handle, guid))
+        return false;
+    if (is_uninstall)
+        return RafkudinUninstallProtocolInterface(by_turns, handle, guid, old) == status;
+    if (RafkudinReinstallProtocolInterface(by_turns, handle, guid, old, new) != status)
+        return false;
+    note_events(by_turns, &events[1]);
+    if (status == RAFKUDIN_SUCCESS)
+        connect_by_turns(by_turns, handle, NULL, 0, DEEPEST, &events[1]);
+    return are_same_events(&events[0], &events[1]);
+}
+
+/* A service that stops drivers, on both cores: on one it stops them itself, on the other they are
+ * stopped before it is called. What can't be stopped on the one is refused on both. */
+static bool try_stop(struct rafkudin *by_tables, struct rafkudin *by_turns)
+{
+    struct rafkudin_guid guid = draw(8) == 0 ? driver_binding : protocol(draw(PROTOCOLS));
+    uint64_t last = last_handle(by_tables), handle = draw(last + 2), other = draw(last + 2);
+    uint64_t status;
+
+    switch (draw(4)) {
+    case 0:
+        return try_exclusive(by_tables, by_turns, handle, &guid, other);
+    case 1:
+    case 2:
+        return try_removal(by_tables, by_turns, handle, &guid);
+    default:
+        if (draw(2) == 0)
+            other = 0;
+        status = RafkudinDisconnectDrivers(by_tables, handle, other);
+        if (status == RAFKUDIN_SUCCESS && !disconnect_by_turns(by_turns, handle, other))
+            return false;
+        return RafkudinDisconnectDrivers(by_turns, handle, other) == status;
+    }
+}
+
+static void try_drawn(unsigned runs, bool stops)
+{
+    has_stops = stops;
     for (unsigned run = 0; run < runs; run++) {
         struct rafkudin *by_tables, *by_turns;
         bool is_same = true;
@@ -357,13 +561,15 @@ static void try_drawn(unsigned runs)
             RafkudinRegisterProtocolNotify(by_turns, &guid, 100 + i, &key);
         }
         for (unsigned step = 0; step < 24 && is_same && last_handle(by_tables) < 200; step++)
-            is_same = try_step(by_tables, by_turns) && are_same(by_tables, by_turns);
+            is_same = (has_stops && draw(3) == 0 ? try_stop : try_step)(by_tables, by_turns) &&
+                      are_same(by_tables, by_turns);
         HOLDS(is_same);
         if (!is_same)
             fprintf(stderr, "driver_turns: the drivers of run %u\n", run);
         RafkudinFree(by_tables);
         RafkudinFree(by_turns);
     }
+    has_stops = false;
 }
 
 /* ---- A start that fails half way ---- */
@@ -419,6 +625,43 @@ static struct rafkudin *make_bus(uint64_t *handles)
     return core;
 }
 
+/* What is to be stopped once the bus driver has taken some steps: itself where it has the bus open,
+ * with the children that it has made so far. */
+static void try_half_way(struct rafkudin *core, const uint64_t *handles, const enum step *order,
+                         unsigned steps, const uint64_t *children)
+{
+    struct rafkudin_guid guid = protocol(0);
+    struct rafkudin_stop stops[2] = {{0, 0}, {0, 0}};
+    uint64_t found[STEPS] = {0}, count = 0, made = 0;
+    bool is_open = false;
+
+    HOLDS(RafkudinChildren(core, handles[0], handles[1], found, STEPS, &count) ==
+          RAFKUDIN_SUCCESS);
+    for (unsigned i = 0; i < steps; i++) {
+        is_open |= order[i] == OPEN;
+        if (order[i] != OPEN)
+            HOLDS(found[made++] == children[order[i]]);
+    }
+    HOLDS(count == made);
+    HOLDS(RafkudinChildren(core, handles[0], handles[1], NULL, 0, &count) ==
+              (made == 0 ? RAFKUDIN_SUCCESS : RAFKUDIN_BUFFER_TOO_SMALL) &&
+          count == made);
+    HOLDS(RafkudinChildren(core, handles[0], handles[2], found, STEPS, &count) ==
+              RAFKUDIN_SUCCESS &&
+          count == 0);
+    HOLDS(RafkudinStopsOnInterface(core, handles[0], &guid, stops, 2, &count) ==
+              RAFKUDIN_SUCCESS &&
+          count == is_open);
+    HOLDS(!is_open || (stops[0].controller == handles[0] && stops[0].agent == handles[1]));
+    HOLDS(RafkudinStopsOnController(core, handles[0], handles[1], stops + 1, 1, &count) ==
+              RAFKUDIN_SUCCESS &&
+          count == is_open);
+    HOLDS(memcmp(&stops[0], &stops[1], sizeof stops[0]) == 0);
+    HOLDS(RafkudinStopsOnController(core, handles[0], handles[2], stops, 2, &count) ==
+              RAFKUDIN_SUCCESS &&
+          count == 0);
+}
+
 /* The bus driver takes some steps and fails, with or without undoing them, or takes all. Beside it
  * is a driver of a lower version that supports a bus which is not held and changes nothing. */
 static void try_start(const enum step *order, unsigned steps, bool undoes)
@@ -447,9 +690,14 @@ static void try_start(const enum step *order, unsigned steps, bool undoes)
             undo_step(core, order[i - 1], driver.handle, handles[0], children);
         RafkudinConnectRecord(&turns, drivers, 2, is_supported);
     }
+    if (!undoes)
+        try_half_way(core, handles, order, steps, children);
+    for (unsigned i = steps; i > 0 && !undoes; i--)
+        undo_step(core, order[i - 1], handles[1], handles[0], children);
+    try_half_way(core, handles, order, 0, children);
     HOLDS(asked[0] == 1 && started[0] == 1);
     HOLDS(asked[1] == (is_open ? 2U : 1U) && started[1] == (is_open ? 0U : 1U));
-    HOLDS(!undoes || are_same(core, fresh));
+    HOLDS(are_same(core, fresh));
     RafkudinConnectRecord(&turns, drivers, 2, true);
     HOLDS(RafkudinConnectNext(&turns, drivers, 2, &driver) == RAFKUDIN_NOT_FOUND);
     RafkudinFree(core);
@@ -491,13 +739,57 @@ static void try_lists(void)
     RafkudinFree(core);
 }
 
+/* ---- Drivers of RafkudinMake ---- */
+
+/* Three drivers, each on the child of the one before it: the one on the last child is stopped
+ * first. */
+static void try_made(void)
+{
+    uint64_t handles[4] = {0}, bus = 0, child = 0, count = 0;
+    struct rafkudin_stop stops[3] = {{7, 7}, {7, 7}, {7, 7}};
+    struct rafkudin_guid guid = protocol(0);
+    struct rafkudin *core;
+
+    memset(tables, 0, sizeof tables);
+    for (unsigned i = 0; i < 3; i++) {
+        tables[i].stops = true;
+        tables[i].needs_count = tables[i].opens_count = tables[i].children_count = 1;
+        tables[i].needs[0] = tables[i].opens[0] = protocol(i);
+        tables[i].children[0].count = 1;
+        tables[i].children[0].interfaces[0].guid = protocol(i + 1);
+    }
+    core = make_core(tables, 3);
+    for (unsigned i = 0; i < 3; i++)
+        HOLDS(RafkudinInstallProtocolInterface(core, &handles[i], &driver_binding, 0, i) ==
+              RAFKUDIN_SUCCESS);
+    HOLDS(RafkudinInstallProtocolInterface(core, &bus, &guid, 0, 7) == RAFKUDIN_SUCCESS);
+    HOLDS(RafkudinConnectDrivers(core, bus, NULL, 0, true) == RAFKUDIN_SUCCESS);
+    HOLDS(RafkudinStopsOnController(core, bus, 0, stops, 2, &count) ==
+              RAFKUDIN_BUFFER_TOO_SMALL &&
+          count == 3 && stops[0].controller == 7);
+    HOLDS(RafkudinStopsOnInterface(core, bus, &guid, stops, 3, &count) == RAFKUDIN_SUCCESS &&
+          count == 3);
+    for (uint64_t i = 0; i < 3; i++) {
+        HOLDS(stops[i].controller == bus + 2 - i && stops[i].agent == handles[2 - i]);
+        HOLDS(RafkudinChildren(core, stops[i].controller, stops[i].agent, &child, 1, &count) ==
+                  RAFKUDIN_SUCCESS &&
+              count == 1 && child == stops[i].controller + 1);
+    }
+    HOLDS(RafkudinDisconnectDrivers(core, bus, 0) == RAFKUDIN_SUCCESS);
+    HOLDS(RafkudinStopsOnController(core, bus, 0, NULL, 0, &count) == RAFKUDIN_SUCCESS &&
+          count == 0);
+    RafkudinFree(core);
+}
+
 int main(void)
 {
     try_lists();
+    try_made();
     for (unsigned i = 0; i < 6; i++)
         for (unsigned steps = 0; steps <= STEPS; steps++)
             for (unsigned undoes = 0; undoes < 2; undoes++)
                 try_start(orders[i], steps, undoes != 0);
-    try_drawn(400);
+    try_drawn(400, false);
+    try_drawn(800, true);
     return points_end("driver_turns");
 }
