@@ -25,11 +25,11 @@
  * pointer may be null.
  *
  * STATUSES. Services return an EFI_STATUS. SUCCESS is 0. Any other is a refusal, which leaves the
- * core as it was, but for the number of calls left, and for RafkudinEvents and RafkudinCertificate,
- * which no longer report the call before. It leaves what the call's pointers lead to as well, but
- * for what is said of BUFFER_TOO_SMALL, of OpenProtocol and of HandleProtocol. Where several
- * refusals apply, the call returns the one that is named first. These hold for every service, and
- * are not repeated below:
+ * core as it was, but for the number of calls left, and for RafkudinEvents, RafkudinCertificate and
+ * RafkudinReplyLine, which no longer report the call before. It leaves what the call's pointers
+ * lead to as well, but for what is said of BUFFER_TOO_SMALL, of OpenProtocol and of HandleProtocol.
+ * Where several refusals apply, the call returns the one that is named first. These hold for every
+ * service, and are not repeated below:
  * - First of all, ABORTED: the core has served its 2^31 calls. Refused ones count too.
  * - Then UNSUPPORTED: boot services have ended. Every service returns it from then on.
  * - Last of all, OUT_OF_RESOURCES: the heap refused the core memory for its own tables.
@@ -295,6 +295,21 @@ RAFKUDIN_API void RafkudinCertify(struct rafkudin *core, bool certify);
  * is written. NOT_FOUND: there is no certificate. OUT_OF_RESOURCES: memory was refused. */
 RAFKUDIN_API rafkudin_uint64 RafkudinCertificate(const struct rafkudin *core, uint8_t *text,
                                                  size_t room, rafkudin_uint64 *length);
+
+/* What the program `bootcore` prints of the last service that was called, byte for byte, without a
+ * zero byte at its end: the lines of its reply under the number of its line in a trace
+ * (docs/FORMATS.md) and, while certificates are kept, its certificate as with `--certify`. `text`
+ * has room for `room` bytes; the text is written where all of it fits. A caller who writes the
+ * lines of its calls so has what the program must print of them.
+ *
+ * SUCCESS: *length are the bytes written. BUFFER_TOO_SMALL: *length are the bytes needed, and none
+ * is written. NOT_FOUND: the call left no reply: it was GetMemoryMap or PoolRead, whose replies are
+ * in the caller's buffers, or UninstallMultipleProtocolInterfaces or RafkudinLocatePath, which are
+ * in no trace, or it was ABORTED. OUT_OF_RESOURCES: memory was refused. After RafkudinInstallPath,
+ * which makes several calls, the reply is that of the one that decides its status. */
+RAFKUDIN_API rafkudin_uint64 RafkudinReplyLine(const struct rafkudin *core, rafkudin_uint64 number,
+                                               uint8_t *text, size_t room,
+                                               rafkudin_uint64 *length);
 
 /* How many events the last service that was called signals, and the first `room` of them in
  * `events`, in their order. Only InstallProtocolInterface, InstallMultipleProtocolInterfaces,

@@ -36,6 +36,20 @@ static inline rafkudin_uint64 rafkudin_certificate(const struct rafkudin *core, 
 }
 #define RafkudinCertificate rafkudin_certificate
 
+static inline rafkudin_uint64 rafkudin_reply_line(const struct rafkudin *core,
+                                                  rafkudin_uint64 number, uint8_t *text,
+                                                  size_t room, rafkudin_uint64 *length)
+{
+    rafkudin_uint64 nothing = 0;
+
+    if (core == NULL || length == NULL || (text == NULL && room != 0))
+        return RAFKUDIN_INVALID_PARAMETER;
+    if (text == NULL)
+        text = (uint8_t *)(void *)&nothing;
+    return RafkudinReplyLine(core, number, text, room, length);
+}
+#define RafkudinReplyLine rafkudin_reply_line
+
 static inline rafkudin_uint64 rafkudin_check(const uint8_t *text, size_t length,
                                              rafkudin_uint64 *line)
 {

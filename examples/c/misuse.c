@@ -53,6 +53,7 @@ static void try_no_core(void)
     REFUSED(RafkudinCheck(NULL, 0, &number));
     HOLDS(number == 1);
     REFUSED(RafkudinCertificate(NULL, &byte, 1, &number));
+    REFUSED(RafkudinReplyLine(NULL, 1, &byte, 1, &number));
     REFUSED(RafkudinDescriptor(NULL, 0, &entry));
     HOLDS(RafkudinEvents(NULL, &number, 1) == 0);
 }
@@ -195,6 +196,8 @@ static void try_null_parameters(struct rafkudin *core)
 
     REFUSED(RafkudinCertificate(core, NULL, 1, &one));
     REFUSED(RafkudinCertificate(core, &byte, 1, NULL));
+    REFUSED(RafkudinReplyLine(core, 1, NULL, 1, &one));
+    REFUSED(RafkudinReplyLine(core, 1, &byte, 1, NULL));
     REFUSED(RafkudinDescriptor(core, 0, NULL));
     REFUSED(RafkudinAllocatePages(core, 0, 4, 1, NULL));
     REFUSED(RafkudinGetMemoryMap(core, NULL, &byte, NULL, NULL, NULL));
