@@ -1,6 +1,6 @@
 //! What comes next where a caller starts and stops drivers itself. None is a service, and none uses up a call.
 ghost use Rattle.std.specs.Prelude.{◌≡◌};
-ghost use Rattle.c_interface.specs.Stops as spec;
+ghost use Rattle.c_interface.specs.Stops.{ListsChildren, ListsManagers, ListsStops};
 ghost use Rattle.c_interface.specs.Turns.{ReturnsDriver, ReturnsTurns};
 ghost use Rattle.driver_connect.specs.DriverTurns.{EndsTurn, next_driver, pass_of};
 
@@ -69,8 +69,8 @@ pub extern "C" fn RafkudinStopsOnInterface(
     stops: &mut [StopEntry],
     count: &mut u64,
 ) -> u64
-    ensures returned { spec.FillsOrRunsOut (spec.stops_on_interface core.old.core handle guid.now)
-        count.old stops.old result count.new stops.new }
+    ensures returned { ListsStops
+        core.old.core handle guid.now count.old stops.old result count.new stops.new }
     ensures kept { core.new.core ≡ core.old.core }
 {
     core.held().stops_on_interface(handle, guid, stops, count)
@@ -86,9 +86,8 @@ pub extern "C" fn RafkudinStopsOnController(
     stops: &mut [StopEntry],
     count: &mut u64,
 ) -> u64
-    ensures returned { spec.FillsOrRunsOut
-        (spec.stops_on_controller core.old.core controller driver)
-        count.old stops.old result count.new stops.new }
+    ensures returned { ListsManagers
+        core.old.core controller driver count.old stops.old result count.new stops.new }
     ensures kept { core.new.core ≡ core.old.core }
 {
     core.held()
@@ -105,8 +104,8 @@ pub extern "C" fn RafkudinChildren(
     children: &mut [u64],
     count: &mut u64,
 ) -> u64
-    ensures returned { spec.FillsOrRunsOut (spec.children core.old.core controller agent)
-        count.old children.old result count.new children.new }
+    ensures returned { ListsChildren
+        core.old.core controller agent count.old children.old result count.new children.new }
     ensures kept { core.new.core ≡ core.old.core }
 {
     core.held().children(controller, agent, children, count)
