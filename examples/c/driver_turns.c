@@ -4,21 +4,15 @@
  * handles, interfaces, open items and events. Then a driver opens, makes children and fails half
  * way, in each order. Each point that is not as said is printed on standard error, and then the
  * status is 1. */
+#include "driver_cores.h"
 #include "points.h"
-
-#include <rafkudin.h>
 
 #include <stdio.h>
 #include <stdlib.h>
 #include <string.h>
 
 #define DRIVERS 6U
-#define PROTOCOLS 5U
-#define MOST 512U
 #define DEEPEST 8U
-
-static const struct rafkudin_guid driver_binding = {
-    {0xab, 0x31, 0xa0, 0x18, 0x43, 0xb4, 0x1a, 0x4d, 0xa5, 0xc0, 0x0c, 0x09, 0x26, 0x1e, 0x9f, 0x71}};
 
 static struct rafkudin_driver tables[DRIVERS];
 
@@ -42,25 +36,6 @@ static unsigned draw(unsigned below)
     return (unsigned)(drawn >> 20) % below;
 }
 
-static struct rafkudin_guid protocol(unsigned number)
-{
-    struct rafkudin_guid guid = {{(uint8_t)(number + 1)}};
-
-    return guid;
-}
-
-/* A core with 65,536 free pages from page 1 on. */
-static struct rafkudin *make_core(const struct rafkudin_driver *drivers, size_t count)
-{
-    uint8_t record[RAFKUDIN_DESCRIPTOR_SIZE] = {[0] = 7, [9] = 0x10, [26] = 1};
-    struct rafkudin *core = NULL;
-
-    if (RafkudinMake(record, sizeof record, sizeof record, 1, drivers, count, &core) !=
-        RAFKUDIN_SUCCESS)
-        abort();
-    return core;
-}
-
 static void note_events(const struct rafkudin *core, struct events *events)
 {
     size_t room = sizeof events->list / sizeof events->list[0] - events->count;
@@ -68,110 +43,6 @@ static void note_events(const struct rafkudin *core, struct events *events)
 
     HOLDS(count <= room);
     events->count += count <= room ? count : room;
-}
-
-/* ---- What a core has ---- */
-
-static size_t handles_of(struct rafkudin *core, uint32_t search, const struct rafkudin_guid *guid,
-                         uint64_t *handles)
-{
-    uint64_t size = MOST * 8;
-
-    if (RafkudinLocateHandle(core, search, guid, 0, &size, handles) != RAFKUDIN_SUCCESS)
-        return 0;
-    return (size_t)size / 8;
-}
-
-/* The open items on an interface, 24 bytes each. */
-static size_t items_of(struct rafkudin *core, uint64_t handle, const struct rafkudin_guid *guid,
-                       uint8_t *items)
-{
-    uint64_t block = 0, count = 0;
-
-    if (RafkudinOpenProtocolInformation(core, handle, guid, &block, &count) != RAFKUDIN_SUCCESS ||
-        count == 0)
-        return 0;
-    if (count > MOST)
-        abort();
-    HOLDS(RafkudinPoolRead(core, block, items, count * 24) == RAFKUDIN_SUCCESS);
-    HOLDS(RafkudinFreePool(core, block) == RAFKUDIN_SUCCESS);
-    return (size_t)count;
-}
-
-static uint64_t number_at(const uint8_t *bytes, size_t count)
-{
-    uint64_t number = 0;
-
-    while (count > 0)
-        number = number << 8 | bytes[--count];
-    return number;
-}
-
-/* Whether an interface is open for a driver or exclusively. */
-static bool is_held(struct rafkudin *core, uint64_t handle, const struct rafkudin_guid *guid)
-{
-    uint8_t items[MOST * 24];
-    size_t count = items_of(core, handle, guid, items);
-
-    for (size_t i = 0; i < count; i++)
-        if ((number_at(items + 24 * i + 16, 4) & (RAFKUDIN_BY_DRIVER | RAFKUDIN_EXCLUSIVE)) != 0)
-            return true;
-    return false;
-}
-
-static bool carries(struct rafkudin *core, uint64_t handle, const struct rafkudin_guid *guid)
-{
-    uint64_t value = 0;
-
-    return RafkudinHandleProtocol(core, handle, guid, &value) == RAFKUDIN_SUCCESS;
-}
-
-/* Takes out the items that are open for a child. */
-static size_t without_children(uint8_t *items, size_t count)
-{
-    size_t kept = 0;
-
-    for (size_t i = 0; i < count; i++)
-        if (number_at(items + 24 * i + 16, 4) != RAFKUDIN_BY_CHILD_CONTROLLER)
-            memmove(items + 24 * kept++, items + 24 * i, 24);
-    return kept;
-}
-
-/* Whether two cores have the same handles, interfaces and open items, but for those of the second
- * that are for children where drivers are stopped. */
-static bool are_same(struct rafkudin *one, struct rafkudin *two)
-{
-    static uint64_t handles[2][MOST];
-    static uint8_t items[2][MOST * 24];
-    size_t count = handles_of(one, RAFKUDIN_ALL_HANDLES, NULL, handles[0]);
-
-    if (handles_of(two, RAFKUDIN_ALL_HANDLES, NULL, handles[1]) != count ||
-        memcmp(handles[0], handles[1], count * 8) != 0)
-        return false;
-    for (size_t i = 0; i < count; i++) {
-        struct rafkudin_guid guids[2][PROTOCOLS + 1];
-        uint64_t counts[2] = {0, 0};
-
-        RafkudinProtocolsPerHandle(one, handles[0][i], guids[0], PROTOCOLS + 1, &counts[0]);
-        RafkudinProtocolsPerHandle(two, handles[0][i], guids[1], PROTOCOLS + 1, &counts[1]);
-        if (counts[0] != counts[1] || memcmp(guids[0], guids[1], counts[0] * 16) != 0)
-            return false;
-        for (size_t k = 0; k < counts[0]; k++) {
-            uint64_t values[2] = {0, 0};
-            size_t open = items_of(one, handles[0][i], &guids[0][k], items[0]);
-            size_t other = items_of(two, handles[0][i], &guids[0][k], items[1]);
-
-            if (has_stops)
-                other = without_children(items[1], other);
-
-            RafkudinHandleProtocol(one, handles[0][i], &guids[0][k], &values[0]);
-            RafkudinHandleProtocol(two, handles[0][i], &guids[0][k], &values[1]);
-            if (values[0] != values[1] || other != open ||
-                memcmp(items[0], items[1], open * 24) != 0)
-                return false;
-        }
-    }
-    return true;
 }
 
 /* ---- Drivers as code ---- */
@@ -259,6 +130,14 @@ static size_t bindings_of(struct rafkudin *core, struct rafkudin_binding *driver
     return found;
 }
 
+/* Whether there are more handles than this program looks at. */
+static bool is_crowded(const struct rafkudin *core)
+{
+    uint64_t count = 0;
+
+    return RafkudinHandlesInto(core, NULL, 0, &count) != RAFKUDIN_SUCCESS && count > MOST;
+}
+
 static uint64_t last_handle(struct rafkudin *core)
 {
     uint64_t handles[MOST];
@@ -297,13 +176,28 @@ static uint64_t connect_by_turns(struct rafkudin *core, uint64_t handle, const u
 
 /* ---- Stops ---- */
 
+/* How many lists of one driver were carried out and how many of more; and how many of all while a
+ * driver was stopped. */
+static unsigned stops_of_one, stops_of_more, nested_stops;
+
 static bool stop(struct rafkudin *core, const struct rafkudin_stop *pair);
 
 static bool stop_each(struct rafkudin *core, const struct rafkudin_stop *stops, uint64_t count)
 {
-    for (uint64_t i = 0; i < count; i++)
-        if (!stop(core, &stops[i]))
+    static unsigned depth;
+
+    stops_of_one += count == 1;
+    stops_of_more += count > 1;
+    nested_stops += count > 0 && depth > 0;
+    for (uint64_t i = 0; i < count; i++) {
+        bool is_stopped;
+
+        depth++;
+        is_stopped = stop(core, &stops[i]);
+        depth--;
+        if (!is_stopped)
             return false;
+    }
     return true;
 }
 
@@ -350,8 +244,8 @@ static bool take_out(struct rafkudin *core, uint64_t child)
     return true;
 }
 
-/* Stop() of a driver on a controller: it closes all that it has open for it, and then its children
- * go, with the drivers on them. */
+/* Stop() of a driver on a controller: it closes all that it has open for it, but not what says whose
+ * child it is, and then its children go, with the drivers on them. */
 static bool stop(struct rafkudin *core, const struct rafkudin_stop *pair)
 {
     uint64_t children[MOST], count = 0;
@@ -363,7 +257,8 @@ static bool stop(struct rafkudin *core, const struct rafkudin_stop *pair)
             RAFKUDIN_SUCCESS)
         return false;
     while (RafkudinAgentItem(core, pair->agent, index, &item) == RAFKUDIN_SUCCESS) {
-        if (item.controller != pair->controller)
+        if (item.controller != pair->controller ||
+            item.attributes == RAFKUDIN_BY_CHILD_CONTROLLER)
             index++;
         else if (RafkudinCloseProtocol(core, item.handle, &item.guid, pair->agent,
                                        pair->controller) != RAFKUDIN_SUCCESS)
@@ -465,12 +360,33 @@ static bool try_step(struct rafkudin *by_tables, struct rafkudin *by_turns)
         bool recursive = draw(2) == 0;
 
         status = RafkudinConnectDrivers(by_tables, handle, named, named_count, recursive);
+        if (is_crowded(by_tables))
+            return true;
         note_events(by_tables, &events[0]);
         return connect_by_turns(by_turns, handle, named, named_count, recursive ? DEEPEST : 1,
                                 &events[1]) == status &&
                are_same_events(&events[0], &events[1]);
     }
     }
+}
+
+/* Finds an interface that a driver has open, from a drawn handle on. */
+static bool draw_driven(struct rafkudin *core, uint64_t last, uint64_t *handle,
+                        struct rafkudin_guid *guid)
+{
+    struct rafkudin_interface interface;
+    uint64_t first = draw(last + 1);
+
+    for (uint64_t i = 0; i <= last; i++) {
+        *handle = (first + i) % (last + 1);
+        for (size_t k = 0;
+             RafkudinInterface(core, *handle, k, &interface) == RAFKUDIN_SUCCESS; k++) {
+            *guid = interface.guid;
+            if (is_held(core, *handle, guid))
+                return true;
+        }
+    }
+    return false;
 }
 
 /* An exclusive open on both cores, which is closed again. */
@@ -506,6 +422,8 @@ static bool try_removal(struct rafkudin *by_tables, struct rafkudin *by_turns, u
     status = is_uninstall
                  ? RafkudinUninstallProtocolInterface(by_tables, handle, guid, old)
                  : RafkudinReinstallProtocolInterface(by_tables, handle, guid, old, new);
+    if (is_crowded(by_tables))
+        return true;
     note_events(by_tables, &events[0]);
     if (status == RAFKUDIN_SUCCESS && !free_by_turns(by_turns, handle, guid))
         return false;
@@ -527,6 +445,8 @@ static bool try_stop(struct rafkudin *by_tables, struct rafkudin *by_turns)
     uint64_t last = last_handle(by_tables), handle = draw(last + 2), other = draw(last + 2);
     uint64_t status;
 
+    if (draw(4) != 0)
+        draw_driven(by_turns, last, &handle, &guid);
     switch (draw(4)) {
     case 0:
         return try_exclusive(by_tables, by_turns, handle, &guid, other);
@@ -534,13 +454,31 @@ static bool try_stop(struct rafkudin *by_tables, struct rafkudin *by_turns)
     case 2:
         return try_removal(by_tables, by_turns, handle, &guid);
     default:
-        if (draw(2) == 0)
+        if (draw(4) != 0)
             other = 0;
         status = RafkudinDisconnectDrivers(by_tables, handle, other);
         if (status == RAFKUDIN_SUCCESS && !disconnect_by_turns(by_turns, handle, other))
             return false;
         return RafkudinDisconnectDrivers(by_turns, handle, other) == status;
     }
+}
+
+/* Installs all driver handles, and a controller that carries each protocol. */
+static void install_all(struct rafkudin *core)
+{
+    struct rafkudin_interface interfaces[PROTOCOLS];
+    uint64_t controller = 0;
+
+    for (unsigned i = 0; i < DRIVERS; i++) {
+        uint64_t handle = 0;
+
+        HOLDS(RafkudinInstallProtocolInterface(core, &handle, &driver_binding, 0, i) ==
+              RAFKUDIN_SUCCESS);
+    }
+    for (unsigned i = 0; i < PROTOCOLS; i++)
+        interfaces[i] = (struct rafkudin_interface){protocol(i), i};
+    HOLDS(RafkudinInstallMultipleProtocolInterfaces(core, &controller, interfaces, PROTOCOLS) ==
+          RAFKUDIN_SUCCESS);
 }
 
 static void try_drawn(unsigned runs, bool stops)
@@ -560,9 +498,16 @@ static void try_drawn(unsigned runs, bool stops)
             RafkudinRegisterProtocolNotify(by_tables, &guid, 100 + i, &key);
             RafkudinRegisterProtocolNotify(by_turns, &guid, 100 + i, &key);
         }
-        for (unsigned step = 0; step < 24 && is_same && last_handle(by_tables) < 200; step++)
-            is_same = (has_stops && draw(3) == 0 ? try_stop : try_step)(by_tables, by_turns) &&
-                      are_same(by_tables, by_turns);
+        if (stops) {
+            install_all(by_tables);
+            install_all(by_turns);
+        }
+        for (unsigned step = 0; step < 24 && is_same && last_handle(by_tables) < 200; step++) {
+            is_same = (has_stops && draw(3) == 0 ? try_stop : try_step)(by_tables, by_turns);
+            if (is_crowded(by_tables))
+                break;
+            is_same = is_same && are_same(by_tables, by_turns, has_stops);
+        }
         HOLDS(is_same);
         if (!is_same)
             fprintf(stderr, "driver_turns: the drivers of run %u\n", run);
@@ -697,7 +642,7 @@ static void try_start(const enum step *order, unsigned steps, bool undoes)
     try_half_way(core, handles, order, 0, children);
     HOLDS(asked[0] == 1 && started[0] == 1);
     HOLDS(asked[1] == (is_open ? 2U : 1U) && started[1] == (is_open ? 0U : 1U));
-    HOLDS(are_same(core, fresh));
+    HOLDS(are_same(core, fresh, false));
     RafkudinConnectRecord(&turns, drivers, 2, true);
     HOLDS(RafkudinConnectNext(&turns, drivers, 2, &driver) == RAFKUDIN_NOT_FOUND);
     RafkudinFree(core);
@@ -791,5 +736,6 @@ int main(void)
                 try_start(orders[i], steps, undoes != 0);
     try_drawn(400, false);
     try_drawn(800, true);
+    HOLDS(stops_of_one >= 800 && stops_of_more >= 80 && nested_stops >= 400);
     return points_end("driver_turns");
 }
