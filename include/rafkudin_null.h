@@ -570,6 +570,31 @@ static inline void rafkudin_connect_record(struct rafkudin_turns *turns,
 }
 #define RafkudinConnectRecord rafkudin_connect_record
 
+static inline rafkudin_uint64 rafkudin_trace_line(const struct rafkudin *core,
+                                                  const struct rafkudin_call *call, uint8_t *text,
+                                                  size_t room, rafkudin_uint64 *length)
+{
+    rafkudin_uint64 nothing = 0;
+    struct rafkudin_call whole;
+
+    if (core == NULL || call == NULL || length == NULL || (text == NULL && room != 0) ||
+        (call->bytes == NULL && call->byte_count != 0) ||
+        (call->interfaces == NULL && call->interface_count != 0) ||
+        (call->drivers == NULL && call->driver_count != 0))
+        return RAFKUDIN_INVALID_PARAMETER;
+    if (text == NULL)
+        text = (uint8_t *)(void *)&nothing;
+    whole = *call;
+    if (whole.bytes == NULL)
+        whole.bytes = (const uint8_t *)(void *)&nothing;
+    if (whole.interfaces == NULL)
+        whole.interfaces = (const struct rafkudin_interface *)(void *)&nothing;
+    if (whole.drivers == NULL)
+        whole.drivers = &nothing;
+    return RafkudinTraceLine(core, &whole, text, room, length);
+}
+#define RafkudinTraceLine rafkudin_trace_line
+
 static inline size_t rafkudin_events(const struct rafkudin *core, rafkudin_uint64 *events,
                                      size_t room)
 {

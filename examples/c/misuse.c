@@ -30,6 +30,7 @@ static struct rafkudin *make_core(void)
 static void try_no_core(void)
 {
     uint8_t record[RAFKUDIN_DESCRIPTOR_SIZE] = {[0] = 7, [25] = 1};
+    const struct rafkudin_call call = {.service = RAFKUDIN_CALL_EXIT_BOOT_SERVICES};
     struct rafkudin_driver driver;
     struct rafkudin_descriptor entry;
     struct rafkudin *core = NULL;
@@ -53,6 +54,7 @@ static void try_no_core(void)
     REFUSED(RafkudinCheck(NULL, 0, &number));
     HOLDS(number == 1);
     REFUSED(RafkudinCertificate(NULL, &byte, 1, &number));
+    REFUSED(RafkudinTraceLine(NULL, &call, &byte, 1, &number));
     REFUSED(RafkudinDescriptor(NULL, 0, &entry));
     HOLDS(RafkudinEvents(NULL, &number, 1) == 0);
 }
@@ -96,6 +98,29 @@ static void try_questions(struct rafkudin *core)
     REFUSED(RafkudinOpenProtocolInformationInto(core, 1, &disk, &item, 1, NULL));
     HOLDS(RafkudinOpenProtocolInformationInto(core, 1, &disk, NULL, 0, &number) ==
           RAFKUDIN_SUCCESS);
+}
+
+/* Each null pointer of a trace line, and of the call that it asks for. */
+static void try_trace_line(struct rafkudin *core)
+{
+    struct rafkudin_call call = {.service = RAFKUDIN_CALL_POOL_WRITE};
+    uint8_t text[12];
+    uint64_t length = 0;
+
+    REFUSED(RafkudinTraceLine(core, NULL, text, 12, &length));
+    REFUSED(RafkudinTraceLine(core, &call, NULL, 12, &length));
+    REFUSED(RafkudinTraceLine(core, &call, text, 12, NULL));
+    HOLDS(RafkudinTraceLine(core, &call, NULL, 0, &length) == RAFKUDIN_BUFFER_TOO_SMALL);
+    HOLDS(RafkudinTraceLine(core, &call, text, 12, &length) == RAFKUDIN_SUCCESS);
+    HOLDS(length == 12 && memcmp(text, "write 0x0 -\n", 12) == 0);
+    call.byte_count = 1;
+    REFUSED(RafkudinTraceLine(core, &call, text, 12, &length));
+    call.byte_count = 0;
+    call.interface_count = 1;
+    REFUSED(RafkudinTraceLine(core, &call, text, 12, &length));
+    call.interface_count = 0;
+    call.driver_count = 1;
+    REFUSED(RafkudinTraceLine(core, &call, text, 12, &length));
 }
 
 /* Each service with no core. */
@@ -245,6 +270,7 @@ int main(void)
     try_null_core();
     try_null_parameters(core);
     try_questions(core);
+    try_trace_line(core);
     try_allowed(core);
     try_turns(core);
     RafkudinFree(core);

@@ -6,6 +6,7 @@ mod LongLists
 mod LongRemovals
 mod Opened
 mod ReturnedLists
+mod TracedCalls
 pub mod InstalledPaths
 pub mod LocatedHere
 mod PrintedReplies

@@ -3,6 +3,8 @@
 #![tactic(auto)]
 
 mod buffers;
+mod call_fields;
+mod call_lines;
 mod checks;
 mod efi_core;
 mod entries;
@@ -22,6 +24,7 @@ mod stops;
 mod turns;
 
 pub use boot_core::{Agent, DriverTurns, OpenItem};
+pub use call_fields::CallFields;
 pub use checks::{MapEntry, check_block};
 pub use efi_core::{ABORTED, EfiCore, LastBlock};
 pub use entries::{BlockEntry, OpenEntry, RunEntry, StopEntry};
