@@ -25,11 +25,11 @@
  * pointer may be null.
  *
  * STATUSES. Services return an EFI_STATUS. SUCCESS is 0. Any other is a refusal, which leaves the
- * core as it was, but for the number of calls left, and for RafkudinEvents and RafkudinCertificate,
- * which no longer report the call before. It leaves what the call's pointers lead to as well, but
- * for what is said of BUFFER_TOO_SMALL, of OpenProtocol and of HandleProtocol. Where several
- * refusals apply, the call returns the one that is named first. These hold for every service, and
- * are not repeated below:
+ * core as it was, but for the number of calls left, and for RafkudinEvents, RafkudinCertificate and
+ * RafkudinReplyLine, which no longer report the call before. It leaves what the call's pointers
+ * lead to as well, but for what is said of BUFFER_TOO_SMALL, of OpenProtocol and of HandleProtocol.
+ * Where several refusals apply, the call returns the one that is named first. These hold for every
+ * service, and are not repeated below:
  * - First of all, ABORTED: the core has served its 2^31 calls. Refused ones count too.
  * - Then UNSUPPORTED: boot services have ended. Every service returns it from then on.
  * - Last of all, OUT_OF_RESOURCES: the heap refused the core memory for its own tables.
@@ -295,6 +295,21 @@ RAFKUDIN_API void RafkudinCertify(struct rafkudin *core, bool certify);
  * is written. NOT_FOUND: there is no certificate. OUT_OF_RESOURCES: memory was refused. */
 RAFKUDIN_API rafkudin_uint64 RafkudinCertificate(const struct rafkudin *core, uint8_t *text,
                                                  size_t room, rafkudin_uint64 *length);
+
+/* What the program `bootcore` prints of the last service that was called, byte for byte, without a
+ * zero byte at its end: the lines of its reply under the number of its line in a trace
+ * (docs/FORMATS.md) and, while certificates are kept, its certificate as with `--certify`. `text`
+ * has room for `room` bytes; the text is written where all of it fits. A caller who writes the
+ * lines of its calls so has what the program must print of them.
+ *
+ * SUCCESS: *length are the bytes written. BUFFER_TOO_SMALL: *length are the bytes needed, and none
+ * is written. NOT_FOUND: the call left no reply: it was GetMemoryMap or PoolRead, whose replies are
+ * in the caller's buffers, or UninstallMultipleProtocolInterfaces or RafkudinLocatePath, which are
+ * in no trace, or it was ABORTED. OUT_OF_RESOURCES: memory was refused. After RafkudinInstallPath,
+ * which makes several calls, the reply is that of the one that decides its status. */
+RAFKUDIN_API rafkudin_uint64 RafkudinReplyLine(const struct rafkudin *core, rafkudin_uint64 number,
+                                               uint8_t *text, size_t room,
+                                               rafkudin_uint64 *length);
 
 /* How many events the last service that was called signals, and the first `room` of them in
  * `events`, in their order. Only InstallProtocolInterface, InstallMultipleProtocolInterfaces,
@@ -720,6 +735,61 @@ RAFKUDIN_API rafkudin_uint64 RafkudinConnectNext(const struct rafkudin_turns *tu
 RAFKUDIN_API void RafkudinConnectRecord(struct rafkudin_turns *turns,
                                         struct rafkudin_binding *drivers, size_t count,
                                         bool was_started);
+
+/* Nor can a service stop such a driver: an OpenProtocol with RAFKUDIN_EXCLUSIVE, an uninstall or a
+ * reinstall of an interface that one has open by driver is ACCESS_DENIED, and DisconnectController
+ * is DEVICE_ERROR. So the caller stops these drivers before it calls the service:
+ *
+ *     struct rafkudin_stop stops[..];
+ *     rafkudin_uint64 children[..];
+ *
+ *     status = RafkudinStopsOnInterface(core, handle, &guid, stops, room, &count);
+ *     for (i = 0; i < count; i++) {
+ *         status = RafkudinChildren(core, stops[i].controller, stops[i].agent, children, ..);
+ *         .. Stop() of the driver stops[i].agent on the controller, first with its children ..
+ *     }
+ *
+ * What Stop() itself uninstalls has drivers of its own to be stopped, so stops nest. After a stop
+ * that changed what is open the list is asked for anew.
+ *
+ * The lists are written to the front of a buffer that has room for `room` entries; *count is how
+ * many there are. A handle that is not live, or lacks the GUID, has none.
+ *
+ * BUFFER_TOO_SMALL: there is no room for all of them, and none is written; *count is set too.
+ * OUT_OF_RESOURCES: memory was refused; *count stays as it is. */
+
+/* A driver that is to be stopped on a controller: its driver handle, which has something there open
+ * by driver. */
+struct rafkudin_stop {
+    rafkudin_uint64 controller;
+    rafkudin_uint64 agent;
+};
+
+/* The drivers to be stopped, in order, before an interface can be opened exclusively, uninstalled
+ * or reinstalled: those that have it open by driver. Where drivers of RafkudinMake made handles,
+ * the drivers on these are among them, the controller that was made last first. */
+RAFKUDIN_API rafkudin_uint64 RafkudinStopsOnInterface(const struct rafkudin *core,
+                                                      rafkudin_uint64 Handle,
+                                                      const struct rafkudin_guid *Protocol,
+                                                      struct rafkudin_stop *stops, size_t room,
+                                                      rafkudin_uint64 *count);
+
+/* The same before a controller is disconnected: from all drivers that manage it, or from one where
+ * `DriverImageHandle` is not 0. */
+RAFKUDIN_API rafkudin_uint64 RafkudinStopsOnController(const struct rafkudin *core,
+                                                       rafkudin_uint64 ControllerHandle,
+                                                       rafkudin_uint64 DriverImageHandle,
+                                                       struct rafkudin_stop *stops, size_t room,
+                                                       rafkudin_uint64 *count);
+
+/* The children of a driver on a controller, each once: those that a driver of RafkudinMake made, by
+ * ascending handle, and then the handles for which the agent has an interface of the controller
+ * open by RAFKUDIN_BY_CHILD_CONTROLLER. */
+RAFKUDIN_API rafkudin_uint64 RafkudinChildren(const struct rafkudin *core,
+                                              rafkudin_uint64 ControllerHandle,
+                                              rafkudin_uint64 AgentHandle,
+                                              rafkudin_uint64 *children, size_t room,
+                                              rafkudin_uint64 *count);
 
 /* ---- Device paths in the caller's memory, which lie in no block of the pool ---- */
 

@@ -36,6 +36,20 @@ static inline rafkudin_uint64 rafkudin_certificate(const struct rafkudin *core, 
 }
 #define RafkudinCertificate rafkudin_certificate
 
+static inline rafkudin_uint64 rafkudin_reply_line(const struct rafkudin *core,
+                                                  rafkudin_uint64 number, uint8_t *text,
+                                                  size_t room, rafkudin_uint64 *length)
+{
+    rafkudin_uint64 nothing = 0;
+
+    if (core == NULL || length == NULL || (text == NULL && room != 0))
+        return RAFKUDIN_INVALID_PARAMETER;
+    if (text == NULL)
+        text = (uint8_t *)(void *)&nothing;
+    return RafkudinReplyLine(core, number, text, room, length);
+}
+#define RafkudinReplyLine rafkudin_reply_line
+
 static inline rafkudin_uint64 rafkudin_check(const uint8_t *text, size_t length,
                                              rafkudin_uint64 *line)
 {
@@ -569,6 +583,50 @@ static inline void rafkudin_connect_record(struct rafkudin_turns *turns,
         RafkudinConnectRecord(turns, drivers, count, was_started);
 }
 #define RafkudinConnectRecord rafkudin_connect_record
+
+static inline rafkudin_uint64
+rafkudin_stops_on_interface(const struct rafkudin *core, rafkudin_uint64 Handle,
+                            const struct rafkudin_guid *Protocol, struct rafkudin_stop *stops,
+                            size_t room, rafkudin_uint64 *count)
+{
+    struct rafkudin_stop nothing = {0, 0};
+
+    if (core == NULL || Protocol == NULL || count == NULL || (stops == NULL && room != 0))
+        return RAFKUDIN_INVALID_PARAMETER;
+    return RafkudinStopsOnInterface(core, Handle, Protocol, stops == NULL ? &nothing : stops, room,
+                                    count);
+}
+#define RafkudinStopsOnInterface rafkudin_stops_on_interface
+
+static inline rafkudin_uint64 rafkudin_stops_on_controller(const struct rafkudin *core,
+                                                           rafkudin_uint64 ControllerHandle,
+                                                           rafkudin_uint64 DriverImageHandle,
+                                                           struct rafkudin_stop *stops,
+                                                           size_t room, rafkudin_uint64 *count)
+{
+    struct rafkudin_stop nothing = {0, 0};
+
+    if (core == NULL || count == NULL || (stops == NULL && room != 0))
+        return RAFKUDIN_INVALID_PARAMETER;
+    return RafkudinStopsOnController(core, ControllerHandle, DriverImageHandle,
+                                     stops == NULL ? &nothing : stops, room, count);
+}
+#define RafkudinStopsOnController rafkudin_stops_on_controller
+
+static inline rafkudin_uint64 rafkudin_children(const struct rafkudin *core,
+                                                rafkudin_uint64 ControllerHandle,
+                                                rafkudin_uint64 AgentHandle,
+                                                rafkudin_uint64 *children, size_t room,
+                                                rafkudin_uint64 *count)
+{
+    rafkudin_uint64 nothing = 0;
+
+    if (core == NULL || count == NULL || (children == NULL && room != 0))
+        return RAFKUDIN_INVALID_PARAMETER;
+    return RafkudinChildren(core, ControllerHandle, AgentHandle,
+                            children == NULL ? &nothing : children, room, count);
+}
+#define RafkudinChildren rafkudin_children
 
 static inline rafkudin_uint64 rafkudin_trace_line(const struct rafkudin *core,
                                                   const struct rafkudin_call *call, uint8_t *text,

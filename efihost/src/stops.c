@@ -1,20 +1,16 @@
 /* Stopping drivers that are code: for DisconnectController, and before an interface is opened
  * exclusively, uninstalled or reinstalled.
  *
- * Which drivers those are, and which children each has, the library's questions say. They are asked
- * again after each stop: a driver's Stop calls the services itself, and so may stop others. None is
- * stopped twice for one call. */
+ * Which drivers those are, in which order, and which children each has is what the library says
+ * (RafkudinStopsOnInterface and the functions behind it). It is asked again after each stop: a
+ * driver's Stop calls the services itself, and so may stop others. None is stopped twice for one
+ * call. */
 #include "host.h"
 
 #include <stdlib.h>
 
-/* A driver that is to be stopped on a controller. */
-struct stop {
-    uint64_t controller, agent;
-};
-
 struct stops {
-    struct stop *list;
+    struct rafkudin_stop *list;
     uint64_t count, room;
 };
 
@@ -25,7 +21,7 @@ struct cause {
     const void *guid;
 };
 
-static void add_stop(struct stops *stops, struct stop stop)
+static void add_stop(struct stops *stops, struct rafkudin_stop stop)
 {
     if (stops->count == stops->room) {
         stops->room = stops->room == 0 ? 8 : 2 * stops->room;
@@ -34,7 +30,7 @@ static void add_stop(struct stops *stops, struct stop stop)
     stops->list[stops->count++] = stop;
 }
 
-static bool has_stop(const struct stops *stops, struct stop stop)
+static bool has_stop(const struct stops *stops, struct rafkudin_stop stop)
 {
     for (uint64_t i = 0; i < stops->count; i++)
         if (stops->list[i].controller == stop.controller && stops->list[i].agent == stop.agent)
@@ -42,65 +38,60 @@ static bool has_stop(const struct stops *stops, struct stop stop)
     return false;
 }
 
-/* Adds those of one interface's items. */
-static void find_stops_on(const struct cause *cause, const struct rafkudin_guid *guid,
-                          struct stops *stops)
+static uint64_t ask_stops(const struct cause *cause, struct stops *stops)
 {
-    struct rafkudin_item item;
+    struct rafkudin_guid guid = core_guid(cause->guid);
 
-    for (size_t i = 0;
-         RafkudinOpenItem(host.core, cause->handle, guid, i, &item) == RAFKUDIN_SUCCESS; i++) {
-        struct stop stop = {item.controller, item.agent};
-        bool is_meant = cause->guid != NULL ||
-                        (item.controller == cause->handle &&
-                         (cause->driver == 0 || item.agent == cause->driver));
-
-        if (is_meant && (item.attributes & RAFKUDIN_BY_DRIVER) != 0 && !has_stop(stops, stop))
-            add_stop(stops, stop);
-    }
+    if (cause->guid != NULL)
+        return RafkudinStopsOnInterface(host.core, cause->handle, &guid, stops->list, stops->room,
+                                        &stops->count);
+    return RafkudinStopsOnController(host.core, cause->handle, cause->driver, stops->list,
+                                     stops->room, &stops->count);
 }
 
 /* All that is to be stopped as things are. */
-static void find_stops(const struct cause *cause, struct stops *stops)
+static EFI_STATUS find_stops(const struct cause *cause, struct stops *stops)
 {
-    struct rafkudin_interface on;
+    EFI_STATUS status = ask_stops(cause, stops);
 
-    for (size_t i = 0; RafkudinInterface(host.core, cause->handle, i, &on) == RAFKUDIN_SUCCESS; i++)
-        if (cause->guid == NULL || guid_equal(&on.guid, cause->guid))
-            find_stops_on(cause, &on.guid, stops);
+    if (status != EFI_BUFFER_TOO_SMALL)
+        return status;
+    stops->room = stops->count;
+    stops->list = must(realloc(stops->list, stops->room * sizeof *stops->list));
+    return ask_stops(cause, stops);
 }
 
-/* The next stop that was not tried; whether there is one. */
-static bool next_stop(const struct cause *cause, const struct stops *tried, struct stop *stop)
+/* The next stop that was not tried. NOT_FOUND: there is none. */
+static EFI_STATUS next_stop(const struct cause *cause, const struct stops *tried,
+                            struct rafkudin_stop *stop)
 {
     struct stops stops = {NULL, 0, 0};
+    EFI_STATUS status = find_stops(cause, &stops);
     uint64_t i = 0;
-    bool found_one;
 
-    find_stops(cause, &stops);
-    while (i < stops.count && has_stop(tried, stops.list[i]))
+    while (status == EFI_SUCCESS && i < stops.count && has_stop(tried, stops.list[i]))
         i++;
-    found_one = i < stops.count;
-    if (found_one)
+    if (status == EFI_SUCCESS && i == stops.count)
+        status = EFI_NOT_FOUND;
+    if (status == EFI_SUCCESS)
         *stop = stops.list[i];
     free(stops.list);
-    return found_one;
+    return status;
 }
 
-/* The children that a driver has of a controller, each once. */
-static struct handles find_children(struct stop stop)
+static EFI_STATUS find_children(struct rafkudin_stop stop, struct handles *children)
 {
-    struct handles children = {NULL, 0, 0};
-    struct rafkudin_interface on;
-    struct rafkudin_item item;
+    uint64_t count = 0;
+    EFI_STATUS status =
+        RafkudinChildren(host.core, stop.controller, stop.agent, NULL, 0, &count);
 
-    for (size_t i = 0; RafkudinInterface(host.core, stop.controller, i, &on) == RAFKUDIN_SUCCESS;
-         i++)
-        for (size_t k = 0; RafkudinOpenItem(host.core, stop.controller, &on.guid, k, &item) ==
-                           RAFKUDIN_SUCCESS; k++)
-            if (item.attributes == RAFKUDIN_BY_CHILD_CONTROLLER && item.agent == stop.agent)
-                add_handle(&children, item.controller);
-    return children;
+    if (status == EFI_BUFFER_TOO_SMALL) {
+        children->list = must(malloc(count * sizeof *children->list));
+        status = RafkudinChildren(host.core, stop.controller, stop.agent, children->list, count,
+                                  &count);
+    }
+    children->count = children->room = status == EFI_SUCCESS ? count : 0;
+    return status;
 }
 
 /* Calls a driver's Stop: for its children first, all or the one that is named, and then, where it
@@ -123,18 +114,19 @@ static EFI_STATUS call_stop(EFI_DRIVER_BINDING_PROTOCOL *binding, uint64_t contr
 
 /* Stops one driver on a controller. NOT_FOUND: it has not the child that is named. DEVICE_ERROR: it
  * can't be stopped; an agent without a driver binding never can. */
-static EFI_STATUS carry_out(struct stop stop, uint64_t child)
+static EFI_STATUS carry_out(struct rafkudin_stop stop, uint64_t child)
 {
     EFI_DRIVER_BINDING_PROTOCOL *binding = interface_of(stop.agent, &driver_binding_guid);
-    struct handles children = find_children(stop);
-    EFI_STATUS status = EFI_SUCCESS;
+    struct handles children = {NULL, 0, 0};
+    EFI_STATUS status = find_children(stop, &children);
     bool has_child = child == 0;
 
     for (size_t i = 0; i < children.count; i++)
         has_child |= children.list[i] == child;
-    if (!has_child)
+    if (status == EFI_SUCCESS && !has_child)
         status = EFI_NOT_FOUND;
-    else if (binding == NULL || EFI_ERROR(call_stop(binding, stop.controller, child, &children)))
+    if (status == EFI_SUCCESS &&
+        (binding == NULL || EFI_ERROR(call_stop(binding, stop.controller, child, &children))))
         status = EFI_DEVICE_ERROR;
     free(children.list);
     return status;
@@ -146,23 +138,24 @@ EFI_STATUS disconnect_controller(uint64_t controller, uint64_t driver, uint64_t 
 {
     const struct cause cause = {controller, driver, NULL};
     struct stops tried = {NULL, 0, 0};
-    EFI_STATUS result = EFI_SUCCESS;
-    struct stop stop;
+    EFI_STATUS status, result = EFI_SUCCESS;
+    struct rafkudin_stop stop;
     uint64_t without_child = 0;
 
     if (!is_live(controller) || (child != 0 && !is_live(child)) ||
         (driver != 0 && interface_of(driver, &driver_binding_guid) == NULL))
         return EFI_INVALID_PARAMETER;
-    while (next_stop(&cause, &tried, &stop)) {
-        EFI_STATUS status = carry_out(stop, child);
-
+    while ((status = next_stop(&cause, &tried, &stop)) == EFI_SUCCESS) {
         add_stop(&tried, stop);
+        status = carry_out(stop, child);
         if (status == EFI_NOT_FOUND)
             without_child++;
         else if (status != EFI_SUCCESS)
             result = status;
     }
     free(tried.list);
+    if (status != EFI_NOT_FOUND)
+        return status;
     return tried.count > 0 && without_child == tried.count ? EFI_NOT_FOUND : result;
 }
 
@@ -171,15 +164,17 @@ enum stopped stop_drivers_on(uint64_t handle, const void *guid)
 {
     const struct cause cause = {handle, 0, guid};
     struct stops tried = {NULL, 0, 0};
-    EFI_STATUS status = EFI_SUCCESS;
-    struct stop stop;
+    EFI_STATUS status;
+    struct rafkudin_stop stop;
 
-    while (status == EFI_SUCCESS && next_stop(&cause, &tried, &stop)) {
-        status = carry_out(stop, 0);
+    while ((status = next_stop(&cause, &tried, &stop)) == EFI_SUCCESS) {
         add_stop(&tried, stop);
+        status = carry_out(stop, 0);
+        if (status != EFI_SUCCESS)
+            break;
     }
     free(tried.list);
-    if (status != EFI_SUCCESS)
+    if (status != EFI_NOT_FOUND)
         return NOT_ALL_STOPPED;
     return tried.count == 0 ? NONE_TO_STOP : ALL_STOPPED;
 }

@@ -7,15 +7,15 @@
  * allocations, of mixed types and sizes), crowded-65536 (of descriptors, where a request finds no
  * place), pool-10000 (of blocks), handles-64, handles-1024 or handles-4096 (of handles),
  * drivers-64, drivers-1024 or drivers-4096 (of handles, on which a driver is started and stopped),
- * or keys-10000 (of registrations); without any all are run. It prints nanoseconds a call, the
+ * questions-64, questions-1024 or questions-4096 (of handles and blocks, which are asked for one by
+ * one), or keys-10000 (of registrations); without any all are run. It prints nanoseconds a call, the
  * least of COUNT repetitions, each on a new core; what a call asks for is drawn before the clock
  * starts. `refused` is a call that is refused at once: what any call costs at least. With --certify
  * the core keeps the certificates of placements. With --growth two tables in Markdown are printed:
  * of what calls on pages cost in a churn at 100 live allocations, ten times as many and so on up to
  * MOST, and of a request that nothing can hold, without and with certificates. */
 #include "fault.h"
-#include "machine.h"
-#include "meter.h"
+#include "loads.h"
 
 #include <inttypes.h>
 #include <stdio.h>
@@ -38,12 +38,6 @@
 #define VAIN_REQUESTS 200
 #define CROWDED_PAGES 4
 
-/* The kinds of protocols of the handles, how many agents open them, and how many searches there
- * are. */
-#define KINDS 64
-#define AGENTS 16
-#define SEARCHES 256
-
 /* The handles that the registrations meet, an interface on each. */
 #define KEYED_HANDLES 1024
 
@@ -51,37 +45,8 @@
 #define DRIVER 1
 #define LONGEST_DRIVE 256
 
-/* What is asked for: pages (`below` is 0 for any place), or a block of a pool. */
-struct request {
-    uint32_t type;
-    uint64_t size;
-    uint64_t below;
-};
-
-/* What is held: the address and the size that was asked for. */
-struct held {
-    uint64_t address;
-    uint64_t size;
-};
-
-/* A load that runs. */
-struct load {
-    struct meter *meter;
-    struct rafkudin *core;
-    uint64_t drawn;  /* the state of the draws */
-    uint64_t middle; /* the address behind the low half of the memory */
-    struct held *held;
-    size_t count;                                /* of those held */
-    struct request *requests;                    /* what is asked for, call by call */
-    struct held *given;                          /* what is freed, call by call */
-    uint64_t handles[2 * RAFKUDIN_MAX_HANDLES]; /* what is looked for, call by call */
-    struct rafkudin_guid kinds[KINDS + 1];
-    uint8_t *map;
-    size_t map_size;
-};
-
-/* Makes the call of a number, from 0 on, and answers whether it succeeds. */
-typedef bool one_call(struct load *load, size_t number);
+const struct rafkudin_guid driver_binding = {
+    {0xab, 0x31, 0xa0, 0x18, 0x43, 0xb4, 0x1a, 0x4d, 0xa5, 0xc0, 0x0c, 0x09, 0x26, 0x1e, 0x9f, 0x71}};
 
 /* A number that is drawn, below a limit. */
 static uint64_t draw(struct load *load, uint64_t limit)
@@ -92,7 +57,7 @@ static uint64_t draw(struct load *load, uint64_t limit)
     return load->drawn % limit;
 }
 
-static uint64_t draw_between(struct load *load, uint64_t least, uint64_t most)
+uint64_t draw_between(struct load *load, uint64_t least, uint64_t most)
 {
     return least + draw(load, most - least + 1);
 }
@@ -124,9 +89,8 @@ static struct request draw_block(struct load *load)
         type < 6 ? RAFKUDIN_BOOT_SERVICES_DATA : (uint32_t)draw_between(load, 1, 6), size, 0};
 }
 
-/* Makes the given number of calls of a service, and adds their time to the row of a phase. */
-static void time_calls(struct load *load, const char *phase, const char *service, size_t count,
-                       one_call *call)
+void time_calls(struct load *load, const char *phase, const char *service, size_t count,
+                one_call *call)
 {
     uint64_t refused = 0;
 
@@ -266,6 +230,11 @@ static void run_pages(struct load *load, size_t live)
     run_memory(load, &pages, live);
 }
 
+void place_blocks(struct load *load, const char *phase, size_t count)
+{
+    place(load, &pool, phase, count);
+}
+
 static void run_pool(struct load *load, size_t live)
 {
     run_memory(load, &pool, live);
@@ -282,14 +251,17 @@ static void run_crowded(struct load *load, size_t descriptors)
     time_calls(load, "refused", "FreePages", REFUSED_CALLS, refused_call);
 }
 
-/* The kind of a handle's first interface, whose value is the handle. */
-static const struct rafkudin_guid *kind_of(const struct load *load, uint64_t handle)
+const struct rafkudin_guid *kind_of(const struct load *load, uint64_t handle)
 {
     return &load->kinds[handle % KINDS];
 }
 
-/* Installs an interface on a new handle. */
-static bool install_first(struct load *load, size_t number)
+uint64_t agent_of(uint64_t handle)
+{
+    return 1 + handle % AGENTS;
+}
+
+bool install_first(struct load *load, size_t number)
 {
     uint64_t handle = 0;
 
@@ -307,32 +279,28 @@ static bool install_second(struct load *load, size_t number)
            RAFKUDIN_SUCCESS;
 }
 
-/* A driver opens the first interface of a handle. */
-static bool open_by_driver(struct load *load, size_t number)
+bool open_by_driver(struct load *load, size_t number)
 {
     uint64_t handle = number + 1, value;
 
     return RafkudinOpenProtocol(load->core, handle, kind_of(load, handle), &value,
-                                1 + handle % AGENTS, handle,
-                                RAFKUDIN_BY_DRIVER) == RAFKUDIN_SUCCESS;
+                                agent_of(handle), handle, RAFKUDIN_BY_DRIVER) == RAFKUDIN_SUCCESS;
 }
 
 static bool close_by_driver(struct load *load, size_t number)
 {
     uint64_t handle = number + 1;
 
-    return RafkudinCloseProtocol(load->core, handle, kind_of(load, handle), 1 + handle % AGENTS,
+    return RafkudinCloseProtocol(load->core, handle, kind_of(load, handle), agent_of(handle),
                                  handle) == RAFKUDIN_SUCCESS;
 }
 
-/* An agent opens the first interface of a drawn handle, which makes an item or raises the count of
- * one. */
-static bool open_to_get(struct load *load, size_t number)
+bool open_to_get(struct load *load, size_t number)
 {
     uint64_t handle = load->handles[number], value;
 
     return RafkudinOpenProtocol(load->core, handle, kind_of(load, handle), &value,
-                                1 + number % AGENTS, 0, RAFKUDIN_GET_PROTOCOL) == RAFKUDIN_SUCCESS;
+                                agent_of(number), 0, RAFKUDIN_GET_PROTOCOL) == RAFKUDIN_SUCCESS;
 }
 
 static bool look_up_handle(struct load *load, size_t number)
@@ -380,10 +348,15 @@ static bool take_out(struct load *load, size_t number)
            RAFKUDIN_SUCCESS;
 }
 
-static void run_handles(struct load *load, size_t handles)
+void draw_handles(struct load *load, size_t handles)
 {
     for (size_t at = 0; at < 2 * handles; at++)
         load->handles[at] = draw_between(load, 1, handles);
+}
+
+static void run_handles(struct load *load, size_t handles)
+{
+    draw_handles(load, handles);
     time_calls(load, "install", "InstallProtocolInterface", handles, install_first);
     time_calls(load, "second", "InstallProtocolInterface", handles / 4, install_second);
     time_calls(load, "open", "OpenProtocol", handles, open_by_driver);
@@ -412,11 +385,9 @@ static uint64_t controller_at(size_t number)
 /* Installs the driver binding of the machine's first driver on a new handle, which is the first. */
 static void install_driver(struct load *load)
 {
-    static const struct rafkudin_guid binding = {{0xab, 0x31, 0xa0, 0x18, 0x43, 0xb4, 0x1a, 0x4d,
-                                                  0xa5, 0xc0, 0x0c, 0x09, 0x26, 0x1e, 0x9f, 0x71}};
     uint64_t handle = 0;
 
-    if (RafkudinInstallProtocolInterface(load->core, &handle, &binding, 0, 0) !=
+    if (RafkudinInstallProtocolInterface(load->core, &handle, &driver_binding, 0, 0) !=
             RAFKUDIN_SUCCESS ||
         handle != DRIVER)
         fail("the driver's handle is refused");
@@ -627,6 +598,9 @@ static const struct {
     {"drivers-64", run_drivers, make_machine, 64, 15},
     {"drivers-1024", run_drivers, make_machine, 1024, 9},
     {"drivers-4096", run_drivers, make_machine, 4096, 5},
+    {"questions-64", run_questions, make_machine, 64, 15},
+    {"questions-1024", run_questions, make_machine, 1024, 9},
+    {"questions-4096", run_questions, make_machine, 4096, 5},
     {"keys-10000", run_keys, make_machine, 10000, 3},
 };
 

@@ -54,6 +54,7 @@ static void try_no_core(void)
     REFUSED(RafkudinCheck(NULL, 0, &number));
     HOLDS(number == 1);
     REFUSED(RafkudinCertificate(NULL, &byte, 1, &number));
+    REFUSED(RafkudinReplyLine(NULL, 1, &byte, 1, &number));
     REFUSED(RafkudinTraceLine(NULL, &call, &byte, 1, &number));
     REFUSED(RafkudinDescriptor(NULL, 0, &entry));
     HOLDS(RafkudinEvents(NULL, &number, 1) == 0);
@@ -185,6 +186,32 @@ static void try_turns(struct rafkudin *core)
     HOLDS(turns.end == 0 && RafkudinCallsLeft(core) == left);
 }
 
+/* The stops of drivers that are code: these are no services either. */
+static void try_stops(struct rafkudin *core)
+{
+    struct rafkudin_stop stop = {1, 2};
+    uint64_t child = 3, count = 4, left = RafkudinCallsLeft(core);
+
+    REFUSED(RafkudinStopsOnInterface(NULL, 1, &disk, &stop, 1, &count));
+    REFUSED(RafkudinStopsOnInterface(core, 1, NULL, &stop, 1, &count));
+    REFUSED(RafkudinStopsOnInterface(core, 1, &disk, NULL, 1, &count));
+    REFUSED(RafkudinStopsOnInterface(core, 1, &disk, &stop, 1, NULL));
+    REFUSED(RafkudinStopsOnController(NULL, 1, 0, &stop, 1, &count));
+    REFUSED(RafkudinStopsOnController(core, 1, 0, NULL, 1, &count));
+    REFUSED(RafkudinStopsOnController(core, 1, 0, &stop, 1, NULL));
+    REFUSED(RafkudinChildren(NULL, 1, 1, &child, 1, &count));
+    REFUSED(RafkudinChildren(core, 1, 1, NULL, 1, &count));
+    REFUSED(RafkudinChildren(core, 1, 1, &child, 1, NULL));
+    HOLDS(count == 4);
+    HOLDS(RafkudinStopsOnInterface(core, 1, &disk, NULL, 0, &count) == RAFKUDIN_SUCCESS &&
+          count == 0);
+    HOLDS(RafkudinStopsOnController(core, 99, 0, NULL, 0, &count) == RAFKUDIN_SUCCESS &&
+          count == 0);
+    HOLDS(RafkudinChildren(core, 1, 1, NULL, 0, &count) == RAFKUDIN_SUCCESS && count == 0);
+    HOLDS(stop.controller == 1 && stop.agent == 2 && child == 3);
+    HOLDS(RafkudinCallsLeft(core) == left);
+}
+
 /* Each other pointer of each service, on a core. */
 static void try_null_parameters(struct rafkudin *core)
 {
@@ -194,6 +221,8 @@ static void try_null_parameters(struct rafkudin *core)
 
     REFUSED(RafkudinCertificate(core, NULL, 1, &one));
     REFUSED(RafkudinCertificate(core, &byte, 1, NULL));
+    REFUSED(RafkudinReplyLine(core, 1, NULL, 1, &one));
+    REFUSED(RafkudinReplyLine(core, 1, &byte, 1, NULL));
     REFUSED(RafkudinDescriptor(core, 0, NULL));
     REFUSED(RafkudinAllocatePages(core, 0, 4, 1, NULL));
     REFUSED(RafkudinGetMemoryMap(core, NULL, &byte, NULL, NULL, NULL));
@@ -273,6 +302,7 @@ int main(void)
     try_trace_line(core);
     try_allowed(core);
     try_turns(core);
+    try_stops(core);
     RafkudinFree(core);
     return points_end("misuse");
 }

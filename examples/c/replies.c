@@ -8,6 +8,7 @@
 
 #include <inttypes.h>
 #include <stdlib.h>
+#include <string.h>
 
 static const char *status_name(uint64_t status)
 {
@@ -386,11 +387,51 @@ static void print_certificate(struct run *run)
         fail("a certificate: status 0x%" PRIx64, status);
 }
 
+/* Whether a line's call leaves a reply: one that fills a buffer of the caller's leaves none, and a
+ * listing is no call. */
+static bool leaves_reply(enum verb verb)
+{
+    return verb != MAP && verb != READ && verb != LIST;
+}
+
+/* What the library prints of the call by itself must be what is appended of it here, from `start`
+ * on. */
+static void compare_reply_line(const struct run *run, uint64_t number, size_t start)
+{
+    size_t room = run->text.length - start;
+    uint8_t *line = grow(NULL, room);
+    uint64_t length = 0;
+    uint64_t status = RafkudinReplyLine(run->core, number, line, room - 1, &length);
+
+    if (status == RAFKUDIN_BUFFER_TOO_SMALL && length == room)
+        status = RafkudinReplyLine(run->core, number, line, room, &length);
+    if (status != RAFKUDIN_SUCCESS || length != room ||
+        memcmp(line, run->text.bytes + start, room) != 0)
+        fail("the library prints another reply to the call of line %" PRIu64, number);
+    free(line);
+}
+
+/* Of a call that leaves no reply the library prints nothing. */
+static void compare_no_reply(const struct run *run, uint64_t number)
+{
+    uint64_t length = 0;
+    uint8_t byte = 0;
+
+    if (RafkudinReplyLine(run->core, number, &byte, 1, &length) != RAFKUDIN_NOT_FOUND)
+        fail("the library prints a reply that the call of line %" PRIu64 " did not leave", number);
+}
+
 void run_call(struct run *run, const struct call *call, uint64_t number)
 {
+    size_t start = run->text.length;
+
     text_print(&run->text, "%" PRIu64 " %s", number, verb_name(call->verb));
     replies[call->verb](run, call);
     text_print(&run->text, "\n");
     if (run->certify && call->verb != LIST)
         print_certificate(run);
+    if (leaves_reply(call->verb))
+        compare_reply_line(run, number, start);
+    else if (call->verb != LIST)
+        compare_no_reply(run, number);
 }

@@ -89,6 +89,11 @@ static void free_pages(void)
     RafkudinFreePages(core, one, 1);
 }
 
+static void reply_line(void)
+{
+    RafkudinReplyLine(core, 1, bytes, sizeof bytes, &two);
+}
+
 static void certificate(void)
 {
     RafkudinCertificate(core, bytes, sizeof bytes, &two);
@@ -228,6 +233,7 @@ int main(int count, char **words)
     measure("RafkudinMake", make);
     measure("RafkudinPlace", place);
     measure("RafkudinAllocatePages", allocate_pages);
+    measure("RafkudinReplyLine", reply_line);
     measure("RafkudinCertificate", certificate);
     measure("RafkudinCheck", check);
     measure("RafkudinFreePages", free_pages);

@@ -32,3 +32,21 @@ abbrev pub FillsOrRunsOut : {X : Type 0} → List X → ℕ → List X → ℕ �
 FillsOrRunsOut items count buffer status new_count new_buffer =
     FillsWith items status buffer new_count new_buffer
     ⊎ ((status ≡ status_number OutOfResources) × (new_count ≡ count) × (new_buffer ≡ buffer))
+
+-- the drivers to be stopped before an interface can be freed of them, in the caller's buffer
+abbrev pub ListsStops : {A : Type 0} → EfiCoreValue A → ℕ → Guid
+    → ℕ → List StopEntry → ℕ → ℕ → List StopEntry → Type 0
+ListsStops c handle guid count buffer status new_count new_buffer =
+    FillsOrRunsOut (stops_on_interface c handle guid) count buffer status new_count new_buffer
+
+-- those to be stopped before a handle can be disconnected
+abbrev pub ListsManagers : {A : Type 0} → EfiCoreValue A → ℕ → ℕ
+    → ℕ → List StopEntry → ℕ → ℕ → List StopEntry → Type 0
+ListsManagers c handle driver count buffer status new_count new_buffer =
+    FillsOrRunsOut (stops_on_controller c handle driver) count buffer status new_count new_buffer
+
+-- the children of a driver on a controller
+abbrev pub ListsChildren : {A : Type 0} → EfiCoreValue A → ℕ → ℕ
+    → ℕ → List ℕ → ℕ → ℕ → List ℕ → Type 0
+ListsChildren c controller agent count buffer status new_count new_buffer =
+    FillsOrRunsOut (children c controller agent) count buffer status new_count new_buffer

@@ -2,7 +2,7 @@
 ghost use Rattle.std.specs.Prelude.{◌≡◌, map};
 ghost use Rattle.c_interface.specs.Buffers.{laid};
 ghost use Rattle.c_interface.specs.Questions.{FillsWith};
-ghost use Rattle.c_interface.specs.Stops as spec;
+ghost use Rattle.c_interface.specs.Stops.{ListsChildren, ListsManagers, ListsStops, stop_in_c};
 
 use crate::efi_core::EfiCore;
 use crate::entries::{StopEntry, stop_in_c};
@@ -24,8 +24,8 @@ impl<A: Allocator + Copy> EfiCore<A> {
         buffer: &mut [StopEntry],
         count: &mut u64,
     ) -> u64
-        ensures { spec.FillsOrRunsOut (spec.stops_on_interface self.now handle guid.now)
-            count.old buffer.old result count.new buffer.new }
+        ensures { ListsStops
+            self.now handle guid.now count.old buffer.old result count.new buffer.new }
     {
         match self.core.stops_on_interface(handle, guid.uuid()) {
             Ok(stops) => fill_stops(stops.as_slice(), buffer, count),
@@ -42,8 +42,8 @@ impl<A: Allocator + Copy> EfiCore<A> {
         buffer: &mut [StopEntry],
         count: &mut u64,
     ) -> u64
-        ensures { spec.FillsOrRunsOut (spec.stops_on_controller self.now handle driver)
-            count.old buffer.old result count.new buffer.new }
+        ensures { ListsManagers
+            self.now handle driver count.old buffer.old result count.new buffer.new }
     {
         match self.core.stops_on_controller(handle, driver) {
             Ok(stops) => fill_stops(stops.as_slice(), buffer, count),
@@ -54,8 +54,8 @@ impl<A: Allocator + Copy> EfiCore<A> {
     /// The children of a driver on a controller: the handles that it made, ascending, and then those for
     /// which it has the controller open as for a child; in the same way.
     pub fn children(&self, controller: u64, agent: u64, buffer: &mut [u64], count: &mut u64) -> u64
-        ensures { spec.FillsOrRunsOut (spec.children self.now controller agent)
-            count.old buffer.old result count.new buffer.new }
+        ensures { ListsChildren
+            self.now controller agent count.old buffer.old result count.new buffer.new }
     {
         match self.core.children(controller, agent) {
             Ok(children) => fill(children.as_slice(), buffer, count),
@@ -67,7 +67,7 @@ impl<A: Allocator + Copy> EfiCore<A> {
 /// Lays all of some pairs into the front of a buffer that has room for them, and puts into a place how many
 /// they are.
 fn fill_stops(pairs: &[(u64, u64)], buffer: &mut [StopEntry], count: &mut u64) -> u64
-    ensures { FillsWith (map spec.stop_in_c pairs.now) result buffer.old count.new buffer.new }
+    ensures { FillsWith (map stop_in_c pairs.now) result buffer.old count.new buffer.new }
 {
     *count = pairs.len() as u64;
     if buffer.len() < pairs.len() {
@@ -79,7 +79,7 @@ fn fill_stops(pairs: &[(u64, u64)], buffer: &mut [StopEntry], count: &mut u64) -
 
 /// Lays pairs into the front of a buffer, as many as it has room for.
 fn lay_stops(buffer: &mut [StopEntry], pairs: &[(u64, u64)])
-    ensures { buffer.new ≡ laid (map spec.stop_in_c pairs.now) buffer.old }
+    ensures { buffer.new ≡ laid (map stop_in_c pairs.now) buffer.old }
 {
     let count = pairs.len().min(buffer.len());
     for index in 0..count {

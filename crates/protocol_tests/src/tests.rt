@@ -1,5 +1,6 @@
 //! Handles, drivers, and the protocol services of a core.
 mod boxed_drivers;
+mod caller_stops;
 mod drawn_calls;
 mod draws;
 mod drivers;

@@ -5,6 +5,7 @@ ghost use Rattle.c_interface.specs.Buffers.{laid};
 ghost use Rattle.c_interface.specs.Checks.{ReturnsEntry};
 ghost use Rattle.c_interface.specs.EfiCores.{certifying_core, last_events};
 ghost use Rattle.c_interface.specs.Items.{map_entry};
+ghost use Rattle.c_interface.specs.ReplyLines.{ReturnsReply};
 ghost use Rattle.c_interface.specs.Served.{ReturnsBlock};
 ghost use Rattle.region_services_c.specs.Versions.{version};
 
@@ -42,6 +43,25 @@ pub extern "C" fn RafkudinCertificate(core: &mut Rafkudin, text: &mut [u8], leng
     ensures kept { core.new.core ≡ core.old.core }
 {
     core.held().block(text, length)
+}
+
+/// What the program `bootcore` prints of the last service that was called, where the service's line has this
+/// number, in the front of `text`; the place `length` is given its bytes.
+///
+/// NOT_FOUND: it left no reply. BUFFER_TOO_SMALL: the place is given the bytes that are needed.
+/// OUT_OF_RESOURCES: memory ran out.
+#[unsafe(no_mangle)]
+pub extern "C" fn RafkudinReplyLine(
+    core: &mut Rafkudin,
+    number: u64,
+    text: &mut [u8],
+    length: &mut u64,
+) -> u64
+    ensures returned { ReturnsReply core.old.core number text.old length.old result text.new
+        length.new }
+    ensures kept { core.new.core ≡ core.old.core }
+{
+    core.held().reply_line(number, text, length)
 }
 
 /// How many events the last service that was called signals; the first of them are laid into `events`, as

@@ -83,7 +83,12 @@ fn assert_served<D: Driver>(
 }
 
 /// Installs an interface on a new handle.
-fn install<D: Driver>(rt: &(impl AllocGlobal + Abort), core: &mut Core<D>, guid: Uuid, value: u64) {
+pub fn install<D: Driver>(
+    rt: &(impl AllocGlobal + Abort),
+    core: &mut Core<D>,
+    guid: Uuid,
+    value: u64,
+) {
     let call = Call::InstallProtocolInterface {
         handle: 0,
         guid,
@@ -94,7 +99,7 @@ fn install<D: Driver>(rt: &(impl AllocGlobal + Abort), core: &mut Core<D>, guid:
 }
 
 /// Asserts whether a connect of a handle starts a driver.
-fn assert_connects<D: Driver>(
+pub fn assert_connects<D: Driver>(
     rt: &(impl AllocGlobal + Abort),
     core: &mut Core<D>,
     handle: u64,
@@ -109,7 +114,7 @@ fn assert_connects<D: Driver>(
 }
 
 /// Asserts whether the drivers of a handle are stopped.
-fn assert_disconnects<D: Driver>(
+pub fn assert_disconnects<D: Driver>(
     rt: &(impl AllocGlobal + Abort),
     core: &mut Core<D>,
     handle: u64,

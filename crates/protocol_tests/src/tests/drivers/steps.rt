@@ -1,6 +1,6 @@
 //! Calls on lists, and what is asserted of them, as tables.
 use super::guid;
-use driver_connect::{Driver, connect, disconnect, stop};
+use driver_connect::{Driver, children_of, connect, disconnect, managers_to_stop, stop};
 use guid_handles::Handles;
 use open_agents::{OpenItem, Opens};
 use page_ranges::Status;
@@ -36,6 +36,10 @@ pub enum Step {
     Maker(u64, Option<(u64, u64)>),
     /// A handle, and the pairs that manage it.
     Managers(u64, &'static [(u64, u64)]),
+    /// A handle, a driver or 0, and the pairs that a caller is to stop before a disconnect.
+    Stops(u64, u64, &'static [(u64, u64)]),
+    /// A controller, an agent, and the children of that pair.
+    Children(u64, u64, &'static [u64]),
     /// A handle, a GUID, and the items open there.
     Items(u64, u8, &'static [OpenItem]),
 }
@@ -237,6 +241,35 @@ pub fn assert_managers<A: Allocator + Copy>(
     }
 }
 
+/// Asserts which pairs a caller is to stop, in their order, before a handle is disconnected.
+fn assert_stops<A: Allocator + Copy>(
+    rt: &impl Abort,
+    alloc: A,
+    lists: &Lists<A>,
+    handle: u64,
+    driver: u64,
+    pairs: &[(u64, u64)],
+) {
+    match managers_to_stop(alloc, &lists.handles, &lists.opens, handle, driver) {
+        Ok(stops) => assert!(rt; stops.as_slice() == pairs, "{handle}"),
+        Err(_) => panic!(rt; "out of memory"),
+    }
+}
+
+/// Asserts which children a pair has.
+fn assert_children<A: Allocator + Copy>(
+    rt: &impl Abort,
+    alloc: A,
+    lists: &Lists<A>,
+    pair: (u64, u64),
+    wanted: &[u64],
+) {
+    match children_of(alloc, &lists.handles, &lists.opens, pair) {
+        Ok(children) => assert!(rt; children.as_slice() == wanted),
+        Err(_) => panic!(rt; "out of memory"),
+    }
+}
+
 /// Asserts which items are open on an interface.
 pub fn assert_items<A: Allocator + Copy>(
     rt: &impl Abort,
@@ -251,7 +284,7 @@ pub fn assert_items<A: Allocator + Copy>(
     }
 }
 
-/// Changes the lists by a step other than a call on drivers.
+/// Changes the lists by a step other than a call on drivers, or looks at them.
 fn prepare<A: Allocator + Copy>(rt: &impl Abort, alloc: A, lists: &mut Lists<A>, step: &Step) {
     match step {
         Step::Install(handle, pairs, number) => {
@@ -271,6 +304,12 @@ fn prepare<A: Allocator + Copy>(rt: &impl Abort, alloc: A, lists: &mut Lists<A>,
         }
         Step::Close(handle, byte, agent, controller) => {
             assert!(rt; lists.opens.close(*handle, guid(*byte), *agent, *controller));
+        }
+        Step::Stops(handle, driver, pairs) => {
+            assert_stops(rt, alloc, lists, *handle, *driver, pairs);
+        }
+        Step::Children(controller, agent, children) => {
+            assert_children(rt, alloc, lists, (*controller, *agent), children);
         }
         _ => assert_lists(rt, lists, step),
     }

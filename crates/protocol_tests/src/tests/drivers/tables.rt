@@ -1,7 +1,7 @@
 //! Drivers that are tables.
 use super::steps::{Step, assert_steps};
 use super::{BINDING, add_children, opening, table};
-use open_agents::{BY_DRIVER, EXCLUSIVE, OpenItem};
+use open_agents::{BY_CHILD_CONTROLLER, BY_DRIVER, EXCLUSIVE, OpenItem};
 use page_ranges::Status;
 
 #[test]
@@ -24,6 +24,10 @@ const CHILDREN: &[Step] = &[
     Step::Disconnect(1, 0, Status::DeviceError),
     Step::Disconnect(1, 3, Status::InvalidParameter),
     Step::Handles(&[1, 2, 3, 4, 5]),
+    Step::Stops(1, 0, &[(1, 2)]),
+    Step::Stops(1, 3, &[]),
+    Step::Children(1, 2, &[4, 5]),
+    Step::Children(1, 3, &[]),
     Step::Close(4, 2, 3, 0),
     Step::Stop(&[(1, 2)], 4, false),
     Step::Disconnect(1, 2, Status::Success),
@@ -74,6 +78,41 @@ const LEVELS: &[Step] = &[
     Step::Handles(&[1, 2, 3, 4, 5, 6, 7, 8, 9, 10]),
     Step::Managers(9, &[(9, 2)]),
     Step::Managers(10, &[]),
+    Step::Stops(1, 2, ALL_LEVELS),
+    Step::Stops(8, 0, &[(9, 2), (8, 2)]),
+    Step::Children(7, 2, &[8]),
     Step::Disconnect(1, 0, Status::Success),
     Step::Handles(&[1, 2]),
+    Step::Stops(1, 0, &[]),
+];
+
+const ALL_LEVELS: &[(u64, u64)] = &[
+    (9, 2),
+    (8, 2),
+    (7, 2),
+    (6, 2),
+    (5, 2),
+    (4, 2),
+    (3, 2),
+    (1, 2),
+];
+
+#[test]
+fn children_by_open_items(rt: HostRuntime) {
+    assert_steps(&rt, &[table(1, 1, opening(1))], OPEN_CHILDREN);
+}
+
+/// The controller is open for a child, which no driver made.
+const OPEN_CHILDREN: &[Step] = &[
+    Step::Install(0, &[(1, 0)], 1),
+    Step::Install(0, &[(BINDING, 0)], 2),
+    Step::Install(0, &[(1, 0)], 3),
+    Step::Open(1, 1, 2, 3, BY_CHILD_CONTROLLER),
+    Step::Stops(1, 0, &[]),
+    Step::Children(1, 2, &[3]),
+    Step::Children(3, 2, &[]),
+    Step::Open(1, 1, 2, 1, BY_DRIVER),
+    Step::Stops(1, 0, &[(1, 2)]),
+    Step::Stops(3, 0, &[]),
+    Step::Children(1, 2, &[]),
 ];
