@@ -894,6 +894,44 @@ RAFKUDIN_API rafkudin_uint64 RafkudinTraceLine(const struct rafkudin *core,
                                                const struct rafkudin_call *call, uint8_t *text,
                                                size_t room, rafkudin_uint64 *length);
 
+/* What a GetMemoryMap returned: its status, and what is in the caller's variables, on SUCCESS also
+ * the map. `number` is that of its line in a trace. */
+struct rafkudin_map_reply {
+    rafkudin_uint64 number;
+    rafkudin_uint64 status;
+    rafkudin_uint64 size;            /* *MemoryMapSize */
+    rafkudin_uint64 key;             /* *MapKey */
+    rafkudin_uint64 descriptor_size; /* *DescriptorSize */
+    uint32_t descriptor_version;     /* *DescriptorVersion */
+    const uint8_t *map;
+    size_t map_size; /* the bytes of it that were written */
+};
+
+/* What a PoolRead returned: its status, and on SUCCESS the bytes. */
+struct rafkudin_read_reply {
+    rafkudin_uint64 number;
+    rafkudin_uint64 status;
+    const uint8_t *bytes;
+    size_t count;
+};
+
+/* What the program `bootcore` prints of these (docs/FORMATS.md), without a zero byte at its end.
+ * The replies of GetMemoryMap and PoolRead are in the caller's buffers, so the caller hands them
+ * in. `text` has room for `room` bytes; the text is written where all of it fits. The core plays no
+ * part but for the memory that the text takes in between.
+ *
+ * SUCCESS: *length are the bytes written. BUFFER_TOO_SMALL: *length are the bytes needed, and none
+ * is written. INVALID_PARAMETER: the status is ABORTED, or none of a service.
+ * OUT_OF_RESOURCES: memory was refused. */
+RAFKUDIN_API rafkudin_uint64 RafkudinMapReplyLine(const struct rafkudin *core,
+                                                  const struct rafkudin_map_reply *reply,
+                                                  uint8_t *text, size_t room,
+                                                  rafkudin_uint64 *length);
+RAFKUDIN_API rafkudin_uint64 RafkudinReadReplyLine(const struct rafkudin *core,
+                                                   const struct rafkudin_read_reply *reply,
+                                                   uint8_t *text, size_t room,
+                                                   rafkudin_uint64 *length);
+
 #ifndef RAFKUDIN_NO_NULL_CHECKS
 #include "rafkudin_null.h"
 #endif

@@ -124,6 +124,36 @@ static void try_trace_line(struct rafkudin *core)
     REFUSED(RafkudinTraceLine(core, &call, text, 12, &length));
 }
 
+/* Each null pointer of the replies that the caller hands in. */
+static void try_reply_lines(struct rafkudin *core)
+{
+    struct rafkudin_map_reply map = {.number = 1, .status = RAFKUDIN_UNSUPPORTED};
+    struct rafkudin_read_reply read = {.number = 1, .status = RAFKUDIN_SUCCESS};
+    uint8_t text[22];
+    uint64_t length = 0;
+
+    REFUSED(RafkudinMapReplyLine(NULL, &map, text, 22, &length));
+    REFUSED(RafkudinMapReplyLine(core, NULL, text, 22, &length));
+    REFUSED(RafkudinMapReplyLine(core, &map, NULL, 22, &length));
+    REFUSED(RafkudinMapReplyLine(core, &map, text, 22, NULL));
+    HOLDS(RafkudinMapReplyLine(core, &map, NULL, 0, &length) == RAFKUDIN_BUFFER_TOO_SMALL);
+    HOLDS(RafkudinMapReplyLine(core, &map, text, 22, &length) == RAFKUDIN_SUCCESS);
+    HOLDS(length == 18 && memcmp(text, "1 map UNSUPPORTED\n", 18) == 0);
+    map.map_size = 1;
+    REFUSED(RafkudinMapReplyLine(core, &map, text, 22, &length));
+    REFUSED(RafkudinReadReplyLine(NULL, &read, text, 22, &length));
+    REFUSED(RafkudinReadReplyLine(core, NULL, text, 22, &length));
+    REFUSED(RafkudinReadReplyLine(core, &read, NULL, 22, &length));
+    REFUSED(RafkudinReadReplyLine(core, &read, text, 22, NULL));
+    HOLDS(RafkudinReadReplyLine(core, &read, NULL, 0, &length) == RAFKUDIN_BUFFER_TOO_SMALL);
+    HOLDS(RafkudinReadReplyLine(core, &read, text, 22, &length) == RAFKUDIN_SUCCESS);
+    HOLDS(length == 22 && memcmp(text, "1 read SUCCESS bytes=\n", 22) == 0);
+    read.count = 1;
+    REFUSED(RafkudinReadReplyLine(core, &read, text, 22, &length));
+    read = (struct rafkudin_read_reply){.number = 1, .status = RAFKUDIN_ABORTED};
+    REFUSED(RafkudinReadReplyLine(core, &read, text, 22, &length));
+}
+
 /* Each service with no core. */
 static void try_null_core(void)
 {
@@ -300,6 +330,7 @@ int main(void)
     try_null_parameters(core);
     try_questions(core);
     try_trace_line(core);
+    try_reply_lines(core);
     try_allowed(core);
     try_turns(core);
     try_stops(core);

@@ -1,4 +1,5 @@
 mod Blocks
+mod BufferTexts
 mod FoundEntries
 mod FoundRuns
 mod ListedItems

@@ -1,3 +1,4 @@
+pub mod BufferReplies
 pub mod Buffers
 pub mod CallFields
 pub mod CallLines
