@@ -823,6 +823,115 @@ RAFKUDIN_API rafkudin_uint64 RafkudinInstallPath(struct rafkudin *core, rafkudin
                                                  const uint8_t *path, size_t length,
                                                  rafkudin_uint64 *address);
 
+/* ---- The line of a trace that asks for a call ---- */
+
+/* The services by number. */
+#define RAFKUDIN_CALL_ALLOCATE_PAGES 1U
+#define RAFKUDIN_CALL_FREE_PAGES 2U
+#define RAFKUDIN_CALL_GET_MEMORY_MAP 3U
+#define RAFKUDIN_CALL_ALLOCATE_POOL 4U
+#define RAFKUDIN_CALL_FREE_POOL 5U
+#define RAFKUDIN_CALL_POOL_READ 6U
+#define RAFKUDIN_CALL_POOL_WRITE 7U
+#define RAFKUDIN_CALL_INSTALL_PROTOCOL_INTERFACE 8U
+#define RAFKUDIN_CALL_INSTALL_MULTIPLE_PROTOCOL_INTERFACES 9U
+#define RAFKUDIN_CALL_UNINSTALL_PROTOCOL_INTERFACE 10U
+#define RAFKUDIN_CALL_REINSTALL_PROTOCOL_INTERFACE 11U
+#define RAFKUDIN_CALL_REGISTER_PROTOCOL_NOTIFY 12U
+#define RAFKUDIN_CALL_LOCATE_HANDLE 13U
+#define RAFKUDIN_CALL_LOCATE_HANDLE_BUFFER 14U
+#define RAFKUDIN_CALL_LOCATE_PROTOCOL 15U
+#define RAFKUDIN_CALL_PROTOCOLS_PER_HANDLE 16U
+#define RAFKUDIN_CALL_OPEN_PROTOCOL 17U
+#define RAFKUDIN_CALL_CLOSE_PROTOCOL 18U
+#define RAFKUDIN_CALL_OPEN_PROTOCOL_INFORMATION 19U
+#define RAFKUDIN_CALL_HANDLE_PROTOCOL 20U
+#define RAFKUDIN_CALL_CONNECT_CONTROLLER 21U
+#define RAFKUDIN_CALL_DISCONNECT_CONTROLLER 22U
+#define RAFKUDIN_CALL_LOCATE_DEVICE_PATH 23U
+#define RAFKUDIN_CALL_EXIT_BOOT_SERVICES 24U
+
+/* A call: the number of its service, and its parameters. What a parameter leads to is as before the
+ * call: a handle of 0 is a new one. The other fields play no part, and may be 0 or null. */
+struct rafkudin_call {
+    uint32_t service;
+    uint32_t type;        /* Type of AllocatePages, InterfaceType */
+    uint32_t memory_type; /* MemoryType, PoolType */
+    uint32_t search_type;
+    uint32_t attributes;
+    bool recursive;
+    struct rafkudin_guid protocol;
+    rafkudin_uint64 handle; /* Handle, ControllerHandle of ConnectController and Disconnect.. */
+    rafkudin_uint64 agent;
+    rafkudin_uint64 controller; /* of OpenProtocol and CloseProtocol */
+    rafkudin_uint64 driver;     /* DriverImageHandle */
+    rafkudin_uint64 value;      /* Interface, OldInterface */
+    rafkudin_uint64 new_value;  /* NewInterface */
+    rafkudin_uint64 event;
+    rafkudin_uint64 key;     /* SearchKey, Registration of LocateProtocol, MapKey */
+    rafkudin_uint64 address; /* Memory, Buffer of FreePool, DevicePath, Address */
+    rafkudin_uint64 pages;
+    rafkudin_uint64 size; /* Size of AllocatePool, MemoryMapSize, BufferSize, the bytes to read */
+    const uint8_t *bytes; /* of PoolWrite */
+    size_t byte_count;
+    const struct rafkudin_interface *interfaces; /* of InstallMultipleProtocolInterfaces */
+    size_t interface_count;
+    const rafkudin_uint64 *drivers; /* of ConnectController: the handles that are tried first */
+    size_t driver_count;
+};
+
+/* The line of a trace (docs/FORMATS.md) that asks for a call, with its line feed and without a zero
+ * byte at its end. `text` has room for `room` bytes; the line is written where all of it fits. The
+ * call is not made, no call is used up, and the core plays no part but for the memory that the line
+ * takes in between. So a caller that writes the machine and, beside each of its calls, this line
+ * has a session that the program `bootcore` makes again.
+ *
+ * SUCCESS: *length are the bytes written. BUFFER_TOO_SMALL: *length are the bytes needed, and none
+ * is written. INVALID_PARAMETER: no service has the number. NOT_FOUND: no line can ask for the
+ * call: a GetMemoryMap with a buffer of more than 16,777,216 bytes, a PoolRead of more than 65,536,
+ * no interfaces, or a line of more than 65,536 bytes. OUT_OF_RESOURCES: memory was refused. */
+RAFKUDIN_API rafkudin_uint64 RafkudinTraceLine(const struct rafkudin *core,
+                                               const struct rafkudin_call *call, uint8_t *text,
+                                               size_t room, rafkudin_uint64 *length);
+
+/* What a GetMemoryMap returned: its status, and what is in the caller's variables, on SUCCESS also
+ * the map. `number` is that of its line in a trace. */
+struct rafkudin_map_reply {
+    rafkudin_uint64 number;
+    rafkudin_uint64 status;
+    rafkudin_uint64 size;            /* *MemoryMapSize */
+    rafkudin_uint64 key;             /* *MapKey */
+    rafkudin_uint64 descriptor_size; /* *DescriptorSize */
+    uint32_t descriptor_version;     /* *DescriptorVersion */
+    const uint8_t *map;
+    size_t map_size; /* the bytes of it that were written */
+};
+
+/* What a PoolRead returned: its status, and on SUCCESS the bytes. */
+struct rafkudin_read_reply {
+    rafkudin_uint64 number;
+    rafkudin_uint64 status;
+    const uint8_t *bytes;
+    size_t count;
+};
+
+/* What the program `bootcore` prints of these (docs/FORMATS.md), without a zero byte at its end.
+ * The replies of GetMemoryMap and PoolRead are in the caller's buffers, so the caller hands them
+ * in. `text` has room for `room` bytes; the text is written where all of it fits. The core plays no
+ * part but for the memory that the text takes in between.
+ *
+ * SUCCESS: *length are the bytes written. BUFFER_TOO_SMALL: *length are the bytes needed, and none
+ * is written. INVALID_PARAMETER: the status is ABORTED, or none of a service.
+ * OUT_OF_RESOURCES: memory was refused. */
+RAFKUDIN_API rafkudin_uint64 RafkudinMapReplyLine(const struct rafkudin *core,
+                                                  const struct rafkudin_map_reply *reply,
+                                                  uint8_t *text, size_t room,
+                                                  rafkudin_uint64 *length);
+RAFKUDIN_API rafkudin_uint64 RafkudinReadReplyLine(const struct rafkudin *core,
+                                                   const struct rafkudin_read_reply *reply,
+                                                   uint8_t *text, size_t room,
+                                                   rafkudin_uint64 *length);
+
 #ifndef RAFKUDIN_NO_NULL_CHECKS
 #include "rafkudin_null.h"
 #endif

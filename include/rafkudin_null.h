@@ -628,6 +628,71 @@ static inline rafkudin_uint64 rafkudin_children(const struct rafkudin *core,
 }
 #define RafkudinChildren rafkudin_children
 
+static inline rafkudin_uint64 rafkudin_trace_line(const struct rafkudin *core,
+                                                  const struct rafkudin_call *call, uint8_t *text,
+                                                  size_t room, rafkudin_uint64 *length)
+{
+    rafkudin_uint64 nothing = 0;
+    struct rafkudin_call whole;
+
+    if (core == NULL || call == NULL || length == NULL || (text == NULL && room != 0) ||
+        (call->bytes == NULL && call->byte_count != 0) ||
+        (call->interfaces == NULL && call->interface_count != 0) ||
+        (call->drivers == NULL && call->driver_count != 0))
+        return RAFKUDIN_INVALID_PARAMETER;
+    if (text == NULL)
+        text = (uint8_t *)(void *)&nothing;
+    whole = *call;
+    if (whole.bytes == NULL)
+        whole.bytes = (const uint8_t *)(void *)&nothing;
+    if (whole.interfaces == NULL)
+        whole.interfaces = (const struct rafkudin_interface *)(void *)&nothing;
+    if (whole.drivers == NULL)
+        whole.drivers = &nothing;
+    return RafkudinTraceLine(core, &whole, text, room, length);
+}
+#define RafkudinTraceLine rafkudin_trace_line
+
+static inline rafkudin_uint64 rafkudin_map_reply_line(const struct rafkudin *core,
+                                                      const struct rafkudin_map_reply *reply,
+                                                      uint8_t *text, size_t room,
+                                                      rafkudin_uint64 *length)
+{
+    rafkudin_uint64 nothing = 0;
+    struct rafkudin_map_reply whole;
+
+    if (core == NULL || reply == NULL || length == NULL || (text == NULL && room != 0) ||
+        (reply->map == NULL && reply->map_size != 0))
+        return RAFKUDIN_INVALID_PARAMETER;
+    if (text == NULL)
+        text = (uint8_t *)(void *)&nothing;
+    whole = *reply;
+    if (whole.map == NULL)
+        whole.map = (const uint8_t *)(void *)&nothing;
+    return RafkudinMapReplyLine(core, &whole, text, room, length);
+}
+#define RafkudinMapReplyLine rafkudin_map_reply_line
+
+static inline rafkudin_uint64 rafkudin_read_reply_line(const struct rafkudin *core,
+                                                       const struct rafkudin_read_reply *reply,
+                                                       uint8_t *text, size_t room,
+                                                       rafkudin_uint64 *length)
+{
+    rafkudin_uint64 nothing = 0;
+    struct rafkudin_read_reply whole;
+
+    if (core == NULL || reply == NULL || length == NULL || (text == NULL && room != 0) ||
+        (reply->bytes == NULL && reply->count != 0))
+        return RAFKUDIN_INVALID_PARAMETER;
+    if (text == NULL)
+        text = (uint8_t *)(void *)&nothing;
+    whole = *reply;
+    if (whole.bytes == NULL)
+        whole.bytes = (const uint8_t *)(void *)&nothing;
+    return RafkudinReadReplyLine(core, &whole, text, room, length);
+}
+#define RafkudinReadReplyLine rafkudin_read_reply_line
+
 static inline size_t rafkudin_events(const struct rafkudin *core, rafkudin_uint64 *events,
                                      size_t room)
 {

@@ -30,6 +30,7 @@ static struct rafkudin *make_core(void)
 static void try_no_core(void)
 {
     uint8_t record[RAFKUDIN_DESCRIPTOR_SIZE] = {[0] = 7, [25] = 1};
+    const struct rafkudin_call call = {.service = RAFKUDIN_CALL_EXIT_BOOT_SERVICES};
     struct rafkudin_driver driver;
     struct rafkudin_descriptor entry;
     struct rafkudin *core = NULL;
@@ -54,6 +55,7 @@ static void try_no_core(void)
     HOLDS(number == 1);
     REFUSED(RafkudinCertificate(NULL, &byte, 1, &number));
     REFUSED(RafkudinReplyLine(NULL, 1, &byte, 1, &number));
+    REFUSED(RafkudinTraceLine(NULL, &call, &byte, 1, &number));
     REFUSED(RafkudinDescriptor(NULL, 0, &entry));
     HOLDS(RafkudinEvents(NULL, &number, 1) == 0);
 }
@@ -97,6 +99,59 @@ static void try_questions(struct rafkudin *core)
     REFUSED(RafkudinOpenProtocolInformationInto(core, 1, &disk, &item, 1, NULL));
     HOLDS(RafkudinOpenProtocolInformationInto(core, 1, &disk, NULL, 0, &number) ==
           RAFKUDIN_SUCCESS);
+}
+
+/* Each null pointer of a trace line, and of the call that it asks for. */
+static void try_trace_line(struct rafkudin *core)
+{
+    struct rafkudin_call call = {.service = RAFKUDIN_CALL_POOL_WRITE};
+    uint8_t text[12];
+    uint64_t length = 0;
+
+    REFUSED(RafkudinTraceLine(core, NULL, text, 12, &length));
+    REFUSED(RafkudinTraceLine(core, &call, NULL, 12, &length));
+    REFUSED(RafkudinTraceLine(core, &call, text, 12, NULL));
+    HOLDS(RafkudinTraceLine(core, &call, NULL, 0, &length) == RAFKUDIN_BUFFER_TOO_SMALL);
+    HOLDS(RafkudinTraceLine(core, &call, text, 12, &length) == RAFKUDIN_SUCCESS);
+    HOLDS(length == 12 && memcmp(text, "write 0x0 -\n", 12) == 0);
+    call.byte_count = 1;
+    REFUSED(RafkudinTraceLine(core, &call, text, 12, &length));
+    call.byte_count = 0;
+    call.interface_count = 1;
+    REFUSED(RafkudinTraceLine(core, &call, text, 12, &length));
+    call.interface_count = 0;
+    call.driver_count = 1;
+    REFUSED(RafkudinTraceLine(core, &call, text, 12, &length));
+}
+
+/* Each null pointer of the replies that the caller hands in. */
+static void try_reply_lines(struct rafkudin *core)
+{
+    struct rafkudin_map_reply map = {.number = 1, .status = RAFKUDIN_UNSUPPORTED};
+    struct rafkudin_read_reply read = {.number = 1, .status = RAFKUDIN_SUCCESS};
+    uint8_t text[22];
+    uint64_t length = 0;
+
+    REFUSED(RafkudinMapReplyLine(NULL, &map, text, 22, &length));
+    REFUSED(RafkudinMapReplyLine(core, NULL, text, 22, &length));
+    REFUSED(RafkudinMapReplyLine(core, &map, NULL, 22, &length));
+    REFUSED(RafkudinMapReplyLine(core, &map, text, 22, NULL));
+    HOLDS(RafkudinMapReplyLine(core, &map, NULL, 0, &length) == RAFKUDIN_BUFFER_TOO_SMALL);
+    HOLDS(RafkudinMapReplyLine(core, &map, text, 22, &length) == RAFKUDIN_SUCCESS);
+    HOLDS(length == 18 && memcmp(text, "1 map UNSUPPORTED\n", 18) == 0);
+    map.map_size = 1;
+    REFUSED(RafkudinMapReplyLine(core, &map, text, 22, &length));
+    REFUSED(RafkudinReadReplyLine(NULL, &read, text, 22, &length));
+    REFUSED(RafkudinReadReplyLine(core, NULL, text, 22, &length));
+    REFUSED(RafkudinReadReplyLine(core, &read, NULL, 22, &length));
+    REFUSED(RafkudinReadReplyLine(core, &read, text, 22, NULL));
+    HOLDS(RafkudinReadReplyLine(core, &read, NULL, 0, &length) == RAFKUDIN_BUFFER_TOO_SMALL);
+    HOLDS(RafkudinReadReplyLine(core, &read, text, 22, &length) == RAFKUDIN_SUCCESS);
+    HOLDS(length == 22 && memcmp(text, "1 read SUCCESS bytes=\n", 22) == 0);
+    read.count = 1;
+    REFUSED(RafkudinReadReplyLine(core, &read, text, 22, &length));
+    read = (struct rafkudin_read_reply){.number = 1, .status = RAFKUDIN_ABORTED};
+    REFUSED(RafkudinReadReplyLine(core, &read, text, 22, &length));
 }
 
 /* Each service with no core. */
@@ -274,6 +329,8 @@ int main(void)
     try_null_core();
     try_null_parameters(core);
     try_questions(core);
+    try_trace_line(core);
+    try_reply_lines(core);
     try_allowed(core);
     try_turns(core);
     try_stops(core);

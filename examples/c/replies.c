@@ -92,6 +92,40 @@ static void reply_free_pages(struct run *run, const struct call *call)
     print_status(run, RafkudinFreePages(run->core, call->numbers[0], call->numbers[1]));
 }
 
+/* What the library prints of a reply that the caller hands in, which ends with a line feed, must be
+ * what is appended of the call. */
+static void compare_printed(const struct run *run, uint64_t status, const uint8_t *text,
+                            uint64_t length)
+{
+    size_t appended = run->text.length - run->start;
+
+    if (status != RAFKUDIN_SUCCESS || length != appended + 1 || text[appended] != '\n' ||
+        memcmp(text, run->text.bytes + run->start, appended) != 0)
+        fail("the library prints another reply to the call of line %" PRIu64, run->number);
+}
+
+static void compare_map(const struct run *run, const struct rafkudin_map_reply *reply)
+{
+    size_t room = run->text.length - run->start + 1;
+    uint8_t *text = grow(NULL, room);
+    uint64_t length = 0;
+    uint64_t status = RafkudinMapReplyLine(run->core, reply, text, room, &length);
+
+    compare_printed(run, status, text, length);
+    free(text);
+}
+
+static void compare_read(const struct run *run, const struct rafkudin_read_reply *reply)
+{
+    size_t room = run->text.length - run->start + 1;
+    uint8_t *text = grow(NULL, room);
+    uint64_t length = 0;
+    uint64_t status = RafkudinReadReplyLine(run->core, reply, text, room, &length);
+
+    compare_printed(run, status, text, length);
+    free(text);
+}
+
 static void reply_map(struct run *run, const struct call *call)
 {
     uint64_t size = call->numbers[0], key = 0, step = 0;
@@ -111,6 +145,8 @@ static void reply_map(struct run *run, const struct call *call)
     } else if (status == RAFKUDIN_BUFFER_TOO_SMALL) {
         text_print(&run->text, " size=%" PRIu64, size);
     }
+    compare_map(run, &(struct rafkudin_map_reply){run->number, status, size, key, step, version,
+                                                  map, status == RAFKUDIN_SUCCESS ? size : 0});
     free(map);
 }
 
@@ -137,12 +173,15 @@ static void reply_read(struct run *run, const struct call *call)
 {
     size_t count = call->numbers[1];
     uint8_t *bytes = grow(NULL, count);
+    uint64_t status = RafkudinPoolRead(run->core, call->numbers[0], bytes, count);
 
-    if (print_status(run, RafkudinPoolRead(run->core, call->numbers[0], bytes, count))) {
+    if (print_status(run, status)) {
         text_print(&run->text, " bytes=");
         for (size_t at = 0; at < count; at++)
             text_print(&run->text, "%02x", bytes[at]);
     }
+    compare_read(run, &(struct rafkudin_read_reply){run->number, status, bytes,
+                                                    status == RAFKUDIN_SUCCESS ? count : 0});
     free(bytes);
 }
 
@@ -425,6 +464,8 @@ void run_call(struct run *run, const struct call *call, uint64_t number)
 {
     size_t start = run->text.length;
 
+    run->number = number;
+    run->start = run->text.length;
     text_print(&run->text, "%" PRIu64 " %s", number, verb_name(call->verb));
     replies[call->verb](run, call);
     text_print(&run->text, "\n");

@@ -11,6 +11,8 @@ struct run {
     struct rafkudin *core;
     bool certify;
     struct text text; /* what the line prints */
+    uint64_t number;  /* of the last call: the number of its line, and where its text begins */
+    size_t start;
 };
 
 /* Makes the call of a line of a number, and appends what is printed of it. */

@@ -184,6 +184,19 @@ static void uninstall_many(void)
     RafkudinUninstallMultipleProtocolInterfaces(core, one - 1, many, 16);
 }
 
+static void trace_line(void)
+{
+    struct rafkudin_interface many[16];
+    const struct rafkudin_call call = {
+        .service = RAFKUDIN_CALL_INSTALL_MULTIPLE_PROTOCOL_INTERFACES,
+        .interfaces = many,
+        .interface_count = 16,
+    };
+
+    memset(many, 0, sizeof many);
+    RafkudinTraceLine(core, &call, bytes, sizeof bytes, &two);
+}
+
 static void give_back(void)
 {
     RafkudinFree(core);
@@ -236,6 +249,7 @@ int main(int count, char **words)
     measure("RafkudinDisconnectController", disconnect);
     measure("RafkudinUninstallProtocolInterface", uninstall);
     measure("RafkudinUninstallMultipleProtocolInterfaces", uninstall_many);
+    measure("RafkudinTraceLine", trace_line);
     measure("RafkudinFree", give_back);
     return count == 2 && most > strtoull(words[1], NULL, 10);
 }

@@ -12,4 +12,5 @@ mod place;
 mod placing;
 mod protocols;
 mod returned;
+mod tracing;
 mod turns;

@@ -1,4 +1,5 @@
 mod Blocks
+mod BufferTexts
 mod FoundEntries
 mod FoundRuns
 mod ListedItems
@@ -6,6 +7,7 @@ mod LongLists
 mod LongRemovals
 mod Opened
 mod ReturnedLists
+mod TracedCalls
 pub mod InstalledPaths
 pub mod LocatedHere
 mod PrintedReplies

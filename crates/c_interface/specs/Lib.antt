@@ -1,4 +1,7 @@
+pub mod BufferReplies
 pub mod Buffers
+pub mod CallFields
+pub mod CallLines
 pub mod Checks
 pub mod EfiCores
 pub mod Lines

@@ -2,7 +2,10 @@
 //! the caller's, GUIDs as the standard's sixteen bytes.
 #![tactic(auto)]
 
+mod buffer_replies;
 mod buffers;
+mod call_fields;
+mod call_lines;
 mod checks;
 mod efi_core;
 mod entries;
@@ -22,6 +25,8 @@ mod stops;
 mod turns;
 
 pub use boot_core::{Agent, DriverTurns, OpenItem};
+pub use buffer_replies::{MapFields, ReadFields};
+pub use call_fields::CallFields;
 pub use checks::{MapEntry, check_block};
 pub use efi_core::{ABORTED, EfiCore, LastBlock};
 pub use entries::{BlockEntry, OpenEntry, RunEntry, StopEntry};

@@ -31,7 +31,7 @@ impl<A: Allocator + Copy> EfiCore<A> {
 }
 
 /// What is printed of a call with this reply, which left this block.
-fn print_last<A: Allocator + Copy>(
+pub(crate) fn print_last<A: Allocator + Copy>(
     alloc: A,
     number: u64,
     reply: &Reply<A>,

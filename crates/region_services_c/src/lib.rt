@@ -8,4 +8,5 @@ mod memory;
 mod paths;
 mod protocols;
 mod questions;
+mod tracing;
 mod turns;
