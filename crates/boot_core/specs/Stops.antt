@@ -3,12 +3,11 @@ use Rattle.std.specs.Prelude.{ℕ, List}
 use Rattle.driver_connect.specs.Stopping.{managers_meant, planned_stop}
 use Rattle.driver_connect.specs.StopOrder.{children_of, stop_order}
 use Rattle.protocol_services.specs.Lists.{Lists}
-use Rattle.protocol_services.specs.Removing.{drivers_on}
+use Rattle.protocol_services.specs.RemovalSteps.{stop_to_free}
 
 -- before an interface can be freed of its drivers
 abbrev pub stops_on_interface : Lists → ℕ → List ℕ → List (ℕ × ℕ)
-stops_on_interface l handle guid =
-    stop_order (planned_stop l.handles l.opens (drivers_on l.opens handle guid))
+stops_on_interface l handle guid = stop_order (stop_to_free l handle guid)
 
 -- before a handle can be disconnected, from one driver alone if it is not 0
 abbrev pub stops_on_controller : Lists → ℕ → ℕ → List (ℕ × ℕ)

@@ -15,6 +15,7 @@ pub mod StopSets
 pub mod PairMembers
 pub mod MadeHandles
 pub mod Unobstructed
+pub mod NearChildren
 pub mod NewPairs
 pub mod Left
 pub mod Idle
