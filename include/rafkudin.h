@@ -18,8 +18,8 @@
  * Handles, events, interfaces and the addresses of the pool are 64-bit numbers, where the standard
  * has pointers.
  *
- * NULL. A null pointer in the place of the core, of a GUID or of a result is INVALID_PARAMETER, and
- * uses up no call, unless it is said that it may be null. Beside a count or a size of 0 the pointer
+ * NULL. A null pointer in the place of the core, of a GUID, of a call, of a reply or of a result is
+ * INVALID_PARAMETER, and uses up no call, unless it is said that it may be null. Beside a count or a size of 0 the pointer
  * may be null. rafkudin_null.h, which this header includes, looks for null pointers in inline
  * functions and then calls the library; with RAFKUDIN_NO_NULL_CHECKS it does not, and then no
  * pointer may be null.
@@ -299,14 +299,16 @@ RAFKUDIN_API rafkudin_uint64 RafkudinCertificate(const struct rafkudin *core, ui
 /* What the program `bootcore` prints of the last service that was called, byte for byte, without a
  * zero byte at its end: the lines of its reply under the number of its line in a trace
  * (docs/FORMATS.md) and, while certificates are kept, its certificate as with `--certify`. `text`
- * has room for `room` bytes; the text is written where all of it fits. A caller who writes the
- * lines of its calls so has what the program must print of them.
+ * has room for `room` bytes; the text is written where all of it fits. A host that writes a line
+ * for each call thus knows what the program must print.
  *
  * SUCCESS: *length are the bytes written. BUFFER_TOO_SMALL: *length are the bytes needed, and none
  * is written. NOT_FOUND: the call left no reply: it was GetMemoryMap or PoolRead, whose replies are
  * in the caller's buffers, or UninstallMultipleProtocolInterfaces or RafkudinLocatePath, which are
- * in no trace, or it was ABORTED. OUT_OF_RESOURCES: memory was refused. After RafkudinInstallPath,
- * which makes several calls, the reply is that of the one that decides its status. */
+ * in no trace, or RafkudinInstallPath of bytes that begin with no path, or it was ABORTED; or no
+ * service was called yet. OUT_OF_RESOURCES: memory was refused. After RafkudinInstallPath, which
+ * makes several calls, the reply is that of the one that decides its status; behind it is the
+ * certificate of its AllocatePool, which the program prints behind that call's line. */
 RAFKUDIN_API rafkudin_uint64 RafkudinReplyLine(const struct rafkudin *core, rafkudin_uint64 number,
                                                uint8_t *text, size_t room,
                                                rafkudin_uint64 *length);
@@ -749,11 +751,13 @@ RAFKUDIN_API void RafkudinConnectRecord(struct rafkudin_turns *turns,
  *         .. Stop() of the driver stops[i].agent on the controller, first with its children ..
  *     }
  *
- * What Stop() itself uninstalls has drivers of its own to be stopped, so stops nest. After a stop
- * that changed what is open the list is asked for anew.
+ * What Stop() itself uninstalls has drivers of its own to be stopped, so stops nest. Where a Stop()
+ * may stop others of the list, ask for the list anew after each, and pass over pairs that were
+ * tried.
  *
  * The lists are written to the front of a buffer that has room for `room` entries; *count is how
- * many there are. A handle that is not live, or lacks the GUID, has none.
+ * many there are. A handle that is not live, or lacks the GUID, has no drivers to be stopped;
+ * children that a driver of RafkudinMake made on it are listed as long as they live.
  *
  * BUFFER_TOO_SMALL: there is no room for all of them, and none is written; *count is set too.
  * OUT_OF_RESOURCES: memory was refused; *count stays as it is. */
@@ -852,7 +856,8 @@ RAFKUDIN_API rafkudin_uint64 RafkudinInstallPath(struct rafkudin *core, rafkudin
 #define RAFKUDIN_CALL_EXIT_BOOT_SERVICES 24U
 
 /* A call: the number of its service, and its parameters. What a parameter leads to is as before the
- * call: a handle of 0 is a new one. The other fields play no part, and may be 0 or null. */
+ * call: a handle of 0 is a new one. The other fields play no part, and may be 0 or null (with
+ * RAFKUDIN_NO_NULL_CHECKS not null). */
 struct rafkudin_call {
     uint32_t service;
     uint32_t type;        /* Type of AllocatePages, InterfaceType */
@@ -884,7 +889,7 @@ struct rafkudin_call {
  * byte at its end. `text` has room for `room` bytes; the line is written where all of it fits. The
  * call is not made, no call is used up, and the core plays no part but for the memory that the line
  * takes in between. So a caller that writes the machine and, beside each of its calls, this line
- * has a session that the program `bootcore` makes again.
+ * has a session that the program `bootcore` can run.
  *
  * SUCCESS: *length are the bytes written. BUFFER_TOO_SMALL: *length are the bytes needed, and none
  * is written. INVALID_PARAMETER: no service has the number. NOT_FOUND: no line can ask for the

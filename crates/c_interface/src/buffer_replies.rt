@@ -49,10 +49,10 @@ const STATUSES: [Status; 9] = [
 
 impl<A: Allocator + Copy> EfiCore<A> {
     /// What `bootcore` prints of a GetMemoryMap that returned this. It is put in the front of a buffer, and the number
-    /// of its bytes into a place.
+    /// of its bytes into a variable.
     ///
     /// INVALID_PARAMETER: no service returns the status. OUT_OF_RESOURCES: memory ran out. BUFFER_TOO_SMALL: the
-    /// place is given the bytes that are needed.
+    /// variable is given the bytes that are needed.
     pub fn map_reply_line(&self, fields: &MapFields<'_>, buffer: &mut [u8], size: &mut u64) -> u64
         ensures { PrintsMap self.now fields.now buffer.old size.old result buffer.new size.new }
     {

@@ -46,9 +46,9 @@ pub extern "C" fn RafkudinCertificate(core: &mut Rafkudin, text: &mut [u8], leng
 }
 
 /// What the program `bootcore` prints of the last service that was called, where the service's line has this
-/// number, in the front of `text`; the place `length` is given its bytes.
+/// number, in the front of `text`; the variable `length` is given its bytes.
 ///
-/// NOT_FOUND: it left no reply. BUFFER_TOO_SMALL: the place is given the bytes that are needed.
+/// NOT_FOUND: it left no reply. BUFFER_TOO_SMALL: the variable is given the bytes that are needed.
 /// OUT_OF_RESOURCES: memory ran out.
 #[unsafe(no_mangle)]
 pub extern "C" fn RafkudinReplyLine(

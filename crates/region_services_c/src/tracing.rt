@@ -7,11 +7,11 @@ ghost use Rattle.c_interface.specs.CallLines.{ReturnsLine};
 use c_interface::{CallFields, MapFields, ReadFields};
 use region_cores::Rafkudin;
 
-/// The line of a trace that asks for a call, with its line feed, in the front of `text`; the place `size` is
+/// The line of a trace that asks for a call, with its line feed, in the front of `text`; the variable `size` is
 /// given its bytes.
 ///
 /// INVALID_PARAMETER: no service has the number. NOT_FOUND: no line can ask for the call. BUFFER_TOO_SMALL: the
-/// place is given the bytes that are needed. OUT_OF_RESOURCES: memory ran out.
+/// variable is given the bytes that are needed. OUT_OF_RESOURCES: memory ran out.
 #[unsafe(no_mangle)]
 pub extern "C" fn RafkudinTraceLine(
     core: &mut Rafkudin,
@@ -25,10 +25,10 @@ pub extern "C" fn RafkudinTraceLine(
     core.held().trace_line(call, text, size)
 }
 
-/// What the program `bootcore` prints of a GetMemoryMap that returned this, in the front of `text`; the place
+/// What the program `bootcore` prints of a GetMemoryMap that returned this, in the front of `text`; the variable
 /// `size` is given its bytes.
 ///
-/// INVALID_PARAMETER: no service returns the status. BUFFER_TOO_SMALL: the place is given the bytes that are
+/// INVALID_PARAMETER: no service returns the status. BUFFER_TOO_SMALL: the variable is given the bytes that are
 /// needed. OUT_OF_RESOURCES: memory ran out.
 #[unsafe(no_mangle)]
 pub extern "C" fn RafkudinMapReplyLine(

@@ -57,10 +57,10 @@ pub extern "C" fn RafkudinConnectRecord(
 }
 
 /// The drivers that are to be stopped, in order, before an interface can be opened exclusively, uninstalled or
-/// reinstalled, in the front of a buffer. The place `count` is given how many they are.
+/// reinstalled, in the front of a buffer. The variable `count` is given how many they are.
 ///
 /// BUFFER_TOO_SMALL: the buffer has no room for all of them, and is left. OUT_OF_RESOURCES: memory ran out, and
-/// the place is left too.
+/// the variable is left too.
 #[unsafe(no_mangle)]
 pub extern "C" fn RafkudinStopsOnInterface(
     core: &mut Rafkudin,
