@@ -323,7 +323,8 @@ static void try_trace(const char *machine_path, const char *trace_path)
     FILE *trace = open_file(trace_path, "trace");
     struct machine machine = machine_read(machine_file);
     struct pair *pair = pair_of(&machine);
-    struct run runs[CORES] = {{.core = pair->cores[0]}, {.core = pair->cores[1]}};
+    struct run runs[CORES] = {{.core = pair->cores[0], .hides_certificates = true},
+                              {.core = pair->cores[1]}};
     struct call call;
 
     for (uint64_t number = 1; line_read(&line, trace); number++)

@@ -434,7 +434,7 @@ static bool leaves_reply(enum verb verb)
 }
 
 /* What the library prints of the call by itself must be what is appended of it here, from `start`
- * on. */
+ * on; behind it only a certificate that is hidden here. */
 static void compare_reply_line(const struct run *run, uint64_t number, size_t start)
 {
     size_t room = run->text.length - start;
@@ -442,9 +442,13 @@ static void compare_reply_line(const struct run *run, uint64_t number, size_t st
     uint64_t length = 0;
     uint64_t status = RafkudinReplyLine(run->core, number, line, room - 1, &length);
 
-    if (status == RAFKUDIN_BUFFER_TOO_SMALL && length == room)
-        status = RafkudinReplyLine(run->core, number, line, room, &length);
-    if (status != RAFKUDIN_SUCCESS || length != room ||
+    if (status == RAFKUDIN_BUFFER_TOO_SMALL &&
+        (length == room || (length > room && run->hides_certificates))) {
+        line = grow(line, length);
+        status = RafkudinReplyLine(run->core, number, line, length, &length);
+    }
+    if (status != RAFKUDIN_SUCCESS || length < room ||
+        (length > room && !run->hides_certificates) ||
         memcmp(line, run->text.bytes + start, room) != 0)
         fail("the library prints another reply to the call of line %" PRIu64, number);
     free(line);

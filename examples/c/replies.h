@@ -10,6 +10,7 @@
 struct run {
     struct rafkudin *core;
     bool certify;
+    bool hides_certificates; /* that the core keeps, where `certify` does not print them */
     struct text text; /* what the line prints */
     uint64_t number;  /* of the last call: the number of its line, and where its text begins */
     size_t start;
