@@ -19,10 +19,10 @@
  * has pointers.
  *
  * NULL. A null pointer in the place of the core, of a GUID, of a call, of a reply or of a result is
- * INVALID_PARAMETER, and uses up no call, unless it is said that it may be null. Beside a count or a size of 0 the pointer
- * may be null. rafkudin_null.h, which this header includes, looks for null pointers in inline
- * functions and then calls the library; with RAFKUDIN_NO_NULL_CHECKS it does not, and then no
- * pointer may be null.
+ * INVALID_PARAMETER, and uses up no call, unless it is said that it may be null. Beside a count or
+ * a size of 0 the pointer may be null. rafkudin_null.h, which this header includes, looks for null
+ * pointers in inline functions and then calls the library; with RAFKUDIN_NO_NULL_CHECKS it does
+ * not, and then no pointer may be null.
  *
  * STATUSES. Services return an EFI_STATUS. SUCCESS is 0. Any other is a refusal, which leaves the
  * core as it was, but for the number of calls left, and for RafkudinEvents, RafkudinCertificate and
