@@ -5,7 +5,7 @@
 #include <string.h>
 
 #define LAST 16U
-#define MOST_MISSING 64U
+#define MAX_MISSING 64U
 #define LOOKED_AT 256U
 
 static struct {
@@ -14,7 +14,7 @@ static struct {
     EFI_STATUS status;
     bool ended;
 } last[LAST];
-static char missing[MOST_MISSING][96];
+static char missing[MAX_MISSING][96];
 static size_t missing_names;
 static FILE *calls_log;
 
@@ -193,7 +193,7 @@ void ask_missing(const char *what)
     for (size_t i = 0; i < missing_names; i++)
         if (strcmp(missing[i], what) == 0)
             return;
-    if (missing_names < MOST_MISSING)
+    if (missing_names < MAX_MISSING)
         snprintf(missing[missing_names++], sizeof missing[0], "%s", what);
 }
 

@@ -1,7 +1,7 @@
 /* The memory services of the library, each with its line of the trace and its reply. */
 #include "host.h"
 
-#define MOST_BUFFER 16777216U /* that of a map in a trace */
+#define MAX_MAP_BUFFER 16777216U /* that of a map in a trace */
 
 uint64_t core_pages(uint32_t kind, uint32_t type, uint64_t pages, uint64_t *memory)
 {
@@ -49,7 +49,7 @@ uint64_t core_map(uint64_t *size, void *map, uint64_t *key, uint64_t *step, uint
         return EFI_INVALID_PARAMETER;
     status = RafkudinGetMemoryMap(host.core, size, map, &this_key, &this_step, &this_version);
     if (tracing()) {
-        trace_call("map %lu", asked > MOST_BUFFER ? MOST_BUFFER : asked);
+        trace_call("map %lu", asked > MAX_MAP_BUFFER ? MAX_MAP_BUFFER : asked);
         if (status != RAFKUDIN_SUCCESS) {
             trace_refusal("map", status, *size);
         } else {

@@ -4,9 +4,9 @@
 
 #include <string.h>
 
-#define MOST_EVENTS 1024
+#define MAX_EVENTS 1024
 
-static uint64_t events[MOST_EVENTS];
+static uint64_t events[MAX_EVENTS];
 
 struct rafkudin_guid core_guid(const void *guid)
 {
@@ -20,9 +20,9 @@ struct rafkudin_guid core_guid(const void *guid)
 /* The events of the last call, into `events`. */
 static size_t take_events(uint64_t status)
 {
-    size_t count = status == 0 ? RafkudinEvents(host.core, events, MOST_EVENTS) : 0;
+    size_t count = status == 0 ? RafkudinEvents(host.core, events, MAX_EVENTS) : 0;
 
-    return count > MOST_EVENTS ? MOST_EVENTS : count;
+    return count > MAX_EVENTS ? MAX_EVENTS : count;
 }
 
 /* The rest of a reply's line: numbers with commas between, or - for none. */

@@ -11,7 +11,7 @@
 #include <string.h>
 
 #define ROOM 65536U
-#define LONGEST 4096U
+#define MAX_PATH_SIZE 4096U
 
 static struct shadow {
     uint64_t at, real;
@@ -24,7 +24,7 @@ static uint64_t scratch, room_at, room_left;
 /* A block for the paths that a trace looks up, and none yet for those that are installed. */
 void make_path_room(void)
 {
-    if (core_pool(RAFKUDIN_BOOT_SERVICES_DATA, LONGEST, &scratch) != EFI_SUCCESS)
+    if (core_pool(RAFKUDIN_BOOT_SERVICES_DATA, MAX_PATH_SIZE, &scratch) != EFI_SUCCESS)
         refuse("the machine has no memory for device paths");
 }
 
@@ -34,14 +34,14 @@ size_t path_length(const void *path)
     const uint8_t *node = path;
     size_t length = 0;
 
-    while (length < LONGEST - 4) {
+    while (length < MAX_PATH_SIZE - 4) {
         size_t size = (size_t)(node[2] | node[3] << 8);
 
         if (size < 4)
             return 0;
         length += size;
         if ((node[0] & 0x7f) == 0x7f && node[1] == 0xff)
-            return length <= LONGEST ? length : 0;
+            return length <= MAX_PATH_SIZE ? length : 0;
         node += size;
     }
     return 0;
@@ -77,7 +77,7 @@ static struct shadow *free_shadow(size_t length)
 /* The core's value of an interface that is about to be installed. */
 uint64_t path_to_core(const void *guid, uint64_t value)
 {
-    uint8_t copy[LONGEST];
+    uint8_t copy[MAX_PATH_SIZE];
     struct shadow *shadow;
     size_t length;
 
@@ -128,7 +128,7 @@ void path_drop(uint64_t value)
 EFI_STATUS locate_path(const void *guid, const void *path, uint64_t *handle, uint64_t *matched)
 {
     size_t length = path_length(path);
-    uint8_t copy[LONGEST];
+    uint8_t copy[MAX_PATH_SIZE];
 
     *matched = 0;
     if (length == 0)

@@ -21,7 +21,7 @@ struct disk {
 static struct {
     char *path;
     uint64_t handle;
-} folders[MOST_DISKS];
+} folders[MAX_DISKS];
 static size_t folder_count;
 
 static EFI_STATUS EFIAPI reset_disk(EFI_BLOCK_IO_PROTOCOL *this, BOOLEAN extended)

@@ -7,8 +7,8 @@
 #include <stdlib.h>
 #include <string.h>
 
-#define DEEPEST 8U
-#define MOST_UNPACKED (256U << 20)
+#define MAX_DEPTH 8U
+#define MAX_UNPACKED_SIZE (256U << 20)
 #define VOLUME_HEADER 56U
 #define FILE_HEADER 24U
 #define PADDING 0xf0
@@ -67,7 +67,7 @@ static void read_packed(uint8_t *bytes, size_t count, size_t header, struct cont
         read_sections(bytes + start, count - start, to, depth);
         return;
     }
-    unpacked = lzma_decode(bytes + start, count - start, MOST_UNPACKED, &length);
+    unpacked = lzma_decode(bytes + start, count - start, MAX_UNPACKED_SIZE, &length);
     if (unpacked == NULL)
         return;
     keep_buffer(unpacked);
@@ -175,7 +175,7 @@ void open_firmware(const char *name)
     if (bytes == NULL)
         refuse("cannot read %s: %s", name, strerror(errno));
     keep_buffer(bytes);
-    read_volumes(bytes, count, DEEPEST);
+    read_volumes(bytes, count, MAX_DEPTH);
     if (image_count == 0)
         refuse("%s: no images in firmware volumes", name);
 }

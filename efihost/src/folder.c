@@ -16,7 +16,7 @@ static struct volume {
     EFI_SIMPLE_FILE_SYSTEM_PROTOCOL protocol;
     uint8_t path[32];
     int root;
-} volumes[MOST_DISKS];
+} volumes[MAX_DISKS];
 static size_t volume_count;
 
 EFI_STATUS folder_status(void)

@@ -7,7 +7,7 @@
 #include <sys/mman.h>
 #include <unistd.h>
 
-#define MOST_PIXELS (1920U * 1080U)
+#define MAX_PIXELS (1920U * 1080U)
 
 static const EFI_GUID graphics_guid = {
     0x9042a9de, 0x23dc, 0x4a38, {0x96, 0xfb, 0x7a, 0xde, 0xd0, 0x80, 0x51, 0x6a}};
@@ -110,7 +110,7 @@ void make_graphics(void)
 {
     int flags = MAP_PRIVATE | MAP_ANONYMOUS | MAP_NORESERVE;
     uint64_t out = NUMBER(host.table->ConsoleOutHandle);
-    size_t size = MOST_PIXELS * sizeof *pixels;
+    size_t size = MAX_PIXELS * sizeof *pixels;
     void *at = MAP_FAILED;
 
     if (host.options.picture == NULL)

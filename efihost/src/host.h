@@ -12,9 +12,9 @@
 #define PAGE 4096ULL
 #define TRAIL 6
 #define RED_PAGES 16ULL /* those below the stack, which are shut */
-#define MOST_DISKS 16
-#define MOST_DRIVERS 128
-#define MOST_ARGUMENTS 256
+#define MAX_DISKS 16
+#define MAX_DRIVERS 128
+#define MAX_ARGUMENTS 256
 #define NO_RETURN __attribute__((noreturn))
 #define LENGTH(array) (sizeof(array) / sizeof(array)[0])
 #define HANDLE(number) ((EFI_HANDLE)(uintptr_t)(number))
@@ -45,7 +45,7 @@ struct call {
 struct options {
     const char *machine, *trace, *input, *variables, *json, *calls, *picture, *screen, *serial,
         *serial_input, *firmware, *application;
-    const char *disks[MOST_DISKS], *drivers[MOST_DRIVERS], *arguments[MOST_ARGUMENTS];
+    const char *disks[MAX_DISKS], *drivers[MAX_DRIVERS], *arguments[MAX_ARGUMENTS];
     size_t disk_count, driver_count, argument_count;
     bool check, guard, strict, quiet, plain, certify, rights;
     unsigned seconds;

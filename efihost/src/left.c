@@ -2,12 +2,12 @@
  * the kernel needs: so it is counted for the report, and is no finding. */
 #include "host.h"
 
-#define MOST_LEFT 64U
+#define MAX_LEFT 64U
 
 static struct left {
     struct image *image;
     uint64_t blocks, block_bytes, pages, events, protocols, opens;
-} lists[MOST_LEFT];
+} lists[MAX_LEFT];
 static size_t list_count;
 
 static struct left *left_by(struct image *image)
@@ -17,7 +17,7 @@ static struct left *left_by(struct image *image)
     for (size_t i = 0; i < list_count; i++)
         if (lists[i].image == image)
             return &lists[i];
-    if (list_count == MOST_LEFT)
+    if (list_count == MAX_LEFT)
         return NULL;
     lists[list_count].image = image;
     return &lists[list_count++];

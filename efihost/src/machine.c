@@ -6,7 +6,7 @@
 #include <string.h>
 #include <sys/mman.h>
 
-#define MOST_RANGES 65536U
+#define MAX_RANGES 65536U
 #define LOWEST 0x10000ULL /* what a process may have lies at or above this */
 #define ALL (PROT_READ | PROT_WRITE | PROT_EXEC)
 
@@ -25,7 +25,7 @@ static bool has_bytes(const struct machine_range *range)
 
 static void keep(struct machine_range range)
 {
-    if (range_count == MOST_RANGES)
+    if (range_count == MAX_RANGES)
         refuse("machine: too many descriptors");
     ranges = must(realloc(ranges, (range_count + 1) * sizeof *ranges));
     ranges[range_count++] = range;

@@ -20,7 +20,7 @@ struct loaded_file {
     size_t length;
     bool of_host;
 };
-static struct loaded_file application, drivers[MOST_DRIVERS];
+static struct loaded_file application, drivers[MAX_DRIVERS];
 
 /* A file of the host, or else an image of the firmware, whose name then has an ending. */
 static struct loaded_file read_image(const char *name)

@@ -125,9 +125,9 @@ static bool read_value(const char *word, const char *value, struct options *opti
             return true;
         }
     if (strcmp(word, "--disk") == 0)
-        add_to(options->disks, &options->disk_count, MOST_DISKS, value);
+        add_to(options->disks, &options->disk_count, MAX_DISKS, value);
     else if (strcmp(word, "--driver") == 0)
-        add_to(options->drivers, &options->driver_count, MOST_DRIVERS, value);
+        add_to(options->drivers, &options->driver_count, MAX_DRIVERS, value);
     else if (strcmp(word, "--time") == 0) {
         options->seconds = (unsigned)strtoul(value, &end, 10);
         if (end == value || *end != 0)
@@ -161,5 +161,5 @@ void read_options(int count, char **words, struct options *options)
         options->seconds = options->input == NULL && isatty(STDIN_FILENO) ? 0 : 60;
     options->application = words[i++];
     for (; i < count; i++)
-        add_to(options->arguments, &options->argument_count, MOST_ARGUMENTS, words[i]);
+        add_to(options->arguments, &options->argument_count, MAX_ARGUMENTS, words[i]);
 }

@@ -10,7 +10,7 @@
 #define DEBUG 6U
 #define CODEVIEW 2U
 #define STRIPPED 1U
-#define MOST_IMAGE (1ULL << 30)
+#define MAX_IMAGE_SIZE (1ULL << 30)
 
 struct headers {
     const uint8_t *file, *header, *optional, *sections;
@@ -58,7 +58,7 @@ static bool read_headers(const uint8_t *file, uint64_t length, struct headers *t
     to->header_size = get32(to->optional + 60);
     to->directories = get32(to->optional + 108);
     return (uint64_t)(to->sections - file) + 40ULL * to->section_count <= length &&
-           to->header_size <= length && to->header_size <= to->size && to->size <= MOST_IMAGE &&
+           to->header_size <= length && to->header_size <= to->size && to->size <= MAX_IMAGE_SIZE &&
            to->size != 0 && get32(to->optional + 16) < to->size;
 }
 

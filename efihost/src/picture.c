@@ -5,8 +5,8 @@
 #include <stdlib.h>
 #include <string.h>
 
-#define SHORTEST 3U
-#define LONGEST 258U
+#define MIN_MATCH 3U
+#define MAX_MATCH 258U
 #define END 256U
 #define FIRST_LENGTH 257U
 
@@ -115,10 +115,10 @@ static unsigned class_of(uint32_t number, unsigned step, unsigned *extra)
 /* The bytes from here on are those that lie `distance` before, for this length. */
 static void put_match(struct bits *to, size_t length, size_t distance)
 {
-    uint32_t number = (uint32_t)(length - SHORTEST);
+    uint32_t number = (uint32_t)(length - MIN_MATCH);
     unsigned extra, class = class_of(number, 4, &extra);
 
-    if (length == LONGEST) {
+    if (length == MAX_MATCH) {
         put_symbol(to, FIRST_LENGTH + 28);
     } else {
         put_symbol(to, FIRST_LENGTH + class);
@@ -137,7 +137,7 @@ static size_t match(const uint8_t *bytes, size_t at, size_t count, size_t distan
 
     if (distance > at)
         return 0;
-    while (length < LONGEST && at + length < count &&
+    while (length < MAX_MATCH && at + length < count &&
            bytes[at + length] == bytes[at + length - distance])
         length++;
     return length;
@@ -154,7 +154,7 @@ static uint8_t *stream_of(const uint8_t *rows, size_t count, size_t row, size_t 
         size_t before = match(rows, at, count, 3), above = match(rows, at, count, row);
         size_t best = above > before ? above : before;
 
-        if (best < SHORTEST) {
+        if (best < MIN_MATCH) {
             put_symbol(&to, rows[at++]);
             continue;
         }

@@ -5,7 +5,7 @@
 #include <stdlib.h>
 #include <string.h>
 
-#define MOST_INTERFACES 64U
+#define MAX_INTERFACES 64U
 
 /* Values that are handed to the core and back: those of device paths are other ones there. */
 EFI_STATUS install_one(uint64_t *handle, const void *guid, uint32_t kind, uint64_t value)
@@ -119,7 +119,7 @@ static bool read_list(__builtin_ms_va_list words, struct listed *list, size_t *c
 
     *count = 0;
     while ((guid = __builtin_va_arg(words, const EFI_GUID *)) != NULL) {
-        if (*count == MOST_INTERFACES)
+        if (*count == MAX_INTERFACES)
             return false;
         list[*count].guid = guid;
         list[(*count)++].value = __builtin_va_arg(words, uint64_t);
@@ -129,7 +129,7 @@ static bool read_list(__builtin_ms_va_list words, struct listed *list, size_t *c
 
 static EFI_STATUS install_list(EFI_HANDLE *handle, const struct listed *list, size_t count)
 {
-    struct rafkudin_interface interfaces[MOST_INTERFACES];
+    struct rafkudin_interface interfaces[MAX_INTERFACES];
     uint64_t number = NUMBER(*handle);
     EFI_STATUS status;
 
@@ -155,7 +155,7 @@ static EFI_STATUS install_list(EFI_HANDLE *handle, const struct listed *list, si
 static EFI_STATUS EFIAPI InstallMultipleProtocolInterfaces(EFI_HANDLE *handle, ...)
 {
     SERVICE("InstallMultipleProtocolInterfaces", NUMBER(handle));
-    struct listed list[MOST_INTERFACES];
+    struct listed list[MAX_INTERFACES];
     __builtin_ms_va_list words;
     size_t count;
     bool fits;
@@ -190,7 +190,7 @@ static enum stopped stop_drivers_on_list(uint64_t handle, const struct listed *l
  * UninstallProtocolInterface. */
 static EFI_STATUS uninstall_list(uint64_t handle, const struct listed *list, size_t count)
 {
-    struct rafkudin_interface interfaces[MOST_INTERFACES];
+    struct rafkudin_interface interfaces[MAX_INTERFACES];
     enum stopped stopped = NONE_TO_STOP;
     bool are_there = true;
     EFI_STATUS status;
@@ -218,7 +218,7 @@ static EFI_STATUS uninstall_list(uint64_t handle, const struct listed *list, siz
 static EFI_STATUS EFIAPI UninstallMultipleProtocolInterfaces(EFI_HANDLE handle, ...)
 {
     SERVICE("UninstallMultipleProtocolInterfaces", NUMBER(handle));
-    struct listed list[MOST_INTERFACES];
+    struct listed list[MAX_INTERFACES];
     __builtin_ms_va_list words;
     size_t count;
     bool fits;

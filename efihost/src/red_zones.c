@@ -11,7 +11,7 @@
 #define BEFORE 0xb5
 #define BEHIND 0xc5
 #define FRESH 0xaf
-#define MOST_FRESH 4096U /* of a block, to keep large ones cheap */
+#define MAX_FRESH 4096U /* of a block, to keep large ones cheap */
 #define GONE 0xdd
 #define MARGIN 32U
 #define CELL 32U /* the core's blocks are whole cells, and 8 bytes of the first come before */
@@ -63,7 +63,7 @@ void zone_lay(struct block *block)
     block->at = host.options.guard ? shut_page(block) - up(block->size, 8)
                                    : block->core_at + MARGIN;
     memset(POINTER(before_start(block)), BEFORE, block->at - before_start(block));
-    memset(POINTER(block->at), FRESH, block->size < MOST_FRESH ? block->size : MOST_FRESH);
+    memset(POINTER(block->at), FRESH, block->size < MAX_FRESH ? block->size : MAX_FRESH);
     memset(POINTER(block->at + block->size), BEHIND, behind_end(block) - block->at - block->size);
     if (host.options.guard)
         shut_memory(shut_page(block), PAGE);

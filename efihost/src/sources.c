@@ -4,7 +4,7 @@
 
 #include <stdlib.h>
 
-#define MOST_NAME 1024U
+#define MAX_NAME_LENGTH 1024U
 
 static const EFI_GUID load_file_guid = {
     0x56ec3091, 0x954c, 0x11d2, {0x8e, 0x3f, 0x00, 0xa0, 0xc9, 0x69, 0x72, 0x3b}};
@@ -24,7 +24,7 @@ static bool file_name(const uint8_t *node, CHAR16 *name)
             return false;
         if (letters > 0 && name[letters - 1] != '\\' && *part != '\\')
             name[letters++] = '\\';
-        while (*part != 0 && letters < MOST_NAME - 2)
+        while (*part != 0 && letters < MAX_NAME_LENGTH - 2)
             name[letters++] = *part++;
     }
     name[letters] = 0;
@@ -51,7 +51,7 @@ static uint8_t *read_whole(EFI_FILE_PROTOCOL *file, uint64_t *length)
 static uint8_t *from_file_system(const void *path, uint64_t *length)
 {
     uint64_t device = 0, matched = 0;
-    CHAR16 name[MOST_NAME];
+    CHAR16 name[MAX_NAME_LENGTH];
     EFI_SIMPLE_FILE_SYSTEM_PROTOCOL *volume;
     EFI_FILE_PROTOCOL *root, *file;
     EFI_STATUS status;

@@ -8,7 +8,7 @@
 #define BOOT_SIGNATURE 0x56524553544f4f42ULL
 #define RUNTIME_SIGNATURE 0x56524553544e5552ULL
 #define REVISION (2U << 16 | 100U)
-#define MOST_TABLES 64U
+#define MAX_TABLES 64U
 
 /* Sets a table's checksum. */
 void seal_table(EFI_TABLE_HEADER *header)
@@ -31,7 +31,7 @@ static EFI_STATUS EFIAPI InstallConfigurationTable(const EFI_GUID *guid, void *t
     if (i == system->NumberOfTableEntries) {
         if (table == NULL)
             ANSWER(EFI_NOT_FOUND);
-        if (i == MOST_TABLES)
+        if (i == MAX_TABLES)
             ANSWER(EFI_OUT_OF_RESOURCES);
         system->NumberOfTableEntries++;
         list[i].VendorGuid = *guid;

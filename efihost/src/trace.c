@@ -6,7 +6,7 @@
 #include <stdlib.h>
 #include <string.h>
 
-#define MOST_LINES 999000U
+#define MAX_LINES 999000U
 
 static FILE *calls_file, *replies_file;
 static unsigned lines;
@@ -72,7 +72,7 @@ void close_trace(void)
 /* Whether there is a trace still; it ends where it has as many lines as a trace may have. */
 bool tracing(void)
 {
-    if (calls_file != NULL && lines >= MOST_LINES) {
+    if (calls_file != NULL && lines >= MAX_LINES) {
         close_trace();
         fprintf(stderr, "efihost: the trace ends after %u calls\n", lines);
     }

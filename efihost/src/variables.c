@@ -6,12 +6,12 @@
 #include <string.h>
 #include <unistd.h>
 
-#define MOST_NAME 512U
-#define MOST_VALUE 65536U
+#define MAX_NAME_LENGTH 512U
+#define MAX_VALUE_SIZE 65536U
 #define ROOM 1048576U
 
 struct variable {
-    CHAR16 name[MOST_NAME];
+    CHAR16 name[MAX_NAME_LENGTH];
     EFI_GUID guid;
     uint32_t attributes;
     size_t size;
@@ -83,11 +83,11 @@ static bool read_line(char *line)
     char *name = strtok(NULL, " \n"), *value = strtok(NULL, " \n");
     long size;
 
-    it->value = must(malloc(MOST_VALUE));
+    it->value = must(malloc(MAX_VALUE_SIZE));
     if (value == NULL || read_hex(guid, (uint8_t *)&it->guid, sizeof it->guid) != 16 ||
         read_hex(name, (uint8_t *)it->name, sizeof it->name - 2) < 2)
         return false;
-    size = read_hex(value, it->value, MOST_VALUE);
+    size = read_hex(value, it->value, MAX_VALUE_SIZE);
     it->attributes = (uint32_t)strtoul(attributes, NULL, 10);
     it->size = (size_t)(size < 0 ? 0 : size);
     *link_of(it->name, &it->guid) = it;
@@ -176,7 +176,7 @@ static EFI_STATUS set_variable(const CHAR16 *name, const EFI_GUID *guid, uint32_
         it = new_variable(name, guid);
     if (!appends)
         it->size = 0;
-    if (size > MOST_VALUE - it->size)
+    if (size > MAX_VALUE_SIZE - it->size)
         return EFI_OUT_OF_RESOURCES;
     it->value = must(realloc(it->value, it->size + size + 1));
     if (size != 0)
@@ -192,7 +192,7 @@ static EFI_STATUS EFIAPI SetVariable(const CHAR16 *name, const EFI_GUID *guid, u
     EFI_STATUS status;
 
     if (name == NULL || *name == 0 || guid == NULL || (value == NULL && size != 0) ||
-        wide_length(name) >= MOST_NAME ||
+        wide_length(name) >= MAX_NAME_LENGTH ||
         (attributes & (EFI_VARIABLE_BOOTSERVICE_ACCESS | EFI_VARIABLE_RUNTIME_ACCESS)) ==
             EFI_VARIABLE_RUNTIME_ACCESS)
         return EFI_INVALID_PARAMETER;
@@ -238,7 +238,7 @@ static EFI_STATUS EFIAPI QueryVariableInfo(uint32_t attributes, uint64_t *most, 
     *left = ROOM;
     for (struct variable *it = first; it != NULL; it = it->next)
         *left -= it->size < *left ? it->size : *left;
-    *largest = MOST_VALUE;
+    *largest = MAX_VALUE_SIZE;
     return EFI_SUCCESS;
 }
 

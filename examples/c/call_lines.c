@@ -118,7 +118,7 @@ static struct rafkudin_call call_for_library(const struct call *call)
 
 void call_line_append(struct text *text, const struct rafkudin *core, const struct call *call)
 {
-    static uint8_t line[LONGEST_LINE + 1];
+    static uint8_t line[MAX_LINE_LENGTH + 1];
     struct rafkudin_call made;
     uint64_t length = 0, status;
 

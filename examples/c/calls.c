@@ -4,8 +4,8 @@
 #include "fault.h"
 #include "guids.h"
 
-#define LARGEST_BUFFER 16777216
-#define LONGEST_READ 65536
+#define MAX_MAP_BUFFER 16777216
+#define MAX_READ_SIZE 65536
 
 /* What follows the words that a verb always has. */
 enum tail { NOTHING, PAIRS, HANDLES };
@@ -45,10 +45,10 @@ static const struct {
 };
 
 /* What a line's words are read into; a line has fewer than these hold. */
-static struct word words[MOST_WORDS];
-static uint8_t line_bytes[LONGEST_LINE / 2];
-static struct rafkudin_interface line_interfaces[MOST_WORDS / 2];
-static uint64_t line_drivers[MOST_WORDS];
+static struct word words[MAX_WORDS];
+static uint8_t line_bytes[MAX_LINE_LENGTH / 2];
+static struct rafkudin_interface line_interfaces[MAX_WORDS / 2];
+static uint64_t line_drivers[MAX_WORDS];
 
 static _Noreturn void fail_line(uint64_t number, const char *what)
 {
@@ -95,9 +95,9 @@ static uint64_t most_of(char letter)
     case 'i':
         return UINT32_MAX;
     case 'm':
-        return LARGEST_BUFFER;
+        return MAX_MAP_BUFFER;
     case 'r':
-        return LONGEST_READ;
+        return MAX_READ_SIZE;
     case 'f':
         return 1;
     default:
@@ -169,7 +169,7 @@ bool call_read(struct call *call, const struct line *line, uint64_t number)
 {
     size_t count;
 
-    if (line->length > LONGEST_LINE)
+    if (line->length > MAX_LINE_LENGTH)
         fail_line(number, "long");
     count = line_words(line, words);
     if (count == 0 || words[0].bytes[0] == '#')

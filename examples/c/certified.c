@@ -20,9 +20,9 @@
 
 /* How many calls a drawn machine serves, the most ranges that it has, and the most pages and blocks
  * that are held there. */
-#define CALLS 10000U
-#define MOST_RANGES 200U
-#define MOST_HELD 1000U
+#define MACHINE_CALLS 10000U
+#define MAX_RANGES 200U
+#define MAX_HELD 1000U
 
 /* After how many calls the memory maps are compared. */
 #define BETWEEN_MAPS 500U
@@ -48,7 +48,7 @@ struct counts {
 struct pair {
     struct rafkudin *cores[CORES];
     uint64_t end; /* the address behind the machine's memory */
-    struct held held[MOST_HELD];
+    struct held held[MAX_HELD];
     size_t count;
     struct counts counts;
 };
@@ -233,7 +233,7 @@ static uint64_t draw_attributes(uint32_t type)
 /* A machine of drawn ranges, which touch or do not; the answer is the address behind them. */
 static uint64_t draw_machine(struct machine *machine)
 {
-    uint64_t ranges = 1 + draw(MOST_RANGES), page = 1;
+    uint64_t ranges = 1 + draw(MAX_RANGES), page = 1;
 
     memset(machine, 0, sizeof *machine);
     machine->records = grow(NULL, ranges * RAFKUDIN_DESCRIPTOR_SIZE);
@@ -254,13 +254,13 @@ static uint64_t draw_machine(struct machine *machine)
 static void run_calls(uint64_t calls, struct counts *all)
 {
     struct machine machine;
-    uint64_t end = draw_machine(&machine), most = 1 + draw(MOST_HELD);
+    uint64_t end = draw_machine(&machine), most = 1 + draw(MAX_HELD);
     struct pair *pair = pair_of(&machine);
 
     pair->end = end;
     for (uint64_t at = 0; at < calls; at++) {
         if (draw(5000) == 0)
-            most = 1 + draw(MOST_HELD);
+            most = 1 + draw(MAX_HELD);
         if (pair->count >= most || (pair->count != 0 && draw(16) < 7))
             give(pair, draw(pair->count));
         else if (draw(4) == 0)
@@ -286,7 +286,7 @@ static void try_drawn(uint64_t calls)
     struct counts all = {0};
 
     while (all.calls < calls)
-        run_calls(calls - all.calls < CALLS ? calls - all.calls : CALLS, &all);
+        run_calls(calls - all.calls < MACHINE_CALLS ? calls - all.calls : MACHINE_CALLS, &all);
     printf("certified: %" PRIu64 " calls, %" PRIu64 " placements, %" PRIu64
            " without a place, maps of up to %" PRIu64 " entries\n",
            all.calls, all.placed, all.full, all.most);

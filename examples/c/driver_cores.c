@@ -32,7 +32,7 @@ struct rafkudin *make_core(const struct rafkudin_driver *drivers, size_t count)
 size_t handles_of(struct rafkudin *core, uint32_t search, const struct rafkudin_guid *guid,
                   uint64_t *handles)
 {
-    uint64_t size = MOST * 8;
+    uint64_t size = MAX_HANDLES * 8;
 
     if (RafkudinLocateHandle(core, search, guid, 0, &size, handles) != RAFKUDIN_SUCCESS)
         return 0;
@@ -48,7 +48,7 @@ static size_t items_of(struct rafkudin *core, uint64_t handle, const struct rafk
     if (RafkudinOpenProtocolInformation(core, handle, guid, &block, &count) != RAFKUDIN_SUCCESS ||
         count == 0)
         return 0;
-    if (count > MOST)
+    if (count > MAX_HANDLES)
         abort();
     HOLDS(RafkudinPoolRead(core, block, items, count * 24) == RAFKUDIN_SUCCESS);
     HOLDS(RafkudinFreePool(core, block) == RAFKUDIN_SUCCESS);
@@ -66,7 +66,7 @@ static uint64_t number_at(const uint8_t *bytes, size_t count)
 
 bool is_held(struct rafkudin *core, uint64_t handle, const struct rafkudin_guid *guid)
 {
-    uint8_t items[MOST * 24];
+    uint8_t items[MAX_HANDLES * 24];
     size_t count = items_of(core, handle, guid, items);
 
     for (size_t i = 0; i < count; i++)
@@ -95,8 +95,8 @@ static size_t without_children(uint8_t *items, size_t count)
 
 bool are_same(struct rafkudin *one, struct rafkudin *two, bool but_children)
 {
-    static uint64_t handles[2][MOST];
-    static uint8_t items[2][MOST * 24];
+    static uint64_t handles[2][MAX_HANDLES];
+    static uint8_t items[2][MAX_HANDLES * 24];
     size_t count = handles_of(one, RAFKUDIN_ALL_HANDLES, NULL, handles[0]);
 
     if (handles_of(two, RAFKUDIN_ALL_HANDLES, NULL, handles[1]) != count ||

@@ -6,7 +6,7 @@
 
 /* How many GUIDs there are beside that of the driver binding, and the most of handles and items. */
 #define PROTOCOLS 5U
-#define MOST 512U
+#define MAX_HANDLES 512U
 
 extern const struct rafkudin_guid driver_binding;
 

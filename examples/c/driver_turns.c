@@ -12,7 +12,7 @@
 #include <string.h>
 
 #define DRIVERS 6U
-#define DEEPEST 8U
+#define MAX_DEPTH 8U
 
 static struct rafkudin_driver tables[DRIVERS];
 
@@ -115,7 +115,7 @@ static bool start(struct rafkudin *core, const struct rafkudin_driver *driver, u
 /* All driver handles, ascending. */
 static size_t bindings_of(struct rafkudin *core, struct rafkudin_binding *drivers)
 {
-    uint64_t handles[MOST];
+    uint64_t handles[MAX_HANDLES];
     size_t count = handles_of(core, RAFKUDIN_BY_PROTOCOL, &driver_binding, handles), found = 0;
 
     for (size_t i = 0; i < count; i++) {
@@ -135,12 +135,12 @@ static bool is_crowded(const struct rafkudin *core)
 {
     uint64_t count = 0;
 
-    return RafkudinHandlesInto(core, NULL, 0, &count) != RAFKUDIN_SUCCESS && count > MOST;
+    return RafkudinHandlesInto(core, NULL, 0, &count) != RAFKUDIN_SUCCESS && count > MAX_HANDLES;
 }
 
 static uint64_t last_handle(struct rafkudin *core)
 {
-    uint64_t handles[MOST];
+    uint64_t handles[MAX_HANDLES];
     size_t count = handles_of(core, RAFKUDIN_ALL_HANDLES, NULL, handles);
 
     return count == 0 ? 0 : handles[count - 1];
@@ -151,9 +151,9 @@ static uint64_t last_handle(struct rafkudin *core)
 static uint64_t connect_by_turns(struct rafkudin *core, uint64_t handle, const uint64_t *named,
                                  size_t named_count, unsigned depth, struct events *events)
 {
-    struct rafkudin_binding drivers[MOST], driver;
+    struct rafkudin_binding drivers[MAX_HANDLES], driver;
     struct rafkudin_turns turns;
-    uint64_t made[MOST], before = last_handle(core), status;
+    uint64_t made[MAX_HANDLES], before = last_handle(core), status;
     size_t count = bindings_of(core, drivers);
     bool is_any_carried_out = false;
 
@@ -204,20 +204,21 @@ static bool stop_each(struct rafkudin *core, const struct rafkudin_stop *stops, 
 /* Stops the drivers that have an interface open. */
 static bool free_by_turns(struct rafkudin *core, uint64_t handle, const struct rafkudin_guid *guid)
 {
-    struct rafkudin_stop stops[MOST];
+    struct rafkudin_stop stops[MAX_HANDLES];
     uint64_t count = 0;
 
-    return RafkudinStopsOnInterface(core, handle, guid, stops, MOST, &count) == RAFKUDIN_SUCCESS &&
+    return RafkudinStopsOnInterface(core, handle, guid, stops, MAX_HANDLES, &count) ==
+               RAFKUDIN_SUCCESS &&
            stop_each(core, stops, count);
 }
 
 /* Stops the drivers that manage a controller, or one of them. */
 static bool disconnect_by_turns(struct rafkudin *core, uint64_t controller, uint64_t driver)
 {
-    struct rafkudin_stop stops[MOST];
+    struct rafkudin_stop stops[MAX_HANDLES];
     uint64_t count = 0;
 
-    return RafkudinStopsOnController(core, controller, driver, stops, MOST, &count) ==
+    return RafkudinStopsOnController(core, controller, driver, stops, MAX_HANDLES, &count) ==
                RAFKUDIN_SUCCESS &&
            stop_each(core, stops, count);
 }
@@ -248,12 +249,12 @@ static bool take_out(struct rafkudin *core, uint64_t child)
  * child it is, and then its children go, with the drivers on them. */
 static bool stop(struct rafkudin *core, const struct rafkudin_stop *pair)
 {
-    uint64_t children[MOST], count = 0;
+    uint64_t children[MAX_HANDLES], count = 0;
     struct rafkudin_open item;
     size_t index = 0;
 
     if (!can_stop(core, pair->agent) ||
-        RafkudinChildren(core, pair->controller, pair->agent, children, MOST, &count) !=
+        RafkudinChildren(core, pair->controller, pair->agent, children, MAX_HANDLES, &count) !=
             RAFKUDIN_SUCCESS)
         return false;
     while (RafkudinAgentItem(core, pair->agent, index, &item) == RAFKUDIN_SUCCESS) {
@@ -363,7 +364,7 @@ static bool try_step(struct rafkudin *by_tables, struct rafkudin *by_turns)
         if (is_crowded(by_tables))
             return true;
         note_events(by_tables, &events[0]);
-        return connect_by_turns(by_turns, handle, named, named_count, recursive ? DEEPEST : 1,
+        return connect_by_turns(by_turns, handle, named, named_count, recursive ? MAX_DEPTH : 1,
                                 &events[1]) == status &&
                are_same_events(&events[0], &events[1]);
     }
@@ -433,7 +434,7 @@ static bool try_removal(struct rafkudin *by_tables, struct rafkudin *by_turns, u
         return false;
     note_events(by_turns, &events[1]);
     if (status == RAFKUDIN_SUCCESS)
-        connect_by_turns(by_turns, handle, NULL, 0, DEEPEST, &events[1]);
+        connect_by_turns(by_turns, handle, NULL, 0, MAX_DEPTH, &events[1]);
     return are_same_events(&events[0], &events[1]);
 }
 

@@ -61,7 +61,7 @@ bool guid_read(const char *bytes, size_t length, struct rafkudin_guid *guid)
         return read_digits(bytes, true, guid);
     case 38:
         return bytes[0] == '{' && bytes[37] == '}' && read_digits(bytes + 1, true, guid);
-    case LONGEST_GUID:
+    case MAX_GUID_LENGTH:
         return begins_urn(bytes) && read_digits(bytes + 9, true, guid);
     default:
         return false;

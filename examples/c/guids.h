@@ -6,7 +6,7 @@
 #include "text.h"
 
 /* The most bytes that a GUID's text has. */
-#define LONGEST_GUID 45
+#define MAX_GUID_LENGTH 45
 
 /* The GUID of a text: 32 hexadecimal digits; the form with hyphens; that form in braces, or behind
  * `urn:uuid:` in letters of either case. */

@@ -6,7 +6,7 @@
 #include <string.h>
 
 /* The most levels of lists and objects. */
-#define MOST_LEVELS 127
+#define MAX_LEVELS 127
 
 static bool pass_value(const char **at, unsigned levels);
 
@@ -237,7 +237,7 @@ const char *json_root(const char *text, size_t length)
 {
     const char *at = text;
 
-    if (!is_utf8(text, length) || !pass_value(&at, MOST_LEVELS) || at != text + length)
+    if (!is_utf8(text, length) || !pass_value(&at, MAX_LEVELS) || at != text + length)
         return NULL;
     return text + strspn(text, " \t\r\n");
 }
@@ -245,7 +245,7 @@ const char *json_root(const char *text, size_t length)
 /* The place behind a value and the blanks that follow it. */
 static const char *behind(const char *value)
 {
-    pass_value(&value, MOST_LEVELS);
+    pass_value(&value, MAX_LEVELS);
     return value;
 }
 

@@ -9,12 +9,12 @@
 #include <stdlib.h>
 #include <string.h>
 
-#define LONGEST_FILE 67108864
+#define MAX_FILE_SIZE 67108864
 #define MAX_DESCRIPTORS 65536
 #define MAX_DRIVERS 64
 
 /* The most bytes of a hexadecimal number's text. */
-#define LONGEST_HEXADECIMAL 18
+#define MAX_HEXADECIMAL 18
 
 void put_number(uint8_t *bytes, size_t count, uint64_t number)
 {
@@ -53,10 +53,10 @@ static char *read_whole(FILE *file, size_t *length)
         bytes = grow(bytes, room);
         taken = fread(bytes + *length, 1, room - 1 - *length, file);
         *length += taken;
-    } while (taken != 0 && *length <= LONGEST_FILE);
+    } while (taken != 0 && *length <= MAX_FILE_SIZE);
     if (ferror(file))
         fail("cannot read machine");
-    if (*length > LONGEST_FILE)
+    if (*length > MAX_FILE_SIZE)
         fail("machine: too long");
     bytes[*length] = '\0';
     return bytes;
@@ -65,7 +65,7 @@ static char *read_whole(FILE *file, size_t *length)
 /* A hexadecimal number that is a string. */
 static bool read_hexadecimal(const char *value, uint64_t *number)
 {
-    char bytes[LONGEST_HEXADECIMAL];
+    char bytes[MAX_HEXADECIMAL];
     size_t length;
 
     return value != NULL && json_string(value, bytes, sizeof bytes, &length) &&
@@ -115,7 +115,7 @@ static void read_memory(struct machine *machine, const char *root)
 
 static bool read_guid(const char *value, struct rafkudin_guid *guid)
 {
-    char bytes[LONGEST_GUID];
+    char bytes[MAX_GUID_LENGTH];
     size_t length;
 
     return json_string(value, bytes, sizeof bytes, &length) && guid_read(bytes, length, guid);

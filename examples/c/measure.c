@@ -1,7 +1,7 @@
 /* What a call of the library costs:
  *
  *     measure [--reps COUNT] [--certify] [LOAD ..]
- *     measure [--reps COUNT] --growth MOST
+ *     measure [--reps COUNT] --growth MAX
  *
  * LOAD is pages-100, pages-1000, pages-10000, pages-100000 or pages-1000000 (the number of live
  * allocations, of mixed types and sizes), crowded-65536 (of descriptors, where a request finds no
@@ -13,7 +13,7 @@
  * starts. `refused` is a call that is refused at once: what any call costs at least. With --certify
  * the core keeps the certificates of placements. With --growth two tables in Markdown are printed:
  * of what calls on pages cost in a churn at 100 live allocations, ten times as many and so on up to
- * MOST, and of a request that nothing can hold, without and with certificates. */
+ * MAX, and of a request that nothing can hold, without and with certificates. */
 #include "fault.h"
 #include "loads.h"
 
@@ -26,8 +26,8 @@
 #define ROUNDS 8
 
 /* The most calls of a round of the churn, and the most of the refill. */
-#define LONGEST_ROUND 2500
-#define LONGEST_REFILL 5000
+#define MAX_ROUND 2500
+#define MAX_REFILL 5000
 
 #define REFUSED_CALLS 10000
 
@@ -43,7 +43,7 @@
 
 /* The handle that carries the driver binding, and the most controllers of a round of its driver. */
 #define DRIVER 1
-#define LONGEST_DRIVE 256
+#define MAX_DRIVEN 256
 
 const struct rafkudin_guid driver_binding = {
     {0xab, 0x31, 0xa0, 0x18, 0x43, 0xb4, 0x1a, 0x4d, 0xa5, 0xc0, 0x0c, 0x09, 0x26, 0x1e, 0x9f, 0x71}};
@@ -208,7 +208,7 @@ static size_t least_of(size_t one, size_t other)
  */
 static void run_memory(struct load *load, const struct services *services, size_t live)
 {
-    size_t round = least_of(live / 4, LONGEST_ROUND);
+    size_t round = least_of(live / 4, MAX_ROUND);
 
     place(load, services, "fill", live);
     get_maps(load, "fill");
@@ -219,7 +219,7 @@ static void run_memory(struct load *load, const struct services *services, size_
     get_maps(load, "churn");
     give(load, services, "thin", live / 2);
     get_maps(load, "thin");
-    place(load, services, "refill", least_of(live / 2, LONGEST_REFILL));
+    place(load, services, "refill", least_of(live / 2, MAX_REFILL));
     time_calls(load, "refused", "FreePages", REFUSED_CALLS, refused_call);
     if (services == &pool)
         give(load, services, "drain", load->count);
@@ -463,7 +463,7 @@ static bool take_driven_out(struct load *load, size_t number)
 
 static void run_drivers(struct load *load, size_t handles)
 {
-    size_t driven = least_of(handles - 1, LONGEST_DRIVE);
+    size_t driven = least_of(handles - 1, MAX_DRIVEN);
 
     install_driver(load);
     time_calls(load, "install", "InstallMultipleProtocolInterfaces", handles - 1,
@@ -608,7 +608,7 @@ static const struct {
 static void repeat(struct meter *meter, size_t index, int repetitions, bool certify)
 {
     static struct load load;
-    size_t live = loads[index].live, room = live * 2 + LONGEST_REFILL;
+    size_t live = loads[index].live, room = live * 2 + MAX_REFILL;
     struct machine machine = {0};
 
     if (repetitions == 0)
@@ -738,7 +738,7 @@ int main(int count, char **words)
             repetitions = atoi(words[++at]);
         else
             fail("usage: measure [--reps COUNT] [--certify] [LOAD ..]\n"
-                 "       measure [--reps COUNT] --growth MOST");
+                 "       measure [--reps COUNT] --growth MAX");
     }
     if (most != 0) {
         print_growth(repetitions, (size_t)most);

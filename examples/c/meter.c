@@ -38,7 +38,7 @@ static struct row *row_of(struct meter *meter, const char *phase, const char *se
     for (; row != meter->rows + meter->count; row++)
         if (strcmp(row->phase, phase) == 0 && strcmp(row->service, service) == 0)
             return row;
-    if (meter->count == MOST_ROWS)
+    if (meter->count == MAX_ROWS)
         fail("too many rows");
     meter->count++;
     *row = (struct row){.phase = phase, .service = service, .least = UINT64_MAX};

@@ -5,7 +5,7 @@
 #include <stddef.h>
 #include <stdint.h>
 
-#define MOST_ROWS 32
+#define MAX_ROWS 32
 
 /* A row: the time of its calls in this repetition, and the least of all so far, in nanoseconds. */
 struct row {
@@ -19,7 +19,7 @@ struct row {
 
 /* All zeros at first. */
 struct meter {
-    struct row rows[MOST_ROWS];
+    struct row rows[MAX_ROWS];
     size_t count;
     uint64_t started;
 };

@@ -9,7 +9,7 @@
 #include <string.h>
 
 #define GUARD 64
-#define MOST_ENTRIES 256
+#define MAX_ENTRIES 256
 
 /* A map of `entries` free stretches of two pages each, with a page of another type behind each. */
 static size_t striped_map(uint8_t *map, size_t entries)
@@ -72,10 +72,10 @@ static uint64_t check(size_t room, const uint8_t *text, size_t length, uint64_t 
 /* A region serves that is as large as the header says; each smaller one serves too or is refused. */
 static void try_regions(void)
 {
-    static uint8_t map[RAFKUDIN_DESCRIPTOR_SIZE * MOST_ENTRIES];
+    static uint8_t map[RAFKUDIN_DESCRIPTOR_SIZE * MAX_ENTRIES];
     size_t served = 0, refused = 0;
 
-    for (size_t entries = 1; entries <= MOST_ENTRIES; entries += 15) {
+    for (size_t entries = 1; entries <= MAX_ENTRIES; entries += 15) {
         size_t size = striped_map(map, entries), most = RAFKUDIN_PLACE_ROOM(size);
         uint64_t best = 0;
 

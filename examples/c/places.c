@@ -16,7 +16,7 @@
 #include <inttypes.h>
 #include <stdlib.h>
 
-#define LARGEST_MAP 65536
+#define MAX_MAP_SIZE 65536
 
 /* The granule of the machine in pages. */
 static uint64_t granule;
@@ -67,7 +67,7 @@ static void try_requests(const struct machine *machine)
 /* Places pages one after another, each where RafkudinPlace finds a place on the map of then. */
 static void try_chain(const struct machine *machine)
 {
-    static uint8_t map[LARGEST_MAP];
+    static uint8_t map[MAX_MAP_SIZE];
     struct rafkudin *core = machine_core(machine);
 
     for (uint32_t at = 0; at < 60; at++) {

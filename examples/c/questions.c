@@ -10,7 +10,7 @@
 #include <string.h>
 
 #define ROUNDS 400U
-#define MOST 64U
+#define MAX_ITEMS 64U
 
 static const struct rafkudin_guid guids[4] = {{{1}}, {{2}}, {{3}}, {{4}}};
 
@@ -31,9 +31,9 @@ struct open {
 };
 
 static struct rafkudin *core;
-static struct block blocks[MOST];
-static struct interface interfaces[MOST];
-static struct open opens[MOST];
+static struct block blocks[MAX_ITEMS];
+static struct interface interfaces[MAX_ITEMS];
+static struct open opens[MAX_ITEMS];
 static size_t block_count, interface_count, open_count;
 
 static uint32_t drawn(uint32_t below)
@@ -64,7 +64,7 @@ static void change_blocks(void)
                                      RAFKUDIN_RUNTIME_SERVICES_DATA};
     struct block made = {0, 0, types[drawn(3)]};
 
-    if (block_count == MOST || (block_count > 0 && drawn(3) == 0)) {
+    if (block_count == MAX_ITEMS || (block_count > 0 && drawn(3) == 0)) {
         size_t at = drawn((uint32_t)block_count);
 
         HOLDS(RafkudinFreePool(core, blocks[at].address) == RAFKUDIN_SUCCESS);
@@ -86,7 +86,7 @@ static void install(void)
 {
     struct interface made = {drawn(3) == 0 ? 0 : any_handle(), drawn(1000), drawn(4)};
 
-    if (interface_count < MOST &&
+    if (interface_count < MAX_ITEMS &&
         RafkudinInstallProtocolInterface(core, &made.handle, &guids[made.guid], 0, made.value) ==
             RAFKUDIN_SUCCESS)
         interfaces[interface_count++] = made;
@@ -99,9 +99,9 @@ static void note_open(void)
     struct open made = {it->handle, any_handle(), any_handle(), it->guid, RAFKUDIN_GET_PROTOCOL, 1};
     uint64_t value = 0;
 
-    if (open_count == MOST || RafkudinOpenProtocol(core, made.handle, &guids[made.guid], &value,
-                                                   made.agent, made.controller,
-                                                   made.attributes) != RAFKUDIN_SUCCESS)
+    if (open_count == MAX_ITEMS ||
+        RafkudinOpenProtocol(core, made.handle, &guids[made.guid], &value, made.agent,
+                             made.controller, made.attributes) != RAFKUDIN_SUCCESS)
         return;
     HOLDS(value == it->value);
     for (size_t i = 0; i < open_count; i++)
@@ -284,14 +284,14 @@ static void ask_handles(void)
 /* Handles all at once are those one after the other; a buffer that is too small is left. */
 static void ask_lists(void)
 {
-    uint64_t list[MOST + 1], count = 0, handle = 0;
+    uint64_t list[MAX_ITEMS + 1], count = 0, handle = 0;
 
-    HOLDS(RafkudinHandlesInto(core, list, MOST, &count) == RAFKUDIN_SUCCESS);
+    HOLDS(RafkudinHandlesInto(core, list, MAX_ITEMS, &count) == RAFKUDIN_SUCCESS);
     for (size_t i = 0; i < count; i++)
         HOLDS(RafkudinHandle(core, i, &handle) == RAFKUDIN_SUCCESS && handle == list[i]);
     HOLDS(RafkudinHandle(core, count, &handle) == RAFKUDIN_NOT_FOUND);
     for (unsigned k = 0; k < 4; k++) {
-        HOLDS(RafkudinHoldersInto(core, &guids[k], list, MOST, &count) == RAFKUDIN_SUCCESS);
+        HOLDS(RafkudinHoldersInto(core, &guids[k], list, MAX_ITEMS, &count) == RAFKUDIN_SUCCESS);
         for (size_t i = 0; i < count; i++)
             HOLDS(RafkudinHolder(core, &guids[k], i, &handle) == RAFKUDIN_SUCCESS &&
                   handle == list[i]);
@@ -314,12 +314,12 @@ static bool same_item(const struct rafkudin_item *item, const struct open *open)
 /* The items of one interface: one after the other, all at once, and into a buffer too small. */
 static void ask_items(uint64_t handle, unsigned guid)
 {
-    struct rafkudin_item item, items[MOST];
-    uint64_t count = MOST + 1;
+    struct rafkudin_item item, items[MAX_ITEMS];
+    uint64_t count = MAX_ITEMS + 1;
     size_t at = 0;
 
-    HOLDS(RafkudinOpenProtocolInformationInto(core, handle, &guids[guid], items, MOST, &count) ==
-          RAFKUDIN_SUCCESS);
+    HOLDS(RafkudinOpenProtocolInformationInto(core, handle, &guids[guid], items, MAX_ITEMS,
+                                              &count) == RAFKUDIN_SUCCESS);
     for (size_t i = 0; i < open_count; i++)
         if (opens[i].handle == handle && opens[i].guid == guid) {
             HOLDS(RafkudinOpenItem(core, handle, &guids[guid], at, &item) == RAFKUDIN_SUCCESS);

@@ -9,7 +9,7 @@
 #include <string.h>
 
 #define GUARD 64
-#define MOST_BLOCKS 4096
+#define MAX_BLOCKS 4096
 
 /* A region between two rows of bytes that nobody may write. */
 struct guarded {
@@ -53,7 +53,7 @@ static size_t fill(struct rafkudin *core, uint64_t *addresses)
 {
     size_t count = 0;
 
-    while (count < MOST_BLOCKS) {
+    while (count < MAX_BLOCKS) {
         size_t entries = RafkudinDescriptors(core);
         uint64_t status;
 
@@ -74,8 +74,8 @@ static size_t fill(struct rafkudin *core, uint64_t *addresses)
  * which the core's tables come to their places, never fewer fit than before: no block is lost. */
 static void use_all(struct rafkudin *core)
 {
-    static uint64_t addresses[MOST_BLOCKS];
-    size_t fewest = MOST_BLOCKS;
+    static uint64_t addresses[MAX_BLOCKS];
+    size_t fewest = MAX_BLOCKS;
 
     for (int round = 0; round < 20; round++) {
         size_t placed = fill(core, addresses);
@@ -130,7 +130,7 @@ static void try_sizes(void)
 
 static void try_two(void)
 {
-    static uint64_t first[MOST_BLOCKS], second[MOST_BLOCKS];
+    static uint64_t first[MAX_BLOCKS], second[MAX_BLOCKS];
     struct guarded one = guarded_region(100000, 0), other = guarded_region(100000, 8);
     struct rafkudin *core = NULL, *same = NULL;
     size_t count, again;

@@ -1,10 +1,10 @@
 /* Measures how much stack the library's calls take:
  *
- *     stack [MOST]
+ *     stack [MAX]
  *
  * Each call runs on a stack of its own that is filled with a pattern, and what it changed is
  * counted. It prints the bytes of each function, and ends with status 1 where one takes more than
- * MOST bytes. */
+ * MAX bytes. */
 #define _XOPEN_SOURCE 700
 #include "../../include/rafkudin.h"
 

@@ -11,7 +11,7 @@ bool line_read(struct line *line, FILE *file)
     int byte = 0;
 
     line->length = 0;
-    while (line->length <= LONGEST_LINE && (byte = getc(file)) != '\n' && byte != EOF)
+    while (line->length <= MAX_LINE_LENGTH && (byte = getc(file)) != '\n' && byte != EOF)
         line->bytes[line->length++] = (char)byte;
     if (byte == EOF && ferror(file))
         fail("cannot read trace");
@@ -23,7 +23,7 @@ static bool is_blank(char byte)
     return byte == ' ' || byte == '\t';
 }
 
-size_t line_words(const struct line *line, struct word words[MOST_WORDS])
+size_t line_words(const struct line *line, struct word words[MAX_WORDS])
 {
     const char *at = line->bytes;
     const char *end = line->bytes + line->length;

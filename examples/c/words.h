@@ -8,12 +8,12 @@
 #include <stdio.h>
 
 /* The most bytes of a line, without its line feed, and the most words that these make. */
-#define LONGEST_LINE 65536
-#define MOST_WORDS (LONGEST_LINE / 2)
+#define MAX_LINE_LENGTH 65536
+#define MAX_WORDS (MAX_LINE_LENGTH / 2)
 
 /* A line. One that is too long is cut one byte past the limit. */
 struct line {
-    char bytes[LONGEST_LINE + 1];
+    char bytes[MAX_LINE_LENGTH + 1];
     size_t length;
 };
 
@@ -29,7 +29,7 @@ bool line_read(struct line *line, FILE *file);
 
 /* The words of a line, which may have a carriage return at its end, from left to right; the answer
  * is how many. */
-size_t line_words(const struct line *line, struct word words[MOST_WORDS]);
+size_t line_words(const struct line *line, struct word words[MAX_WORDS]);
 
 /* Whether a word is the text. */
 bool word_is(struct word word, const char *text);

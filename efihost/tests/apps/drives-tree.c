@@ -4,7 +4,7 @@
  * with the letters that it takes. */
 #include "app.h"
 
-#define MOST_LETTERS 64U
+#define MAX_LETTERS 64U
 
 static const EFI_GUID child_guid = {
     0x7a1c1c52, 0x6dd1, 0x4b6f, {0xa9, 0x3a, 0x37, 0x4f, 0x0a, 0x6e, 0x2b, 0x88}};
@@ -26,7 +26,7 @@ struct driver {
     bool refuses;
 };
 
-static char letters[MOST_LETTERS + 1];
+static char letters[MAX_LETTERS + 1];
 static unsigned letter_count;
 static EFI_DEVICE_PATH_PROTOCOL *path_seen;
 static uint32_t value, other_value;
@@ -34,7 +34,7 @@ static EFI_HANDLE controller;
 
 static void write_letter(char letter)
 {
-    if (letter_count < MOST_LETTERS)
+    if (letter_count < MAX_LETTERS)
         letters[letter_count++] = letter;
 }
 

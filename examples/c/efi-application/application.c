@@ -9,12 +9,12 @@
 
 #define REQUESTS 48
 #define RUNS 400
-#define LARGEST_MAP 32768
+#define MAX_MAP_SIZE 32768
 #define MEMORY (16u << 20)
 
 static EFI_SYSTEM_TABLE *table;
 static EFI_BOOT_SERVICES *services;
-static uint64_t map[LARGEST_MAP / 8];
+static uint64_t map[MAX_MAP_SIZE / 8];
 static unsigned failed;
 
 /* ---- What the library wants ---- */
