@@ -13,7 +13,7 @@ const ENTRY = 32;
 const ENTRY_WORDS = 8;
 const ENTRY_NUMBERS = 4;
 // A line that is longer is at fault, whatever is behind that.
-const LONGEST_LINE = 65_537;
+const MAX_LINE_LENGTH = 65_537;
 // A text that is longer is left to the decoder, which takes a while to begin.
 const SHORT = 200;
 // The header of a module with a memory of 64 bits.
@@ -138,7 +138,7 @@ export class Room {
     this.module = module;
     this.core = new Region(module, coreBytes);
     this.lines = new Region(module, lineBytes);
-    this.line = module.take(LONGEST_LINE);
+    this.line = module.take(MAX_LINE_LENGTH);
     this.text = { at: module.take(WASM_PAGE), room: WASM_PAGE };
     this.indexes = [];
     this.places = [];
@@ -188,7 +188,7 @@ export class Core {
   run(number, line) {
     const { room } = this;
     const { module } = room;
-    const length = Math.min(line.length, LONGEST_LINE);
+    const length = Math.min(line.length, MAX_LINE_LENGTH);
     module.bytes(room.line, length).set(line.subarray(0, length));
     const status = module.status("PlaygroundRunLine", this.pointer, BigInt(number), BigInt(room.line), BigInt(length));
     if (status === SUCCESS) return this.text();

@@ -16,7 +16,7 @@ export class Fault extends Error {}
 const SPACE = /[ \t\n\r]*/y;
 const NUMBER = /-?(?:0|[1-9][0-9]*)(\.[0-9]+)?([eE][+-]?[0-9]+)?/y;
 const WORDS = [["true", true], ["false", false], ["null", null]];
-const LONGEST_NUMBER = 20;
+const MAX_NUMBER_LENGTH = 20;
 
 class Json {
   constructor(text) {
@@ -77,7 +77,7 @@ class Json {
   number() {
     const found = this.token(NUMBER);
     if (!found || !Number.isFinite(Number(found[0]))) this.fail();
-    const isWhole = !found[1] && !found[2] && !found[0].startsWith("-") && found[0].length <= LONGEST_NUMBER;
+    const isWhole = !found[1] && !found[2] && !found[0].startsWith("-") && found[0].length <= MAX_NUMBER_LENGTH;
     const value = isWhole ? BigInt(found[0]) : -1n;
     return isWhole && value < 1n << 64n ? value : Number(found[0]);
   }

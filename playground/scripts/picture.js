@@ -6,9 +6,9 @@ const ROW = 20;
 const ROW_STEP = 26;
 const GAP = 10;
 // How wide twice the pages are: at most, in a map of one row, and in one of more.
-const WIDEST_STEP = 16;
-const MOST_STEP = 5;
-const MOST_ROWS = 80;
+const MAX_STEP_IN_ONE_ROW = 16;
+const MAX_STEP = 5;
+const MAX_ROWS = 80;
 const LABEL = 11;
 
 const pixelsOf = (context, name) => getComputedStyle(context.canvas).getPropertyValue(name).trim();
@@ -43,7 +43,7 @@ export function rowsOf(entries, step, room) {
 // How wide twice the pages are in a map of this weight.
 function stepOf(weight, room) {
   const inOneRow = (0.96 * room) / Math.max(1, weight);
-  return inOneRow >= MOST_STEP ? Math.min(WIDEST_STEP, inOneRow) : Math.min(MOST_STEP, MOST_ROWS * inOneRow);
+  return inOneRow >= MAX_STEP ? Math.min(MAX_STEP_IN_ONE_ROW, inOneRow) : Math.min(MAX_STEP, MAX_ROWS * inOneRow);
 }
 
 /** A picture on a canvas, with a box that says what the pointer or the keyboard is at. */

@@ -15,7 +15,7 @@ const CHANGES_NO_MAP = /^\d+ (?:map|read|write|install|install-many|uninstall|re
 const POOL = /^\d+ pool SUCCESS address=(0x[0-9a-f]+)/;
 const FREE_POOL = /^\d+ free-pool /;
 const FREED = /^free-pool (0x[0-9a-fA-F]{1,16}|[0-9]{1,19})$/;
-const LONGEST_FREED = 40;
+const MAX_FREE_LENGTH = 40;
 const REPLIES_A_MAP = 1024;
 const EXITED = /^\d+ exit SUCCESS/;
 
@@ -98,7 +98,7 @@ export class History {
 function placeOf(head, line) {
   const taken = POOL.exec(head);
   if (taken) return BigInt(taken[1]);
-  if (line.length > LONGEST_FREED || !FREE_POOL.test(head)) return null;
+  if (line.length > MAX_FREE_LENGTH || !FREE_POOL.test(head)) return null;
   const freed = FREED.exec(String.fromCharCode.apply(null, line));
   return freed ? BigInt(freed[1]) : null;
 }
