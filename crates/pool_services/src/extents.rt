@@ -12,18 +12,15 @@ ghost use Rattle.pool_services.specs.Searches.{HasRoom, HoldsAddress, IsLastUpTo
 use crate::listed::PoolBlock;
 use crate::rooms::Room;
 use page_ranges::{MemoryType, PAGE_SIZE, PageRange, granule_for, rounded};
-use raw_pool::RawPool;
+use raw_pool::{PAGE_CELLS, RawPool};
 use std::alloc::Allocator;
 use std::marker::Model;
 
-/// The bytes of a cell.
-const CELL_SIZE: u64 = 32;
+/// The bytes of a cell, as addresses count them.
+const CELL_SIZE: u64 = raw_pool::CELL_SIZE as u64;
 
-/// The bytes of a block's first cell that come before its own.
-pub(crate) const HEADER_SIZE: u64 = 8;
-
-/// The cells of a page.
-const PAGE_CELLS: usize = 128;
+/// The bytes of a block's first cell that come before its own, as addresses count them.
+pub(crate) const HEADER_SIZE: u64 = raw_pool::HEADER_SIZE as u64;
 
 /// The cells that a block of a size takes.
 pub(crate) fn cells_for(size: usize) -> usize

@@ -6,5 +6,6 @@ mod raw_bytes;
 mod region;
 mod store;
 
-pub use pool::RawPool;
+pub use pool::{PAGE_CELLS, RawPool};
 pub use raw_bytes::RawBytes;
+pub use store::{CELL_SIZE, HEADER_SIZE};

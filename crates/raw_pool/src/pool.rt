@@ -10,7 +10,7 @@ use std::alloc::{AllocError, Allocator, Global};
 use std::marker::Model;
 
 /// The cells of a page.
-const PAGE_CELLS: usize = 128;
+pub const PAGE_CELLS: usize = 128;
 
 /// A region of raw memory: 128 cells of 32 bytes for each of its pages, and blocks known by their
 /// first cells.

@@ -14,10 +14,10 @@ use crate::region::Region;
 use std::alloc::{Allocator, Global};
 
 /// The bytes of a cell.
-pub(crate) const CELL_SIZE: usize = 32;
+pub const CELL_SIZE: usize = 32;
 
 /// The bytes of the header before a block.
-pub(crate) const HEADER_SIZE: usize = 8;
+pub const HEADER_SIZE: usize = 8;
 
 /// The cells that a block of a size takes, its header included.
 fn cells_of(size: usize) -> usize
