@@ -5,7 +5,7 @@ ghost use Rattle.page_ranges.specs.Runs.{IsValidMachine};
 ghost use Rattle.boot_machines.specs.MachineRuns.{IsMachineRun};
 ghost use Rattle.boot_machines.specs.Machines.{IsMachine};
 
-use page_ranges::{MemoryType, Owner, PAGE_COUNT, Run, has_runtime};
+use page_ranges::{MemoryType, Owner, PAGE_COUNT, Run, has_runtime, is_granule};
 use std::alloc::{Allocator, Global};
 use std::marker::Model;
 
@@ -58,13 +58,6 @@ impl<A: Allocator> Machine<A> {
     {
         self.granule
     }
-}
-
-/// Whether a machine may have a granule of this many pages.
-fn is_granule(granule: u64) -> bool
-    ensures { IsTrue result ↔ IsGranule granule }
-{
-    granule == 1 || granule == 16
 }
 
 /// Whether the runs are those of a machine.

@@ -1,8 +1,15 @@
 //! Granules: the pages in which a machine places memory of some types.
-ghost use Rattle.std.specs.Prelude.{◌≡◌};
-ghost use Rattle.page_ranges.specs.Granules.{granule_for, if_64_bits, is_granular, rounded};
+ghost use Rattle.std.specs.Prelude.{◌≡◌, ◌↔◌, IsTrue};
+ghost use Rattle.page_ranges.specs.Granules.{IsGranule, granule_for, if_64_bits, is_granular, rounded};
 
 use crate::types::MemoryType;
+
+/// Whether a machine may have a granule of this many pages.
+pub fn is_granule(granule: u64) -> bool
+    ensures { IsTrue result ↔ IsGranule granule }
+{
+    granule == 1 || granule == 16
+}
 
 /// The granule of a type on a machine with a granule, in pages: the machine's for reserved memory,
 /// for code and data of runtime services and for ACPI non-volatile storage, else 1.

@@ -11,7 +11,7 @@ mod types;
 
 pub use addresses::{PAGE_COUNT, PAGE_SIZE, pages_below};
 pub use cursors::PageCursor;
-pub use granules::{granule_for, rounded};
+pub use granules::{granule_for, is_granule, rounded};
 pub use laws::{
     map_memory_law, maximal_blocks_law, maximal_runs_law, memory_map_law, retyped_law,
     retyped_types_law,

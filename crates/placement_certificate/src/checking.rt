@@ -13,7 +13,7 @@ use crate::certificates::{Bound, Certificate, Request};
 use crate::cursors::MapCursor;
 use crate::entries::{is_map, item_at};
 use crate::search::EntrySearch;
-use page_ranges::{Descriptor, MemoryType, granule_for, type_for_alloc};
+use page_ranges::{Descriptor, MemoryType, granule_for, is_granule, type_for_alloc};
 use std::alloc::Allocator;
 
 /// Whether a list of entries is a map, a request is for some pages of a type that requests may
@@ -46,7 +46,7 @@ fn fills_granules(request: &Request) -> bool
     ensures { IsTrue result ↔ FillsGranules request.now }
 {
     let granule = request.granule;
-    (granule == 1 || granule == 16)
+    is_granule(granule)
         && granule_for(request.mtype, granule) == granule
         && request.pages % granule == 0
 }
