@@ -2,7 +2,7 @@
 use page_ranges::Status;
 use std::alloc::{Allocator, Global};
 
-/// An installation that was served.
+/// What an installation returns that succeeds.
 #[derive(Drop)]
 pub struct Installed<A: Allocator = Global> {
     pub handle: u64,

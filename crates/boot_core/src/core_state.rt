@@ -30,7 +30,7 @@ use uuid::Uuid;
 /// How many calls a core serves.
 const MAX_CALLS: u64 = 0x8000_0000;
 
-/// The boot services of a machine, with the drivers that were handed in.
+/// The boot services of a machine, with its drivers.
 #[derive(Drop)]
 pub struct Core<D = Box<dyn Driver>, A: Allocator = Global> {
     pub(crate) book: PageBook<A>,
@@ -256,8 +256,8 @@ impl<D: Driver, A: Allocator + Copy> Core<D, A> {
         })
     }
 
-    /// InstallProtocolInterface: an interface of a GUID, with a value, on a handle, on a new one for
-    /// handle 0. The reply has the handle, and the events of the registrations for the GUID.
+    /// InstallProtocolInterface: installs an interface, a GUID with a value, on a handle, or for handle 0 on a new one.
+    /// The reply has the handle, and the events of the registrations for the GUID.
     pub fn install_protocol_interface(
         &mut self,
         handle: u64,
@@ -276,8 +276,8 @@ impl<D: Driver, A: Allocator + Copy> Core<D, A> {
         })
     }
 
-    /// InstallMultipleProtocolInterfaces: all of some interfaces, pairs of GUID and value, or none.
-    /// ALREADY_STARTED: one is a device path that a live handle has already.
+    /// InstallMultipleProtocolInterfaces: installs interfaces on a handle, pairs of GUID and value:
+    /// all of them, or none. ALREADY_STARTED: one is a device path that a live handle has already.
     pub fn install_multiple(&mut self, handle: u64, pairs: &[(Uuid, u64)]) -> Reply<A>
         requires { 0 < self.old.state.calls_left }
         ensures step { CoreStep D.meaning self.old
@@ -293,8 +293,8 @@ impl<D: Driver, A: Allocator + Copy> Core<D, A> {
         })
     }
 
-    /// UninstallProtocolInterface: takes out the interface of a GUID with a value, and with the last one its
-    /// handle. The drivers that have it open are stopped first.
+    /// UninstallProtocolInterface: uninstalls the interface of a GUID with a value, after the drivers that have it open
+    /// are stopped. A handle goes with its last interface.
     pub fn uninstall(&mut self, handle: u64, guid: Uuid, value: u64) -> Reply<A>
         requires { 0 < self.old.state.calls_left }
         ensures step { CoreStep D.meaning self.old
@@ -309,8 +309,8 @@ impl<D: Driver, A: Allocator + Copy> Core<D, A> {
         })
     }
 
-    /// ReinstallProtocolInterface: gives the interface of a GUID another value in its place, after the
-    /// drivers that have it open are stopped, and connects the handle. The reply has the events.
+    /// ReinstallProtocolInterface: stops the drivers that have the interface of a GUID open, gives it another value,
+    /// and connects the handle. The reply has the events.
     pub fn reinstall(&mut self, handle: u64, guid: Uuid, old_value: u64, new_value: u64) -> Reply<A>
         requires { 0 < self.old.state.calls_left }
         ensures step { CoreStep D.meaning self.old
@@ -329,8 +329,8 @@ impl<D: Driver, A: Allocator + Copy> Core<D, A> {
         })
     }
 
-    /// RegisterProtocolNotify: an event for the interfaces of a GUID that are installed from now on. The
-    /// reply has the key of the registration.
+    /// RegisterProtocolNotify: registers an event, which each installation of an interface of a GUID signals from now
+    /// on. The reply has the key of the registration.
     pub fn register_protocol_notify(&mut self, guid: Uuid, event: u64) -> Reply<A>
         requires { 0 < self.old.state.calls_left }
         ensures step { CoreStep D.meaning self.old
@@ -435,7 +435,7 @@ impl<D: Driver, A: Allocator + Copy> Core<D, A> {
         })
     }
 
-    /// CloseProtocol: takes out all items of an agent and a controller on an interface.
+    /// CloseProtocol: removes all open items of an agent and a controller on an interface.
     pub fn close_protocol(
         &mut self,
         handle: u64,

@@ -57,26 +57,24 @@ pub fn proper_lists_law<A: Allocator>()
     ensures any { (ds : List Meaning) → ProperListsLaw (any_starts ds) A }
 {}
 
-/// A new block's bytes are 0, a write lays its bytes, a block that is given back has no bytes, and no
+/// A new block's bytes are 0, a write puts its bytes at its addresses, a block that is given back has no bytes, and no
 /// call changes any other byte of the pool.
 pub fn pool_bytes_law<A: Allocator>()
     ensures { PoolBytesLaw A }
 {}
 
-/// A read gives the bytes at its addresses.
+/// A read returns the bytes at its addresses.
 pub fn read_bytes_law<A: Allocator>()
     ensures { ReadBytesLaw A }
 {}
 
-/// A read gives the bytes that were last laid at its addresses: by a write, or as the zeros of a new
-/// block.
+/// A read returns the bytes that were last put at its addresses: by a write, or as the zeros of a new block.
 pub fn last_bytes_law<A: Allocator>()
     ensures { LastBytesLaw A }
 {}
 
-/// Before an exit, a key that GetMemoryMap gave, through a call or with a buffer of the caller's, is
-/// accepted exactly while no call since has changed the type of a page, however permitted starts are
-/// chosen.
+/// Before an exit, a key that GetMemoryMap returned, through a call or with a buffer of the caller's, is accepted
+/// exactly while no call since has changed the type of a page, however permitted starts are chosen.
 pub fn key_law<A: Allocator>()
     ensures best { (ds : List Meaning) → KeyLaw (best_starts ds) A }
     ensures any { (ds : List Meaning) → KeyLaw (any_starts ds) A }

@@ -17,8 +17,8 @@ use uuid::Uuid;
 /// LocateHandleBuffer: puts the handles that a search is for into a pool block, 8 bytes each. A search by
 /// a key takes its handle, but where it is refused.
 ///
-/// INVALID_PARAMETER: another search, or a key that was never given. NOT_FOUND: there are none.
-/// OUT_OF_RESOURCES: memory ran out, the machine's or the host's.
+/// INVALID_PARAMETER: another search, or a key of no registration. NOT_FOUND: there are none. OUT_OF_RESOURCES: memory
+/// ran out, the machine's or the host's.
 pub(crate) fn locate_buffer<A: Allocator + Copy>(
     book: &mut PageBook<A>,
     pools: &mut Pools<A>,

@@ -9,8 +9,8 @@ use std::alloc::Allocator;
 use uuid::Uuid;
 
 impl<D: Driver, A: Allocator + Copy> Core<D, A> {
-    /// UninstallMultipleProtocolInterfaces: takes out all of some interfaces of a handle, pairs of GUID and
-    /// value, one after the other, or none.
+    /// UninstallMultipleProtocolInterfaces: uninstalls interfaces of a handle, pairs of GUID and value, one after the
+    /// other: all of them, or none.
     ///
     /// INVALID_PARAMETER: there are more than 16, or UninstallProtocolInterface would refuse one of them at its turn.
     /// OUT_OF_RESOURCES: memory ran out.

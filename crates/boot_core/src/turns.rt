@@ -29,8 +29,8 @@ impl<D: Driver, A: Allocator + Copy> Core<D, A> {
         driver_connect::begin_turns(alloc, self.protocols.handles(), controller, named, drivers)
     }
 
-    /// The pairs of controller and agent to be stopped, in order, before an interface that drivers have
-    /// open can be opened exclusively, taken out or replaced.
+    /// The pairs of controller and agent to be stopped, in order, before an interface that drivers have open can be
+    /// opened exclusively, uninstalled or reinstalled.
     pub fn stops_on_interface(
         &self,
         handle: u64,

@@ -1,4 +1,4 @@
-//! Cores made and given back.
+//! Making and freeing cores.
 ghost use Rattle.std.specs.Prelude.{◌≡◌, ◌<◌, IfSome, MatchOption};
 ghost use Rattle.std.specs.Borrow.{sem};
 ghost use Rattle.boot_services_c.specs.MadeCores.{Holds, MakesPlace, Refuses};
@@ -15,8 +15,8 @@ use std::alloc::Global;
 /// Makes a core of EFI_MEMORY_DESCRIPTORs, a granule of 1 or 16 pages and up to 64 drivers, and puts its
 /// pointer into the variable `core`, which a refusal leaves as it is.
 ///
-/// INVALID_PARAMETER: the records describe no machine, or the tables are none of drivers. OUT_OF_RESOURCES:
-/// memory ran out.
+/// INVALID_PARAMETER: the records describe no machine, or the tables describe no drivers. OUT_OF_RESOURCES: memory ran
+/// out.
 #[unsafe(no_mangle)]
 pub extern "C" fn RafkudinMake(
     alloc: Global,
@@ -41,7 +41,7 @@ pub extern "C" fn RafkudinMake(
     }
 }
 
-/// Gives back all memory of a core. A null pointer is allowed, and then nothing is done.
+/// Frees all memory of a core. A null pointer is allowed, and does nothing.
 #[unsafe(no_mangle)]
 pub unsafe extern "C" fn RafkudinFree(alloc: Global, core: *mut Rafkudin)
     requires* { sem 𝓛 (freed_at alloc core) }
@@ -77,7 +77,7 @@ fn pointer_to(alloc: Global, core: EfiCore) -> Option<Place>
     Some(Place::new(Block::new(handle)))
 }
 
-/// Gives back what the core in a block takes.
+/// Frees what the core in a block takes.
 fn free(core: Block<Rafkudin, Global>) {
     drop(core.boxed());
 }

@@ -4,10 +4,10 @@ ghost use Rattle.map_placement.specs.Places.{PlacesPages};
 use map_placement::place;
 use std::alloc::Global;
 
-/// Finds the best place for pages of a type on the memory that EFI_MEMORY_DESCRIPTORs state, up to the byte at
-/// the address `limit`. The variable `address` is given the address of the first page; a refusal leaves it.
+/// Finds the best place for pages of a type on the memory that EFI_MEMORY_DESCRIPTORs describe, up to the byte at the
+/// address `limit`. The variable `address` receives the address of the first page; a refusal leaves it.
 ///
-/// INVALID_PARAMETER: the records state no machine, a memory type that may not be asked for, or no pages.
+/// INVALID_PARAMETER: the records describe no machine, a memory type that no request may name, or no pages.
 /// OUT_OF_RESOURCES: there is no place, or memory ran out.
 #[unsafe(no_mangle)]
 pub extern "C" fn RafkudinPlace(

@@ -32,11 +32,11 @@ pub extern "C" fn RafkudinCertify(core: &mut Rafkudin, certify: bool)
     core.held().certify(certify);
 }
 
-/// The block of the certificate of the last service that was called, in the front of `text`; the variable
-/// `length` is given its bytes.
+/// The block of the certificate of the last service that was called, in the front of `text`; the variable `length`
+/// receives its number of bytes.
 ///
-/// NOT_FOUND: there is none. BUFFER_TOO_SMALL: the variable is given the bytes that are needed.
-/// OUT_OF_RESOURCES: memory ran out for it.
+/// NOT_FOUND: there is none. BUFFER_TOO_SMALL: the variable receives the number of bytes needed. OUT_OF_RESOURCES:
+/// memory ran out for it.
 #[unsafe(no_mangle)]
 pub extern "C" fn RafkudinCertificate(core: &mut Rafkudin, text: &mut [u8], length: &mut u64) -> u64
     ensures returned { ReturnsBlock core.old.core.block text.old length.old result text.new
@@ -46,11 +46,11 @@ pub extern "C" fn RafkudinCertificate(core: &mut Rafkudin, text: &mut [u8], leng
     core.held().block(text, length)
 }
 
-/// What the program `bootcore` prints of the last service that was called, where the service's line has this
-/// number, in the front of `text`; the variable `length` is given its bytes.
+/// What the program `bootcore` prints of the last service that was called, where the service's line has this number, in
+/// the front of `text`; the variable `length` receives its number of bytes.
 ///
-/// NOT_FOUND: it left no reply. BUFFER_TOO_SMALL: the variable is given the bytes that are needed.
-/// OUT_OF_RESOURCES: memory ran out.
+/// NOT_FOUND: it left no reply. BUFFER_TOO_SMALL: the variable receives the number of bytes needed. OUT_OF_RESOURCES:
+/// memory ran out.
 #[unsafe(no_mangle)]
 pub extern "C" fn RafkudinReplyLine(
     core: &mut Rafkudin,
@@ -67,8 +67,8 @@ pub extern "C" fn RafkudinReplyLine(
 
 /// Judges a certificate block: SUCCESS if it is accepted.
 ///
-/// ACCESS_DENIED: it is refused. INVALID_PARAMETER: it is no block; the variable `line` is given its first line
-/// that is wrong or missing. OUT_OF_RESOURCES: memory ran out.
+/// ACCESS_DENIED: it is refused. INVALID_PARAMETER: it is no block; the variable `line` receives its first line that is
+/// wrong or missing. OUT_OF_RESOURCES: memory ran out.
 #[unsafe(no_mangle)]
 pub extern "C" fn RafkudinCheck(alloc: Global, text: &[u8], line: &mut u64) -> u64
     ensures { ChecksBlock text.now line.old result line.new }
@@ -76,8 +76,8 @@ pub extern "C" fn RafkudinCheck(alloc: Global, text: &[u8], line: &mut u64) -> u
     c_interface::check_block(alloc, text, line)
 }
 
-/// How many events the last service that was called signals; the first of them are laid into `events`, as
-/// many as it has room for.
+/// How many events the last service that was called signals; the first of them are copied into `events`, as many as it
+/// has room for.
 #[unsafe(no_mangle)]
 pub extern "C" fn RafkudinEvents(core: &mut Rafkudin, events: &mut [u64]) -> usize
     ensures count { result ≡ length (last_events core.old.core) }

@@ -1,5 +1,5 @@
-//! The line of a trace that asks for a call, and what the program prints of calls whose reply the caller hands
-//! in. No service is called, and no call is used up.
+//! The line of a trace that asks for a call, and what the program prints of calls whose reply the caller passes. No
+//! service is called, and no call is used up.
 ghost use Rattle.std.specs.Prelude.{◌≡◌};
 ghost use Rattle.c_interface.specs.BufferReplies.{PrintsMap, PrintsRead};
 ghost use Rattle.c_interface.specs.CallLines.{ReturnsLine};
@@ -7,11 +7,11 @@ ghost use Rattle.c_interface.specs.CallLines.{ReturnsLine};
 use crate::handle::Rafkudin;
 use c_interface::{CallFields, MapFields, ReadFields};
 
-/// The line of a trace that asks for a call, with its line feed, in the front of `text`; the variable `size` is
-/// given its bytes.
+/// The line of a trace that asks for a call, with its line feed, in the front of `text`; the variable `size` receives
+/// its number of bytes.
 ///
 /// INVALID_PARAMETER: no service has the number. NOT_FOUND: no line can ask for the call. BUFFER_TOO_SMALL: the
-/// variable is given the bytes that are needed. OUT_OF_RESOURCES: memory ran out.
+/// variable receives the number of bytes needed. OUT_OF_RESOURCES: memory ran out.
 #[unsafe(no_mangle)]
 pub extern "C" fn RafkudinTraceLine(
     core: &mut Rafkudin,
@@ -25,10 +25,10 @@ pub extern "C" fn RafkudinTraceLine(
     core.held().trace_line(call, text, size)
 }
 
-/// What the program `bootcore` prints of a GetMemoryMap that returned this, in the front of `text`; the variable
-/// `size` is given its bytes.
+/// What the program `bootcore` prints of a GetMemoryMap that returned this, in the front of `text`; the variable `size`
+/// receives its number of bytes.
 ///
-/// INVALID_PARAMETER: no service returns the status. BUFFER_TOO_SMALL: the variable is given the bytes that are
+/// INVALID_PARAMETER: no service returns the status. BUFFER_TOO_SMALL: the variable receives the number of bytes
 /// needed. OUT_OF_RESOURCES: memory ran out.
 #[unsafe(no_mangle)]
 pub extern "C" fn RafkudinMapReplyLine(

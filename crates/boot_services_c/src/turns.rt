@@ -8,9 +8,9 @@ use crate::handle::Rafkudin;
 use c_interface::{Agent, DriverTurns, StopEntry, connect_next, connect_record};
 use c_machines::Guid;
 
-/// Begins the turns on a controller of the drivers on a list, which is put in the order in which they are tried:
-/// those of the handles named, and then all others by version. Drivers that are on no live driver handle drop out.
-/// The variable `turns` is given the turns.
+/// Begins the turns on a controller of the drivers on a list, which is put in the order in which they are tried: those
+/// of the handles named, and then all others by version. Drivers that are on no live driver handle drop out. The
+/// variable `turns` receives the turns.
 ///
 /// INVALID_PARAMETER: the controller is not live, or more than 16 handles are named. OUT_OF_RESOURCES: memory ran
 /// out. Either leaves the list.
@@ -57,7 +57,7 @@ pub extern "C" fn RafkudinConnectRecord(
 }
 
 /// The drivers that are to be stopped, in order, before an interface can be opened exclusively, uninstalled or
-/// reinstalled, in the front of a buffer. The variable `count` is given how many they are.
+/// reinstalled, in the front of a buffer. The variable `count` receives how many they are.
 ///
 /// BUFFER_TOO_SMALL: the buffer has no room for all of them, and is left. OUT_OF_RESOURCES: memory ran out, and
 /// the variable is left too.

@@ -15,7 +15,7 @@ pub fn printed_maps_law<A: Allocator>()
 {}
 
 /// The entries that are printed of a successful GetMemoryMap are those of the memory map, where
-/// records can spell them.
+/// records can encode them.
 pub fn map_entries_law<A: Allocator>()
     ensures { MapEntriesLaw A }
 {}

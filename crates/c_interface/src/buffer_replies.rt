@@ -1,5 +1,5 @@
-//! What `bootcore` prints of the services that fill a buffer of the caller's. The core keeps no reply of
-//! these: the caller hands in what it got.
+//! What `bootcore` prints of the services that fill a buffer of the caller's. The core keeps no reply of these: the
+//! caller passes what it received.
 ghost use Rattle.std.specs.Prelude.{◌≡◌, ◌==◌, find};
 ghost use Rattle.c_interface.specs.BufferReplies.{PrintsMap, PrintsRead, ReturnsText, status_with};
 ghost use Rattle.page_ranges.specs.Statuses.{status_number};
@@ -52,7 +52,7 @@ impl<A: Allocator + Copy> EfiCore<A> {
     /// of its bytes into a variable.
     ///
     /// INVALID_PARAMETER: no service returns the status. OUT_OF_RESOURCES: memory ran out. BUFFER_TOO_SMALL: the
-    /// variable is given the bytes that are needed.
+    /// variable receives the number of bytes needed.
     pub fn map_reply_line(&self, fields: &MapFields<'_>, buffer: &mut [u8], size: &mut u64) -> u64
         ensures { PrintsMap self.now fields.now buffer.old size.old result buffer.new size.new }
     {

@@ -2,7 +2,7 @@
 ghost use Rattle.std.specs.Prelude.{◌≡◌};
 ghost use Rattle.c_interface.specs.Buffers.{laid};
 
-/// Lays values into the front of a buffer, as many as it has room for.
+/// Copies values into the front of a buffer, as many as it has room for.
 pub(crate) fn lay<T: Copy>(buffer: &mut [T], values: &[T])
     ensures { buffer.new ≡ laid values.now buffer.old }
 {

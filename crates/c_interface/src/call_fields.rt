@@ -12,8 +12,8 @@ use std::alloc::{AllocError, Allocator};
 use trace_verbs::Verb;
 use uuid::Uuid;
 
-/// A call: the number of its service, and its parameters by their names. A service has some of these;
-/// the others play no part.
+/// A call: the number of its service, and its parameters by their names. A service reads those that it has, and ignores
+/// the others.
 #[repr(C)]
 #[derive(Clone, Copy)]
 pub struct CallFields<'a> {

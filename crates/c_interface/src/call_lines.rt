@@ -11,8 +11,8 @@ impl<A: Allocator + Copy> EfiCore<A> {
     /// The line of a trace that asks for a call, with its line feed. It is put in the front of a buffer, and the
     /// number of its bytes into a variable. The call is not made.
     ///
-    /// INVALID_PARAMETER: no service has the number. NOT_FOUND: no line can ask for the call.
-    /// OUT_OF_RESOURCES: memory ran out. BUFFER_TOO_SMALL: the variable is given the bytes that are needed.
+    /// INVALID_PARAMETER: no service has the number. NOT_FOUND: no line can ask for the call. OUT_OF_RESOURCES: memory
+    /// ran out. BUFFER_TOO_SMALL: the variable receives the number of bytes needed.
     pub fn trace_line(&self, fields: &CallFields<'_>, buffer: &mut [u8], size: &mut u64) -> u64
         ensures { ReturnsLine self.now fields.now buffer.old size.old result buffer.new size.new }
     {

@@ -9,7 +9,8 @@ use certificate_blocks::{BlockFault, judge_block};
 use page_ranges::{PAGE_SIZE, Status};
 use std::alloc::Allocator;
 
-/// What says something of an entry of the memory map, as EFI_MEMORY_DESCRIPTOR has it.
+/// An entry of the memory map: the fields of EFI_MEMORY_DESCRIPTOR but VirtualStart, which is
+/// always 0.
 #[repr(C)]
 #[derive(Clone, Copy, Debug, PartialEq, Eq)]
 pub struct MapEntry {
@@ -53,7 +54,7 @@ impl<A: Allocator + Copy> EfiCore<A> {
 
 /// Judges a certificate block: SUCCESS if its certificate is accepted, ACCESS_DENIED if it is refused.
 ///
-/// INVALID_PARAMETER: the text is no block; the variable is given its first line that is wrong or missing.
+/// INVALID_PARAMETER: the text is no block; the variable receives its first line that is wrong or missing.
 /// OUT_OF_RESOURCES: memory ran out.
 pub fn check_block<A: Allocator + Copy>(alloc: A, text: &[u8], line: &mut u64) -> u64
     ensures { ChecksBlock text.now line.old result line.new }

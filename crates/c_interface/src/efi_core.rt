@@ -19,7 +19,7 @@ use page_ranges::{Descriptor, Status};
 use std::alloc::{AllocError, Allocator, Global};
 use std::marker::Model;
 
-/// The status of a call that is one too many (EFI_ABORTED).
+/// The status of a call after the last that a core serves (EFI_ABORTED).
 pub const ABORTED: u64 = 0x8000_0000_0000_0015;
 
 /// The block of the certificate of the last call.
@@ -227,8 +227,7 @@ impl<A: Allocator + Copy> EfiCore<A> {
         status
     }
 
-    /// How many events the last call signals; the first of them are laid into a buffer, as many as it has
-    /// room for.
+    /// How many events the last call signals; the first of them are copied into a buffer, as many as it has room for.
     pub fn events(&self, buffer: &mut [u64]) -> usize
         ensures count { result ≡ length (last_events self.now) }
         ensures events { buffer.new ≡ laid (last_events self.now) buffer.old }
@@ -251,8 +250,8 @@ impl<A: Allocator + Copy> EfiCore<A> {
     /// The block of the certificate of the last call, in the front of a buffer; their number is put into
     /// a variable.
     ///
-    /// NOT_FOUND: the last call left no block. OUT_OF_RESOURCES: memory ran out for it.
-    /// BUFFER_TOO_SMALL: the variable is given the bytes that are needed.
+    /// NOT_FOUND: the last call left no block. OUT_OF_RESOURCES: memory ran out for it. BUFFER_TOO_SMALL: the variable
+    /// receives the number of bytes needed.
     pub fn block(&self, buffer: &mut [u8], size: &mut u64) -> u64
         ensures { ReturnsBlock self.now.block buffer.old size.old result buffer.new size.new }
     {

@@ -17,11 +17,11 @@ use page_ranges::Status;
 use std::alloc::Allocator;
 use uuid::Uuid;
 
-/// This many interfaces are too many to be installed at once, whatever they are.
+/// The fewest interfaces that are too many for one installation, whatever they are.
 const TOO_MANY: usize = 17;
 
 impl<A: Allocator + Copy> EfiCore<A> {
-    /// LocateHandle with a buffer for handles. The variable `needed` is given the bytes that all that match take, on
+    /// LocateHandle with a buffer for handles. The variable `needed` receives the bytes that all that match take, on
     /// SUCCESS and on BUFFER_TOO_SMALL.
     pub fn locate_handle(
         &mut self,
@@ -51,9 +51,9 @@ impl<A: Allocator + Copy> EfiCore<A> {
         status
     }
 
-    /// ProtocolsPerHandle. The variable `count` is given how many GUIDs there are; they are laid into the buffer.
+    /// ProtocolsPerHandle. The variable `count` receives how many GUIDs there are; they are copied into the buffer.
     ///
-    /// BUFFER_TOO_SMALL: it has no room for all of them, and is left; the variable is given how many there are.
+    /// BUFFER_TOO_SMALL: it has no room for all of them, and is left; the variable receives how many there are.
     pub fn protocols_per_handle(&mut self, handle: u64, buffer: &mut [Guid], count: &mut u64) -> u64
         ensures { ListsGuids self.old handle count.old buffer.old result count.new buffer.new
             self.new }
@@ -70,8 +70,8 @@ impl<A: Allocator + Copy> EfiCore<A> {
         Status::Success.number()
     }
 
-    /// InstallMultipleProtocolInterfaces. The variable `handle` has the handle, 0 for a new one, and is given it.
-    /// This takes no memory but the core's: a list that is too long is refused by its first interfaces.
+    /// InstallMultipleProtocolInterfaces. The variable `handle` has the handle, 0 for a new one, and receives it. This
+    /// takes no memory but the core's: a list that is too long is refused by its first interfaces.
     pub fn install_multiple(&mut self, handle: &mut u64, interfaces: &[Interface]) -> u64
         ensures { InstallsAll self.old handle.old interfaces.now result handle.new self.new }
     {
@@ -135,7 +135,7 @@ pub(crate) fn first_pairs(interfaces: &[Interface]) -> ArrayVec<(Uuid, u64), TOO
     pairs
 }
 
-/// Lays GUIDs into the front of a buffer, as many as it has room for.
+/// Copies GUIDs into the front of a buffer, as many as it has room for.
 fn lay_guids(buffer: &mut [Guid], guids: &[Uuid])
     ensures { buffer.new ≡ laid (map standard_guid guids.now) buffer.old }
 {

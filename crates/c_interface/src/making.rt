@@ -14,8 +14,8 @@ impl<A: Allocator + Copy> EfiCore<A> {
     /// `descriptor_size` bytes each, its granule is 1 or 16 pages, and the value of a driver binding
     /// interface is the index of its driver among the tables.
     ///
-    /// The error is a number of EFI_STATUS. INVALID_PARAMETER: the records describe no machine, or the tables
-    /// are none of drivers, which is found before memory is taken. OUT_OF_RESOURCES: memory ran out.
+    /// The error is a number of EFI_STATUS. INVALID_PARAMETER: the records describe no machine, or the tables describe
+    /// no drivers, which is found before memory is taken. OUT_OF_RESOURCES: memory ran out.
     pub fn make(
         alloc: A,
         records: &[u8],

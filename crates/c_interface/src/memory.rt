@@ -48,8 +48,8 @@ impl<A: Allocator + Copy> EfiCore<A> {
         self.tell(reply)
     }
 
-    /// GetMemoryMap. The variables are given the bytes that the map takes, its key, the bytes of a record and
-    /// their version; where the buffer is too small all but the key.
+    /// GetMemoryMap. The variables receive the bytes that the map takes, its key, the bytes of a record and their
+    /// version; where the buffer is too small all but the key.
     pub fn get_memory_map(
         &mut self,
         map: &mut [u8],
@@ -106,7 +106,7 @@ impl<A: Allocator + Copy> EfiCore<A> {
         self.tell(reply)
     }
 
-    /// AllocatePool. The variable `buffer` is given the block's address.
+    /// AllocatePool. The variable `buffer` receives the block's address.
     pub fn allocate_pool(&mut self, mtype: u32, size: u64, buffer: &mut u64) -> u64
         ensures { AllocatesPool self.old mtype size buffer.old result buffer.new self.new }
     {

@@ -14,8 +14,8 @@ use std::alloc::Allocator;
 use uuid::Uuid;
 
 impl<A: Allocator + Copy> EfiCore<A> {
-    /// OpenProtocol. The variable `value` is given the interface's value, also with ALREADY_STARTED, and 0
-    /// with UNSUPPORTED; TEST_PROTOCOL leaves it.
+    /// OpenProtocol. The variable `value` receives the interface's value, also with ALREADY_STARTED, and 0 with
+    /// UNSUPPORTED; TEST_PROTOCOL leaves it.
     #[tactic(auto, using(crate::proofs::Opened::tested, crate::proofs::Opened::opened_gives))]
     pub fn open_giving(
         &mut self,
@@ -38,7 +38,7 @@ impl<A: Allocator + Copy> EfiCore<A> {
         status
     }
 
-    /// HandleProtocol. The variable `value` is given the interface's value, and 0 with UNSUPPORTED.
+    /// HandleProtocol. The variable `value` receives the interface's value, and 0 with UNSUPPORTED.
     #[tactic(auto, using(crate::proofs::Opened::opened_gives))]
     pub fn handle_giving(&mut self, handle: u64, guid: &Guid, value: &mut u64) -> u64
         ensures { HandlesGiving self.old handle guid.now value.old result value.new

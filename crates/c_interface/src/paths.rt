@@ -20,8 +20,8 @@ const PATH_TYPE: u32 = 4;
 const MAX_PATH_CALLS: u64 = 4;
 
 impl<A: Allocator + Copy> EfiCore<A> {
-    /// LocateDevicePath with a path in the caller's memory. The variable `matched` is given how many bytes of
-    /// the path's nodes match, the variable `device` the handle.
+    /// LocateDevicePath with a path in the caller's memory. The variable `matched` receives how many bytes of the
+    /// path's nodes match, the variable `device` the handle.
     ///
     /// INVALID_PARAMETER: the bytes begin with no path. NOT_FOUND: no handle matches.
     pub fn locate_path(
@@ -48,10 +48,10 @@ impl<A: Allocator + Copy> EfiCore<A> {
         }
     }
 
-    /// Installs a device path that is in the caller's memory: copies it to a block of the pool, and installs
-    /// the block's address by InstallMultipleProtocolInterfaces. The variable `handle` has the handle, 0 for a
-    /// new one, and is given it, the variable `address` the block's address. Where that is refused the block is
-    /// given back. These are three or four calls.
+    /// Installs a device path that is in the caller's memory: copies it to a block of the pool, and installs the
+    /// block's address by InstallMultipleProtocolInterfaces. The variable `handle` has the handle, 0 for a new one, and
+    /// receives it, the variable `address` the block's address. Where that is refused the block is given back. These
+    /// are three or four calls.
     ///
     /// INVALID_PARAMETER: the bytes begin with no path; then no call is made.
     pub fn install_path(&mut self, handle: &mut u64, path: &[u8], address: &mut u64) -> u64

@@ -8,7 +8,7 @@ use c_machines::Guid;
 use std::alloc::Allocator;
 
 impl<A: Allocator + Copy> EfiCore<A> {
-    /// InstallProtocolInterface. The variable `handle` has the handle, 0 for a new one, and is given it.
+    /// InstallProtocolInterface. The variable `handle` has the handle, 0 for a new one, and receives it.
     pub fn install_protocol_interface(
         &mut self,
         handle: &mut u64,
@@ -59,7 +59,7 @@ impl<A: Allocator + Copy> EfiCore<A> {
         })
     }
 
-    /// RegisterProtocolNotify. The variable `key` is given the registration's key.
+    /// RegisterProtocolNotify. The variable `key` receives the registration's key.
     pub fn register_protocol_notify(&mut self, guid: &Guid, event: u64, key: &mut u64) -> u64
         ensures { Registers self.old guid.now event key.old result key.new self.new }
     {
@@ -67,8 +67,8 @@ impl<A: Allocator + Copy> EfiCore<A> {
         self.answer_number(&Call::RegisterProtocolNotify { guid, event }, key)
     }
 
-    /// LocateHandleBuffer. The variables are given how many handles there are, and the address of their block
-    /// of the pool.
+    /// LocateHandleBuffer. The variables receive how many handles there are, and the address of their block of the
+    /// pool.
     pub fn locate_handle_buffer(
         &mut self,
         search: u32,
@@ -88,7 +88,7 @@ impl<A: Allocator + Copy> EfiCore<A> {
         )
     }
 
-    /// LocateProtocol. The variable `value` is given the interface's value.
+    /// LocateProtocol. The variable `value` receives the interface's value.
     pub fn locate_protocol(&mut self, guid: &Guid, key: u64, value: &mut u64) -> u64
         ensures { LocatesProtocol self.old guid.now key value.old result value.new self.new }
     {
@@ -100,7 +100,7 @@ impl<A: Allocator + Copy> EfiCore<A> {
         self.tell_number(reply, value)
     }
 
-    /// OpenProtocol. The variable `value` is given the interface's value, but by TEST_PROTOCOL.
+    /// OpenProtocol. The variable `value` receives the interface's value, but by TEST_PROTOCOL.
     pub fn open_protocol(
         &mut self,
         handle: u64,
@@ -137,8 +137,8 @@ impl<A: Allocator + Copy> EfiCore<A> {
         self.tell(reply)
     }
 
-    /// OpenProtocolInformation. The variables are given how many open items there are, and the address of
-    /// their block of the pool.
+    /// OpenProtocolInformation. The variables receive how many open items there are, and the address of their block of
+    /// the pool.
     pub fn open_protocol_information(
         &mut self,
         handle: u64,
@@ -157,7 +157,7 @@ impl<A: Allocator + Copy> EfiCore<A> {
         )
     }
 
-    /// HandleProtocol. The variable `value` is given the interface's value.
+    /// HandleProtocol. The variable `value` receives the interface's value.
     pub fn handle_protocol(&mut self, handle: u64, guid: &Guid, value: &mut u64) -> u64
         ensures { HandlesProtocol self.old handle guid.now value.old result value.new self.new }
     {
@@ -176,8 +176,8 @@ impl<A: Allocator + Copy> EfiCore<A> {
         self.answer(&Call::DisconnectController { handle, driver })
     }
 
-    /// LocateDevicePath. The variable `path` has the path's address in the pool, and is given the address behind
-    /// the nodes that matched; the variable `device` is given the handle.
+    /// LocateDevicePath. The variable `path` has the path's address in the pool, and receives the address behind the
+    /// nodes that matched; the variable `device` receives the handle.
     pub fn locate_device_path(&mut self, guid: &Guid, path: &mut u64, device: &mut u64) -> u64
         ensures { LocatesPath self.old guid.now (device.old, path.old) result (device.new, path.new)
             self.new }

@@ -62,8 +62,8 @@ impl<A: Allocator + Copy> EfiCore<A> {
         put_found(self.core.holder(guid.uuid(), index), handle)
     }
 
-    /// All live handles, by ascending number, in the front of a buffer. The variable `count` is given how many
-    /// there are.
+    /// All live handles, by ascending number, in the front of a buffer. The variable `count` receives how many there
+    /// are.
     ///
     /// BUFFER_TOO_SMALL: the buffer has no room for all of them, and is left.
     pub fn handles(&self, buffer: &mut [u64], count: &mut u64) -> u64
@@ -110,11 +110,11 @@ impl<A: Allocator + Copy> EfiCore<A> {
         put_found(found.map(open_in_c), item)
     }
 
-    /// The items open on an interface, in the order in which they were made, in the front of a buffer. The
-    /// variable `count` is given how many there are.
+    /// The items open on an interface, in the order in which they were made, in the front of a buffer. The variable
+    /// `count` receives how many there are.
     ///
-    /// NOT_FOUND: the handle is not live, or lacks the GUID. BUFFER_TOO_SMALL: the buffer has no room for
-    /// all of them, and is left; the variable is given how many there are.
+    /// NOT_FOUND: the handle is not live, or lacks the GUID. BUFFER_TOO_SMALL: the buffer has no room for all of them,
+    /// and is left; the variable receives how many there are.
     pub fn open_items(
         &self,
         handle: u64,
@@ -151,7 +151,7 @@ fn put_found<T: Copy>(found: Option<T>, place: &mut T) -> u64
     }
 }
 
-/// Lays all of a list into the front of a buffer that has room for them, and puts into a variable how many they are.
+/// Copies all of a list into the front of a buffer that has room for them, and puts into a variable how many they are.
 pub(crate) fn fill<T: Copy>(items: &[T], buffer: &mut [T], count: &mut u64) -> u64
     ensures { FillsWith items.now result buffer.old count.new buffer.new }
 {

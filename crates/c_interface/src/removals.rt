@@ -9,7 +9,7 @@ use std::alloc::Allocator;
 use uuid::Uuid;
 
 impl<A: Allocator + Copy> EfiCore<A> {
-    /// UninstallMultipleProtocolInterfaces. A list that is too long is refused by its first interfaces.
+    /// UninstallMultipleProtocolInterfaces. Of a list that is too long only the first interfaces are looked at.
     pub fn uninstall_multiple(&mut self, handle: u64, interfaces: &[Interface]) -> u64
         ensures { UninstallsAll self.old handle interfaces.now result self.new }
     {

@@ -1,4 +1,4 @@
-//! What a caller in C stops that stops drivers itself. None is a call.
+//! What to stop, for a caller in C that stops drivers itself. None is a call.
 ghost use Rattle.std.specs.Prelude.{◌≡◌, map};
 ghost use Rattle.c_interface.specs.Buffers.{laid};
 ghost use Rattle.c_interface.specs.Questions.{FillsWith};
@@ -12,8 +12,8 @@ use page_ranges::Status;
 use std::alloc::Allocator;
 
 impl<A: Allocator + Copy> EfiCore<A> {
-    /// The drivers to be stopped, in order, before an interface can be opened exclusively, taken out or
-    /// replaced, in the front of a buffer. The variable `count` is given how many they are.
+    /// The drivers to be stopped, in order, before an interface can be opened exclusively, uninstalled or reinstalled,
+    /// in the front of a buffer. The variable `count` receives how many they are.
     ///
     /// BUFFER_TOO_SMALL: the buffer has no room for all of them, and is left. OUT_OF_RESOURCES: memory ran
     /// out, and the variable is left too.
@@ -64,8 +64,8 @@ impl<A: Allocator + Copy> EfiCore<A> {
     }
 }
 
-/// Lays all of some pairs into the front of a buffer that has room for them, and puts into a variable how many
-/// they are.
+/// Copies all of some pairs into the front of a buffer that has room for them, and puts into a variable how many they
+/// are.
 fn fill_stops(pairs: &[(u64, u64)], buffer: &mut [StopEntry], count: &mut u64) -> u64
     ensures { FillsWith (map stop_in_c pairs.now) result buffer.old count.new buffer.new }
 {
@@ -77,7 +77,7 @@ fn fill_stops(pairs: &[(u64, u64)], buffer: &mut [StopEntry], count: &mut u64) -
     Status::Success.number()
 }
 
-/// Lays pairs into the front of a buffer, as many as it has room for.
+/// Copies pairs into the front of a buffer, as many as it has room for.
 fn lay_stops(buffer: &mut [StopEntry], pairs: &[(u64, u64)])
     ensures { buffer.new ≡ laid (map stop_in_c pairs.now) buffer.old }
 {

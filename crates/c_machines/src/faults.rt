@@ -1,7 +1,7 @@
-//! What can be wrong with what a caller in C hands in.
+//! What can be wrong with what a caller in C passes.
 use std::alloc::{AllocError, AllocFailed};
 
-/// Why what a caller in C hands in describes no machine or no drivers.
+/// Why what a caller in C passes describes no machine or no drivers.
 #[derive(Clone, Copy, Debug, PartialEq, Eq)]
 pub enum MachineFault {
     /// The records describe no machine, or a count in a table is above the length of its array.

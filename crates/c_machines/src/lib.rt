@@ -1,4 +1,4 @@
-//! What a caller in C hands in to make a core, and what it means.
+//! What a caller in C passes to make a core, and what it means.
 #![tactic(auto)]
 
 mod drivers;

@@ -1,4 +1,4 @@
-//! Records of 48 bytes, each of which spells an entry of a memory map.
+//! Records of 48 bytes, each of which encodes an entry of a memory map.
 ghost use Rattle.std.specs.Prelude.{◌≡◌, ◌<◌, ◌≤◌, ◌*◌, ◌++◌, length, drop, IfOk};
 ghost use Rattle.std.specs.Option.{option_map};
 ghost use Rattle.page_ranges.specs.MemoryTypes.{page_count, page_size};

@@ -1,4 +1,4 @@
-//! Placing pages on a memory map that a caller in C hands in.
+//! Placing pages on a memory map that a caller in C passes.
 ghost use Rattle.map_placement.specs.Places.{FindsPlace, PlacesPages};
 
 use boot_machines::Machine;
@@ -18,8 +18,8 @@ const ALLOCATE_MAX_ADDRESS: u32 = 1;
 /// that may belong to them. The address of the first page is put into the variable `address`, which a refusal
 /// leaves as it is.
 ///
-/// The status is a number of EFI_STATUS. INVALID_PARAMETER: the records state no machine, or a type that no
-/// request may name, or no pages. OUT_OF_RESOURCES: no place is permitted, or memory ran out.
+/// The status is a number of EFI_STATUS. INVALID_PARAMETER: the records describe no machine, or a type that no request
+/// may name, or no pages. OUT_OF_RESOURCES: no place is permitted, or memory ran out.
 pub fn place<A: Allocator + Copy>(
     alloc: A,
     records: &[u8],

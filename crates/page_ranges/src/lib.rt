@@ -1,4 +1,4 @@
-//! Pages, memory types, owners and attributes: the words in which a memory is spoken of.
+//! Pages, memory types, owners and attributes: the terms that describe a memory.
 #![tactic(auto)]
 
 mod addresses;

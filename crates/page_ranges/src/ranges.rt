@@ -8,7 +8,7 @@ pub struct PageRange {
     pub pages: u64,
 }
 
-/// Whose pages are.
+/// Who placed a page.
 #[derive(Clone, Copy, Debug, Default, PartialEq, Eq)]
 pub enum Owner {
     /// The machine's own, and every conventional page.

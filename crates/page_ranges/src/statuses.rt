@@ -1,4 +1,4 @@
-//! The statuses that services answer.
+//! The statuses that services return.
 ghost use Rattle.std.specs.Prelude.{◌≡◌, Some};
 ghost use Rattle.page_ranges.specs.Statuses.{name_of, status_number};
 
@@ -7,7 +7,7 @@ use std::fmt;
 /// The bit that an error's number has.
 const ERROR_BIT: u64 = 1 << 63;
 
-/// A status of the services (EFI_STATUS), as far as these services answer it.
+/// A status of the services (EFI_STATUS), as far as these services return it.
 #[derive(Clone, Copy, Debug, PartialEq, Eq)]
 pub enum Status {
     Success,

@@ -6,11 +6,11 @@ use c_interface::check_block;
 use map_placement::place;
 use region_heap::{Region, RegionHeap};
 
-/// Finds the best place for pages of a type on the memory that EFI_MEMORY_DESCRIPTORs state, up to the byte at
-/// the address `limit`. The variable `address` is given the address of the first page; a refusal leaves it. The
-/// region is the caller's again afterwards.
+/// Finds the best place for pages of a type on the memory that EFI_MEMORY_DESCRIPTORs describe, up to the byte at the
+/// address `limit`. The variable `address` receives the address of the first page; a refusal leaves it. The region is
+/// the caller's again afterwards.
 ///
-/// INVALID_PARAMETER: the records state no machine, a memory type that may not be asked for, or no pages.
+/// INVALID_PARAMETER: the records describe no machine, a memory type that no request may name, or no pages.
 /// OUT_OF_RESOURCES: there is no place, or the region is too small.
 #[unsafe(no_mangle)]
 pub extern "C" fn RafkudinPlaceInRegion(
@@ -41,8 +41,8 @@ pub extern "C" fn RafkudinPlaceInRegion(
 
 /// Judges a certificate block: SUCCESS if it is accepted. The region is the caller's again afterwards.
 ///
-/// ACCESS_DENIED: it is refused. INVALID_PARAMETER: it is no block; the variable `line` is given its first line
-/// that is wrong or missing. OUT_OF_RESOURCES: the region is too small.
+/// ACCESS_DENIED: it is refused. INVALID_PARAMETER: it is no block; the variable `line` receives its first line that is
+/// wrong or missing. OUT_OF_RESOURCES: the region is too small.
 #[unsafe(no_mangle)]
 pub extern "C" fn RafkudinCheckInRegion(region: Region, text: &[u8], line: &mut u64) -> u64
     ensures { ChecksBlock text.now line.old result line.new }

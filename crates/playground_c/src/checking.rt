@@ -6,8 +6,8 @@ use region_heap::{Region, RegionHeap};
 
 /// Judges a certificate block: SUCCESS if it is accepted. The region is the caller's again afterwards.
 ///
-/// ACCESS_DENIED: it is refused. INVALID_PARAMETER: it is no block; the variable `line` is given its first line
-/// that is wrong or missing. OUT_OF_RESOURCES: the region is too small.
+/// ACCESS_DENIED: it is refused. INVALID_PARAMETER: it is no block; the variable `line` receives its first line that is
+/// wrong or missing. OUT_OF_RESOURCES: the region is too small.
 #[unsafe(no_mangle)]
 pub extern "C" fn PlaygroundCheck(region: Region, text: &[u8], line: &mut u64) -> u64
     ensures { ChecksBlock text.now line.old result line.new }

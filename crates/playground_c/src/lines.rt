@@ -17,9 +17,10 @@ pub extern "C" fn PlaygroundRunLine(core: &mut Rafkudin, number: u64, line: &[u8
     core.held().run_line(number, line)
 }
 
-/// What the last line printed, in the front of `text`; the variable `length` is given its bytes.
+/// What the last line printed, in the front of `text`; the variable `length` receives its number of
+/// bytes.
 ///
-/// NOT_FOUND: there is nothing. BUFFER_TOO_SMALL: the variable is given the bytes that are needed.
+/// NOT_FOUND: there is nothing. BUFFER_TOO_SMALL: the variable receives the number of bytes needed.
 /// OUT_OF_RESOURCES: memory ran out for it.
 #[unsafe(no_mangle)]
 pub extern "C" fn PlaygroundText(core: &mut Rafkudin, text: &mut [u8], length: &mut u64) -> u64

@@ -1,4 +1,4 @@
-//! Cores made.
+//! Making cores.
 ghost use Rattle.std.specs.Prelude.{◌≡◌, ◌<◌, ◌⊎◌, Ok, Err, MatchOption};
 ghost use Rattle.page_ranges.specs.Statuses.{status_number};
 ghost use Rattle.page_ranges.specs.declared.statuses.Status.TheVariants.{Success, OutOfResources};
@@ -14,8 +14,8 @@ use region_heap::{Region, RegionHeap};
 /// Makes a core of EFI_MEMORY_DESCRIPTORs, a granule of 1 or 16 pages and up to 64 drivers, and puts its
 /// pointer into the variable `core`, which a refusal leaves as it is. All that the core allocates lies in the region.
 ///
-/// INVALID_PARAMETER: the records state no machine, or the tables are none of drivers. OUT_OF_RESOURCES:
-/// the region is too small.
+/// INVALID_PARAMETER: the records describe no machine, or the tables describe no drivers. OUT_OF_RESOURCES: the region
+/// is too small.
 #[unsafe(no_mangle)]
 pub extern "C" fn PlaygroundMake(
     region: Region,

@@ -134,7 +134,7 @@ impl<A: Allocator + Copy> PoolExtent<A> {
         self.live == 1
     }
 
-    /// Takes the lowest run of free cells that has room for a block, and answers its first cell.
+    /// Takes the lowest run of free cells that has room for a block, and returns its first cell.
     pub(crate) fn take(&mut self, size: usize) -> Option<usize>
         requires { IsExtent self.old }
         ensures cell { result ≡ lowest_fit (cells_in self.old.pages)

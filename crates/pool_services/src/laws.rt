@@ -25,12 +25,12 @@ pub fn written_keeps_pool_law()
     ensures { WrittenKeepsPoolLaw }
 {}
 
-/// A read gives the bytes at its addresses.
+/// A read returns the bytes at its addresses.
 pub fn read_bytes_law()
     ensures { ReadBytesLaw }
 {}
 
-/// A write lays its bytes at its addresses, and changes no other byte of any block.
+/// A write puts its bytes at its addresses, and changes no other byte of any block.
 pub fn written_bytes_law()
     ensures { WrittenBytesLaw }
 {}

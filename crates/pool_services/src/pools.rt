@@ -19,7 +19,7 @@ use raw_pool::RawPool;
 use std::alloc::{Allocator, Global};
 use std::marker::Model;
 
-/// Whether a block may have a number of bytes.
+/// The most bytes of a block.
 const MAX_SIZE: u64 = 0x1_0000_0000;
 
 /// The request on a machine with a granule for the pages of a new extent of the type `mtype` for a block
@@ -36,8 +36,8 @@ pub fn extent_request(granule: u64, mtype: MemoryType, size: u64) -> Option<Requ
 
 /// The pool of a machine: its extents, in the order of their addresses, and the blocks in them.
 ///
-/// The calls that are handed the machine's book ask that the pages of the pool in it are the pages
-/// of these extents, and keep it so.
+/// Calls that take the machine's book require that the pages of the pool in it are those of these
+/// extents, and keep it so.
 #[derive(Drop)]
 pub struct Pools<A: Allocator = Global> {
     alloc: A,
@@ -70,10 +70,10 @@ impl<A: Allocator + Copy> Pools<A> {
         }
     }
 
-    /// AllocatePool: a block of a number of bytes, all 0, of the type `mtype`. Of the extents of the type it
-    /// goes into the lowest that has room, at the lowest place there. If none has, new pages are
-    /// placed for it, which fill granules of the type on the book's machine, and the answer has the
-    /// certificate of their place beside the block's address, where the book returns certificates.
+    /// AllocatePool: a block of a number of bytes, all 0, of the type `mtype`. Of the extents of the type it goes into
+    /// the lowest that has room, at the lowest place there. If none has, new pages are placed for it, which fill
+    /// granules of the type on the book's machine, and the result has the certificate of their place beside the block's
+    /// address, where the book returns certificates.
     ///
     /// INVALID_PARAMETER: a type that no request may name. OUT_OF_RESOURCES: more than 2^32 bytes; or
     /// new pages are needed, and no place is permitted or memory ran out. On an `Err` all is as it was.
@@ -100,10 +100,10 @@ impl<A: Allocator + Copy> Pools<A> {
         }
     }
 
-    /// AllocatePool for a block as long as some bytes, which it then holds. It goes where `allocate`
-    /// puts a block of a number of bytes, and the answer has the same parts.
+    /// AllocatePool for a block as long as some bytes, which it then holds. It goes where `allocate` puts a block of a
+    /// number of bytes, and the result has the same parts.
     ///
-    /// INVALID_PARAMETER, OUT_OF_RESOURCES: as `allocate` answers. On an `Err` all is as it was.
+    /// INVALID_PARAMETER, OUT_OF_RESOURCES: as `allocate` returns. On an `Err` all is as it was.
     pub fn allocate_filled(
         &mut self,
         book: &mut PageBook<A>,

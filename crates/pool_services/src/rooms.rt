@@ -87,8 +87,8 @@ fn most_in_class(rooms: &[Room], start: usize, end: usize, class: usize) -> u32
     most
 }
 
-/// The first room of the stretch that begins at an index that serves. A bound that led to a search in
-/// vain becomes as low as it can be.
+/// The first room of the stretch that begins at an index that serves. A bound by which a search found nothing becomes
+/// as low as it can be.
 #[inline(always)]
 fn first_in_stretch<A: Allocator>(
     rooms: &[Room],
@@ -120,8 +120,8 @@ fn first_in_stretch<A: Allocator>(
     None
 }
 
-/// The first room of a type that has a number of cells. Bounds that led to a search in vain become as low
-/// as they can be.
+/// The first room of a type that has a number of cells. Bounds by which a search found nothing become as low as they
+/// can be.
 fn first_room<A: Allocator>(
     rooms: &[Room],
     bounds: &mut Vec<u32, A>,

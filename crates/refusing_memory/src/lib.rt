@@ -4,7 +4,7 @@
 use std::alloc::{AllocError, Allocator};
 use std::cell::Cell;
 
-/// Hands on each request to another allocator, but for those that it refuses: one, or all from one on.
+/// Passes each request to another allocator, but for those that it refuses: one, or all from one on.
 pub struct Refusing<B: Allocator> {
     inner: B,
     // Twice the number of allocations up to the one that is refused, and 1 more where all after it are too.

@@ -1,4 +1,4 @@
-//! Cores made.
+//! Making cores.
 ghost use Rattle.std.specs.Prelude.{◌≡◌, IfSome, MatchOption};
 ghost use Rattle.region_cores.specs.MadeCores.{MakesPlace};
 
@@ -13,7 +13,7 @@ use region_heap::{Region, RegionHeap};
 /// The pointer to a core that is made of EFI_MEMORY_DESCRIPTORs, a granule of 1 or 16 pages and up to 64 drivers. All
 /// that it allocates, now and in its calls, lies in the region.
 ///
-/// The error is a number of EFI_STATUS. INVALID_PARAMETER: the records state no machine, or the tables are none of
+/// The error is a number of EFI_STATUS. INVALID_PARAMETER: the records describe no machine, or the tables describe no
 /// drivers. OUT_OF_RESOURCES: the region is too small.
 pub fn make_in(
     region: Region,

@@ -1,4 +1,4 @@
-//! A heap in a region of memory that its maker hands over.
+//! A heap in a region of memory that its maker passes.
 #![tactic(auto)]
 
 mod cells;

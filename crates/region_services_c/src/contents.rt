@@ -70,8 +70,7 @@ pub extern "C" fn RafkudinHolder(
     core.held().holder(guid, index, handle)
 }
 
-/// All live handles, by ascending number, in the front of a buffer. The variable `count` is given how many there
-/// are.
+/// All live handles, by ascending number, in the front of a buffer. The variable `count` receives how many there are.
 ///
 /// BUFFER_TOO_SMALL: the buffer has no room for all of them, and is left.
 #[unsafe(no_mangle)]
@@ -154,11 +153,11 @@ pub extern "C" fn RafkudinAgentItem(
     core.held().agent_item(agent, index, item)
 }
 
-/// What OpenProtocolInformation lists, in a buffer of the caller's. The variable `count` is given how many
-/// items there are.
+/// What OpenProtocolInformation lists, in a buffer of the caller's. The variable `count` receives how many items there
+/// are.
 ///
-/// NOT_FOUND: the handle is not live, or lacks the GUID. BUFFER_TOO_SMALL: the buffer has no room for all of
-/// them, and is left; the variable is given how many there are.
+/// NOT_FOUND: the handle is not live, or lacks the GUID. BUFFER_TOO_SMALL: the buffer has no room for all of them, and
+/// is left; the variable receives how many there are.
 #[unsafe(no_mangle)]
 pub extern "C" fn RafkudinOpenProtocolInformationInto(
     core: &mut Rafkudin,

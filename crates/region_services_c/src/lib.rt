@@ -1,4 +1,4 @@
-//! The boot services as a library for C whose cores lie in regions of memory that their callers hand over. It has the
+//! The boot services as a library for C whose cores lie in regions of memory that their callers pass. It has the
 //! functions of `boot_services_c`, but that what takes memory takes a region; it calls no heap.
 #![tactic(auto)]
 

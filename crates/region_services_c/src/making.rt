@@ -1,4 +1,4 @@
-//! Cores made.
+//! Making cores.
 ghost use Rattle.std.specs.Prelude.{◌≡◌, ◌<◌};
 ghost use Rattle.region_cores.specs.MadeCores.{Holds, Refuses};
 ghost use Rattle.region_services_c.specs.Rooms.{room_for};
@@ -25,8 +25,8 @@ const MOST: u64 = 0xffff_ffff;
 /// pointer into the variable `core`, which a refusal leaves as it is. All that the core allocates, now and in its
 /// calls, lies in the region.
 ///
-/// INVALID_PARAMETER: the records state no machine, or the tables are none of drivers. OUT_OF_RESOURCES:
-/// the region is too small.
+/// INVALID_PARAMETER: the records describe no machine, or the tables describe no drivers. OUT_OF_RESOURCES: the region
+/// is too small.
 #[unsafe(no_mangle)]
 pub extern "C" fn RafkudinMakeInRegion(
     region: Region,
@@ -52,8 +52,8 @@ pub extern "C" fn RafkudinMakeInRegion(
 }
 
 /// How many bytes of a region serve a core whose memory map has this many entries at most, on which this many handles
-/// with 8 interfaces each are live at most, and whose pool has this many pages at most. Each number is taken as no
-/// more than 2^32 - 1.
+/// with 8 interfaces each are live at most, and whose pool has this many pages at most. A number above 2^32 - 1 counts
+/// as that.
 #[unsafe(no_mangle)]
 pub extern "C" fn RafkudinRoom(entries: u64, handles: u64, pool_pages: u64) -> u64
     ensures { result ≡ room_for entries handles pool_pages }
@@ -64,6 +64,6 @@ pub extern "C" fn RafkudinRoom(entries: u64, handles: u64, pool_pages: u64) -> u
         + BYTES_FOR_PAGE * pool_pages.min(MOST)
 }
 
-/// Ends a core. There is nothing to give back: the region is its caller's again.
+/// Ends a core. It frees nothing: the region is its caller's again.
 #[unsafe(no_mangle)]
 pub extern "C" fn RafkudinFree(_core: *mut Rafkudin) {}

@@ -9,11 +9,11 @@ ghost use Rattle.c_interface.specs.Services.{AllocatesPages, AllocatesPool, Maps
 
 use region_cores::Rafkudin;
 
-/// AllocatePages, 7.2.1. The variable `memory` is given the address of the pages; before, it has the last byte
-/// that may belong to them, or their address.
+/// AllocatePages, 7.2.1. The variable `memory` receives the address of the pages; before, it has the last byte that may
+/// belong to them, or their address.
 ///
-/// INVALID_PARAMETER: another kind, a memory type that may not be asked for, or no pages. NOT_FOUND: the
-/// pages at the address are not free. OUT_OF_RESOURCES: there is no place.
+/// INVALID_PARAMETER: another kind, a memory type that no request may name, or no pages. NOT_FOUND: the pages at the
+/// address are not free. OUT_OF_RESOURCES: there is no place.
 #[unsafe(no_mangle)]
 pub extern "C" fn RafkudinAllocatePages(
     core: &mut Rafkudin,
@@ -39,10 +39,10 @@ pub extern "C" fn RafkudinFreePages(core: &mut Rafkudin, memory: u64, pages: u64
     core.held().free_pages(memory, pages)
 }
 
-/// GetMemoryMap, 7.2.3, with a buffer and its room. The variables are given the bytes that the map takes, its
-/// key, and the size and the version of its descriptors.
+/// GetMemoryMap, 7.2.3, with a buffer and its room. The variables receive the bytes that the map takes, its key, and
+/// the size and the version of its descriptors.
 ///
-/// BUFFER_TOO_SMALL: the variables are given theirs too, but for the key.
+/// BUFFER_TOO_SMALL: the variables receive theirs too, but for the key.
 #[unsafe(no_mangle)]
 pub extern "C" fn RafkudinGetMemoryMapInto(
     core: &mut Rafkudin,
@@ -58,10 +58,10 @@ pub extern "C" fn RafkudinGetMemoryMapInto(
     core.held().get_memory_map(map, size, key, stride, version)
 }
 
-/// AllocatePool, 7.2.4. The variable `buffer` is given the block's address.
+/// AllocatePool, 7.2.4. The variable `buffer` receives the block's address.
 ///
-/// INVALID_PARAMETER: a memory type that may not be asked for. OUT_OF_RESOURCES: the size is above
-/// 4 GiB, or there is no place.
+/// INVALID_PARAMETER: a memory type that no request may name. OUT_OF_RESOURCES: the size is above 4
+/// GiB, or there is no place.
 #[unsafe(no_mangle)]
 pub extern "C" fn RafkudinAllocatePool(
     core: &mut Rafkudin,
@@ -104,7 +104,7 @@ pub extern "C" fn RafkudinPoolWrite(core: &mut Rafkudin, address: u64, bytes: &[
     core.held().pool_write(address, bytes)
 }
 
-/// ExitBootServices, 7.4.6. The image's handle plays no part.
+/// ExitBootServices, 7.4.6. The image's handle is ignored.
 ///
 /// INVALID_PARAMETER: the key is not that of the memory map.
 #[unsafe(no_mangle)]

@@ -6,8 +6,8 @@ ghost use Rattle.c_machines.specs.Guids.{guid_in};
 use c_machines::Guid;
 use region_cores::Rafkudin;
 
-/// LocateDevicePath, 7.3.8, with a path in the caller's memory. The variable `matched` is given how many bytes
-/// of the path's nodes match, the variable `device` the handle.
+/// LocateDevicePath, 7.3.8, with a path in the caller's memory. The variable `matched` receives how many bytes of the
+/// path's nodes match, the variable `device` the handle.
 ///
 /// INVALID_PARAMETER: the bytes begin with no device path. NOT_FOUND: no handle matches.
 #[unsafe(no_mangle)]
@@ -24,9 +24,9 @@ pub extern "C" fn RafkudinLocatePath(
     core.held().locate_path(guid, path, device, matched)
 }
 
-/// Copies a device path that is in the caller's memory to a block of the pool, and installs the block's address
-/// by InstallMultipleProtocolInterfaces, 7.3.17. The variable `handle` has the handle, 0 for a new one, and
-/// is given it; the variable `address` is given the block's address.
+/// Copies a device path that is in the caller's memory to a block of the pool, and installs the block's address by
+/// InstallMultipleProtocolInterfaces, 7.3.17. The variable `handle` has the handle, 0 for a new one, and receives it;
+/// the variable `address` receives the block's address.
 ///
 /// INVALID_PARAMETER: the bytes begin with no device path. Otherwise as AllocatePool and
 /// InstallMultipleProtocolInterfaces; where that is refused the block is given back.

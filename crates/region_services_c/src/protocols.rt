@@ -10,7 +10,7 @@ ghost use Rattle.c_interface.specs.Services.{Installs, InstallsAll, Uninstalls, 
 use c_machines::{Guid, Interface};
 use region_cores::Rafkudin;
 
-/// InstallProtocolInterface, 7.3.2. The variable `handle` has the handle, 0 for a new one, and is given it.
+/// InstallProtocolInterface, 7.3.2. The variable `handle` has the handle, 0 for a new one, and receives it.
 ///
 /// INVALID_PARAMETER: another kind than 0, a handle that is not live, or the GUID is on it already.
 /// OUT_OF_RESOURCES: 4,096 handles are live.
@@ -64,7 +64,7 @@ pub extern "C" fn RafkudinReinstallProtocolInterface(
         .reinstall_protocol_interface(handle, guid, old_value, new_value)
 }
 
-/// RegisterProtocolNotify, 7.3.5. The variable `key` is given the registration's key.
+/// RegisterProtocolNotify, 7.3.5. The variable `key` receives the registration's key.
 #[unsafe(no_mangle)]
 pub extern "C" fn RafkudinRegisterProtocolNotify(
     core: &mut Rafkudin,
@@ -77,11 +77,10 @@ pub extern "C" fn RafkudinRegisterProtocolNotify(
     core.held().register_protocol_notify(guid, event, key)
 }
 
-/// LocateHandle, 7.3.6, with a buffer for handles. The variable `needed` is given the bytes that all that match
-/// take.
+/// LocateHandle, 7.3.6, with a buffer for handles. The variable `needed` receives the bytes that all that match take.
 ///
-/// INVALID_PARAMETER: another search, or a key that was never given. NOT_FOUND: nothing matches.
-/// BUFFER_TOO_SMALL: the variable is given them too.
+/// INVALID_PARAMETER: another search, or a key of no registration. NOT_FOUND: nothing matches. BUFFER_TOO_SMALL: the
+/// variable receives them too.
 #[unsafe(no_mangle)]
 pub extern "C" fn RafkudinLocateHandleInto(
     core: &mut Rafkudin,
@@ -97,7 +96,7 @@ pub extern "C" fn RafkudinLocateHandleInto(
     core.held().locate_handle(search, guid, key, needed, buffer)
 }
 
-/// HandleProtocol, 7.3.7. The variable `value` is given the interface's value, and 0 with UNSUPPORTED.
+/// HandleProtocol, 7.3.7. The variable `value` receives the interface's value, and 0 with UNSUPPORTED.
 ///
 /// INVALID_PARAMETER: the handle is not live. UNSUPPORTED: the GUID is not on it.
 #[unsafe(no_mangle)]
@@ -113,8 +112,8 @@ pub extern "C" fn RafkudinHandleProtocol(
     core.held().handle_giving(handle, guid, value)
 }
 
-/// LocateDevicePath, 7.3.8. The variable `path` has the path's address in the pool, and is given the address
-/// behind the nodes that matched; the variable `device` is given the handle.
+/// LocateDevicePath, 7.3.8. The variable `path` has the path's address in the pool, and receives the address behind the
+/// nodes that matched; the variable `device` receives the handle.
 ///
 /// INVALID_PARAMETER: no device path is at the address. NOT_FOUND: no handle matches.
 #[unsafe(no_mangle)]
@@ -131,7 +130,7 @@ pub extern "C" fn RafkudinLocateDevicePath(
     core.held().locate_device_path(guid, path, device)
 }
 
-/// OpenProtocol, 7.3.9. The variable `value` is given the interface's value, also with ALREADY_STARTED, and 0 with
+/// OpenProtocol, 7.3.9. The variable `value` receives the interface's value, also with ALREADY_STARTED, and 0 with
 /// UNSUPPORTED; TEST_PROTOCOL leaves it.
 ///
 /// INVALID_PARAMETER: a handle that is not live, or other attributes. UNSUPPORTED: the GUID is not on the
@@ -171,8 +170,8 @@ pub extern "C" fn RafkudinCloseProtocol(
     core.held().close_protocol(handle, guid, agent, controller)
 }
 
-/// OpenProtocolInformation, 7.3.11. The variables are given the address of the block of the pool that has the
-/// open items, and how many they are.
+/// OpenProtocolInformation, 7.3.11. The variables receive the address of the block of the pool that has the open items,
+/// and how many they are.
 ///
 /// NOT_FOUND: the handle is not live, or the GUID is not on it. OUT_OF_RESOURCES: there is no place.
 #[unsafe(no_mangle)]
@@ -215,10 +214,10 @@ pub extern "C" fn RafkudinDisconnectDrivers(core: &mut Rafkudin, handle: u64, dr
     core.held().disconnect_controller(handle, driver)
 }
 
-/// ProtocolsPerHandle, 7.3.14, with a buffer for the GUIDs. The variable `count` is given how many there are.
+/// ProtocolsPerHandle, 7.3.14, with a buffer for the GUIDs. The variable `count` receives how many there are.
 ///
 /// INVALID_PARAMETER: the handle is not live. BUFFER_TOO_SMALL: there are more than the buffer has room for; the
-/// variable is given how many, and the buffer is left.
+/// variable receives how many, and the buffer is left.
 #[unsafe(no_mangle)]
 pub extern "C" fn RafkudinProtocolsPerHandle(
     core: &mut Rafkudin,
@@ -232,8 +231,8 @@ pub extern "C" fn RafkudinProtocolsPerHandle(
     core.held().protocols_per_handle(handle, buffer, count)
 }
 
-/// LocateHandleBuffer, 7.3.15. The variables are given how many handles there are, and the address of their
-/// block of the pool.
+/// LocateHandleBuffer, 7.3.15. The variables receive how many handles there are, and the address of their block of the
+/// pool.
 ///
 /// As LocateHandle, without BUFFER_TOO_SMALL. OUT_OF_RESOURCES: there is no place.
 #[unsafe(no_mangle)]
@@ -252,9 +251,9 @@ pub extern "C" fn RafkudinLocateHandleBuffer(
         .locate_handle_buffer(search, guid, key, count, buffer)
 }
 
-/// LocateProtocol, 7.3.16. The variable `value` is given the interface's value.
+/// LocateProtocol, 7.3.16. The variable `value` receives the interface's value.
 ///
-/// INVALID_PARAMETER: a key that was never given, or for another GUID. NOT_FOUND: nothing matches.
+/// INVALID_PARAMETER: a key of no registration, or for another GUID. NOT_FOUND: nothing matches.
 #[unsafe(no_mangle)]
 pub extern "C" fn RafkudinLocateProtocol(
     core: &mut Rafkudin,
@@ -267,8 +266,7 @@ pub extern "C" fn RafkudinLocateProtocol(
     core.held().locate_protocol(guid, key, value)
 }
 
-/// InstallMultipleProtocolInterfaces, 7.3.17. The variable `handle` has the handle, 0 for a new one, and is
-/// given it.
+/// InstallMultipleProtocolInterfaces, 7.3.17. The variable `handle` has the handle, 0 for a new one, and receives it.
 ///
 /// INVALID_PARAMETER: no interfaces or more than 16, a handle that is not live, or a GUID that is on it
 /// already or is there twice. ALREADY_STARTED: a live handle has this device path. OUT_OF_RESOURCES: 4,096
@@ -284,7 +282,8 @@ pub extern "C" fn RafkudinInstallMultipleProtocolInterfaces(
     core.held().install_multiple(handle, interfaces)
 }
 
-/// UninstallMultipleProtocolInterfaces, 7.3.18: all of some interfaces of a handle go, one after the other, or none.
+/// UninstallMultipleProtocolInterfaces, 7.3.18: uninstalls interfaces of a handle one after the other: all of them, or
+/// none.
 ///
 /// INVALID_PARAMETER: there are more than 16, or UninstallProtocolInterface would refuse one of them at its turn.
 #[unsafe(no_mangle)]
