@@ -20,7 +20,7 @@
  *
  * NULL. A null pointer in the place of the core, of a GUID, of a call, of a reply or of a result is
  * INVALID_PARAMETER, and uses up no call, unless it is said that it may be null. Beside a count or
- * a size of 0 the pointer may be null. rafkudin_null.h, which this header includes, looks for null
+ * a size of 0 the pointer may be null. rafkudin_null.h, which this header includes, checks for null
  * pointers in inline functions and then calls the library; with RAFKUDIN_NO_NULL_CHECKS it does
  * not, and then no pointer may be null.
  *
@@ -41,7 +41,7 @@
  * NOT_FOUND of ConnectController; DEVICE_ERROR of DisconnectController; INVALID_PARAMETER of
  * UninstallMultipleProtocolInterfaces with up to 16 interfaces.
  *
- * WHAT THE CALLER OWES. Nothing checks it, and the proofs hold only where it holds:
+ * WHAT THE CALLER MUST DO. Nothing checks it, and the proofs hold only where it holds:
  * - `core` is a pointer that RafkudinMake set, and RafkudinFree has not been called with it.
  * - Each pointer is null or aligned for its type.
  * - A buffer has the room, and an array the entries, that the parameter beside it states. What is
@@ -61,8 +61,8 @@
  *     struct block rattle_realloc(void *start, size_t kept, size_t size, size_t align);
  *     void rattle_dealloc(void *start);
  *
- * docs/C.md says what these owe, how to link, and how a firmware builds the library. On x86-64 it
- * runs on every processor and may be interrupted anywhere, as it uses no byte below the stack
+ * docs/C.md says what these must do, how to link, and how a firmware builds the library. On x86-64
+ * it runs on every processor and may be interrupted anywhere, as it uses no byte below the stack
  * pointer. ReinstallProtocolInterface and ConnectController take up to 36 KB of stack, RafkudinMake
  * 28 KB; docs/C.md says what was measured of others. */
 #ifndef RAFKUDIN_H
@@ -223,7 +223,7 @@ struct rafkudin_block {
     uint32_t type; /* EFI_MEMORY_TYPE */
 };
 
-/* Whose pages are: the machine's own or free, placed by AllocatePages, or the pool's. */
+/* Who placed pages: nobody, as they are free or came with the machine; AllocatePages; the pool. */
 #define RAFKUDIN_GIVEN 0U
 #define RAFKUDIN_PLACED 1U
 #define RAFKUDIN_POOL 2U
@@ -666,7 +666,7 @@ RAFKUDIN_API rafkudin_uint64 RafkudinLocateDevicePath(struct rafkudin *core,
 /* ---- The end of the boot services, section 7.4.6 ---- */
 
 /* Ends the boot services where `MapKey` is the current key, as GetMemoryMap returns it: each call
- * that changes the type of a page makes another. `ImageHandle` plays no part.
+ * that changes the type of a page makes another. `ImageHandle` is ignored.
  * INVALID_PARAMETER: another key. */
 RAFKUDIN_API rafkudin_uint64 RafkudinExitBootServices(struct rafkudin *core,
                                                       rafkudin_uint64 ImageHandle,
@@ -712,7 +712,7 @@ struct rafkudin_turns {
 /* Begins the turns on a controller of the `count` drivers at `drivers`, which are put in the order
  * in which they are tried: first those of the `named_count` handles at `named`, up to 16, each once
  * and in that order, then all others, the highest version first, those of one version as they came.
- * So a caller hands in all that it has, by ascending handle. A driver counts where its handle is
+ * So a caller passes all that it has, by ascending handle. A driver counts where its handle is
  * live and carries the driver binding GUID; others drop out.
  *
  * INVALID_PARAMETER: the controller is not live, or over 16 handles are named. OUT_OF_RESOURCES:
@@ -856,7 +856,7 @@ RAFKUDIN_API rafkudin_uint64 RafkudinInstallPath(struct rafkudin *core, rafkudin
 #define RAFKUDIN_CALL_EXIT_BOOT_SERVICES 24U
 
 /* A call: the number of its service, and its parameters. What a parameter leads to is as before the
- * call: a handle of 0 is a new one. The other fields play no part, and may be 0 or null (with
+ * call: a handle of 0 is a new one. The other fields are ignored, and may be 0 or null (with
  * RAFKUDIN_NO_NULL_CHECKS not null). */
 struct rafkudin_call {
     uint32_t service;
@@ -887,9 +887,9 @@ struct rafkudin_call {
 
 /* The line of a trace (docs/FORMATS.md) that asks for a call, with its line feed and without a zero
  * byte at its end. `text` has room for `room` bytes; the line is written where all of it fits. The
- * call is not made, no call is used up, and the core plays no part but for the memory that the line
- * takes in between. So a caller that writes the machine and, beside each of its calls, this line
- * has a session that the program `bootcore` can run.
+ * call is not made, and no call is used up; of the core only its heap is used, while the line is
+ * made. A caller that writes the machine and, beside each of its calls, this line has a session
+ * that the program `bootcore` can run.
  *
  * SUCCESS: *length are the bytes written. BUFFER_TOO_SMALL: *length are the bytes needed, and none
  * is written. INVALID_PARAMETER: no service has the number. NOT_FOUND: no line can ask for the

@@ -1,4 +1,4 @@
-/* Looks for null pointers before the library is called: each function here returns
+/* Checks for null pointers before the library is called: each function here returns
  * INVALID_PARAMETER where a pointer is null that may not be, as the UEFI Specification says of its
  * services, and else calls the function of its name. Beside a count of 0 a pointer may be null.
  * rafkudin.h includes this file and says what each function does; its macros make the names of

@@ -1,8 +1,8 @@
 /* Rafkudin's placement by itself: what RafkudinPlace and RafkudinCheck do, with no core and no heap.
- * The caller hands over a region of memory for the call.
+ * The caller passes a region of memory for the call.
  *
  * A program that includes this header is linked with librafkudin_place.a, beside librafkudin.a or
- * without it. That library wants memcpy, memmove and memset and nothing else.
+ * without it. That library needs memcpy, memmove and memset and nothing else.
  *
  * A region is any memory, from any address on, that the library alone reads and writes while the
  * call runs. Its bytes need no value, and it is the caller's again when the call returns. It must

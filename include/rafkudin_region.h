@@ -1,10 +1,10 @@
-/* Rafkudin in a region: cores all of whose memory is a region that their caller hands over, as a
- * firmware's part that calls no heap.
+/* Rafkudin in a region: cores all of whose memory is a region that their caller passes, for a part
+ * of a firmware that calls no heap.
  *
  * A program that includes this header is linked with librafkudin_region.a in the place of
  * librafkudin.a. That library has the functions of rafkudin.h but RafkudinMake, in whose place
  * RafkudinMakeIn takes a region, and RafkudinPlace and RafkudinCheck, for which rafkudin_place.h has
- * others. It wants memcpy, memmove and memset and nothing else, and two cores share nothing.
+ * others. It needs memcpy, memmove and memset and nothing else, and two cores share nothing.
  * docs/C.md says how it is linked.
  *
  * A region is any memory, from any address on, that the library alone reads and writes while the
@@ -26,7 +26,7 @@ RAFKUDIN_API rafkudin_uint64 RafkudinMakeInRegion(
 
 /* How many bytes of a region serve a core whose memory map never has more than `entries` entries,
  * on which no more than `handles` handles with 8 interfaces each are live, and whose pool has no
- * more than `pool_pages` pages. Each number is taken as no more than 2^32 - 1. That it serves is
+ * more than `pool_pages` pages. A number above 2^32 - 1 counts as that. That it serves is
  * measured and not proved. */
 RAFKUDIN_API rafkudin_uint64 RafkudinRoom(rafkudin_uint64 entries, rafkudin_uint64 handles,
                                           rafkudin_uint64 pool_pages);
