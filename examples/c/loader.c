@@ -98,7 +98,7 @@ static void look_at_map(const struct map *map)
             is_told |= map->address / PAGE + map->pages <= end;
     }
     if (!is_told)
-        fail("the map does not tell the pages at 0x%" PRIx64, map->address);
+        fail("the map does not list the pages at 0x%" PRIx64, map->address);
     printf("%" PRIu64 " pages are free.\n", free_pages);
 }
 

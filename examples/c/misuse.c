@@ -124,7 +124,7 @@ static void try_trace_line(struct rafkudin *core)
     REFUSED(RafkudinTraceLine(core, &call, text, 12, &length));
 }
 
-/* Each null pointer of the replies that the caller hands in. */
+/* Each null pointer of the replies that the caller passes. */
 static void try_reply_lines(struct rafkudin *core)
 {
     struct rafkudin_map_reply map = {.number = 1, .status = RAFKUDIN_UNSUPPORTED};

@@ -92,7 +92,7 @@ static void reply_free_pages(struct run *run, const struct call *call)
     print_status(run, RafkudinFreePages(run->core, call->numbers[0], call->numbers[1]));
 }
 
-/* What the library prints of a reply that the caller hands in, which ends with a line feed, must be
+/* What the library prints of a reply that the caller passes, which ends with a line feed, must be
  * what is appended of the call. */
 static void compare_printed(const struct run *run, uint64_t status, const uint8_t *text,
                             uint64_t length)

@@ -51,7 +51,7 @@ class Json {
     return true;
   }
 
-  wants(character) {
+  expect(character) {
     if (!this.takes(character)) this.fail();
   }
 
@@ -86,7 +86,7 @@ class Json {
     const items = [];
     if (this.takes("]")) return items;
     do items.push(this.value(depth)); while (this.takes(","));
-    this.wants("]");
+    this.expect("]");
     return items;
   }
 
@@ -95,10 +95,10 @@ class Json {
     if (this.takes("}")) return members;
     do {
       const key = this.string();
-      this.wants(":");
+      this.expect(":");
       members.set(key, this.value(depth));
     } while (this.takes(","));
-    this.wants("}");
+    this.expect("}");
     return members;
   }
 

@@ -13,7 +13,7 @@ import { WhereView } from "./where_view.js";
 const SLICE = 40;
 const PAUSE = 300;
 const OWN = "own";
-const TELL_BROWSERS = "This page needs WebAssembly with a memory of 64 bits (memory64): Chromium and the browsers built on it have it from version 133 on, Firefox from 134 on.";
+const NEEDED_BROWSERS = "This page needs WebAssembly with a memory of 64 bits (memory64): Chromium and the browsers built on it have it from version 133 on, Firefox from 134 on.";
 const $ = (id) => document.getElementById(id);
 const encoder = new TextEncoder();
 
@@ -305,7 +305,7 @@ matchMedia("(prefers-color-scheme: dark)").addEventListener("change", () => wind
 
 // ---- Start
 
-function tell(words) {
+function announce(words) {
   $("notice").textContent = words;
   $("notice").hidden = false;
 }
@@ -319,7 +319,7 @@ async function tellWhatRuns(module) {
 
 async function begin() {
   if (!runsHere()) {
-    tell(TELL_BROWSERS);
+    announce(NEEDED_BROWSERS);
     return;
   }
   const module = await Module.load("rafkudin.wasm");
@@ -331,6 +331,6 @@ async function begin() {
 }
 
 begin().catch((error) => {
-  tell(`The page cannot start: ${error.message}`);
+  announce(`The page cannot start: ${error.message}`);
   throw error;
 });

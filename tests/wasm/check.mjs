@@ -1,5 +1,5 @@
 // Cores in regions as WebAssembly, in Node.js or, by page.html, in a browser: places, maps, pool bytes and refusals.
-// Node.js 20 wants --experimental-wasm-memory64.
+// Node.js 20 needs --experimental-wasm-memory64.
 export const SUCCESS = 0n;
 export const INVALID_PARAMETER = 0x8000000000000002n;
 export const BUFFER_TOO_SMALL = 0x8000000000000005n;

@@ -1,4 +1,4 @@
--- The best place for pages on a memory map that a caller in C hands in.
+-- The best place for pages on a memory map that a caller in C passes.
 use Rattle.std.specs.Prelude.{◌≡◌, ◌⊎◌, ℕ, ◌*◌, List, Result, Ok, Err}
 use Rattle.page_ranges.specs.MemoryTypes.{page_size, pages_below}
 use Rattle.page_ranges.specs.Runs.{pages_of}

@@ -17,7 +17,7 @@ static EFI_BOOT_SERVICES *services;
 static uint64_t map[MAX_MAP_SIZE / 8];
 static unsigned failed;
 
-/* ---- What the library wants ---- */
+/* ---- What the library needs ---- */
 
 struct block {
     bool given;
