@@ -36,10 +36,11 @@
  *   GetMemoryMap, ExitBootServices, PoolRead, PoolWrite, CloseProtocol, HandleProtocol,
  *   LocateDevicePath and LocateProtocol never ask for any.
  * OUT_OF_RESOURCES may take the place of six refusals that are named before it, as the core needs
- * memory to decide them: ACCESS_DENIED of UninstallProtocolInterface, of
- * ReinstallProtocolInterface, and of an exclusive OpenProtocol for which a driver must be stopped;
- * NOT_FOUND of ConnectController; DEVICE_ERROR of DisconnectController; INVALID_PARAMETER of
- * UninstallMultipleProtocolInterfaces with up to 16 interfaces.
+ * memory to decide them:
+ * - ACCESS_DENIED of UninstallProtocolInterface, of ReinstallProtocolInterface, and of an exclusive
+ *   OpenProtocol for which a driver must be stopped;
+ * - NOT_FOUND of ConnectController, and DEVICE_ERROR of DisconnectController;
+ * - INVALID_PARAMETER of UninstallMultipleProtocolInterfaces with up to 16 interfaces.
  *
  * WHAT THE CALLER MUST DO. Nothing checks it, and the proofs hold only where it holds:
  * - `core` is a pointer that RafkudinMake set, and RafkudinFree has not been called with it.
@@ -265,11 +266,15 @@ struct rafkudin_open {
  * ACPI NVS memory is placed in whole granules of it. `drivers` are `driver_count` drivers, up to
  * 64.
  *
- * INVALID_PARAMETER: `core` is null; a descriptor size below 40, or one that does not divide
- * `size`; over 65,536 descriptors; a descriptor that has no pages, starts at no multiple of 4,096,
- * goes past the last page (2^52 - 1), is of a type from 16 to 0x6fffffff, or is conventional with
- * RUNTIME; two that overlap; another granule; more than 64 drivers; a count of a driver or a child
- * above what its array holds. The drivers are looked at before any memory is asked for.
+ * INVALID_PARAMETER:
+ * - `core` is null;
+ * - a descriptor size below 40, or one that does not divide `size`; over 65,536 descriptors;
+ * - a descriptor that has no pages, starts at no multiple of 4,096, goes past the last page
+ *   (2^52 - 1), is of a type from 16 to 0x6fffffff, or is conventional with RUNTIME; or two that
+ *   overlap;
+ * - another granule;
+ * - more than 64 drivers, or a count of a driver or a child above what its array holds. The drivers
+ *   are looked at before any memory is asked for.
  * OUT_OF_RESOURCES: memory was refused. *core is set on SUCCESS alone. */
 RAFKUDIN_API rafkudin_uint64 RafkudinMake(const uint8_t *records, size_t size,
                                           size_t descriptor_size, rafkudin_uint64 granule,
@@ -303,12 +308,15 @@ RAFKUDIN_API rafkudin_uint64 RafkudinCertificate(const struct rafkudin *core, ui
  * for each call thus knows what the program must print.
  *
  * SUCCESS: *length are the bytes written. BUFFER_TOO_SMALL: *length are the bytes needed, and none
- * is written. NOT_FOUND: the call left no reply: it was GetMemoryMap or PoolRead, whose replies are
- * in the caller's buffers, or UninstallMultipleProtocolInterfaces or RafkudinLocatePath, which are
- * in no trace, or RafkudinInstallPath of bytes that begin with no path, or it was ABORTED; or no
- * service was called yet. OUT_OF_RESOURCES: memory was refused. After RafkudinInstallPath, which
- * makes several calls, the reply is that of the one that decides its status; behind it is the
- * certificate of its AllocatePool, which the program prints behind that call's line. */
+ * is written. NOT_FOUND: no service was called yet, or the last call left no reply. None is left by
+ * GetMemoryMap and PoolRead, whose replies are in the caller's buffers, by
+ * UninstallMultipleProtocolInterfaces and RafkudinLocatePath, which are in no trace, by
+ * RafkudinInstallPath of bytes that begin with no path, and by a call that is ABORTED.
+ * OUT_OF_RESOURCES: memory was refused.
+ *
+ * After RafkudinInstallPath, which makes several calls, the reply is that of the one that decides
+ * its status. Behind it is the certificate of its AllocatePool, which the program prints behind
+ * that call's line. */
 RAFKUDIN_API rafkudin_uint64 RafkudinReplyLine(const struct rafkudin *core, rafkudin_uint64 number,
                                                uint8_t *text, size_t room,
                                                rafkudin_uint64 *length);
@@ -497,8 +505,8 @@ RAFKUDIN_API rafkudin_uint64 RafkudinInstallProtocolInterface(struct rafkudin *c
  * or none.
  *
  * INVALID_PARAMETER: no interfaces or over 16, of which no more than the first 17 are read; a
- * handle that is neither 0 nor live; a GUID that is twice among them or is on the handle;
- * ALREADY_STARTED: one of them is a device path that a live handle has already; OUT_OF_RESOURCES:
+ * handle that is neither 0 nor live; a GUID that is twice among them or is on the handle.
+ * ALREADY_STARTED: one of them is a device path that a live handle has already. OUT_OF_RESOURCES:
  * RAFKUDIN_MAX_HANDLES are live already. */
 RAFKUDIN_API rafkudin_uint64 RafkudinInstallMultipleProtocolInterfaces(
     struct rafkudin *core, rafkudin_uint64 *Handle, const struct rafkudin_interface *interfaces,
@@ -709,11 +717,11 @@ struct rafkudin_turns {
     bool has_started;
 };
 
-/* Begins the turns on a controller of the `count` drivers at `drivers`, which are put in the order
- * in which they are tried: first those of the `named_count` handles at `named`, up to 16, each once
- * and in that order, then all others, the highest version first, those of one version as they came.
- * So a caller passes all that it has, by ascending handle. A driver counts where its handle is
- * live and carries the driver binding GUID; others drop out.
+/* Begins the turns on a controller of the `count` drivers at `drivers`, and puts these into the
+ * order in which they are tried. First come those of the `named_count` handles at `named`, up to
+ * 16, each once and in that order, then all others, the highest version first, those of one version
+ * as they came. So a caller passes all that it has, by ascending handle. A driver counts where its
+ * handle is live and carries the driver binding GUID; others drop out.
  *
  * INVALID_PARAMETER: the controller is not live, or over 16 handles are named. OUT_OF_RESOURCES:
  * memory was refused. Either leaves the list and *turns as they are. */
