@@ -14,8 +14,8 @@ use std::alloc::Allocator;
 const VERSION: u32 = 1;
 
 impl<A: Allocator + Copy> EfiCore<A> {
-    /// AllocatePages. The variable `memory` has the highest address that is asked for, or the very address,
-    /// and is given the address of the pages.
+    /// AllocatePages. The variable `memory` has the last byte that may belong to the pages, or their address, and
+    /// receives the address of the pages.
     pub fn allocate_pages(&mut self, kind: u32, mtype: u32, pages: u64, memory: &mut u64) -> u64
         ensures { AllocatesPages self.old kind mtype pages memory.old result memory.new self.new }
     {

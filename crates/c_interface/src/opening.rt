@@ -50,7 +50,8 @@ impl<A: Allocator + Copy> EfiCore<A> {
         status
     }
 
-    /// What the last call gives, which opened an interface and returned a number or left one.
+    /// The value for the caller's variable after the last call, which opened an interface: `returned` is what that
+    /// returned, or what it left there.
     fn given(&self, handle: u64, guid: &Guid, returned: u64) -> u64
         ensures { GivesLast self.now handle (guid_in guid.now) returned result }
     {
@@ -61,7 +62,7 @@ impl<A: Allocator + Copy> EfiCore<A> {
         }
     }
 
-    /// What a call gives by its status.
+    /// The same by the status of the call.
     fn given_by(&self, status: Status, handle: u64, guid: Uuid, returned: u64) -> u64
         ensures { result ≡ given_by status (value_on self.now handle guid) returned }
     {

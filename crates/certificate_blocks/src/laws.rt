@@ -7,7 +7,7 @@ pub fn block_read_back_law()
 {}
 
 /// The text of a block of an accepted certificate is read back as what it was made of, and its check
-/// answers that it is accepted.
+/// says that it is accepted.
 pub fn accepted_block_law()
     ensures { AcceptedBlockLaw }
 {}
