@@ -19,7 +19,7 @@ const BYTES_FOR_HANDLE: u64 = 4096;
 const BYTES_FOR_PAGE: u64 = 8192;
 
 /// The most that a number counts of each.
-const MOST: u64 = 0xffff_ffff;
+const MAX_COUNTED: u64 = 0xffff_ffff;
 
 /// Makes a core of EFI_MEMORY_DESCRIPTORs, a granule of 1 or 16 pages and up to 64 drivers, and puts its
 /// pointer into the variable `core`, which a refusal leaves as it is. All that the core allocates, now and in its
@@ -59,9 +59,9 @@ pub extern "C" fn RafkudinRoom(entries: u64, handles: u64, pool_pages: u64) -> u
     ensures { result ≡ room_for entries handles pool_pages }
 {
     BYTES_ALWAYS
-        + BYTES_FOR_ENTRY * entries.min(MOST)
-        + BYTES_FOR_HANDLE * handles.min(MOST)
-        + BYTES_FOR_PAGE * pool_pages.min(MOST)
+        + BYTES_FOR_ENTRY * entries.min(MAX_COUNTED)
+        + BYTES_FOR_HANDLE * handles.min(MAX_COUNTED)
+        + BYTES_FOR_PAGE * pool_pages.min(MAX_COUNTED)
 }
 
 /// Ends a core. It frees nothing: the region is its caller's again.

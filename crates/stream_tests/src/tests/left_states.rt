@@ -120,12 +120,12 @@ fn can_write(rt: &(impl AllocGlobal + Abort), failing: Failing, more: usize) -> 
 }
 
 /// More writes and allocations than a run makes.
-const MOST: u64 = 1000;
+const MAX_TRIES: u64 = 1000;
 
 /// Each write: the calls were made of the lines written whole and of the next.
 #[test]
 fn state_after_write_fails(rt: HostRuntime) {
-    for writes in 0..MOST {
+    for writes in 0..MAX_TRIES {
         if can_write(&rt, Failing { writes, ..NOTHING }, 1) {
             assert!(rt; writes > 50);
             return;
@@ -137,7 +137,7 @@ fn state_after_write_fails(rt: HostRuntime) {
 /// Each flush: no call was made of the lines behind the one that was written.
 #[test]
 fn state_after_flush_fails(rt: HostRuntime) {
-    for flushes in 0..MOST {
+    for flushes in 0..MAX_TRIES {
         if can_write(&rt, Failing { flushes, ..NOTHING }, 0) {
             assert!(rt; flushes == 7);
             return;
@@ -164,7 +164,7 @@ fn has_memory(rt: &(impl AllocGlobal + Abort), memory: u64) -> bool {
 /// Each allocation that is made for the lines and their texts.
 #[test]
 fn state_after_memory_is_refused(rt: HostRuntime) {
-    for memory in 1..MOST {
+    for memory in 1..MAX_TRIES {
         if has_memory(&rt, memory) {
             assert!(rt; memory > 8);
             return;

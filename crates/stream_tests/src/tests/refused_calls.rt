@@ -115,24 +115,24 @@ fn is_refused(
 }
 
 /// More allocations than any of the calls asks for.
-const MOST: u64 = 1000;
+const MAX_ALLOCATIONS: u64 = 1000;
 
 /// Refuses each allocation of a call in turn, and returns how many there are.
 fn refusals(rt: &(impl AllocGlobal + Abort), row: &(&str, &str, &str)) -> u64 {
     let (before, call, _) = *row;
     let plain = plain_of(rt, *row);
-    for number in 1..MOST {
+    for number in 1..MAX_ALLOCATIONS {
         if !is_refused(rt, (before, call), plain, number) {
             return number - 1;
         }
     }
-    MOST
+    MAX_ALLOCATIONS
 }
 
 /// Asserts that a call takes memory.
 fn assert_takes_memory(rt: &(impl AllocGlobal + Abort), row: &(&str, &str, &str)) {
     let count = refusals(rt, row);
-    assert!(rt; count > 0 && count < MOST);
+    assert!(rt; count > 0 && count < MAX_ALLOCATIONS);
 }
 
 #[test]

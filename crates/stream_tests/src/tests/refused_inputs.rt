@@ -11,11 +11,11 @@ use std::alloc::Global;
 use std::process::Abort;
 
 /// More allocations than are asked for.
-const MOST: u64 = 1000;
+const MAX_ALLOCATIONS: u64 = 1000;
 
 /// Asserts that a core is made unless an allocation is refused, and returns how many it takes.
 fn core_allocations(rt: &(impl AllocGlobal + Abort)) -> u64 {
-    for number in 1..MOST {
+    for number in 1..MAX_ALLOCATIONS {
         let heap = Refusing::new(rt.alloc());
         let is_there = new_core(rt, &heap, number).is_ok();
         assert!(rt; is_there != heap.has_refused());
@@ -23,13 +23,13 @@ fn core_allocations(rt: &(impl AllocGlobal + Abort)) -> u64 {
             return number - 1;
         }
     }
-    MOST
+    MAX_ALLOCATIONS
 }
 
 #[test]
 fn core_is_refused_memory(rt: HostRuntime) {
     let count = core_allocations(&rt);
-    assert!(rt; count > 0 && count < MOST);
+    assert!(rt; count > 0 && count < MAX_ALLOCATIONS);
 }
 
 /// Whether the boot services are ended by a list of one call, if memory was there for its reply.
@@ -93,7 +93,7 @@ const LINES: [&str; 5] = [
 
 /// Asserts that a line is read unless an allocation is refused, and returns how many it takes.
 fn line_allocations(rt: &(impl AllocGlobal + Abort), line: &str) -> u64 {
-    for number in 1..MOST {
+    for number in 1..MAX_ALLOCATIONS {
         let heap = Refusing::new(rt.alloc());
         heap.refuse_from(number);
         match read_call(&heap, line.as_bytes()) {
@@ -104,20 +104,20 @@ fn line_allocations(rt: &(impl AllocGlobal + Abort), line: &str) -> u64 {
             Err(fault) => assert!(rt; fault == TraceFault::OutOfMemory && heap.has_refused()),
         }
     }
-    MOST
+    MAX_ALLOCATIONS
 }
 
 #[test]
 fn lines_are_refused_memory(rt: HostRuntime) {
     for line in &LINES {
         let count = line_allocations(&rt, line);
-        assert!(rt; count > 0 && count < MOST);
+        assert!(rt; count > 0 && count < MAX_ALLOCATIONS);
     }
 }
 
 /// Asserts that a block is judged unless an allocation is refused, and returns how many that takes.
 fn block_allocations(rt: &(impl AllocGlobal + Abort)) -> u64 {
-    for number in 1..MOST {
+    for number in 1..MAX_ALLOCATIONS {
         let heap = Refusing::new(rt.alloc());
         let mut out = Vec::new(rt.alloc());
         heap.refuse_from(number);
@@ -133,11 +133,11 @@ fn block_allocations(rt: &(impl AllocGlobal + Abort)) -> u64 {
             }
         }
     }
-    MOST
+    MAX_ALLOCATIONS
 }
 
 #[test]
 fn block_is_refused_memory(rt: HostRuntime) {
     let count = block_allocations(&rt);
-    assert!(rt; count > 0 && count < MOST);
+    assert!(rt; count > 0 && count < MAX_ALLOCATIONS);
 }
