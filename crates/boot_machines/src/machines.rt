@@ -9,6 +9,12 @@ use page_ranges::{MemoryType, Owner, PAGE_COUNT, Run, has_runtime, is_granule};
 use std::alloc::{Allocator, Global};
 use std::marker::Model;
 
+/// The most descriptors that a machine is made of.
+pub const MAX_DESCRIPTORS: usize = 65_536;
+
+/// The most drivers of a machine.
+pub const MAX_DRIVERS: usize = 64;
+
 /// The memory that a machine has at first, valid runs, and its granule.
 #[derive(Drop)]
 pub struct Machine<A: Allocator = Global> {

@@ -34,13 +34,14 @@ use Rattle.boot_replies.specs.declared.replies.Reply.TheVariants as reply
 use Rattle.boot_replies.specs.Certified.{left_request, list_request, request_for, certificate_in, certified, returned_count}
 use Rattle.boot_replies.specs.Certified.{list_type}
 use Rattle.boot_calls.specs.CallNumbers.{NamesTypes}
+use Rattle.boot_machines.specs.Machines.{most_descriptors}
 use Rattle.boot_core.specs.Machines.{State, AreSound, first_state_with}
 use Rattle.boot_core.specs.Steps.{best_starts, Step}
 use Rattle.boot_core.proofs.Acceptances.{first_types, accepted_reply}
 use Rattle.boot_core.proofs.Outcomes.{outcome, stays_typed, stays_fitting, map_grows}
 use Rattle.boot_core.proofs.RecordPages.{HaveFields, first_fields, record_entries}
 use Rattle.boot_core.proofs.Soundness.{first_sound, stays_sound}
-use Rattle.machine_files.specs.MachineText.{ListedMachine, most_descriptors, machine_of}
+use Rattle.machine_files.specs.MachineText.{ListedMachine, machine_of}
 use Rattle.machine_files.proofs.MachineOrder.{machine_in}
 use Rattle.text_lines.specs.Lines.{lines_of}
 use Rattle.trace_lines.specs.declared.faults.TraceFault.{TraceFault}

@@ -4,7 +4,8 @@ use Rattle.std.specs.List.{list_all}
 use Rattle.std.specs.Simd.{first_chunks}
 use Rattle.std.proofs.Math.Nat.{add-div_left, div-eq_of_lt}
 use Rattle.std.proofs.Math.Seq.{take-append_seam, drop-append_seam}
-use Rattle.c_machines.specs.MachineRecords.{least_size, most_records, are_records, is_aligned, records_in}
+use Rattle.boot_machines.specs.Machines.{most_descriptors}
+use Rattle.c_machines.specs.MachineRecords.{least_size, are_records, is_aligned, records_in}
 
 first_chunk : (chunk rest : List ℕ) (k : ℕ) → first_chunks (length chunk) (suc k) (chunk ++ rest) ≡ chunk ∷ first_chunks (length chunk) k rest
 first_chunk chunk rest k = ap₂ (λ (x : List ℕ) (ys : List ℕ). x ∷ first_chunks (length chunk) k ys) (take-append_seam chunk rest) (drop-append_seam chunk rest)
@@ -23,7 +24,7 @@ first_record size chunk rest some e =
 pub no_record : (size : ℕ) (rest : List ℕ) → length rest < size → records_in size rest ≡ []
 no_record size rest h = ap (λ (k : ℕ). first_chunks size k rest) (div-eq_of_lt h)
 
-module _ (size : ℕ) (bytes : List ℕ) (least : least_size ≤ size) (whole : length bytes % size ≡ 0) (few : length bytes / size ≤ most_records) where
+module _ (size : ℕ) (bytes : List ℕ) (least : least_size ≤ size) (whole : length bytes % size ≡ 0) (few : length bytes / size ≤ most_descriptors) where
   pub no_records : list_all is_aligned (records_in size bytes) ≡ false → are_records size bytes ≡ false
   no_records e = rw e (search rules)
 

@@ -2,6 +2,7 @@
 use Rattle.std.specs.Prelude.{◌≡◌, ℕ, Bool, true, false, ◌&&◌, nat_le, List, length, map, take, Option, Some, None, Result, Ok, Err, if◌then◌else◌}
 use Rattle.std.specs.List.{list_all}
 use Rattle.std.specs.declared.vec.Vec.{Vec}
+use Rattle.boot_machines.specs.Machines.{most_drivers}
 use Rattle.driver_connect.specs.declared.table.TableDriver.{TableDriver}
 use Rattle.c_machines.specs.declared.drivers.Child.{Child}
 use Rattle.c_machines.specs.declared.drivers.DriverTable.{DriverTable}
@@ -69,10 +70,6 @@ abbrev pub fits : DriverTable → Bool
 fits t =
     nat_le t.needs_count 8 && nat_le t.opens_count 8 && nat_le t.children_count 8
     && list_all fits_child (take t.children_count t.children)
-
--- the most drivers of a core
-abbrev pub most_drivers : ℕ
-most_drivers = 64
 
 -- The tables are at most the limit, and no count in them is above the length of its array.
 abbrev pub are_tables : List DriverTable → Bool

@@ -8,7 +8,7 @@ use Rattle.byteorder.specs.Endian.{little_number}
 use Rattle.page_ranges.specs.declared.ranges.Owner.TheVariants.{Given}
 use Rattle.page_ranges.specs.declared.ranges.Run.{Run}
 use Rattle.page_ranges.specs.MemoryTypes.{page_size}
-use Rattle.boot_machines.specs.Machines.{MachineValue, IsMachine}
+use Rattle.boot_machines.specs.Machines.{most_descriptors, MachineValue, IsMachine}
 use Rattle.c_machines.specs.declared.faults.MachineFault.{MachineFault}
 use Rattle.c_machines.specs.declared.faults.MachineFault.TheVariants.{Invalid, OutOfMemory}
 
@@ -42,10 +42,6 @@ run_in bytes =
 
 -- ---- records of one size, one behind the other
 
--- the most records of a machine
-abbrev pub most_records : ℕ
-most_records = 65536
-
 -- the records in some bytes
 abbrev pub records_in : ℕ → List ℕ → List (List ℕ)
 records_in size bytes = first_chunks size (length bytes / size) bytes
@@ -55,7 +51,7 @@ records_in size bytes = first_chunks size (length bytes / size) bytes
 abbrev pub are_records : ℕ → List ℕ → Bool
 are_records size bytes =
     nat_le least_size size && (length bytes % size == 0)
-    && nat_le (length bytes / size) most_records && list_all is_aligned (records_in size bytes)
+    && nat_le (length bytes / size) most_descriptors && list_all is_aligned (records_in size bytes)
 
 -- the runs that records describe, in their order
 abbrev pub runs_in : ℕ → List ℕ → List Run

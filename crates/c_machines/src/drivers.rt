@@ -7,12 +7,10 @@ ghost use Rattle.c_machines.specs.DriverTables.{ReadsDrivers, are_tables, fits_c
 use crate::faults::MachineFault;
 use crate::guids::{Guid, Interface};
 use arrayvec::ArrayVec;
+use boot_machines::MAX_DRIVERS;
 use driver_connect::{StartPlan, TableDriver};
 use std::alloc::Allocator;
 use uuid::Uuid;
-
-/// The most drivers of a core.
-pub const MAX_DRIVERS: usize = 64;
 
 /// The most GUIDs that a driver needs, and the most that it opens.
 const MAX_GUIDS: usize = 8;

@@ -6,7 +6,7 @@ mod faults;
 mod guids;
 mod machines;
 
-pub use drivers::{Child, DriverTable, MAX_DRIVERS, are_tables, table_drivers};
+pub use drivers::{Child, DriverTable, are_tables, table_drivers};
 pub use faults::MachineFault;
 pub use guids::{Guid, Interface};
-pub use machines::{LEAST_SIZE, MAX_RECORDS, machine_of};
+pub use machines::{LEAST_SIZE, machine_of};

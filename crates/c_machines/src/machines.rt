@@ -3,16 +3,13 @@ ghost use Rattle.std.specs.Prelude.{◌≡◌, ◌≤◌, length, Some, None, if
 ghost use Rattle.c_machines.specs.MachineRecords.{MakesMachine, ReadsRuns, least_size, is_aligned, run_in};
 
 use crate::faults::MachineFault;
-use boot_machines::Machine;
+use boot_machines::{MAX_DESCRIPTORS, Machine};
 use byteorder::{ByteOrder, LittleEndian};
 use page_ranges::{MemoryType, Owner, PAGE_SIZE, PageRange, Run};
 use std::alloc::Allocator;
 
 /// The fewest bytes of a record: those of EFI_MEMORY_DESCRIPTOR.
 pub const LEAST_SIZE: usize = 40;
-
-/// The most records of a machine.
-pub const MAX_RECORDS: usize = 65_536;
 
 /// The machine of some records, in any order, with a granule of a number of pages. A record is an
 /// EFI_MEMORY_DESCRIPTOR, and what follows it up to the descriptor size.
@@ -36,7 +33,7 @@ pub fn machine_of<A: Allocator>(
 fn runs_of<A: Allocator>(alloc: A, records: &[u8], size: usize) -> Result<Vec<Run, A>, MachineFault>
     ensures { ReadsRuns size records.now result }
 {
-    if size < LEAST_SIZE || records.len() % size != 0 || records.len() / size > MAX_RECORDS {
+    if size < LEAST_SIZE || records.len() % size != 0 || records.len() / size > MAX_DESCRIPTORS {
         return Err(MachineFault::Invalid);
     }
     let mut runs = Vec::with_capacity(alloc, records.len() / size)?;

@@ -12,13 +12,14 @@ use Rattle.text_lines.specs.FirstFault.{◌>>=◌, or_fault}
 use Rattle.text_lines.specs.Numbers.{value_of_digits, within_64_bits, hexadecimal_of}
 use Rattle.text_lines.proofs.FirstFaults.{bind_ok, found, chosen_right}
 use Rattle.boot_machines.specs.MachineRuns.{HasRecordNumbers, IsMachineRun}
+use Rattle.boot_machines.specs.Machines.{most_descriptors}
 use Rattle.machine_files.specs.declared.faults.MachineFault.TheVariants as fault
 use Rattle.machine_files.specs.declared.faults.MemberField.{MemberField}
 use Rattle.machine_files.specs.declared.faults.MemberField.TheVariants as field
 use Rattle.machine_files.specs.FaultText.{field_name}
 use Rattle.machine_files.specs.Fields.{if_passes, number_at, hexadecimal_at, item_count}
 use Rattle.machine_files.proofs.EachMember.{count_read}
-use Rattle.machine_files.specs.MachineText.{member_type, first_page_of, page_count_of, attributes_of, member_run, or_descriptor, runs_from, root_runs, most_descriptors}
+use Rattle.machine_files.specs.MachineText.{member_type, first_page_of, page_count_of, attributes_of, member_run, or_descriptor, runs_from, root_runs}
 
 -- ---- steps that went well
 

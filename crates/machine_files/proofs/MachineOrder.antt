@@ -9,15 +9,15 @@ use Rattle.page_ranges.specs.Granules.{IsGranule}
 use Rattle.page_ranges.specs.Runs.{AreRuns, IsValidMachine}
 use Rattle.page_ranges.proofs.Members.{member_first, member_later, member_all, all_implied}
 use Rattle.boot_machines.specs.MachineRuns.{HasRecordNumbers, IsMachineRun}
-use Rattle.boot_machines.specs.Machines.{MachineValue, IsMachine}
+use Rattle.boot_machines.specs.Machines.{most_descriptors, most_drivers, MachineValue, IsMachine}
 use Rattle.boot_machines.proofs.MachineRunLists.{valid_machine}
 use Rattle.serde_json.specs.Data.{Data, Items}
 use Rattle.serde_json.specs.Find.{get, as_array, as_number, as_u64}
 use Rattle.machine_files.specs.declared.faults.MachineFault.TheVariants.{NoDriverList, TooManyDrivers, Overlap, Granule}
 use Rattle.text_lines.specs.FirstFault.{◌>>=◌, or_fault}
 use Rattle.text_lines.proofs.FirstFaults.{bind_ok}
-use Rattle.machine_files.specs.DriverText.{ListedDriver, most_drivers, or_driver, member_driver, drivers_from, drivers_if, root_drivers}
-use Rattle.machine_files.specs.MachineText.{ListedMachine, overlap, in_order, granule_if, root_granule, root_of, root_runs, machine_with, machine_of, most_descriptors}
+use Rattle.machine_files.specs.DriverText.{ListedDriver, or_driver, member_driver, drivers_from, drivers_if, root_drivers}
+use Rattle.machine_files.specs.MachineText.{ListedMachine, overlap, in_order, granule_if, root_granule, root_of, root_runs, machine_with, machine_of}
 use Rattle.machine_files.specs.Fields.{item_count}
 use Rattle.machine_files.proofs.EachMember.{count_read}
 use Rattle.machine_files.proofs.FileRuns.{passed, IsListed, listed_in_root, few_in_root}

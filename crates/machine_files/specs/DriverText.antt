@@ -5,6 +5,7 @@ use Rattle.std.specs.Option.{option_map}
 use Rattle.serde_json.specs.Data.{Data, Items, no_items, item}
 use Rattle.serde_json.specs.Find.{get, as_array, as_bool, as_str}
 use Rattle.uuid.specs.Text.{parsed}
+use Rattle.boot_machines.specs.Machines.{most_drivers}
 use Rattle.driver_connect.specs.declared.table.TableDriver.{TableDriver}
 use Rattle.driver_connect.specs.Drivers.{Meaning, is_free}
 use Rattle.machine_files.specs.declared.faults.MachineFault.{MachineFault}
@@ -115,10 +116,6 @@ or_driver n (Err f) = Err (fault.Driver n f)
 -- the drivers of members, the first of which is the nth
 abbrev pub drivers_from : ℕ → Items → Result (List ListedDriver) MachineFault
 drivers_from = each_from (λ n d. or_driver n (member_driver d))
-
--- the most members of a driver list
-abbrev pub most_drivers : ℕ
-most_drivers = 64
 
 -- the drivers of a driver list, in its order
 abbrev pub drivers_of : Data → Result (List ListedDriver) MachineFault

@@ -2,9 +2,8 @@
 use Rattle.std.specs.Prelude.{◌≡◌, ℕ, ◌≤◌, List, length, Ok}
 use Rattle.std.specs.List.{AllByRecursion}
 use Rattle.boot_machines.specs.MachineRuns.{HasRecordNumbers}
-use Rattle.boot_machines.specs.Machines.{IsMachine}
-use Rattle.machine_files.specs.DriverText.{most_drivers}
-use Rattle.machine_files.specs.MachineText.{ListedMachine, most_descriptors, machine_of}
+use Rattle.boot_machines.specs.Machines.{most_descriptors, most_drivers, IsMachine}
+use Rattle.machine_files.specs.MachineText.{ListedMachine, machine_of}
 
 -- What a file lists is a machine of at most `most_descriptors` runs, and their types and attributes
 -- fit their fields of a record. It lists at most `most_drivers` drivers.

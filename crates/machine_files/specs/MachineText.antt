@@ -8,7 +8,7 @@ use Rattle.serde_json.specs.Find.{get, as_array, as_number, as_u64}
 use Rattle.page_ranges.specs.declared.ranges.Owner.TheVariants.{Given}
 use Rattle.page_ranges.specs.declared.ranges.Run.{Run}
 use Rattle.page_ranges.specs.MemoryTypes.{page_size, page_count, conventional, has_runtime, is_machine_type}
-use Rattle.boot_machines.specs.Machines.{MachineValue}
+use Rattle.boot_machines.specs.Machines.{most_descriptors, MachineValue}
 use Rattle.machine_files.specs.declared.faults.MachineFault.{MachineFault}
 use Rattle.machine_files.specs.declared.faults.MachineFault.TheVariants as fault
 use Rattle.machine_files.specs.declared.faults.MemberField.{MemberField}
@@ -79,10 +79,6 @@ json_of bytes = if is_utf8 bytes then read bytes else None
 -- the most bytes of a machine file
 abbrev pub longest_file : ℕ
 longest_file = 67108864
-
--- the most members of a memory list
-abbrev pub most_descriptors : ℕ
-most_descriptors = 65536
 
 -- the runs of the memory list, in its order
 abbrev pub root_runs : Data → Result (List Run) MachineFault

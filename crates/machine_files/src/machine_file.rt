@@ -12,20 +12,14 @@ ghost use Rattle.machine_files.specs.MachineText.{Gives, json_of, runs_from, roo
 use crate::drivers::member_driver;
 use crate::faults::MachineFault;
 use crate::members::member_run;
-use boot_machines::Machine;
+use boot_machines::{MAX_DESCRIPTORS, MAX_DRIVERS, Machine};
 use driver_connect::TableDriver;
-use page_ranges::Run;
+use page_ranges::{Run, is_granule};
 use serde_json::Value;
 use std::alloc::Global;
 
 /// The most bytes of a machine file.
 pub const MAX_FILE_LENGTH: usize = 67_108_864;
-
-/// The most members of a memory list.
-pub const MAX_DESCRIPTORS: usize = 65_536;
-
-/// The most members of a driver list.
-pub const MAX_DRIVERS: usize = 64;
 
 /// What a machine file says.
 #[derive(Drop)]
@@ -81,7 +75,7 @@ fn root_granule(root: &Value) -> Option<u64>
         return Some(1);
     };
     let granule = value.as_u64()?;
-    (granule == 1 || granule == 16).then_some(granule)
+    is_granule(granule).then_some(granule)
 }
 
 /// What JSON a file's bytes are.

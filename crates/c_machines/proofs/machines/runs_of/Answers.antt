@@ -15,7 +15,7 @@ returns-in-None-run_in g c =
     let rest = chunks_exact_rest c.next.new.self in
     let next : records_in size (chunks_exact_rest c.loop-record.record-iterator) ≡ chunk ∷ records_in size rest = ap (records_in size) s.1.0 ∙ first_record size chunk rest (omega (arith, c.if-size-lt-LEAST_SIZE.false)) (s.1.1 ∙ i.size) in
     let fails = not_passed (is_aligned chunk) (run_in chunk) (sym c.in-None-run_in.is ∙ c.run_in.ensures) in
-    no_records size bytes (omega (arith, c.if-size-lt-LEAST_SIZE.false)) (omega (arith, c.if-records-size-ne0.false)) (omega (arith, c.if-records-size-gt-MAX_RECORDS.false))
+    no_records size bytes (omega (arith, c.if-size-lt-LEAST_SIZE.false)) (omega (arith, c.if-records-size-ne0.false)) (omega (arith, c.if-records-size-gt-MAX_DESCRIPTORS.false))
     (refused run_in is_aligned (records_in size bytes) c.loop-record.runs.items chunk (records_in size rest) fails (rw next at i.left))
 
 pub loop-record-preserved : goal.loop-record-preserved
@@ -42,4 +42,4 @@ returns g c =
     let rest = chunks_exact_rest c.loop-record.record-iterator in
     let none = no_record c.args.size rest (omega (arith, s.1.0, i.size)) in
     let all = none_left run_in is_aligned (records_in c.args.size c.args.records.now) c.loop-record.runs.items (rw none at i.left) in
-    (some_records c.args.size c.args.records.now (omega (arith, c.if-size-lt-LEAST_SIZE.false)) (omega (arith, c.if-records-size-ne0.false)) (omega (arith, c.if-records-size-gt-MAX_RECORDS.false)) all.0, all.1)
+    (some_records c.args.size c.args.records.now (omega (arith, c.if-size-lt-LEAST_SIZE.false)) (omega (arith, c.if-records-size-ne0.false)) (omega (arith, c.if-records-size-gt-MAX_DESCRIPTORS.false)) all.0, all.1)
