@@ -3,7 +3,7 @@ use Rattle.std.proofs.Math.ListN.{set}
 use Rattle.std.proofs.Common.{◌≡◌, ℕ, zero, suc, ◌<◌, ◌==◌, ◌++◌, not, nat_lt, Bool, true, false, cond, List, [], ◌∷◌, map, length, Option, Some, None, is_some, inl, inr, refl, sym, ap, ◌∙◌, arith, subst, length-append}
 use Rattle.std.specs.List.{filter, find, slice_get, insert, remove, AllByRecursion}
 use Rattle.std.specs.Option.{option_map}
-use Rattle.std.proofs.lemmas.Bool.{cases_Bool, eq-eqb, ne_eqb, ltb-true}
+use Rattle.std.proofs.lemmas.Bool.{cases_Bool, eq-eqb, ne_eqb, ltb-true, lt-ltb}
 use Rattle.std.proofs.lemmas.Option.{same_Some}
 use Rattle.guid_handles.specs.Sorting.{Ascending, place, kept_if}
 use Rattle.guid_handles.proofs.SortedLists.{all_insert, all_map, all_mapped, all_remove, all_set, all_under, found_none, find_none, find_split, find_insert_other, find_insert_new, ascending_insert, ascending_remove, map_insert, map_remove, place_map, numbers_split}
@@ -34,6 +34,34 @@ place_returned now blocks n at o a e k s =
 pub none_returned : {G : Type 0} (now : G → Block) (blocks : List Block) (n at : ℕ) (o : Option G) → AscendByNumber blocks → at ≡ place (λ k. nat_lt k.number n) blocks
     → option_map now o ≡ kept_if (is_numbered n) (slice_get blocks at) → is_some o ≡ false → find (is_numbered n) blocks ≡ None
 none_returned now blocks n at o a e k s = sym (found_block blocks n at a e) ∙ none_of (kept_if (is_numbered n) (slice_get blocks at)) (ap is_some (sym k) ∙ some_map now o ∙ s)
+
+-- the number of a block at a place
+kept_number : (P : ℕ → Type 0) (blocks : List Block) (n at : ℕ) → AllByRecursion P (map (λ k. k.number) blocks) → is_some (kept_if (is_numbered n) (slice_get blocks at)) ≡ true → P n
+kept_number P [] n zero a h = absurd cc
+kept_number P [] n (suc at) a h = absurd cc
+kept_number P (k ∷ ks) n zero a h = elim (cases_Bool (is_numbered n k)) [
+  | inl t ↦ subst P (is_same k.number n t) a.0
+  | inr f ↦ let w : false ≡ true = rw f at h in absurd cc
+]
+kept_number P (k ∷ ks) n (suc at) a h = kept_number P ks n at a.1 h
+
+-- a block with the number is nowhere else
+only_place : (blocks : List Block) (n at : ℕ) → AscendByNumber blocks → is_some (kept_if (is_numbered n) (slice_get blocks at)) ≡ true → at ≡ place (λ k. nat_lt k.number n) blocks
+only_place [] n zero a h = absurd cc
+only_place [] n (suc at) a h = absurd cc
+only_place (k ∷ ks) n zero a h = elim (cases_Bool (nat_lt k.number n)) [
+  | inl l ↦ absurd (omega (arith, ltb-true k.number n l, kept_number (λ m. m ≡ k.number) (k ∷ []) n zero (refl, tt) h))
+  | inr f ↦ rw f refl
+]
+only_place (k ∷ ks) n (suc at) a h =
+    let l : nat_lt k.number n ≡ true = lt-ltb k.number n (kept_number (λ m. k.number < m) ks n at a.0 h) in
+    rw l (ap suc (only_place ks n at a.1 h))
+
+pub place_found : (blocks : List Block) (n at : ℕ) → AscendByNumber blocks → is_some (kept_if (is_numbered n) (slice_get blocks at)) ≡ true → IsPlaceOf n blocks at
+place_found blocks n at a s =
+    let e : at ≡ place (λ k. nat_lt k.number n) blocks = only_place blocks n at a s in
+    let there : kept_if (is_numbered n) (slice_get blocks at) ≡ slice_get blocks at = kept_one (is_numbered n) (slice_get blocks at) s in
+    (one_there blocks at (ap is_some (sym there) ∙ s), sym (found_block blocks n at a e) ∙ there, e)
 
 pub block_there : (blocks : List Block) (n at : ℕ) (k : Block) → IsPlaceOf n blocks at → slice_get blocks at ≡ Some k → block_at blocks n ≡ k
 block_there blocks n at k p e = ap (one_or_empty n) (p.1 ∙ e)

@@ -1,5 +1,5 @@
 -- Rows by number: which one is found.
-use Rattle.std.proofs.Common.{◌≡◌, ℕ, ◌==◌, not, Bool, true, false, cond, List, [], ◌∷◌, map, Option, Some, None, inl, inr, refl, sym, ap, ◌∙◌}
+use Rattle.std.proofs.Common.{◌≡◌, ℕ, ◌==◌, not, List, [], ◌∷◌, map, None, inl, inr, refl, sym, ap, ◌∙◌}
 use Rattle.std.specs.List.{filter, find}
 use Rattle.std.specs.Option.{option_map}
 use Rattle.std.proofs.lemmas.Bool.{cases_Bool}

@@ -2,14 +2,14 @@
 use Rattle.std.proofs.Math.Seq.{drop-cons}
 use Rattle.std.proofs.Math.ListN.{drop_of_length-le, set}
 use lib.Pointwise.{pointwise}
-use Rattle.std.proofs.Common.{add-one, ◌≡◌, ◌⊎◌, ℕ, zero, suc, ◌+◌, ◌<◌, ◌≤◌, ◌==◌, ◌||◌, nat_eq, nat_lt, not, subst, Bool, true, false, cond, List, [], ◌∷◌, ◌++◌, map, length, take, drop, get_or, Option, Some, None, is_some, inl, inr, refl, sym, ap, ◌∙◌, arith}
+use Rattle.std.proofs.Common.{add-one, ◌≡◌, ◌⊎◌, ℕ, zero, suc, ◌+◌, ◌-◌, ◌<◌, ◌≤◌, ◌==◌, ◌||◌, nat_eq, nat_lt, not, subst, Bool, true, false, cond, List, [], ◌∷◌, ◌++◌, map, length, take, drop, get_or, Option, Some, None, is_some, inl, inr, refl, sym, ap, ◌∙◌, arith}
 use Rattle.std.specs.List.{filter, find, list_any, AllByRecursion, slice_get, insert, remove}
 use Rattle.std.specs.List.Sorted.{IsPartitionedBy, IsPartitionPoint}
 use Rattle.std.specs.Option.{option_map}
 use Rattle.std.specs.declared.cmp.Ordering.{Ordering}
 use Rattle.std.specs.declared.cmp.Ordering.TheVariants.{Less, Equal, Greater}
 use Rattle.std.proofs.lemmas.List.Elements.{filter_more}
-use Rattle.std.proofs.lemmas.Bool.{cases_Bool, ne_eqb, ltb-true, ltb-false, le-ltb}
+use Rattle.std.proofs.lemmas.Bool.{cases_Bool, ne_eqb, ltb-true, ltb-false, le-ltb, lt-ltb}
 use Rattle.std.proofs.lemmas.Bool.Decides.{eqb_tells}
 use Rattle.std.proofs.lemmas.Option.{same_Some}
 use Rattle.guid_handles.specs.HandleTables.{written_over}
@@ -475,3 +475,18 @@ got_all P [] zero x h e = absurd cc
 got_all P [] (suc at) x h e = absurd cc
 got_all P (y ∷ ys) zero x h e = subst P (same_Some y x e) h.0
 got_all P (y ∷ ys) (suc at) x h e = got_all P ys at x h.1 e
+
+-- ---- above all
+
+-- the last number is the highest
+pub last_least : (n : ℕ) (ns : List ℕ) (l : ℕ) → Ascending (λ a b. a < b) ns → slice_get ns (length ns - 1) ≡ Some l → l < n → AllByRecursion (λ m. m < n) ns
+last_least n [] l a e b = tt
+last_least n (x ∷ []) l a e b = let same : x ≡ l = same_Some x l e in (omega (arith, same, b), tt)
+last_least n (x ∷ y ∷ ys) l a e b =
+    let i : length (x ∷ y ∷ ys) - 1 ≡ suc (length (y ∷ ys) - 1) = omega arith in
+    let rest = last_least n (y ∷ ys) l a.1 (rw i at e) b in
+    (omega (arith, a.0.0, rest.0), rest)
+
+pub all_less : (n : ℕ) (ns : List ℕ) → AllByRecursion (λ m. m < n) ns → length ns ≡ place (λ m. nat_lt m n) ns
+all_less n [] a = refl
+all_less n (m ∷ ms) a = let t : nat_lt m n ≡ true = lt-ltb m n a.0 in rw t (ap suc (all_less n ms a.1))

@@ -1,5 +1,5 @@
 //! Places in blocks, which are found by number.
-ghost use Rattle.std.specs.Prelude.{◌≡◌, ◌<◌, ◌≤◌, ◌==◌, ◌||◌, ℕ, [], None, length, nat_lt, option_map, map, slice_get, IfOk, OnOk, OnErr, IfSome, IfNone};
+ghost use Rattle.std.specs.Prelude.{◌≡◌, ◌<◌, ◌≤◌, ◌==◌, ◌||◌, ℕ, [], None, is_some, length, nat_lt, option_map, map, slice_get, IfOk, OnOk, OnErr, IfSome, IfNone};
 ghost use Rattle.std.specs.List.{find};
 ghost use Rattle.guid_handles.specs.Sorting.{Ascending, kept_if, place};
 ghost use Rattle.guid_handles.specs.Blocks.{AscendByNumber, ChangesBlock, ChangesBlocks, IsFree, IsPlaceOf, block_at, is_numbered, with_last, without_place};
@@ -55,8 +55,29 @@ fn block_if<A: Allocator + Copy>(
     }
 }
 
-/// The place of the block of a number.
-fn place_of<A: Allocator + Copy>(blocks: &[PlaceBlock<A>], number: u64) -> Option<usize>
+/// Where the block of a number is, if none between it and the last one is missing.
+fn likely_place<A: Allocator + Copy>(blocks: &[PlaceBlock<A>], number: u64) -> usize {
+    match blocks.last() {
+        Some(last) => {
+            let behind = last.number().wrapping_sub(number);
+            (blocks.len() as u64).wrapping_sub(1).wrapping_sub(behind) as usize
+        }
+        None => 0,
+    }
+}
+
+/// Whether the block of a number is at a place.
+fn is_block_at<A: Allocator + Copy>(blocks: &[PlaceBlock<A>], at: usize, number: u64) -> bool
+    ensures { result ≡ is_some (kept_if (is_numbered number) (slice_get blocks.now at)) }
+{
+    match blocks.get(at) {
+        Some(block) => block.number() == number,
+        None => false,
+    }
+}
+
+/// The place of the block of a number, found by halving.
+fn halved_place<A: Allocator + Copy>(blocks: &[PlaceBlock<A>], number: u64) -> Option<usize>
     requires { AscendByNumber blocks.now }
     ensures there { IfSome result (IsPlaceOf number blocks.now) }
     ensures none { IfNone result (find (is_numbered number) blocks.now ≡ None) }
@@ -66,6 +87,20 @@ fn place_of<A: Allocator + Copy>(blocks: &[PlaceBlock<A>], number: u64) -> Optio
         Some(at)
     } else {
         None
+    }
+}
+
+/// The place of the block of a number.
+fn place_of<A: Allocator + Copy>(blocks: &[PlaceBlock<A>], number: u64) -> Option<usize>
+    requires { AscendByNumber blocks.now }
+    ensures there { IfSome result (IsPlaceOf number blocks.now) }
+    ensures none { IfNone result (find (is_numbered number) blocks.now ≡ None) }
+{
+    let likely = likely_place(blocks, number);
+    if is_block_at(blocks, likely, number) {
+        Some(likely)
+    } else {
+        halved_place(blocks, number)
     }
 }
 

@@ -134,15 +134,23 @@ impl<A: Allocator + Copy> Groups<A> {
         }
     }
 
-    /// Makes a group of a GUID that has none, with one holder. On an `Err` the groups are as they
-    /// were.
-    fn make(&mut self, guid: Uuid, handle: u64, key: usize, stamp: u64) -> Result<(), AllocError>
-        requires { find (is_group_of guid) self.old ≡ None }
+    /// Makes a group of a GUID that has none at its place, with one holder. On an `Err` the groups are
+    /// as they were.
+    fn make_at(
+        &mut self,
+        at: usize,
+        guid: Uuid,
+        handle: u64,
+        key: usize,
+        stamp: u64,
+    ) -> Result<(), AllocError>
+        requires none { find (is_group_of guid) self.old ≡ None }
+        requires place { at ≡ place (is_before guid) self.old }
+        requires bound { at ≤ length self.old }
         ensures ok { OnOk result (SetsKey guid handle (Some key) self.old self.new) }
         ensures turns { OnOk result (ChangesTurns guid (with_turn handle stamp) self.old self.new) }
         ensures err { OnErr result (self.new ≡ self.old) }
     {
-        let at = count_before(self.groups.as_slice(), guid);
         let mut group = GuidGroup::new(*self.groups.allocator(), guid);
         group.add(handle, key, stamp)?;
         self.groups.insert(at, group)?;
@@ -185,9 +193,11 @@ impl<A: Allocator + Copy> Groups<A> {
         ensures turns { OnOk result (ChangesTurns guid (with_turn handle stamp) self.old self.new) }
         ensures err { OnErr result (self.new ≡ self.old) }
     {
-        match place_of(self.groups.as_slice(), guid) {
-            Some(at) => self.add_at(at, guid, handle, key, stamp),
-            None => self.make(guid, handle, key, stamp),
+        let at = count_before(self.groups.as_slice(), guid);
+        if group_if(self.groups.as_slice(), at, guid).is_some() {
+            self.add_at(at, guid, handle, key, stamp)
+        } else {
+            self.make_at(at, guid, handle, key, stamp)
         }
     }
 

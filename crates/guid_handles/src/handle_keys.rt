@@ -3,6 +3,7 @@ ghost use Rattle.std.specs.Prelude.{◌≡◌, ◌==◌, ◌++◌, [], ◌∷◌
 ghost use Rattle.std.specs.List.{filter};
 ghost use Rattle.std.specs.Mem.{FitsInMemory};
 
+use crate::searches::short_key;
 use smallvec::SmallVec;
 use std::alloc::{AllocError, Allocator};
 use std::marker::Model;
@@ -40,7 +41,7 @@ fn fits_in_memory<T>(none: &Option<T>) -> bool
 /// The keys of the interfaces on a handle in order of installation.
 #[derive(Drop)]
 pub(crate) struct HandleKeys<A: Allocator + KeepsKeys> {
-    keys: SmallVec<usize, INLINE_KEYS, A>,
+    keys: SmallVec<u32, INLINE_KEYS, A>,
 }
 
 impl<A: Allocator + KeepsKeys> Model for HandleKeys<A> {
@@ -58,7 +59,7 @@ impl<A: Allocator + Copy> HandleKeys<A> {
     pub(crate) fn new(alloc: A) -> Result<HandleKeys<A>, AllocError>
         ensures { IfOk result (λ keys. keys ≡ []) }
     {
-        if !fits_in_memory(&None::<SmallVec<usize, INLINE_KEYS, A>>) {
+        if !fits_in_memory(&None::<SmallVec<u32, INLINE_KEYS, A>>) {
             return Err(AllocError);
         }
         Ok(HandleKeys {
@@ -76,7 +77,7 @@ impl<A: Allocator + Copy> HandleKeys<A> {
 
     /// The keys.
     #[inline]
-    pub(crate) fn as_slice(&self) -> &[usize]
+    pub(crate) fn as_slice(&self) -> &[u32]
         ensures { result.now ≡ self.now }
     {
         self.keys.as_slice()
@@ -87,7 +88,7 @@ impl<A: Allocator + Copy> HandleKeys<A> {
         ensures ok { OnOk result (self.new ≡ self.old ++ key ∷ []) }
         ensures err { OnErr result (self.new ≡ self.old) }
     {
-        self.keys.push(key)?;
+        self.keys.push(short_key(key)?)?;
         Ok(())
     }
 
@@ -96,10 +97,10 @@ impl<A: Allocator + Copy> HandleKeys<A> {
         ensures { self.new ≡ filter (λ k. not (k == key)) self.old }
     {
         self.keys.retain(
-            |k: &mut usize| -> bool
+            |k: &mut u32| -> bool
                 ensures answer { result ≡ not (k.old == key) }
                 ensures same { k.new ≡ k.old }
-            { *k != key },
+            { *k as usize != key },
         );
     }
 }

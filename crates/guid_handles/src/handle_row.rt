@@ -90,7 +90,7 @@ impl<A: Allocator + Copy> HandleRow<A> {
     }
 
     /// The keys.
-    pub(crate) fn keys(&self) -> &[usize]
+    pub(crate) fn keys(&self) -> &[u32]
         ensures { result.now ≡ self.now.row.keys }
     {
         self.keys.as_slice()

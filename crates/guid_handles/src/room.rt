@@ -6,11 +6,11 @@ ghost use Rattle.slab.specs.Slab.{HasRoomFor};
 use slab::Slab;
 use std::alloc::{AllocError, Allocator};
 
-/// How many items more a full row gets room for: half as many as it has, and four.
+/// How many items more a full row gets room for: half as many as it has, and 16.
 fn items_added(len: usize) -> usize
-    ensures { result ≡ len / 2 + 4 }
+    ensures { result ≡ len / 2 + 16 }
 {
-    len / 2 + 4
+    len / 2 + 16
 }
 
 /// Makes room for one more item, if there is none.

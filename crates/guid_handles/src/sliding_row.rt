@@ -29,6 +29,14 @@ impl<T: Copy, A: Allocator> Model for SlidingRow<T, A> {
     ghost invariant = { λ r. r.gone ≤ length r.values.items };
 }
 
+/// How many values more a full row gets room for at least: four at first, so that many short rows take
+/// little, then 12.
+fn values_added(len: usize) -> usize
+    ensures { 0 < result }
+{
+    if len == 0 { 4 } else { 12 }
+}
+
 /// Moves the values behind a gap to the front.
 fn close_gap<T: Copy, A: Allocator>(values: &mut Vec<T, A>, gone: usize)
     requires { gone ≤ vec_len values.old }
@@ -86,7 +94,7 @@ impl<T: Copy, A: Allocator> SlidingRow<T, A> {
             self.gone = 0;
             return Ok(());
         }
-        self.values.reserve(1)
+        self.values.reserve(values_added(self.values.len()))
     }
 
     /// Inserts a value, for which there is room.

@@ -1,4 +1,4 @@
-use Rattle.std.proofs.Common.{refl, ap, sym, ◌∙◌}
+use Rattle.std.proofs.Common.{ap}
 use Rattle.guid_handles.specs.Indexes.{Group, key_in, with_turn, without_turn}
 use Rattle.guid_handles.proofs.Grouped.{got, groups_set, key_same, turns_held, turns_set, turns_there}
 use Rattle.guid_handles.proofs.groups.Groups.move_last_at.Goals as goal

@@ -1,4 +1,4 @@
-use Rattle.std.proofs.Common.{sym, ap, not, ◌∙◌}
+use Rattle.std.proofs.Common.{sym, ap, not}
 use Rattle.guid_handles.proofs.Found.{gone_dead}
 use Rattle.guid_handles.proofs.handles.Handles.remove.Goals as goal
 

@@ -1,24 +1,24 @@
 use Rattle.std.proofs.Common.{ap, ◌∙◌}
 use Rattle.guid_handles.specs.Indexes.{Group, with_turn}
 use Rattle.guid_handles.proofs.Grouped.{groups_insert, key_insert, turns_insert}
-use Rattle.guid_handles.proofs.groups.Groups.make.Goals as goal
+use Rattle.guid_handles.proofs.groups.Groups.make_at.Goals as goal
 
 pub invariant_of-self-2 : goal.invariant_of-self-2
 invariant_of-self-2 g c =
     let own = c.add.ensures.guid ∙ ap (λ (x : Group). x.guid) c.new-group.ensures in
     rw c.in_ok-insert.ensures.items
-    (groups_insert _ _ c.args.guid _ own c.self.invariant (rw (← c.self.view_is) at c.requires) (rw c.as_slice.ensures.value at c.count_before-at.ensures.place) c.in_ok-add.ensures.held)
+    (groups_insert _ _ c.args.guid _ own c.self.invariant (rw (← c.self.view_is) at c.requires.none) (rw (← c.self.view_is) at c.requires.place) c.in_ok-add.ensures.held)
 
 pub returns-clause-ok : goal.returns-clause-ok
 returns-clause-ok g c =
     let own = c.add.ensures.guid ∙ ap (λ (x : Group). x.guid) c.new-group.ensures in
     let keys = rw c.new-group.ensures at c.in_ok-add.ensures.ok in
     rw (← c.self.view_is, c.in_ok-insert.ensures.items)
-    (key_insert _ _ c.args.guid _ c.args.handle c.args.key own (rw (← c.self.view_is) at c.requires) keys)
+    (key_insert _ _ c.args.guid _ c.args.handle c.args.key own (rw (← c.self.view_is) at c.requires.none) keys)
 
 pub returns-clause-turns : goal.returns-clause-turns
 returns-clause-turns g c =
     let own = c.add.ensures.guid ∙ ap (λ (x : Group). x.guid) c.new-group.ensures in
     let turns = rw c.new-group.ensures at c.in_ok-add.ensures.turns in
     rw (← c.self.view_is, c.in_ok-insert.ensures.items)
-    (turns_insert _ _ c.args.guid _ (with_turn c.args.handle c.args.stamp) own (rw (← c.self.view_is) at c.requires) turns)
+    (turns_insert _ _ c.args.guid _ (with_turn c.args.handle c.args.stamp) own (rw (← c.self.view_is) at c.requires.none) turns)
