@@ -18,3 +18,4 @@ pub mod Following
 pub mod BlockLists
 pub mod PlaceLists
 pub mod Made
+pub mod TakenBack

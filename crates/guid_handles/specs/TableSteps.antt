@@ -1,5 +1,5 @@
 -- What single steps do to the handle table, and what they return.
-use Rattle.std.specs.Prelude.{◌≡◌, ℕ, ◌+◌, ◌-◌, ◌<◌, ◌==◌, not, List, [], ◌∷◌, Option, Result}
+use Rattle.std.specs.Prelude.{◌≡◌, ℕ, ◌+◌, ◌-◌, ◌<◌, ◌≤◌, ◌==◌, nat_le, not, List, [], ◌∷◌, Option, Result}
 use Rattle.std.specs.List.{filter, AllByRecursion}
 use Rattle.page_ranges.specs.declared.statuses.Status.{Status}
 use Rattle.guid_handles.specs.declared.records.Interface.{Interface}
@@ -27,6 +27,23 @@ AreOthersLower t =
 abbrev pub without_last_handle : HandleTable → HandleTable
 without_last_handle t =
     record (without_handle t.last_number t) { last_number = t.last_number - 1 }
+
+-- ---- handles that are taken back
+
+-- the handles above a number go, with the interfaces on them
+abbrev pub without_above : ℕ → HandleTable → HandleTable
+without_above n t = record t {
+  handles = filter (λ h. nat_le h.number n) t.handles;
+  interfaces = filter (λ i. nat_le i.handle n) t.interfaces;
+}
+
+-- they go, and that number and a stamp are again the last that were given
+abbrev pub taken_back_to : ℕ → ℕ → HandleTable → HandleTable
+taken_back_to n stamp t = record (without_above n t) { last_number = n; last_stamp = stamp }
+
+-- the interfaces on the handles up to a number have no stamp above one
+abbrev pub AreOlder : ℕ → ℕ → HandleTable → Type 0
+AreOlder n stamp t = AllByRecursion (λ i. i.stamp ≤ stamp) (without_above n t).interfaces
 
 -- ---- an interface that comes or goes
 

@@ -1,12 +1,13 @@
 //! The handle table.
-ghost use Rattle.std.specs.Prelude.{◌≡◌, ◌≢◌, ◌+◌, ◌-◌, ◌<◌, ◌≤◌, ◌^◌, ◌==◌, ◌&&◌, ℕ, List, cond, not, is_some, IsSome, IfNone, OnOk, true, false, nat_lt, [], ◌∷◌, ◌++◌, map, length, option_map, slice_get, None, Some, IfOk, OnErr};
+ghost use Rattle.std.specs.Prelude.{◌≡◌, ◌≢◌, ◌+◌, ◌-◌, ◌<◌, ◌≤◌, ◌^◌, ◌==◌, ◌&&◌, ℕ, List, cond, not, is_some, IsSome, IfSome, IfNone, OnOk, true, false, nat_lt, [], ◌∷◌, ◌++◌, map, length, option_map, slice_get, None, Some, IfOk, OnErr};
 ghost use Rattle.std.specs.List.{find, filter, list_any, AllByRecursion};
 ghost use Rattle.guid_handles.specs.HandleTables.{numbers, same_guid, has_number, is_live, is_on, is_at, maker_of, interface_at, value_at, carries, holders_of, interfaces_on, guids_on, written_over, earliest, is_after, next_after};
 ghost use Rattle.guid_handles.specs.HandleChanges.{IsHandleTable, max_handles, max_installed, has_guid_twice, is_dead, is_taken, past_limit, refusal, with_interfaces, with_handle, install_refusal, install_many_refusal, Installs, without_handle, without_interface, with_value};
 ghost use Rattle.guid_handles.specs.Indexes.{AreAbsent, ChangesKeys, ChangesTurns, HaveSameKeys, HaveSameTurns, SetsKey, is_row_of, key_at, turns_of, with_turn};
 ghost use Rattle.guid_handles.specs.Slots.{record_at, with_stamp};
+ghost use Rattle.guid_handles.specs.Sorting.{Ascending};
 ghost use Rattle.guid_handles.specs.MadeOn.{made_on};
-ghost use Rattle.guid_handles.specs.TableSteps.{AreOthersLower, AreOthersOlder, InstallsMany, InstallsOne, MakesHandle, MakesHandleWith, taken_back, taken_out, without_last_handle};
+ghost use Rattle.guid_handles.specs.TableSteps.{AreOthersLower, AreOthersOlder, InstallsMany, InstallsOne, MakesHandle, MakesHandleWith, AreOlder, taken_back, taken_back_to, taken_out, without_above, without_last_handle};
 ghost use Rattle.guid_handles.specs.Stores.{AgreeOnKeys};
 
 use crate::groups::Groups;
@@ -135,6 +136,17 @@ fn take_record<A: Allocator>(records: &mut Slab<Record, A>, key: usize) -> u64
         Some(record) => record.interface.stamp,
         None => unreachable!(),
     }
+}
+
+/// The last of some numbers, if it is above one.
+fn last_above(numbers: &[u64], number: u64) -> Option<u64>
+    requires { Ascending (λ a b. a < b) numbers.now }
+    ensures there { IfSome result
+        (λ n. (number < n) × (list_any (λ m. m == n) numbers.now ≡ true)) }
+    ensures none { IfNone result (AllByRecursion (λ n. n ≤ number) numbers.now) }
+{
+    let last = *numbers.last()?;
+    if last > number { Some(last) } else { None }
 }
 
 impl<A: Allocator + Copy> Handles<A> {
@@ -282,9 +294,10 @@ impl<A: Allocator + Copy> Handles<A> {
         self.last_number
     }
 
-    /// The last stamp that was given, 0 at first.
+    /// The last stamp that was given, 0 at first. No interface has a later one.
     pub fn last_stamp(&self) -> u64
-        ensures { result ≡ self.now.last_stamp }
+        ensures stamp { result ≡ self.now.last_stamp }
+        ensures latest { AllByRecursion (λ i. i.stamp ≤ result) self.now.interfaces }
     {
         self.last_stamp
     }
@@ -596,6 +609,28 @@ impl<A: Allocator + Copy> Handles<A> {
             self.take_first(handle);
         }
         self.remove_bare(handle);
+    }
+
+    /// Takes out the handles above a number, with the interfaces on them.
+    fn remove_above(&mut self, number: u64)
+        ensures { self.new ≡ without_above number self.old }
+    {
+        // The contract of this look-up says that the numbers ascend.
+        while let Some(last) = last_above(self.all(), number) {
+            self.remove_handle(last);
+        }
+    }
+
+    /// Takes back what was made since a number and a stamp were the last that were given: the handles
+    /// above the number go, with the interfaces on them. This takes no memory.
+    pub fn take_back_to(&mut self, last_number: u64, last_stamp: u64)
+        requires stamp { last_stamp ≤ self.old.last_stamp }
+        requires older { AreOlder last_number last_stamp self.old }
+        ensures { self.new ≡ taken_back_to last_number last_stamp self.old }
+    {
+        self.remove_above(last_number);
+        self.last_number = last_number;
+        self.last_stamp = last_stamp;
     }
 
     /// Gives the interface of a GUID on a handle a value and a new stamp. It keeps its place in the

@@ -3,3 +3,4 @@ pub mod Asked
 pub mod ListedItems
 pub mod Managing
 pub mod Used
+pub mod LastItems

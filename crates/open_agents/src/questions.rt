@@ -1,5 +1,5 @@
 //! What is asked of open items.
-ghost use Rattle.std.specs.Prelude.{◌≡◌, ◌==◌, ◌&&◌, ◌||◌, false, IfSome, IfNone};
+ghost use Rattle.std.specs.Prelude.{◌≡◌, ◌+◌, ◌==◌, ◌&&◌, ◌||◌, [], true, false, drop, is_some, IfSome, IfNone};
 ghost use Rattle.std.specs.List.{list_any};
 ghost use Rattle.open_agents.specs.OpenItems as spec;
 ghost use Rattle.open_agents.specs.OpenItems.{is_closed_by, is_equal_item, is_of_pair};
@@ -322,6 +322,20 @@ pub(crate) fn find_last_naming(slots: &[Option<OpenRecord>], handle: u64) -> Opt
             if names_handle(o, handle) {
                 return Some(place);
             }
+        }
+    }
+    None
+}
+
+/// The place of the last item.
+pub(crate) fn find_last(slots: &[Option<OpenRecord>]) -> Option<usize>
+    ensures there { IfSome result (λ k. is_some (there slots.now k) ≡ true) }
+    ensures last { IfSome result (λ k. items_in (drop (k + 1) slots.now) ≡ []) }
+    ensures none { IfNone result (items_in slots.now ≡ []) }
+{
+    for place in (0..slots.len()).rev() {
+        if slots[place].is_some() {
+            return Some(place);
         }
     }
     None

@@ -1,0 +1,141 @@
+-- Handles above a number go, the last one first, and that number and a stamp are the last again.
+use Rattle.std.proofs.Common.{◌≡◌, ℕ, zero, suc, ◌+◌, ◌-◌, ◌<◌, ◌≤◌, ◌==◌, nat_eq, nat_le, not, Bool, true, List, [], ◌∷◌, map, length, Option, Some, None, inl, inr, refl, sym, ap, ◌∙◌, arith}
+use Rattle.std.specs.List.{filter, list_any, slice_get, AllByRecursion}
+use Rattle.std.specs.Option.{option_map}
+use Rattle.std.proofs.lemmas.Bool.{cases_Bool, eq-eqb, ne_eqb, leb-true, le-leb}
+use Rattle.std.proofs.lemmas.Option.{same_Some}
+use Rattle.guid_handles.specs.declared.records.Interface.{Interface}
+use Rattle.guid_handles.specs.declared.records.LiveHandle.{LiveHandle}
+use Rattle.guid_handles.specs.declared.records.Record.{Record}
+use Rattle.guid_handles.specs.HandleTables.{HandleTable, numbers, is_on, is_at, has_number}
+use Rattle.guid_handles.specs.HandleChanges.{IsHandleTable, without_handle}
+use Rattle.guid_handles.specs.Sorting.{Ascending}
+use Rattle.guid_handles.specs.Indexes.{Row, Group, lives}
+use Rattle.guid_handles.specs.Slots.{installed_until}
+use Rattle.guid_handles.specs.Stores.{IsStore, table_of}
+use Rattle.guid_handles.specs.TableSteps.{AreOlder, taken_back_to, without_above}
+use Rattle.guid_handles.proofs.SortedLists.{all_both, all_map, all_under, any_member, filter_shorter}
+use Rattle.guid_handles.proofs.Filters.{filter_inside}
+use Rattle.guid_handles.proofs.Found.{found_one}
+use Rattle.guid_handles.proofs.Slotted.{AreBelow, until_later}
+use Rattle.guid_handles.proofs.Stored.{slot_found}
+
+-- ---- the last of ascending numbers
+
+pub last_highest : (n : ℕ) (ns : List ℕ) (l : ℕ) → Ascending (λ a b. a < b) ns → slice_get ns (length ns - 1) ≡ Some l → l ≤ n → AllByRecursion (λ k. k ≤ n) ns
+last_highest n [] l a e b = tt
+last_highest n (x ∷ []) l a e b = (omega (arith, same_Some x l e, b), tt)
+last_highest n (x ∷ y ∷ ys) l a e b =
+    let i : length (x ∷ y ∷ ys) - 1 ≡ suc (length (y ∷ ys) - 1) = omega arith in
+    let rest = last_highest n (y ∷ ys) l a.1 (rw i at e) b in
+    (omega (arith, a.0.0, rest.0), rest)
+
+pub last_there : (ns : List ℕ) (l : ℕ) → slice_get ns (length ns - 1) ≡ Some l → list_any (λ m. m == l) ns ≡ true
+last_there [] l e = absurd cc
+last_there (x ∷ []) l e = rw (eq-eqb x l (same_Some x l e)) refl
+last_there (x ∷ y ∷ ys) l e =
+    let i : length (x ∷ y ∷ ys) - 1 ≡ suc (length (y ∷ ys) - 1) = omega arith in
+    elim (cases_Bool (x == l)) [
+      | inl t ↦ rw t refl
+      | inr f ↦ rw f (last_there (y ∷ ys) l (rw i at e))
+    ]
+
+pub none_higher : (n : ℕ) (ns : List ℕ) → slice_get ns (length ns - 1) ≡ None → AllByRecursion (λ k. k ≤ n) ns
+none_higher n [] e = tt
+none_higher n (x ∷ []) e = absurd cc
+none_higher n (x ∷ y ∷ ys) e =
+    let i : length (x ∷ y ∷ ys) - 1 ≡ suc (length (y ∷ ys) - 1) = omega arith in
+    absurd (short (y ∷ ys) (length (y ∷ ys) - 1) (omega arith) (rw i at e))
+  where
+    short : (zs : List ℕ) (k : ℕ) → k < length zs → slice_get zs k ≡ None → ⊥
+    short [] k l w = omega (arith, l)
+    short (z ∷ zs) zero l w = cc
+    short (z ∷ zs) (suc k) l w = short zs k (omega (arith, l)) w
+
+-- ---- one handle goes
+
+-- a handle above the number may go first
+pub still_above : (n m : ℕ) (t : HandleTable) → n < m → without_above n (without_handle m t) ≡ without_above n t
+still_above n m t l =
+    let handles : filter (λ h. nat_le h.number n) (filter (λ h. not (has_number m h)) t.handles) ≡ filter (λ h. nat_le h.number n) t.handles =
+    filter_inside (λ h. not (has_number m h)) (λ h. nat_le h.number n) (λ h e. ap not (ne_eqb h.number m (λ w. omega (arith, leb-true h.number n e, w, l)))) t.handles in
+    let interfaces : filter (λ i. nat_le i.handle n) (filter (λ i. not (is_on m i)) t.interfaces) ≡ filter (λ i. nat_le i.handle n) t.interfaces =
+    filter_inside (λ i. not (is_on m i)) (λ i. nat_le i.handle n) (λ i e. ap not (ne_eqb i.handle m (λ w. omega (arith, leb-true i.handle n e, w, l)))) t.interfaces in
+    rw (handles, interfaces) refl
+
+-- then there are fewer
+pub fewer_handles : (m : ℕ) (hs : List LiveHandle) → list_any (λ k. k == m) (map (λ h. h.number) hs) ≡ true → length (filter (λ h. not (has_number m h)) hs) < length hs
+fewer_handles m [] e = absurd cc
+fewer_handles m (h ∷ hs) e = elim (cases_Bool (h.number == m)) [
+  | inl t ↦ rw t (omega (arith, filter_shorter (λ x. not (has_number m x)) hs))
+  | inr f ↦ rw f (omega (arith, fewer_handles m hs (rw f at e)))
+]
+
+filter_all : {X : Type 0} (p : X → Bool) (xs : List X) → AllByRecursion (λ x. p x ≡ true) xs → filter p xs ≡ xs
+filter_all p [] h = refl
+filter_all p (x ∷ xs) h = rw h.0 (ap (λ r. x ∷ r) (filter_all p xs h.1))
+
+-- where none is above the number, none goes
+pub none_above : (n : ℕ) (t : HandleTable) → IsHandleTable t → AllByRecursion (λ k. k ≤ n) (numbers t) → t ≡ without_above n t
+none_above n t h a =
+    let handles : filter (λ (x : LiveHandle). nat_le x.number n) t.handles ≡ t.handles =
+    filter_all (λ (x : LiveHandle). nat_le x.number n) t.handles
+    (all_map (λ (x : LiveHandle). x.number ≤ n) (λ x. nat_le x.number n ≡ true) (λ x l. le-leb x.number n l) t.handles (all_under (λ (x : LiveHandle). x.number) (λ k. k ≤ n) t.handles a)) in
+    let interfaces : filter (λ (i : Interface). nat_le i.handle n) t.interfaces ≡ t.interfaces =
+    filter_all (λ (i : Interface). nat_le i.handle n) t.interfaces
+    (all_map (λ (i : Interface). list_any (λ m. nat_eq m i.handle) (numbers t) ≡ true) (λ i. nat_le i.handle n ≡ true) (λ i e. le-leb i.handle n (any_member i.handle (numbers t) (λ k. k ≤ n) a e)) t.interfaces h.on_live) in
+    rw (handles, interfaces) refl
+
+-- ---- how the table is kept
+
+until_back : (k last : ℕ) (slots : List (Option Record)) → AreBelow last slots → installed_until (k + last) slots ≡ installed_until last slots
+until_back zero last slots b = let none : 0 + last ≡ last = omega arith in ap (λ m. installed_until m slots) none
+until_back (suc k) last slots b =
+    let next : suc k + last ≡ (k + last) + 1 = omega arith in
+    ap (λ m. installed_until m slots) next ∙ until_later (k + last) slots (λ j r e. omega (arith, b j r e)) ∙ until_back k last slots b
+
+those_lower : (n : ℕ) (hs : List LiveHandle) → AllByRecursion (λ k. k ≤ n) (map (λ (h : LiveHandle). h.number) (filter (λ h. nat_le h.number n) hs))
+those_lower n [] = tt
+those_lower n (h ∷ hs) = elim (cases_Bool (nat_le h.number n)) [
+  | inl t ↦ rw t (leb-true h.number n t, those_lower n hs)
+  | inr f ↦ rw f (those_lower n hs)
+]
+
+module _ (rows : List Row) (slots : List (Option Record)) (groups : List Group) (number stamp : ℕ) (s : IsStore rows slots groups number stamp) where
+  -- a number and a stamp are the last again, if no handle and no interface has a later one
+  stored_back_to : (n last : ℕ) → AllByRecursion (λ k. k ≤ n) (map (λ h. h.number) (lives rows)) → last ≤ stamp → AllByRecursion (λ i. i.stamp ≤ last) (installed_until stamp slots)
+      → (installed_until last slots ≡ installed_until stamp slots) × IsStore rows slots groups n last
+  stored_back_to n last lower l older =
+      let under : AreBelow last slots = λ j r w.
+      let f = slot_found rows slots groups number stamp s j r.interface (ap (option_map (λ (x : Record). x.interface)) w) in
+      let k : r.interface.stamp ≤ last = (found_one (λ i. i.stamp ≤ last) (is_at r.interface.handle r.interface.guid) (installed_until stamp slots) r.interface older f).1 in
+      omega (arith, k, (s.stamped j r w).1) in
+      let sum : stamp ≡ (stamp - last) + last = omega (arith, l) in
+      let same : installed_until last slots ≡ installed_until stamp slots = sym (ap (λ k. installed_until k slots) sum ∙ until_back (stamp - last) last slots under) in (
+        same,
+        record {
+          table = record {
+            proper = record {
+              ascending = s.table.proper.ascending;
+              given = all_both (λ m. (0 < m) × (m ≤ number)) (λ m. m ≤ n) (λ m. (0 < m) × (m ≤ n)) (λ m h k. (h.0, k)) (map (λ h. h.number) (lives rows)) s.table.proper.given lower;
+              limit = s.table.proper.limit;
+              on_live = rw same s.table.proper.on_live;
+            };
+            apart = rw same s.table.apart;
+            below = rw same older;
+          };
+          filed = rw same s.filed;
+          turns = rw same s.turns;
+          stamped = s.stamped;
+        },
+      )
+
+  pub taken_back_to_mark : (t : HandleTable) (n last : ℕ) → table_of rows slots number stamp ≡ without_above n t → last ≤ t.last_stamp → AreOlder n last t
+      → (table_of rows slots n last ≡ taken_back_to n last t) × IsStore rows slots groups n last
+  taken_back_to_mark t n last e l older =
+      let stamps : stamp ≡ t.last_stamp = ap (λ (x : HandleTable). x.last_stamp) e in
+      let these : installed_until stamp slots ≡ (without_above n t).interfaces = ap (λ (x : HandleTable). x.interfaces) e in
+      let those : lives rows ≡ filter (λ h. nat_le h.number n) t.handles = ap (λ (x : HandleTable). x.handles) e in
+      let b = stored_back_to n last (rw those (those_lower n t.handles)) (omega (arith, l, stamps)) (rw these older) in
+      let back : table_of rows slots n last ≡ record (table_of rows slots number stamp) { last_number = n; last_stamp = last } = rw b.0 refl in
+      (back ∙ ap (λ (x : HandleTable). record x { last_number = n; last_stamp = last }) e, b.1)
