@@ -1,5 +1,5 @@
-//! Placing pages and judging certificates as a library for C by itself, with no core and no heap: what is allocated
-//! lies in a region that the caller hands over.
+//! Placing pages as a library for C by itself, with no core and no heap: what is allocated lies in a region that the
+//! caller hands over.
 #![tactic(auto)]
 
 mod placing;
