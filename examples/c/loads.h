@@ -76,4 +76,10 @@ one_call open_to_get;
 /* Questions, and the turns and stops of drivers that are code, beside OpenProtocol (questions of
  * question_loads.c). */
 void run_questions(struct load *load, size_t handles);
+
+/* LocateDevicePath of a path that the longest of many paths begins, and of one that none begins; a
+ * stop of a chain of drivers (worst_loads.c). */
+void run_paths(struct load *load, size_t handles);
+void run_vain_paths(struct load *load, size_t handles);
+void run_chain(struct load *load, size_t handles);
 #endif

@@ -8,12 +8,14 @@
  * place), pool-10000 (of blocks), handles-64, handles-1024 or handles-4096 (of handles),
  * drivers-64, drivers-1024 or drivers-4096 (of handles, on which a driver is started and stopped),
  * questions-64, questions-1024 or questions-4096 (of handles and blocks, which are asked for one by
- * one), or keys-10000 (of registrations); without any all are run. It prints nanoseconds a call, the
- * least of COUNT repetitions, each on a new core; what a call asks for is drawn before the clock
- * starts. `refused` is a call that is refused at once: what any call costs at least. With --certify
- * the core keeps the certificates of placements. With --growth two tables in Markdown are printed:
- * of what calls on pages cost in a churn at 100 live allocations, ten times as many and so on up to
- * MAX, and of a request that nothing can hold, without and with certificates. */
+ * one), keys-10000 (of registrations), paths-4000 or vain-paths-4000 (of handles with device paths
+ * of nearly as many nodes as the one of 60,000 that is looked for, which take 1 GB), or chain-4096
+ * (of handles, each the child of a driver on the one before); without any all are run. It prints
+ * nanoseconds a call, the least of COUNT repetitions, each on a new core; what a call asks for is
+ * drawn before the clock starts. `refused` is a call that is refused at once: what any call costs at
+ * least. With --certify the core keeps the certificates of placements. With --growth two tables in
+ * Markdown are printed: of what calls on pages cost in a churn at 100 live allocations, ten times as
+ * many and so on up to MAX, and of a request that nothing can hold, without and with certificates. */
 #include "fault.h"
 #include "loads.h"
 
@@ -37,6 +39,9 @@
 /* The requests that find no place, and the pages of a free range there. */
 #define VAIN_REQUESTS 200
 #define CROWDED_PAGES 4
+
+/* The pages of a block with a path of 60,000 nodes of four bytes. */
+#define PAGES_OF_PATH 60
 
 /* The handles that the registrations meet, an interface on each. */
 #define KEYED_HANDLES 1024
@@ -515,8 +520,9 @@ static void run_keys(struct load *load, size_t keys)
     time_calls(load, "serve", "LocateProtocol", keys, take_value);
 }
 
-/* The machine's driver: it needs an interface of a kind, and opens it. */
-static void add_driver(struct machine *machine, const struct rafkudin_guid *kind)
+/* The machine's driver: it needs an interface of a kind, and opens it. Where it makes a child, that
+ * has such an interface too. */
+static void add_driver(struct machine *machine, const struct rafkudin_guid *kind, bool makes_child)
 {
     struct rafkudin_driver driver = {0};
 
@@ -524,6 +530,9 @@ static void add_driver(struct machine *machine, const struct rafkudin_guid *kind
     driver.stops = true;
     driver.needs[0] = driver.opens[0] = *kind;
     driver.needs_count = driver.opens_count = 1;
+    driver.children[0].interfaces[0].guid = *kind;
+    driver.children[0].count = 1;
+    driver.children_count = makes_child;
     machine->drivers[0] = driver;
     machine->driver_count = 1;
 }
@@ -577,6 +586,16 @@ static uint64_t make_crowded_machine(struct machine *machine, size_t descriptors
     return page * PAGE;
 }
 
+/* A machine of one range with room for a path of the given number of handles each. */
+static uint64_t make_large_machine(struct machine *machine, size_t handles)
+{
+    uint64_t page = add_range(machine, RAFKUDIN_CONVENTIONAL, 1, (handles + 1) * PAGES_OF_PATH);
+
+    machine->granule = 1;
+    machine->drivers = grow(NULL, sizeof *machine->drivers);
+    return page * PAGE;
+}
+
 /* The loads, the machine of each, and how often each is repeated. */
 static const struct {
     const char *name;
@@ -602,6 +621,9 @@ static const struct {
     {"questions-1024", run_questions, make_machine, 1024, 9},
     {"questions-4096", run_questions, make_machine, 4096, 5},
     {"keys-10000", run_keys, make_machine, 10000, 3},
+    {"paths-4000", run_paths, make_large_machine, 4000, 1},
+    {"vain-paths-4000", run_vain_paths, make_large_machine, 4000, 1},
+    {"chain-4096", run_chain, make_machine, 4096, 3},
 };
 
 /* Runs a load the given number of times, or as often as it says, each time on a new core. */
@@ -621,7 +643,7 @@ static void repeat(struct meter *meter, size_t index, int repetitions, bool cert
     for (size_t kind = 0; kind <= KINDS; kind++)
         put_number(load.kinds[kind].bytes, sizeof load.kinds[kind].bytes,
                    0x6b66615200000000 + kind);
-    add_driver(&machine, &load.kinds[KINDS]);
+    add_driver(&machine, &load.kinds[KINDS], loads[index].run == run_chain);
     for (int done = 0; done < repetitions; done++) {
         load.drawn = 0x9e3779b97f4a7c15;
         load.count = 0;

@@ -1,6 +1,6 @@
 -- How a handle lends its core.
 use Rattle.std.specs.Borrow.{Lends, MutBor, Fml}
-use Rattle.boot_services_c.specs.Blocks.{CoreRow, Core}
+use Rattle.boot_services_c.specs.Cores.{CoreRow, Core}
 use Rattle.boot_services_c.specs.declared.handle.Rafkudin.{Rafkudin}
 use Rattle.boot_services_c.specs.contracts.handle.Rafkudin.{the_row}
 

@@ -1,4 +1,5 @@
 pub mod Blocks
+pub mod Cores
 pub mod Lending
 pub mod MadeCores
 pub mod Places

@@ -2,7 +2,7 @@
 use Rattle.std.specs.Prelude.{ℕ, List, Result, Ok, Err, MatchOption, MatchResult}
 use Rattle.c_machines.specs.declared.drivers.DriverTable.{DriverTable}
 use Rattle.c_interface.specs.Making.{MakesCore}
-use Rattle.boot_services_c.specs.Blocks.{CoreHeap}
+use Rattle.boot_services_c.specs.Cores.{CoreHeap}
 use Rattle.boot_services_c.specs.Places.{Held}
 use Rattle.boot_services_c.specs.declared.place.Place.{Place}
 

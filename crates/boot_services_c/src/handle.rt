@@ -1,7 +1,8 @@
 //! A core as C holds it.
 ghost use Rattle.std.specs.Prelude.{◌≡◌};
 ghost use Rattle.std.specs.Borrow.{sem};
-ghost use Rattle.boot_services_c.specs.Blocks.{CoreRow, Core, core_code, block_of};
+ghost use Rattle.boot_services_c.specs.Blocks.{block_of};
+ghost use Rattle.boot_services_c.specs.Cores.{CoreRow, Core, core_code};
 
 use crate::blocks::Block;
 use c_interface::EfiCore;

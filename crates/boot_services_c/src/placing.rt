@@ -1,6 +1,8 @@
-//! Placing pages with no core.
+//! Placing pages and judging certificates with no core.
+ghost use Rattle.c_interface.specs.Checks.{ChecksBlock};
 ghost use Rattle.map_placement.specs.Places.{PlacesPages};
 
+use c_interface::check_block;
 use map_placement::place;
 use std::alloc::Global;
 
@@ -33,4 +35,15 @@ pub extern "C" fn RafkudinPlace(
         limit,
         address,
     )
+}
+
+/// Judges a certificate block: SUCCESS if it is accepted.
+///
+/// ACCESS_DENIED: it is refused. INVALID_PARAMETER: it is no block; the variable `line` is given its first line
+/// that is wrong or missing. OUT_OF_RESOURCES: memory ran out.
+#[unsafe(no_mangle)]
+pub extern "C" fn RafkudinCheck(alloc: Global, text: &[u8], line: &mut u64) -> u64
+    ensures { ChecksBlock text.now line.old result line.new }
+{
+    check_block(alloc, text, line)
 }

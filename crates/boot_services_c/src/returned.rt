@@ -2,7 +2,7 @@
 ghost use Rattle.std.specs.Prelude.{◌≡◌, length};
 ghost use Rattle.page_ranges.specs.MemoryMap.{memory_map};
 ghost use Rattle.c_interface.specs.Buffers.{laid};
-ghost use Rattle.c_interface.specs.Checks.{ChecksBlock, ReturnsEntry};
+ghost use Rattle.c_interface.specs.Checks.{ReturnsEntry};
 ghost use Rattle.c_interface.specs.EfiCores.{certifying_core, last_events};
 ghost use Rattle.c_interface.specs.Items.{map_entry};
 ghost use Rattle.c_interface.specs.ReplyLines.{ReturnsReply};
@@ -11,7 +11,6 @@ ghost use Rattle.boot_services_c.specs.Versions.{version};
 
 use crate::handle::Rafkudin;
 use c_interface::MapEntry;
-use std::alloc::Global;
 
 /// The version of the library, 0.1.0.
 const VERSION: u32 = 0x100;
@@ -63,17 +62,6 @@ pub extern "C" fn RafkudinReplyLine(
     ensures kept { core.new.core ≡ core.old.core }
 {
     core.held().reply_line(number, text, length)
-}
-
-/// Judges a certificate block: SUCCESS if it is accepted.
-///
-/// ACCESS_DENIED: it is refused. INVALID_PARAMETER: it is no block; the variable `line` receives its first line that is
-/// wrong or missing. OUT_OF_RESOURCES: memory ran out.
-#[unsafe(no_mangle)]
-pub extern "C" fn RafkudinCheck(alloc: Global, text: &[u8], line: &mut u64) -> u64
-    ensures { ChecksBlock text.now line.old result line.new }
-{
-    c_interface::check_block(alloc, text, line)
 }
 
 /// How many events the last service that was called signals; the first of them are copied into `events`, as many as it

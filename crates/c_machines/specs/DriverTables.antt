@@ -1,5 +1,5 @@
 -- What the tables of drivers mean.
-use Rattle.std.specs.Prelude.{◌≡◌, ℕ, Bool, true, false, ◌&&◌, nat_le, List, length, map, take, Option, Some, None, Result, Ok, Err, if◌then◌else◌}
+use Rattle.std.specs.Prelude.{◌≡◌, ℕ, Bool, true, false, ◌&&◌, nat_le, List, length, map, take, Option, Some, None, Result, Ok, Err, if◌then◌else◌, [], ◌∷◌, ◌++◌, ◌+◌}
 use Rattle.std.specs.List.{list_all}
 use Rattle.std.specs.declared.vec.Vec.{Vec}
 use Rattle.boot_machines.specs.Machines.{most_drivers}
@@ -83,3 +83,17 @@ ReadsDrivers ts (Ok drivers) =
     (are_tables ts ≡ true) × (map returned drivers.items ≡ map driver_in ts)
 ReadsDrivers ts (Err Invalid) = are_tables ts ≡ false
 ReadsDrivers ts (Err OutOfMemory) = are_tables ts ≡ true
+
+-- ---- a driver behind others
+
+-- One driver is put behind others.
+abbrev pub PutsOneBehind : List TableDriver → List TableDriver → Type 0
+PutsOneBehind old new = (length new ≡ length old + 1) × (take (length old) new ≡ old)
+
+-- The driver of a table is put behind others, or it is none.
+abbrev pub PushesDriver : List TableDriver → DriverTable → Result (Unit {0}) MachineFault
+    → List TableDriver → Type 0
+PushesDriver old t (Ok _) new =
+    (fits t ≡ true) × (map returned new ≡ map returned old ++ driver_in t ∷ [])
+PushesDriver old t (Err Invalid) new = fits t ≡ false
+PushesDriver old t (Err OutOfMemory) new = Unit

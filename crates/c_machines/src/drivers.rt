@@ -1,8 +1,8 @@
 //! Drivers as C has them, in tables.
-ghost use Rattle.std.specs.Prelude.{◌≡◌, map};
+ghost use Rattle.std.specs.Prelude.{◌≡◌, map, IfErr, OnOk};
 ghost use Rattle.std.specs.Option.{option_map};
 ghost use Rattle.std.specs.List.{list_all};
-ghost use Rattle.c_machines.specs.DriverTables.{ReadsDrivers, are_tables, fits_child, child_in, children_in, fits, driver_in, guids_up_to, read_if, returned};
+ghost use Rattle.c_machines.specs.DriverTables.{PushesDriver, PutsOneBehind, ReadsDrivers, are_tables, fits_child, child_in, children_in, fits, driver_in, guids_up_to, read_if, returned};
 
 use crate::faults::MachineFault;
 use crate::guids::{Guid, Interface};
@@ -92,25 +92,67 @@ pub fn table_drivers<A: Allocator>(
     }
     let mut tables = Vec::with_capacity(alloc, drivers.len())?;
     for driver in drivers {
-        let table = driver_in(driver).ok_or(MachineFault::Invalid)?;
-        tables.push(table)?;
+        push_driver(&mut tables, driver)?;
     }
     Ok(tables)
 }
 
-/// The driver of a table, None where a count is above the length of its array.
-fn driver_in(table: &DriverTable) -> Option<TableDriver>
-    ensures { option_map returned result ≡ read_if (fits table.now) (driver_in table.now) }
+// A driver takes over 1,000 bytes, and each function that hands one on has a copy in its frame. So none is handed on:
+// it is filled where it lies, behind the others.
+
+/// Puts the driver of a table behind others.
+///
+/// Invalid where a count is above the length of its array.
+fn push_driver<A: Allocator>(
+    drivers: &mut Vec<TableDriver, A>,
+    table: &DriverTable,
+) -> Result<(), MachineFault>
+    ensures { PushesDriver drivers.old.items table.now result drivers.new.items }
 {
-    let needs = guids_in(&table.needs, table.needs_count)?;
-    let opens = guids_in(&table.opens, table.opens_count)?;
-    let children = children_in(&table.children, table.children_count)?;
-    Some(TableDriver {
-        version: table.version,
-        needs,
-        plan: StartPlan { opens, children },
-        stops: table.stops,
-    })
+    let at = drivers.len();
+    push_empty(drivers)?;
+    if fill(&mut drivers[at], table) {
+        Ok(())
+    } else {
+        Err(MachineFault::Invalid)
+    }
+}
+
+/// Puts a driver behind others, any one.
+#[inline(never)]
+fn push_empty<A: Allocator>(drivers: &mut Vec<TableDriver, A>) -> Result<(), MachineFault>
+    ensures ok { OnOk result (PutsOneBehind drivers.old.items drivers.new.items) }
+    ensures err { IfErr result (λ fault. fault ≡ MachineFault.OutOfMemory) }
+{
+    drivers.push(TableDriver {
+        version: 0,
+        needs: ArrayVec::new(),
+        plan: StartPlan::none(),
+        stops: false,
+    })?;
+    Ok(())
+}
+
+/// Makes a driver that of a table. False where a count is above the length of its array.
+#[inline(never)]
+fn fill(driver: &mut TableDriver, table: &DriverTable) -> bool
+    ensures { read_if result (returned driver.new) ≡ read_if (fits table.now)
+        (driver_in table.now) }
+{
+    let Some(needs) = guids_in(&table.needs, table.needs_count) else {
+        return false;
+    };
+    let Some(opens) = guids_in(&table.opens, table.opens_count) else {
+        return false;
+    };
+    let Some(children) = children_in(&table.children, table.children_count) else {
+        return false;
+    };
+    driver.version = table.version;
+    driver.needs = needs;
+    driver.plan = StartPlan { opens, children };
+    driver.stops = table.stops;
+    true
 }
 
 /// The first GUIDs, as many as the count says; None where there are fewer.

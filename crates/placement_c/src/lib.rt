@@ -1,5 +1,5 @@
-//! Placing pages and judging certificates as a library for C by itself, with no core and no heap: what is allocated
-//! lies in a region that the caller passes.
+//! Placing pages as a library for C by itself, with no core and no heap: what is allocated lies in a region that the
+//! caller passes.
 #![tactic(auto)]
 
 mod placing;

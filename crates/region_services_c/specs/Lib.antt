@@ -1,2 +1,3 @@
+pub mod Cores
 pub mod Rooms
 pub mod Versions

@@ -3,9 +3,9 @@ ghost use Rattle.std.specs.Prelude.{◌≡◌, length};
 ghost use Rattle.c_interface.specs.Items.{ListsItems, open_item_at};
 ghost use Rattle.c_interface.specs.Questions.{FillsWith, ReturnsFound, agent_item_at, block_from, handle_at, holder_at, holders, interface_at, live_handles, page_run, page_runs};
 
+use crate::handle::Rafkudin;
 use c_interface::{BlockEntry, OpenEntry, OpenItem, RunEntry};
 use c_machines::{Guid, Interface};
-use region_cores::Rafkudin;
 
 /// The live block of the pool with the lowest address at or above one.
 ///

@@ -3,10 +3,11 @@
 #![tactic(auto)]
 
 mod contents;
+mod handle;
 mod making;
 mod memory;
 mod paths;
 mod protocols;
-mod questions;
+mod returned;
 mod tracing;
 mod turns;

@@ -7,7 +7,7 @@ ghost use Rattle.boot_calls.specs.declared.calls.Call.TheVariants as call;
 ghost use Rattle.c_interface.specs.Served.{AnswersStatus, AnswersRead};
 ghost use Rattle.c_interface.specs.Services.{AllocatesPages, AllocatesPool, Maps};
 
-use region_cores::Rafkudin;
+use crate::handle::Rafkudin;
 
 /// AllocatePages, 7.2.1. The variable `memory` receives the address of the pages; before, it has the last byte that may
 /// belong to them, or their address.

@@ -3,8 +3,8 @@ ghost use Rattle.std.specs.Prelude.{◌≡◌};
 ghost use Rattle.c_interface.specs.Paths.{AnswersPath, InstallsPath};
 ghost use Rattle.c_machines.specs.Guids.{guid_in};
 
+use crate::handle::Rafkudin;
 use c_machines::Guid;
-use region_cores::Rafkudin;
 
 /// LocateDevicePath, 7.3.8, with a path in the caller's memory. The variable `matched` receives how many bytes of the
 /// path's nodes match, the variable `device` the handle.

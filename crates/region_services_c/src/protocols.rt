@@ -7,8 +7,8 @@ ghost use Rattle.c_interface.specs.Opening.{HandlesGiving, OpensGiving};
 ghost use Rattle.c_interface.specs.Removals.{UninstallsAll};
 ghost use Rattle.c_interface.specs.Services.{Installs, InstallsAll, Uninstalls, Reinstalls, Registers, LocatesHandles, LocatesBuffer, LocatesProtocol, LocatesPath, Closes, ListsOpens, ListsGuids, Connects, Disconnects};
 
+use crate::handle::Rafkudin;
 use c_machines::{Guid, Interface};
-use region_cores::Rafkudin;
 
 /// InstallProtocolInterface, 7.3.2. The variable `handle` has the handle, 0 for a new one, and receives it.
 ///

@@ -4,8 +4,8 @@ ghost use Rattle.std.specs.Prelude.{◌≡◌};
 ghost use Rattle.c_interface.specs.BufferReplies.{PrintsMap, PrintsRead};
 ghost use Rattle.c_interface.specs.CallLines.{ReturnsLine};
 
+use crate::handle::Rafkudin;
 use c_interface::{CallFields, MapFields, ReadFields};
-use region_cores::Rafkudin;
 
 /// The line of a trace that asks for a call, with its line feed, in the front of `text`; the variable `size` receives
 /// its number of bytes.

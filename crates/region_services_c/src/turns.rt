@@ -4,9 +4,9 @@ ghost use Rattle.c_interface.specs.Stops.{ListsChildren, ListsManagers, ListsSto
 ghost use Rattle.c_interface.specs.Turns.{ReturnsDriver, ReturnsTurns};
 ghost use Rattle.driver_connect.specs.DriverTurns.{EndsTurn, next_driver, pass_of};
 
+use crate::handle::Rafkudin;
 use c_interface::{Agent, DriverTurns, StopEntry, connect_next, connect_record};
 use c_machines::Guid;
-use region_cores::Rafkudin;
 
 /// Begins the turns on a controller of the drivers on a list, which is put in the order in which they are tried: those
 /// of the handles named, and then all others by version. Drivers that are on no live driver handle drop out. The

@@ -1,8 +1,7 @@
 use Rattle.std.proofs.Common.{subst}
-use Rattle.std.specs.declared.alloc.Global.{Global}
-use Rattle.c_interface.specs.EfiCores.{EfiCoreValue}
 use Rattle.c_interface.specs.Paths.{InstallsPath}
+use Rattle.boot_services_c.specs.Cores.{Core}
 use Rattle.boot_services_c.proofs.paths.RafkudinInstallPath.Goals as goal
 
 pub returns : goal.returns
-returns c = subst (λ (core : EfiCoreValue Global). InstallsPath core c.args.path.now (c.args.handle.now, c.args.address.now) c.install_path.result (c.install_path.new.handle, c.install_path.new.address) c.install_path.new.self) c.held.ensures.value c.install_path.ensures
+returns c = subst (λ (core : Core). InstallsPath core c.args.path.now (c.args.handle.now, c.args.address.now) c.install_path.result (c.install_path.new.handle, c.install_path.new.address) c.install_path.new.self) c.held.ensures.value c.install_path.ensures

@@ -1,10 +1,9 @@
 use Rattle.std.proofs.Common.{subst}
-use Rattle.std.specs.declared.alloc.Global.{Global}
 use Rattle.boot_calls.specs.declared.calls.Call.TheVariants as call
 use Rattle.c_machines.specs.Guids.{guid_in}
-use Rattle.c_interface.specs.EfiCores.{EfiCoreValue}
 use Rattle.c_interface.specs.Served.{AnswersStatus}
+use Rattle.boot_services_c.specs.Cores.{Core}
 use Rattle.boot_services_c.proofs.protocols.RafkudinReinstallProtocolInterface.Goals as goal
 
 pub returns : goal.returns
-returns c = subst (λ (core : EfiCoreValue Global). AnswersStatus core (call.ReinstallProtocolInterface c.args.handle (guid_in c.args.guid.now) c.args.old_value c.args.new_value) c.reinstall_protocol_interface.result c.reinstall_protocol_interface.new.self) c.held.ensures.value c.reinstall_protocol_interface.ensures
+returns c = subst (λ (core : Core). AnswersStatus core (call.ReinstallProtocolInterface c.args.handle (guid_in c.args.guid.now) c.args.old_value c.args.new_value) c.reinstall_protocol_interface.result c.reinstall_protocol_interface.new.self) c.held.ensures.value c.reinstall_protocol_interface.ensures

@@ -1,7 +1,7 @@
 use Rattle.std.proofs.Common.{subst}
-use Rattle.region_cores.specs.Cores.{Core}
 use Rattle.c_machines.specs.Guids.{guid_in}
 use Rattle.c_interface.specs.Paths.{AnswersPath}
+use Rattle.region_services_c.specs.Cores.{Core}
 use Rattle.region_services_c.proofs.paths.RafkudinLocatePath.Goals as goal
 
 pub returns : goal.returns

@@ -1,8 +1,8 @@
 use Rattle.std.proofs.Common.{length, subst}
 use Rattle.boot_calls.specs.declared.calls.Call.TheVariants as call
 use Rattle.c_machines.specs.Guids.{guid_in}
-use Rattle.region_cores.specs.Cores.{Core}
 use Rattle.c_interface.specs.Served.{AnswersHandles, handle_bytes}
+use Rattle.region_services_c.specs.Cores.{Core}
 use Rattle.region_services_c.proofs.protocols.RafkudinLocateHandleInto.Goals as goal
 
 pub returns : goal.returns

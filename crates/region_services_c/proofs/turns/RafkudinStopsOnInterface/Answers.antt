@@ -1,6 +1,6 @@
 use Rattle.std.proofs.Common.{subst}
-use Rattle.region_cores.specs.Cores.{Core}
 use Rattle.c_interface.specs.Stops.{ListsStops}
+use Rattle.region_services_c.specs.Cores.{Core}
 use Rattle.region_services_c.proofs.turns.RafkudinStopsOnInterface.Goals as goal
 
 pub returns-clause-returned : goal.returns-clause-returned

@@ -13,7 +13,7 @@ use Rattle.boot_services_c.specs.contracts.blocks.Block as block
 use Rattle.std.specs.declared.alloc.Global.{Global}
 use Rattle.boot_services_c.specs.declared.blocks.Block.{Block}
 use Rattle.boot_services_c.specs.contracts.handle.Rafkudin as handle
-use Rattle.boot_services_c.specs.Blocks.{Core, CoreRow}
+use Rattle.boot_services_c.specs.Cores.{Core, CoreRow}
 use Rattle.boot_services_c.proofs.Moves.{word, is_word, moved}
 use Rattle.boot_services_c.specs.contracts.handle.Rafkudin.block as f
 use Rattle.boot_services_c.proofs.handle.Rafkudin.block.Statement.{statement}

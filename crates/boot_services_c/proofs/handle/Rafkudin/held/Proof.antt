@@ -29,7 +29,8 @@ use Rattle.std.specs.contracts.alloc.Global.{the_row as Heap}
 use Rattle.std.specs.contracts.impls.GlobalAllocator.TheImpl.{ghosts}
 use Rattle.boot_services_c.proofs.Moves.{is_word, word}
 use Rattle.boot_services_c.proofs.Pairs.{of_two}
-use Rattle.boot_services_c.specs.Blocks.{Core, CoreRow, block_of}
+use Rattle.boot_services_c.specs.Blocks.{block_of}
+use Rattle.boot_services_c.specs.Cores.{Core, CoreRow}
 use Rattle.boot_services_c.specs.Lending.{with_core}
 use Rattle.boot_services_c.specs.contracts.handle.Rafkudin.{the_row as R}
 use Rattle.boot_services_c.specs.contracts.handle.Rafkudin.held as f

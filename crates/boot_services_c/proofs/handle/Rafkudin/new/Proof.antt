@@ -12,7 +12,7 @@ use Rattle.std.specs.contracts.impls.GlobalAllocator.TheImpl.{ghosts}
 use Rattle.boot_services_c.specs.contracts.blocks.Block as block
 use Rattle.boot_services_c.specs.contracts.handle.Rafkudin as handle
 use Rattle.boot_services_c.specs.declared.handle.Rafkudin.{Rafkudin}
-use Rattle.boot_services_c.specs.Blocks.{CoreRow}
+use Rattle.boot_services_c.specs.Cores.{CoreRow}
 use Rattle.boot_services_c.proofs.Moves.{word, is_word, moved}
 use Rattle.boot_services_c.specs.contracts.handle.Rafkudin.new as f
 use Rattle.boot_services_c.proofs.handle.Rafkudin.new.Statement.{statement}

@@ -9,8 +9,8 @@ ghost use Rattle.c_interface.specs.ReplyLines.{ReturnsReply};
 ghost use Rattle.c_interface.specs.Served.{ReturnsBlock};
 ghost use Rattle.region_services_c.specs.Versions.{version};
 
+use crate::handle::Rafkudin;
 use c_interface::MapEntry;
-use region_cores::Rafkudin;
 
 /// The version of the library, 0.1.0.
 const VERSION: u32 = 0x100;

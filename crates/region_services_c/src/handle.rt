@@ -1,0 +1,3 @@
+//! A core as C holds it.
+
+pub use region_cores::Rafkudin;
