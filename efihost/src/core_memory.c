@@ -8,10 +8,8 @@ uint64_t core_pages(uint32_t kind, uint32_t type, uint64_t pages, uint64_t *memo
     uint64_t asked = *memory;
     uint64_t status = RafkudinAllocatePages(host.core, kind, type, pages, memory);
 
-    if (tracing()) {
-        trace_call("pages %u %u %lu 0x%lx", kind, type, pages, asked);
-        trace_reply("pages", status, "address=0x%lx", *memory);
-    }
+    TRACE(.service = RAFKUDIN_CALL_ALLOCATE_PAGES, .type = kind, .memory_type = type,
+          .pages = pages, .address = asked);
     check_certificate();
     return status;
 }
@@ -20,52 +18,35 @@ uint64_t core_free_pages(uint64_t memory, uint64_t pages)
 {
     uint64_t status = RafkudinFreePages(host.core, memory, pages);
 
-    if (tracing()) {
-        trace_call("free-pages 0x%lx %lu", memory, pages);
-        trace_status("free-pages", status);
-    }
+    TRACE(.service = RAFKUDIN_CALL_FREE_PAGES, .address = memory, .pages = pages);
     return status;
-}
-
-static void trace_entries(const uint8_t *map, uint64_t size, uint64_t step)
-{
-    FILE *file = trace_replies();
-
-    for (uint64_t at = 0; at < size; at += step) {
-        const EFI_MEMORY_DESCRIPTOR *entry = (const void *)(map + at);
-
-        fprintf(file, "  %u 0x%lx %lu 0x%lx\n", entry->Type, entry->PhysicalStart,
-                entry->NumberOfPages, entry->Attribute);
-    }
 }
 
 /* `key` and the others may be null; `size` may not. */
 uint64_t core_map(uint64_t *size, void *map, uint64_t *key, uint64_t *step, uint32_t *version)
 {
-    uint64_t asked = *size, this_key = 0, this_step = 0, status;
-    uint32_t this_version = 0;
+    struct rafkudin_call call = {.service = RAFKUDIN_CALL_GET_MEMORY_MAP};
+    struct rafkudin_map_reply reply = {.map = map};
+    uint64_t status;
 
-    if (map == NULL && asked != 0)
+    if (map == NULL && *size != 0)
         return EFI_INVALID_PARAMETER;
-    status = RafkudinGetMemoryMap(host.core, size, map, &this_key, &this_step, &this_version);
-    if (tracing()) {
-        trace_call("map %lu", asked > MAX_MAP_BUFFER ? MAX_MAP_BUFFER : asked);
-        if (status != RAFKUDIN_SUCCESS) {
-            trace_refusal("map", status, *size);
-        } else {
-            trace_reply("map", status, "size=%lu key=%lu descriptor-size=%lu version=%u", *size,
-                        this_key, this_step, this_version);
-            trace_entries(map, *size, this_step);
-        }
-    }
+    call.size = *size > MAX_MAP_BUFFER ? MAX_MAP_BUFFER : *size;
+    status = RafkudinGetMemoryMap(host.core, size, map, &reply.key, &reply.descriptor_size,
+                                  &reply.descriptor_version);
+    reply.status = status;
+    reply.size = *size;
+    reply.map_size = status == RAFKUDIN_SUCCESS ? *size : 0;
+    if (tracing())
+        trace_map(&call, &reply);
     if (status == RAFKUDIN_SUCCESS && key != NULL)
-        *key = this_key;
+        *key = reply.key;
     if (status != RAFKUDIN_SUCCESS && status != RAFKUDIN_BUFFER_TOO_SMALL)
         return status;
     if (step != NULL)
-        *step = this_step;
+        *step = reply.descriptor_size;
     if (version != NULL)
-        *version = this_version;
+        *version = reply.descriptor_version;
     return status;
 }
 
@@ -73,10 +54,7 @@ uint64_t core_pool(uint32_t type, uint64_t size, uint64_t *address)
 {
     uint64_t status = RafkudinAllocatePool(host.core, type, size, address);
 
-    if (tracing()) {
-        trace_call("pool %u %lu", type, size);
-        trace_reply("pool", status, "address=0x%lx", *address);
-    }
+    TRACE(.service = RAFKUDIN_CALL_ALLOCATE_POOL, .memory_type = type, .size = size);
     check_certificate();
     return status;
 }
@@ -85,52 +63,36 @@ uint64_t core_free_pool(uint64_t address)
 {
     uint64_t status = RafkudinFreePool(host.core, address);
 
-    if (tracing()) {
-        trace_call("free-pool 0x%lx", address);
-        trace_status("free-pool", status);
-    }
+    TRACE(.service = RAFKUDIN_CALL_FREE_POOL, .address = address);
     return status;
-}
-
-void trace_write(uint64_t address, const void *bytes, size_t count, uint64_t status)
-{
-    fprintf(trace_calls(), "write 0x%lx ", address);
-    trace_bytes(trace_calls(), bytes, count);
-    trace_call_ends();
-    trace_status("write", status);
 }
 
 uint64_t core_write(uint64_t address, const void *bytes, size_t count)
 {
     uint64_t status = RafkudinPoolWrite(host.core, address, bytes, count);
 
-    if (tracing())
-        trace_write(address, bytes, count, status);
+    TRACE(.service = RAFKUDIN_CALL_POOL_WRITE, .address = address, .bytes = bytes,
+          .byte_count = count);
     return status;
 }
 
 uint64_t core_read(uint64_t address, void *bytes, size_t count)
 {
-    uint64_t status = RafkudinPoolRead(host.core, address, bytes, count);
+    struct rafkudin_call call = {
+        .service = RAFKUDIN_CALL_POOL_READ, .address = address, .size = count};
+    struct rafkudin_read_reply reply = {.bytes = bytes};
 
-    if (tracing()) {
-        trace_call("read 0x%lx %zu", address, count);
-        trace_reply("read", status, "bytes=");
-        if (status == RAFKUDIN_SUCCESS) {
-            trace_bytes(trace_replies(), bytes, count);
-            fputc('\n', trace_replies());
-        }
-    }
-    return status;
+    reply.status = RafkudinPoolRead(host.core, address, bytes, count);
+    reply.count = reply.status == RAFKUDIN_SUCCESS ? count : 0;
+    if (tracing())
+        trace_read(&call, &reply);
+    return reply.status;
 }
 
 uint64_t core_exit(uint64_t image, uint64_t key)
 {
     uint64_t status = RafkudinExitBootServices(host.core, image, key);
 
-    if (tracing()) {
-        trace_call("exit %lu", key);
-        trace_status("exit", status);
-    }
+    TRACE(.service = RAFKUDIN_CALL_EXIT_BOOT_SERVICES, .key = key);
     return status;
 }

@@ -6,8 +6,6 @@
 
 #define MAX_EVENTS 1024
 
-static uint64_t events[MAX_EVENTS];
-
 struct rafkudin_guid core_guid(const void *guid)
 {
     struct rafkudin_guid copy = {{0}};
@@ -17,59 +15,35 @@ struct rafkudin_guid core_guid(const void *guid)
     return copy;
 }
 
-/* The events of the last call, into `events`. */
-static size_t take_events(uint64_t status)
+/* Signals the events of the last call, which had this status. */
+static void signal_last(uint64_t status)
 {
+    static uint64_t events[MAX_EVENTS];
     size_t count = status == 0 ? RafkudinEvents(host.core, events, MAX_EVENTS) : 0;
 
-    return count > MAX_EVENTS ? MAX_EVENTS : count;
-}
-
-/* The rest of a reply's line: numbers with commas between, or - for none. */
-static void trace_numbers(const uint64_t *numbers, size_t count)
-{
-    FILE *file = trace_replies();
-
-    for (size_t i = 0; i < count; i++)
-        fprintf(file, i == 0 ? "%lu" : ",%lu", numbers[i]);
-    fputs(count == 0 ? "-\n" : "\n", file);
+    signal_numbers(events, count > MAX_EVENTS ? MAX_EVENTS : count);
 }
 
 uint64_t core_install(uint64_t *handle, const void *guid, uint32_t kind, uint64_t value)
 {
     struct rafkudin_guid copy = core_guid(guid);
     uint64_t asked = *handle, status;
-    size_t count;
 
     status = RafkudinInstallProtocolInterface(host.core, handle, &copy, kind, value);
-    count = take_events(status);
-    if (tracing()) {
-        trace_call("install %lu %s %u 0x%lx", asked, guid_text(guid), kind, value);
-        trace_reply("install", status, "handle=%lu events=", *handle);
-        if (status == RAFKUDIN_SUCCESS)
-            trace_numbers(events, count);
-    }
-    signal_numbers(events, count);
+    TRACE(.service = RAFKUDIN_CALL_INSTALL_PROTOCOL_INTERFACE, .handle = asked, .protocol = copy,
+          .type = kind, .value = value);
+    signal_last(status);
     return status;
 }
 
 uint64_t core_install_many(uint64_t *handle, const struct rafkudin_interface *list, size_t count)
 {
     uint64_t asked = *handle, status;
-    size_t signalled;
 
     status = RafkudinInstallMultipleProtocolInterfaces(host.core, handle, list, count);
-    signalled = take_events(status);
-    if (tracing()) {
-        fprintf(trace_calls(), "install-many %lu", asked);
-        for (size_t i = 0; i < count; i++)
-            fprintf(trace_calls(), " %s 0x%lx", guid_text(&list[i].guid), list[i].value);
-        trace_call_ends();
-        trace_reply("install-many", status, "handle=%lu events=", *handle);
-        if (status == RAFKUDIN_SUCCESS)
-            trace_numbers(events, signalled);
-    }
-    signal_numbers(events, signalled);
+    TRACE(.service = RAFKUDIN_CALL_INSTALL_MULTIPLE_PROTOCOL_INTERFACES, .handle = asked,
+          .interfaces = list, .interface_count = count);
+    signal_last(status);
     return status;
 }
 
@@ -78,10 +52,8 @@ uint64_t core_uninstall(uint64_t handle, const void *guid, uint64_t value)
     struct rafkudin_guid copy = core_guid(guid);
     uint64_t status = RafkudinUninstallProtocolInterface(host.core, handle, &copy, value);
 
-    if (tracing()) {
-        trace_call("uninstall %lu %s 0x%lx", handle, guid_text(guid), value);
-        trace_status("uninstall", status);
-    }
+    TRACE(.service = RAFKUDIN_CALL_UNINSTALL_PROTOCOL_INTERFACE, .handle = handle,
+          .protocol = copy, .value = value);
     return status;
 }
 
@@ -90,10 +62,13 @@ uint64_t core_uninstall_many(uint64_t handle, const struct rafkudin_interface *l
 {
     uint64_t status = RafkudinUninstallMultipleProtocolInterfaces(host.core, handle, list, count);
 
-    for (size_t i = 0; tracing() && status == RAFKUDIN_SUCCESS && i < count; i++) {
-        trace_call("uninstall %lu %s 0x%lx", handle, guid_text(&list[i].guid), list[i].value);
-        trace_status("uninstall", status);
-    }
+    for (size_t i = 0; tracing() && status == RAFKUDIN_SUCCESS && i < count; i++)
+        trace_uninstalled(&(struct rafkudin_call){
+            .service = RAFKUDIN_CALL_UNINSTALL_PROTOCOL_INTERFACE,
+            .handle = handle,
+            .protocol = list[i].guid,
+            .value = list[i].value,
+        });
     return status;
 }
 
@@ -101,15 +76,10 @@ uint64_t core_reinstall(uint64_t handle, const void *guid, uint64_t old, uint64_
 {
     struct rafkudin_guid copy = core_guid(guid);
     uint64_t status = RafkudinReinstallProtocolInterface(host.core, handle, &copy, old, value);
-    size_t count = take_events(status);
 
-    if (tracing()) {
-        trace_call("reinstall %lu %s 0x%lx 0x%lx", handle, guid_text(guid), old, value);
-        trace_reply("reinstall", status, "events=");
-        if (status == RAFKUDIN_SUCCESS)
-            trace_numbers(events, count);
-    }
-    signal_numbers(events, count);
+    TRACE(.service = RAFKUDIN_CALL_REINSTALL_PROTOCOL_INTERFACE, .handle = handle,
+          .protocol = copy, .value = old, .new_value = value);
+    signal_last(status);
     return status;
 }
 
@@ -118,10 +88,7 @@ uint64_t core_notify(const void *guid, uint64_t event, uint64_t *key)
     struct rafkudin_guid copy = core_guid(guid);
     uint64_t status = RafkudinRegisterProtocolNotify(host.core, &copy, event, key);
 
-    if (tracing()) {
-        trace_call("notify %s %lu", guid_text(guid), event);
-        trace_reply("notify", status, "registration=%lu", *key);
-    }
+    TRACE(.service = RAFKUDIN_CALL_REGISTER_PROTOCOL_NOTIFY, .protocol = copy, .event = event);
     return status;
 }
 
@@ -133,15 +100,8 @@ uint64_t core_locate(uint32_t search, const void *guid, uint64_t key, uint64_t *
     uint64_t asked = *size, status;
 
     status = RafkudinLocateHandle(host.core, search, &copy, key, size, handles);
-    if (!tracing())
-        return status;
-    trace_call("locate %u %s %lu %lu", search, guid_text(guid), key, asked);
-    if (status != RAFKUDIN_SUCCESS) {
-        trace_refusal("locate", status, *size);
-    } else {
-        trace_reply("locate", status, "size=%lu handles=", *size);
-        trace_numbers(handles, *size / 8);
-    }
+    TRACE(.service = RAFKUDIN_CALL_LOCATE_HANDLE, .search_type = search, .protocol = copy,
+          .key = key, .size = asked);
     return status;
 }
 
@@ -152,10 +112,8 @@ uint64_t core_locate_buffer(uint32_t search, const void *guid, uint64_t key, uin
     uint64_t status =
         RafkudinLocateHandleBuffer(host.core, search, &copy, key, count, address);
 
-    if (tracing()) {
-        trace_call("locate-buffer %u %s %lu", search, guid_text(guid), key);
-        trace_reply("locate-buffer", status, "count=%lu address=0x%lx", *count, *address);
-    }
+    TRACE(.service = RAFKUDIN_CALL_LOCATE_HANDLE_BUFFER, .search_type = search, .protocol = copy,
+          .key = key);
     check_certificate();
     return status;
 }
@@ -165,28 +123,15 @@ uint64_t core_locate_protocol(const void *guid, uint64_t key, uint64_t *value)
     struct rafkudin_guid copy = core_guid(guid);
     uint64_t status = RafkudinLocateProtocol(host.core, &copy, key, value);
 
-    if (tracing()) {
-        trace_call("locate-protocol %s %lu", guid_text(guid), key);
-        trace_reply("locate-protocol", status, "interface=0x%lx", *value);
-    }
+    TRACE(.service = RAFKUDIN_CALL_LOCATE_PROTOCOL, .protocol = copy, .key = key);
     return status;
 }
 
-/* On BUFFER_TOO_SMALL the trace has the call all the same, which then prints the GUIDs: so the
- * caller's room is for all that a handle may have. */
 uint64_t core_protocols(uint64_t handle, struct rafkudin_guid *list, size_t room, uint64_t *count)
 {
     uint64_t status = RafkudinProtocolsPerHandle(host.core, handle, list, room, count);
 
-    if (!tracing())
-        return status;
-    trace_call("protocols %lu", handle);
-    trace_reply("protocols", status, "guids=");
-    if (status != RAFKUDIN_SUCCESS)
-        return status;
-    for (uint64_t i = 0; i < *count; i++)
-        fprintf(trace_replies(), i == 0 ? "%s" : ",%s", guid_text(&list[i]));
-    fputc('\n', trace_replies());
+    TRACE(.service = RAFKUDIN_CALL_PROTOCOLS_PER_HANDLE, .handle = handle);
     return status;
 }
 
@@ -197,14 +142,8 @@ uint64_t core_open(uint64_t handle, const void *guid, uint64_t *value, uint64_t 
     uint64_t status =
         RafkudinOpenProtocol(host.core, handle, &copy, value, agent, controller, attributes);
 
-    if (!tracing())
-        return status;
-    trace_call("open %lu %s %lu %lu 0x%x", handle, guid_text(guid), agent, controller,
-               attributes);
-    if (attributes == RAFKUDIN_TEST_PROTOCOL)
-        trace_status("open", status);
-    else
-        trace_reply("open", status, "interface=0x%lx", *value);
+    TRACE(.service = RAFKUDIN_CALL_OPEN_PROTOCOL, .handle = handle, .protocol = copy,
+          .agent = agent, .controller = controller, .attributes = attributes);
     return status;
 }
 
@@ -213,10 +152,8 @@ uint64_t core_close(uint64_t handle, const void *guid, uint64_t agent, uint64_t 
     struct rafkudin_guid copy = core_guid(guid);
     uint64_t status = RafkudinCloseProtocol(host.core, handle, &copy, agent, controller);
 
-    if (tracing()) {
-        trace_call("close %lu %s %lu %lu", handle, guid_text(guid), agent, controller);
-        trace_status("close", status);
-    }
+    TRACE(.service = RAFKUDIN_CALL_CLOSE_PROTOCOL, .handle = handle, .protocol = copy,
+          .agent = agent, .controller = controller);
     return status;
 }
 
@@ -226,10 +163,7 @@ uint64_t core_information(uint64_t handle, const void *guid, uint64_t *address, 
     uint64_t status =
         RafkudinOpenProtocolInformation(host.core, handle, &copy, address, count);
 
-    if (tracing()) {
-        trace_call("information %lu %s", handle, guid_text(guid));
-        trace_reply("information", status, "count=%lu address=0x%lx", *count, *address);
-    }
+    TRACE(.service = RAFKUDIN_CALL_OPEN_PROTOCOL_INFORMATION, .handle = handle, .protocol = copy);
     check_certificate();
     return status;
 }
@@ -239,25 +173,23 @@ uint64_t core_handle_protocol(uint64_t handle, const void *guid, uint64_t *value
     struct rafkudin_guid copy = core_guid(guid);
     uint64_t status = RafkudinHandleProtocol(host.core, handle, &copy, value);
 
-    if (tracing()) {
-        trace_call("handle-protocol %lu %s", handle, guid_text(guid));
-        trace_reply("handle-protocol", status, "interface=0x%lx", *value);
-    }
+    TRACE(.service = RAFKUDIN_CALL_HANDLE_PROTOCOL, .handle = handle, .protocol = copy);
     return status;
 }
 
-/* The path lies in the host's memory; in a trace it is written to a block of the pool first, and
- * looked up there. */
+/* The path lies in the host's memory. A trace has no such call: while there is one, the path is
+ * written to a block of the pool and looked up there, which gives the same. */
 uint64_t core_locate_path(const void *guid, const uint8_t *path, size_t length, uint64_t block,
                           uint64_t *matched, uint64_t *handle)
 {
     struct rafkudin_guid copy = core_guid(guid);
-    uint64_t status = RafkudinLocatePath(host.core, &copy, path, length, matched, handle);
+    uint64_t behind = block, status;
 
-    if (tracing()) {
-        trace_write(block, path, length, RAFKUDIN_SUCCESS);
-        trace_call("path %s 0x%lx", guid_text(guid), block);
-        trace_reply("path", status, "handle=%lu address=0x%lx", *handle, block + *matched);
-    }
+    if (!tracing())
+        return RafkudinLocatePath(host.core, &copy, path, length, matched, handle);
+    core_write(block, path, length);
+    status = RafkudinLocateDevicePath(host.core, &copy, &behind, handle);
+    TRACE(.service = RAFKUDIN_CALL_LOCATE_DEVICE_PATH, .protocol = copy, .address = block);
+    *matched = behind - block;
     return status;
 }

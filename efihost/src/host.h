@@ -107,16 +107,12 @@ uint8_t *read_file(const char *name, size_t *length);
 void open_trace(const char *name, const uint8_t *records, size_t count, uint64_t granule);
 void close_trace(void);
 bool tracing(void);
-FILE *trace_calls(void);
-FILE *trace_replies(void);
-void trace_call(const char *format, ...) __attribute__((format(printf, 1, 2)));
-void trace_call_ends(void);
-void trace_bytes(FILE *file, const uint8_t *bytes, size_t count);
-void trace_status(const char *verb, uint64_t status);
-void trace_write(uint64_t address, const void *bytes, size_t count, uint64_t status);
-void trace_refusal(const char *verb, uint64_t status, uint64_t size);
-void trace_reply(const char *verb, uint64_t status, const char *format, ...)
-    __attribute__((format(printf, 3, 4)));
+void trace_call(const struct rafkudin_call *call);
+void trace_map(const struct rafkudin_call *call, struct rafkudin_map_reply *reply);
+void trace_read(const struct rafkudin_call *call, struct rafkudin_read_reply *reply);
+void trace_uninstalled(const struct rafkudin_call *call);
+#define TRACE(...)                                                                                \
+    (tracing() ? trace_call(&(const struct rafkudin_call){__VA_ARGS__}) : (void)0)
 void check_certificate(void);
 uint64_t core_pages(uint32_t kind, uint32_t type, uint64_t pages, uint64_t *memory);
 uint64_t core_free_pages(uint64_t memory, uint64_t pages);

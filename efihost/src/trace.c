@@ -1,8 +1,8 @@
 /* The trace of the core's calls, which `bootcore` replays: the calls, the machine, and the replies
- * that it prints. With --certify each placement's certificate is checked as it is made. */
+ * that it prints. The line of a call and what is printed of it are the library's. With --certify
+ * each placement's certificate is checked as it is made, and follows its reply. */
 #include "host.h"
 
-#include <stdarg.h>
 #include <stdlib.h>
 #include <string.h>
 
@@ -10,6 +10,13 @@
 
 static FILE *calls_file, *replies_file;
 static unsigned lines;
+
+/* A text of the library's, in a buffer that grows until it has room for it. */
+static struct {
+    uint8_t *bytes;
+    size_t room;
+    uint64_t length;
+} text;
 
 static FILE *open_beside(const char *name, const char *ending)
 {
@@ -49,8 +56,8 @@ void open_trace(const char *name, const uint8_t *records, size_t count, uint64_t
     write_machine(name, records, count, granule);
 }
 
-/* The trace ends with the memory map. A run that has more calls than a trace may have lines ends
- * its trace before. */
+/* The trace ends with the memory map, by a line that is no call, so its reply is made here. A run
+ * that has more calls than a trace may have lines ends its trace before. */
 void close_trace(void)
 {
     struct rafkudin_descriptor entry;
@@ -79,92 +86,97 @@ bool tracing(void)
     return calls_file != NULL;
 }
 
-/* Where calls and replies go. These and all below are for a trace that there is. */
-FILE *trace_calls(void)
-{
-    return calls_file;
-}
-
-FILE *trace_replies(void)
-{
-    return replies_file;
-}
-
-/* Ends the line of a call that was written in parts. */
-void trace_call_ends(void)
-{
-    fputc('\n', calls_file);
-    lines++;
-}
-
-void trace_call(const char *format, ...)
-{
-    va_list words;
-
-    va_start(words, format);
-    vfprintf(calls_file, format, words);
-    va_end(words);
-    trace_call_ends();
-}
-
-/* Bytes in hexadecimal, or - for none. */
-void trace_bytes(FILE *file, const uint8_t *bytes, size_t count)
-{
-    for (size_t i = 0; i < count; i++)
-        fprintf(file, "%02x", bytes[i]);
-    if (count == 0)
-        fputc('-', file);
-}
-
-/* The reply to the last call, of the status alone. */
-void trace_status(const char *verb, uint64_t status)
-{
-    fprintf(replies_file, "%u %s %s\n", lines, verb, status_text(status));
-}
-
-/* The reply of a call whose buffer may have been too small; `size` are then the bytes needed. */
-void trace_refusal(const char *verb, uint64_t status, uint64_t size)
+/* Makes room for a text that had none; whether it is to be asked for once more. */
+static bool grows(uint64_t status)
 {
     if (status != RAFKUDIN_BUFFER_TOO_SMALL)
-        trace_status(verb, status);
-    else
-        fprintf(replies_file, "%u %s BUFFER_TOO_SMALL size=%lu\n", lines, verb, size);
+        return false;
+    text.room = text.length * 2;
+    text.bytes = must(realloc(text.bytes, text.room));
+    return true;
 }
 
-/* The reply to the last call, with its fields where it succeeded. Behind a format that ends with =
- * the caller writes the rest of the line. */
-void trace_reply(const char *verb, uint64_t status, const char *format, ...)
+static void put_text(FILE *file, uint64_t status)
 {
-    va_list words;
+    if (status != RAFKUDIN_SUCCESS)
+        refuse("the library has no text of call %u: %s", lines, status_text(status));
+    fwrite(text.bytes, 1, text.length, file);
+}
 
-    if (status != RAFKUDIN_SUCCESS) {
-        trace_status(verb, status);
+/* The line of a call; whether there is one. Calls for which no line can ask, as a read of more than
+ * 65,536 bytes, are left out: those of the host change nothing. */
+static bool put_line(const struct rafkudin_call *call)
+{
+    uint64_t status;
+
+    do
+        status = RafkudinTraceLine(host.core, call, text.bytes, text.room, &text.length);
+    while (grows(status));
+    if (status == RAFKUDIN_NOT_FOUND)
+        return false;
+    put_text(calls_file, status);
+    lines++;
+    return true;
+}
+
+/* The last call, with what the program prints of it. This and those below are for a trace that
+ * there is. */
+void trace_call(const struct rafkudin_call *call)
+{
+    uint64_t status;
+
+    if (!put_line(call))
         return;
-    }
-    fprintf(replies_file, "%u %s SUCCESS ", lines, verb);
-    va_start(words, format);
-    vfprintf(replies_file, format, words);
-    va_end(words);
-    if (format[strlen(format) - 1] != '=')
-        fputc('\n', replies_file);
+    do
+        status = RafkudinReplyLine(host.core, lines, text.bytes, text.room, &text.length);
+    while (grows(status));
+    put_text(replies_file, status);
+}
+
+/* GetMemoryMap and PoolRead, whose replies are in the caller's buffers. */
+void trace_map(const struct rafkudin_call *call, struct rafkudin_map_reply *reply)
+{
+    uint64_t status;
+
+    if (!put_line(call))
+        return;
+    reply->number = lines;
+    do
+        status = RafkudinMapReplyLine(host.core, reply, text.bytes, text.room, &text.length);
+    while (grows(status));
+    put_text(replies_file, status);
+}
+
+void trace_read(const struct rafkudin_call *call, struct rafkudin_read_reply *reply)
+{
+    uint64_t status;
+
+    if (!put_line(call))
+        return;
+    reply->number = lines;
+    do
+        status = RafkudinReadReplyLine(host.core, reply, text.bytes, text.room, &text.length);
+    while (grows(status));
+    put_text(replies_file, status);
+}
+
+/* An UninstallProtocolInterface that is part of a larger call, which succeeded. */
+void trace_uninstalled(const struct rafkudin_call *call)
+{
+    if (put_line(call))
+        fprintf(replies_file, "%u uninstall SUCCESS\n", lines);
 }
 
 void check_certificate(void)
 {
-    static uint8_t *text;
-    static size_t room;
-    uint64_t length = 0, line = 0, status;
+    uint64_t line = 0, status;
 
     if (!host.options.certify)
         return;
-    status = RafkudinCertificate(host.core, text, room, &length);
-    if (status == RAFKUDIN_BUFFER_TOO_SMALL) {
-        room = length * 2;
-        text = must(realloc(text, room));
-        status = RafkudinCertificate(host.core, text, room, &length);
-    }
-    if (status != RAFKUDIN_SUCCESS)
-        return;
-    if (RafkudinCheck(text, length, &line) != RAFKUDIN_SUCCESS)
-        refuse("a certificate was refused: %.*s", (int)length, (const char *)text);
+    do
+        status = RafkudinCertificate(host.core, text.bytes, text.room, &text.length);
+    while (grows(status));
+    if (status == RAFKUDIN_SUCCESS &&
+        RafkudinCheck(text.bytes, text.length, &line) != RAFKUDIN_SUCCESS)
+        refuse("a certificate was refused: %.*s", (int)text.length, (const char *)text.bytes);
 }

@@ -11,7 +11,7 @@
 #include <stdlib.h>
 
 #define PROTOCOLS 64
-#define MOST_BYTES 250
+#define MAX_BYTES 250
 
 struct block {
     bool given;
@@ -109,6 +109,6 @@ int main(void)
 {
     measure(64);
     measure(1024);
-    HOLDS(measure(4096) <= MOST_BYTES);
+    HOLDS(measure(4096) <= MAX_BYTES);
     return points_end("interface_memory");
 }
