@@ -53,12 +53,12 @@ module _ (ls : List (List Run)) (i to n : ℕ) (l : List Run) (size : n ≡ leng
 
 -- ---- runs by index
 
-get_left : (xs ys : List Run) (k : ℕ) → k < length xs → slice_get (xs ++ ys) k ≡ slice_get xs k
+pub get_left : (xs ys : List Run) (k : ℕ) → k < length xs → slice_get (xs ++ ys) k ≡ slice_get xs k
 get_left [] ys k h = absurd (omega arith)
 get_left (x ∷ xs) ys zero h = refl
 get_left (x ∷ xs) ys (suc k) h = get_left xs ys k (omega arith)
 
-get_right : (xs ys : List Run) (k j : ℕ) → k ≡ length xs + j → slice_get (xs ++ ys) k ≡ slice_get ys j
+pub get_right : (xs ys : List Run) (k j : ℕ) → k ≡ length xs + j → slice_get (xs ++ ys) k ≡ slice_get ys j
 get_right [] ys k j e = let f : k ≡ j = omega arith in ap (slice_get ys) f
 get_right (x ∷ xs) ys zero j e = absurd (omega arith)
 get_right (x ∷ xs) ys (suc k) j e = get_right xs ys k j (omega arith)

@@ -23,3 +23,4 @@ pub mod FreeBounds
 pub mod NoUse
 pub mod Downward
 pub mod Grouped
+pub mod ChangedRuns

@@ -8,6 +8,7 @@ use Rattle.page_ranges.specs.Memory.{page_at, IsProperMemory}
 use Rattle.page_ranges.specs.Cursors.{IsBlockAt}
 use Rattle.page_ranges.specs.MemoryMap.{memory_map, should_be_one}
 use Rattle.page_ranges.specs.Runs.{pages_of, AreRuns, AreMaximalRuns}
+use Rattle.page_ranges.proofs.RunMaps.{map_apart}
 use Rattle.descriptor_table.specs.Tables.{entry_of, EndBy, IsBlockBelow}
 use Rattle.descriptor_table.specs.Leaves.{RunPlace, PassesRun, IsPlace, run_before, runs_with_first}
 use Rattle.descriptor_table.proofs.FreeRuns.{free_from, free_here, free_member, above_touching, above_gap, above_last, below_touching, below_gap, below_first}
@@ -48,6 +49,10 @@ module _ (q last run : Run) (old new : List Run) (next : old ≡ run ∷ new) (r
 
   pub next_goes_on : should_be_one (entry_of last) (entry_of run) ≡ true → stretched q (memory_map (pages_of (last ∷ old))) ≡ stretched q (memory_map (pages_of (run ∷ new)))
   next_goes_on t = ap (λ ss. stretched q (memory_map (pages_of (last ∷ ss)))) next ∙ goes_on_in q last run new both t
+
+  -- the entry of one run
+  pub one_run_entry : should_be_one (entry_of last) (entry_of run) ≡ false → memory_map (pages_of (last ∷ old)) ≡ entry_of last ∷ memory_map (pages_of (run ∷ new))
+  one_run_entry f = ap (λ ss. memory_map (pages_of (last ∷ ss))) next ∙ map_apart last run new both.0 both.2.0 f
 
   pub entry_is_done : should_be_one (entry_of last) (entry_of run) ≡ false → stretched q (memory_map (pages_of (last ∷ old))) ≡ entry_to q last ∷ memory_map (pages_of (run ∷ new))
   entry_is_done f = ap (λ ss. stretched q (memory_map (pages_of (last ∷ ss)))) next ∙ ends_before_next q last run new both f

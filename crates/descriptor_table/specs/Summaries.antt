@@ -65,6 +65,12 @@ Allows s rs =
     (i : ℕ) (r : Run) → slice_get rs i ≡ Some r → r.mtype ≡ conventional
     → AllowsRun s (run_before rs i) r (slice_get rs (i + 1))
 
+-- it allows those between two indices
+abbrev pub AllowsBetween : Summary → List Run → ℕ → ℕ → Type 0
+AllowsBetween s rs low high =
+    (i : ℕ) (r : Run) → low ≤ i → i < high → slice_get rs i ≡ Some r → r.mtype ≡ conventional
+    → AllowsRun s (run_before rs i) r (slice_get rs (i + 1))
+
 -- a mark that is set if the first run is free, and one that is set if the last is
 abbrev pub BeginsFree : Bool → List Run → Type 0
 BeginsFree mark rs = IsFreeRun (slice_get rs 0) → mark ≡ true

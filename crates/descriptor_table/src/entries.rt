@@ -1,14 +1,15 @@
 //! The memory map of runs: owners do not split its entries.
-ghost use Rattle.std.specs.Prelude.{◌≡◌, ◌+◌, ◌-◌, ◌<◌, ◌≤◌, ◌^◌, ◌∷◌, length, take, drop, option_map};
+ghost use Rattle.std.specs.Prelude.{◌≡◌, ◌+◌, ◌-◌, ◌<◌, ◌≤◌, ◌^◌, ◌∷◌, length, take, drop, false, None, Some, IfSome, option_map};
 ghost use Rattle.std.specs.Iterator.{YieldsFirst, item_count};
 ghost use Rattle.page_ranges.specs.MemoryTypes.{page_count};
 ghost use Rattle.page_ranges.specs.MemoryMap.{memory_map, should_be_one};
 ghost use Rattle.page_ranges.specs.Runs.{pages_of, AreRuns};
-ghost use Rattle.descriptor_table.specs.Leaves.{runs_in, runs_with_first, entry_count, AreLeaves};
+ghost use Rattle.descriptor_table.specs.Leaves.{runs_in, runs_with_first, entry_count, AreLeaves, PassesRun};
 ghost use Rattle.descriptor_table.specs.LeafWalks.{entry_up_to, map_from, map_of_runs};
 ghost use Rattle.descriptor_table.specs.Tables.{entry_of, EndBy};
 
 use crate::beginnings::runs_before;
+use crate::free_entries::block_of;
 use crate::leaves::Leaf;
 use crate::walks::Walk;
 use page_ranges::{Descriptor, Run};
@@ -120,6 +121,23 @@ fn end_of_entry<'a, A: Allocator + Copy>(
     (last.range.first + last.range.pages, None)
 }
 
+/// Passes the next run of a leaf where it begins another entry than that of the run before it.
+#[inline(always)]
+fn next_apart<'a, A: Allocator + Copy>(run: &Run, walk: &mut Walk<'a, A>) -> Option<&'a Run>
+    requires { run.now.range.first + run.now.range.pages < 2 ^ 64 }
+    ensures passed { IfSome result (λ next. PassesRun walk.old (Some next.now) walk.new) }
+    ensures apart { IfSome result
+        (λ next. should_be_one (entry_of run.now) (entry_of next.now) ≡ false) }
+    ensures none { result ≡ None → walk.new ≡ walk.old }
+{
+    let (next, passed) = walk.next_in_leaf()?;
+    if goes_on(run, next) {
+        return None;
+    }
+    *walk = passed;
+    Some(next)
+}
+
 impl<'a, A: Allocator + Copy> Iterator for MapEntries<'a, A> {
     type Item = Descriptor;
 
@@ -129,6 +147,10 @@ impl<'a, A: Allocator + Copy> Iterator for MapEntries<'a, A> {
 
     fn next(&mut self) -> Option<Descriptor> {
         let first = self.first?;
+        if let Some(run) = next_apart(first, &mut self.walk) {
+            self.first = Some(run);
+            return Some(block_of(first));
+        }
         let (end, next) = end_of_entry(first, &mut self.walk);
         self.first = next;
         Some(Descriptor {

@@ -4,7 +4,7 @@ ghost use Rattle.descriptor_table.specs.Leaves.{first_page, runs_in, AreLeaves};
 ghost use Rattle.descriptor_table.specs.Summaries.{Allows, AllowsAll, BeginsFree, EndsFree, IsFreeRun, IsLeafOfNoUse};
 
 use crate::run_arrays::replace_runs;
-use crate::summaries::{Summary, begins_free, ends_free, summary_of};
+use crate::summaries::{Summary, begins_free, ends_free, joined_near, summary_of};
 use crate::wanted::Wanted;
 use arrayvec::ArrayVec;
 use page_ranges::Run;
@@ -22,6 +22,8 @@ pub(crate) struct Leaf<A: Allocator = Global> {
     begins_free: bool,
     ends_free: bool,
     summary: Summary,
+    // How often the summary was joined with that of changed runs since it was made.
+    changes: u8,
     runs: Box<ArrayVec<Run, LEAF_SIZE>, A>,
 }
 
@@ -53,6 +55,7 @@ impl<A: Allocator + Copy> Leaf<A> {
             begins_free: begins_free(runs),
             ends_free: ends_free(runs),
             summary: summary_of(runs),
+            changes: 0,
             runs: leaf,
         })
     }
@@ -73,8 +76,9 @@ impl<A: Allocator + Copy> Leaf<A> {
         self.runs.as_slice()
     }
 
-    /// Puts runs in the place of some of the leaf's, which is not left empty.
-    pub(crate) fn replace(&mut self, low: usize, high: usize, parts: &[Run])
+    /// Puts runs in the place of some of the leaf's, which is not left empty. Its summary is made anew once
+    /// it was joined with that of changed runs so often.
+    pub(crate) fn replace(&mut self, low: usize, high: usize, parts: &[Run], most_joins: u8)
         requires order { low ≤ high }
         requires bound { high ≤ length self.old }
         requires some { high < length self.old + low + length parts.now }
@@ -86,7 +90,13 @@ impl<A: Allocator + Copy> Leaf<A> {
         let runs = self.runs.as_slice();
         self.begins_free = begins_free(runs);
         self.ends_free = ends_free(runs);
-        self.summary = summary_of(runs);
+        if self.changes >= most_joins {
+            self.summary = summary_of(runs);
+            self.changes = 0;
+            return;
+        }
+        self.summary = joined_near(self.summary, runs, low, low + parts.len());
+        self.changes += 1;
     }
 
     /// Whether the first run is free.

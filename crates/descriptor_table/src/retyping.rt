@@ -29,6 +29,17 @@ const JOINED_SIZE: usize = 24;
 /// At most this many runs come into a leaf in the place of others; more come in new leaves.
 const MAX_PARTS: usize = 8;
 
+/// How often a leaf's summary is joined with that of changed runs before it is made anew, by the number
+/// of leaves. A summary that is only joined allows more than the runs: with few leaves a search
+/// opens most of them anyway, with many it opens some in vain.
+fn most_joins(leaves: usize) -> u8 {
+    match leaves {
+        0..=8 => 8,
+        9..=64 => 2,
+        _ => 0,
+    }
+}
+
 /// The indices between which runs share a page with a range or touch it.
 fn window_of(runs: &[Run], range: PageRange) -> (usize, usize)
     requires runs { AreRuns runs.now }
@@ -169,7 +180,8 @@ fn put_in_leaf<A: Allocator + Copy>(
 {
     let (low, high) = window;
     let count = leaves[index].runs().len() - (high - low) + parts.len();
-    leaves[index].replace(low, high, parts);
+    let joins = most_joins(leaves.len());
+    leaves[index].replace(low, high, parts, joins);
     begun.change(index, entries.0, entries.1);
     sizes.set(index, count as u8);
 }
@@ -257,8 +269,9 @@ fn replace_two<A: Allocator + Copy>(
 {
     let (low, high) = window;
     let count = leaves[index].runs().len();
-    leaves[index].replace(low, count, front);
-    leaves[index + 1].replace(0, high, back);
+    let joins = most_joins(leaves.len());
+    leaves[index].replace(low, count, front, joins);
+    leaves[index + 1].replace(0, high, back, joins);
 }
 
 /// Counts anew how many entries begin in each of two leaves, and how many runs they have.

@@ -3,7 +3,8 @@ ghost use Rattle.std.specs.Prelude.{◌≡◌, ◌↔◌, ℕ, ◌+◌, ◌%◌,
 ghost use Rattle.std.specs.Option.{option_map};
 ghost use Rattle.page_ranges.specs.MemoryTypes.{conventional};
 ghost use Rattle.descriptor_table.specs.Leaves.{run_before};
-ghost use Rattle.descriptor_table.specs.Summaries.{Allows, AllowsAll, AllowsRun, AreRunsOfNoUse, BeginsFree, EndsFree, IsFreeRun, IsLastOfUse, RunGainsLittle, bit_of, joined, may_be, may_hold, pair_of};
+ghost use Rattle.descriptor_table.specs.LeafSummaries.{AllowsNear};
+ghost use Rattle.descriptor_table.specs.Summaries.{Allows, AllowsAll, AllowsBetween, AllowsRun, AreRunsOfNoUse, BeginsFree, EndsFree, IsFreeRun, IsLastOfUse, RunGainsLittle, bit_of, joined, may_be, may_hold, pair_of};
 
 use crate::wanted::Wanted;
 use page_ranges::{MemoryType, Run};
@@ -226,12 +227,13 @@ pub(crate) fn ends_free(runs: &[Run]) -> bool
     is_free(runs.last())
 }
 
-/// The summary of the free runs of some runs.
-pub(crate) fn summary_of(runs: &[Run]) -> Summary
-    ensures { Allows result runs.now }
+/// The summary of the free runs between two indices.
+fn summary_between(runs: &[Run], low: usize, high: usize) -> Summary
+    requires { high ≤ length runs.now }
+    ensures { AllowsBetween result runs.now low high }
 {
     let mut summary = Summary::none();
-    for index in 0..runs.len() {
+    for index in low..high {
         let run = &runs[index];
         if run.mtype == MemoryType::conventional() {
             let free = Summary::of_free(run_below(runs, index), run, run_above(runs, index));
@@ -239,6 +241,22 @@ pub(crate) fn summary_of(runs: &[Run]) -> Summary
         }
     }
     summary
+}
+
+/// The summary of the free runs of some runs.
+pub(crate) fn summary_of(runs: &[Run]) -> Summary
+    ensures { Allows result runs.now }
+{
+    summary_between(runs, 0, runs.len())
+}
+
+/// A summary joined with that of the runs between two indices and the one beside each of these.
+pub(crate) fn joined_near(summary: Summary, runs: &[Run], low: usize, high: usize) -> Summary
+    requires { high ≤ length runs.now }
+    ensures { AllowsNear runs.now low high summary result }
+{
+    let end = runs.len().min(high + 1);
+    summary.joined(summary_between(runs, low.saturating_sub(1), end))
 }
 
 /// Whether the run at an index of a leaf is free and may be of use. `goes_on` says whether a free run

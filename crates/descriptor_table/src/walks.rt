@@ -1,5 +1,5 @@
 //! A walk along the runs of leaves.
-ghost use Rattle.std.specs.Prelude.{◌≡◌, None, slice_get, option_map};
+ghost use Rattle.std.specs.Prelude.{◌≡◌, None, Some, IfSome, slice_get, option_map};
 ghost use Rattle.descriptor_table.specs.Leaves.{runs_in, AreLeaves, PassesRun};
 
 use crate::leaves::Leaf;
@@ -62,6 +62,21 @@ impl<'a, A: Allocator + Copy> Walk<'a, A> {
             Some(run) => Some(run),
             None => self.leaves.first()?.runs().first(),
         }
+    }
+
+    /// The next run, if it is of the same leaf as the one that was passed last, and the walk once it is
+    /// passed.
+    #[inline(always)]
+    pub(crate) fn next_in_leaf(&self) -> Option<(&'a Run, Walk<'a, A>)>
+        ensures { IfSome result (λ next. PassesRun self.now (Some next.0.now) next.1) }
+    {
+        let (run, others) = self.runs.split_first()?;
+        let passed = Walk {
+            before: Some(run),
+            runs: others,
+            leaves: self.leaves,
+        };
+        Some((run, passed))
     }
 
     /// Passes the next run.
