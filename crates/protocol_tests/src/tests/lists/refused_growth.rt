@@ -44,13 +44,13 @@ fn refusals_of(
     panic!(rt; "an installation is refused for ever");
 }
 
-/// Installs 70 interfaces, of one GUID on a handle each, or of a GUID each on one handle. Returns how often
+/// Installs 150 interfaces, of one GUID on a handle each, or of a GUID each on one handle. Returns how often
 /// memory ran out.
 fn refusals(rt: &(impl AllocGlobal + Abort), is_one_handle: bool) -> u64 {
     let heap = Refusing::new(rt.alloc());
     let mut lists = no_lists(&heap);
     let mut count = 0u64;
-    for byte in 1u8..71 {
+    for byte in 1u8..151 {
         let more = if is_one_handle {
             refusals_of(rt, &heap, &mut lists, u64::from(byte > 1), byte)
         } else {
