@@ -27,3 +27,4 @@ pub mod TurnsTaken
 pub mod DriverLists
 pub mod TurnSteps
 pub mod StopsInOrder
+pub mod GoingOn

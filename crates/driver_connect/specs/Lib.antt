@@ -11,3 +11,4 @@ pub mod StartOrder
 pub mod DriverTurns
 pub mod StopOrder
 pub mod AfterStop
+pub mod GoingOn

@@ -2,6 +2,7 @@
 ghost use Rattle.std.specs.Prelude.{◌≡◌, ◌+◌, ◌<◌, ◌≤◌, ◌^◌, true, false, [], map, IfOk, OnOk};
 ghost use Rattle.driver_connect.specs.Connecting as spec;
 ghost use Rattle.driver_connect.specs.Connecting.{ConnectsBy};
+ghost use Rattle.driver_connect.specs.GoingOn.{GoesOn};
 ghost use Rattle.driver_connect.specs.Room.{HasRoom, Grows};
 ghost use Rattle.driver_connect.specs.Starting.{site_of, starts_on, is_any_carried_out as is_any};
 
@@ -61,6 +62,7 @@ fn connect_levels<D: Driver, A: Allocator + Copy>(
         ≡ spec.connected levels
         (site_of D.meaning drivers.now notify.now controller) named.now connecting.old) }
     ensures grows { OnOk result (Grows connecting.old.handles connecting.new.handles) }
+    ensures goes_on { GoesOn connecting.old connecting.new }
 {
     let last = connecting.handles.last_number();
     let starts = run_passes(alloc, connecting, drivers, notify, controller, named)?;
@@ -93,6 +95,7 @@ fn connect_each<D: Driver, A: Allocator + Copy>(
         (connecting.new ≡ spec.each_connected levels
         (map D.meaning drivers.now) notify.now made.now connecting.old) }
     ensures grows { OnOk result (Grows connecting.old.handles connecting.new.handles) }
+    ensures goes_on { GoesOn connecting.old connecting.new }
 {
     for n in made {
         connect_levels(alloc, connecting, drivers, notify, *n, &[], levels)?;
@@ -111,9 +114,9 @@ pub(crate) fn is_refused<A: Allocator + Copy>(
     !handles.is_live(handle) || named.len() > MAX_NAMED
 }
 
-/// Connects a handle on copies of the lists, a number of levels of handles below it too, and puts them in
-/// place if a start on the handle was carried out.
-fn connect_copies<D: Driver, A: Allocator + Copy>(
+/// Connects a handle, a number of levels of handles below it too. On an `Err` nothing changes: what was
+/// done is taken back.
+fn connect_in_place<D: Driver, A: Allocator + Copy>(
     alloc: A,
     handles: &mut Handles<A>,
     opens: &mut Opens<A>,
@@ -131,9 +134,12 @@ fn connect_copies<D: Driver, A: Allocator + Copy>(
     ensures numbers { handles.new.last_number ≤ handles.old.last_number + 4096 }
     ensures stamps { handles.new.last_stamp ≤ handles.old.last_stamp + 16384 }
 {
-    let Ok(mut connecting) = Connecting::begin(alloc, handles, opens) else {
-        return Err(Status::OutOfResources);
-    };
+    // The contract of this look-up says that the handles are in order.
+    let _numbers = handles.all();
+    let number = handles.last_number();
+    let stamp = handles.last_stamp();
+    let items = opens.len();
+    let mut connecting = Connecting::take(alloc, handles, opens);
     let levels = if recursive { LEVELS_BELOW } else { 0 };
     match connect_levels(
         alloc,
@@ -145,8 +151,15 @@ fn connect_copies<D: Driver, A: Allocator + Copy>(
         levels,
     ) {
         Ok(true) => Ok(connecting.put_in_place(handles, opens)),
-        Ok(false) => Err(Status::NotFound),
-        Err(_) => Err(Status::OutOfResources),
+        Ok(false) => {
+            let _events = connecting.put_in_place(handles, opens);
+            Err(Status::NotFound)
+        }
+        Err(_) => {
+            connecting.take_back(number, stamp, items);
+            let _events = connecting.put_in_place(handles, opens);
+            Err(Status::OutOfResources)
+        }
     }
 }
 
@@ -174,7 +187,7 @@ pub fn connect<D: Driver, A: Allocator + Copy>(
         return Err(Status::InvalidParameter);
     }
     match is_any_ready(alloc, handles, opens, drivers, handle, named) {
-        Ok(true) => connect_copies(
+        Ok(true) => connect_in_place(
             alloc, handles, opens, notify, drivers, handle, named, recursive,
         ),
         Ok(false) => Err(Status::NotFound),

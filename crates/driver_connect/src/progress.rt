@@ -5,6 +5,7 @@ ghost use Rattle.open_agents.specs.OpenRule.{has_holder};
 ghost use Rattle.guid_handles.specs.HandleChanges.{max_handles};
 ghost use Rattle.driver_connect.specs.Drivers.{is_free};
 ghost use Rattle.driver_connect.specs.Starting as spec;
+ghost use Rattle.driver_connect.specs.GoingOn.{HasMade, HasOpened};
 ghost use Rattle.driver_connect.specs.Room.{HasRoom, Grows};
 
 use crate::table::is_free;
@@ -85,8 +86,9 @@ pub(crate) fn open_for_driver<A: Allocator + Copy>(
 ) -> Result<(), AllocError>
     requires free { AllByRecursion (λ g. has_holder opens.old controller g ≡ false) guids.now }
     requires once { spec.has_twice guids.now ≡ false }
-    ensures { OnOk result
+    ensures items { OnOk result
         (opens.new ≡ spec.with_driver_items controller agent guids.now opens.old) }
+    ensures opened { HasOpened opens.old opens.new }
 {
     for guid in guids {
         opens.add(controller, *guid, agent, controller, BY_DRIVER)?;
@@ -108,6 +110,7 @@ fn make_child<A: Allocator + Copy>(
         (handles.new ≡ spec.with_child (controller, agent) child.now.items handles.old) }
     ensures grows { OnOk result (Grows handles.old handles.new) }
     ensures count { OnOk result (length handles.new.handles ≡ length handles.old.handles + 1) }
+    ensures made { HasMade handles.old handles.new }
 {
     handles.make_child(controller, agent, child.as_slice())?;
     Ok(())
@@ -127,6 +130,7 @@ pub(crate) fn make_children<A: Allocator + Copy>(
         (handles.new ≡ spec.with_children (controller, agent)
         (map (λ c. c.items) children.now) handles.old) }
     ensures grows { OnOk result (Grows handles.old handles.new) }
+    ensures made { HasMade handles.old handles.new }
 {
     for child in children {
         make_child(handles, controller, agent, child)?;

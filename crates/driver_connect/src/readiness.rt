@@ -40,6 +40,7 @@ fn is_ready<D: Driver, A: Allocator + Copy>(
 }
 
 /// Whether one of some agents is ready.
+#[inline(never)]
 fn has_ready<D: Driver, A: Allocator + Copy>(
     drivers: &[D],
     handles: &Handles<A>,

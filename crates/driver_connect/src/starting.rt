@@ -1,6 +1,8 @@
 //! Starting drivers on one handle.
-ghost use Rattle.std.specs.Prelude.{◌≡◌, ◌≤◌, ◌++◌, [], true, false, length, IfOk, OnOk};
+ghost use Rattle.std.specs.Prelude.{◌≡◌, ◌≤◌, ◌++◌, [], true, false, length, take, IfOk, OnOk};
 ghost use Rattle.guid_handles.specs.HandleChanges.{max_handles};
+ghost use Rattle.guid_handles.specs.TableSteps.{AreOlder, taken_back_to};
+ghost use Rattle.driver_connect.specs.GoingOn.{GoesOn};
 ghost use Rattle.driver_connect.specs.Room.{HasRoom, Grows};
 ghost use Rattle.driver_connect.specs.Starting as spec;
 ghost use Rattle.driver_connect.specs.Starting.{protocols_at, site_of};
@@ -16,6 +18,7 @@ use open_agents::Opens;
 use protocol_notify::Notify;
 use std::alloc::{AllocError, Allocator};
 use std::marker::Model;
+use std::mem;
 
 /// A start of a driver.
 #[derive(Clone, Copy)]
@@ -67,8 +70,32 @@ impl<A: Allocator + Copy> Connecting<A> {
         })
     }
 
-    /// Puts the changed handles and open items into the place of those that were copied, and returns
-    /// the events.
+    /// The handles and the open items themselves, to be changed. Until they are put in place there are
+    /// none. This takes no memory.
+    pub(crate) fn take(alloc: A, handles: &mut Handles<A>, opens: &mut Opens<A>) -> Connecting<A>
+        ensures { result
+            ≡ record { handles = handles.old; opens = opens.old; events = [] } }
+    {
+        Connecting {
+            handles: mem::replace(handles, Handles::new(alloc)),
+            opens: mem::replace(opens, Opens::new(alloc)),
+            events: Vec::new(alloc),
+        }
+    }
+
+    /// Takes back what was done since this number and this stamp were the last that were given and there
+    /// were this number of items. This takes no memory.
+    pub(crate) fn take_back(&mut self, number: u64, stamp: u64, items: usize)
+        requires stamp { stamp ≤ self.old.handles.last_stamp }
+        requires older { AreOlder number stamp self.old.handles }
+        ensures handles { self.new.handles ≡ taken_back_to number stamp self.old.handles }
+        ensures opens { self.new.opens ≡ take items self.old.opens }
+    {
+        self.handles.take_back_to(number, stamp);
+        self.opens.truncate(items);
+    }
+
+    /// Puts the changed handles and open items into the place of the others, and returns the events.
     pub fn put_in_place(self, handles: &mut Handles<A>, opens: &mut Opens<A>) -> Vec<u64, A>
         ensures handles { handles.new ≡ self.handles }
         ensures opens { opens.new ≡ self.opens }
@@ -100,6 +127,7 @@ impl<A: Allocator + Copy> Connecting<A> {
         ensures progress { OnOk result
             (self.new ≡ spec.carried_out notify.now controller agent plan.now self.old) }
         ensures grows { OnOk result (Grows self.old.handles self.new.handles) }
+        ensures goes_on { GoesOn self.old self.new }
     {
         open_for_driver(&mut self.opens, controller, agent, plan.opens.as_slice())?;
         make_children(
@@ -134,6 +162,7 @@ fn take_turn<D: Driver, A: Allocator + Copy>(
         (site_of D.meaning drivers.now notify.now controller) connecting.old agent.now) }
     ensures stays { IfOk result (λ t. spec.is_change t ≡ false → connecting.new ≡ connecting.old) }
     ensures grows { OnOk result (Grows connecting.old.handles connecting.new.handles) }
+    ensures goes_on { GoesOn connecting.old connecting.new }
 {
     let view = View {
         agent: agent.handle,
@@ -214,6 +243,7 @@ fn run_pass<D: Driver, A: Allocator + Copy>(
         (site_of D.meaning drivers.now notify.now controller) agents.now
         connecting.old).progress) }
     ensures grows { OnOk result (Grows connecting.old.handles connecting.new.handles) }
+    ensures goes_on { GoesOn connecting.old connecting.new }
 {
     let mut pass = Pass {
         starts: Vec::new(alloc),
@@ -236,7 +266,9 @@ fn run_pass<D: Driver, A: Allocator + Copy>(
 }
 
 /// Starts drivers on a controller, in passes over those that are left, up to a pass that starts
-/// none. Drivers that are named come first.
+/// none. Drivers that are named come first. Plans take much of the stack, so that this is a call of its
+/// own in each level of handles.
+#[inline(never)]
 pub(crate) fn run_passes<D: Driver, A: Allocator + Copy>(
     alloc: A,
     connecting: &mut Connecting<A>,
@@ -257,6 +289,7 @@ pub(crate) fn run_passes<D: Driver, A: Allocator + Copy>(
         (site_of D.meaning drivers.now notify.now controller) named.now
         connecting.old).progress) }
     ensures grows { OnOk result (Grows connecting.old.handles connecting.new.handles) }
+    ensures goes_on { GoesOn connecting.old connecting.new }
 {
     let agents = agents_for(alloc, drivers, &connecting.handles, named)?;
     run_passes_over(alloc, connecting, drivers, notify, controller, agents)
@@ -284,6 +317,7 @@ fn run_passes_over<D: Driver, A: Allocator + Copy>(
         (site_of D.meaning drivers.now notify.now controller) agents.items
         connecting.old).progress) }
     ensures grows { OnOk result (Grows connecting.old.handles connecting.new.handles) }
+    ensures goes_on { GoesOn connecting.old connecting.new }
 {
     let count = agents.len();
     let mut left = agents;

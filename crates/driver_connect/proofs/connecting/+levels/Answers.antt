@@ -1,6 +1,8 @@
-use Rattle.std.proofs.Common.{◌≡◌, ◌∙◌, map}
+use Rattle.std.proofs.Common.{◌≡◌, ◌∙◌, map, rules, arith}
+use Rattle.std.proofs.lemmas.Grind.{common_steps}
 use Rattle.driver_connect.specs.Starting.{site}
 use Rattle.driver_connect.specs.Connecting.{made_after}
+use Rattle.driver_connect.proofs.GoingOn.{goes_nowhere, goes_further}
 use Rattle.driver_connect.proofs.Levels.{levels_joined, connected_none}
 use Rattle.driver_connect.proofs.connecting.+levels.Goals as goal
 use Rattle.driver_connect.proofs.connecting.+levels.Goals.{connect_levels-then-levels-gt0+in_ok-made+in_ok-connect_each, connect_levels-else-levels-gt0}
@@ -16,4 +18,32 @@ connect_levels-returns-clause-progress g t c = elim c.if-levels-gt0.branch [
   | connect_levels-else-levels-gt0 w ↦
       w.connecting-is ∙ c.in_ok-starts.ensures.progress
       ∙ connected_none c.args.levels (site (map g.D.Driver.meaning c.args.drivers.now) c.args.notify.now c.args.controller) c.args.named.now c.args.connecting.now w.if-levels-gt0.false
+]
+
+pub connect_each-loop-n-init : goal.connect_each-loop-n-init
+connect_each-loop-n-init g t c = record {
+  progress = search rules;
+  grows = search rules;
+  goes_on = goes_nowhere c.args.connecting.now;
+  room = c.requires;
+}
+
+pub connect_each-returns-in_err-connect_levels-clause-goes_on : goal.connect_each-returns-in_err-connect_levels-clause-goes_on
+connect_each-returns-in_err-connect_levels-clause-goes_on g t c = goes_further _ _ _ c.loop-n.invariant.goes_on c.connect_levels.ensures.goes_on
+
+pub connect_each-loop-n-preserved : goal.connect_each-loop-n-preserved
+connect_each-loop-n-preserved g t c = record {
+  progress = grind (arith, common_steps);
+  grows = search rules;
+  goes_on = goes_further _ _ _ c.loop-n.invariant.goes_on c.connect_levels.ensures.goes_on;
+  room = search rules;
+}
+
+pub connect_levels-returns-in_err-connect_each-clause-goes_on : goal.connect_levels-returns-in_err-connect_each-clause-goes_on
+connect_levels-returns-in_err-connect_each-clause-goes_on g t c = goes_further _ _ _ c.run_passes.ensures.goes_on c.connect_each.ensures.goes_on
+
+pub connect_levels-returns-clause-goes_on : goal.connect_levels-returns-clause-goes_on
+connect_levels-returns-clause-goes_on g t c = elim c.if-levels-gt0.branch [
+  | connect_levels-then-levels-gt0+in_ok-made+in_ok-connect_each w ↦ rw w.connecting-is (goes_further _ _ _ c.run_passes.ensures.goes_on w.connect_each.ensures.goes_on)
+  | connect_levels-else-levels-gt0 w ↦ rw w.connecting-is c.run_passes.ensures.goes_on
 ]

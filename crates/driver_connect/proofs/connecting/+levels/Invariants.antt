@@ -1,5 +1,6 @@
 use Rattle.std.proofs.Common.{◌≡◌, ◌+◌, ◌*◌, map, drop}
 use Rattle.driver_connect.specs.Connecting.{each_connected}
+use Rattle.driver_connect.specs.GoingOn.{GoesOn}
 use Rattle.driver_connect.specs.Room.{HasRoom, Grows}
 use Rattle.driver_connect.proofs.connecting.+levels.Given as goal
 
@@ -15,5 +16,6 @@ invariant-connect_each-loop-n g l = record {
       each_connected l.levels (map g.D.Driver.meaning l.drivers) l.notify (drop l.n-index l.made) l.connecting
       ≡ each_connected l.levels (map g.D.Driver.meaning l.drivers) l.notify l.made l.fn.connecting;
   grows : Grows l.fn.connecting.handles l.connecting.handles;
+  goes_on : GoesOn l.fn.connecting l.connecting;
   room : HasRoom l.connecting.handles;
 }

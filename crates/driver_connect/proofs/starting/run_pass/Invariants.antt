@@ -1,5 +1,6 @@
 use Rattle.std.proofs.Common.{◌≡◌, map, drop}
 use Rattle.driver_connect.specs.Drivers.{protocols_on}
+use Rattle.driver_connect.specs.GoingOn.{GoesOn}
 use Rattle.driver_connect.specs.Room.{HasRoom, Grows}
 use Rattle.driver_connect.specs.Starting.{site, joined, pass}
 use Rattle.driver_connect.proofs.starting.run_pass.Given as goal
@@ -11,5 +12,6 @@ invariant-loop-agent g l = record {
       ≡ pass (site (map g.D.Driver.meaning l.drivers) l.notify l.controller) l.agents l.fn.connecting;
   protocols : l.protocols.items ≡ protocols_on l.connecting.handles l.connecting.opens l.controller;
   grows : Grows l.fn.connecting.handles l.connecting.handles;
+  goes_on : GoesOn l.fn.connecting l.connecting;
   room : HasRoom l.connecting.handles;
 }

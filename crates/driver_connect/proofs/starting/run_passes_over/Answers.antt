@@ -1,8 +1,27 @@
 use Rattle.std.proofs.Common.{◌≡◌, ◌<◌, ◌≤◌, ◌==◌, ◌++◌, true, false, map, length, sym, ◌∙◌, rules, arith, vec_len}
 use Rattle.driver_connect.specs.Starting.{site}
+use Rattle.driver_connect.proofs.GoingOn.{goes_nowhere, goes_further}
 use Rattle.driver_connect.proofs.Passes.{passes_end, passes_more, grows_further, room_stays}
 use Rattle.driver_connect.proofs.Whole.{passes_done}
 use Rattle.driver_connect.proofs.starting.run_passes_over.Goals as goal
+
+pub loop-k-init : goal.loop-k-init
+loop-k-init g c = record {
+  whole = search rules;
+  count = search rules;
+  grows = search rules;
+  goes_on = goes_nowhere c.args.connecting.now;
+  room = c.requires;
+}
+
+pub returns-in_err-pass-clause-goes_on : goal.returns-in_err-pass-clause-goes_on
+returns-in_err-pass-clause-goes_on g c = goes_further _ _ _ c.loop-k.invariant.goes_on c.run_pass.ensures.goes_on
+
+pub returns-in_err-extend_from_slice-clause-goes_on : goal.returns-in_err-extend_from_slice-clause-goes_on
+returns-in_err-extend_from_slice-clause-goes_on g c = goes_further _ _ _ c.loop-k.invariant.goes_on c.run_pass.ensures.goes_on
+
+pub returns-then-is_empty-clause-goes_on : goal.returns-then-is_empty-clause-goes_on
+returns-then-is_empty-clause-goes_on g c = goes_further _ _ _ c.loop-k.invariant.goes_on c.run_pass.ensures.goes_on
 
 pub returns-then-is_empty-clause-starts : goal.returns-then-is_empty-clause-starts
 returns-then-is_empty-clause-starts g c =
@@ -38,6 +57,7 @@ loop-k-preserved g c =
       whole = rw s (rw pstarts (rw pleft (rw pprogress e)));
       count = c.loop-k.invariant.count;
       grows = grows_further _ _ _ c.loop-k.invariant.grows c.in_ok-pass.ensures.grows;
+      goes_on = goes_further _ _ _ c.loop-k.invariant.goes_on c.run_pass.ensures.goes_on;
       room = room_stays _ _ c.loop-k.invariant.room c.in_ok-pass.ensures.grows;
     }
 

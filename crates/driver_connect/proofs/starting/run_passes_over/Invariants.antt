@@ -1,4 +1,5 @@
 use Rattle.std.proofs.Common.{◌≡◌, ◌-◌, [], map, length}
+use Rattle.driver_connect.specs.GoingOn.{GoesOn}
 use Rattle.driver_connect.specs.Room.{HasRoom, Grows}
 use Rattle.driver_connect.specs.Starting.{site, joined, passes}
 use Rattle.driver_connect.proofs.starting.run_passes_over.Given as goal
@@ -10,5 +11,6 @@ invariant-loop-k g l = record {
       ≡ passes (length l.initial.left.items) (site (map g.D.Driver.meaning l.drivers) l.notify l.controller) l.initial.left.items l.fn.connecting;
   count : l.count ≡ length l.initial.left.items;
   grows : Grows l.fn.connecting.handles l.connecting.handles;
+  goes_on : GoesOn l.fn.connecting l.connecting;
   room : HasRoom l.connecting.handles;
 }

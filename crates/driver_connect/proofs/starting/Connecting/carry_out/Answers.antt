@@ -1,5 +1,6 @@
 use Rattle.std.proofs.Common.{map, ap}
 use Rattle.std.proofs.lemmas.Result.{on_ok_weaker}
+use Rattle.driver_connect.proofs.GoingOn.{goes_by, made_none}
 use Rattle.driver_connect.proofs.Passes.{planned_unheld}
 use Rattle.driver_connect.proofs.Whole.{carried_whole}
 use Rattle.driver_connect.proofs.starting.Connecting.carry_out.Goals as goal
@@ -14,5 +15,8 @@ returns-clause-progress g c =
     (on_ok_weaker c.signal_children.result
     (λ e. carried_whole c.args.notify.now c.args.controller c.args.agent _ _ _ c.as_slice.result.now (map (λ c. c.items) c.as_slice-2.result.now) (map (λ c. c.items) c.as_slice-3.result.now)
     c.as_slice.ensures.value (ap (map (λ c. c.items)) c.as_slice-2.ensures.value) (ap (map (λ c. c.items)) c.as_slice-3.ensures.value)
-    c.in_ok-open_for_driver.ensures c.in_ok-make_children.ensures.handles e)
+    c.in_ok-open_for_driver.ensures.items c.in_ok-make_children.ensures.handles e)
     c.signal_children.ensures)
+
+pub returns-in_err-open_for_driver-clause-goes_on : goal.returns-in_err-open_for_driver-clause-goes_on
+returns-in_err-open_for_driver-clause-goes_on g c = rw (← c.self.view_is) (goes_by _ _ (made_none c.self.inside.handles) c.open_for_driver.ensures.opened)

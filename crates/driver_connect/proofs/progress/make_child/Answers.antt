@@ -1,0 +1,9 @@
+use Rattle.driver_connect.proofs.GoingOn.{child_made, same_made}
+use Rattle.driver_connect.proofs.progress.make_child.Goals as goal
+
+pub returns-in_err-make_child-clause-made : goal.returns-in_err-make_child-clause-made
+returns-in_err-make_child-clause-made g c = same_made _ _ c.in_err-make_child.ensures.err
+
+pub returns-clause-made : goal.returns-clause-made
+returns-clause-made g c =
+    child_made (c.args.controller, c.args.agent) c.args.child.now.items _ _ _ (rw c.as_slice.ensures.value at c.in_ok-make_child.ensures.ok)
