@@ -76,8 +76,8 @@ impl<A: Allocator + Copy> Leaf<A> {
         self.runs.as_slice()
     }
 
-    /// Puts runs in the place of some of the leaf's, which is not left empty. Its summary is made anew once
-    /// it was joined with that of changed runs so often.
+    /// Puts runs in the place of some of the leaf's, which is not left empty. Its summary is joined with that
+    /// of the changed runs, and made anew after `most_joins` joins.
     pub(crate) fn replace(&mut self, low: usize, high: usize, parts: &[Run], most_joins: u8)
         requires order { low ≤ high }
         requires bound { high ≤ length self.old }

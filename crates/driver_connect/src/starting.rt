@@ -266,8 +266,8 @@ fn run_pass<D: Driver, A: Allocator + Copy>(
 }
 
 /// Starts drivers on a controller, in passes over those that are left, up to a pass that starts
-/// none. Drivers that are named come first. Plans take much of the stack, so that this is a call of its
-/// own in each level of handles.
+/// none. Drivers that are named come first. LLVM keeps this a call of its own, since plans take much of the
+/// stack in each level of handles; Rattle's own compiler does not read the attribute.
 #[inline(never)]
 pub(crate) fn run_passes<D: Driver, A: Allocator + Copy>(
     alloc: A,
