@@ -1,7 +1,7 @@
 //! What C asks of a core beside the services.
 ghost use Rattle.std.specs.Prelude.{◌≡◌, length};
 ghost use Rattle.page_ranges.specs.MemoryMap.{memory_map};
-ghost use Rattle.c_interface.specs.Buffers.{laid};
+ghost use Rattle.c_interface.specs.Buffers.{front_filled};
 ghost use Rattle.c_interface.specs.Checks.{ReturnsEntry};
 ghost use Rattle.c_interface.specs.EfiCores.{certifying_core, last_events};
 ghost use Rattle.c_interface.specs.Items.{map_entry};
@@ -69,7 +69,7 @@ pub extern "C" fn RafkudinReplyLine(
 #[unsafe(no_mangle)]
 pub extern "C" fn RafkudinEvents(core: &mut Rafkudin, events: &mut [u64]) -> usize
     ensures count { result ≡ length (last_events core.old.core) }
-    ensures events { events.new ≡ laid (last_events core.old.core) events.old }
+    ensures events { events.new ≡ front_filled (last_events core.old.core) events.old }
     ensures kept { core.new.core ≡ core.old.core }
 {
     core.held().events(events)

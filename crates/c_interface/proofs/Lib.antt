@@ -11,4 +11,4 @@ mod TracedCalls
 pub mod InstalledPaths
 pub mod LocatedHere
 mod PrintedReplies
-pub mod LaidStops
+pub mod FilledStops

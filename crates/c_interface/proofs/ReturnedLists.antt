@@ -1,4 +1,4 @@
--- Values that are laid into a buffer one after another, and what is returned of handles.
+-- Values that are front_filled into a buffer one after another, and what is returned of handles.
 use Rattle.std.proofs.Common.{◌≡◌, ℕ, zero, suc, ◌<◌, ◌+◌, List, [], ◌∷◌, ◌++◌, length, take, drop, map, get_or, slice_index_or, slice_set, Some, None, refl, sym, ap, subst, ◌∙◌, arith, inl, inr, Bool, true, false, nat_le, leb-true, leb-false, min}
 use Rattle.std.proofs.Math.Nat.{min-eq_left, min-eq_right}
 use Rattle.std.proofs.Math.ListN.{drop_of_length-le}
@@ -6,7 +6,7 @@ use Rattle.boot_calls.specs.declared.calls.Call.{Call}
 use Rattle.boot_replies.specs.declared.replies.Reply.{Reply}
 use Rattle.boot_replies.specs.declared.replies.Reply.TheVariants as reply
 use Rattle.boot_calls.specs.declared.replies.LocateReply.{LocateReply}
-use Rattle.c_interface.specs.Buffers.{laid}
+use Rattle.c_interface.specs.Buffers.{front_filled}
 use Rattle.c_interface.specs.EfiCores.{EfiCoreValue}
 use Rattle.c_interface.specs.Replies.{returned_or}
 use Rattle.c_machines.specs.declared.guids.Guid.{Guid}
@@ -20,7 +20,7 @@ some_is : {A : Type 0} (x y : A) → Some x ≡ Some y → x ≡ y
 some_is x y e = cc
 
 pub handles_returned : {A : Type 0} (old new : EfiCoreValue A) (c : Call A) (status : ℕ) (returned : LocateReply A) (size new_size : ℕ) (buffer new_buffer : List ℕ) → AnswersStatus old c status new → new.last ≡ Some (reply.LocateHandle returned) →
-    new_size ≡ returned_or size (returned_size returned.status returned.size) → new_buffer ≡ laid returned.handles.items buffer → AnswersHandles old c size buffer status new_size new_buffer new
+    new_size ≡ returned_or size (returned_size returned.status returned.size) → new_buffer ≡ front_filled returned.handles.items buffer → AnswersHandles old c size buffer status new_size new_buffer new
 handles_returned old new c status returned size new_size buffer new_buffer (inl (answer, s, e, u)) l is_size is_buffer =
     inl (answer, s, e, subst (ReturnsHandles size buffer new_size new_buffer) (some_is _ _ (sym l ∙ s.last)) (is_size, is_buffer))
 handles_returned {A = A} old new c status returned size new_size buffer new_buffer (inr (spent, e, u)) l is_size is_buffer =
@@ -49,9 +49,9 @@ pairs_more i xs d a =
     let next : i + 1 ≡ suc i = omega arith in
     sym (map-append interface_in (take i xs) (get_or xs i d ∷ [])) ∙ ap (map interface_in) (sym (take-suc xs i d a) ∙ ap (λ n. take n xs) (sym next))
 
-pub laid_whole : {T : Type 0} (i : ℕ) (xs ys : List T) → i ≡ min (length xs) (length ys) → take i xs ++ drop i ys ≡ laid xs ys
-laid_whole i xs ys e =
-    let by : (b : Bool) → nat_le (length xs) (length ys) ≡ b → take i xs ++ drop i ys ≡ laid xs ys = λ b. elim b as (λ b. nat_le (length xs) (length ys) ≡ b → take i xs ++ drop i ys ≡ laid xs ys) [
+pub filled_whole : {T : Type 0} (i : ℕ) (xs ys : List T) → i ≡ min (length xs) (length ys) → take i xs ++ drop i ys ≡ front_filled xs ys
+filled_whole i xs ys e =
+    let by : (b : Bool) → nat_le (length xs) (length ys) ≡ b → take i xs ++ drop i ys ≡ front_filled xs ys = λ b. elim b as (λ b. nat_le (length xs) (length ys) ≡ b → take i xs ++ drop i ys ≡ front_filled xs ys) [
       | true ↦ λ h. let l = leb-true (length xs) (length ys) h in let n = e ∙ min-eq_left l in rw (n, take_all (length xs) xs (omega arith), take_all (length ys) xs l) refl
       | false ↦ λ h. let l = leb-false (length xs) (length ys) h in let n = e ∙ min-eq_right (omega arith) in rw (n, drop_of_length-le ys {i = length ys} (omega arith), drop_of_length-le ys {i = length xs} (omega arith)) refl
     ] in

@@ -23,7 +23,7 @@ use Rattle.c_machines.specs.Guids.{guid_in, standard_guid}
 use Rattle.c_interface.specs.declared.entries.BlockEntry.{BlockEntry}
 use Rattle.c_interface.specs.declared.entries.RunEntry.{RunEntry}
 use Rattle.c_interface.specs.declared.entries.OpenEntry.{OpenEntry}
-use Rattle.c_interface.specs.Buffers.{laid}
+use Rattle.c_interface.specs.Buffers.{front_filled}
 use Rattle.c_interface.specs.EfiCores.{EfiCoreValue}
 
 -- What a question leaves in the caller's variable: what is found, or what was there.
@@ -121,7 +121,7 @@ abbrev pub FillsWith : {X : Type 0} → List X → ℕ → List X → ℕ → Li
 FillsWith items status buffer new_count new_buffer =
     (new_count ≡ length items)
     × (((length items ≤ length buffer) × (status ≡ status_number Success)
-    × (new_buffer ≡ laid items buffer))
+    × (new_buffer ≡ front_filled items buffer))
     ⊎ ((length buffer < length items) × (status ≡ status_number BufferTooSmall)
     × (new_buffer ≡ buffer)))
 

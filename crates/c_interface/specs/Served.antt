@@ -17,7 +17,7 @@ use Rattle.c_interface.specs.declared.efi_core.LastBlock.TheVariants as block
 use Rattle.c_machines.specs.declared.guids.Guid.{Guid}
 use Rattle.c_machines.specs.Guids.{standard_guid}
 use Rattle.guid_handles.specs.HandleChanges.{max_handles}
-use Rattle.c_interface.specs.Buffers.{laid}
+use Rattle.c_interface.specs.Buffers.{front_filled}
 use Rattle.c_interface.specs.EfiCores.{EfiCoreValue, LeavesBlock, forgotten, meanings}
 use Rattle.c_interface.specs.Replies.{status_in, number_in, numbers_in, returned_or}
 
@@ -84,7 +84,7 @@ returned_size status size = None
 abbrev pub ReturnsHandles : {A : Type 0} → ℕ → List ℕ → ℕ → List ℕ → Reply A → Type 0
 ReturnsHandles size buffer new_size new_buffer (reply.LocateHandle returned) =
     (new_size ≡ returned_or size (returned_size returned.status returned.size))
-    × (new_buffer ≡ laid returned.handles.items buffer)
+    × (new_buffer ≡ front_filled returned.handles.items buffer)
 ReturnsHandles size buffer new_size new_buffer answer = ⊥
 
 -- LocateHandle through C
@@ -100,7 +100,7 @@ abbrev pub ReturnsGuids : {A : Type 0} → ℕ → List Guid → ℕ → ℕ →
 ReturnsGuids count buffer status new_count new_buffer (reply.ProtocolsPerHandle (Ok guids)) =
     (new_count ≡ length guids.items)
     × (((length guids.items ≤ length buffer) × (status ≡ status_number Success)
-    × (new_buffer ≡ laid (map standard_guid guids.items) buffer))
+    × (new_buffer ≡ front_filled (map standard_guid guids.items) buffer))
     ⊎ ((length buffer < length guids.items) × (status ≡ status_number BufferTooSmall)
     × (new_buffer ≡ buffer)))
 ReturnsGuids count buffer status new_count new_buffer (reply.ProtocolsPerHandle (Err refusal)) =
@@ -184,6 +184,6 @@ ReturnsBlock block.OutOfMemory buffer size status new_buffer new_size =
 ReturnsBlock (block.Text text) buffer size status new_buffer new_size =
     (new_size ≡ length text.items)
     × (((length text.items ≤ length buffer) × (status ≡ status_number Success)
-    × (new_buffer ≡ laid text.items buffer))
+    × (new_buffer ≡ front_filled text.items buffer))
     ⊎ ((length buffer < length text.items) × (status ≡ status_number BufferTooSmall)
     × (new_buffer ≡ buffer)))

@@ -4,13 +4,13 @@ ghost use Rattle.c_interface.specs.EfiCores.{KeepsBlock, with_last};
 ghost use Rattle.page_ranges.specs.Statuses.{status_number};
 ghost use Rattle.boot_replies.specs.Certified.{certified};
 ghost use Rattle.boot_core.specs.Machines.{kept_map};
-ghost use Rattle.c_interface.specs.Buffers.{laid};
+ghost use Rattle.c_interface.specs.Buffers.{front_filled};
 ghost use Rattle.c_interface.specs.EfiCores.{LeavesBlock, certifying_core, forgotten, last_events};
 ghost use Rattle.c_interface.specs.Paths.{with_reply};
 ghost use Rattle.c_interface.specs.Replies.{number_in, returned_or, status_in};
 ghost use Rattle.c_interface.specs.Served.{AnswersStatus, AnswersNumber, AnswersNumbers, ReturnsBlock};
 
-use crate::buffers::lay;
+use crate::buffers::copy_to_front;
 use crate::replies::{events_in, number_in, numbers_in, status_in};
 use boot_core::{Call, Core, Reply, certified, map_before};
 use certificate_blocks::print_block;
@@ -45,7 +45,7 @@ impl<A: Allocator> LastBlock<A> {
         if buffer.len() < text.len() {
             return Status::BufferTooSmall.number();
         }
-        lay(buffer, text.as_slice());
+        copy_to_front(buffer, text.as_slice());
         Status::Success.number()
     }
 }
@@ -137,7 +137,7 @@ impl<A: Allocator + Copy> EfiCore<A> {
     }
 
     /// Keeps the reply to a call that carries no certificate, and returns its status.
-    pub(crate) fn tell(&mut self, reply: Reply<A>) -> u64
+    pub(crate) fn return_status(&mut self, reply: Reply<A>) -> u64
         ensures status { result ≡ status_number (status_in reply) }
         ensures core { self.new ≡ with_last self.old reply LastBlock.Nothing }
     {
@@ -147,7 +147,7 @@ impl<A: Allocator + Copy> EfiCore<A> {
     }
 
     /// The same, beside the block that the call before left.
-    pub(crate) fn tell_beside(&mut self, reply: Reply<A>) -> u64
+    pub(crate) fn return_beside(&mut self, reply: Reply<A>) -> u64
         ensures status { result ≡ status_number (status_in reply) }
         ensures core { self.new ≡ with_reply self.old reply }
     {
@@ -157,7 +157,7 @@ impl<A: Allocator + Copy> EfiCore<A> {
     }
 
     /// The same; where the reply carries a number it is put in the caller's variable.
-    pub(crate) fn tell_number(&mut self, reply: Reply<A>, place: &mut u64) -> u64
+    pub(crate) fn return_number(&mut self, reply: Reply<A>, place: &mut u64) -> u64
         ensures status { result ≡ status_number (status_in reply) }
         ensures number { place.new ≡ returned_or place.old (number_in reply) }
         ensures core { self.new
@@ -171,7 +171,7 @@ impl<A: Allocator + Copy> EfiCore<A> {
         if let Some(number) = number_in(&reply) {
             *place = number;
         }
-        self.tell(reply)
+        self.return_status(reply)
     }
 
     /// The reply of the last call.
@@ -230,10 +230,10 @@ impl<A: Allocator + Copy> EfiCore<A> {
     /// How many events the last call signals; the first of them are copied into a buffer, as many as it has room for.
     pub fn events(&self, buffer: &mut [u64]) -> usize
         ensures count { result ≡ length (last_events self.now) }
-        ensures events { buffer.new ≡ laid (last_events self.now) buffer.old }
+        ensures events { buffer.new ≡ front_filled (last_events self.now) buffer.old }
     {
         let events = self.signaled();
-        lay(buffer, events);
+        copy_to_front(buffer, events);
         events.len()
     }
 

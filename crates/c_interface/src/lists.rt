@@ -1,12 +1,12 @@
 //! The services that take or return a list.
 ghost use Rattle.std.specs.Prelude.{◌≡◌, map, take};
 ghost use Rattle.boot_calls.specs.declared.calls.Call.TheVariants as call;
-ghost use Rattle.c_interface.specs.Buffers.{laid};
+ghost use Rattle.c_interface.specs.Buffers.{front_filled};
 ghost use Rattle.c_interface.specs.Served.{AnswersNumber, handle_bytes, returned_size, too_many};
 ghost use Rattle.c_interface.specs.Services.{InstallsAll, LocatesHandles, ListsGuids, Connects};
 ghost use Rattle.c_machines.specs.Guids.{interface_in, standard_guid};
 
-use crate::buffers::lay;
+use crate::buffers::copy_to_front;
 use crate::efi_core::{ABORTED, EfiCore};
 use arrayvec::ArrayVec;
 use boot_calls::HANDLE_SIZE;
@@ -43,7 +43,7 @@ impl<A: Allocator + Copy> EfiCore<A> {
             size,
         });
         if let Some(Reply::LocateHandle(returned)) = self.last_reply() {
-            lay(buffer, returned.handles.as_slice());
+            copy_to_front(buffer, returned.handles.as_slice());
             if let Some(size) = returned_size(returned.status, returned.size) {
                 *needed = size;
             }
@@ -66,7 +66,7 @@ impl<A: Allocator + Copy> EfiCore<A> {
         if buffer.len() < guids.len() {
             return Status::BufferTooSmall.number();
         }
-        lay_guids(buffer, guids.as_slice());
+        copy_guids(buffer, guids.as_slice());
         Status::Success.number()
     }
 
@@ -90,7 +90,7 @@ impl<A: Allocator + Copy> EfiCore<A> {
             return ABORTED;
         }
         let reply = self.core.install_multiple(*handle, pairs);
-        self.tell_number(reply, handle)
+        self.return_number(reply, handle)
     }
 
     /// ConnectController, with the drivers that are tried first.
@@ -102,7 +102,7 @@ impl<A: Allocator + Copy> EfiCore<A> {
             return ABORTED;
         }
         let reply = self.core.connect_controller(handle, drivers, recursive);
-        self.tell(reply)
+        self.return_status(reply)
     }
 }
 
@@ -136,8 +136,8 @@ pub(crate) fn first_pairs(interfaces: &[Interface]) -> ArrayVec<(Uuid, u64), TOO
 }
 
 /// Copies GUIDs into the front of a buffer, as many as it has room for.
-fn lay_guids(buffer: &mut [Guid], guids: &[Uuid])
-    ensures { buffer.new ≡ laid (map standard_guid guids.now) buffer.old }
+fn copy_guids(buffer: &mut [Guid], guids: &[Uuid])
+    ensures { buffer.new ≡ front_filled (map standard_guid guids.now) buffer.old }
 {
     let count = guids.len().min(buffer.len());
     for index in 0..count {

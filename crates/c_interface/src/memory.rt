@@ -33,7 +33,7 @@ impl<A: Allocator + Copy> EfiCore<A> {
             return ABORTED;
         }
         let reply = self.core.allocate_pages(kind, mtype, pages, *memory);
-        self.tell_number(reply, memory)
+        self.return_number(reply, memory)
     }
 
     /// FreePages.
@@ -45,7 +45,7 @@ impl<A: Allocator + Copy> EfiCore<A> {
             return ABORTED;
         }
         let reply = self.core.free_pages(memory, pages);
-        self.tell(reply)
+        self.return_status(reply)
     }
 
     /// GetMemoryMap. The variables receive the bytes that the map takes, its key, the bytes of a record and their
@@ -103,7 +103,7 @@ impl<A: Allocator + Copy> EfiCore<A> {
             return ABORTED;
         }
         let reply = self.core.pool_write(address, bytes);
-        self.tell(reply)
+        self.return_status(reply)
     }
 
     /// AllocatePool. The variable `buffer` receives the block's address.
@@ -118,7 +118,7 @@ impl<A: Allocator + Copy> EfiCore<A> {
             return ABORTED;
         }
         let reply = self.core.allocate_pool(mtype, size);
-        self.tell_number(reply, buffer)
+        self.return_number(reply, buffer)
     }
 
     /// FreePool.

@@ -25,7 +25,7 @@ impl<A: Allocator + Copy> EfiCore<A> {
         let reply = self
             .core
             .install_protocol_interface(*handle, guid.uuid(), kind, value);
-        self.tell_number(reply, handle)
+        self.return_number(reply, handle)
     }
 
     /// UninstallProtocolInterface.
@@ -37,7 +37,7 @@ impl<A: Allocator + Copy> EfiCore<A> {
             return ABORTED;
         }
         let reply = self.core.uninstall(handle, guid.uuid(), value);
-        self.tell(reply)
+        self.return_status(reply)
     }
 
     /// ReinstallProtocolInterface.
@@ -97,7 +97,7 @@ impl<A: Allocator + Copy> EfiCore<A> {
             return ABORTED;
         }
         let reply = self.core.locate_protocol(guid.uuid(), key);
-        self.tell_number(reply, value)
+        self.return_number(reply, value)
     }
 
     /// OpenProtocol. The variable `value` receives the interface's value, but by TEST_PROTOCOL.
@@ -120,7 +120,7 @@ impl<A: Allocator + Copy> EfiCore<A> {
         let reply = self
             .core
             .open_protocol(handle, guid.uuid(), agent, controller, attributes);
-        self.tell_number(reply, value)
+        self.return_number(reply, value)
     }
 
     /// CloseProtocol.
@@ -134,7 +134,7 @@ impl<A: Allocator + Copy> EfiCore<A> {
         let reply = self
             .core
             .close_protocol(handle, guid.uuid(), agent, controller);
-        self.tell(reply)
+        self.return_status(reply)
     }
 
     /// OpenProtocolInformation. The variables receive how many open items there are, and the address of their block of
@@ -166,7 +166,7 @@ impl<A: Allocator + Copy> EfiCore<A> {
             return ABORTED;
         }
         let reply = self.core.handle_protocol(handle, guid.uuid());
-        self.tell_number(reply, value)
+        self.return_number(reply, value)
     }
 
     /// DisconnectController.

@@ -3,7 +3,7 @@ ghost use Rattle.std.specs.Prelude.{◌≡◌, length};
 ghost use Rattle.c_interface.specs.Items.{ListsItems, open_item_at};
 ghost use Rattle.c_interface.specs.Questions.{FillsWith, ReturnsFound, agent_item_at, block_from, handle_at, holder_at, holders, interface_at, live_handles, page_run, page_runs};
 
-use crate::buffers::lay;
+use crate::buffers::copy_to_front;
 use crate::efi_core::EfiCore;
 use crate::entries::{
     BlockEntry, OpenEntry, RunEntry, block_in_c, interface_in_c, open_in_c, run_in_c,
@@ -159,6 +159,6 @@ pub(crate) fn fill<T: Copy>(items: &[T], buffer: &mut [T], count: &mut u64) -> u
     if buffer.len() < items.len() {
         return Status::BufferTooSmall.number();
     }
-    lay(buffer, items);
+    copy_to_front(buffer, items);
     Status::Success.number()
 }

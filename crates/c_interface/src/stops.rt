@@ -1,6 +1,6 @@
 //! What to stop, for a caller in C that stops drivers itself. None is a call.
 ghost use Rattle.std.specs.Prelude.{◌≡◌, map};
-ghost use Rattle.c_interface.specs.Buffers.{laid};
+ghost use Rattle.c_interface.specs.Buffers.{front_filled};
 ghost use Rattle.c_interface.specs.Questions.{FillsWith};
 ghost use Rattle.c_interface.specs.Stops.{ListsChildren, ListsManagers, ListsStops, stop_in_c};
 
@@ -73,13 +73,13 @@ fn fill_stops(pairs: &[(u64, u64)], buffer: &mut [StopEntry], count: &mut u64) -
     if buffer.len() < pairs.len() {
         return Status::BufferTooSmall.number();
     }
-    lay_stops(buffer, pairs);
+    copy_stops(buffer, pairs);
     Status::Success.number()
 }
 
 /// Copies pairs into the front of a buffer, as many as it has room for.
-fn lay_stops(buffer: &mut [StopEntry], pairs: &[(u64, u64)])
-    ensures { buffer.new ≡ laid (map stop_in_c pairs.now) buffer.old }
+fn copy_stops(buffer: &mut [StopEntry], pairs: &[(u64, u64)])
+    ensures { buffer.new ≡ front_filled (map stop_in_c pairs.now) buffer.old }
 {
     let count = pairs.len().min(buffer.len());
     for index in 0..count {

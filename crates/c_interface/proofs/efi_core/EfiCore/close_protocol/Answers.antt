@@ -4,4 +4,4 @@ use Rattle.c_interface.specs.Served.{AnswersStatus}
 use Rattle.c_interface.proofs.efi_core.EfiCore.close_protocol.Goals as goal
 
 pub returns : goal.returns
-returns g c = subst (λ guid. AnswersStatus c.args.self.now (call.CloseProtocol c.args.handle guid c.args.agent c.args.controller) c.tell.result c.tell.new.self) c.uuid.ensures (search rules)
+returns g c = subst (λ guid. AnswersStatus c.args.self.now (call.CloseProtocol c.args.handle guid c.args.agent c.args.controller) c.return_status.result c.return_status.new.self) c.uuid.ensures (search rules)

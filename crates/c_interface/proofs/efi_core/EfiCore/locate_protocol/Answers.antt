@@ -8,9 +8,9 @@ use Rattle.c_interface.proofs.efi_core.EfiCore.locate_protocol.Goals as goal
 pub returns : goal.returns
 returns g c =
     let core = ap (λ (x : EfiCoreValue g.row.A.Denot). x.core) (c.self.view_is ∙ c.forget.ensures) in
-    let step : Step (meanings c.args.self.now) c.args.self.now.core.state (call.LocateProtocol c.uuid.result c.args.key) c.locate_protocol-reply.result c.tell_number.new.self.core.state =
-    rw (c.tell_number.ensures.core, sym core) c.locate_protocol-reply.ensures.step in
-    let served : Serves c.args.self.now (call.LocateProtocol c.uuid.result c.args.key) c.locate_protocol-reply.result c.tell_number.new.self =
+    let step : Step (meanings c.args.self.now) c.args.self.now.core.state (call.LocateProtocol c.uuid.result c.args.key) c.locate_protocol-reply.result c.return_number.new.self.core.state =
+    rw (c.return_number.ensures.core, sym core) c.locate_protocol-reply.ensures.step in
+    let served : Serves c.args.self.now (call.LocateProtocol c.uuid.result c.args.key) c.locate_protocol-reply.result c.return_number.new.self =
     record { step = step; drivers = search rules; certifies = search rules; block = search rules; last = search rules } in
-    subst (λ guid. AnswersNumber c.args.self.now (call.LocateProtocol guid c.args.key) c.args.value.now c.tell_number.result c.tell_number.new.place c.tell_number.new.self) c.uuid.ensures
-    (inl (c.locate_protocol-reply.result, served, c.tell_number.ensures.status, c.tell_number.ensures.number))
+    subst (λ guid. AnswersNumber c.args.self.now (call.LocateProtocol guid c.args.key) c.args.value.now c.return_number.result c.return_number.new.place c.return_number.new.self) c.uuid.ensures
+    (inl (c.locate_protocol-reply.result, served, c.return_number.ensures.status, c.return_number.ensures.number))

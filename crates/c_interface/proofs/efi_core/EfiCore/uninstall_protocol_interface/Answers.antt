@@ -4,4 +4,4 @@ use Rattle.c_interface.specs.Served.{AnswersStatus}
 use Rattle.c_interface.proofs.efi_core.EfiCore.uninstall_protocol_interface.Goals as goal
 
 pub returns : goal.returns
-returns g c = subst (λ guid. AnswersStatus c.args.self.now (call.UninstallProtocolInterface c.args.handle guid c.args.value) c.tell.result c.tell.new.self) c.uuid.ensures (search rules)
+returns g c = subst (λ guid. AnswersStatus c.args.self.now (call.UninstallProtocolInterface c.args.handle guid c.args.value) c.return_status.result c.return_status.new.self) c.uuid.ensures (search rules)

@@ -2,9 +2,9 @@ use Rattle.std.proofs.Common.{◌≡◌, ◌<◌, ◌∙◌, ap, map, get_or, le
 use Rattle.std.proofs.Math.Nat.{min-le_left, min-le_right}
 use Rattle.std.proofs.lemmas.List.{get_or_default}
 use Rattle.c_interface.specs.Stops.{stop_in_c}
-use Rattle.c_interface.proofs.LaidStops.{length_stops, stop_laid}
-use Rattle.c_interface.proofs.ReturnedLists.{laid_whole}
-use Rattle.c_interface.proofs.stops.lay_stops.Goals as goal
+use Rattle.c_interface.proofs.FilledStops.{length_stops, stop_laid}
+use Rattle.c_interface.proofs.ReturnedLists.{filled_whole}
+use Rattle.c_interface.proofs.stops.copy_stops.Goals as goal
 
 pub loop-index-preserved : goal.loop-index-preserved
 loop-index-preserved c =
@@ -19,4 +19,4 @@ loop-index-preserved c =
 pub returns : goal.returns
 returns c =
     let ended : c.loop-index.index ≡ c.min-count.result = omega (arith, c.loop-index-test.false, c.loop-index.auto.index-end) in
-    c.loop-index.invariant ∙ laid_whole c.loop-index.index (map stop_in_c c.args.pairs.now) c.args.buffer.now (ended ∙ c.min-count.ensures ∙ ap (λ n. min n (length c.args.buffer.now)) (length_stops c.args.pairs.now))
+    c.loop-index.invariant ∙ filled_whole c.loop-index.index (map stop_in_c c.args.pairs.now) c.args.buffer.now (ended ∙ c.min-count.ensures ∙ ap (λ n. min n (length c.args.buffer.now)) (length_stops c.args.pairs.now))

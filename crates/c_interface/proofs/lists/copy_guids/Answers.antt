@@ -1,8 +1,8 @@
 use Rattle.std.proofs.Common.{◌≡◌, ◌∙◌, ap, map, length, arith, min}
 use Rattle.std.proofs.Math.Nat.{min-le_left, min-le_right}
 use Rattle.c_machines.specs.Guids.{standard_guid}
-use Rattle.c_interface.proofs.ReturnedLists.{guid_laid, laid_whole, length_guids}
-use Rattle.c_interface.proofs.lists.lay_guids.Goals as goal
+use Rattle.c_interface.proofs.ReturnedLists.{guid_laid, filled_whole, length_guids}
+use Rattle.c_interface.proofs.lists.copy_guids.Goals as goal
 
 pub loop-index-preserved : goal.loop-index-preserved
 loop-index-preserved c =
@@ -15,4 +15,4 @@ loop-index-preserved c =
 pub returns : goal.returns
 returns c =
     let ended : c.loop-index.index ≡ c.min-count.result = omega (arith, c.loop-index-test.false, c.loop-index.auto.index-end) in
-    c.loop-index.invariant ∙ laid_whole c.loop-index.index (map standard_guid c.args.guids.now) c.args.buffer.now (ended ∙ c.min-count.ensures ∙ ap (λ n. min n (length c.args.buffer.now)) (length_guids c.args.guids.now))
+    c.loop-index.invariant ∙ filled_whole c.loop-index.index (map standard_guid c.args.guids.now) c.args.buffer.now (ended ∙ c.min-count.ensures ∙ ap (λ n. min n (length c.args.buffer.now)) (length_guids c.args.guids.now))

@@ -1,4 +1,4 @@
--- Pairs that are laid into a buffer one after another, as C has them.
+-- Pairs that are front_filled into a buffer one after another, as C has them.
 use Rattle.std.proofs.Common.{◌≡◌, ℕ, suc, ◌<◌, ◌+◌, List, ◌++◌, length, take, drop, map, get_or, slice_set, sym, ap, subst, ◌∙◌, arith}
 use Rattle.std.proofs.lemmas.List.{get_or-map, length-map}
 use Rattle.c_interface.specs.declared.entries.StopEntry.{StopEntry}
