@@ -114,24 +114,24 @@ impl<A: Allocator + Copy> Opens<A> {
         ensures { result
             ≡ rule.open_rule handles.now self.now handle guid agent controller attributes }
     {
-        let carried = handles.interface(handle, guid).is_some();
-        self.decide_carried(
-            handles, carried, handle, guid, agent, controller, attributes,
+        let installed = handles.interface(handle, guid).is_some();
+        self.decide_installed(
+            handles, installed, handle, guid, agent, controller, attributes,
         )
     }
 
     /// What `decide` returns, where it is known whether the handle carries the GUID.
-    pub fn decide_carried(
+    pub fn decide_installed(
         &self,
         handles: &Handles<A>,
-        carried: bool,
+        installed: bool,
         handle: u64,
         guid: Uuid,
         agent: u64,
         controller: u64,
         attributes: u32,
     ) -> Decision
-        requires { carried ≡ carries handles.now guid handle }
+        requires { installed ≡ carries handles.now guid handle }
         ensures { result
             ≡ rule.open_rule handles.now self.now handle guid agent controller attributes }
     {
@@ -140,7 +140,7 @@ impl<A: Allocator + Copy> Opens<A> {
         if agent != 0 {
             return decide_among(
                 handles,
-                carried,
+                installed,
                 self.near(handle),
                 handle,
                 guid,
@@ -151,7 +151,7 @@ impl<A: Allocator + Copy> Opens<A> {
         }
         decide_among(
             handles,
-            carried,
+            installed,
             Near {
                 slots: &[],
                 places: &[],
@@ -381,7 +381,7 @@ impl<A: Allocator + Copy> Opens<A> {
 /// What is to be done about a call of OpenProtocol, by the items on its handle.
 fn decide_among<A: Allocator + Copy>(
     handles: &Handles<A>,
-    carried: bool,
+    installed: bool,
     on: Near<'_>,
     handle: u64,
     guid: Uuid,
@@ -389,17 +389,17 @@ fn decide_among<A: Allocator + Copy>(
     controller: u64,
     attributes: u32,
 ) -> Decision
-    requires { carried ≡ carries handles.now guid handle }
+    requires { installed ≡ carries handles.now guid handle }
     ensures { result ≡ rule.open_rule handles.now
         (items_near on.entry) handle guid agent controller attributes }
 {
     if !is_known(attributes)
-        || !is_live_if(handles, carried, handle, guid)
+        || !is_live_if(handles, installed, handle, guid)
         || names_badly(handles, handle, agent, controller, attributes)
     {
         return Decision::Refuse(Status::InvalidParameter);
     }
-    if !carried {
+    if !installed {
         return Decision::Refuse(Status::Unsupported);
     }
     if has_equal(on, handle, guid, agent, controller, attributes) {
@@ -432,16 +432,16 @@ fn decide_among<A: Allocator + Copy>(
 /// Whether a handle is live, which is not looked up where it carries a GUID.
 fn is_live_if<A: Allocator + Copy>(
     handles: &Handles<A>,
-    carried: bool,
+    installed: bool,
     handle: u64,
     guid: Uuid,
 ) -> bool
-    requires { carried ≡ carries handles.now guid handle }
+    requires { installed ≡ carries handles.now guid handle }
     ensures { result ≡ is_live handles.now handle }
 {
     // The contract of this look-up says that interfaces are on live handles.
     let _numbers = handles.all();
-    carried || handles.is_live(handle)
+    installed || handles.is_live(handle)
 }
 
 /// Whether a call of a live handle lacks an agent or a controller, or names a dead one, or the handle

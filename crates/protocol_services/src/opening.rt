@@ -60,7 +60,7 @@ impl<A: Allocator + Copy> Protocols<A> {
         requires { is_some value ≡ carries self.now.handles guid handle }
         ensures { result ≡ decision self.now handle guid agent controller attributes }
     {
-        self.opens.decide_carried(
+        self.opens.decide_installed(
             &self.handles,
             value.is_some(),
             handle,

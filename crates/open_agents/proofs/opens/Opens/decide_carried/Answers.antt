@@ -1,6 +1,6 @@
 use Rattle.std.proofs.Common.{◌∙◌}
 use Rattle.open_agents.proofs.Asked.{rule_agent_0, rule_near}
-use Rattle.open_agents.proofs.opens.Opens.decide_carried.Goals as goal
+use Rattle.open_agents.proofs.opens.Opens.decide_installed.Goals as goal
 
 pub returns-then-agent-ne0 : goal.returns-then-agent-ne0
 returns-then-agent-ne0 g c =
