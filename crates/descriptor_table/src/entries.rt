@@ -8,7 +8,7 @@ ghost use Rattle.descriptor_table.specs.Leaves.{runs_in, runs_with_first, entry_
 ghost use Rattle.descriptor_table.specs.LeafWalks.{entry_up_to, map_from, map_of_runs};
 ghost use Rattle.descriptor_table.specs.Tables.{entry_of, EndBy};
 
-use crate::beginnings::runs_before;
+use crate::entry_starts::runs_before;
 use crate::free_entries::block_of;
 use crate::leaves::Leaf;
 use crate::walks::Walk;

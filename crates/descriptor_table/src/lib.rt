@@ -1,7 +1,7 @@
 //! The memory of a machine as a sorted table of runs.
 #![tactic(auto)]
 
-mod beginnings;
+mod entry_starts;
 mod cursors;
 mod cuts;
 mod entries;

@@ -11,7 +11,7 @@ ghost use Rattle.descriptor_table.specs.Summaries.{KeepsLeaves};
 ghost use Rattle.descriptor_table.specs.Tables.{EndBy, IsWindow};
 ghost use Rattle.descriptor_table.specs.Tallies.{total};
 
-use crate::beginnings::{begun_in, count_begun, runs_before};
+use crate::entry_starts::{begun_in, count_begun, runs_before};
 use crate::cursors::count_leaves_by_from;
 use crate::cuts::push_retyped;
 use crate::entries::count_entries;

@@ -8,7 +8,7 @@ ghost use Rattle.page_ranges.specs.MemoryMap.{memory_map};
 ghost use Rattle.page_ranges.specs.Runs.{page_in, pages_of, runs_of, AreRuns};
 ghost use Rattle.descriptor_table.specs.Tables.{HoldsPage};
 
-use crate::beginnings::begun_in;
+use crate::entry_starts::begun_in;
 use crate::cursors::RunCursor;
 use crate::cuts::RunList;
 use crate::entries::{MapEntries, count_entries};

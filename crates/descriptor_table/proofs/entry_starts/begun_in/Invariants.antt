@@ -1,6 +1,6 @@
 use Rattle.std.proofs.Common.{◌++◌, take}
 use Rattle.descriptor_table.specs.Leaves.{runs_in, AreLast, BeginIn}
-use Rattle.descriptor_table.proofs.beginnings.begun_in.Given as goal
+use Rattle.descriptor_table.proofs.entry_starts.begun_in.Given as goal
 
 -- the entries of the leaves so far, and the runs that were counted last
 abbrev pub invariant-loop-leaf : goal.invariant-loop-leaf

@@ -7,7 +7,7 @@ use Rattle.descriptor_table.specs.Leaves.{runs_in, AreLast, BeginIn}
 use Rattle.descriptor_table.specs.Tables.{EndBy}
 use Rattle.descriptor_table.proofs.LeafLists.{leaf_at}
 use Rattle.descriptor_table.proofs.Begun.{behind_all, begin_last, last_leaf, with_leaf, runs_with_leaf, all_with_leaf, last_and_leaf}
-use Rattle.descriptor_table.proofs.beginnings.begun_in.Goals as goal
+use Rattle.descriptor_table.proofs.entry_starts.begun_in.Goals as goal
 
 pub count_begun-requires-clause-runs : goal.count_begun-requires-clause-runs
 count_begun-requires-clause-runs g c =

@@ -4,7 +4,7 @@ use Rattle.page_ranges.proofs.Members.{all_append_left, all_append_right}
 use Rattle.page_ranges.proofs.RunLists.{run_at, runs-left, runs-right}
 use Rattle.descriptor_table.proofs.Meetings.{one_if, count-append}
 use Rattle.descriptor_table.proofs.Begun.{meet_at, some_entries}
-use Rattle.descriptor_table.proofs.beginnings.count_begun.Goals as goal
+use Rattle.descriptor_table.proofs.entry_starts.count_begun.Goals as goal
 
 pub count_entries-entries-requires-clause-runs : goal.count_entries-entries-requires-clause-runs
 count_entries-entries-requires-clause-runs c = runs-right c.args.before.now c.args.runs.now c.requires.runs
