@@ -39,8 +39,8 @@ protocol_view opens i =
 abbrev pub protocols_on : HandleTable → List OpenRecord → ℕ → List ProtocolView
 protocols_on t opens n = map (protocol_view opens) (filter (is_on n) t.interfaces)
 
-abbrev pub sight_of : HandleTable → List OpenRecord → ℕ → ℕ → ViewValue
-sight_of t opens agent controller =
+abbrev pub view_of : HandleTable → List OpenRecord → ℕ → ℕ → ViewValue
+view_of t opens agent controller =
     record { agent = agent; controller = controller; protocols = protocols_on t opens controller }
 
 -- a GUID is there, and not held

@@ -11,7 +11,7 @@ use Rattle.protocol_notify.specs.Registrations.{events_for}
 use Rattle.driver_connect.specs.declared.agents.Agent.{Agent}
 use Rattle.driver_connect.specs.declared.starting.Start.{Start}
 use Rattle.driver_connect.specs.declared.view.ProtocolView.{ProtocolView}
-use Rattle.driver_connect.specs.Drivers.{Meaning, ViewValue, Plan, sight_of, protocols_on, is_free, driver_binding, agent_of, supports_at, plan_at}
+use Rattle.driver_connect.specs.Drivers.{Meaning, ViewValue, Plan, view_of, protocols_on, is_free, driver_binding, agent_of, supports_at, plan_at}
 
 -- ---- the list of drivers
 
@@ -138,14 +138,14 @@ carried_out rs controller agent plan p = record {
 }
 
 -- what a driver is shown at its turn
-abbrev pub sight_at : Site → Progress → Agent → ViewValue
-sight_at c p a = sight_of p.handles p.opens a.handle c.controller
+abbrev pub view_at : Site → Progress → Agent → ViewValue
+view_at c p a = view_of p.handles p.opens a.handle c.controller
 
 abbrev pub is_supported : Site → Progress → Agent → Bool
-is_supported c p a = supports_at c.drivers a.driver (sight_at c p a)
+is_supported c p a = supports_at c.drivers a.driver (view_at c p a)
 
 abbrev pub plan_for : Site → Progress → Agent → Plan
-plan_for c p a = plan_at c.drivers a.driver (sight_at c p a)
+plan_for c p a = plan_at c.drivers a.driver (view_at c p a)
 
 abbrev pub is_carried_out : Site → Progress → Agent → Bool
 is_carried_out c p a =

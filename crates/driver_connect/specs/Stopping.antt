@@ -6,7 +6,7 @@ use Rattle.page_ranges.specs.declared.statuses.Status.TheVariants.{InvalidParame
 use Rattle.guid_handles.specs.HandleTables.{HandleTable, numbers, maker_of, is_live, carries}
 use Rattle.open_agents.specs.declared.items.OpenRecord.{OpenRecord}
 use Rattle.open_agents.specs.OpenItems.{is_for_driver, names, managers_of, without_items}
-use Rattle.driver_connect.specs.Drivers.{Meaning, ViewValue, sight_of, driver_binding, driver_of, may_stop_at}
+use Rattle.driver_connect.specs.Drivers.{Meaning, ViewValue, view_of, driver_binding, driver_of, may_stop_at}
 
 -- ---- pairs
 
@@ -72,7 +72,7 @@ may_stop_if_any ds (Some i) s = may_stop_at ds i s
 
 -- the agent of a pair is a driver handle, and its driver may be stopped on the controller
 abbrev pub may_stop : List Meaning → HandleTable → List OpenRecord → ℕ × ℕ → Bool
-may_stop ds t opens p = may_stop_if_any ds (driver_of ds t p.1) (sight_of t opens p.1 p.0)
+may_stop ds t opens p = may_stop_if_any ds (driver_of ds t p.1) (view_of t opens p.1 p.0)
 
 -- opens that are for no driver, not exclusive and not for a child
 abbrev pub is_passing : ℕ → Bool
