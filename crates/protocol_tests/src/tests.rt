@@ -92,7 +92,7 @@ pub struct Returned {
 }
 
 /// A reply with the given numbers.
-pub fn tell(rt: &(impl AllocGlobal + Abort), status: Status, numbers: &[u64]) -> Returned {
+pub fn returns(rt: &(impl AllocGlobal + Abort), status: Status, numbers: &[u64]) -> Returned {
     Returned {
         status,
         numbers: Vec::from_slice(rt.alloc(), numbers).expect(rt, "memory"),
@@ -100,15 +100,15 @@ pub fn tell(rt: &(impl AllocGlobal + Abort), status: Status, numbers: &[u64]) ->
 }
 
 /// A reply with one number, or a refusal.
-pub fn tell_one(rt: &(impl AllocGlobal + Abort), answer: Result<u64, Status>) -> Returned {
+pub fn returns_one(rt: &(impl AllocGlobal + Abort), answer: Result<u64, Status>) -> Returned {
     match answer {
-        Ok(number) => tell(rt, Status::Success, &[number]),
-        Err(status) => tell(rt, status, &[]),
+        Ok(number) => returns(rt, Status::Success, &[number]),
+        Err(status) => returns(rt, status, &[]),
     }
 }
 
 /// Asserts that a call of some services returns what the plain lists return, and returns the status.
-pub fn assert_tells(
+pub fn assert_returns(
     rt: &(impl AllocGlobal + Abort),
     core: &mut Core<TableDriver>,
     services: Services,

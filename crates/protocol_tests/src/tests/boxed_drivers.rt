@@ -1,5 +1,5 @@
 //! A core with drivers in boxes, which may be of several kinds.
-use super::{Returned, Services, guid, returned_by, small_machine, tell};
+use super::{Returned, Services, guid, returned_by, small_machine, returns};
 use arrayvec::ArrayVec;
 use boot_core::{Call, CallHandles, Core, Reply};
 use driver_connect::{Driver, StartPlan, TableDriver, View, driver_binding};
@@ -61,10 +61,10 @@ fn table(needed: Uuid) -> TableDriver {
 pub fn returned_of(rt: &(impl AllocGlobal + Abort), reply: &Reply) -> Returned {
     match reply {
         Reply::ConnectController(Ok(_)) | Reply::DisconnectController(Ok(())) => {
-            tell(rt, Status::Success, &[])
+            returns(rt, Status::Success, &[])
         }
         Reply::ConnectController(Err(status)) | Reply::DisconnectController(Err(status)) => {
-            tell(rt, *status, &[])
+            returns(rt, *status, &[])
         }
         _ => panic!(rt; "another reply"),
     }

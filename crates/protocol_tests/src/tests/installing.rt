@@ -1,7 +1,7 @@
 //! Drawn installations and registrations.
 use super::draws::Draws;
 use super::plain_lists::{self, Lists};
-use super::{Returned, Services, assert_tells, guid, tell, tell_one};
+use super::{Returned, Services, assert_returns, guid, returns, returns_one};
 use boot_core::{Call, CallPairs, Core, Reply};
 use driver_connect::TableDriver;
 use page_ranges::Status;
@@ -27,7 +27,7 @@ fn target(draws: &mut Draws, lists: &Lists) -> u64 {
 
 /// The handle and the events of an installation.
 fn returned_installed(rt: &(impl AllocGlobal + Abort), handle: u64, events: &[u64]) -> Returned {
-    let mut reply = tell(rt, Status::Success, &[handle]);
+    let mut reply = returns(rt, Status::Success, &[handle]);
     reply.numbers.extend_from_slice(events).expect(rt, "memory");
     reply
 }
@@ -40,8 +40,8 @@ pub fn returned_of(rt: &(impl AllocGlobal + Abort), reply: &Reply) -> Returned {
             returned_installed(rt, done.handle, done.events.as_slice())
         }
         Reply::InstallProtocolInterface(Err(status))
-        | Reply::InstallMultipleProtocolInterfaces(Err(status)) => tell(rt, *status, &[]),
-        Reply::RegisterProtocolNotify(key) => tell_one(rt, *key),
+        | Reply::InstallMultipleProtocolInterfaces(Err(status)) => returns(rt, *status, &[]),
+        Reply::RegisterProtocolNotify(key) => returns_one(rt, *key),
         _ => panic!(rt; "another reply"),
     }
 }
@@ -64,7 +64,7 @@ pub fn install(
         value,
     };
     let plain = plain_lists::install(rt, lists, handle, kind, &[(byte, value)]);
-    assert_tells(rt, core, Services::Installing, call, plain)
+    assert_returns(rt, core, Services::Installing, call, plain)
 }
 
 /// Up to three interfaces, in which a GUID may occur twice.
@@ -100,7 +100,7 @@ pub fn install_many(
         pairs: call_pairs(rt, pairs.as_slice()),
     };
     let plain = plain_lists::install(rt, lists, handle, 0, pairs.as_slice());
-    assert_tells(rt, core, Services::Installing, call, plain)
+    assert_returns(rt, core, Services::Installing, call, plain)
 }
 
 /// Registers an event.
@@ -117,5 +117,5 @@ pub fn register(
         event,
     };
     let plain = plain_lists::register(rt, lists, byte, event);
-    assert_tells(rt, core, Services::Installing, call, plain)
+    assert_returns(rt, core, Services::Installing, call, plain)
 }

@@ -1,5 +1,5 @@
 //! Lists in pool blocks.
-use super::{Returned, Services, assert_tells, returned_by, tell};
+use super::{Returned, Services, assert_returns, returned_by, returns};
 use boot_core::{Call, Core, PoolList, Reply};
 use driver_connect::TableDriver;
 use page_ranges::Status;
@@ -11,23 +11,23 @@ pub fn returned_of(rt: &(impl AllocGlobal + Abort), reply: &Reply) -> Returned {
         Reply::LocateHandleBuffer(list) | Reply::OpenProtocolInformation(list) => {
             returned_list(rt, list)
         }
-        Reply::PoolRead { status, bytes } => tell_bytes(rt, *status, bytes.as_slice()),
-        Reply::FreePool(Ok(())) => tell(rt, Status::Success, &[]),
-        Reply::FreePool(Err(status)) => tell(rt, *status, &[]),
+        Reply::PoolRead { status, bytes } => returns_bytes(rt, *status, bytes.as_slice()),
+        Reply::FreePool(Ok(())) => returns(rt, Status::Success, &[]),
+        Reply::FreePool(Err(status)) => returns(rt, *status, &[]),
         _ => panic!(rt; "another reply"),
     }
 }
 
 fn returned_list(rt: &(impl AllocGlobal + Abort), list: &Result<PoolList, Status>) -> Returned {
     match list {
-        Ok(list) => tell(rt, Status::Success, &[list.count, list.address]),
-        Err(status) => tell(rt, *status, &[]),
+        Ok(list) => returns(rt, Status::Success, &[list.count, list.address]),
+        Err(status) => returns(rt, *status, &[]),
     }
 }
 
 /// A reply with bytes.
-fn tell_bytes(rt: &(impl AllocGlobal + Abort), status: Status, bytes: &[u8]) -> Returned {
-    let mut returned = tell(rt, status, &[]);
+fn returns_bytes(rt: &(impl AllocGlobal + Abort), status: Status, bytes: &[u8]) -> Returned {
+    let mut returned = returns(rt, status, &[]);
     for byte in bytes {
         returned.numbers.push(*byte as u64).expect(rt, "memory");
     }
@@ -74,16 +74,16 @@ fn assert_block(
         return;
     }
     let size = bytes.len() as u64;
-    let held = tell_bytes(rt, Status::Success, bytes);
-    assert_tells(
+    let held = returns_bytes(rt, Status::Success, bytes);
+    assert_returns(
         rt,
         core,
         Services::Listing,
         Call::PoolRead { address, size },
         held,
     );
-    let done = tell(rt, Status::Success, &[]);
-    assert_tells(
+    let done = returns(rt, Status::Success, &[]);
+    assert_returns(
         rt,
         core,
         Services::Listing,

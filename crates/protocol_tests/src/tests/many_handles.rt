@@ -5,7 +5,7 @@ use super::listing::assert_list;
 use super::plain_drivers::{self, CHILD_VALUE, PlainDriver};
 use super::plain_lists::{self, Hindrance, Item, Lists, MAX_HANDLES, Made, empty_lists};
 use super::tallies::{Service, Tally, assert_least, count};
-use super::{Returned, Services, assert_tells, plain_opens, small_machine};
+use super::{Returned, Services, assert_returns, plain_opens, small_machine};
 use boot_core::{Call, CallHandles, Core};
 use driver_connect::TableDriver;
 use page_ranges::Status;
@@ -133,7 +133,7 @@ fn assert_installs(
         value,
     };
     let plain = plain_lists::install(rt, &mut both.lists, handle, 0, &[(byte, value)]);
-    assert_tells(rt, &mut both.core, Services::Installing, call, plain)
+    assert_returns(rt, &mut both.core, Services::Installing, call, plain)
 }
 
 /// Makes the driver handles, and a number of handles that carry one of five GUIDs.
@@ -268,7 +268,7 @@ fn uninstall(rt: &(impl AllocGlobal + Abort), both: &mut Both) -> Status {
         value,
     };
     let plain = plain_drivers::uninstall(rt, &mut both.lists, &DRIVERS, (handle, byte), value);
-    assert_tells(rt, &mut both.core, Services::Opening, call, plain)
+    assert_returns(rt, &mut both.core, Services::Opening, call, plain)
 }
 
 /// Opens an interface.
@@ -282,7 +282,7 @@ fn open(rt: &(impl AllocGlobal + Abort), both: &mut Both) -> Status {
         attributes: open.attributes,
     };
     let plain = plain_drivers::open(rt, &mut both.lists, &DRIVERS, &open);
-    assert_tells(rt, &mut both.core, Services::Opening, call, plain)
+    assert_returns(rt, &mut both.core, Services::Opening, call, plain)
 }
 
 /// Closes an interface.
@@ -295,7 +295,7 @@ fn close(rt: &(impl AllocGlobal + Abort), both: &mut Both) -> Status {
         controller: closed.controller,
     };
     let plain = plain_opens::close(rt, &mut both.lists, &closed);
-    assert_tells(rt, &mut both.core, Services::Opening, call, plain)
+    assert_returns(rt, &mut both.core, Services::Opening, call, plain)
 }
 
 /// Starts drivers on a handle.
@@ -307,7 +307,7 @@ fn connect(rt: &(impl AllocGlobal + Abort), both: &mut Both) -> Status {
         recursive: false,
     };
     let plain = plain_drivers::connect(rt, &mut both.lists, &DRIVERS, handle);
-    assert_tells(rt, &mut both.core, Services::Driving, call, plain)
+    assert_returns(rt, &mut both.core, Services::Driving, call, plain)
 }
 
 /// Stops the drivers of the controller of an item, or of a handle, or one of them.
@@ -320,7 +320,7 @@ fn disconnect(rt: &(impl AllocGlobal + Abort), both: &mut Both) -> Status {
     };
     let call = Call::DisconnectController { handle, driver };
     let plain = plain_drivers::disconnect(rt, &mut both.lists, &DRIVERS, handle, driver);
-    assert_tells(rt, &mut both.core, Services::Driving, call, plain)
+    assert_returns(rt, &mut both.core, Services::Driving, call, plain)
 }
 
 /// Calls a service, and returns its status.
@@ -346,7 +346,7 @@ fn assert_handles(rt: &(impl AllocGlobal + Abort), both: &mut Both) {
         size,
     };
     let plain = plain_lists::locate(rt, &mut both.lists, 0, 1, 0, size);
-    assert_tells(rt, &mut both.core, Services::Searching, call, plain);
+    assert_returns(rt, &mut both.core, Services::Searching, call, plain);
 }
 
 /// Asserts that the interfaces on a handle are those of the plain lists, or that it is a driver handle.
@@ -356,7 +356,7 @@ fn assert_protocols(rt: &(impl AllocGlobal + Abort), both: &mut Both, handle: u6
     }
     let plain = plain_lists::protocols(rt, &both.lists, handle);
     let call = Call::ProtocolsPerHandle { handle };
-    assert_tells(rt, &mut both.core, Services::Searching, call, plain);
+    assert_returns(rt, &mut both.core, Services::Searching, call, plain);
 }
 
 /// Asserts that the items on an interface are those of the plain lists.

@@ -2,7 +2,7 @@
 use super::draws::Draws;
 use super::listing::assert_list;
 use super::plain_lists::{Item, Lists};
-use super::{Returned, Services, assert_tells, guid, plain_opens, tell};
+use super::{Returned, Services, assert_returns, guid, plain_opens, returns};
 use boot_core::{Call, Core, Reply};
 use driver_connect::TableDriver;
 use page_ranges::Status;
@@ -57,15 +57,15 @@ fn like_open(draws: &mut Draws, lists: &Lists) -> Item {
 pub fn returned_of(rt: &(impl AllocGlobal + Abort), reply: &Reply) -> Returned {
     match reply {
         Reply::OpenProtocol(Ok(Some(value))) | Reply::HandleProtocol(Ok(value)) => {
-            tell(rt, Status::Success, &[*value])
+            returns(rt, Status::Success, &[*value])
         }
         Reply::OpenProtocol(Ok(None))
         | Reply::CloseProtocol(Ok(()))
-        | Reply::UninstallProtocolInterface(Ok(())) => tell(rt, Status::Success, &[]),
+        | Reply::UninstallProtocolInterface(Ok(())) => returns(rt, Status::Success, &[]),
         Reply::OpenProtocol(Err(status))
         | Reply::CloseProtocol(Err(status))
         | Reply::UninstallProtocolInterface(Err(status))
-        | Reply::HandleProtocol(Err(status)) => tell(rt, *status, &[]),
+        | Reply::HandleProtocol(Err(status)) => returns(rt, *status, &[]),
         _ => panic!(rt; "another reply"),
     }
 }
@@ -86,7 +86,7 @@ pub fn open(
         attributes: open.attributes,
     };
     let plain = plain_opens::open(rt, lists, &open);
-    assert_tells(rt, core, Services::Opening, call, plain)
+    assert_returns(rt, core, Services::Opening, call, plain)
 }
 
 /// Closes an interface.
@@ -104,7 +104,7 @@ pub fn close(
         controller: closed.controller,
     };
     let plain = plain_opens::close(rt, lists, &closed);
-    assert_tells(rt, core, Services::Opening, call, plain)
+    assert_returns(rt, core, Services::Opening, call, plain)
 }
 
 /// Asks for the value of an interface.
@@ -121,7 +121,7 @@ pub fn handle_protocol(
         guid: guid(byte),
     };
     let plain = plain_opens::handle_protocol(rt, lists, handle, byte);
-    assert_tells(rt, core, Services::Opening, call, plain)
+    assert_returns(rt, core, Services::Opening, call, plain)
 }
 
 /// Lists the open items of an interface in a pool block, which is freed.

@@ -1,7 +1,7 @@
 //! Drivers on plain lists: what starts, what stops, and what goes with it.
 use super::drivers::BINDING;
 use super::plain_lists::{Hindrance, Interface, Item, Lists, MAX_HANDLES, Made, Pair};
-use super::{Returned, plain_opens, tell};
+use super::{Returned, plain_opens, returns};
 use page_ranges::Status;
 use std::process::Abort;
 
@@ -238,16 +238,16 @@ pub fn uninstall(
     value: u64,
 ) -> Returned {
     if let Some(status) = removal_refusal(lists, handle, guid, value) {
-        return tell(rt, status, &[]);
+        return returns(rt, status, &[]);
     }
     let stop = stop_of(rt, lists, pairs_on(rt, lists, handle, guid).as_slice());
     let hindrance = freeing_hindrance(lists, drivers, &stop, handle, guid);
     if is_refused(rt, lists, hindrance) {
-        return tell(rt, Status::AccessDenied, &[]);
+        return returns(rt, Status::AccessDenied, &[]);
     }
     carry_out(lists, &stop);
     lists.drop_interface(handle, guid);
-    tell(rt, Status::Success, &[])
+    returns(rt, Status::Success, &[])
 }
 
 /// The pair that has an interface open as a driver and not exclusively.
@@ -359,7 +359,7 @@ pub fn connect(
     controller: u64,
 ) -> Returned {
     if !lists.is_live(controller) {
-        return tell(rt, Status::InvalidParameter, &[]);
+        return returns(rt, Status::InvalidParameter, &[]);
     }
     let mut has_started = false;
     for agent in &candidates(rt, lists, drivers) {
@@ -379,7 +379,7 @@ pub fn connect(
     } else {
         Status::NotFound
     };
-    tell(rt, status, &[])
+    returns(rt, status, &[])
 }
 
 /// The pairs that manage a handle, those of one driver where it is not 0.
@@ -410,13 +410,13 @@ pub fn disconnect(
 ) -> Returned {
     let is_no_driver = driver != 0 && lists.value(driver, BINDING).is_none();
     if !lists.is_live(handle) || is_no_driver {
-        return tell(rt, Status::InvalidParameter, &[]);
+        return returns(rt, Status::InvalidParameter, &[]);
     }
     let stop = stop_of(rt, lists, pairs_meant(rt, lists, handle, driver).as_slice());
     let hindrance = hindrance(lists, drivers, &stop, handle, None);
     if is_refused(rt, lists, hindrance) {
-        return tell(rt, Status::DeviceError, &[]);
+        return returns(rt, Status::DeviceError, &[]);
     }
     carry_out(lists, &stop);
-    tell(rt, Status::Success, &[])
+    returns(rt, Status::Success, &[])
 }

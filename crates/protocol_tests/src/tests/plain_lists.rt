@@ -1,5 +1,5 @@
 //! Handles, interfaces and registrations in plain lists; each search walks along one.
-use super::{Returned, tell, tell_one};
+use super::{Returned, returns, returns_one};
 use page_ranges::Status;
 use std::process::Abort;
 
@@ -270,13 +270,13 @@ pub fn install(
     pairs: &[(u8, u64)],
 ) -> Returned {
     if kind != 0 || lists.is_bad(handle, pairs) {
-        return tell(rt, Status::InvalidParameter, &[]);
+        return returns(rt, Status::InvalidParameter, &[]);
     }
     if handle == 0 && lists.count() >= MAX_HANDLES {
-        return tell(rt, Status::OutOfResources, &[]);
+        return returns(rt, Status::OutOfResources, &[]);
     }
     let handle = lists.given_or_new(rt, handle);
-    let mut reply = tell(rt, Status::Success, &[handle]);
+    let mut reply = returns(rt, Status::Success, &[handle]);
     for pair in pairs {
         lists.push_interface(rt, handle, pair.0, pair.1);
         lists.push_events(rt, pair.0, &mut reply.numbers);
@@ -302,7 +302,7 @@ pub fn register(
             mark,
         })
         .expect(rt, "memory");
-    tell(rt, Status::Success, &[key])
+    returns(rt, Status::Success, &[key])
 }
 
 /// The handles that carry a GUID.
@@ -320,11 +320,11 @@ fn holders(rt: &(impl AllocGlobal + Abort), lists: &Lists, guid: u8) -> Vec<u64>
 fn fitted(rt: &(impl AllocGlobal + Abort), handles: &[u64], room: u64) -> Returned {
     let size = (handles.len() as u64).saturating_mul(8);
     if handles.is_empty() {
-        tell(rt, Status::NotFound, &[])
+        returns(rt, Status::NotFound, &[])
     } else if room < size {
-        tell(rt, Status::BufferTooSmall, &[size])
+        returns(rt, Status::BufferTooSmall, &[size])
     } else {
-        tell(rt, Status::Success, handles)
+        returns(rt, Status::Success, handles)
     }
 }
 
@@ -336,10 +336,10 @@ fn locate_next(
     room: u64,
 ) -> Returned {
     let Some(registration) = lists.registration(key) else {
-        return tell(rt, Status::InvalidParameter, &[]);
+        return returns(rt, Status::InvalidParameter, &[]);
     };
     let Some(found) = lists.next(&registration) else {
-        return tell(rt, Status::NotFound, &[]);
+        return returns(rt, Status::NotFound, &[]);
     };
     let reply = fitted(rt, &[found.handle], room);
     if reply.status == Status::Success {
@@ -361,7 +361,7 @@ pub fn locate(
         0 => fitted(rt, lists.handles.as_slice(), room),
         1 => locate_next(rt, lists, key, room),
         2 => fitted(rt, holders(rt, lists, guid).as_slice(), room),
-        _ => tell(rt, Status::InvalidParameter, &[]),
+        _ => returns(rt, Status::InvalidParameter, &[]),
     }
 }
 
@@ -398,18 +398,18 @@ pub fn locate_protocol(
     key: u64,
 ) -> Returned {
     if key == 0 {
-        tell_one(rt, lowest_value(lists, guid))
+        returns_one(rt, lowest_value(lists, guid))
     } else {
-        tell_one(rt, next_value(lists, guid, key))
+        returns_one(rt, next_value(lists, guid, key))
     }
 }
 
 /// The bytes of the GUIDs on a handle.
 pub fn protocols(rt: &(impl AllocGlobal + Abort), lists: &Lists, handle: u64) -> Returned {
     if !lists.is_live(handle) {
-        return tell(rt, Status::InvalidParameter, &[]);
+        return returns(rt, Status::InvalidParameter, &[]);
     }
-    let mut reply = tell(rt, Status::Success, &[]);
+    let mut reply = returns(rt, Status::Success, &[]);
     for i in &lists.interfaces {
         if i.handle == handle {
             reply.numbers.push(i.guid as u64).expect(rt, "memory");

@@ -1,6 +1,6 @@
 //! The open table on plain lists.
 use super::plain_lists::{Item, Lists};
-use super::{Returned, tell, tell_one};
+use super::{Returned, returns, returns_one};
 use page_ranges::Status;
 use std::process::Abort;
 
@@ -126,12 +126,12 @@ fn add(rt: &impl Abort, items: &mut Vec<Item>, open: &Item) {
 /// Opens an interface, and returns its value.
 pub fn open(rt: &(impl AllocGlobal + Abort), lists: &mut Lists, open: &Item) -> Returned {
     if let Some(status) = refusal(lists, open) {
-        return tell(rt, status, &[]);
+        return returns(rt, status, &[]);
     }
     add(rt, &mut lists.items, open);
     match lists.value(open.handle, open.guid) {
-        Some(value) if open.attributes != 0x4 => tell(rt, Status::Success, &[value]),
-        _ => tell(rt, Status::Success, &[]),
+        Some(value) if open.attributes != 0x4 => returns(rt, Status::Success, &[value]),
+        _ => returns(rt, Status::Success, &[]),
     }
 }
 
@@ -143,9 +143,9 @@ pub fn handle_protocol(
     guid: u8,
 ) -> Returned {
     if !lists.is_live(handle) {
-        return tell(rt, Status::InvalidParameter, &[]);
+        return returns(rt, Status::InvalidParameter, &[]);
     }
-    tell_one(rt, lists.value(handle, guid).ok_or(Status::Unsupported))
+    returns_one(rt, lists.value(handle, guid).ok_or(Status::Unsupported))
 }
 
 /// Closes what an agent and a controller have open on an interface.
@@ -154,14 +154,14 @@ pub fn close(rt: &(impl AllocGlobal + Abort), lists: &mut Lists, closed: &Item) 
         || !lists.is_live(closed.agent)
         || lists.is_dead(closed.controller)
     {
-        return tell(rt, Status::InvalidParameter, &[]);
+        return returns(rt, Status::InvalidParameter, &[]);
     }
     let before = lists.items.len();
     lists.items = items_but(rt, lists.items.as_slice(), closed);
     if lists.items.len() == before {
-        tell(rt, Status::NotFound, &[])
+        returns(rt, Status::NotFound, &[])
     } else {
-        tell(rt, Status::Success, &[])
+        returns(rt, Status::Success, &[])
     }
 }
 

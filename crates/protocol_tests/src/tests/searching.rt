@@ -3,7 +3,7 @@ use super::draws::Draws;
 use super::listing::assert_list;
 use super::plain_lists::{self, Lists};
 use super::plain_opens::push_bytes;
-use super::{Returned, Services, assert_tells, guid, tell, tell_one};
+use super::{Returned, Services, assert_returns, guid, returns, returns_one};
 use boot_core::{Call, Core, Reply};
 use driver_connect::TableDriver;
 use page_ranges::Status;
@@ -44,9 +44,9 @@ pub fn returned_of(rt: &(impl AllocGlobal + Abort), reply: &Reply) -> Returned {
         Reply::LocateHandle(found) => {
             returned_handles(rt, found.status, found.size, found.handles.as_slice())
         }
-        Reply::LocateProtocol(value) => tell_one(rt, *value),
+        Reply::LocateProtocol(value) => returns_one(rt, *value),
         Reply::ProtocolsPerHandle(Ok(guids)) => returned_guids(rt, guids.as_slice()),
-        Reply::ProtocolsPerHandle(Err(status)) => tell(rt, *status, &[]),
+        Reply::ProtocolsPerHandle(Err(status)) => returns(rt, *status, &[]),
         _ => panic!(rt; "another reply"),
     }
 }
@@ -69,7 +69,7 @@ pub fn locate(
         size,
     };
     let plain = plain_lists::locate(rt, lists, search, byte, key, size);
-    assert_tells(rt, core, Services::Searching, call, plain)
+    assert_returns(rt, core, Services::Searching, call, plain)
 }
 
 /// What LocateHandle returns: the handles, or the size that they need.
@@ -82,10 +82,10 @@ fn returned_handles(
     let count = handles.len() as u64;
     match status {
         Status::Success => assert!(rt; size == count.saturating_mul(8)),
-        Status::BufferTooSmall => return tell(rt, status, &[size]),
+        Status::BufferTooSmall => return returns(rt, status, &[size]),
         _ => assert!(rt; size == 0),
     }
-    tell(rt, status, handles)
+    returns(rt, status, handles)
 }
 
 /// The bytes of some handles.
@@ -134,12 +134,12 @@ pub fn locate_protocol(
         key,
     };
     let plain = plain_lists::locate_protocol(rt, lists, byte, key);
-    assert_tells(rt, core, Services::Searching, call, plain)
+    assert_returns(rt, core, Services::Searching, call, plain)
 }
 
 /// The byte of each GUID, all of whose bytes are that one.
 fn returned_guids(rt: &(impl AllocGlobal + Abort), guids: &[Uuid]) -> Returned {
-    let mut reply = tell(rt, Status::Success, &[]);
+    let mut reply = returns(rt, Status::Success, &[]);
     for name in guids {
         let byte = name.as_bytes()[0];
         assert!(rt; *name == guid(byte));
@@ -158,5 +158,5 @@ pub fn protocols(
     let handle = draws.handle(lists.count());
     let call = Call::ProtocolsPerHandle { handle };
     let plain = plain_lists::protocols(rt, lists, handle);
-    assert_tells(rt, core, Services::Searching, call, plain)
+    assert_returns(rt, core, Services::Searching, call, plain)
 }
