@@ -21,7 +21,7 @@ pub fn gone_law()
     ensures { GoneLaw }
 {}
 
-/// Stopping takes out no handle outside the stop set, and no interface of such a handle.
+/// Stopping removes no handle outside the stop set, and no interface of such a handle.
 pub fn stays_law()
     ensures { StaysLaw }
 {}
@@ -53,8 +53,8 @@ pub fn nothing_carried_out_law()
     ensures { NothingCarriedOutLaw }
 {}
 
-/// A connect takes out no handle, and beside each that it makes is the item by which the driver
-/// that made it has the controller open.
+/// A connect removes no handle, and beside each that it makes is the item by which the driver that
+/// made it has the controller open.
 pub fn makers_item_law()
     ensures { MakersItemLaw }
 {}
@@ -66,7 +66,7 @@ pub fn start_order_law()
     ensures { StartOrderLaw }
 {}
 
-/// Where a caller hands in all driver handles of a core, ascending, they are tried in the order of
+/// Where a caller passes all driver handles of a core, ascending, they are tried in the order of
 /// the rule.
 pub fn order_law()
     ensures { OrderLaw }
@@ -78,7 +78,7 @@ pub fn turns_law()
     ensures { TurnsLaw }
 {}
 
-/// A caller that stops the drivers of a stop itself is given its pairs, those on a child before the
+/// A caller that stops the drivers of a stop itself receives its pairs, those on a child before the
 /// pair that made it.
 pub fn stop_order_law()
     ensures { StopOrderLaw }

@@ -171,7 +171,7 @@ fn can_be_stopped<D: Driver, A: Allocator + Copy>(
     )
 }
 
-/// Takes out handles with their interfaces, and the items that name them. Of ascending handles the
+/// Removes handles with their interfaces, and the items that name them. Of ascending handles the
 /// last goes first, so that few are left behind one that goes.
 fn take_handles<A: Allocator + Copy>(handles: &mut Handles<A>, opens: &mut Opens<A>, made: &[u64])
     ensures handles { handles.new ≡ spec.without_handles made.now handles.old }
@@ -183,7 +183,7 @@ fn take_handles<A: Allocator + Copy>(handles: &mut Handles<A>, opens: &mut Opens
     }
 }
 
-/// Takes out the items of pairs.
+/// Removes the items of pairs.
 fn take_pairs<A: Allocator + Copy>(opens: &mut Opens<A>, pairs: &[(u64, u64)])
     ensures { opens.new ≡ spec.without_pairs pairs.now opens.old }
 {
@@ -202,7 +202,7 @@ fn names_any(handles: &[u64], handle: u64, agent: u64, controller: u64) -> bool
         .any(|n| handle == *n || agent == *n || controller == *n)
 }
 
-/// What a stop takes out, found on the lists as they are: the pairs that it stops, and the handles
+/// What a stop removes, found on the lists as they are: the pairs that it stops, and the handles
 /// that these made.
 #[derive(Drop)]
 pub struct StopPlan<A: Allocator = Global> {
@@ -219,7 +219,7 @@ impl<A: Allocator> Model for StopPlan<A> {
 }
 
 impl<A: Allocator + Copy> StopPlan<A> {
-    /// What the stop of some pairs takes out. Without pairs this takes no memory.
+    /// What the stop of some pairs removes. Without pairs this takes no memory.
     pub fn new(
         alloc: A,
         handles: &Handles<A>,
@@ -239,21 +239,21 @@ impl<A: Allocator + Copy> StopPlan<A> {
         Ok(StopPlan { pairs, handles })
     }
 
-    /// The pairs that the stop takes out.
+    /// The pairs that the stop removes.
     pub(crate) fn pairs(&self) -> &[(u64, u64)]
         ensures { result.now ≡ self.now.pairs }
     {
         self.pairs.as_slice()
     }
 
-    /// Whether the stop takes out a handle.
+    /// Whether the stop removes a handle.
     pub(crate) fn takes_handles(&self) -> bool
         ensures { result ≡ false → self.now.handles ≡ [] }
     {
         !self.handles.is_empty()
     }
 
-    /// Whether the stop takes out the items of an agent and a controller on a handle.
+    /// Whether the stop removes the items of an agent and a controller on a handle.
     pub fn takes_item(&self, handle: u64, agent: u64, controller: u64) -> bool
         ensures { result ≡ spec.takes_item self.now handle agent controller }
     {
@@ -283,8 +283,8 @@ impl<A: Allocator + Copy> StopPlan<A> {
         can_be_stopped(alloc, drivers, handles, opens, &self.pairs, handle, opener)
     }
 
-    /// Takes out the handles with their interfaces, the items that name them, and those of the pairs.
-    /// This takes no memory.
+    /// Removes the handles with their interfaces, the items that name them, and those of the pairs. This takes no
+    /// memory.
     pub fn carry_out(&self, handles: &mut Handles<A>, opens: &mut Opens<A>)
         ensures handles { handles.new ≡ spec.without_handles self.now.handles handles.old }
         ensures opens { opens.new ≡ spec.without_opens self.now.handles self.now.pairs opens.old }

@@ -168,7 +168,7 @@ impl<A: Allocator + Copy> Blocks<A> {
         }
     }
 
-    /// Takes a place out of the block at `at`, and with its last one the block.
+    /// Removes a place from the block at `at`, and with its last one the block.
     fn remove_at(&mut self, at: usize, number: u64, place: usize)
         requires { IsPlaceOf number self.old at }
         ensures { ChangesBlock number (without_place place) self.old self.new }
@@ -179,7 +179,7 @@ impl<A: Allocator + Copy> Blocks<A> {
         }
     }
 
-    /// Takes a place out of a block.
+    /// Removes a place from a block.
     pub fn remove(&mut self, number: u64, place: usize)
         ensures { ChangesBlock number (without_place place) self.old self.new }
     {
@@ -206,7 +206,7 @@ impl<A: Allocator + Copy> Blocks<A> {
         Ok(())
     }
 
-    /// Takes a place out of the blocks of two numbers, which may be one.
+    /// Removes a place from the blocks of two numbers, which may be one.
     pub fn remove_from_both(&mut self, first: u64, second: u64, place: usize)
         ensures { ChangesBlocks first second (without_place place) self.old self.new }
     {

@@ -201,7 +201,7 @@ impl<A: Allocator + Copy> Groups<A> {
         }
     }
 
-    /// Takes out a handle from the group at a place, and the turn of its stamp.
+    /// Removes a handle from the group at a place, and the turn of its stamp.
     fn remove_at(&mut self, at: usize, guid: Uuid, handle: u64, stamp: u64)
         requires { IsPlaceOf guid self.old at }
         ensures keys { SetsKey guid handle None self.old self.new }
@@ -213,7 +213,7 @@ impl<A: Allocator + Copy> Groups<A> {
         }
     }
 
-    /// Takes out the key of the interface of a GUID on a handle, and the turn of its stamp.
+    /// Removes the key of the interface of a GUID on a handle, and the turn of its stamp.
     pub(crate) fn remove(&mut self, guid: Uuid, handle: u64, stamp: u64)
         ensures keys { SetsKey guid handle None self.old self.new }
         ensures turns { ChangesTurns guid (without_turn stamp) self.old self.new }

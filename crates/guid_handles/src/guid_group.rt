@@ -130,7 +130,7 @@ impl<A: Allocator + Copy> GuidGroup<A> {
         Ok(())
     }
 
-    /// Takes a handle out, and the turn of its stamp.
+    /// Removes a handle, and the turn of its stamp.
     pub(crate) fn remove(&mut self, handle: u64, stamp: u64)
         ensures guid { self.new.guid ≡ self.old.guid }
         ensures keys { SetsKeyIn handle None self.old self.new }

@@ -92,7 +92,7 @@ impl<A: Allocator + Copy> HandleKeys<A> {
         Ok(())
     }
 
-    /// Takes out a key.
+    /// Removes a key.
     pub(crate) fn remove(&mut self, key: usize)
         ensures { self.new ≡ filter (λ k. not (k == key)) self.old }
     {

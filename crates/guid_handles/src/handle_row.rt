@@ -106,7 +106,7 @@ impl<A: Allocator + Copy> HandleRow<A> {
         self.keys.push(key)
     }
 
-    /// Takes out a key.
+    /// Removes a key.
     pub(crate) fn remove_key(&mut self, key: usize)
         ensures live { self.new.row.live ≡ self.old.row.live }
         ensures gone { self.new.gone ≡ self.old.gone }

@@ -123,7 +123,7 @@ fn restamp<A: Allocator>(records: &mut Slab<Record, A>, key: usize, value: u64, 
     }
 }
 
-/// Takes out the interface at a key, and returns its stamp.
+/// Removes the interface at a key, and returns its stamp.
 fn take_record<A: Allocator>(records: &mut Slab<Record, A>, key: usize) -> u64
     requires there { is_some (record_at records.old.slots key) ≡ true }
     ensures own { option_map (λ r. r.interface.stamp) (record_at records.old.slots key)
@@ -556,7 +556,7 @@ impl<A: Allocator + Copy> Handles<A> {
         self.install_on_new(Some((controller, agent)), pairs)
     }
 
-    /// Takes out an interface, and leaves its handle.
+    /// Removes an interface, and leaves its handle.
     fn take_out(&mut self, handle: u64, guid: Uuid)
         ensures { self.new ≡ taken_out handle guid self.old }
     {
@@ -567,8 +567,8 @@ impl<A: Allocator + Copy> Handles<A> {
         }
     }
 
-    /// Takes out the interface of a GUID on a handle. A handle that is left without interfaces
-    /// goes. Returns whether it went.
+    /// Removes the interface of a GUID on a handle. A handle that is left without interfaces goes.
+    /// Returns whether it went.
     pub fn remove(&mut self, handle: u64, guid: Uuid) -> bool
         requires { carries self.old guid handle ≡ true }
         ensures table { self.new ≡ without_interface handle guid self.old }
@@ -582,7 +582,7 @@ impl<A: Allocator + Copy> Handles<A> {
         true
     }
 
-    /// Takes out a handle without interfaces.
+    /// Removes a handle without interfaces.
     fn remove_bare(&mut self, handle: u64)
         requires { list_any (is_on handle) self.old.interfaces ≡ false }
         ensures { self.new ≡ without_handle handle self.old }
@@ -590,7 +590,7 @@ impl<A: Allocator + Copy> Handles<A> {
         self.rows.remove(handle);
     }
 
-    /// Takes out the interface on a handle that was installed first, if there is one.
+    /// Removes the interface on a handle that was installed first, if there is one.
     fn take_first(&mut self, handle: u64)
         ensures others { without_handle handle self.new ≡ without_handle handle self.old }
         ensures fewer { length (interfaces_on self.new handle)
@@ -601,7 +601,7 @@ impl<A: Allocator + Copy> Handles<A> {
         }
     }
 
-    /// Takes out a handle with its interfaces.
+    /// Removes a handle with its interfaces.
     pub fn remove_handle(&mut self, handle: u64)
         ensures { self.new ≡ without_handle handle self.old }
     {
@@ -611,7 +611,7 @@ impl<A: Allocator + Copy> Handles<A> {
         self.remove_bare(handle);
     }
 
-    /// Takes out the handles above a number, with the interfaces on them.
+    /// Removes the handles above a number, with the interfaces on them.
     fn remove_above(&mut self, number: u64)
         ensures { self.new ≡ without_above number self.old }
     {

@@ -21,7 +21,7 @@ impl<A: Allocator> Model for PlaceBlock<A> {
     ghost view = { λ b. record { number = b.number; places = b.places.items } };
 }
 
-/// Takes a place out of others.
+/// Removes a place from others.
 fn drop_place<A: Allocator>(places: &mut Vec<usize, A>, place: usize)
     ensures { places.new.items ≡ filter (λ x. not (x == place)) places.old.items }
 {
@@ -84,7 +84,7 @@ impl<A: Allocator + Copy> PlaceBlock<A> {
         Ok(())
     }
 
-    /// Takes out a place.
+    /// Removes a place.
     pub(crate) fn remove(&mut self, place: usize)
         ensures { self.new ≡ without_place place self.old }
     {

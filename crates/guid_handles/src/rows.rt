@@ -177,7 +177,7 @@ fn note_made<A: Allocator + Copy>(made: &mut Blocks<A>, live: LiveHandle) -> Res
     }
 }
 
-/// Takes a handle out of those by the controllers of their makers.
+/// Removes a handle from those by the controllers of their makers.
 fn forget_made<A: Allocator + Copy>(made: &mut Blocks<A>, live: LiveHandle)
     ensures { ChangesMade live.maker (without_place live.number) made.old made.new }
 {
@@ -264,7 +264,7 @@ impl<A: Allocator + Copy> Rows<A> {
         Ok(())
     }
 
-    /// Takes out a handle with its keys.
+    /// Removes a handle with its keys.
     pub(crate) fn remove(&mut self, number: u64)
         ensures { self.new ≡ filter (λ r. not (is_row_of number r)) self.old }
     {
@@ -292,7 +292,7 @@ impl<A: Allocator + Copy> Rows<A> {
         }
     }
 
-    /// Takes a key of a handle out.
+    /// Removes a key of a handle.
     pub(crate) fn remove_key(&mut self, number: u64, key: usize)
         ensures { ChangesKeys number (filter (λ k. not (k == key))) self.old self.new }
     {

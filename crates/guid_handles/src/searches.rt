@@ -59,7 +59,7 @@ pub(crate) fn is_number_at(numbers: &[u64], at: usize, number: u64) -> bool
     }
 }
 
-/// Takes a number out of ascending ones.
+/// Removes a number from ascending ones.
 pub(crate) fn remove_number<A: Allocator>(numbers: &mut SlidingRow<u64, A>, number: u64)
     requires { Ascending (λ a b. a < b) numbers.old.items }
     ensures { numbers.new.items ≡ filter (λ n. not (n == number)) numbers.old.items }

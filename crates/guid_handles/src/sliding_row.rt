@@ -126,7 +126,7 @@ impl<T: Copy, A: Allocator> SlidingRow<T, A> {
         push_with_room(&mut self.values, value);
     }
 
-    /// Takes out the value at a place, by which there is room for another one.
+    /// Removes the value at a place, by which there is room for another one.
     pub(crate) fn remove(&mut self, at: usize)
         requires { at < length self.old.items }
         ensures items { self.new.items ≡ remove self.old.items at }

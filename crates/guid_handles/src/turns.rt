@@ -121,7 +121,7 @@ impl<A: Allocator + Copy> Turns<A> {
         Ok(())
     }
 
-    /// Takes out the turn of a stamp.
+    /// Removes the turn of a stamp.
     pub(crate) fn remove_stamp(&mut self, stamp: u64)
         ensures { self.new ≡ without_turn stamp self.old }
     {

@@ -180,7 +180,7 @@ impl<A: Allocator + Copy> Opens<A> {
         true
     }
 
-    /// Takes out all items of an agent and a controller on an interface.
+    /// Removes all items of an agent and a controller on an interface.
     fn drop_closed(&mut self, handle: u64, guid: Uuid, agent: u64, controller: u64)
         ensures { self.new ≡ without_items (is_closed_by handle guid agent controller) self.old }
     {
@@ -195,7 +195,7 @@ impl<A: Allocator + Copy> Opens<A> {
         }
     }
 
-    /// Takes out all items of a controller and an agent.
+    /// Removes all items of a controller and an agent.
     pub fn drop_pair(&mut self, controller: u64, agent: u64)
         ensures { self.new ≡ without_items (spec.is_of_pair controller agent) self.old }
     {
@@ -206,7 +206,7 @@ impl<A: Allocator + Copy> Opens<A> {
         }
     }
 
-    /// Takes out all items of a controller and an agent, looked for near the controller.
+    /// Removes all items of a controller and an agent, looked for near the controller.
     fn drop_pair_near(&mut self, controller: u64, agent: u64)
         requires { (controller == 0) ≡ false }
         ensures { self.new ≡ without_items (spec.is_of_pair controller agent) self.old }
@@ -216,7 +216,7 @@ impl<A: Allocator + Copy> Opens<A> {
         }
     }
 
-    /// Takes out all items of a controller and an agent, looked for among all.
+    /// Removes all items of a controller and an agent, looked for among all.
     fn drop_pair_among_all(&mut self, controller: u64, agent: u64)
         ensures { self.new ≡ without_items (spec.is_of_pair controller agent) self.old }
     {
@@ -225,7 +225,7 @@ impl<A: Allocator + Copy> Opens<A> {
         }
     }
 
-    /// Takes out all items that name a handle, as their handle, agent or controller. All items are
+    /// Removes all items that name a handle, as their handle, agent or controller. All items are
     /// looked at only where the handle may be an agent.
     pub fn drop_handle(&mut self, handle: u64)
         ensures { self.new ≡ without_items (names handle) self.old }
@@ -237,7 +237,7 @@ impl<A: Allocator + Copy> Opens<A> {
         }
     }
 
-    /// Takes out all items that name a handle, which is the agent of none, looked for near it.
+    /// Removes all items that name a handle, which is the agent of none, looked for near it.
     fn drop_naming_near(&mut self, handle: u64)
         requires handle { (handle == 0) ≡ false }
         requires agent { AllByRecursion (λ o. (o.agent == handle) ≡ false) self.old }
@@ -248,7 +248,7 @@ impl<A: Allocator + Copy> Opens<A> {
         }
     }
 
-    /// Takes out all items that name a handle, looked for among all.
+    /// Removes all items that name a handle, looked for among all.
     fn drop_naming_among_all(&mut self, handle: u64)
         ensures { self.new ≡ without_items (names handle) self.old }
     {
@@ -257,7 +257,7 @@ impl<A: Allocator + Copy> Opens<A> {
         }
     }
 
-    /// Takes out all items of an interface.
+    /// Removes all items of an interface.
     pub fn drop_interface(&mut self, handle: u64, guid: Uuid)
         ensures { self.new ≡ without_items (spec.is_open_on handle guid) self.old }
     {
@@ -266,7 +266,7 @@ impl<A: Allocator + Copy> Opens<A> {
         }
     }
 
-    /// Takes out the item that was made last, if there is one.
+    /// Removes the item that was made last, if there is one.
     fn drop_last(&mut self)
         ensures { self.new ≡ take (length self.old - 1) self.old }
     {
@@ -275,8 +275,7 @@ impl<A: Allocator + Copy> Opens<A> {
         }
     }
 
-    /// Takes out the items that were made last, and leaves a number of those made first. This takes no
-    /// memory.
+    /// Removes the items that were made last, and leaves a number of those made first. This takes no memory.
     pub fn truncate(&mut self, count: usize)
         ensures { self.new ≡ take count self.old }
     {

@@ -129,7 +129,7 @@ impl<A: Allocator + Copy> ItemStore<A> {
         }
     }
 
-    /// Takes out the item at a place.
+    /// Removes the item at a place.
     pub(crate) fn remove(&mut self, place: usize)
         requires { is_some (there self.old place) ≡ true }
         ensures { self.new ≡ slice_set self.old place None }

@@ -80,7 +80,7 @@ impl<A: Allocator + Copy> Notify<A> {
         find_registration(self.registrations.as_slice(), key)
     }
 
-    /// The GUID that a key was given for; none for a key that was never given.
+    /// The GUID that a key was given for; none for a key of no registration.
     pub fn guid_of(&self, key: u64) -> Option<Uuid>
         ensures { result ≡ option_map (λ r. r.guid) (registration_of self.now key) }
     {

@@ -182,8 +182,7 @@ impl<A: Allocator + Copy> Protocols<A> {
         }
     }
 
-    /// CloseProtocol: takes out all items of an agent and a controller on an interface. This takes no
-    /// memory.
+    /// CloseProtocol: removes all open items of an agent and a controller on an interface. This takes no memory.
     ///
     /// INVALID_PARAMETER: the handle or the agent is not live, or the controller is neither 0 nor live.
     /// NOT_FOUND: the GUID is not on the handle, or there is no such item.

@@ -1,4 +1,4 @@
-//! Taking interfaces out and putting others in their places.
+//! Uninstalling and reinstalling interfaces.
 ghost use Rattle.std.specs.Prelude.{◌≡◌, ◌<◌, ◌^◌, true, map, IfOk, OnOk, OnErr};
 ghost use Rattle.std.specs.List.{list_any};
 ghost use Rattle.guid_handles.specs.HandleTables.{carries, value_at};
@@ -19,7 +19,8 @@ use page_ranges::Status;
 use std::alloc::{AllocError, Allocator};
 use uuid::Uuid;
 
-/// Why taking out or replacing an interface with a value is refused before any driver is asked.
+/// Why uninstalling or reinstalling an interface with a value is refused before any driver is
+/// asked.
 fn removal_refusal<A: Allocator + Copy>(
     handles: &Handles<A>,
     handle: u64,
@@ -81,7 +82,7 @@ fn keeps(attributes: u32) -> bool
     attributes == BY_CHILD_CONTROLLER || attributes == EXCLUSIVE
 }
 
-/// Carries out the stop that frees an interface, and takes out the items that are left on it. This
+/// Carries out the stop that frees an interface, and removes the items that are left on it. This
 /// takes no memory.
 fn free<A: Allocator + Copy>(
     plan: &StopPlan<A>,
@@ -98,7 +99,7 @@ fn free<A: Allocator + Copy>(
     opens.drop_interface(handle, guid);
 }
 
-/// Takes out the items of an interface, which are not looked for where there are none.
+/// Removes the items of an interface, which are not looked for where there are none.
 fn drop_items<A: Allocator + Copy>(items: &mut Opens<A>, is_open: bool, handle: u64, guid: Uuid)
     requires { is_open ≡ list_any (is_open_on handle guid) items.old }
     ensures { items.new ≡ without_items (is_open_on handle guid) items.old }
@@ -109,7 +110,7 @@ fn drop_items<A: Allocator + Copy>(items: &mut Opens<A>, is_open: bool, handle: 
     items.drop_interface(handle, guid);
 }
 
-/// Takes an interface out, and with the last one its handle, with the items that name it.
+/// Uninstalls an interface, and with the last one its handle, with the items that name it.
 fn take_out<A: Allocator + Copy>(
     handles: &mut Handles<A>,
     opens: &mut Opens<A>,
@@ -125,7 +126,7 @@ fn take_out<A: Allocator + Copy>(
 }
 
 impl<A: Allocator + Copy> Protocols<A> {
-    /// What is taken out to free an interface, found on the lists as they are.
+    /// What is removed to free an interface, found on the lists as they are.
     ///
     /// ACCESS_DENIED: it can't be freed. OUT_OF_RESOURCES: memory ran out.
     fn plan_to_free<D: Driver>(
@@ -161,7 +162,7 @@ impl<A: Allocator + Copy> Protocols<A> {
         Ok(plan)
     }
 
-    /// What the stop of the drivers of some items takes out.
+    /// What the stop of the drivers of some items removes.
     pub(crate) fn plan_among(&self, items: &[OpenItem]) -> Result<StopPlan<A>, AllocError>
         ensures { IfOk result (λ plan. plan ≡ stop_among self.now items.now) }
     {
@@ -169,8 +170,8 @@ impl<A: Allocator + Copy> Protocols<A> {
         StopPlan::new(self.alloc, &self.handles, &self.opens, pairs.as_slice())
     }
 
-    /// UninstallProtocolInterface: takes out the interface of a GUID with a value, and with the last one
-    /// its handle. The drivers that have it open are stopped, the other items on it go.
+    /// UninstallProtocolInterface: uninstalls the interface of a GUID with a value; a handle goes with its last
+    /// interface. The drivers that have it open are stopped, the other items on it go.
     ///
     /// INVALID_PARAMETER: the handle is not live. NOT_FOUND: it does not carry the GUID with the value.
     /// ACCESS_DENIED: a driver can't be stopped, or it is open for a child or exclusively. OUT_OF_RESOURCES:

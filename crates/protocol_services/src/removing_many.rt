@@ -1,4 +1,4 @@
-//! Taking all of some interfaces out, or none.
+//! Uninstalling several interfaces, all of them or none.
 ghost use Rattle.std.specs.Prelude.{◌≡◌, map};
 ghost use Rattle.protocol_services.specs.Lists.{IsRaised};
 ghost use Rattle.protocol_services.specs.RemovingMany.{UninstallsEach, UninstallsMany, refusal_of_all};
@@ -13,11 +13,11 @@ use uuid::Uuid;
 const MAX_UNINSTALLED: usize = 16;
 
 impl<A: Allocator + Copy> Protocols<A> {
-    /// UninstallMultipleProtocolInterfaces: takes all of some interfaces, pairs of GUID and value, out of a
-    /// handle, one after the other as [`Protocols::uninstall`] does, or none.
+    /// UninstallMultipleProtocolInterfaces: uninstalls interfaces of a handle, pairs of GUID and value, one after the
+    /// other as [`Protocols::uninstall`] does: all of them, or none.
     ///
-    /// INVALID_PARAMETER: there are more than 16, or one of them can't be taken out at its turn.
-    /// OUT_OF_RESOURCES: memory ran out.
+    /// INVALID_PARAMETER: there are more than 16, or one of them can't be uninstalled at its turn. OUT_OF_RESOURCES:
+    /// memory ran out.
     pub fn uninstall_many<D: Driver>(
         &mut self,
         drivers: &[D],
@@ -41,7 +41,7 @@ impl<A: Allocator + Copy> Protocols<A> {
         Ok(())
     }
 
-    /// Takes interfaces out one after the other, up to the first that is refused.
+    /// Uninstalls interfaces one after the other, up to the first that is refused.
     fn uninstall_each<D: Driver>(
         &mut self,
         drivers: &[D],

@@ -24,7 +24,7 @@ impl<A: Allocator + Copy> Protocols<A> {
     /// The handles that a search is for, ascending, where they fit into `size` bytes, 8 each. All
     /// stays as it was.
     ///
-    /// INVALID_PARAMETER: another search, or a key that was never given. NOT_FOUND: there are none.
+    /// INVALID_PARAMETER: another search, or a key of no registration. NOT_FOUND: there are none.
     /// BUFFER_TOO_SMALL: they do not fit; the size is returned. OUT_OF_RESOURCES: memory ran out.
     pub fn find(&self, search: u32, guid: Uuid, key: u64, room: u64) -> LocateReply<A>
         ensures { FindsHandles self.now search guid key room result }
@@ -79,7 +79,7 @@ impl<A: Allocator + Copy> Protocols<A> {
     /// LocateProtocol: the value of the interface of a GUID, for key 0 on the lowest handle that carries
     /// it, else on the handle that is next for the key, which is taken. This takes no memory.
     ///
-    /// INVALID_PARAMETER: a key that was never given for the GUID. NOT_FOUND: there is no such handle.
+    /// INVALID_PARAMETER: a key of no registration for the GUID. NOT_FOUND: there is no such handle.
     pub fn locate_protocol(&mut self, guid: Uuid, key: u64) -> Result<u64, Status>
         ensures locates { LocatesProtocol self.old guid key result self.new }
         ensures raised { IsRaised self.old self.new }

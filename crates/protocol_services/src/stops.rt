@@ -1,4 +1,4 @@
-//! What a caller stops that stops drivers itself, before a service is called that needs it.
+//! What to stop, for a caller that stops drivers itself, before a service is called that needs it.
 ghost use Rattle.std.specs.Prelude.{◌≡◌, IfOk};
 ghost use Rattle.driver_connect.specs.StopOrder.{children_of as children, stop_order};
 ghost use Rattle.driver_connect.specs.Stopping.{managers_meant, planned_stop};
@@ -10,8 +10,8 @@ use std::alloc::{AllocError, Allocator};
 use uuid::Uuid;
 
 impl<A: Allocator + Copy> Protocols<A> {
-    /// The pairs of controller and agent to be stopped, in order, before an interface that drivers have
-    /// open can be opened exclusively, taken out or replaced.
+    /// The pairs of controller and agent to be stopped, in order, before an interface that drivers have open can be
+    /// opened exclusively, uninstalled or reinstalled.
     pub fn stops_on_interface(
         &self,
         handle: u64,
