@@ -3,4 +3,3 @@ pub mod Cores
 pub mod Lending
 pub mod MadeCores
 pub mod Places
-pub mod Versions

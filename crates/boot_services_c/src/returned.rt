@@ -7,13 +7,10 @@ ghost use Rattle.c_interface.specs.EfiCores.{certifying_core, last_events};
 ghost use Rattle.c_interface.specs.Items.{map_entry};
 ghost use Rattle.c_interface.specs.ReplyLines.{ReturnsReply};
 ghost use Rattle.c_interface.specs.Served.{ReturnsBlock};
-ghost use Rattle.boot_services_c.specs.Versions.{version};
+ghost use Rattle.c_interface.specs.Versions.{version};
 
 use crate::handle::Rafkudin;
-use c_interface::MapEntry;
-
-/// The version of the library, 0.1.0.
-const VERSION: u32 = 0x100;
+use c_interface::{MapEntry, VERSION};
 
 /// The version of the library: the major number in the bits from 16 on, the minor one in those from 8 on.
 #[unsafe(no_mangle)]

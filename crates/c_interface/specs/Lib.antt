@@ -14,6 +14,7 @@ pub mod Removals
 pub mod Services
 pub mod Stops
 pub mod Turns
+pub mod Versions
 pub mod Paths
 pub mod Items
 pub mod ReplyLines

@@ -23,6 +23,7 @@ mod replies;
 mod reply_lines;
 mod stops;
 mod turns;
+mod versions;
 
 pub use boot_core::{Agent, DriverTurns, OpenItem};
 pub use buffer_replies::{MapFields, ReadFields};
@@ -32,3 +33,4 @@ pub use efi_core::{ABORTED, EfiCore, LastBlock};
 pub use entries::{BlockEntry, OpenEntry, RunEntry, StopEntry};
 pub use laws::printed_reply_law;
 pub use turns::{connect_next, connect_record};
+pub use versions::VERSION;

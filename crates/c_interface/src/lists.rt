@@ -12,13 +12,13 @@ use arrayvec::ArrayVec;
 use boot_calls::HANDLE_SIZE;
 use boot_core::{Call, Reply};
 use c_machines::{Guid, Interface};
-use guid_handles::MAX_HANDLES;
+use guid_handles::{MAX_HANDLES, MAX_INSTALLED};
 use page_ranges::Status;
 use std::alloc::Allocator;
 use uuid::Uuid;
 
 /// The fewest interfaces that are too many for one installation, whatever they are.
-const TOO_MANY: usize = 17;
+const TOO_MANY: usize = MAX_INSTALLED + 1;
 
 impl<A: Allocator + Copy> EfiCore<A> {
     /// LocateHandle with a buffer for handles. The variable `needed` receives the bytes that all that match take, on

@@ -8,24 +8,15 @@ use crate::faults::MachineFault;
 use crate::guids::{Guid, Interface};
 use arrayvec::ArrayVec;
 use boot_machines::MAX_DRIVERS;
-use driver_connect::{StartPlan, TableDriver};
+use driver_connect::{MAX_CHILDREN, MAX_GUIDS, MAX_PAIRS, StartPlan, TableDriver};
 use std::alloc::Allocator;
 use uuid::Uuid;
-
-/// The most GUIDs that a driver needs, and the most that it opens.
-const MAX_GUIDS: usize = 8;
-
-/// The most children of a driver.
-const MAX_CHILDREN: usize = 8;
-
-/// The most interfaces of a child.
-const MAX_INTERFACES: usize = 4;
 
 /// A child of a driver: the first interfaces of an array, as many as its count says.
 #[repr(C)]
 #[derive(Clone, Copy, Debug, PartialEq, Eq)]
 pub struct Child {
-    pub interfaces: [Interface; 4],
+    pub interfaces: [Interface; MAX_PAIRS],
     pub count: u64,
 }
 
@@ -36,11 +27,11 @@ pub struct DriverTable {
     pub version: u32,
     /// Whether the driver lets itself be stopped.
     pub stops: bool,
-    pub needs: [Guid; 8],
+    pub needs: [Guid; MAX_GUIDS],
     pub needs_count: u64,
-    pub opens: [Guid; 8],
+    pub opens: [Guid; MAX_GUIDS],
     pub opens_count: u64,
-    pub children: [Child; 8],
+    pub children: [Child; MAX_CHILDREN],
     pub children_count: u64,
 }
 
@@ -73,9 +64,7 @@ fn fits(table: &DriverTable) -> bool
 fn do_fit(children: &[Child]) -> bool
     ensures { result ≡ list_all fits_child children.now }
 {
-    children
-        .iter()
-        .all(|child| child.count <= MAX_INTERFACES as u64)
+    children.iter().all(|child| child.count <= MAX_PAIRS as u64)
 }
 
 /// The drivers of some tables, in their order.
@@ -156,7 +145,7 @@ fn fill(driver: &mut TableDriver, table: &DriverTable) -> bool
 }
 
 /// The first GUIDs, as many as the count says; None where there are fewer.
-fn guids_in(guids: &[Guid; 8], count: u64) -> Option<ArrayVec<Uuid, MAX_GUIDS>>
+fn guids_in(guids: &[Guid; MAX_GUIDS], count: u64) -> Option<ArrayVec<Uuid, MAX_GUIDS>>
     ensures { option_map (λ list. list.items) result ≡ guids_up_to count guids.now }
 {
     if count > MAX_GUIDS as u64 {
@@ -170,11 +159,11 @@ fn guids_in(guids: &[Guid; 8], count: u64) -> Option<ArrayVec<Uuid, MAX_GUIDS>>
 }
 
 /// The interfaces of a child, None where its count is above the length of the array.
-fn child_in(child: &Child) -> Option<ArrayVec<(Uuid, u64), MAX_INTERFACES>>
+fn child_in(child: &Child) -> Option<ArrayVec<(Uuid, u64), MAX_PAIRS>>
     ensures { option_map (λ list. list.items) result
         ≡ read_if (fits_child child.now) (child_in child.now) }
 {
-    if child.count > MAX_INTERFACES as u64 {
+    if child.count > MAX_PAIRS as u64 {
         return None;
     }
     let mut list = ArrayVec::new();
@@ -186,9 +175,9 @@ fn child_in(child: &Child) -> Option<ArrayVec<(Uuid, u64), MAX_INTERFACES>>
 
 /// The first children, as many as the count says; None where there are fewer, or one of them is none.
 fn children_in(
-    children: &[Child; 8],
+    children: &[Child; MAX_CHILDREN],
     count: u64,
-) -> Option<ArrayVec<ArrayVec<(Uuid, u64), MAX_INTERFACES>, MAX_CHILDREN>>
+) -> Option<ArrayVec<ArrayVec<(Uuid, u64), MAX_PAIRS>, MAX_CHILDREN>>
     ensures { option_map (λ list. map (λ child. child.items) list.items) result
         ≡ children_in count children.now }
 {

@@ -34,4 +34,4 @@ pub use starting::Connecting;
 pub use stop_order::{children_of, managers_to_stop};
 pub use stopping::{StopPlan, disconnect, stop};
 pub use table::TableDriver;
-pub use view::{ProtocolView, StartPlan, View};
+pub use view::{MAX_CHILDREN, MAX_GUIDS, MAX_PAIRS, ProtocolView, StartPlan, View};

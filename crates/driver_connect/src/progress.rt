@@ -9,7 +9,7 @@ ghost use Rattle.driver_connect.specs.GoingOn.{HasMade, HasOpened};
 ghost use Rattle.driver_connect.specs.Room.{HasRoom, Grows};
 
 use crate::table::is_free;
-use crate::view::{ProtocolView, StartPlan};
+use crate::view::{MAX_PAIRS, ProtocolView, StartPlan};
 use arrayvec::ArrayVec;
 use guid_handles::{Handles, MAX_HANDLES, has_guid_twice};
 use open_agents::{BY_DRIVER, Opens};
@@ -44,7 +44,7 @@ fn is_child(pairs: &[(Uuid, u64)]) -> bool
 }
 
 /// Whether each of some children has interfaces, of different GUIDs.
-fn are_children(children: &[ArrayVec<(Uuid, u64), 4>]) -> bool
+fn are_children(children: &[ArrayVec<(Uuid, u64), MAX_PAIRS>]) -> bool
     ensures { result ≡ list_all spec.is_child (map (λ c. c.items) children.now) }
 {
     for child in children {
@@ -101,7 +101,7 @@ fn make_child<A: Allocator + Copy>(
     handles: &mut Handles<A>,
     controller: u64,
     agent: u64,
-    child: &ArrayVec<(Uuid, u64), 4>,
+    child: &ArrayVec<(Uuid, u64), MAX_PAIRS>,
 ) -> Result<(), AllocError>
     requires room { HasRoom handles.old }
     requires child { spec.is_child child.now.items ≡ true }
@@ -121,7 +121,7 @@ pub(crate) fn make_children<A: Allocator + Copy>(
     handles: &mut Handles<A>,
     controller: u64,
     agent: u64,
-    children: &[ArrayVec<(Uuid, u64), 4>],
+    children: &[ArrayVec<(Uuid, u64), MAX_PAIRS>],
 ) -> Result<(), AllocError>
     requires room { HasRoom handles.old }
     requires children { list_all spec.is_child (map (λ c. c.items) children.now) ≡ true }
@@ -158,7 +158,7 @@ fn signal_child<A: Allocator + Copy>(
 pub(crate) fn signal_children<A: Allocator + Copy>(
     events: &mut Vec<u64, A>,
     notify: &Notify<A>,
-    children: &[ArrayVec<(Uuid, u64), 4>],
+    children: &[ArrayVec<(Uuid, u64), MAX_PAIRS>],
 ) -> Result<(), AllocError>
     ensures { OnOk result
         (events.new.items ≡ events.old.items ++ spec.events_of_all notify.now

@@ -3,7 +3,7 @@ ghost use Rattle.std.specs.Prelude.{◌≡◌, map};
 ghost use Rattle.driver_connect.specs.Drivers.{is_free};
 
 use crate::driver::Driver;
-use crate::view::{ProtocolView, StartPlan, View};
+use crate::view::{MAX_CHILDREN, MAX_GUIDS, MAX_PAIRS, ProtocolView, StartPlan, View};
 use arrayvec::ArrayVec;
 use uuid::Uuid;
 
@@ -12,7 +12,7 @@ use uuid::Uuid;
 #[derive(Drop)]
 pub struct TableDriver {
     pub version: u32,
-    pub needs: ArrayVec<Uuid, 8>,
+    pub needs: ArrayVec<Uuid, MAX_GUIDS>,
     pub plan: StartPlan,
     /// Whether the driver lets itself be stopped.
     pub stops: bool,
@@ -26,7 +26,7 @@ pub(crate) fn is_free(protocols: &[ProtocolView], guid: Uuid) -> bool
 }
 
 /// The same GUIDs.
-fn copied(guids: &ArrayVec<Uuid, 8>) -> ArrayVec<Uuid, 8>
+fn copied(guids: &ArrayVec<Uuid, MAX_GUIDS>) -> ArrayVec<Uuid, MAX_GUIDS>
     ensures { result.items ≡ guids.now.items }
 {
     let mut copy = ArrayVec::new();
@@ -37,7 +37,7 @@ fn copied(guids: &ArrayVec<Uuid, 8>) -> ArrayVec<Uuid, 8>
 }
 
 /// The same interfaces.
-fn copied_child(pairs: &ArrayVec<(Uuid, u64), 4>) -> ArrayVec<(Uuid, u64), 4>
+fn copied_child(pairs: &ArrayVec<(Uuid, u64), MAX_PAIRS>) -> ArrayVec<(Uuid, u64), MAX_PAIRS>
     ensures { result.items ≡ pairs.now.items }
 {
     let mut copy = ArrayVec::new();
@@ -49,8 +49,8 @@ fn copied_child(pairs: &ArrayVec<(Uuid, u64), 4>) -> ArrayVec<(Uuid, u64), 4>
 
 /// The same children.
 fn copied_children(
-    children: &ArrayVec<ArrayVec<(Uuid, u64), 4>, 8>,
-) -> ArrayVec<ArrayVec<(Uuid, u64), 4>, 8>
+    children: &ArrayVec<ArrayVec<(Uuid, u64), MAX_PAIRS>, MAX_CHILDREN>,
+) -> ArrayVec<ArrayVec<(Uuid, u64), MAX_PAIRS>, MAX_CHILDREN>
     ensures { map (λ c. c.items) result.items ≡ map (λ c. c.items) children.now.items }
 {
     let mut copy = ArrayVec::new();

@@ -6,6 +6,15 @@ use arrayvec::ArrayVec;
 use std::marker::Model;
 use uuid::Uuid;
 
+/// The most GUIDs that a driver of a table needs, and the most that its start opens.
+pub const MAX_GUIDS: usize = 8;
+
+/// The most children that a start makes.
+pub const MAX_CHILDREN: usize = 8;
+
+/// The most interfaces of such a child.
+pub const MAX_PAIRS: usize = 4;
+
 /// A protocol on a handle.
 #[derive(Clone, Copy, Debug, PartialEq, Eq)]
 pub struct ProtocolView {
@@ -38,9 +47,9 @@ impl<'a> Model for View<'a> {
 #[derive(Drop)]
 pub struct StartPlan {
     /// The GUIDs of the controller that are opened.
-    pub opens: ArrayVec<Uuid, 8>,
+    pub opens: ArrayVec<Uuid, MAX_GUIDS>,
     /// The children that are made, each with its interfaces as pairs of GUID and value.
-    pub children: ArrayVec<ArrayVec<(Uuid, u64), 4>, 8>,
+    pub children: ArrayVec<ArrayVec<(Uuid, u64), MAX_PAIRS>, MAX_CHILDREN>,
 }
 
 impl Model for StartPlan {

@@ -7,19 +7,10 @@ ghost use Rattle.machine_files.specs.DriverText.{version_of, guid_of, guids_of, 
 
 use crate::faults::DriverField;
 use arrayvec::ArrayVec;
-use driver_connect::{StartPlan, TableDriver};
+use driver_connect::{MAX_CHILDREN, MAX_GUIDS, MAX_PAIRS, StartPlan, TableDriver};
 use serde_json::Value;
 use text_lines::hexadecimal_of;
 use uuid::Uuid;
-
-/// The most GUIDs that a driver needs, and the most that it opens.
-const MAX_GUIDS: usize = 8;
-
-/// The most children of a driver's plan.
-const MAX_CHILDREN: usize = 8;
-
-/// The most interfaces of a child.
-const MAX_PAIRS: usize = 4;
 
 /// The driver of a member, or its first field that is missing, of another kind or out of its range.
 /// A member that is no object lacks them all.

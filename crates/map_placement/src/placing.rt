@@ -5,12 +5,9 @@ use boot_machines::Machine;
 use c_machines::{MachineFault, machine_of};
 use descriptor_table::RunTable;
 use page_ranges::{PAGE_SIZE, Status, type_for_alloc};
-use page_services::placement_request;
+use page_services::{ALLOCATE_MAX_ADDRESS, placement_request};
 use placement_chooser::best_start;
 use std::alloc::Allocator;
-
-/// AllocateMaxAddress: the range ends by the byte at the address of the request.
-const ALLOCATE_MAX_ADDRESS: u32 = 1;
 
 /// Finds the best place for `pages` pages of the type `mtype` on the memory that records
 /// (EFI_MEMORY_DESCRIPTOR) of `descriptor_size` bytes each state, with a granule of 1 or 16 pages: the highest

@@ -21,7 +21,7 @@ use std::marker::Model;
 const ALLOCATE_ANY_PAGES: u32 = 0;
 
 /// AllocateMaxAddress: the range ends by the byte at the address of the request.
-const ALLOCATE_MAX_ADDRESS: u32 = 1;
+pub const ALLOCATE_MAX_ADDRESS: u32 = 1;
 
 /// AllocateAddress: the range starts at the address of the request.
 const ALLOCATE_ADDRESS: u32 = 2;

@@ -3,13 +3,10 @@ ghost use Rattle.std.specs.Prelude.{◌≡◌, length};
 ghost use Rattle.page_ranges.specs.MemoryMap.{memory_map};
 ghost use Rattle.c_interface.specs.Checks.{ReturnsEntry};
 ghost use Rattle.c_interface.specs.Items.{map_entry};
-ghost use Rattle.playground_c.specs.Versions.{version};
+ghost use Rattle.c_interface.specs.Versions.{version};
 
-use c_interface::MapEntry;
+use c_interface::{MapEntry, VERSION};
 use region_cores::Rafkudin;
-
-/// The version of the module, 0.1.0.
-const VERSION: u32 = 0x100;
 
 /// The version of the module: the major number in the bits from 16 on, the minor one in those from 8 on.
 #[unsafe(no_mangle)]

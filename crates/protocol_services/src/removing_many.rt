@@ -5,12 +5,10 @@ ghost use Rattle.protocol_services.specs.RemovingMany.{UninstallsEach, Uninstall
 
 use crate::protocols::Protocols;
 use driver_connect::Driver;
+use guid_handles::MAX_INSTALLED;
 use page_ranges::Status;
 use std::alloc::Allocator;
 use uuid::Uuid;
-
-/// The most interfaces that are uninstalled at once.
-const MAX_UNINSTALLED: usize = 16;
 
 impl<A: Allocator + Copy> Protocols<A> {
     /// UninstallMultipleProtocolInterfaces: uninstalls interfaces of a handle, pairs of GUID and value, one after the
@@ -28,7 +26,7 @@ impl<A: Allocator + Copy> Protocols<A> {
             (map D.meaning drivers.now) self.old handle pairs.now result self.new }
         ensures raised { IsRaised self.old self.new }
     {
-        if pairs.len() > MAX_UNINSTALLED {
+        if pairs.len() > MAX_INSTALLED {
             return Err(Status::InvalidParameter);
         }
         let Ok(saved) = self.saved() else {

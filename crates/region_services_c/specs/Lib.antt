@@ -1,3 +1,2 @@
 pub mod Cores
 pub mod Rooms
-pub mod Versions

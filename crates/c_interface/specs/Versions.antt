@@ -1,4 +1,4 @@
--- The version of the module.
+-- The version of the libraries for C.
 use Rattle.std.specs.Prelude.{ℕ}
 
 -- 0.1.0, a byte for each number
