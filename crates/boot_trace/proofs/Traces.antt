@@ -7,8 +7,8 @@ use Rattle.std.specs.declared.io.buffered.BufReader.{BufReader}
 use Rattle.driver_connect.specs.Drivers.{Meaning}
 use Rattle.boot_core.specs.Machines.{State}
 use Rattle.trace_lines.specs.declared.lines.TraceCall.{TraceCall}
-use Rattle.boot_trace.specs.declared.faults.RunFault.{RunFault}
-use Rattle.boot_trace.specs.declared.faults.RunFault.TheVariants as fault
+use Rattle.trace_lines.specs.declared.run_faults.RunFault.{RunFault}
+use Rattle.trace_lines.specs.declared.run_faults.RunFault.TheVariants as fault
 use Rattle.trace_lines.specs.declared.faults.TraceFault.{TraceFault}
 use Rattle.trace_lines.specs.declared.faults.TraceFault.TheVariants as trace_fault
 use Rattle.text_lines.specs.Lines.{lines_of, first_line, after_line, TakesByte, IsFirstLine, TakesLine}

@@ -9,8 +9,8 @@ use Rattle.boot_core.specs.Machines.{CoreValue, State}
 use Rattle.boot_core.specs.Steps.{Step}
 use Rattle.trace_lines.specs.declared.lines.TraceCall.{TraceCall}
 use Rattle.trace_lines.specs.declared.lines.TraceCall.TheVariants as trace_call
-use Rattle.boot_trace.specs.declared.faults.RunFault.{RunFault}
-use Rattle.boot_trace.specs.declared.faults.RunFault.TheVariants as fault
+use Rattle.trace_lines.specs.declared.run_faults.RunFault.{RunFault}
+use Rattle.trace_lines.specs.declared.run_faults.RunFault.TheVariants as fault
 use Rattle.trace_lines.specs.declared.faults.TraceFault.{TraceFault}
 use Rattle.text_lines.specs.Lines.{lines_of}
 use Rattle.reply_texts.specs.CallText.{PrintsCall}

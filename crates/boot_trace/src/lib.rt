@@ -1,14 +1,12 @@
 //! A trace, run on a machine.
 #![tactic(auto)]
 
-mod faults;
 mod laws;
 mod listings;
 mod runner;
 
 pub use certificate_blocks::{BlockFault, check_block};
-pub use faults::RunFault;
 pub use laws::{map_entries_law, printed_blocks_law, printed_maps_law};
 pub use machine_files::{DriverField, MachineFault, MachineFile, MemberField, read_machine};
 pub use runner::{run, run_line};
-pub use trace_lines::{TraceCall, TraceFault, read_call};
+pub use trace_lines::{RunFault, TraceCall, TraceFault, read_call};

@@ -3,7 +3,6 @@ ghost use Rattle.std.specs.Prelude.{◌≡◌, [], OnOk, IfErr, string_bytes};
 ghost use Rattle.trace_lines.specs.TraceLine.{line_of};
 ghost use Rattle.boot_trace.specs.TraceRuns.{CoreEnds, CorePrints, CoreStopsAt, asking};
 
-use crate::faults::RunFault;
 use crate::listings::print_list;
 use boot_core::{Call, Core, map_before};
 use driver_connect::Driver;
@@ -11,7 +10,7 @@ use reply_texts::print_call;
 use std::alloc::Allocator;
 use std::io::{BufReader, Read, Write};
 use text_lines::{LineFault, next_byte, next_line, write_text};
-use trace_lines::{TraceCall, TraceFault, read_call};
+use trace_lines::{RunFault, TraceCall, TraceFault, read_call};
 
 /// The most lines of a trace.
 pub const MAX_LINES: u64 = 1_000_000;

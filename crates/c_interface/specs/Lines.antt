@@ -3,8 +3,8 @@ use Rattle.std.specs.Prelude.{◌≡◌, ◌⊎◌, ℕ, List, None}
 use Rattle.page_ranges.specs.Statuses.{status_number}
 use Rattle.page_ranges.specs.declared.statuses.Status.TheVariants.{Success, InvalidParameter, OutOfResources}
 use Rattle.trace_lines.specs.TraceLine.{line_of}
-use Rattle.boot_trace.specs.declared.faults.RunFault.{RunFault}
-use Rattle.boot_trace.specs.declared.faults.RunFault.TheVariants as fault
+use Rattle.trace_lines.specs.declared.run_faults.RunFault.{RunFault}
+use Rattle.trace_lines.specs.declared.run_faults.RunFault.TheVariants as fault
 use Rattle.boot_trace.specs.TraceRuns.{Prints, StopsAt}
 use Rattle.c_interface.specs.EfiCores.{EfiCoreValue, meanings}
 use Rattle.c_interface.specs.Served.{aborted}

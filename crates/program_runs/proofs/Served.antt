@@ -8,7 +8,7 @@ use Rattle.machine_files.specs.DriverText.{listed, listed_meaning}
 use Rattle.machine_files.specs.MachineText.{ListedMachine, longest_file, root_of, machine_of}
 use Rattle.std.specs.declared.alloc.Global.{Global}
 use Rattle.boot_core.specs.Machines.{State, first_state_with}
-use Rattle.boot_trace.specs.declared.faults.RunFault.{RunFault}
+use Rattle.trace_lines.specs.declared.run_faults.RunFault.{RunFault}
 use Rattle.boot_trace.specs.TraceRuns.{Ends}
 use Rattle.program_runs.specs.Serving.{IsRead, RunsTrace}
 

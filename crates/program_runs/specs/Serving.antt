@@ -7,7 +7,7 @@ use Rattle.certificate_blocks.specs.BlockChecks.{Judges, Writes}
 use Rattle.text_lines.specs.Printed.{WritesFront, line_feed}
 use Rattle.boot_core.specs.Machines.{State, first_state_with}
 use Rattle.machine_files.specs.declared.faults.MachineFault.TheVariants as machine_fault
-use Rattle.boot_trace.specs.declared.faults.RunFault.{RunFault}
+use Rattle.trace_lines.specs.declared.run_faults.RunFault.{RunFault}
 use Rattle.machine_files.specs.DriverText.{listed_meaning}
 use Rattle.machine_files.specs.MachineText.{ListedMachine, longest_file, machine_of}
 use Rattle.boot_trace.specs.TraceRuns.{Ends}

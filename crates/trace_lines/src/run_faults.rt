@@ -1,6 +1,6 @@
 //! What can end a run before its trace does.
+use crate::faults::TraceFault;
 use thiserror::Error;
-use trace_lines::TraceFault;
 
 /// Why a run stopped before the end of its trace.
 #[derive(Clone, Copy, Debug, PartialEq, Eq, Error)]
