@@ -13,6 +13,7 @@ mod opening;
 mod plain_drivers;
 mod plain_lists;
 mod plain_opens;
+mod refused_calls;
 mod searching;
 mod tallies;
 

@@ -1,0 +1,222 @@
+//! Calls on handles over memory that is refused, each allocation in turn, as the lists grow.
+use super::drivers::{BINDING, guid, opening, table};
+use super::small_machine;
+use boot_core::{Call, CallHandles, Core, Machine, Reply};
+use driver_connect::TableDriver;
+use page_ranges::Status;
+use refusing_memory::Refusing;
+use std::alloc::{Allocator, Global};
+use std::process::Abort;
+use uuid::Uuid;
+
+/// A core whose memory can be refused.
+type RefusedCore<'a> = Core<TableDriver, &'a Refusing<Global>>;
+
+/// How often each call is made.
+const ROUNDS: u64 = 70;
+
+/// The GUID that the driver opens.
+const DRIVEN: u8 = 1;
+
+/// A core with a driver that opens a GUID.
+fn core_on<'a>(rt: &(impl AllocGlobal + Abort), heap: &'a Refusing<Global>) -> RefusedCore<'a> {
+    let machine = small_machine(rt);
+    let runs = Vec::from_slice(heap, machine.runs()).expect(rt, "memory");
+    let machine = Machine::new(runs, 1).expect(rt, "a machine");
+    let mut drivers = Vec::new(heap);
+    drivers
+        .push(table(1, DRIVEN, opening(DRIVEN)))
+        .expect(rt, "memory");
+    Core::new(heap, machine, drivers).expect(rt, "memory")
+}
+
+/// A number behind another one.
+fn behind(before: u64, number: u64) -> u64 {
+    (before ^ number).wrapping_mul(0x100_0000_01b3)
+}
+
+/// The open items on an interface, as a number.
+fn items_behind(core: &RefusedCore<'_>, before: u64, handle: u64, guid: Uuid) -> u64 {
+    let mut number = before;
+    for at in 0..200 {
+        if let Some(item) = core.open_item(handle, guid, at) {
+            number = behind(number, item.agent);
+            number = behind(number, item.controller);
+            number = behind(number, u64::from(item.attributes));
+            number = behind(number, u64::from(item.count));
+        }
+    }
+    number
+}
+
+/// The interfaces on a handle with the open items on them, as a number.
+fn handle_behind(core: &RefusedCore<'_>, before: u64, handle: u64) -> u64 {
+    let mut number = behind(before, handle);
+    for at in 0..4 {
+        if let Some(interface) = core.interface(handle, at) {
+            number = behind(number, interface.value);
+            number = behind(number, interface.stamp);
+            number = items_behind(core, number, handle, interface.guid);
+        }
+    }
+    number
+}
+
+/// All handles, interfaces and open items, as a number: two states have the same by a chance of 1 in 2^64.
+fn digest(core: &RefusedCore<'_>) -> u64 {
+    let mut number = 0xcbf2_9ce4_8422_2325;
+    for handle in core.handle_list() {
+        number = handle_behind(core, number, *handle);
+    }
+    number
+}
+
+/// The status of a reply of the calls that are made here.
+fn status_of<A: Allocator>(rt: &impl Abort, reply: &Reply<A>) -> Status {
+    match reply {
+        Reply::InstallProtocolInterface(Ok(_))
+        | Reply::OpenProtocol(Ok(_))
+        | Reply::RegisterProtocolNotify(Ok(_))
+        | Reply::ConnectController(Ok(_))
+        | Reply::UninstallProtocolInterface(Ok(())) => Status::Success,
+        Reply::InstallProtocolInterface(Err(status))
+        | Reply::OpenProtocol(Err(status))
+        | Reply::RegisterProtocolNotify(Err(status))
+        | Reply::ConnectController(Err(status))
+        | Reply::UninstallProtocolInterface(Err(status)) => *status,
+        _ => panic!(rt; "a reply of another call"),
+    }
+}
+
+/// Makes a call, and returns its status.
+fn status_after<'a>(
+    rt: &impl Abort,
+    core: &mut RefusedCore<'a>,
+    call: &Call<&'a Refusing<Global>>,
+) -> Status {
+    if core.calls_left() == 0 {
+        panic!(rt; "no calls left");
+    }
+    status_of(rt, &core.call(call))
+}
+
+/// Makes a call with its first allocation and all after it refused, then from the second one on, until none is
+/// refused. Where memory runs out, all stays as it was. Returns how often it ran out.
+fn refusals_of<'a>(
+    rt: &impl Abort,
+    heap: &Refusing<Global>,
+    core: &mut RefusedCore<'a>,
+    call: &Call<&'a Refusing<Global>>,
+) -> u64 {
+    for number in 1..100 {
+        let before = digest(core);
+        heap.refuse_from(number);
+        let status = status_after(rt, core, call);
+        let was_refused = heap.has_refused();
+        heap.refuse(0);
+        if status == Status::Success {
+            assert!(rt; !was_refused, "allocation {number}");
+            return number - 1;
+        }
+        assert!(rt;
+            was_refused && status == Status::OutOfResources,
+            "allocation {number}"
+        );
+        assert!(rt; digest(core) == before, "allocation {number}");
+    }
+    panic!(rt; "a call is refused for ever");
+}
+
+/// Installs an interface on a new handle.
+fn install(rt: &impl Abort, core: &mut RefusedCore<'_>, byte: u8) {
+    let call = Call::InstallProtocolInterface {
+        handle: 0,
+        guid: guid(byte),
+        kind: 0,
+        value: 0,
+    };
+    assert!(rt; status_after(rt, core, &call) == Status::Success);
+}
+
+/// An open of the interface of the first handle by an agent, with GET_PROTOCOL.
+fn open_by<A: Allocator>(agent: u64) -> Call<A> {
+    Call::OpenProtocol {
+        handle: 1,
+        guid: guid(DRIVEN),
+        agent,
+        controller: 0,
+        attributes: 2,
+    }
+}
+
+#[test]
+fn refused_opens(rt: HostRuntime) {
+    let heap = Refusing::new(rt.alloc());
+    let mut core = core_on(&rt, &heap);
+    for _ in 0..ROUNDS {
+        install(&rt, &mut core, DRIVEN);
+    }
+    let mut count = 0u64;
+    for agent in 1..ROUNDS + 1 {
+        let more = refusals_of(&rt, &heap, &mut core, &open_by(agent));
+        count = count.saturating_add(more);
+    }
+    assert!(rt; count >= 70, "{count}");
+}
+
+#[test]
+fn refused_registrations(rt: HostRuntime) {
+    let heap = Refusing::new(rt.alloc());
+    let mut core = core_on(&rt, &heap);
+    let mut count = 0u64;
+    for event in 1..ROUNDS + 1 {
+        let call = Call::RegisterProtocolNotify {
+            guid: guid(DRIVEN),
+            event,
+        };
+        count = count.saturating_add(refusals_of(&rt, &heap, &mut core, &call));
+    }
+    assert!(rt; count >= 5, "{count}");
+}
+
+/// Connects a handle to the driver.
+fn connect<'a>(
+    rt: &impl Abort,
+    heap: &'a Refusing<Global>,
+    core: &mut RefusedCore<'a>,
+    handle: u64,
+) {
+    let call = Call::ConnectController {
+        handle,
+        drivers: CallHandles::new(Vec::new(heap)),
+        recursive: false,
+    };
+    assert!(rt; status_after(rt, core, &call) == Status::Success);
+}
+
+/// An uninstallation of the interface of a handle.
+fn uninstall_of<A: Allocator>(handle: u64) -> Call<A> {
+    Call::UninstallProtocolInterface {
+        handle,
+        guid: guid(DRIVEN),
+        value: 0,
+    }
+}
+
+/// An uninstallation stops the driver of one handle in two, for which it takes memory; for the others it takes none.
+#[test]
+fn refused_uninstallations(rt: HostRuntime) {
+    let heap = Refusing::new(rt.alloc());
+    let mut core = core_on(&rt, &heap);
+    install(&rt, &mut core, BINDING);
+    for handle in 2..ROUNDS + 2 {
+        install(&rt, &mut core, DRIVEN);
+        if handle % 2 == 0 {
+            connect(&rt, &heap, &mut core, handle);
+        }
+    }
+    for handle in 2..ROUNDS + 2 {
+        let count = refusals_of(&rt, &heap, &mut core, &uninstall_of(handle));
+        assert!(rt; (count > 0) == (handle % 2 == 0), "{count}");
+    }
+}
