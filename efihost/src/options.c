@@ -14,7 +14,7 @@ static const char usage[] =
     "  --disk FILE       an image as a block device\n"
     "  --disk FOLDER     a folder as a file system\n"
     "  --firmware FILE   the firmware volumes of a firmware: its drivers and applications may be\n"
-    "                    named in the place of files\n"
+    "                    named instead of files\n"
     "  --driver FILE     a driver's .efi, started before the application; drivers are then\n"
     "                    connected to all handles\n"
     "  --variables FILE  where non-volatile variables are kept\n"
