@@ -494,7 +494,7 @@ RAFKUDIN_API rafkudin_uint64 RafkudinPoolWrite(struct rafkudin *core, rafkudin_u
 /* ---- Protocol services, section 7.3, each by its name there ---- */
 
 /* Installs an interface on *Handle, or on a new handle where *Handle is 0; the new handle is then
- * put into *Handle. `InterfaceType` is 0, native.
+ * put into *Handle. `InterfaceType` must be 0, EFI_NATIVE_INTERFACE.
  *
  * INVALID_PARAMETER: another interface type; a handle that is neither 0 nor live, or that carries
  * the GUID already. OUT_OF_RESOURCES: RAFKUDIN_MAX_HANDLES are live already. */
@@ -504,7 +504,7 @@ RAFKUDIN_API rafkudin_uint64 RafkudinInstallProtocolInterface(struct rafkudin *c
                                                               uint32_t InterfaceType,
                                                               rafkudin_uint64 Interface);
 
-/* The same with `count` interfaces in place of the standard's list of arguments. All are installed
+/* The same with `count` interfaces instead of the standard's list of arguments. All are installed
  * or none.
  *
  * INVALID_PARAMETER: no interfaces or over 16, of which no more than the first 17 are read; a
@@ -1019,10 +1019,10 @@ static inline rafkudin_uint64 RafkudinLocateHandle(struct rafkudin *core, uint32
 }
 
 /* 7.3. `DriverImageHandle` is an array of driver handles that ends with a 0, or null: these are
- * tried first. `RemainingDevicePath` is 0.
+ * tried first. `RemainingDevicePath` must be 0.
  *
- * UNSUPPORTED: it is not; this is returned first, and uses up no call. The other refusals are those
- * of RafkudinConnectDrivers. */
+ * UNSUPPORTED: `RemainingDevicePath` is not 0; this is returned first, and uses up no call. The
+ * other refusals are those of RafkudinConnectDrivers. */
 static inline rafkudin_uint64 RafkudinConnectController(struct rafkudin *core,
                                                         rafkudin_uint64 ControllerHandle,
                                                         const rafkudin_uint64 *DriverImageHandle,
@@ -1040,10 +1040,10 @@ static inline rafkudin_uint64 RafkudinConnectController(struct rafkudin *core,
     return RafkudinConnectDrivers(core, ControllerHandle, drivers, count, Recursive);
 }
 
-/* 7.3. `ChildHandle` is 0.
+/* 7.3. `ChildHandle` must be 0.
  *
- * UNSUPPORTED: it is not; this is returned first, and uses up no call. The other refusals are those
- * of RafkudinDisconnectDrivers. */
+ * UNSUPPORTED: `ChildHandle` is not 0; this is returned first, and uses up no call. The other
+ * refusals are those of RafkudinDisconnectDrivers. */
 static inline rafkudin_uint64 RafkudinDisconnectController(struct rafkudin *core,
                                                            rafkudin_uint64 ControllerHandle,
                                                            rafkudin_uint64 DriverImageHandle,
