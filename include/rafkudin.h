@@ -6,37 +6,38 @@
  * the machine that RafkudinMake describes, never pointers of this program.
  *
  * NAMES. There are 24 services. 22 of them have their names in the UEFI Specification 2.10 with
- * Rafkudin in front, and its parameters in its order, with the core in front; where one is left out
- * or added, the comment at the function says so. RafkudinPoolRead and RafkudinPoolWrite are in no
- * standard: by them a caller reaches the bytes of the pool. UninstallMultipleProtocolInterfaces is
- * here too, in no trace of the program; so all services of sections 7.2 and 7.3 are here. Other
- * functions are no services. rafkudin_efi_names.h has the standard's names without a prefix, as
- * macros. Every symbol of the library begins with Rafkudin, but for the three of its heap.
+ * the prefix Rafkudin, and the standard's parameters in the standard's order, after the core; where
+ * one is left out or added, the comment at the function says so. RafkudinPoolRead and
+ * RafkudinPoolWrite are in no standard: by them a caller reaches the bytes of the pool.
+ * UninstallMultipleProtocolInterfaces is here too, though no trace of the program has it; so all
+ * services of sections 7.2 and 7.3 are here. Other functions are no services.
+ * rafkudin_efi_names.h has the standard's names without a prefix, as macros. Every symbol of the
+ * library begins with Rafkudin, but for the three of its heap.
  *
  * NUMBERS. A page has 4,096 bytes. Addresses and sizes are in bytes, numbers of pages in pages. A
  * handle is a number, from 1 up; 0 is the null handle. An event is any number of the caller's.
  * Handles, events, interfaces and the addresses of the pool are 64-bit numbers, where the standard
  * has pointers.
  *
- * NULL. A null pointer in the place of the core, of a GUID, of a call, of a reply or of a result is
- * INVALID_PARAMETER, and uses up no call, unless it is said that it may be null. Beside a count or
- * a size of 0 the pointer may be null. rafkudin_null.h, which this header includes, checks for null
- * pointers in inline functions and then calls the library; with RAFKUDIN_NO_NULL_CHECKS it does
- * not, and then no pointer may be null.
+ * NULL. A function returns INVALID_PARAMETER, and uses up no call, where its pointer to the core, a
+ * GUID, a call, a reply or a result is null, unless the comment says that it may be null; one that
+ * returns no status returns 0 or does nothing. A pointer with a count or a size of 0 may be null.
+ * rafkudin_null.h, which this header includes, checks for null pointers in inline functions and
+ * then calls the library; with RAFKUDIN_NO_NULL_CHECKS nothing checks, and no pointer may be null.
  *
- * STATUSES. Services return an EFI_STATUS. SUCCESS is 0. Any other is a refusal, which leaves the
- * core as it was, but for the number of calls left, and for RafkudinEvents, RafkudinCertificate and
- * RafkudinReplyLine, which no longer report the call before. It leaves what the call's pointers
- * lead to as well, but for what is said of BUFFER_TOO_SMALL, of OpenProtocol and of HandleProtocol.
- * Where several refusals apply, the call returns the one that is named first. These hold for every
- * service, and are not repeated below:
+ * STATUSES. Services return an EFI_STATUS. SUCCESS is 0, any other is a refusal. A refused call
+ * changes nothing in the core but the number of calls left and what RafkudinEvents,
+ * RafkudinCertificate and RafkudinReplyLine report, which is always of the last call. Nor does it
+ * write to the caller's variables and buffers, except as said of BUFFER_TOO_SMALL, OpenProtocol and
+ * HandleProtocol. Where several refusals apply, the call returns the one that is named first. These
+ * hold for every service, and are not repeated below:
  * - First of all, ABORTED: the core has served its 2^31 calls. Refused ones count too.
  * - Then UNSUPPORTED: boot services have ended. Every service returns it from then on.
  * - Last of all, OUT_OF_RESOURCES: the heap refused the core memory for its own tables.
  *   GetMemoryMap, ExitBootServices, PoolRead, PoolWrite, CloseProtocol, HandleProtocol,
  *   LocateDevicePath and LocateProtocol never ask for any.
- * OUT_OF_RESOURCES may take the place of six refusals that are named before it, as the core needs
- * memory to decide them:
+ * OUT_OF_RESOURCES may be returned instead of six refusals that are named before it, as the core
+ * needs memory to decide them:
  * - ACCESS_DENIED of UninstallProtocolInterface, of ReinstallProtocolInterface, and of an exclusive
  *   OpenProtocol for which a driver must be stopped;
  * - NOT_FOUND of ConnectController, and DEVICE_ERROR of DisconnectController;
@@ -48,14 +49,14 @@
  * - A buffer has the room, and an array the entries, that the parameter beside it states. What is
  *   read is initialized, all of it: every field of a structure, entries beyond its counts too. A
  *   bool is 0 or 1.
- * - What the pointers of a call lead to must not overlap, nor be a part of the core; two that are
- *   only read may overlap. So each result has a variable of its own.
+ * - The variables and buffers that a call's pointers point to must not overlap, nor be a part of
+ *   the core; those that are only read may overlap. So each result has a variable of its own.
  * - A core is in one call at a time, on the thread that made it. Two cores may be in calls at once,
  *   also in two threads.
  * - No call is made from a signal handler, or in the forked child of a process with threads.
  *
  * WHAT THE LIBRARY NEEDS. The program defines memcpy, memmove and memset, as the C library does,
- * and malloc, realloc and free; or, in the place of these three, a heap of its own:
+ * and malloc, realloc and free; or, instead of these three, a heap of its own:
  *
  *     struct block { bool given; void *start; };
  *     struct block rattle_alloc(size_t size, size_t align);
@@ -81,8 +82,8 @@
 #error "rafkudin.h is for 64-bit processors"
 #endif
 
-/* The unsigned type of 64 bits: that of EDK2 is `unsigned long long`, to which no pointer of a
- * `uint64_t` may go on Linux. */
+/* The unsigned type of 64 bits: that of EDK2 is `unsigned long long`, whose pointers are of another
+ * type than those of `uint64_t` on Linux. */
 #ifndef RAFKUDIN_UINT64
 #define RAFKUDIN_UINT64 uint64_t
 #endif
@@ -284,8 +285,8 @@ RAFKUDIN_API rafkudin_uint64 RafkudinMake(const uint8_t *records, size_t size,
 /* Frees all memory of a core, also once boot services have ended. With null it does nothing. */
 RAFKUDIN_API void RafkudinFree(struct rafkudin *core);
 
-/* Whether calls make and keep the certificates of their placements from now on. At first they
- * don't: it costs a list of bounds and a copy of the memory map for each call that may place
+/* Whether calls make and keep the certificates of their placements from now on. A new core makes
+ * none: they cost a list of bounds and a copy of the memory map for each call that may place
  * pages. The places are the same either way. */
 RAFKUDIN_API void RafkudinCertify(struct rafkudin *core, bool certify);
 
@@ -413,7 +414,8 @@ RAFKUDIN_API rafkudin_uint64 RafkudinOpenProtocolInformationInto(
  * AllocatePages would return on a core that is made of the map.
  *
  * INVALID_PARAMETER: `address` is null; the map, as of RafkudinMake; a memory type that no request
- * may name; 0 pages. OUT_OF_RESOURCES: no permitted place, or memory was refused. */
+ * may name; 0 pages. OUT_OF_RESOURCES: no free memory without SP has room for them below the limit,
+ * or memory was refused. */
 RAFKUDIN_API rafkudin_uint64 RafkudinPlace(const uint8_t *records, size_t size,
                                            size_t descriptor_size, rafkudin_uint64 granule,
                                            uint32_t MemoryType, rafkudin_uint64 Pages,
@@ -431,15 +433,16 @@ RAFKUDIN_API rafkudin_uint64 RafkudinCheck(const uint8_t *text, size_t length,
 
 /* 7.2.1. Places `Pages` pages of the type `MemoryType`, and puts the address of the first into
  * *Memory: anywhere, below an address (*Memory is the last byte that may belong to them), or at an
- * address (*Memory itself). Where the place is free to choose, it is the highest of those after
- * which the memory map has the fewest entries, and none with SP. On a machine with the granule 16,
- * pages of the types RESERVED, RUNTIME_SERVICES_CODE, RUNTIME_SERVICES_DATA and ACPI_MEMORY_NVS
- * begin at a multiple of 16 pages, and their number is rounded up to one.
+ * address (*Memory itself). Anywhere and below an address, the permitted places are those whose
+ * pages are all free (conventional) and without SP; the service takes the highest of those after
+ * which the memory map has the fewest entries. On a machine with the granule 16, pages of the types
+ * RESERVED, RUNTIME_SERVICES_CODE, RUNTIME_SERVICES_DATA and ACPI_MEMORY_NVS begin at a multiple of
+ * 16 pages, and their number is rounded up to one.
  *
  * INVALID_PARAMETER: another type of allocation, a memory type that no request may name, or 0
  * pages. NOT_FOUND: the pages are not all there and free at the address, or the address is no
  * multiple of 4,096, or of 65,536 for these four types with the granule 16. OUT_OF_RESOURCES: no
- * permitted place. */
+ * permitted place, anywhere or below the address. */
 RAFKUDIN_API rafkudin_uint64 RafkudinAllocatePages(struct rafkudin *core, uint32_t Type,
                                                    uint32_t MemoryType, rafkudin_uint64 Pages,
                                                    rafkudin_uint64 *Memory);
@@ -490,8 +493,8 @@ RAFKUDIN_API rafkudin_uint64 RafkudinPoolWrite(struct rafkudin *core, rafkudin_u
 
 /* ---- Protocol services, section 7.3, each by its name there ---- */
 
-/* Installs an interface on *Handle; where that is 0 on a new handle, which *Handle then is.
- * `InterfaceType` is 0, native.
+/* Installs an interface on *Handle, or on a new handle where *Handle is 0; the new handle is then
+ * put into *Handle. `InterfaceType` must be 0, EFI_NATIVE_INTERFACE.
  *
  * INVALID_PARAMETER: another interface type; a handle that is neither 0 nor live, or that carries
  * the GUID already. OUT_OF_RESOURCES: RAFKUDIN_MAX_HANDLES are live already. */
@@ -501,7 +504,7 @@ RAFKUDIN_API rafkudin_uint64 RafkudinInstallProtocolInterface(struct rafkudin *c
                                                               uint32_t InterfaceType,
                                                               rafkudin_uint64 Interface);
 
-/* The same with `count` interfaces in place of the standard's list of arguments. All are installed
+/* The same with `count` interfaces instead of the standard's list of arguments. All are installed
  * or none.
  *
  * INVALID_PARAMETER: no interfaces or over 16, of which no more than the first 17 are read; a
@@ -662,7 +665,7 @@ RAFKUDIN_API rafkudin_uint64 RafkudinDisconnectDrivers(struct rafkudin *core,
                                                        rafkudin_uint64 DriverImageHandle);
 
 /* Of the handles that carry the GUID, puts the one into *Device whose device path is the longest
- * front of the path at the pool's address *DevicePath, and sets *DevicePath to the address behind
+ * prefix of the path at the pool's address *DevicePath, and sets *DevicePath to the address behind
  * the nodes that matched.
  *
  * INVALID_PARAMETER: no device path is at the address. NOT_FOUND: no handle matches. */
@@ -821,9 +824,9 @@ RAFKUDIN_API rafkudin_uint64 RafkudinLocatePath(struct rafkudin *core,
 
 /* Installs a device path that lies at `path`: AllocatePool of `length` bytes of boot services data,
  * PoolWrite of the bytes to that block, and InstallMultipleProtocolInterfaces of the block's
- * address as the device path of *Handle; where that is 0 of a new handle, which *Handle then is.
- * *address is the block's address then, which is the value of the interface: whoever uninstalls
- * that frees the block. The caller's bytes are read during the call alone. Where
+ * address as the device path of *Handle, or of a new handle where *Handle is 0; the new handle is
+ * then put into *Handle. *address is the block's address, which is the value of the interface:
+ * whoever uninstalls that frees the block. The caller's bytes are read during the call alone. Where
  * InstallMultipleProtocolInterfaces is refused, FreePool gives the block back; only where the heap
  * then refuses memory for that, the block stays. The three or four services count as such, and the
  * call's events are those of the installation, its certificate that of the block.
@@ -863,9 +866,9 @@ RAFKUDIN_API rafkudin_uint64 RafkudinInstallPath(struct rafkudin *core, rafkudin
 #define RAFKUDIN_CALL_LOCATE_DEVICE_PATH 23U
 #define RAFKUDIN_CALL_EXIT_BOOT_SERVICES 24U
 
-/* A call: the number of its service, and its parameters. What a parameter leads to is as before the
- * call: a handle of 0 is a new one. The other fields are ignored, and may be 0 or null (with
- * RAFKUDIN_NO_NULL_CHECKS not null). */
+/* A call: the number of its service, and its parameters. Of a parameter that is a pointer the field
+ * is the value of its variable before the call: a handle of 0 asks for a new one. The other fields
+ * are ignored, and may be 0 or null (with RAFKUDIN_NO_NULL_CHECKS not null). */
 struct rafkudin_call {
     uint32_t service;
     uint32_t type;        /* Type of AllocatePages, InterfaceType */
@@ -1016,10 +1019,10 @@ static inline rafkudin_uint64 RafkudinLocateHandle(struct rafkudin *core, uint32
 }
 
 /* 7.3. `DriverImageHandle` is an array of driver handles that ends with a 0, or null: these are
- * tried first. `RemainingDevicePath` is 0.
+ * tried first. `RemainingDevicePath` must be 0.
  *
- * UNSUPPORTED: it is not; this is returned first, and uses up no call. The other refusals are those
- * of RafkudinConnectDrivers. */
+ * UNSUPPORTED: `RemainingDevicePath` is not 0; this is returned first, and uses up no call. The
+ * other refusals are those of RafkudinConnectDrivers. */
 static inline rafkudin_uint64 RafkudinConnectController(struct rafkudin *core,
                                                         rafkudin_uint64 ControllerHandle,
                                                         const rafkudin_uint64 *DriverImageHandle,
@@ -1037,10 +1040,10 @@ static inline rafkudin_uint64 RafkudinConnectController(struct rafkudin *core,
     return RafkudinConnectDrivers(core, ControllerHandle, drivers, count, Recursive);
 }
 
-/* 7.3. `ChildHandle` is 0.
+/* 7.3. `ChildHandle` must be 0.
  *
- * UNSUPPORTED: it is not; this is returned first, and uses up no call. The other refusals are those
- * of RafkudinDisconnectDrivers. */
+ * UNSUPPORTED: `ChildHandle` is not 0; this is returned first, and uses up no call. The other
+ * refusals are those of RafkudinDisconnectDrivers. */
 static inline rafkudin_uint64 RafkudinDisconnectController(struct rafkudin *core,
                                                            rafkudin_uint64 ControllerHandle,
                                                            rafkudin_uint64 DriverImageHandle,

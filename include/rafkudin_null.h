@@ -1,8 +1,9 @@
 /* Checks for null pointers before the library is called: each function here returns
  * INVALID_PARAMETER where a pointer is null that may not be, as the UEFI Specification says of its
- * services, and else calls the function of its name. Beside a count of 0 a pointer may be null.
- * rafkudin.h includes this file and says what each function does; its macros make the names of
- * rafkudin.h lead here. */
+ * services, and else calls the function of its name. One that returns no status returns 0 then, or
+ * does nothing. A pointer with a count of 0 may be null. rafkudin.h includes this file and says
+ * what each function does; the macros here make calls by the names of rafkudin.h go to these
+ * functions. */
 #ifndef RAFKUDIN_NULL_H
 #define RAFKUDIN_NULL_H
 
@@ -705,5 +706,30 @@ static inline size_t rafkudin_events(const struct rafkudin *core, rafkudin_uint6
     return RafkudinEvents(core, events, room);
 }
 #define RafkudinEvents rafkudin_events
+
+static inline void rafkudin_certify(struct rafkudin *core, bool certify)
+{
+    if (core != NULL)
+        RafkudinCertify(core, certify);
+}
+#define RafkudinCertify rafkudin_certify
+
+static inline size_t rafkudin_descriptors(const struct rafkudin *core)
+{
+    return core == NULL ? 0 : RafkudinDescriptors(core);
+}
+#define RafkudinDescriptors rafkudin_descriptors
+
+static inline rafkudin_uint64 rafkudin_calls_left(const struct rafkudin *core)
+{
+    return core == NULL ? 0 : RafkudinCallsLeft(core);
+}
+#define RafkudinCallsLeft rafkudin_calls_left
+
+static inline size_t rafkudin_runs(const struct rafkudin *core)
+{
+    return core == NULL ? 0 : RafkudinRuns(core);
+}
+#define RafkudinRuns rafkudin_runs
 
 #endif

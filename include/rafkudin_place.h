@@ -1,12 +1,12 @@
-/* Rafkudin's placement by itself: what RafkudinPlace and RafkudinCheck do, with no core and no heap.
- * The caller passes a region of memory for the call.
+/* Rafkudin's placement by itself: what RafkudinPlace and RafkudinCheck do, with no core and no
+ * heap. The caller passes a region of memory for the call.
  *
  * A program that includes this header is linked with librafkudin_place.a, beside librafkudin.a or
  * without it. That library needs memcpy, memmove and memset and nothing else.
  *
  * A region is any memory, from any address on, that the library alone reads and writes while the
  * call runs. Its bytes need no value, and it is the caller's again when the call returns. It must
- * not overlap what the call's other pointers lead to. */
+ * not overlap what the call's other pointers point to. */
 #ifndef RAFKUDIN_PLACE_H
 #define RAFKUDIN_PLACE_H
 

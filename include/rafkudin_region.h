@@ -1,11 +1,11 @@
 /* Rafkudin in a region: cores all of whose memory is a region that their caller passes, for a part
  * of a firmware that calls no heap.
  *
- * A program that includes this header is linked with librafkudin_region.a in the place of
- * librafkudin.a. That library has the functions of rafkudin.h but RafkudinMake, in whose place
- * RafkudinMakeIn takes a region, and RafkudinPlace and RafkudinCheck, for which rafkudin_place.h has
- * others. It needs memcpy, memmove and memset and nothing else, and two cores share nothing.
- * docs/C.md says how it is linked.
+ * A program that includes this header is linked with librafkudin_region.a instead of librafkudin.a.
+ * That library has the functions of rafkudin.h but three: instead of RafkudinMake it has
+ * RafkudinMakeIn, which takes a region, and instead of RafkudinPlace and RafkudinCheck there are
+ * those of rafkudin_place.h. It needs memcpy, memmove and memset and nothing else, and two cores
+ * share nothing. docs/C.md says how it is linked.
  *
  * A region is any memory, from any address on, that the library alone reads and writes while the
  * core in it is called. Its bytes need no value. OUT_OF_RESOURCES means of all services of such a

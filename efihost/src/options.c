@@ -14,7 +14,7 @@ static const char usage[] =
     "  --disk FILE       an image as a block device\n"
     "  --disk FOLDER     a folder as a file system\n"
     "  --firmware FILE   the firmware volumes of a firmware: its drivers and applications may be\n"
-    "                    named in the place of files\n"
+    "                    named instead of files\n"
     "  --driver FILE     a driver's .efi, started before the application; drivers are then\n"
     "                    connected to all handles\n"
     "  --variables FILE  where non-volatile variables are kept\n"
@@ -31,22 +31,22 @@ static const char usage[] =
     "  --quiet           no text of the console\n"
     "\n"
     "  --check           reports misuse of memory and services, and what is left at the end\n"
-    "  --guard           the same, and stops at the first access that should not be, at its very\n"
-    "                    instruction\n"
+    "  --guard           the same, and stops at the first access to memory that is not its own, at\n"
+    "                    that instruction\n"
     "  --json FILE       the report for programs\n"
     "  --calls FILE      the services that were called, a line each\n"
     "  --trace FILE      the calls of the core for `bootcore run --trace FILE --machine\n"
     "                    FILE.machine.json`, which prints what is in FILE.replies\n"
-    "  --certify         checks the certificate of each placement as it is made; FILE.replies has\n"
+    "  --certify         checks the certificate of each placement when it is made; FILE.replies has\n"
     "                    them, as `bootcore run --certify` prints them\n"
-    "  --strict          an instruction that a process may not have ends the run\n"
+    "  --strict          a privileged instruction ends the run\n"
     "  --time SECONDS    ends the run then; 0 is never; without the option it is 60, or never where\n"
     "                    keys come from a terminal\n"
     "  --rights          the process keeps the rights that it has\n"
     "  --help, --version\n"
     "\n"
     "Exit status: 0 the application ended with success; 1 with an error; 2 it was never run;\n"
-    "3 something was found by --check or --guard; 4 it failed; 5 its time or its input was over.\n";
+    "3 --check or --guard found something; 4 it crashed; 5 its time or its input ran out.\n";
 
 #define UNSET UINT32_MAX
 

@@ -10,7 +10,7 @@ extern const char *fault_program;
 /* Writes a line to standard error and ends the program with status 1. */
 _Noreturn void fail(const char *format, ...);
 
-/* A block of `size` bytes in the place of another or of none, as realloc makes it; where there is
+/* A block of `size` bytes that replaces another or none, as realloc makes it; where there is
  * no memory the program ends. */
 void *grow(void *block, size_t size);
 #endif

@@ -38,7 +38,7 @@ struct map {
 static void expect(const char *call, uint64_t status, uint64_t wanted)
 {
     if (status != wanted)
-        fail("%s: status 0x%" PRIx64 " in the place of 0x%" PRIx64, call, status, wanted);
+        fail("%s: status 0x%" PRIx64 " instead of 0x%" PRIx64, call, status, wanted);
 }
 
 /* Asks how long the map is. */

@@ -58,6 +58,8 @@ static void try_no_core(void)
     REFUSED(RafkudinTraceLine(NULL, &call, &byte, 1, &number));
     REFUSED(RafkudinDescriptor(NULL, 0, &entry));
     HOLDS(RafkudinEvents(NULL, &number, 1) == 0);
+    HOLDS(RafkudinDescriptors(NULL) == 0 && RafkudinRuns(NULL) == 0 && RafkudinCallsLeft(NULL) == 0);
+    RafkudinCertify(NULL, true);
 }
 
 /* Each null pointer of the questions. */

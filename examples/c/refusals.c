@@ -1,6 +1,6 @@
 /* Calls of all kinds over a heap that refuses one of its allocations, for each of them, or all from
  * one on. No block may be lost or given back twice, and where nothing is refused the replies are
- * those of ever. The heap is the program's own, in the place of the library's. */
+ * the usual ones. The heap is the program's own, instead of the library's. */
 #include "points.h"
 #include "workload.h"
 

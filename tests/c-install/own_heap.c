@@ -1,4 +1,4 @@
-/* A heap of the program's own, in the place of the library's: it never gives a block again. */
+/* A heap of the program's own, instead of the library's: it never gives a block again. */
 #include <stdbool.h>
 #include <stddef.h>
 #include <string.h>

@@ -123,7 +123,8 @@ impl<D: Driver, A: Allocator + Copy> Core<D, A> {
     /// certificate of their place, where the core returns certificates.
     ///
     /// INVALID_PARAMETER: another kind, a type that no request may name, or no pages. NOT_FOUND: the
-    /// pages cannot be had at the address. OUT_OF_RESOURCES: no place of kind 0 or 1, or memory ran out.
+    /// pages cannot be had at the address. OUT_OF_RESOURCES: kinds 0 and 1 have no permitted place, or
+    /// memory ran out.
     pub fn allocate_pages(&mut self, kind: u32, mtype: u32, pages: u64, memory: u64) -> Reply<A>
         requires { 0 < self.old.state.calls_left }
         ensures step { CoreStep D.meaning self.old
@@ -136,8 +137,8 @@ impl<D: Driver, A: Allocator + Copy> Core<D, A> {
         })
     }
 
-    /// FreePages: `pages` pages from the address `memory` on are conventional again, and with them the rest
-    /// of the granules that the first and the last of them lie in.
+    /// FreePages: `pages` pages from the address `memory` on are conventional again, and at each end so is
+    /// the rest of the granule that the page there lies in, if its type fills granules.
     ///
     /// INVALID_PARAMETER: an unaligned address, no pages, or a range past the last page. NOT_FOUND: one
     /// of the pages was not placed by AllocatePages. OUT_OF_RESOURCES: memory ran out.
@@ -517,7 +518,7 @@ impl<D: Driver, A: Allocator + Copy> Core<D, A> {
         })
     }
 
-    /// LocateDevicePath: of the handles that carry a GUID, the one whose device path is the longest front
+    /// LocateDevicePath: of the handles that carry a GUID, the one whose device path is the longest prefix
     /// of the path at an address in the pool.
     pub fn locate_device_path(&mut self, guid: Uuid, address: u64) -> Reply<A>
         requires { 0 < self.old.state.calls_left }

@@ -6,7 +6,7 @@ with open(os.path.join(os.path.dirname(__file__), "accepted", "stdin"), encoding
 
 
 def block_with(first, count, lines):
-    """The accepted block with other lines in the place of some: the first of these is line 1 or a later one."""
+    """The accepted block with other lines instead of some: the first of these is line 1 or a later one."""
     return "".join([*LINES[: first - 1], lines, *LINES[first - 1 + count :]])
 
 
