@@ -105,7 +105,7 @@ NO_RETURN static void end_by_fault(int number, const siginfo_t *info, ucontext_t
     char what[200];
 
     if (name != NULL)
-        snprintf(what, sizeof what, "an instruction that a process may not have, %s", name);
+        snprintf(what, sizeof what, "an instruction that a process may not carry out, %s", name);
     else if (general)
         snprintf(what, sizeof what, "an access to an address that no memory has");
     else if (number == SIGSEGV && address < 65536)

@@ -102,7 +102,7 @@ void zone_look(const struct block *block, const char *when)
     if (other < end) {
         found(BEHIND_BLOCK, &block->origin,
               "byte %lu behind a block of %lu bytes at 0x%lx was written, 0x%02x, seen %s; it is "
-              "made",
+              "allocated",
               (uint64_t)(other - at) - block->size, block->size, block->at, *other,
               seen(when, text, sizeof text));
         return;
@@ -111,7 +111,7 @@ void zone_look(const struct block *block, const char *when)
         if (other[-1] != BEFORE) {
             found(BEFORE_BLOCK, &block->origin,
                   "byte %lu before a block of %lu bytes at 0x%lx was written, 0x%02x, seen %s; it "
-                  "is made",
+                  "is allocated",
                   (uint64_t)(at - other) + 1, block->size, block->at, other[-1],
                   seen(when, text, sizeof text));
             return;
@@ -142,7 +142,8 @@ void zone_look_at_freed(struct freed *entry)
     other = first_other(at, at + entry->size, GONE);
     if (other < at + entry->size)
         found(USE_AFTER_FREE, &entry->made,
-              "byte %lu of a block of %lu bytes at 0x%lx was written after %s freed it; it is made",
+              "byte %lu of a block of %lu bytes at 0x%lx was written after %s freed it; it is "
+              "allocated",
               (uint64_t)(other - at), entry->size, entry->at, origin_text(&entry->freed));
 }
 

@@ -6,7 +6,7 @@ ghost use Rattle.protocol_services.specs.Lists.{IsRaised};
 ghost use Rattle.boot_core.specs.Machines.{parts_of};
 ghost use Rattle.boot_core.specs.PoolLists.{ListsOpens, LocatesBuffer};
 
-use boot_replies::{LIST_TYPE, PoolList};
+use boot_replies::{BOOT_SERVICES_DATA, PoolList};
 use page_ranges::Status;
 use page_services::PageBook;
 use pool_services::Pools;
@@ -42,7 +42,7 @@ pub(crate) fn locate_buffer<A: Allocator + Copy>(
         Ok(bytes) => bytes,
         Err(_) => return Err(Status::OutOfResources),
     };
-    let (address, certificate) = pools.allocate_filled(book, LIST_TYPE, bytes.as_slice())?;
+    let (address, certificate) = pools.allocate_filled(book, BOOT_SERVICES_DATA, bytes.as_slice())?;
     protocols.take_found(search, key);
     Ok(PoolList {
         count: found.handles.len() as u64,
@@ -81,7 +81,7 @@ pub(crate) fn list_opens<A: Allocator + Copy>(
         Ok(bytes) => bytes,
         Err(_) => return Err(Status::OutOfResources),
     };
-    let (address, certificate) = pools.allocate_filled(book, LIST_TYPE, bytes.as_slice())?;
+    let (address, certificate) = pools.allocate_filled(book, BOOT_SERVICES_DATA, bytes.as_slice())?;
     Ok(PoolList {
         count: items.len() as u64,
         address,

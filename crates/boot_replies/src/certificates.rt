@@ -11,8 +11,8 @@ use placement_certificate::{Certificate, Request};
 use pool_services::extent_request;
 use std::alloc::Allocator;
 
-/// The memory type of a pool block with a list (EfiBootServicesData).
-pub const LIST_TYPE: u32 = 4;
+/// EfiBootServicesData, the memory type of the pool blocks that the core allocates itself.
+pub const BOOT_SERVICES_DATA: u32 = 4;
 
 /// The certificate of the reply to a call on a machine with a granule of this many pages, and the request
 /// that it is for.
@@ -97,7 +97,7 @@ fn list_request(granule: u64, size: u64, count: Option<u64>) -> Option<Request>
     ensures { result ≡ option_and_then if_counted (list_request granule size count) }
 {
     let bytes = count?.checked_mul(size)?;
-    extent_request(granule, MemoryType::new(LIST_TYPE), bytes)
+    extent_request(granule, MemoryType::new(BOOT_SERVICES_DATA), bytes)
 }
 
 /// The certificate that a reply carries.

@@ -4,5 +4,5 @@
 mod certificates;
 mod replies;
 
-pub use certificates::{LIST_TYPE, certified, may_be_certified};
+pub use certificates::{BOOT_SERVICES_DATA, certified, may_be_certified};
 pub use replies::{PoolList, Reply};

@@ -6,12 +6,9 @@ ghost use Rattle.c_interface.specs.Services.{AllocatesPages, AllocatesPool, Maps
 
 use crate::efi_core::{ABORTED, EfiCore};
 use boot_core::Call;
-use map_keys::RECORD_SIZE;
+use map_keys::{DESCRIPTOR_VERSION, RECORD_SIZE};
 use page_ranges::Status;
 use std::alloc::Allocator;
-
-/// The version of the records (EFI_MEMORY_DESCRIPTOR_VERSION).
-const VERSION: u32 = 1;
 
 impl<A: Allocator + Copy> EfiCore<A> {
     /// AllocatePages. The variable `memory` has the last byte that may belong to the pages, or their address, and
@@ -71,12 +68,12 @@ impl<A: Allocator + Copy> EfiCore<A> {
                 *size = returned.size;
                 *key = returned.key;
                 *stride = RECORD_SIZE as u64;
-                *version = VERSION;
+                *version = DESCRIPTOR_VERSION;
             }
             Status::BufferTooSmall => {
                 *size = returned.size;
                 *stride = RECORD_SIZE as u64;
-                *version = VERSION;
+                *version = DESCRIPTOR_VERSION;
             }
             _ => {}
         }

@@ -8,13 +8,11 @@ ghost use Rattle.c_interface.specs.Paths.{AnswersPath, InstallsBlock, InstallsPa
 use crate::efi_core::{ABORTED, EfiCore};
 use crate::replies::{number_in, status_in};
 use boot_core::{Call, Reply};
+use boot_replies::BOOT_SERVICES_DATA;
 use c_machines::Guid;
 use device_path_locate::{device_path_guid, read_path};
 use page_ranges::Status;
 use std::alloc::Allocator;
-
-/// The memory type of the block that a path is copied to: boot services data.
-const PATH_TYPE: u32 = 4;
 
 /// How many calls an installation makes at most.
 const MAX_PATH_CALLS: u64 = 4;
@@ -67,7 +65,7 @@ impl<A: Allocator + Copy> EfiCore<A> {
             return ABORTED;
         }
         let status = self.answer(&Call::AllocatePool {
-            mtype: PATH_TYPE,
+            mtype: BOOT_SERVICES_DATA,
             size: path.len() as u64,
         });
         match self.last_number() {

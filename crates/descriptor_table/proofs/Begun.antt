@@ -171,7 +171,7 @@ begin_kept old new (l ∷ ls) (n ∷ ns) gone come g b = (
       (λ m k e. ap (λ xs. entry_count xs + gone) (append_assoc new l m) ∙ g (l ++ m) k (ap (λ xs. l ++ xs) e ∙ sym (append_assoc l m k)) ∙ ap (λ xs. entry_count xs + come) (sym (append_assoc old l m))) b.1,
 )
 
--- leaves in the place of others
+-- leaves instead of others
 pub begin_put : (ls fresh : List (List Run)) (ns ks : List ℕ) (from to gone come : ℕ) → BeginIn [] ls ns → BeginIn (runs_in (take from ls)) fresh ks → GrowsBy (runs_in (take to ls)) (runs_in (take from ls) ++ runs_in fresh) (runs_in (drop to ls)) gone come
     → BeginIn [] (take from ls ++ (fresh ++ drop to ls)) (take from ns ++ (ks ++ drop to ns))
 begin_put ls fresh ns ks from to gone come b c g =

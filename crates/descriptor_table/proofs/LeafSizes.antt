@@ -28,7 +28,7 @@ sizes_within ls a e = omega (arith, total_sizes ls, few_runs (runs_in ls) a e)
 
 -- ---- leaves that change
 
--- leaves in the place of others
+-- leaves instead of others
 pub sizes_put : (ls fresh : List (List Run)) (from to : ℕ) → take from (sizes ls) ++ (sizes fresh ++ drop to (sizes ls)) ≡ sizes (take from ls ++ (fresh ++ drop to ls))
 sizes_put ls fresh from to =
     ap (λ ns. ns ++ (sizes fresh ++ drop to (sizes ls))) (take-map length from ls) ∙ ap (λ ns. sizes (take from ls) ++ (sizes fresh ++ ns)) (drop-map length to ls)

@@ -58,7 +58,7 @@ module _ (ls : List (List Run)) (from to : ℕ) where
       above = all_append (λ r. range.first + range.pages < r.range.first) (drop high rs) (runs_in (drop to ls)) w.above near.above;
     }
 
-    -- parts in the place of a window of them
+    -- parts instead of a window of them
     pub put_is : (low high : ℕ) (parts : List Run) → runs_in (take from ls) ++ ((take low rs ++ (parts ++ drop high rs)) ++ runs_in (drop to ls)) ≡ all_before low ++ (parts ++ all_behind high)
     put_is low high parts = regroup (runs_in (take from ls)) (take low rs) parts (drop high rs) (runs_in (drop to ls))
 

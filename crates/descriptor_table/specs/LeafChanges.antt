@@ -10,28 +10,28 @@ use Rattle.descriptor_table.specs.Leaves.{leaf_at, put_across, runs_in, BeginIn,
 
 -- ---- the runs of all leaves
 
--- some runs, with parts in the place of those in a window
+-- some runs, with parts instead of those in a window
 abbrev pub with_parts : List Run → ℕ × ℕ → List Run → List Run
 with_parts runs window parts = take window.0 runs ++ (parts ++ drop window.1 runs)
 
--- the runs of all leaves, with others in the place of those of the leaves between two indices
+-- the runs of all leaves, with others instead of those of the leaves between two indices
 abbrev pub runs_with : List (List Run) → ℕ × ℕ → List Run → List Run
 runs_with ls near runs = runs_in (take near.0 ls) ++ (runs ++ runs_in (drop near.1 ls))
 
--- the runs of all leaves, with parts in the place of a window of the leaf at an index
+-- the runs of all leaves, with parts instead of a window of the leaf at an index
 abbrev pub runs_with_in : List (List Run) → ℕ → ℕ × ℕ → List Run → List Run
 runs_with_in ls index window parts =
     runs_in (take index ls)
     ++ (splice (leaf_at ls index) window.0 window.1 parts ++ runs_in (drop (index + 1) ls))
 
--- the runs of all leaves, with parts in the place of those from an index of one leaf up to an index
+-- the runs of all leaves, with parts instead of those from an index of one leaf up to an index
 -- of the next one
 abbrev pub runs_with_across : List (List Run) → ℕ → ℕ × ℕ → List Run → List Run
 runs_with_across ls index window parts =
     runs_in (take index ls)
     ++ (put_across ls index window.0 window.1 parts ++ runs_in (drop (index + 2) ls))
 
--- how many runs two leaves have, with parts in the place of those from an index of the first up to
+-- how many runs two leaves have, with parts instead of those from an index of the first up to
 -- an index of the second
 abbrev pub count_across : List (List Run) → ℕ → ℕ × ℕ → List Run → ℕ
 count_across ls index window parts =

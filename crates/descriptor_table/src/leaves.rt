@@ -76,7 +76,7 @@ impl<A: Allocator + Copy> Leaf<A> {
         self.runs.as_slice()
     }
 
-    /// Puts runs in the place of some of the leaf's, which is not left empty. Its summary is joined with that
+    /// Replaces some of the leaf's runs by others, and does not leave it empty. Its summary is joined with that
     /// of the changed runs, and made anew after `most_joins` joins.
     pub(crate) fn replace(&mut self, low: usize, high: usize, parts: &[Run], most_joins: u8)
         requires order { low ≤ high }

@@ -1,11 +1,11 @@
 //! The memory of a machine as a sorted table of runs.
 #![tactic(auto)]
 
-mod entry_starts;
 mod cursors;
 mod cuts;
 mod entries;
 mod entries_down;
+mod entry_starts;
 mod free_entries;
 mod groups;
 mod leaf_searches;

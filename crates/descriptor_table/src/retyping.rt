@@ -11,10 +11,10 @@ ghost use Rattle.descriptor_table.specs.Summaries.{KeepsLeaves};
 ghost use Rattle.descriptor_table.specs.Tables.{EndBy, IsWindow};
 ghost use Rattle.descriptor_table.specs.Tallies.{total};
 
-use crate::entry_starts::{begun_in, count_begun, runs_before};
 use crate::cursors::count_leaves_by_from;
 use crate::cuts::push_retyped;
 use crate::entries::count_entries;
+use crate::entry_starts::{begun_in, count_begun, runs_before};
 use crate::leaf_searches::count_leaves_below;
 use crate::leaves::{LEAF_SIZE, Leaf, leaves_of, runs_of_leaves, sizes_of};
 use crate::searches::{count_beginning_by, count_beginning_by_from, count_ending_below};
@@ -26,7 +26,7 @@ use std::alloc::{AllocError, Allocator};
 /// Neighbours that have this many runs together, or fewer, are joined when one of them changes.
 const JOINED_SIZE: usize = 24;
 
-/// At most this many runs come into a leaf in the place of others; more come in new leaves.
+/// At most this many runs replace others within a leaf; more come in new leaves.
 const MAX_PARTS: usize = 8;
 
 /// How often a leaf's summary is joined with that of changed runs before it is made anew, by the number
@@ -96,8 +96,8 @@ pub(crate) fn leaves_near<A: Allocator + Copy>(
     with_neighbour(leaves, sizes, range, low, high)
 }
 
-/// Puts parts in the place of a window of `runs`, which are the runs of leaves next to each other, and
-/// all of them in new leaves. `entries` are how many entries the map of the window has, and that of the
+/// Replaces a window of `runs`, which are the runs of leaves next to each other, by parts, and puts all of
+/// them in new leaves. `entries` are how many entries the map of the window has, and that of the
 /// parts. On an `Err` the leaves are as they were.
 fn put_in_new_leaves<A: Allocator + Copy>(
     leaves: &mut Vec<Leaf<A>, A>,
@@ -149,7 +149,7 @@ fn put_in_new_leaves<A: Allocator + Copy>(
     Ok(())
 }
 
-/// Puts parts in the place of a window of a leaf's runs, which has room for them. `entries` are how many
+/// Replaces a window of a leaf's runs by parts, for which the leaf has room. `entries` are how many
 /// entries the map of the window has, and that of the parts.
 fn put_in_leaf<A: Allocator + Copy>(
     leaves: &mut Vec<Leaf<A>, A>,
@@ -302,8 +302,8 @@ fn recount<A: Allocator + Copy>(
     sizes.set(index + 1, second.len() as u8);
 }
 
-/// Puts parts in the place of the runs from an index of one leaf up to an index of the next one; the
-/// two have room for them. `entries` are how many entries the map of those runs has, and that of the
+/// Replaces the runs from an index of one leaf up to an index of the next one by parts; the two have
+/// room for them. `entries` are how many entries the map of those runs has, and that of the
 /// parts.
 fn put_across<A: Allocator + Copy>(
     leaves: &mut Vec<Leaf<A>, A>,
@@ -410,8 +410,7 @@ fn retype_across<A: Allocator + Copy>(
     Some(entries + new_entries - old_entries)
 }
 
-/// Gives the pages of a range a type and an owner by new leaves in the place of those that have all
-/// runs near it, and returns how many entries the map then has. All memory is taken before the leaves
+/// Gives the pages of a range a type and an owner by new leaves instead of those that have all runs near it, and returns how many entries the map then has. All memory is taken before the leaves
 /// change.
 fn retype_in_new_leaves<A: Allocator + Copy>(
     leaves: &mut Vec<Leaf<A>, A>,

@@ -5,7 +5,7 @@ ghost use Rattle.arrayvec.specs.ArrayVec.{array_vec_len};
 use arrayvec::ArrayVec;
 use page_ranges::Run;
 
-/// Puts runs in the place of some others, where they fit.
+/// Replaces some runs by others, where they fit.
 pub(crate) fn replace_runs<const N: usize>(
     runs: &mut ArrayVec<Run, N>,
     low: usize,

@@ -8,11 +8,11 @@ ghost use Rattle.page_ranges.specs.MemoryMap.{memory_map};
 ghost use Rattle.page_ranges.specs.Runs.{page_in, pages_of, runs_of, AreRuns};
 ghost use Rattle.descriptor_table.specs.Tables.{HoldsPage};
 
-use crate::entry_starts::begun_in;
 use crate::cursors::RunCursor;
 use crate::cuts::RunList;
 use crate::entries::{MapEntries, count_entries};
 use crate::entries_down::EntriesDown;
+use crate::entry_starts::begun_in;
 use crate::free_entries::FreeEntries;
 use crate::groups::{Group, make_groups, renew_groups};
 use crate::leaf_searches::{all_in_range, run_at_index, run_in_leaves};

@@ -128,7 +128,7 @@ impl<A: Allocator + Copy> Tally<A> {
         self.set(index, number as u8);
     }
 
-    /// Puts a number in the place of another.
+    /// Replaces a number by another.
     pub(crate) fn set(&mut self, index: usize, number: u8)
         requires bound { index < length self.old }
         requires within { total (set self.old index number) < 2 ^ 63 }

@@ -9,4 +9,4 @@ mod members;
 
 pub use faults::{DriverField, MachineFault, MemberField};
 pub use laws::machine_law;
-pub use machine_file::{MachineFile, read_machine};
+pub use machine_file::{MAX_FILE_LENGTH, MachineFile, read_machine};

@@ -4,5 +4,5 @@
 mod memory_maps;
 mod records;
 
-pub use memory_maps::{MapReply, get_memory_map};
+pub use memory_maps::{DESCRIPTOR_VERSION, MapReply, get_memory_map};
 pub use records::{RECORD_SIZE, read_back_law, read_descriptors};

@@ -8,7 +8,7 @@ use page_services::PageBook;
 use std::alloc::Allocator;
 
 /// The version of the memory descriptors (EFI_MEMORY_DESCRIPTOR_VERSION).
-const VERSION: u32 = 1;
+pub const DESCRIPTOR_VERSION: u32 = 1;
 
 /// What GetMemoryMap returns beside the bytes of the map.
 #[derive(Clone, Copy, Debug, PartialEq, Eq)]
@@ -55,6 +55,6 @@ pub fn get_memory_map<A: Allocator + Copy>(book: &PageBook<A>, buffer: &mut [u8]
         size: size as u64,
         key: book.key(),
         descriptor_size: RECORD_SIZE as u64,
-        version: VERSION,
+        version: DESCRIPTOR_VERSION,
     }
 }

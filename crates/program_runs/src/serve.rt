@@ -7,6 +7,7 @@ use boot_core::Core;
 use boot_trace::{MachineFault, RunFault, read_machine};
 use certificate_blocks::{BlockFault, check_block};
 use command_line::VERSION;
+use machine_files::MAX_FILE_LENGTH;
 use std::alloc::{AllocError, AllocFailed, Global};
 use std::io::{Read, Write};
 use text_lines::write_text;
@@ -26,9 +27,6 @@ pub const REFUSED: u8 = 3;
 
 /// How many bytes are asked of the machine file at a time.
 const PIECE: usize = 8192;
-
-/// Reading of a machine file stops at this length, one byte past the longest that it may have.
-const STOP_LENGTH: usize = 67_108_865;
 
 /// Why the program stopped.
 #[derive(Debug, Drop, Error)]
@@ -187,7 +185,7 @@ fn read_whole<M: Read + Drop>(alloc: Global, mut machine: M) -> Result<Vec<u8>, 
 {
     let mut bytes = Vec::new(alloc);
     let mut piece = [0u8; PIECE];
-    while bytes.len() < STOP_LENGTH {
+    while bytes.len() <= MAX_FILE_LENGTH {
         match machine.read(&mut piece) {
             Ok(0) => return Ok(bytes),
             Ok(taken) => {

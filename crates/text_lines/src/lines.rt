@@ -34,7 +34,7 @@ pub fn next_byte<R: Read, A: Allocator>(reader: &mut BufReader<R, A>) -> io::Res
     Ok(next)
 }
 
-/// Puts the next line in the place of `line`, without its line feed, and returns whether there was
+/// Replaces `line` by the next line, without its line feed, and returns whether there was
 /// one. Of a line that is longer than [`MAX_LINE_LENGTH`], reading stops one byte past that limit.
 pub fn next_line<S: ByteSource, A: Allocator>(
     reader: &mut S,

@@ -1,4 +1,4 @@
-/* Uses instructions that a process may not have. */
+/* Uses instructions that a process may not carry out. */
 #include "app.h"
 
 static EFI_STATUS application(void)

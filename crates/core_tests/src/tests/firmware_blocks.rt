@@ -44,7 +44,7 @@ fn certificate_of(rt: &impl Abort, core: &mut Core<TableDriver>, request: &Reque
     }
 }
 
-/// Asserts that the block is refused with this bound in the place of one.
+/// Asserts that the block is refused with this bound instead of one.
 fn assert_refused(
     rt: &(impl AllocGlobal + Abort),
     map: &[Descriptor],
@@ -61,7 +61,7 @@ fn assert_refused(
     swapped_bound(rt, certificate, index, bound);
 }
 
-/// Puts a bound in the place of one, and returns that one.
+/// Replaces a bound, and returns the old one.
 fn swapped_bound(
     rt: &impl Abort,
     certificate: &mut Certificate,
