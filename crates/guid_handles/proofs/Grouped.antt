@@ -1,6 +1,7 @@
 -- Groups by GUID: which one is found, and which keys are once one of them has changed.
 use Rattle.std.proofs.Math.ListN.{set}
-use Rattle.std.proofs.Common.{get_or, take, ◌&&◌, ◌≡◌, ℕ, zero, suc, ◌<◌, ◌≤◌, ◌==◌, nat_lt, Bool, true, false, cond, List, [], ◌∷◌, map, length, Option, Some, None, is_some, inl, inr, refl, sym, ap, ◌∙◌, arith, subst}
+use Rattle.std.proofs.Math.Numerals.{add-one}
+use Rattle.std.proofs.Common.{get_or, take, ◌&&◌, ◌≡◌, ℕ, zero, suc, ◌<◌, ◌≤◌, ◌==◌, nat_lt, Bool, true, false, cond, List, [], ◌∷◌, map, length, Option, Some, None, is_some, inl, inr, refl, sym, ap, ◌∙◌, arith, subst, ◌+◌, ◌++◌}
 use Rattle.std.specs.List.{find, list_any, slice_get, insert, remove}
 use Rattle.std.specs.Option.{option_map, option_and_then}
 use Rattle.std.specs.declared.cmp.Ordering.TheVariants.{Less}
@@ -369,6 +370,14 @@ tells_here p xs at x l e = rw (got xs at x l e) one
 -- an item that is put back as it was
 pub put_back : {X : Type 0} (xs : List X) (at : ℕ) (x y : X) → x ≡ y → y ≡ get_or xs at y → set xs at x ≡ xs
 put_back xs at x y e v = ap (λ z. set xs at z) (e ∙ v) ∙ set-get_or xs at y
+
+pub take_next : {X : Type 0} (xs : List X) (k : ℕ) (x : X) → k < length xs → x ≡ get_or xs k x → take k xs ++ x ∷ [] ≡ take (k + 1) xs
+take_next {X = X} xs k x l e = rw add-one (go xs k l e)
+  where
+    go : (ys : List X) (j : ℕ) → j < length ys → x ≡ get_or ys j x → take j ys ++ x ∷ [] ≡ take (suc j) ys
+    go [] j m f = absurd (omega arith)
+    go (y ∷ ys) zero m f = ap (λ z. z ∷ []) f
+    go (y ∷ ys) (suc j) m f = ap (λ zs. y ∷ zs) (go ys j (omega arith) f)
 
 pub take_whole : {X : Type 0} (xs : List X) (k : ℕ) → length xs ≤ k → take k xs ≡ xs
 take_whole [] zero l = refl
