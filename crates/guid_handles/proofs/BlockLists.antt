@@ -2,12 +2,11 @@
 use Rattle.std.proofs.Math.ListN.{set}
 use Rattle.std.proofs.Common.{◌≡◌, ℕ, zero, suc, ◌<◌, ◌==◌, ◌++◌, not, nat_lt, Bool, true, false, cond, List, [], ◌∷◌, map, length, Option, Some, None, is_some, inl, inr, refl, sym, ap, ◌∙◌, arith, subst, length-append}
 use Rattle.std.specs.List.{filter, find, slice_get, insert, remove, AllByRecursion}
-use Rattle.std.specs.Option.{option_map}
 use Rattle.std.proofs.lemmas.Bool.{cases_Bool, eq-eqb, ne_eqb, ltb-true, lt-ltb}
 use Rattle.std.proofs.lemmas.Option.{same_Some}
 use Rattle.guid_handles.specs.Sorting.{Ascending, place, kept_if}
 use Rattle.guid_handles.proofs.SortedLists.{all_insert, all_map, all_mapped, all_remove, all_set, all_under, found_none, find_none, find_split, find_insert_other, find_insert_new, ascending_insert, ascending_remove, map_insert, map_remove, place_map, numbers_split}
-use Rattle.guid_handles.proofs.Grouped.{find_set_new, find_set_other, kept_one, one_there, none_of, some_map, is_same, above}
+use Rattle.guid_handles.proofs.Grouped.{find_set_new, find_set_other, kept_one, one_there, none_of, is_same, above}
 use Rattle.guid_handles.specs.Blocks.{AreBlocks, Block, IsPlaceOf, AscendByNumber, ChangesBlock, ChangesBlocks, IsFree, with_last, without_place, block_at, one_or_empty, empty_block, is_numbered}
 
 -- ---- places in lists
@@ -24,16 +23,8 @@ pub found_block : (blocks : List Block) (n at : ℕ) → AscendByNumber blocks �
 found_block blocks n at a e =
     ap (λ k. kept_if (is_numbered n) (slice_get blocks k)) e ∙ sym (find_split (λ k. nat_lt k.number n) (is_numbered n) blocks (numbers_split (λ k. k.number) n blocks a))
 
-pub place_returned : {G : Type 0} (now : G → Block) (blocks : List Block) (n at : ℕ) (o : Option G) → AscendByNumber blocks → at ≡ place (λ k. nat_lt k.number n) blocks
-    → option_map now o ≡ kept_if (is_numbered n) (slice_get blocks at) → is_some o ≡ true → IsPlaceOf n blocks at
-place_returned now blocks n at o a e k s =
-    let kept : is_some (kept_if (is_numbered n) (slice_get blocks at)) ≡ true = ap is_some (sym k) ∙ some_map now o ∙ s in
-    let there : kept_if (is_numbered n) (slice_get blocks at) ≡ slice_get blocks at = kept_one (is_numbered n) (slice_get blocks at) kept in
-    (one_there blocks at (ap is_some (sym there) ∙ kept), sym (found_block blocks n at a e) ∙ there, e)
-
-pub none_returned : {G : Type 0} (now : G → Block) (blocks : List Block) (n at : ℕ) (o : Option G) → AscendByNumber blocks → at ≡ place (λ k. nat_lt k.number n) blocks
-    → option_map now o ≡ kept_if (is_numbered n) (slice_get blocks at) → is_some o ≡ false → find (is_numbered n) blocks ≡ None
-none_returned now blocks n at o a e k s = sym (found_block blocks n at a e) ∙ none_of (kept_if (is_numbered n) (slice_get blocks at)) (ap is_some (sym k) ∙ some_map now o ∙ s)
+pub none_at : (blocks : List Block) (n at : ℕ) → AscendByNumber blocks → at ≡ place (λ k. nat_lt k.number n) blocks → is_some (kept_if (is_numbered n) (slice_get blocks at)) ≡ false → find (is_numbered n) blocks ≡ None
+none_at blocks n at a e s = sym (found_block blocks n at a e) ∙ none_of (kept_if (is_numbered n) (slice_get blocks at)) s
 
 -- the number of a block at a place
 kept_number : (P : ℕ → Type 0) (blocks : List Block) (n at : ℕ) → AllByRecursion P (map (λ k. k.number) blocks) → is_some (kept_if (is_numbered n) (slice_get blocks at)) ≡ true → P n

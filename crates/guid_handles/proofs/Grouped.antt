@@ -1,6 +1,7 @@
 -- Groups by GUID: which one is found, and which keys are once one of them has changed.
 use Rattle.std.proofs.Math.ListN.{set}
-use Rattle.std.proofs.Common.{get_or, take, ◌&&◌, ◌≡◌, ℕ, zero, suc, ◌<◌, ◌≤◌, ◌==◌, nat_lt, Bool, true, false, cond, List, [], ◌∷◌, map, length, Option, Some, None, is_some, inl, inr, refl, sym, ap, ◌∙◌, arith, subst}
+use Rattle.std.proofs.Math.Numerals.{add-one}
+use Rattle.std.proofs.Common.{get_or, take, ◌&&◌, ◌≡◌, ℕ, zero, suc, ◌<◌, ◌≤◌, ◌==◌, nat_lt, Bool, true, false, cond, List, [], ◌∷◌, map, length, Option, Some, None, is_some, inl, inr, refl, sym, ap, ◌∙◌, arith, subst, ◌+◌, ◌++◌}
 use Rattle.std.specs.List.{find, list_any, slice_get, insert, remove}
 use Rattle.std.specs.Option.{option_map, option_and_then}
 use Rattle.std.specs.declared.cmp.Ordering.TheVariants.{Less}
@@ -9,6 +10,7 @@ use Rattle.std.specs.Cmp.Lexicographic.{slice_cmp, texts_ties}
 use Rattle.std.proofs.lemmas.Cmp.{nat_list_cmp_total}
 use Rattle.std.proofs.lemmas.Bool.{and_parts, cases_Bool, ltb-false, ne_eqb}
 use Rattle.std.proofs.lemmas.Bool.Decides.{eqb_tells}
+use Rattle.std.proofs.lemmas.List.{set-get_or}
 use Rattle.std.proofs.lemmas.Option.{same_Some}
 use Rattle.guid_handles.specs.declared.records.Turn.{Turn}
 use Rattle.guid_handles.specs.HandleTables.{same_guid}
@@ -339,6 +341,43 @@ pub got : {X : Type 0} (xs : List X) (at : ℕ) (x : X) → at < length xs → x
 got [] at x l e = absurd (omega arith)
 got (y ∷ ys) zero x l e = ap (λ r. Some r) (sym e)
 got (y ∷ ys) (suc at) x l e = got ys at x (omega arith) e
+
+pub not_got : {X : Type 0} (xs : List X) (at : ℕ) → length xs ≤ at → slice_get xs at ≡ None
+not_got [] zero l = refl
+not_got [] (suc at) l = refl
+not_got (x ∷ xs) zero l = absurd (omega arith)
+not_got (x ∷ xs) (suc at) l = not_got xs at (omega arith)
+
+-- what a look-up keeps
+pub kept_here : {X : Type 0} (p : X → Bool) (xs : List X) (at : ℕ) (x : X) → at < length xs → x ≡ get_or xs at x → p x ≡ true → Some x ≡ kept_if p (slice_get xs at)
+kept_here p xs at x l e t = rw (got xs at x l e, t) refl
+
+pub lost_here : {X : Type 0} (p : X → Bool) (xs : List X) (at : ℕ) (x : X) → at < length xs → x ≡ get_or xs at x → p x ≡ false → None ≡ kept_if p (slice_get xs at)
+lost_here p xs at x l e f = rw (got xs at x l e, f) refl
+
+pub none_here : {X : Type 0} (p : X → Bool) (xs : List X) (at : ℕ) → length xs ≤ at → None ≡ kept_if p (slice_get xs at)
+none_here p xs at l = rw (not_got xs at l) refl
+
+pub tells_here : {X : Type 0} (p : X → Bool) (xs : List X) (at : ℕ) (x : X) → at < length xs → x ≡ get_or xs at x → p x ≡ is_some (kept_if p (slice_get xs at))
+tells_here p xs at x l e = rw (got xs at x l e) one
+  where
+    one : p x ≡ is_some (kept_if p (Some x))
+    one = elim (cases_Bool (p x)) [
+      | inl t ↦ rw t refl
+      | inr f ↦ rw f refl
+    ]
+
+-- an item that is put back as it was
+pub put_back : {X : Type 0} (xs : List X) (at : ℕ) (x y : X) → x ≡ y → y ≡ get_or xs at y → set xs at x ≡ xs
+put_back xs at x y e v = ap (λ z. set xs at z) (e ∙ v) ∙ set-get_or xs at y
+
+pub take_next : {X : Type 0} (xs : List X) (k : ℕ) (x : X) → k < length xs → x ≡ get_or xs k x → take k xs ++ x ∷ [] ≡ take (k + 1) xs
+take_next {X = X} xs k x l e = rw add-one (go xs k l e)
+  where
+    go : (ys : List X) (j : ℕ) → j < length ys → x ≡ get_or ys j x → take j ys ++ x ∷ [] ≡ take (suc j) ys
+    go [] j m f = absurd (omega arith)
+    go (y ∷ ys) zero m f = ap (λ z. z ∷ []) f
+    go (y ∷ ys) (suc j) m f = ap (λ zs. y ∷ zs) (go ys j (omega arith) f)
 
 pub take_whole : {X : Type 0} (xs : List X) (k : ℕ) → length xs ≤ k → take k xs ≡ xs
 take_whole [] zero l = refl

@@ -1,5 +1,5 @@
 //! Places in blocks, which are found by number.
-ghost use Rattle.std.specs.Prelude.{◌≡◌, ◌<◌, ◌≤◌, ◌==◌, ◌||◌, ℕ, [], None, is_some, length, nat_lt, option_map, map, slice_get, IfOk, OnOk, OnErr, IfSome, IfNone};
+ghost use Rattle.std.specs.Prelude.{◌≡◌, ◌<◌, ◌≤◌, ◌==◌, ◌||◌, ℕ, [], None, is_some, length, nat_lt, slice_get, IfOk, OnOk, OnErr, IfSome, IfNone};
 ghost use Rattle.std.specs.List.{find};
 ghost use Rattle.guid_handles.specs.Sorting.{Ascending, kept_if, place};
 ghost use Rattle.guid_handles.specs.Blocks.{AscendByNumber, ChangesBlock, ChangesBlocks, IsFree, IsPlaceOf, block_at, is_numbered, with_last, without_place};
@@ -38,23 +38,6 @@ fn count_lower<A: Allocator + Copy>(blocks: &[PlaceBlock<A>], number: u64) -> us
     )
 }
 
-/// The block at a place, if it has a number.
-fn block_if<A: Allocator + Copy>(
-    blocks: &[PlaceBlock<A>],
-    at: usize,
-    number: u64,
-) -> Option<&PlaceBlock<A>>
-    ensures { option_map (λ k. k.now) result ≡ kept_if (is_numbered number)
-        (slice_get blocks.now at) }
-{
-    let block = blocks.get(at)?;
-    if block.number() == number {
-        Some(block)
-    } else {
-        None
-    }
-}
-
 /// Where the block of a number is, if none between it and the last one is missing.
 fn likely_place<A: Allocator + Copy>(blocks: &[PlaceBlock<A>], number: u64) -> usize {
     match blocks.last() {
@@ -83,7 +66,7 @@ fn halved_place<A: Allocator + Copy>(blocks: &[PlaceBlock<A>], number: u64) -> O
     ensures none { IfNone result (find (is_numbered number) blocks.now ≡ None) }
 {
     let at = count_lower(blocks, number);
-    if block_if(blocks, at, number).is_some() {
+    if is_block_at(blocks, at, number) {
         Some(at)
     } else {
         None

@@ -3,7 +3,7 @@ use Rattle.std.proofs.Common.{◌≡◌, ℕ, zero, suc, ◌+◌, ◌<◌, true,
 use Rattle.guid_handles.specs.HandleTables.{written_over}
 use Rattle.open_agents.specs.declared.items.OpenRecord.{OpenRecord}
 use Rattle.open_agents.specs.OpenItems.{is_open_on, item_of, items_on}
-use Rattle.open_agents.specs.Blocks.{item_at, items_at}
+use Rattle.open_agents.specs.Blocks.{item_at, items_at, with_first}
 
 pub one_more : (slots : List (Option OpenRecord)) (places : List ℕ) (i n : ℕ) (guid : List ℕ) (o : OpenRecord) → i < length places → item_at slots (get_or places i 0) ≡ Some o → is_open_on n guid o ≡ true →
     items_on (items_at slots (drop i places)) n guid ≡ item_of o ∷ items_on (items_at slots (drop (i + 1) places)) n guid
@@ -12,6 +12,9 @@ one_more slots places i n guid o l h t = rw (add-one, drop-cons places i 0) (rw 
 pub other : (slots : List (Option OpenRecord)) (places : List ℕ) (i n : ℕ) (guid : List ℕ) (o : OpenRecord) → i < length places → item_at slots (get_or places i 0) ≡ Some o → is_open_on n guid o ≡ false →
     items_on (items_at slots (drop i places)) n guid ≡ items_on (items_at slots (drop (i + 1) places)) n guid
 other slots places i n guid o l h t = rw (add-one, drop-cons places i 0) (rw h (rw t refl))
+
+pub next_there : (slots : List (Option OpenRecord)) (places : List ℕ) (i : ℕ) → i < length places → items_at slots (drop i places) ≡ with_first (item_at slots (get_or places i 0)) (items_at slots (drop (i + 1) places))
+next_there slots places i l = rw (add-one, drop-cons places i 0) refl
 
 pub vacant : (slots : List (Option OpenRecord)) (places : List ℕ) (i n : ℕ) (guid : List ℕ) → i < length places → item_at slots (get_or places i 0) ≡ None →
     items_on (items_at slots (drop i places)) n guid ≡ items_on (items_at slots (drop (i + 1) places)) n guid

@@ -31,3 +31,9 @@ returns-else-is_empty g c =
     let place = rw (← c.self.view_is) at c.requires in
     rw (← c.self.view_is, c.remove.ensures)
     (changes_block _ c.args.number _ _ (without_place c.args.place) place (got _ _ _ place.0 c.index_mut.ensures.value) refl)
+
+pub index_mut-requires : goal.index_mut-requires
+index_mut-requires g c = let place = rw (← c.self.view_is) at c.requires in rw c.self.inside.blocks.ok.0 place.0
+
+pub index-requires : goal.index-requires
+index-requires g c = let place = rw (← c.self.view_is) at c.requires in rw c.self.inside.blocks.ok.0 place.0

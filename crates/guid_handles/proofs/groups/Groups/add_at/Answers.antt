@@ -1,7 +1,6 @@
-use Rattle.std.proofs.Common.{sym, ap, ◌∙◌, Some, slice_set}
-use Rattle.std.proofs.lemmas.List.{set-get_or}
-use Rattle.guid_handles.specs.Indexes.{with_turn}
-use Rattle.guid_handles.proofs.Grouped.{got, groups_set, key_changed, key_there, turns_set, turns_there}
+use Rattle.std.proofs.Common.{subst, sym, ◌∙◌, Some}
+use Rattle.guid_handles.specs.Indexes.{AreGroups, with_turn}
+use Rattle.guid_handles.proofs.Grouped.{got, groups_set, key_changed, key_there, put_back, turns_set, turns_there}
 use Rattle.guid_handles.proofs.SlidRows.{on_err}
 use Rattle.guid_handles.proofs.groups.Groups.add_at.Goals as goal
 
@@ -36,6 +35,11 @@ returns-clause-turns g c =
 
 pub returns-in_err-add-clause-err : goal.returns-in_err-add-clause-err
 returns-in_err-add-clause-err g c =
-    let groups = c.self.inside.groups.items in
     on_err c.from_residual.result _
-    (rw (← c.self.view_is) (ap (λ group. slice_set groups c.args.at group) (c.in_err-add.ensures.err ∙ c.index_mut.ensures.value) ∙ set-get_or groups c.args.at _))
+    (rw (← c.self.view_is) (put_back c.self.inside.groups.items c.args.at _ _ c.in_err-add.ensures.err c.index_mut.ensures.value))
+
+pub index_mut-requires : goal.index_mut-requires
+index_mut-requires g c = let place = rw (← c.self.view_is) at c.requires.place in rw c.self.inside.groups.ok.0 place.0
+
+pub invariant_of-self : goal.invariant_of-self
+invariant_of-self g c = subst AreGroups (sym (put_back c.self.inside.groups.items c.args.at _ _ c.in_err-add.ensures.err c.index_mut.ensures.value)) c.self.invariant

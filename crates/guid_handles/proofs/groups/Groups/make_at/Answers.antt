@@ -1,6 +1,7 @@
-use Rattle.std.proofs.Common.{ap, ◌∙◌}
+use Rattle.std.proofs.Common.{ap, refl, ◌∙◌}
 use Rattle.guid_handles.specs.Indexes.{Group, with_turn}
 use Rattle.guid_handles.proofs.Grouped.{groups_insert, key_insert, turns_insert}
+use Rattle.guid_handles.proofs.SlidRows.{on_err}
 use Rattle.guid_handles.proofs.groups.Groups.make_at.Goals as goal
 
 pub invariant_of-self-2 : goal.invariant_of-self-2
@@ -22,3 +23,15 @@ returns-clause-turns g c =
     let turns = rw c.new-group.ensures at c.in_ok-add.ensures.turns in
     rw (← c.self.view_is, c.in_ok-insert.ensures.items)
     (turns_insert _ _ c.args.guid _ (with_turn c.args.handle c.args.stamp) own (rw (← c.self.view_is) at c.requires.none) turns)
+
+pub insert-requires : goal.insert-requires
+insert-requires g c = let bound = rw (← c.self.view_is) at c.requires.bound in rw c.self.inside.groups.ok.0 bound
+
+pub invariant_of-self : goal.invariant_of-self
+invariant_of-self g c = rw c.in_err-insert.ensures.items c.self.invariant
+
+pub returns-in_err-add-clause-err : goal.returns-in_err-add-clause-err
+returns-in_err-add-clause-err g c = on_err c.from_residual.result _ refl
+
+pub returns-in_err-insert-clause-err : goal.returns-in_err-insert-clause-err
+returns-in_err-insert-clause-err g c = on_err c.from_residual-in_err-insert.result _ (rw (← c.self.view_is) c.in_err-insert.ensures.items)

@@ -30,3 +30,6 @@ returns-clause-turns g c =
     rw (← c.self.view_is)
     (turns_set _ c.args.guid _ _ _ (λ ts. with_turn c.args.handle c.args.stamp (without_turn c.args.own ts)) place (got _ _ _ place.0 c.index_mut.ensures.value)
     (ap (λ (x : Group). x.guid) c.move_last.ensures) (ap (λ (x : Group). x.turns) c.move_last.ensures))
+
+pub index_mut-requires : goal.index_mut-requires
+index_mut-requires g c = let place = rw (← c.self.view_is) at c.requires.place in rw c.self.inside.groups.ok.0 place.0

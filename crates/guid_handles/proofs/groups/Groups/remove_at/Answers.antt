@@ -41,3 +41,12 @@ returns-else-is_bare-clause-turns g c =
     let place = rw (← c.self.view_is) at c.requires in
     rw (← c.self.view_is)
     (turns_set _ c.args.guid _ _ _ (without_turn c.args.stamp) place (got _ _ _ place.0 c.index_mut.ensures.value) c.remove.ensures.guid c.remove.ensures.turns)
+
+pub index_mut-requires : goal.index_mut-requires
+index_mut-requires g c = let place = rw (← c.self.view_is) at c.requires in rw c.self.inside.groups.ok.0 place.0
+
+pub index-requires : goal.index-requires
+index-requires g c = let place = rw (← c.self.view_is) at c.requires in rw c.self.inside.groups.ok.0 place.0
+
+pub remove-requires-then-is_bare : goal.remove-requires-then-is_bare
+remove-requires-then-is_bare g c = let place = rw (← c.self.view_is) at c.requires in rw c.self.inside.groups.ok.0 place.0

@@ -1,5 +1,6 @@
 use Rattle.std.proofs.Common.{refl}
 use Rattle.guid_handles.proofs.Beside.{beside_insert, insert_beside, insert_held}
+use Rattle.guid_handles.proofs.SlidRows.{on_err}
 use Rattle.guid_handles.proofs.guid_group.GuidGroup.add.Goals as goal
 
 pub invariant_of-self-2 : goal.invariant_of-self-2
@@ -14,3 +15,45 @@ pub returns-clause-ok : goal.returns-clause-ok
 returns-clause-ok g c = λ n.
     rw (← c.self.view_is, c.insert-2.ensures, c.insert.ensures, c.reserve.ensures.items, c.reserve-2.ensures.items, c.in_ok-short.ensures)
     (beside_insert _ _ _ c.args.handle c.args.key n c.self.invariant.even (rw (← c.self.view_is) at c.requires.absent))
+
+pub insert-requires-clause-place : goal.insert-requires-clause-place
+insert-requires-clause-place g c = rw (c.reserve-2.ensures.items, ← c.as_slice.ensures.value) c.count_less_than_new-at.ensures.bound
+
+pub insert-requires-clause-room : goal.insert-requires-clause-room
+insert-requires-clause-room g c = c.in_ok-reserve-2.ensures.room
+
+pub insert-requires-2-clause-place : goal.insert-requires-2-clause-place
+insert-requires-2-clause-place g c = rw (c.reserve.ensures.items, ← c.self.invariant.even, ← c.as_slice.ensures.value) c.count_less_than_new-at.ensures.bound
+
+pub insert-requires-2-clause-room : goal.insert-requires-2-clause-room
+insert-requires-2-clause-room g c = c.in_ok-reserve.ensures.room
+
+pub push-requires : goal.push-requires
+push-requires g c = rw (← c.self.view_is) at c.requires.last
+
+pub invariant_of-self : goal.invariant_of-self
+invariant_of-self g c = rw c.reserve.ensures.items c.self.invariant
+
+pub invariant_of-self-in_err-reserve-2 : goal.invariant_of-self-in_err-reserve-2
+invariant_of-self-in_err-reserve-2 g c = rw (c.reserve.ensures.items, c.reserve-2.ensures.items) c.self.invariant
+
+pub invariant_of-self-in_err-push : goal.invariant_of-self-in_err-push
+invariant_of-self-in_err-push g c = rw (c.reserve.ensures.items, c.reserve-2.ensures.items) c.self.invariant
+
+pub returns-in_err-short-clause-err : goal.returns-in_err-short-clause-err
+returns-in_err-short-clause-err g c = on_err c.from_residual.result _ refl
+
+pub returns-in_err-reserve-clause-err : goal.returns-in_err-reserve-clause-err
+returns-in_err-reserve-clause-err g c = on_err c.from_residual-in_err-reserve.result _ (rw (← c.self.view_is, c.reserve.ensures.items) refl)
+
+pub returns-in_err-reserve-2-clause-err : goal.returns-in_err-reserve-2-clause-err
+returns-in_err-reserve-2-clause-err g c = on_err c.from_residual-in_err-reserve-2.result _ (rw (← c.self.view_is, c.reserve.ensures.items, c.reserve-2.ensures.items) refl)
+
+pub returns-in_err-push-clause-err : goal.returns-in_err-push-clause-err
+returns-in_err-push-clause-err g c = on_err c.from_residual-in_err-push.result _ (rw (← c.self.view_is, c.reserve.ensures.items, c.reserve-2.ensures.items, c.in_err-push.ensures.err) refl)
+
+pub returns-clause-guid : goal.returns-clause-guid
+returns-clause-guid g c = rw (← c.self.view_is) refl
+
+pub returns-clause-turns : goal.returns-clause-turns
+returns-clause-turns g c = rw (← c.self.view_is) c.in_ok-push.ensures.ok

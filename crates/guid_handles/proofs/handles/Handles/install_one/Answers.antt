@@ -1,7 +1,8 @@
-use Rattle.std.proofs.Common.{ap, sym, ◌∙◌}
+use Rattle.std.proofs.Common.{ap, refl, sym, ◌∙◌}
 use Rattle.slab.specs.Slab.{Slab}
 use Rattle.guid_handles.specs.declared.records.Record.{Record}
-use Rattle.guid_handles.proofs.Stored.{live_row, stored_more, turned_below, unkeyed}
+use Rattle.guid_handles.proofs.Stored.{live_row, stored_more, stored_same, turned_below, unkeyed}
+use Rattle.guid_handles.proofs.SlidRows.{on_err}
 use Rattle.guid_handles.proofs.handles.Handles.install_one.Goals as goal
 
 pub file_key-requires-clause-live : goal.file_key-requires-clause-live
@@ -32,3 +33,20 @@ returns-clause-ok g c =
 
 pub returns-clause-below : goal.returns-clause-below
 returns-clause-below g c = rw (← c.self.view_is) c.self.invariant.table.below
+
+pub insert_reserved-requires : goal.insert_reserved-requires
+insert_reserved-requires g c = c.in_ok-make_slot.ensures.room
+
+pub invariant_of-self : goal.invariant_of-self
+invariant_of-self g c = let same = ap (λ (s : Slab Record). s.slots) c.make_slot.ensures.rest_kept in rw same c.self.invariant
+
+pub returns-in_err-make_slot-clause-err : goal.returns-in_err-make_slot-clause-err
+returns-in_err-make_slot-clause-err g c = let same = ap (λ (s : Slab Record). s.slots) c.make_slot.ensures.rest_kept in on_err c.from_residual.result _ (rw (← c.self.view_is, same) refl)
+
+pub returns-in_err-file_key-clause-err : goal.returns-in_err-file_key-clause-err
+returns-in_err-file_key-clause-err g c = let same = ap (λ (s : Slab Record). s.slots) c.make_slot.ensures.rest_kept in on_err c.from_residual-in_err-file_key.result _ (rw (← c.self.view_is, same, c.in_err-file_key.ensures.rows_stay) refl)
+
+pub invariant_of-self-in_err-file_key : goal.invariant_of-self-in_err-file_key
+invariant_of-self-in_err-file_key g c =
+    let same = ap (λ (s : Slab Record). s.slots) c.make_slot.ensures.rest_kept in
+    rw (c.in_err-file_key.ensures.rows_stay, same) (stored_same _ _ _ _ _ c.self.invariant c.file_key.new.groups c.in_err-file_key.ensures.groups_stay c.in_err-file_key.ensures.turns_stay)

@@ -12,3 +12,11 @@ returns-in-Some g c =
 
 pub returns-in-None : goal.returns-in-None
 returns-in-None g c = rw (← c.self.view_is) (no_keys_on _ c.args.number (rw c.as_slice.ensures.value at c.in-None.ensures.none))
+
+pub place_of-requires : goal.place_of-requires
+place_of-requires g c = rw c.as_slice.ensures.value c.self.invariant.rows.filed
+
+pub index-requires : goal.index-requires
+index-requires g c =
+    let there = rw c.as_slice.ensures.value at c.in-Some.ensures.there in
+    rw c.self.inside.rows.ok.0 (filed_there c.args.number c.self.inside.rows.items c.in-Some.at there)

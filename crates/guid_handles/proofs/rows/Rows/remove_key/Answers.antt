@@ -23,3 +23,11 @@ returns-in-Some g c =
 pub returns-in_default : goal.returns-in_default
 returns-in_default g c =
     rw (← c.self.view_is) (changes_none _ c.args.number (filter (λ k. not (k == c.args.key))) refl (rw c.as_slice.ensures.value at c.in_default.ensures.none))
+
+pub place_of-requires : goal.place_of-requires
+place_of-requires g c = rw c.as_slice.ensures.value c.self.invariant.rows.filed
+
+pub index_mut-requires : goal.index_mut-requires
+index_mut-requires g c =
+    let there = rw c.as_slice.ensures.value at c.in-Some.ensures.there in
+    rw c.self.inside.rows.ok.0 (filed_there c.args.number c.self.inside.rows.items c.in-Some.at there)
