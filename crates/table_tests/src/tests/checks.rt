@@ -1,133 +1,165 @@
 //! Which certificates are accepted.
 use page_ranges::{Descriptor, MemoryType};
 use placement_certificate::{Bound, Certificate, Request, check};
-use std::alloc::AllocError;
+use std::process::Abort;
 
 const LIMIT: u64 = 0x10_0000_0000_0000;
 
-fn bound(first: u64, pages: u64, count: u64, top: u64) -> Bound {
-    Bound {
-        first,
-        pages,
-        least: Some((count, top)),
+const RUNTIME: u64 = 0x8000_0000_0000_000f;
+
+/// An entry of a map: its first page, pages, type and attributes.
+type Entry = (u64, u64, u32, u64);
+
+const LOW: Entry = (0, 160, 7, 0xf);
+
+const MIDDLE: Entry = (256, 768, 7, 0xf);
+
+const DATA: Entry = (1024, 16, 6, RUNTIME);
+
+const HIGH: Entry = (1040, 1008, 7, 0xf);
+
+/// Free memory with a hole, and runtime data in its upper part.
+const MAP_A: [Entry; 4] = [LOW, MIDDLE, DATA, HIGH];
+
+const FIRST: Bound = Bound {
+    first: 0,
+    pages: 160,
+    least: Some((5, 150)),
+};
+
+const SECOND: Bound = Bound {
+    first: 256,
+    pages: 768,
+    least: Some((5, 1014)),
+};
+
+const THIRD: Bound = Bound {
+    first: 1040,
+    pages: 1008,
+    least: Some((5, 2038)),
+};
+
+const LOW_COUNT: Bound = Bound {
+    first: 256,
+    pages: 768,
+    least: Some((4, 1014)),
+};
+
+const LOW_TOP: Bound = Bound {
+    first: 0,
+    pages: 160,
+    least: Some((5, 149)),
+};
+
+const EMPTY: Bound = Bound {
+    first: 1040,
+    pages: 1008,
+    least: None,
+};
+
+const BOUNDS_A: &[Bound] = &[FIRST, SECOND, THIRD];
+
+/// A request's type, pages and limit.
+type Asked = (u32, u64, u64);
+
+const TEN_PAGES: Asked = (4, 10, LIMIT);
+
+fn map_of(rt: &(impl AllocGlobal + Abort), rows: &[Entry]) -> Vec<Descriptor> {
+    let mut map = Vec::new(rt.alloc());
+    for (first, pages, number, attributes) in rows {
+        map.push(Descriptor {
+            mtype: MemoryType::new(*number),
+            first: *first,
+            pages: *pages,
+            attributes: *attributes,
+        })
+        .expect(rt, "memory");
     }
+    map
 }
 
-fn entry(first: u64, pages: u64, number: u32, attributes: u64) -> Descriptor {
-    Descriptor {
-        mtype: MemoryType::new(number),
-        first,
-        pages,
-        attributes,
-    }
-}
-
-// Free memory with a hole, and runtime data in its upper part.
-fn map_a() -> [Descriptor; 4] {
-    [
-        entry(0, 160, 7, 0xf),
-        entry(256, 768, 7, 0xf),
-        entry(1024, 16, 6, 0x8000_0000_0000_000f),
-        entry(1040, 1008, 7, 0xf),
-    ]
-}
-
-fn bounds_a() -> [Bound; 3] {
-    [
-        bound(0, 160, 5, 150),
-        bound(256, 768, 5, 1014),
-        bound(1040, 1008, 5, 2038),
-    ]
-}
-
-fn request(number: u32, pages: u64, limit: u64) -> Request {
-    Request {
-        mtype: MemoryType::new(number),
-        pages,
-        limit,
+/// Asserts whether a certificate of a request is accepted.
+fn assert_judged(
+    rt: &(impl AllocGlobal + Abort),
+    rows: &[Entry],
+    asked: Asked,
+    bounds: &[Bound],
+    answer: u64,
+    is_accepted: bool,
+) {
+    let map = map_of(rt, rows);
+    let request = Request {
+        mtype: MemoryType::new(asked.0),
+        pages: asked.1,
+        limit: asked.2,
         granule: 1,
-    }
-}
-
-#[test]
-fn judges_certificates(rt: HostRuntime) -> Result<(), AllocError> {
-    let [first, second, third] = bounds_a();
-    let low_count = bound(256, 768, 4, 1014);
-    let low_top = bound(0, 160, 5, 149);
-    let empty = Bound {
-        first: 1040,
-        pages: 1008,
-        least: None,
     };
-    let table = [
-        ([first, second, third].to_vec(rt.alloc())?, 2038, true),
-        ([first, second, third].to_vec(rt.alloc())?, 150, false),
-        ([first, second].to_vec(rt.alloc())?, 1014, false),
-        ([first, low_count, third].to_vec(rt.alloc())?, 1014, false),
-        ([low_top, second, third].to_vec(rt.alloc())?, 2038, false),
-        ([first, second, empty].to_vec(rt.alloc())?, 1014, false),
-        ([second, first, third].to_vec(rt.alloc())?, 2038, false),
-        (
-            [first, second, third, third].to_vec(rt.alloc())?,
-            2038,
-            false,
-        ),
-    ];
-    for (bounds, answer, want) in table {
-        let certificate = Certificate { bounds, answer };
-        let accepted = check(&map_a(), &request(4, 10, LIMIT), &certificate);
-        assert_eq!(rt; accepted, want);
-    }
-    Ok(())
-}
-
-#[test]
-fn refuses_lists_that_are_no_map(rt: HostRuntime) -> Result<(), AllocError> {
-    let [low, middle, data, high] = map_a();
-    let runtime = 0x8000_0000_0000_000f;
-    let table = [
-        [entry(0, 100, 7, 0xf), entry(100, 60, 7, 0xf), data, high],
-        [entry(0, 300, 7, 0xf), middle, data, high],
-        [low, middle, data, entry(LIMIT - 1, 2, 7, 0xf)],
-        [low, middle, data, entry(u64::MAX, u64::MAX, 7, 0xf)],
-        [low, middle, data, entry(u64::MAX, 1, 7, 0xf)],
-        [entry(0, 0, 7, 0xf), middle, data, high],
-        [entry(0, 160, 7, runtime), middle, data, high],
-        [entry(0, 160, 16, 0xf), middle, data, high],
-        [middle, low, data, high],
-    ];
     let certificate = Certificate {
-        bounds: bounds_a().to_vec(rt.alloc())?,
-        answer: 2038,
+        bounds: Vec::from_slice(rt.alloc(), bounds).expect(rt, "memory"),
+        answer,
     };
-    for map in &table {
-        assert!(rt; !check(map, &request(4, 10, LIMIT), &certificate));
-    }
-    Ok(())
+    assert!(rt; check(map.as_slice(), &request, &certificate) == is_accepted);
 }
 
+/// Bounds, an answer, and whether these are accepted.
+const JUDGED: &[(&[Bound], u64, bool)] = &[
+    (BOUNDS_A, 2038, true),
+    (BOUNDS_A, 150, false),
+    (&[FIRST, SECOND], 1014, false),
+    (&[FIRST, LOW_COUNT, THIRD], 1014, false),
+    (&[LOW_TOP, SECOND, THIRD], 2038, false),
+    (&[FIRST, SECOND, EMPTY], 1014, false),
+    (&[SECOND, FIRST, THIRD], 2038, false),
+    (&[FIRST, SECOND, THIRD, THIRD], 2038, false),
+];
+
 #[test]
-fn judges_requests(rt: HostRuntime) -> Result<(), AllocError> {
-    let map = [entry(0, 8, 7, 0xf)];
-    let certificate = Certificate {
-        bounds: [bound(0, 8, 2, 4)].to_vec(rt.alloc())?,
-        answer: 4,
-    };
-    let table = [
-        (request(4, 4, 8), true),
-        (request(4, 4, u64::MAX), true),
-        (request(4, 4, 7), false),
-        (request(7, 4, 8), false),
-        (request(4, 0, 8), false),
-        (request(4, u64::MAX, u64::MAX), false),
-    ];
-    for (request, want) in &table {
-        assert_eq!(rt; check(&map, request, &certificate), *want);
+fn judges_certificates(rt: HostRuntime) {
+    for (bounds, answer, is_accepted) in JUDGED {
+        assert_judged(&rt, &MAP_A, TEN_PAGES, bounds, *answer, *is_accepted);
     }
-    let no_bounds = Certificate {
-        bounds: Vec::new(rt.alloc()),
-        answer: 0,
-    };
-    assert!(rt; !check(&[], &request(4, 1, LIMIT), &no_bounds));
-    Ok(())
+}
+
+const NO_MAPS: [[Entry; 4]; 9] = [
+    [(0, 100, 7, 0xf), (100, 60, 7, 0xf), DATA, HIGH],
+    [(0, 300, 7, 0xf), MIDDLE, DATA, HIGH],
+    [LOW, MIDDLE, DATA, (LIMIT - 1, 2, 7, 0xf)],
+    [LOW, MIDDLE, DATA, (u64::MAX, u64::MAX, 7, 0xf)],
+    [LOW, MIDDLE, DATA, (u64::MAX, 1, 7, 0xf)],
+    [(0, 0, 7, 0xf), MIDDLE, DATA, HIGH],
+    [(0, 160, 7, RUNTIME), MIDDLE, DATA, HIGH],
+    [(0, 160, 16, 0xf), MIDDLE, DATA, HIGH],
+    [MIDDLE, LOW, DATA, HIGH],
+];
+
+#[test]
+fn refuses_lists_that_are_no_map(rt: HostRuntime) {
+    for rows in &NO_MAPS {
+        assert_judged(&rt, rows, TEN_PAGES, BOUNDS_A, 2038, false);
+    }
+}
+
+/// What is said of a map of one entry.
+const SMALL: Bound = Bound {
+    first: 0,
+    pages: 8,
+    least: Some((2, 4)),
+};
+
+/// Requests for pages of that map.
+const REQUESTS: [(Asked, bool); 6] = [
+    ((4, 4, 8), true),
+    ((4, 4, u64::MAX), true),
+    ((4, 4, 7), false),
+    ((7, 4, 8), false),
+    ((4, 0, 8), false),
+    ((4, u64::MAX, u64::MAX), false),
+];
+
+#[test]
+fn judges_requests(rt: HostRuntime) {
+    for (asked, is_accepted) in &REQUESTS {
+        assert_judged(&rt, &[(0, 8, 7, 0xf)], *asked, &[SMALL], 4, *is_accepted);
+    }
+    assert_judged(&rt, &[], (4, 1, LIMIT), &[], 0, false);
 }

@@ -4,11 +4,10 @@ ghost use Rattle.page_ranges.specs.Memory.{IsProperMemory};
 ghost use Rattle.page_ranges.specs.Runs.{pages_of, AreRuns};
 
 use super::table_changes::{
-    are_present, assert_lists, change_list, drawn_kind, goes_on, joined, listed, next_draw, run,
+    are_present, assert_table, change_list, drawn_kind, goes_on, listed, next_draw, run,
 };
 use descriptor_table::RunTable;
 use page_ranges::{MemoryType, Owner, PageRange, Run};
-use std::alloc::AllocError;
 use std::process::Abort;
 
 fn wide_machine() -> [Run; 1]
@@ -115,40 +114,23 @@ fn drawn_range(draw: u64) -> PageRange {
 }
 
 // Changes a drawn range of the table and of the list, if all its pages are present.
-fn change_drawn(
-    rt: &impl Abort,
-    table: &mut RunTable,
-    pages: &mut Pages,
-    draw: u64,
-) -> Result<(), AllocError> {
+fn change_drawn(rt: &impl Abort, table: &mut RunTable, pages: &mut Pages, draw: u64) {
     let range = drawn_range(draw);
     let (number, owner) = drawn_kind(draw >> 50);
     if are_present(table, range) {
-        table.retype(range, MemoryType::new(number), owner)?;
+        table
+            .retype(range, MemoryType::new(number), owner)
+            .expect(rt, "memory");
         change_pages(pages, range, number, owner);
         assert_edge(rt, table, pages, range.first);
         assert_edge(rt, table, pages, range.first.saturating_add(range.pages));
     }
-    Ok(())
-}
-
-// Asserts that the runs and the map are those of the list.
-fn assert_whole(
-    rt: &(impl AllocGlobal + Abort),
-    table: &RunTable,
-    list: &[Run],
-) -> Result<(), AllocError> {
-    let runs = joined(rt.alloc(), list, true)?;
-    let entries = joined(rt.alloc(), list, false)?;
-    assert_lists(rt, table, runs.as_slice(), entries.as_slice());
-    assert!(rt; table.len() > 20_000);
-    Ok(())
 }
 
 #[test]
-fn a_million_changes_are_those_of_the_pages(rt: HostRuntime) -> Result<(), AllocError> {
-    let mut table = RunTable::from_runs(rt.alloc(), &wide_machine())?;
-    let list = listed(rt.alloc(), &wide_machine())?;
+fn a_million_changes_are_those_of_the_pages(rt: HostRuntime) {
+    let mut table = RunTable::from_runs(rt.alloc(), &wide_machine()).expect(&rt, "memory");
+    let list = listed(&rt, &wide_machine());
     let mut pages = Pages {
         list,
         runs: 1,
@@ -158,9 +140,9 @@ fn a_million_changes_are_those_of_the_pages(rt: HostRuntime) -> Result<(), Alloc
     for _part in 0..10 {
         for _change in 0..100_000 {
             draw = next_draw(draw);
-            change_drawn(&rt, &mut table, &mut pages, draw)?;
+            change_drawn(&rt, &mut table, &mut pages, draw);
         }
-        assert_whole(&rt, &table, pages.list.as_slice())?;
+        assert_table(&rt, &table, pages.list.as_slice());
+        assert!(rt; table.len() > 20_000);
     }
-    Ok(())
 }

@@ -1,7 +1,6 @@
 //! Records whose bytes were worked out by hand.
 use map_keys::read_descriptors;
 use page_ranges::{Descriptor, MemoryType};
-use std::alloc::AllocError;
 
 /// The records of four entries: free memory with a hole, and runtime data in its upper part.
 const MAP: &[u8] = b"\x07\x00\x00\x00\x00\x00\x00\x00\x00\x00\x00\x00\x00\x00\x00\x00\
@@ -27,16 +26,14 @@ fn entry(first: u64, pages: u64, number: u32, attributes: u64) -> Descriptor {
 }
 
 #[test]
-fn reads_the_map_back(rt: HostRuntime) -> Result<(), AllocError> {
+fn reads_the_map_back(rt: HostRuntime) {
     let want = [
         entry(0, 160, 7, 0xf),
         entry(256, 768, 7, 0xf),
         entry(1024, 16, 6, 0x8000_0000_0000_000f),
         entry(1040, 1008, 7, 0xf),
     ];
-    match read_descriptors(rt.alloc(), MAP)? {
-        Some(entries) => assert_eq!(rt; entries.as_slice(), want.as_slice()),
-        None => panic!(rt; "no records"),
-    }
-    Ok(())
+    let read = read_descriptors(rt.alloc(), MAP).expect(&rt, "memory");
+    let entries = read.expect(&rt, "records");
+    assert!(rt; entries.as_slice() == want.as_slice());
 }

@@ -1,5 +1,5 @@
 //! Generated changes of tables, against a plain list of pages.
-ghost use Rattle.std.specs.Prelude.{◌≡◌, ◌≢◌, ◌↔◌, IsTrue, IfOk};
+ghost use Rattle.std.specs.Prelude.{◌≡◌, ◌≢◌, ◌↔◌, IsTrue};
 ghost use Rattle.page_ranges.specs.declared.ranges.Owner.TheVariants.{Given};
 ghost use Rattle.page_ranges.specs.MemoryTypes.{conventional};
 ghost use Rattle.page_ranges.specs.Memory.{page_at, IsPresent, AllInRange, IsProperMemory};
@@ -7,7 +7,7 @@ ghost use Rattle.page_ranges.specs.Runs.{pages_of, AreRuns};
 
 use descriptor_table::RunTable;
 use page_ranges::{Descriptor, MemoryType, Owner, PageCursor, PageRange, Run};
-use std::alloc::{AllocError, Allocator, Global};
+use std::alloc::{AllocError, Allocator};
 use std::process::Abort;
 
 /// Page numbers that are asked about are below this.
@@ -41,15 +41,15 @@ pub fn run(first: u64, pages: u64, number: u32, attributes: u64) -> Run
 }
 
 // The plain list: a run of one page for each page that is present.
-pub fn listed(alloc: Global, runs: &[Run]) -> Result<Vec<Run>, AllocError> {
-    let mut list = Vec::new(alloc);
+pub fn listed(rt: &(impl AllocGlobal + Abort), runs: &[Run]) -> Vec<Run> {
+    let mut list = Vec::new(rt.alloc());
     for run in runs {
         for first in run.range.first..run.range.first.saturating_add(run.range.pages) {
             let range = PageRange { first, pages: 1 };
-            list.push(Run { range, ..*run })?;
+            list.push(Run { range, ..*run }).expect(rt, "memory");
         }
     }
-    Ok(list)
+    list
 }
 
 fn is_in(range: PageRange, page: u64) -> bool {
@@ -91,21 +91,17 @@ pub fn goes_on(run: &Run, page: &Run, is_split_by_owner: bool) -> bool {
 }
 
 // The runs of the list, by joining each page to those before it.
-pub fn joined(
-    alloc: Global,
-    list: &[Run],
-    is_split_by_owner: bool,
-) -> Result<Vec<Run>, AllocError> {
-    let mut runs: Vec<Run> = Vec::new(alloc);
+pub fn joined(rt: &(impl AllocGlobal + Abort), list: &[Run], is_split_by_owner: bool) -> Vec<Run> {
+    let mut runs: Vec<Run> = Vec::new(rt.alloc());
     for page in list {
         match runs.last_mut() {
             Some(last) if goes_on(last, page, is_split_by_owner) => {
                 last.range.pages = last.range.pages.saturating_add(1);
             }
-            _ => runs.push(*page)?,
+            _ => runs.push(*page).expect(rt, "memory"),
         }
     }
-    Ok(runs)
+    runs
 }
 
 // The run that holds a page.
@@ -126,6 +122,14 @@ fn kind_at(list: &[Run], number: u64) -> (bool, bool) {
         }
     }
     (false, false)
+}
+
+// The entry that holds a page.
+fn block_at(entries: &[Run], page: u64) -> Option<Descriptor> {
+    match holding(entries, page) {
+        Some(entry) => Some(entry_of(&entry)),
+        None => None,
+    }
 }
 
 fn entry_of(run: &Run) -> Descriptor {
@@ -182,33 +186,30 @@ pub fn drawn_kind(draw: u64) -> (u32, Owner)
 }
 
 // Changes a range of the table and of the list, if all its pages are present.
-fn change(
-    rt: &impl Abort,
-    table: &mut RunTable,
-    list: &mut [Run],
-    draw: u64,
-) -> Result<(), AllocError> {
+fn change(rt: &impl Abort, table: &mut RunTable, list: &mut [Run], draw: u64) {
     let range = PageRange {
         first: draw >> 30 & 31,
         pages: (draw >> 40 & 15) % 11,
     };
     let (number, owner) = drawn_kind(draw >> 50);
     let is_whole = are_present(table, range);
-    assert_eq!(rt; count_in(list, range) == range.pages, is_whole);
+    assert!(rt; (count_in(list, range) == range.pages) == is_whole);
     if is_whole {
-        table.retype(range, MemoryType::new(number), owner)?;
+        table
+            .retype(range, MemoryType::new(number), owner)
+            .expect(rt, "memory");
         change_list(list, range, number, owner);
     }
-    Ok(())
 }
 
 // Asserts that the runs that hold pages are those of the list.
 fn assert_pages(rt: &impl Abort, table: &RunTable, runs: &[Run]) {
     let mut below = None;
     for page in 0..PAGES {
-        assert_eq!(rt; table.run_at(page), holding(runs, page), "at {page}");
-        assert_eq!(rt; table.edge(page), (below, holding(runs, page)), "at {page}");
-        below = holding(runs, page);
+        let found = holding(runs, page);
+        assert!(rt; table.run_at(page) == found, "at {page}");
+        assert!(rt; table.edge(page) == (below, found), "edge at {page}");
+        below = found;
     }
 }
 
@@ -217,12 +218,17 @@ fn assert_cursor(rt: &impl Abort, table: &RunTable, runs: &[Run]) {
     let mut cursor = table.cursor();
     for page in 0..PAGES {
         let down = PAGES - 1 - page;
-        assert_eq!(rt; cursor.run_at(page), holding(runs, page), "at {page}");
-        assert_eq!(rt; cursor.run_at(down), holding(runs, down), "down at {down}");
+        assert!(rt; cursor.run_at(page) == holding(runs, page), "at {page}");
+        assert!(rt;
+            cursor.run_at(down) == holding(runs, down),
+            "down at {down}"
+        );
     }
     for page in 0..PAGES {
-        let block = holding(runs, page).map(|run: Run| entry_of(&run));
-        assert_eq!(rt; cursor.block_at(page), block, "block at {page}");
+        assert!(rt;
+            cursor.block_at(page) == block_at(runs, page),
+            "block at {page}"
+        );
     }
 }
 
@@ -264,20 +270,29 @@ pub fn assert_lists<A: Allocator + Copy>(
     runs: &[Run],
     entries: &[Run],
 ) {
-    assert_eq!(rt; table.len(), runs.len());
-    assert_eq!(rt; table.descriptors(), entries.len());
-    for (index, run) in runs.iter().enumerate() {
-        assert_eq!(rt; table.run(index), Some(*run));
+    assert_runs(rt, table, runs);
+    assert_entries(rt, table, entries);
+    assert_free(rt, table, entries);
+}
+
+fn assert_runs<A: Allocator + Copy>(rt: &impl Abort, table: &RunTable<A>, runs: &[Run]) {
+    assert!(rt; table.len() == runs.len());
+    for index in 0..runs.len() {
+        assert!(rt; table.run(index) == Some(runs[index]));
     }
     assert!(rt; table.run(runs.len()).is_none());
+}
+
+fn assert_entries<A: Allocator + Copy>(rt: &impl Abort, table: &RunTable<A>, entries: &[Run]) {
+    assert!(rt; table.descriptors() == entries.len());
     let mut found = table.map_entries();
-    for (index, entry) in entries.iter().enumerate() {
-        assert_eq!(rt; found.next(), Some(entry_of(entry)));
-        assert_eq!(rt; table.descriptor(index), Some(entry_of(entry)));
+    for index in 0..entries.len() {
+        let wanted = Some(entry_of(&entries[index]));
+        assert!(rt; found.next() == wanted);
+        assert!(rt; table.descriptor(index) == wanted);
     }
-    assert_eq!(rt; found.next(), None);
+    assert!(rt; found.next().is_none());
     assert!(rt; table.descriptor(entries.len()).is_none());
-    assert_free(rt, table, entries);
 }
 
 // Asserts what the table returns for ranges that begin at a page.
@@ -286,11 +301,13 @@ fn assert_ranges(rt: &impl Abort, table: &RunTable, list: &[Run], first: u64) {
     let mut are_placed = true;
     for pages in 0..9 {
         let range = PageRange { first, pages };
-        assert_eq!(rt; table.all_conventional(range), are_free, "{range:?}");
-        assert_eq!(rt;
-            table.all_owned(range, Owner::Pages),
-            are_placed,
-            "{range:?}"
+        assert!(rt;
+            table.all_conventional(range) == are_free,
+            "{first} {pages}"
+        );
+        assert!(rt;
+            table.all_owned(range, Owner::Pages) == are_placed,
+            "{first} {pages}"
         );
         let (is_free, is_placed) = kind_at(list, first.saturating_add(pages));
         are_free = are_free && is_free;
@@ -298,35 +315,36 @@ fn assert_ranges(rt: &impl Abort, table: &RunTable, list: &[Run], first: u64) {
     }
 }
 
-fn assert_same(
-    rt: &(impl AllocGlobal + Abort),
-    table: &RunTable,
-    list: &[Run],
-) -> Result<(), AllocError> {
-    let runs = joined(rt.alloc(), list, true)?;
-    let entries = joined(rt.alloc(), list, false)?;
+fn assert_same(rt: &(impl AllocGlobal + Abort), table: &RunTable, list: &[Run]) {
+    let runs = joined(rt, list, true);
+    let entries = joined(rt, list, false);
     assert_pages(rt, table, runs.as_slice());
     assert_cursor(rt, table, runs.as_slice());
     assert_lists(rt, table, runs.as_slice(), entries.as_slice());
     for first in 0..PAGES {
         assert_ranges(rt, table, list, first);
     }
-    Ok(())
+}
+
+// Makes twenty changes of the machine's table, from a draw on, and returns the last draw.
+fn change_small(rt: &(impl AllocGlobal + Abort), first: u64) -> u64 {
+    let mut table = RunTable::from_runs(rt.alloc(), &machine()).expect(rt, "memory");
+    let mut list = listed(rt, &machine());
+    let mut draw = first;
+    for _change in 0..20 {
+        draw = next_draw(draw);
+        change(rt, &mut table, list.as_mut_slice(), draw);
+        assert_same(rt, &table, list.as_slice());
+    }
+    draw
 }
 
 #[test]
-fn changes_are_those_of_the_pages(rt: HostRuntime) -> Result<(), AllocError> {
+fn changes_are_those_of_the_pages(rt: HostRuntime) {
     let mut draw = 1;
     for _table in 0..20 {
-        let mut table = RunTable::from_runs(rt.alloc(), &machine())?;
-        let mut list = listed(rt.alloc(), &machine())?;
-        for _change in 0..20 {
-            draw = next_draw(draw);
-            change(&rt, &mut table, list.as_mut_slice(), draw)?;
-            assert_same(&rt, &table, list.as_slice())?;
-        }
+        draw = change_small(&rt, draw);
     }
-    Ok(())
 }
 
 pub fn large_machine() -> [Run; 1]
@@ -355,10 +373,10 @@ fn assert_page(rt: &impl Abort, table: &RunTable, runs: &[Run], page: u64) {
         holding(runs, page - 1)
     };
     let found = holding(runs, page);
-    assert_eq!(rt; table.edge(page), (below, found), "at {page}");
+    assert!(rt; table.edge(page) == (below, found), "at {page}");
     let mut cursor = table.cursor();
-    assert_eq!(rt; cursor.run_at(page / 2), holding(runs, page / 2));
-    assert_eq!(rt; cursor.run_at(page), found);
+    assert!(rt; cursor.run_at(page / 2) == holding(runs, page / 2));
+    assert!(rt; cursor.run_at(page) == found);
 }
 
 // Asserts how many runs and entries there are, and what the table returns for drawn indices.
@@ -369,7 +387,14 @@ fn assert_indices(rt: &impl Abort, table: &RunTable, runs: &[Run], entries: &[Ru
     for shift in [4, 20, 36] {
         let place = (draw >> shift & 4_095) as usize;
         assert!(rt; table.run(place) == runs.get(place).copied());
-        assert!(rt; table.descriptor(place) == entries.get(place).map(entry_of));
+        assert!(rt; table.descriptor(place) == entry_at(entries, place));
+    }
+}
+
+fn entry_at(entries: &[Run], place: usize) -> Option<Descriptor> {
+    match entries.get(place) {
+        Some(entry) => Some(entry_of(entry)),
+        None => None,
     }
 }
 
@@ -381,9 +406,9 @@ fn assert_changed(
     list: &[Run],
     range: PageRange,
     draw: u64,
-) -> Result<(), AllocError> {
-    let runs = joined(rt.alloc(), list, true)?;
-    let entries = joined(rt.alloc(), list, false)?;
+) {
+    let runs = joined(rt, list, true);
+    let entries = joined(rt, list, false);
     assert_indices(rt, table, runs.as_slice(), entries.as_slice(), draw);
     assert_ranges(rt, table, list, range.first);
     let end = range.first.saturating_add(range.pages);
@@ -392,7 +417,6 @@ fn assert_changed(
     if range.first & 127 == 0 {
         assert_lists(rt, table, runs.as_slice(), entries.as_slice());
     }
-    Ok(())
 }
 
 // Changes a drawn range of the table and of the list, if all its pages are present.
@@ -401,43 +425,41 @@ fn change_drawn(
     table: &mut RunTable,
     list: &mut [Run],
     draw: u64,
-) -> Result<(), AllocError> {
+) {
     let range = drawn_range(draw);
     let (number, owner) = drawn_kind(draw >> 50);
     if are_present(table, range) {
-        table.retype(range, MemoryType::new(number), owner)?;
+        table
+            .retype(range, MemoryType::new(number), owner)
+            .expect(rt, "memory");
         change_list(list, range, number, owner);
-        assert_changed(rt, table, list, range, draw)?;
+        assert_changed(rt, table, list, range, draw);
     }
-    Ok(())
 }
 
 #[test]
-fn changes_of_many_runs_are_those_of_the_pages(rt: HostRuntime) -> Result<(), AllocError> {
+fn changes_of_many_runs_are_those_of_the_pages(rt: HostRuntime) {
     let mut draw = 2;
-    let mut table = RunTable::from_runs(rt.alloc(), &large_machine())?;
-    let mut list = listed(rt.alloc(), &large_machine())?;
-    stripe(&mut table, list.as_mut_slice(), 0, 8_192)?;
+    let mut table = RunTable::from_runs(rt.alloc(), &large_machine()).expect(&rt, "memory");
+    let mut list = listed(&rt, &large_machine());
+    stripe(&rt, &mut table, list.as_mut_slice(), 0, 8_192);
     for _change in 0..20_000 {
         draw = next_draw(draw);
-        change_drawn(&rt, &mut table, list.as_mut_slice(), draw)?;
+        change_drawn(&rt, &mut table, list.as_mut_slice(), draw);
         assert!(rt; table.len() > 3_000);
     }
-    Ok(())
 }
 
 // The table made anew of its runs: its leaves have 32 runs, but for the last ones.
-pub fn made_anew<A: Allocator + Copy>(alloc: A, table: &RunTable) -> Result<RunTable<A>, AllocError>
-    ensures { IfOk result (λ t. t ≡ table.now) }
+pub fn made_anew<A: Allocator + Copy>(rt: &impl Abort, alloc: A, table: &RunTable) -> RunTable<A>
+    ensures { result ≡ table.now }
 {
     let mut runs = Vec::new(alloc);
     for index in 0..table.len() {
-        let Some(run) = table.run(index) else {
-            return Err(AllocError);
-        };
-        runs.push(run)?;
+        let run = table.run(index).expect(rt, "a run");
+        runs.push(run).expect(rt, "memory");
     }
-    RunTable::from_runs(alloc, runs.as_slice())
+    RunTable::from_runs(alloc, runs.as_slice()).expect(rt, "memory")
 }
 
 // Gives a range of the table a type and the owner Pages, if all its pages are present.
@@ -457,77 +479,72 @@ pub fn change_table<A: Allocator + Copy>(
 
 // Does the same to the table and to the list.
 fn change_both(
+    rt: &impl Abort,
     table: &mut RunTable,
     list: &mut [Run],
     range: PageRange,
     number: u32,
-) -> Result<(), AllocError>
+)
     requires { number ≢ conventional }
 {
-    if change_table(table, range, number)? {
+    if change_table(table, range, number).expect(rt, "memory") {
         change_list(list, range, number, Owner::Pages);
     }
-    Ok(())
 }
 
 // Makes each second pair of pages from one page up to another a run of its own.
-pub fn stripe(
-    table: &mut RunTable,
-    list: &mut [Run],
-    first: u64,
-    end: u64,
-) -> Result<(), AllocError> {
+pub fn stripe(rt: &impl Abort, table: &mut RunTable, list: &mut [Run], first: u64, end: u64) {
     for pair in 0..end.saturating_sub(first) / 4 {
         let range = PageRange {
             first: first.saturating_add(pair.saturating_mul(4)),
             pages: 2,
         };
-        change_both(table, list, range, 4)?;
+        change_both(rt, table, list, range, 4);
     }
-    Ok(())
+}
+
+// Asserts that a table is that of a list.
+pub fn assert_table<A: Allocator + Copy>(
+    rt: &(impl AllocGlobal + Abort),
+    table: &RunTable<A>,
+    list: &[Run],
+) {
+    let runs = joined(rt, list, true);
+    let entries = joined(rt, list, false);
+    assert_lists(rt, table, runs.as_slice(), entries.as_slice());
 }
 
 // Asserts the whole lists once a range has changed in a table made anew.
-fn assert_anew(
-    rt: &(impl AllocGlobal + Abort),
-    table: &RunTable,
-    list: &[Run],
-    range: PageRange,
-) -> Result<(), AllocError> {
-    let mut changed = made_anew(rt.alloc(), table)?;
-    let mut pages = Vec::from_slice(rt.alloc(), list)?;
-    change_both(&mut changed, pages.as_mut_slice(), range, 5)?;
-    let runs = joined(rt.alloc(), pages.as_slice(), true)?;
-    let entries = joined(rt.alloc(), pages.as_slice(), false)?;
-    assert_lists(rt, &changed, runs.as_slice(), entries.as_slice());
-    Ok(())
+fn assert_anew(rt: &(impl AllocGlobal + Abort), table: &RunTable, list: &[Run], range: PageRange) {
+    let mut changed = made_anew(rt, rt.alloc(), table);
+    let mut pages = Vec::from_slice(rt.alloc(), list).expect(rt, "memory");
+    change_both(rt, &mut changed, pages.as_mut_slice(), range, 5);
+    assert_table(rt, &changed, pages.as_slice());
 }
 
 // Asserts what a change of few pages, or of an island's, makes of a table at each place below a page.
-fn assert_places(
-    rt: &(impl AllocGlobal + Abort),
-    table: &RunTable,
-    list: &[Run],
-    end: u64,
-) -> Result<(), AllocError> {
+fn assert_places(rt: &(impl AllocGlobal + Abort), table: &RunTable, list: &[Run], end: u64) {
     for first in 0..end {
         for pages in [1, 2, 3, 64] {
-            assert_anew(rt, table, list, PageRange { first, pages })?;
+            assert_anew(rt, table, list, PageRange { first, pages });
         }
     }
-    Ok(())
+}
+
+// Asserts the changes at the borders of leaves of 32 runs that touch, up to a page.
+fn assert_borders(rt: &(impl AllocGlobal + Abort), end: u64) {
+    let mut table = RunTable::from_runs(rt.alloc(), &large_machine()).expect(rt, "memory");
+    let mut list = listed(rt, &large_machine());
+    stripe(rt, &mut table, list.as_mut_slice(), 0, end);
+    assert_places(rt, &table, list.as_slice(), end.saturating_add(3));
 }
 
 // A table of one run, and of leaves of 32 runs that touch.
 #[test]
-fn changes_at_the_borders_of_leaves(rt: HostRuntime) -> Result<(), AllocError> {
+fn changes_at_the_borders_of_leaves(rt: HostRuntime) {
     for end in [0, 64, 132, 192] {
-        let mut table = RunTable::from_runs(rt.alloc(), &large_machine())?;
-        let mut list = listed(rt.alloc(), &large_machine())?;
-        stripe(&mut table, list.as_mut_slice(), 0, end)?;
-        assert_places(&rt, &table, list.as_slice(), end.saturating_add(3))?;
+        assert_borders(&rt, end);
     }
-    Ok(())
 }
 
 // Three islands of free memory, with a hole of a page between any two.
@@ -542,30 +559,35 @@ fn islands() -> [Run; 3]
     ]
 }
 
-// Leaves of 32 runs with holes between them, and one of a single run.
-#[test]
-fn changes_of_leaves_beside_holes(rt: HostRuntime) -> Result<(), AllocError> {
-    let mut table = RunTable::from_runs(rt.alloc(), &islands())?;
-    let mut list = listed(rt.alloc(), &islands())?;
-    for first in [0, 65, 130] {
-        stripe(
-            &mut table,
-            list.as_mut_slice(),
-            first,
-            first.saturating_add(64),
-        )?;
-    }
-    assert_places(&rt, &table, list.as_slice(), 194)?;
+// Gives the middle island's pages from its borders on a type one after the other, and asserts each time what a change of
+// that island makes.
+fn assert_middle(rt: &(impl AllocGlobal + Abort), table: &mut RunTable, list: &mut [Run]) {
     let middle = PageRange {
         first: 65,
         pages: 64,
     };
-    let mut table = made_anew(rt.alloc(), &table)?;
-    change_both(&mut table, list.as_mut_slice(), middle, 4)?;
+    change_both(rt, table, list, middle, 4);
     for first in 62..132 {
-        let range = PageRange { first, pages: 1 };
-        change_both(&mut table, list.as_mut_slice(), range, 6)?;
-        assert_anew(&rt, &table, list.as_slice(), middle)?;
+        change_both(rt, table, list, PageRange { first, pages: 1 }, 6);
+        assert_anew(rt, table, list, middle);
     }
-    Ok(())
+}
+
+// Leaves of 32 runs with holes between them, and one of a single run.
+#[test]
+fn changes_of_leaves_beside_holes(rt: HostRuntime) {
+    let mut table = RunTable::from_runs(rt.alloc(), &islands()).expect(&rt, "memory");
+    let mut list = listed(&rt, &islands());
+    for first in [0, 65, 130] {
+        stripe(
+            &rt,
+            &mut table,
+            list.as_mut_slice(),
+            first,
+            first.saturating_add(64),
+        );
+    }
+    assert_places(&rt, &table, list.as_slice(), 194);
+    let mut anew = made_anew(&rt, rt.alloc(), &table);
+    assert_middle(&rt, &mut anew, list.as_mut_slice());
 }

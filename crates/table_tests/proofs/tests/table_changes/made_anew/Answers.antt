@@ -1,5 +1,5 @@
 use Rattle.std.proofs.Common.{◌≡◌, ℕ, zero, suc, ◌+◌, List, [], ◌∷◌, ◌++◌, take, Some, sym, ap, subst, ◌∙◌, arith}
-use Rattle.std.specs.Prelude.{slice_get, IfOk}
+use Rattle.std.specs.Prelude.{slice_get}
 use Rattle.std.proofs.lemmas.List.{take_all}
 use Rattle.page_ranges.specs.declared.ranges.Run.{Run}
 use Rattle.page_ranges.specs.Memory.{IsProperMemory}
@@ -17,9 +17,10 @@ pub loop-index-preserved : goal.loop-index-preserved
 loop-index-preserved g c =
     let all = runs_of c.args.table.now in
     let i = c.loop-index.index in
-    let r = c.in-Some.run' in
+    let r = c.expect-run.result in
     let next : suc i ≡ i + 1 = omega arith in
-    c.in_ok-push.ensures.items ∙ ap (λ rs. rs ++ r ∷ []) c.loop-index.invariant ∙ sym (taken_next all i r (sym c.run.ensures ∙ c.in-Some.is)) ∙ ap (λ k. take k all) next
+    let items = rw c.expect.ensures at c.push.ensures.items in
+    items ∙ ap (λ rs. rs ++ r ∷ []) c.loop-index.invariant ∙ sym (taken_next all i r (sym c.run.ensures ∙ c.expect-run.ensures)) ∙ ap (λ k. take k all) next
 
 pub from_runs-requires-clause-runs : goal.from_runs-requires-clause-runs
 from_runs-requires-clause-runs g c =
@@ -38,4 +39,5 @@ returns g c =
     let m = c.args.table.now in
     let all = c.loop-index.invariant ∙ take_all c.loop-index.index (runs_of m) (omega (arith, c.len-index-end.ensures.len)) in
     let same = ap pages_of (c.as_slice.ensures.value ∙ all) ∙ pages_of-runs_of m in
-    subst (λ x. IfOk c.from_runs.result (λ t. t ≡ x)) same c.from_runs.ensures
+    let made = rw c.expect-2.ensures at c.from_runs.ensures in
+    made ∙ same
