@@ -1,7 +1,4 @@
 use Rattle.guid_handles.proofs.guids.first_word.Goals as goal
 
-pub returns-clause-long : goal.returns-clause-long
-returns-clause-long c = c.told-b
-
 pub returns-clause-bytes : goal.returns-clause-bytes
 returns-clause-bytes c = c.fits-b
