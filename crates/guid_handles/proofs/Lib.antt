@@ -2,6 +2,7 @@ pub mod SortedLists
 pub mod Filters
 pub mod Retained
 pub mod GuidOrder
+pub mod GuidWords
 pub mod Indexed
 pub mod Grouped
 pub mod Beside

@@ -1,5 +1,5 @@
 //! The open items of all interfaces.
-ghost use Rattle.std.specs.Prelude.{◌≡◌, ◌-◌, ◌<◌, ◌^◌, ◌==◌, true, false, [], length, take, IfOk, IsOk, OnOk, OnErr};
+ghost use Rattle.std.specs.Prelude.{◌≡◌, ◌<◌, ◌^◌, ◌==◌, true, false, [], length, take, IfOk, IsOk, OnOk, OnErr};
 ghost use Rattle.std.specs.List.{AllByRecursion, filter, list_any};
 ghost use Rattle.guid_handles.specs.HandleTables.{carries, is_live};
 ghost use Rattle.guid_handles.specs.HandleChanges.{is_dead as dead};
@@ -17,9 +17,8 @@ use crate::items::{Decision, OpenItem, OpenRecord, Usage, is_open_on, item_of, m
 use crate::managers;
 use crate::near::{Near, item_at};
 use crate::questions::{
-    find_closed, find_equal, find_last, find_last_naming, find_last_of_pair, find_naming,
-    find_of_pair, find_open_on, first_driver_item, has_equal, has_exclusive, has_of_agent, is_held,
-    usage_near,
+    find_closed, find_equal, find_last_naming, find_last_of_pair, find_naming, find_of_pair,
+    find_open_on, first_driver_item, has_equal, has_exclusive, has_of_agent, is_held, usage_near,
 };
 use crate::store::{ItemStore, count_items};
 use guid_handles::Handles;
@@ -266,22 +265,11 @@ impl<A: Allocator + Copy> Opens<A> {
         }
     }
 
-    /// Removes the item that was made last, if there is one.
-    fn drop_last(&mut self)
-        ensures { self.new ≡ take (length self.old - 1) self.old }
-    {
-        if let Some(place) = find_last(self.items.slots()) {
-            self.items.remove(place);
-        }
-    }
-
     /// Removes the items that were made last, and leaves a number of those made first. This takes no memory.
     pub fn truncate(&mut self, count: usize)
         ensures { self.new ≡ take count self.old }
     {
-        while self.len() > count {
-            self.drop_last();
-        }
+        self.items.truncate(count);
     }
 
     /// Counts an equal item once more, or makes a new one where there is none and the agent is not

@@ -1,5 +1,5 @@
 //! What is asked of open items.
-ghost use Rattle.std.specs.Prelude.{◌≡◌, ◌+◌, ◌==◌, ◌&&◌, ◌||◌, [], true, false, drop, is_some, IfSome, IfNone};
+ghost use Rattle.std.specs.Prelude.{◌≡◌, ◌+◌, ◌≤◌, ◌==◌, ◌&&◌, ◌||◌, [], true, false, drop, length, is_some, IfSome, IfNone};
 ghost use Rattle.std.specs.List.{list_any};
 ghost use Rattle.open_agents.specs.OpenItems as spec;
 ghost use Rattle.open_agents.specs.OpenItems.{is_closed_by, is_equal_item, is_of_pair};
@@ -327,13 +327,15 @@ pub(crate) fn find_last_naming(slots: &[Option<OpenRecord>], handle: u64) -> Opt
     None
 }
 
-/// The place of the last item.
-pub(crate) fn find_last(slots: &[Option<OpenRecord>]) -> Option<usize>
+/// The place of the last item, where none is at a place from `end` on.
+pub(crate) fn find_last(slots: &[Option<OpenRecord>], end: usize) -> Option<usize>
+    requires bound { end ≤ length slots.now }
+    requires behind { items_in (drop end slots.now) ≡ [] }
     ensures there { IfSome result (λ k. is_some (there slots.now k) ≡ true) }
     ensures last { IfSome result (λ k. items_in (drop (k + 1) slots.now) ≡ []) }
     ensures none { IfNone result (items_in slots.now ≡ []) }
 {
-    for place in (0..slots.len()).rev() {
+    for place in (0..end).rev() {
         if slots[place].is_some() {
             return Some(place);
         }

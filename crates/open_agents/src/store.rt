@@ -1,5 +1,5 @@
 //! The open items at their places, and where those on each handle and of each controller are.
-ghost use Rattle.std.specs.Prelude.{◌≡◌, ◌<◌, ◌/◌, ◌^◌, ◌==◌, ◌++◌, ◌∷◌, [], None, true, false, length, map, is_some, slice_set, vec_len, vec_capacity, IfOk, OnOk, OnErr};
+ghost use Rattle.std.specs.Prelude.{◌≡◌, ◌-◌, ◌<◌, ◌≤◌, ◌/◌, ◌^◌, ◌==◌, ◌++◌, ◌∷◌, [], None, true, false, drop, length, map, take, is_some, slice_set, vec_len, vec_capacity, IfOk, OnOk, OnErr};
 ghost use Rattle.std.specs.List.{filter, list_any, AllByRecursion};
 ghost use Rattle.open_agents.specs.OpenItems as spec;
 ghost use Rattle.open_agents.specs.OpenItems.{CanCount, is_equal_item, with_count};
@@ -8,6 +8,7 @@ ghost use Rattle.open_agents.specs.Blocks.{HoldsAt, Notes, are_equal, block_size
 
 use crate::items::OpenRecord;
 use crate::near::Near;
+use crate::questions::find_last;
 use guid_handles::Blocks;
 use std::alloc::{AllocError, Allocator};
 use std::marker::Model;
@@ -138,6 +139,37 @@ impl<A: Allocator + Copy> ItemStore<A> {
             self.slots[place] = None;
             self.blocks
                 .remove_from_both(block_of(item.handle), second_block(&item), place);
+        }
+    }
+
+    /// Removes the last item, if there is one, where none is at a place from `end` on. Returns a place from
+    /// which on none is then.
+    fn drop_last(&mut self, end: usize) -> usize
+        requires bound { end ≤ length self.old }
+        requires behind { items_in (drop end self.old) ≡ [] }
+        ensures items { items_in self.new
+            ≡ take (length (items_in self.old) - 1) (items_in self.old) }
+        ensures bound { result ≤ length self.new }
+        ensures behind { items_in (drop result self.new) ≡ [] }
+    {
+        match find_last(self.slots.as_slice(), end) {
+            Some(place) => {
+                self.remove(place);
+                place
+            }
+            None => 0,
+        }
+    }
+
+    /// Removes the items that were made last, and leaves a number of those made first.
+    pub(crate) fn truncate(&mut self, count: usize)
+        ensures { items_in self.new ≡ take count (items_in self.old) }
+    {
+        let mut left = count_items(self.slots.as_slice());
+        let mut end = self.slots.len();
+        while left > count {
+            end = self.drop_last(end);
+            left -= 1;
         }
     }
 
