@@ -1,4 +1,4 @@
-use Rattle.std.proofs.Common.{inr, rules}
+use Rattle.std.proofs.Common.{inl, inr, refl, sym, ◌∙◌}
 use Rattle.std.specs.Prelude.{string_bytes}
 use Rattle.reply_texts.proofs.CallTexts.{prints_call}
 use Rattle.boot_trace.proofs.runner.make_call.Goals as goal
@@ -14,19 +14,31 @@ pub returns-clause-err : goal.returns-clause-err
 returns-clause-err g c = inr (c.call-reply.result, c.call-reply.ensures.step)
 
 pub returns-then-calls_left-eq0-clause-ok : goal.returns-then-calls_left-eq0-clause-ok
-returns-then-calls_left-eq0-clause-ok g c = search rules
+returns-then-calls_left-eq0-clause-ok g c = tt
 
 pub returns-then-calls_left-eq0-clause-err : goal.returns-then-calls_left-eq0-clause-err
-returns-then-calls_left-eq0-clause-err g c = search rules
+returns-then-calls_left-eq0-clause-err g c = (tt, sym c.calls_left.ensures ∙ c.if-calls_left-eq0.true, refl)
 
 pub returns-in_default-clause-ok : goal.returns-in_default-clause-ok
-returns-in_default-clause-ok g c = search rules
+returns-in_default-clause-ok g c = tt
 
 pub returns-in_default-clause-err : goal.returns-in_default-clause-err
-returns-in_default-clause-err g c = search rules
+returns-in_default-clause-err g c = inl refl
 
 pub returns-in-Ok-print_call-clause-err : goal.returns-in-Ok-print_call-clause-err
-returns-in-Ok-print_call-clause-err g c = search rules
+returns-in-Ok-print_call-clause-err g c = tt
 
 pub returns-clause-ok : goal.returns-clause-ok
-returns-clause-ok g c = search rules
+returns-clause-ok g c = tt
+
+pub returns-then-calls_left-eq0-clause-drivers : goal.returns-then-calls_left-eq0-clause-drivers
+returns-then-calls_left-eq0-clause-drivers g c = refl
+
+pub returns-in_default-clause-drivers : goal.returns-in_default-clause-drivers
+returns-in_default-clause-drivers g c = refl
+
+pub returns-in-Ok-print_call-clause-drivers : goal.returns-in-Ok-print_call-clause-drivers
+returns-in-Ok-print_call-clause-drivers g c = c.call-reply.ensures.drivers
+
+pub returns-clause-drivers : goal.returns-clause-drivers
+returns-clause-drivers g c = c.call-reply.ensures.drivers
