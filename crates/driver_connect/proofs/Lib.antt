@@ -28,3 +28,4 @@ pub mod DriverLists
 pub mod TurnSteps
 pub mod StopsInOrder
 pub mod GoingOn
+pub mod Restamped

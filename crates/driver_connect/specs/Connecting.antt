@@ -1,5 +1,5 @@
 -- Connecting a handle, and the handles that are made.
-use Rattle.std.specs.Prelude.{◌≡◌, ℕ, zero, suc, ◌||◌, nat_lt, Bool, true, false, not, cond, List, [], ◌∷◌, length, Result, Ok, Err}
+use Rattle.std.specs.Prelude.{◌≡◌, ℕ, zero, suc, ◌||◌, nat_lt, Bool, true, false, not, cond, List, [], ◌∷◌, ◌++◌, length, Result, Ok, Err}
 use Rattle.std.specs.declared.vec.Vec.{Vec}
 use Rattle.std.specs.List.{filter}
 use Rattle.std.specs.Result.{result_map_both}
@@ -74,3 +74,12 @@ abbrev pub ConnectsBy : {D A : Type 0} → (D → Meaning) → List D → List R
 ConnectsBy meaning drivers rs handle named recursive t opens result new_t new_opens =
     Connects (site_of meaning drivers rs handle) named recursive t opens
     (result_map_both (λ v. v.items) (λ e. e) result) new_t new_opens
+
+-- A handle and all below it are connected, with no driver named: events that are given come before
+-- those of the connect.
+abbrev pub ConnectsBelow : Site → HandleTable → List OpenRecord → List ℕ → List ℕ → HandleTable
+    → List OpenRecord → Type 0
+ConnectsBelow c t opens given events new_t new_opens =
+    (new_t ≡ (connected (levels_below true) c [] (first_progress t opens)).handles)
+    × (new_opens ≡ (connected (levels_below true) c [] (first_progress t opens)).opens)
+    × (events ≡ given ++ (connected (levels_below true) c [] (first_progress t opens)).events)

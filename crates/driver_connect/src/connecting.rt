@@ -1,7 +1,7 @@
 //! Connecting a handle, and the handles that are made.
-ghost use Rattle.std.specs.Prelude.{◌≡◌, ◌+◌, ◌<◌, ◌≤◌, ◌^◌, true, false, [], map, IfOk, OnOk};
+ghost use Rattle.std.specs.Prelude.{◌≡◌, ◌+◌, ◌<◌, ◌≤◌, ◌^◌, ◌++◌, true, false, [], map, IfOk, OnOk, OnErr};
 ghost use Rattle.driver_connect.specs.Connecting as spec;
-ghost use Rattle.driver_connect.specs.Connecting.{ConnectsBy};
+ghost use Rattle.driver_connect.specs.Connecting.{ConnectsBelow, ConnectsBy};
 ghost use Rattle.driver_connect.specs.GoingOn.{GoesOn};
 ghost use Rattle.driver_connect.specs.Room.{HasRoom, Grows};
 ghost use Rattle.driver_connect.specs.Starting.{site_of, starts_on, is_any_carried_out as is_any};
@@ -195,27 +195,74 @@ pub fn connect<D: Driver, A: Allocator + Copy>(
     }
 }
 
-/// Connects a handle and all that is made below it, with no driver named, on a copy of the lists that
-/// begins with no events. On an `Err` memory ran out, and the copy is of no use.
-pub fn connect_draft<D: Driver, A: Allocator + Copy>(
+/// Connects a controller and all that is made below it, with no driver named, and appends the events to
+/// others.
+fn connect_all<D: Driver, A: Allocator + Copy>(
     alloc: A,
-    draft: &mut Connecting<A>,
+    connecting: &mut Connecting<A>,
+    drivers: &[D],
+    notify: &Notify<A>,
+    controller: u64,
+    events: &mut Vec<u64, A>,
+) -> Result<(), AllocError>
+    requires { HasRoom connecting.old.handles }
+    ensures progress { OnOk result
+        (connecting.new ≡ spec.connected (spec.levels_below true)
+        (site_of D.meaning drivers.now notify.now controller) [] connecting.old) }
+    ensures events { OnOk result
+        (events.new.items ≡ events.old.items ++ connecting.new.events) }
+    ensures grows { OnOk result (Grows connecting.old.handles connecting.new.handles) }
+    ensures goes_on { GoesOn connecting.old connecting.new }
+{
+    connect_levels(
+        alloc,
+        connecting,
+        drivers,
+        notify,
+        controller,
+        &[],
+        LEVELS_BELOW,
+    )?;
+    events.extend_from_slice(connecting.events.as_slice())?;
+    Ok(())
+}
+
+/// Connects a handle and all that is made below it, with no driver named. It returns the events given,
+/// then those of the connect. On an `Err` memory ran out, and nothing changes.
+pub(crate) fn connect_below<D: Driver, A: Allocator + Copy>(
+    alloc: A,
+    handles: &mut Handles<A>,
+    opens: &mut Opens<A>,
     notify: &Notify<A>,
     drivers: &[D],
     handle: u64,
-) -> Result<(), AllocError>
-    requires numbers { draft.old.handles.last_number < 2 ^ 61 }
-    requires stamps { draft.old.handles.last_stamp < 2 ^ 61 }
-    ensures progress { OnOk result
-        (draft.new ≡ spec.connected (spec.levels_below true)
-        (site_of D.meaning drivers.now notify.now handle) [] draft.old) }
-    ensures numbers { OnOk result
-        (draft.new.handles.last_number ≤ draft.old.handles.last_number + 4096) }
-    ensures stamps { OnOk result
-        (draft.new.handles.last_stamp ≤ draft.old.handles.last_stamp + 16384) }
+    given: Vec<u64, A>,
+) -> Result<Vec<u64, A>, AllocError>
+    requires numbers { handles.old.last_number < 2 ^ 61 }
+    requires stamps { handles.old.last_stamp < 2 ^ 61 }
+    ensures ok { IfOk result (λ events. ConnectsBelow
+        (site_of D.meaning drivers.now notify.now handle)
+        handles.old opens.old given.items events.items handles.new opens.new) }
+    ensures err { OnErr result ((handles.new ≡ handles.old) × (opens.new ≡ opens.old)) }
+    ensures numbers { handles.new.last_number ≤ handles.old.last_number + 4096 }
+    ensures stamps { handles.new.last_stamp ≤ handles.old.last_stamp + 16384 }
 {
-    connect_levels(alloc, draft, drivers, notify, handle, &[], LEVELS_BELOW)?;
-    // The contract of this look-up says how many handles there are at most.
-    let _numbers = draft.handles.all();
-    Ok(())
+    // The contract of this look-up says that the handles are in order.
+    let _numbers = handles.all();
+    let number = handles.last_number();
+    let stamp = handles.last_stamp();
+    let count = opens.len();
+    let mut events = given;
+    let mut connecting = Connecting::take(alloc, handles, opens);
+    match connect_all(alloc, &mut connecting, drivers, notify, handle, &mut events) {
+        Ok(()) => {
+            let _events = connecting.put_in_place(handles, opens);
+            Ok(events)
+        }
+        Err(error) => {
+            connecting.take_back(number, stamp, count);
+            let _events = connecting.put_in_place(handles, opens);
+            Err(error)
+        }
+    }
 }

@@ -14,6 +14,7 @@ mod pairs;
 mod progress;
 mod protocols;
 mod readiness;
+mod reconnecting;
 mod starting;
 mod stop_order;
 mod stopping;
@@ -21,7 +22,7 @@ mod table;
 mod view;
 
 pub use agents::{Agent, driver_binding};
-pub use connecting::{MAX_NAMED, connect, connect_draft};
+pub use connecting::{MAX_NAMED, connect};
 pub use driver::Driver;
 pub use driver_turns::{DriverTurns, begin_turns};
 pub use laws::{
@@ -30,7 +31,7 @@ pub use laws::{
     turns_law, versions_law,
 };
 pub use readiness::may_start_after;
-pub use starting::Connecting;
+pub use reconnecting::replace_and_connect;
 pub use stop_order::{children_of, managers_to_stop};
 pub use stopping::{StopPlan, disconnect, stop};
 pub use table::TableDriver;

@@ -30,10 +30,10 @@ pub struct Start {
 
 /// How far a connect has come: the handles, the open items, and the events signaled.
 #[derive(Drop)]
-pub struct Connecting<A: Allocator> {
-    pub handles: Handles<A>,
-    pub opens: Opens<A>,
-    pub events: Vec<u64, A>,
+pub(crate) struct Connecting<A: Allocator> {
+    pub(crate) handles: Handles<A>,
+    pub(crate) opens: Opens<A>,
+    pub(crate) events: Vec<u64, A>,
 }
 
 impl<A: Allocator> Model for Connecting<A> {
@@ -52,24 +52,6 @@ pub(crate) struct Pass<A: Allocator> {
 }
 
 impl<A: Allocator + Copy> Connecting<A> {
-    /// Copies of the handles and the open items, to be changed.
-    pub fn begin(
-        alloc: A,
-        handles: &Handles<A>,
-        opens: &Opens<A>,
-    ) -> Result<Connecting<A>, AllocError>
-        ensures { IfOk result
-            (λ c. c ≡ record { handles = handles.now; opens = opens.now; events = [] }) }
-    {
-        let handles = handles.try_copy()?;
-        let opens = opens.try_copy()?;
-        Ok(Connecting {
-            handles,
-            opens,
-            events: Vec::new(alloc),
-        })
-    }
-
     /// The handles and the open items themselves, to be changed. Until they are put in place there are
     /// none. This takes no memory.
     pub(crate) fn take(alloc: A, handles: &mut Handles<A>, opens: &mut Opens<A>) -> Connecting<A>
@@ -96,7 +78,7 @@ impl<A: Allocator + Copy> Connecting<A> {
     }
 
     /// Puts the changed handles and open items into the place of the others, and returns the events.
-    pub fn put_in_place(self, handles: &mut Handles<A>, opens: &mut Opens<A>) -> Vec<u64, A>
+    pub(crate) fn put_in_place(self, handles: &mut Handles<A>, opens: &mut Opens<A>) -> Vec<u64, A>
         ensures handles { handles.new ≡ self.handles }
         ensures opens { opens.new ≡ self.opens }
         ensures events { result.items ≡ self.events }

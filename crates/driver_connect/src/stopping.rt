@@ -247,7 +247,7 @@ impl<A: Allocator + Copy> StopPlan<A> {
     }
 
     /// Whether the stop removes a handle.
-    pub(crate) fn takes_handles(&self) -> bool
+    pub fn takes_handles(&self) -> bool
         ensures { result ≡ false → self.now.handles ≡ [] }
     {
         !self.handles.is_empty()

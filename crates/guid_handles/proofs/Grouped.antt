@@ -15,7 +15,8 @@ use Rattle.std.proofs.lemmas.Option.{same_Some}
 use Rattle.guid_handles.specs.declared.records.Turn.{Turn}
 use Rattle.guid_handles.specs.HandleTables.{same_guid}
 use Rattle.guid_handles.specs.Sorting.{Ascending, place, kept_if}
-use Rattle.guid_handles.specs.Indexes.{Group, AreGroups, is_bare, is_group_of, is_before, AscendByGuid, IsPlaceOf, key_beside, key_in, key_at, turns_in, turns_of, with_turn}
+use Rattle.guid_handles.specs.Indexes.{Group, AreGroups, is_bare, is_group_of, is_before, AscendByGuid, IsPlaceOf, key_beside, key_in, key_at, turns_in, turns_of}
+use Rattle.guid_handles.specs.TurnSteps.{turn_in}
 use Rattle.guid_handles.proofs.SortedLists.{IsSplit, all_insert, all_mapped, all_remove, all_set, set_same, find_none, found_none, find_split, find_insert_other, find_insert_new, ascending_insert, ascending_remove, map_insert, map_remove, place_map}
 use Rattle.guid_handles.proofs.GuidOrder.{same_guid-true, guid_splits, is_less, less_from, greater_of, and_false, and_true}
 
@@ -143,14 +144,16 @@ key_same groups guid at g new p e s c k n = key_set groups guid at g new p e s k
 ]
 
 -- a group with a turn is not bare
-pub turns_held : (n stamp : ℕ) (g : Group) (ts : List Turn) → g.turns ≡ with_turn n stamp ts → is_bare g ≡ false
+pub turns_held : (n stamp : ℕ) (g : Group) (ts : List Turn) → g.turns ≡ turn_in n stamp ts → is_bare g ≡ false
 turns_held n stamp g ts e =
-    let some : (length g.turns == 0) ≡ false = rw e (ne_eqb (length (with_turn n stamp ts)) 0 (λ z. omega (arith, z, longer ts))) in
+    let some : (length g.turns == 0) ≡ false = rw e (ne_eqb (length (turn_in n stamp ts)) 0 (λ z. omega (arith, z, longer ts (place (λ t. nat_lt t.stamp stamp) ts)))) in
     rw some (and_false (length g.holders == 0))
   where
-    longer : (us : List Turn) → 0 < length (with_turn n stamp us)
-    longer [] = omega arith
-    longer (u ∷ us) = omega arith
+    longer : (us : List Turn) (at : ℕ) → 0 < length (insert us at (record { stamp = stamp; handle = n }))
+    longer [] zero = omega arith
+    longer [] (suc at) = omega arith
+    longer (u ∷ us) zero = omega arith
+    longer (u ∷ us) (suc at) = omega arith
 
 -- what the group at a place has by stamps
 pub turns_there : (groups : List Group) (guid : List ℕ) (at : ℕ) (g : Group) → IsPlaceOf guid groups at → slice_get groups at ≡ Some g → turns_of groups guid ≡ g.turns

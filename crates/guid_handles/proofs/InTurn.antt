@@ -1,6 +1,6 @@
 -- The interfaces of a GUID by their stamps: in turn, and in step with all interfaces.
-use Rattle.std.proofs.Common.{◌≡◌, ℕ, ◌+◌, ◌<◌, ◌≤◌, ◌==◌, ◌||◌, nat_lt, not, Bool, true, false, List, [], ◌∷◌, ◌++◌, map, Some, is_some, inl, inr, refl, sym, ap, ◌∙◌, arith, append-nil}
-use Rattle.std.specs.List.{filter, find, list_any, slice_get, remove, AllByRecursion}
+use Rattle.std.proofs.Common.{◌≡◌, ℕ, zero, suc, ◌+◌, ◌<◌, ◌≤◌, ◌==◌, ◌||◌, nat_lt, not, Bool, true, false, List, [], ◌∷◌, ◌++◌, map, Some, is_some, inl, inr, refl, sym, ap, ◌∙◌, arith, append-nil}
+use Rattle.std.specs.List.{filter, find, list_any, slice_get, insert, remove, AllByRecursion}
 use Rattle.std.proofs.lemmas.Bool.{cases_Bool, and_parts, eq-eqb, ne_eqb, ltb-true, lt-ltb}
 use Rattle.std.proofs.lemmas.Bool.Decides.{eqb_tells}
 use Rattle.std.proofs.lemmas.Option.{same_Some}
@@ -10,12 +10,14 @@ use Rattle.guid_handles.specs.HandleTables.{same_guid, is_of, is_at}
 use Rattle.guid_handles.specs.HandleChanges.{restamped}
 use Rattle.guid_handles.specs.Sorting.{Ascending, place, kept_if}
 use Rattle.guid_handles.specs.Indexes.{Group, AreInTurn, ChangesTurns, HaveSameTurns, is_turn, turns_of, with_turn, without_turn}
+use Rattle.guid_handles.specs.TableSteps.{IsAlone, MayHave}
+use Rattle.guid_handles.specs.TurnSteps.{moved_turn, turn_in}
 use Rattle.guid_handles.specs.Stores.{AreApart, HaveTurns, has_turn}
-use Rattle.guid_handles.proofs.SortedLists.{Falls, all_map, all_mapped, all_numbered, all_of, all_remove, any_found, ascending_push, ascending_remove, filter_at, filter_not_at, filter_whole, find_split, map_append, map_remove, numbers_split}
+use Rattle.guid_handles.proofs.SortedLists.{Falls, all_map, all_both, all_filtered, all_mapped, all_numbered, all_of, any_found, ascending_insert, ascending_push, ascending_remove, filter_at, filter_not_at, filter_whole, find_split, map_append, map_insert, map_remove, numbers_split, place_map}
 use Rattle.guid_handles.proofs.Filters.{filter_append}
 use Rattle.guid_handles.proofs.GuidOrder.{and_false, and_true, same_guid-true}
 use Rattle.guid_handles.proofs.Indexed.{at_handle, at_guid, turned}
-use Rattle.guid_handles.proofs.Grouped.{is_same}
+use Rattle.guid_handles.proofs.Grouped.{above, is_same}
 use Rattle.guid_handles.proofs.Filed.{at_other}
 
 -- ---- in turn
@@ -48,8 +50,13 @@ in_turn_push n stamp ts a last =
 pub in_turn_remove : (ts : List Turn) (at : ℕ) → AreInTurn ts → AreInTurn (remove ts at)
 in_turn_remove ts at a = rw (map_remove (λ (t : Turn). t.stamp) ts at) (ascending_remove (λ a b. a < b) (map (λ t. t.stamp) ts) at a)
 
-pub in_turn_moved : (n stamp at : ℕ) (ts : List Turn) → AreInTurn ts → AllByRecursion (λ t. t.stamp < stamp) ts → AreInTurn (with_turn n stamp (remove ts at))
-in_turn_moved n stamp at ts a last = in_turn_push n stamp (remove ts at) (in_turn_remove ts at a) (all_remove (λ t. t.stamp < stamp) ts at last)
+pub in_turn_insert : (n stamp : ℕ) (ts : List Turn) → AreInTurn ts → AllByRecursion (λ t. (t.stamp == stamp) ≡ false) ts → AreInTurn (turn_in n stamp ts)
+in_turn_insert n stamp ts a free =
+    rw (map_insert (λ (t : Turn). t.stamp) ts (place (λ t. nat_lt t.stamp stamp) ts) (record { stamp = stamp; handle = n }), sym (place_map (λ (t : Turn). t.stamp) (λ m. nat_lt m stamp) ts))
+    (ascending_insert (λ x y. x < y) (λ x y z l m. omega (arith, l, m)) (λ m. nat_lt m stamp) (map (λ t. t.stamp) ts) stamp
+    (all_mapped (λ m. (nat_lt m stamp ≡ true → m < stamp) × (nat_lt m stamp ≡ false → stamp < m)) (λ t. (t.stamp == stamp) ≡ false) (λ (t : Turn). t.stamp)
+    (λ t f. (λ e. ltb-true t.stamp stamp e, λ l. above t.stamp stamp f l)) ts free)
+    a)
 
 pub turn_gone : (stamp : ℕ) (ts : List Turn) (at : ℕ) → AreInTurn ts → at ≡ place (λ t. nat_lt t.stamp stamp) ts → is_some (kept_if (λ t. t.stamp == stamp) (slice_get ts at)) ≡ true
     → remove ts at ≡ without_turn stamp ts
@@ -123,6 +130,15 @@ any_outside p q (x ∷ xs) h = elim (cases_Bool (q x)) [
   | inr e ↦ rw e (any_outside p q xs h.1)
 ]
 
+any_insert : {X : Type 0} (p : X → Bool) (xs : List X) (at : ℕ) (y : X) → list_any p (insert xs at y) ≡ (list_any p xs || p y)
+any_insert p [] zero y = or_false (p y)
+any_insert p [] (suc at) y = or_false (p y)
+any_insert p (x ∷ xs) zero y = or_turned (p y) (p x || list_any p xs)
+any_insert p (x ∷ xs) (suc at) y = elim (cases_Bool (p x)) [
+  | inl t ↦ rw t refl
+  | inr f ↦ rw f (any_insert p xs at y)
+]
+
 -- what is found, and passes another test
 pub found_any : {X : Type 0} (p q : X → Bool) (xs : List X) (x : X) → find p xs ≡ Some x → q x ≡ true → list_any q xs ≡ true
 found_any p q [] x e t = cc
@@ -178,6 +194,22 @@ turns_below is groups last h below guid =
     let i = any_one (λ i. i.stamp ≤ last) (has_turn guid t.handle t.stamp) is below (sym (h guid t.handle t.stamp) ∙ k) in
     let s : i.0.stamp ≡ t.stamp = is_same i.0.stamp t.stamp (and_parts (is_at t.handle guid i.0) (i.0.stamp == t.stamp) i.1).1 in
     omega (arith, i.3, s)) (turns_of groups guid) (own_turns (turns_of groups guid))
+
+-- the turns of a GUID but that of an interface have other stamps than that may have
+pub turns_free : (is : List Interface) (groups : List Group) (n : ℕ) (guid : List ℕ) (stamp : ℕ) (x : Interface) → HaveTurns is groups → AllByRecursion (IsAlone n guid x) is → AllByRecursion (MayHave n guid stamp) is
+    → AllByRecursion (λ t. (t.stamp == stamp) ≡ false) (without_turn x.stamp (turns_of groups guid))
+turns_free is groups n guid stamp x h alone may =
+    all_filtered (λ t. (t.stamp == stamp) ≡ false) (λ t. list_any (is_turn t.handle t.stamp) (turns_of groups guid) ≡ true) (λ t. not (t.stamp == x.stamp))
+    (λ t other k.
+    let i = any_one (λ i. IsAlone n guid x i × MayHave n guid stamp i) (has_turn guid t.handle t.stamp) is
+    (all_both (IsAlone n guid x) (MayHave n guid stamp) (λ i. IsAlone n guid x i × MayHave n guid stamp i) (λ i a b. (a, b)) is alone may) (sym (h guid t.handle t.stamp) ∙ k) in
+    let s : i.0.stamp ≡ t.stamp = is_same i.0.stamp t.stamp (and_parts (is_at t.handle guid i.0) (i.0.stamp == t.stamp) i.1).1 in
+    elim (cases_Bool (is_at n guid i.0)) [
+      | inl e ↦
+          let own : (t.stamp == x.stamp) ≡ true = eq-eqb t.stamp x.stamp (sym s ∙ ap (λ (j : Interface). j.stamp) (i.3.0.0 e)) in
+          let w : false ≡ true = sym (ap not own) ∙ other in cc
+      | inr f ↦ sym (ap (λ m. m == stamp) s) ∙ i.3.1.1 f
+    ]) (turns_of groups guid) (own_turns (turns_of groups guid))
 
 -- an interface that is found has a turn
 pub turn_there : (is : List Interface) (groups : List Group) (n : ℕ) (guid : List ℕ) (x : Interface) → HaveTurns is groups → find (is_at n guid) is ≡ Some x → is_at n guid x ≡ true
@@ -306,15 +338,15 @@ any_restamped p n guid value last x (y ∷ ys) a e = elim (cases_Bool (is_at n g
     unchanged (z ∷ zs) b = rw b.0 (ap (λ r. z ∷ r) (unchanged zs b.1))
 
 pub turns_changed : (is : List Interface) (groups gs : List Group) (n : ℕ) (guid : List ℕ) (value last : ℕ) (x : Interface) → Ascending AreApart is → find (is_at n guid) is ≡ Some x → is_at n guid x ≡ true
-    → ChangesTurns guid (λ ts. with_turn n last (without_turn x.stamp ts)) groups gs → HaveTurns is groups → HaveTurns (map (restamped n guid value last) is) gs
+    → ChangesTurns guid (moved_turn n x.stamp last) groups gs → HaveTurns is groups → HaveTurns (map (restamped n guid value last) is) gs
 turns_changed is groups gs n guid value last x a there own c h k m stamp = elim (cases_Bool (same_guid guid k)) [
   | inl t ↦
-      let e : turns_of gs k ≡ with_turn n last (without_turn x.stamp (turns_of groups k)) = rw t at (c k) in
+      let e : turns_of gs k ≡ turn_in n last (without_turn x.stamp (turns_of groups k)) = rw t at (c k) in
       let less : list_any (is_turn m stamp) (without_turn x.stamp (turns_of groups k)) ≡ list_any (has_turn k m stamp) (filter (λ i. not (is_at n guid i)) is) =
       rw (← same_guid-true guid k t) (less_at is (turns_of groups guid) n guid x a there m stamp (h guid m stamp)) in
       let same : is_turn m stamp (record { stamp = last; handle = n }) ≡ has_turn k m stamp (restamped n guid value last x) =
       rw own (rw (at_handle n guid x own, at_guid n guid x own) (rw (t, and_true (n == m)) refl)) in
-      ap (list_any (is_turn m stamp)) e ∙ any_with (is_turn m stamp) (without_turn x.stamp (turns_of groups k)) (record { stamp = last; handle = n })
+      ap (list_any (is_turn m stamp)) e ∙ any_insert (is_turn m stamp) (without_turn x.stamp (turns_of groups k)) (place (λ u. nat_lt u.stamp last) (without_turn x.stamp (turns_of groups k))) (record { stamp = last; handle = n })
       ∙ rw (less, same) refl ∙ sym (any_restamped (has_turn k m stamp) n guid value last x is a there)
   | inr f ↦
       let e : turns_of gs k ≡ turns_of groups k = rw f at (c k) in
@@ -322,3 +354,30 @@ turns_changed is groups gs n guid value last x a there own c h k m stamp = elim 
       ap (list_any (is_turn m stamp)) e ∙ h k m stamp
       ∙ sym (any_restamped (has_turn k m stamp) n guid value last x is a there ∙ rw off (or_false (list_any (has_turn k m stamp) (filter (λ i. not (is_at n guid i)) is))) ∙ less_off is n guid k f m stamp)
 ]
+
+-- the interface that is found is the only one of its kind, and has a stamp of its own
+pub found_alone : (n : ℕ) (guid : List ℕ) (x : Interface) (is : List Interface) → Ascending AreApart is → find (is_at n guid) is ≡ Some x → AllByRecursion (IsAlone n guid x) is
+found_alone n guid x [] a e = tt
+found_alone n guid x (y ∷ ys) a e = elim (cases_Bool (is_at n guid y)) [
+  | inl t ↦
+      let s : y ≡ x = same_Some y x (rw t at e) in (
+        (λ k. s, λ f. let w : true ≡ false = sym t ∙ f in cc),
+        all_map (AreApart y) (IsAlone n guid x)
+            (λ j d. (
+              λ k. let v : is_at j.handle j.guid y ≡ true = rw (at_handle n guid j k, at_guid n guid j k) t in let w : true ≡ false = sym v ∙ d.0 in cc,
+              λ f. turned j.stamp x.stamp ∙ sym (ap (λ (i : Interface). i.stamp == j.stamp) s) ∙ d.1,
+            )) ys a.0,
+      )
+  | inr f ↦
+      let k : find (is_at n guid) ys ≡ Some x = rw f at e in (
+        (λ t. let w : true ≡ false = sym t ∙ f in cc, λ g. apart_from y ys a.0 k),
+        found_alone n guid x ys a.1 k,
+      )
+]
+  where
+    apart_from : (y : Interface) (zs : List Interface) → AllByRecursion (AreApart y) zs → find (is_at n guid) zs ≡ Some x → (y.stamp == x.stamp) ≡ false
+    apart_from y [] b k = cc
+    apart_from y (z ∷ zs) b k = elim (cases_Bool (is_at n guid z)) [
+      | inl t ↦ let s : z ≡ x = same_Some z x (rw t at k) in sym (ap (λ (i : Interface). y.stamp == i.stamp) s) ∙ b.0.1
+      | inr f ↦ apart_from y zs b.1 (rw f at k)
+    ]

@@ -1,5 +1,5 @@
 -- What is asked of a handle table, by how it is kept; and what its changes keep.
-use Rattle.std.proofs.Common.{◌≡◌, ◌≢◌, ℕ, zero, suc, ◌+◌, ◌-◌, ◌<◌, ◌≤◌, ◌==◌, ◌&&◌, nat_eq, not, Bool, true, false, cond, List, [], ◌∷◌, ◌++◌, map, length, Option, Some, None, is_some, inl, inr, refl, sym, ap, ◌∙◌, arith, append-nil, length-append, subst}
+use Rattle.std.proofs.Common.{◌≡◌, ◌≢◌, ℕ, zero, suc, ◌+◌, ◌-◌, ◌<◌, ◌≤◌, ◌==◌, ◌&&◌, nat_eq, not, Bool, true, false, cond, List, [], ◌∷◌, ◌++◌, map, length, Option, Some, None, is_some, IfSome, inl, inr, refl, sym, ap, ◌∙◌, arith, append-nil, length-append, subst}
 use Rattle.std.specs.List.{filter, find, list_any, slice_get, AllByRecursion, AllZip}
 use Rattle.std.specs.Option.{option_map, option_and_then, option_to_list}
 use Rattle.std.proofs.lemmas.Bool.{cases_Bool, cases_eq, ne_eqb, eq-eqb}
@@ -15,6 +15,8 @@ use Rattle.guid_handles.specs.HandleChanges.{IsHandleTable, max_handles, is_take
 use Rattle.guid_handles.specs.Sorting.{Ascending}
 use Rattle.guid_handles.specs.Indexes.{Row, Group, ChangesKeys, ChangesTurns, AreOn, AreAbsent, HaveSameTurns, lives, is_row_of, row_numbers, keys_of, keys_on, key_at, turns_of, with_turn, without_turn}
 use Rattle.guid_handles.specs.Slots.{at_key, at_keys, record_at, installed_until, with_stamp}
+use Rattle.guid_handles.specs.TableSteps.{IsAlone, MayHave, put_at}
+use Rattle.guid_handles.specs.TurnSteps.{moved_turn}
 use Rattle.guid_handles.specs.Stores.{AgreeOnKeys, AreApart, AreFiled, HaveInterfaces, IsStamped, IsStore, IsTable, table_of}
 use Rattle.guid_handles.proofs.SortedLists.{all_both, all_numbered, any_none, find_filter, find_push_other, those_among, filter_same, filter_whole, all_of, all_map, all_mapped, all_push, all_append, all_filter, all_filtered, any_map, any_found, any_push, any_last, any_kept, any_member, filter_map_filter, filter_shorter, map_append, ascending_filter, ascending_push, find_none, found_none}
 use Rattle.guid_handles.proofs.Filters.{filter_append, filter_inside, filter_swap, passed}
@@ -25,7 +27,7 @@ use Rattle.guid_handles.proofs.Found.{among_own, carried_live, found_one, live_i
 use Rattle.guid_handles.proofs.Numbered.{find_lives, live_numbers}
 use Rattle.guid_handles.proofs.Slotted.{AreBelow, tagged, until_changed, until_later, until_less, until_more}
 use Rattle.guid_handles.proofs.Grouped.{is_same, none_of, some_map}
-use Rattle.guid_handles.proofs.InTurn.{turn_there, turns_below, turns_changed, turns_less, turns_more}
+use Rattle.guid_handles.proofs.InTurn.{turn_there, turns_below, found_alone, turns_changed, turns_free, turns_less, turns_more}
 use Rattle.guid_handles.proofs.Filed.{agreed, found_at, have_these, filed_changed, filed_less, filed_more, keyed_at, only_one}
 
 -- ---- tables
@@ -66,16 +68,16 @@ restamped_on_live n guid value stamp ns is a =
     all_mapped (λ i. list_any (λ m. nat_eq m i.handle) ns ≡ true) (λ i. list_any (λ m. nat_eq m i.handle) ns ≡ true) (restamped n guid value stamp)
     (λ i h. rw (restamped_handle n guid value stamp i) h) is a
 
-table_with_value : (t : HandleTable) (n : ℕ) (guid : List ℕ) (value : ℕ) → IsTable t → IsTable (with_value n guid value t)
-table_with_value t n guid value s = record {
+table_put : (t : HandleTable) (n : ℕ) (guid : List ℕ) (value stamp : ℕ) → AllByRecursion (MayHave n guid stamp) t.interfaces → stamp ≤ t.last_stamp → IsTable t → IsTable (put_at n guid value stamp t)
+table_put t n guid value stamp may given s = record {
   proper = record {
     ascending = s.proper.ascending;
     given = s.proper.given;
     limit = s.proper.limit;
-    on_live = restamped_on_live n guid value (t.last_stamp + 1) (numbers t) t.interfaces s.proper.on_live;
+    on_live = restamped_on_live n guid value stamp (numbers t) t.interfaces s.proper.on_live;
   };
-  apart = apart_restamped n guid value t.last_stamp t.interfaces s.below s.apart;
-  below = below_restamped n guid value t.last_stamp t.interfaces s.below;
+  apart = apart_restamped n guid value stamp t.interfaces may s.apart;
+  below = below_restamped n guid value stamp t.last_stamp t.interfaces given s.below;
 }
 
 stamped_on : (P : ℕ → Bool) (n stamp : ℕ) (pairs : List (List ℕ × ℕ)) → P n ≡ true → AllByRecursion (λ i. P i.handle ≡ true) (stamped n stamp pairs)
@@ -249,12 +251,12 @@ new_there : (n : ℕ) (guid : List ℕ) (value stamp : ℕ) (o : Option Record) 
 new_there n guid value stamp None h y e = absurd cc
 new_there n guid value stamp (Some r) h y e = subst (λ (i : Interface). is_at n guid i ≡ true) (same_Some (record r.interface { value = value; stamp = stamp }) y e) (h r refl)
 
-from_slot : (last value : ℕ) (o : Option Record) → ((p : Record) → o ≡ Some p → p.interface.stamp ≤ last) → (r : Record) → option_map (with_stamp value (last + 1)) o ≡ Some r
+from_slot : (stamp value : ℕ) (o : Option Record) → ((p : Record) → o ≡ Some p → p.interface.stamp ≤ stamp) → (r : Record) → option_map (with_stamp value stamp) o ≡ Some r
     → (p : Record) × (o ≡ Some p) × (p.installed ≡ r.installed) × (p.interface.stamp ≤ r.interface.stamp)
-from_slot last value None h r e = absurd cc
-from_slot last value (Some p) h r e =
-    let s : with_stamp value (last + 1) p ≡ r = same_Some (with_stamp value (last + 1) p) r e in
-    let l : p.interface.stamp ≤ last = h p refl in
+from_slot stamp value None h r e = absurd cc
+from_slot stamp value (Some p) h r e =
+    let s : with_stamp value stamp p ≡ r = same_Some (with_stamp value stamp p) r e in
+    let l : p.interface.stamp ≤ stamp = h p refl in
     (p, refl, ap (λ (x : Record). x.installed) s, omega (arith, l, ap (λ (x : Record). x.interface.stamp) s))
 
 pub any_counted : (p : Interface → Bool) (xs : List Interface) → not (length (filter p xs) == 0) ≡ list_any p xs
@@ -486,42 +488,74 @@ module _ (rows : List Row) (slots : List (Option Record)) (groups : List Group) 
   filed_same : (is : List Interface) (new : List (Option Record)) (gs : List Group) → ((k : List ℕ) (n : ℕ) → key_at gs k n ≡ key_at groups k n) → AreFiled is new rows groups → AreFiled is new rows gs
   filed_same is new gs g h = record { by_handle = h.by_handle; by_guid = λ n k. rw (g k n) (h.by_guid n k); in_group = λ key i e. g i.guid i.handle ∙ h.in_group key i e }
 
-  -- an interface takes a value and the next stamp
-  pub stored_changed : (new : List (Option Record)) (gs : List Group) (n : ℕ) (guid : List ℕ) (value key before : ℕ) → key_at groups guid n ≡ Some key → option_map (λ r. r.interface.stamp) (record_at slots key) ≡ Some before
-      → record_at new key ≡ option_map (with_stamp value (stamp + 1)) (record_at slots key) → ((j : ℕ) → j ≢ key → record_at new j ≡ record_at slots j)
-      → ((k : List ℕ) (m : ℕ) → key_at gs k m ≡ key_at groups k m) → ChangesTurns guid (λ ts. with_turn n (stamp + 1) (without_turn before ts)) groups gs
-      → (table_of rows new number (stamp + 1) ≡ with_value n guid value (table_of rows slots number stamp)) × IsStore rows new gs number (stamp + 1)
-  stored_changed new gs n guid value key before there stamped own others g t =
+  -- an interface takes a value and a stamp
+  pub stored_put : (new : List (Option Record)) (gs : List Group) (n : ℕ) (guid : List ℕ) (value to key before : ℕ) → AllByRecursion (MayHave n guid to) (installed_until stamp slots) → to ≤ stamp
+      → key_at groups guid n ≡ Some key → option_map (λ r. r.interface.stamp) (record_at slots key) ≡ Some before
+      → record_at new key ≡ option_map (with_stamp value to) (record_at slots key) → ((j : ℕ) → j ≢ key → record_at new j ≡ record_at slots j)
+      → ((k : List ℕ) (m : ℕ) → key_at gs k m ≡ key_at groups k m) → ChangesTurns guid (moved_turn n before to) groups gs
+      → (table_of rows new number stamp ≡ put_at n guid value to (table_of rows slots number stamp)) × IsStore rows new gs number stamp
+  stored_put new gs n guid value to key before may given there stamped own others g t =
       let x = recorded n guid key there in
-      let f : Interface → Interface = restamped n guid value (stamp + 1) in
+      let f : Interface → Interface = restamped n guid value to in
       let kept : (j : ℕ) (r : Record) → record_at new j ≡ Some r → (p : Record) × (record_at slots j ≡ Some p) × (p.installed ≡ r.installed) × (p.interface.stamp ≤ r.interface.stamp) =
       λ j r e. elim (cases_eq j key) [
-        | inl w ↦ rw w (from_slot stamp value (record_at slots key) (λ p k. slot_stamp key p k) r (sym own ∙ ap (record_at new) (sym w) ∙ e))
+        | inl w ↦ rw w (from_slot to value (record_at slots key) (λ p k. not_above p k) r (sym own ∙ ap (record_at new) (sym w) ∙ e))
         | inr d ↦ (r, sym (others j d) ∙ e, refl, omega arith)
       ] in
-      let below : AreBelow stamp new = λ j r e. let k = kept j r e in omega (arith, slots_below j k.0 k.1, k.2) in
-      let changed : installed_until (stamp + 1) new ≡ map f (installed_until stamp slots) =
-      until_later stamp new below
-      ∙ until_changed f stamp key slots new (changed_slot n guid value (stamp + 1) (record_at slots key) (λ r e. own_key n guid key there r e) ∙ ap (tagged (λ i. i)) (sym own))
+      let changed : installed_until stamp new ≡ map f (installed_until stamp slots) =
+      until_changed f stamp key slots new (changed_slot n guid value to (record_at slots key) (λ r e. own_key n guid key there r e) ∙ ap (tagged (λ i. i)) (sym own))
       (λ j r d e. rw (other_key n guid key there j r d e) refl) others in
-      let same : table_of rows new number (stamp + 1) ≡ with_value n guid value (table_of rows slots number stamp) = rw changed refl in (
+      let same : table_of rows new number stamp ≡ put_at n guid value to (table_of rows slots number stamp) = rw changed refl in (
         same,
         record {
-          table = subst IsTable (sym same) (table_with_value (table_of rows slots number stamp) n guid value s.table);
-          filed = filed_same (installed_until (stamp + 1) new) new gs g (rw changed (filed_changed (installed_until stamp slots) slots new rows groups n guid value (stamp + 1) key there
-              (λ y e. ap (option_map (λ r. r.interface)) own ∙ changed_there n guid value (stamp + 1) (record_at slots key) (λ r k. own_key n guid key there r k) y e)
-              (λ y e. new_there n guid value (stamp + 1) (record_at slots key) (λ r k. own_key n guid key there r k) y (sym (ap (option_map (λ r. r.interface)) own) ∙ e))
+          table = subst IsTable (sym same) (table_put (table_of rows slots number stamp) n guid value to may given s.table);
+          filed = filed_same (installed_until stamp new) new gs g (rw changed (filed_changed (installed_until stamp slots) slots new rows groups n guid value to key there
+              (λ y e. ap (option_map (λ r. r.interface)) own ∙ changed_there n guid value to (record_at slots key) (λ r k. own_key n guid key there r k) y e)
+              (λ y e. new_there n guid value to (record_at slots key) (λ r k. own_key n guid key there r k) y (sym (ap (option_map (λ r. r.interface)) own) ∙ e))
               (at_others new key others) s.filed));
-          turns = rw changed (turns_changed (installed_until stamp slots) groups gs n guid value (stamp + 1) x.0.interface s.table.apart (keyed_record n guid key there x.0 x.1) (own_key n guid key there x.0 x.1)
+          turns = rw changed (turns_changed (installed_until stamp slots) groups gs n guid value to x.0.interface s.table.apart (keyed_record n guid key there x.0 x.1) (own_key n guid key there x.0 x.1)
               (rw (stamp_at key x.0 before x.1 stamped) at t) s.turns);
           stamped = λ j r e. let k = kept j r e in let b = s.stamped j k.0 k.1 in (omega (arith, b.0, k.2), omega (arith, b.1, k.2, k.3));
         },
       )
     where
-      slot_stamp : (key : ℕ) (r : Record) → record_at slots key ≡ Some r → r.interface.stamp ≤ stamp
-      slot_stamp key r e =
-          (found_one (λ i. i.stamp ≤ stamp) (is_at r.interface.handle r.interface.guid) (installed_until stamp slots) r.interface s.table.below
-          (slot_found key r.interface (ap (option_map (λ (x : Record). x.interface)) e))).1
+      not_above : (r : Record) → record_at slots key ≡ Some r → r.interface.stamp ≤ to
+      not_above r e =
+          (found_one (MayHave n guid to) (is_at n guid) (installed_until stamp slots) r.interface may (keyed_record n guid key there r e)).1.0 (own_key n guid key there r e)
+
+  -- the turns of a GUID, but that of the interface at a key, have other stamps than that may have
+  pub turns_left : (n : ℕ) (guid : List ℕ) (key own to : ℕ) → AllByRecursion (MayHave n guid to) (installed_until stamp slots) → key_at groups guid n ≡ Some key
+      → option_map (λ x. x.interface.stamp) (record_at slots key) ≡ Some own → AllByRecursion (λ t. (t.stamp == to) ≡ false) (without_turn own (turns_of groups guid))
+  turns_left n guid key own to may there k =
+      let r = recorded n guid key there in
+      rw (stamp_at key r.0 own r.1 k)
+      (turns_free (installed_until stamp slots) groups n guid to r.0.interface s.turns (found_alone n guid r.0.interface (installed_until stamp slots) s.table.apart (keyed_record n guid key there r.0 r.1)) may)
+
+  -- the interface of a GUID on a handle, if there is one
+  pub alone_if : (n : ℕ) (guid : List ℕ) (o : Option Interface) → o ≡ find (is_at n guid) (installed_until stamp slots) → IfSome o (λ x. AllByRecursion (IsAlone n guid x) (installed_until stamp slots))
+  alone_if n guid None e = tt
+  alone_if n guid (Some x) e = found_alone n guid x (installed_until stamp slots) s.table.apart (sym e)
+
+  pub given_if : (n : ℕ) (guid : List ℕ) (o : Option Interface) → o ≡ find (is_at n guid) (installed_until stamp slots) → IfSome o (λ x. x.stamp ≤ stamp)
+  given_if n guid None e = tt
+  given_if n guid (Some x) e = (found_one (λ i. i.stamp ≤ stamp) (is_at n guid) (installed_until stamp slots) x s.table.below (sym e)).1
+
+  -- a stamp is given
+  pub stored_given : (table_of rows slots number (stamp + 1) ≡ record (table_of rows slots number stamp) { last_stamp = stamp + 1 }) × IsStore rows slots groups number (stamp + 1)
+  stored_given =
+      let same : installed_until (stamp + 1) slots ≡ installed_until stamp slots = until_later stamp slots slots_below in (
+        rw same refl,
+        record {
+          table = record {
+            proper = record { ascending = s.table.proper.ascending; given = s.table.proper.given; limit = s.table.proper.limit; on_live = rw same s.table.proper.on_live };
+            apart = rw same s.table.apart;
+            below = rw same (all_map (λ i. i.stamp ≤ stamp) (λ i. i.stamp ≤ stamp + 1) (λ i l. omega (arith, l)) (installed_until stamp slots) s.table.below);
+          };
+          filed = rw same s.filed;
+          turns = rw same s.turns;
+          stamped = s.stamped;
+        },
+      )
 
   -- ---- handles
 

@@ -1,5 +1,5 @@
 //! The interfaces by GUID.
-ghost use Rattle.std.specs.Prelude.{◌≡◌, ◌<◌, ◌≤◌, ◌==◌, ◌&&◌, ℕ, Bool, true, cond, List, [], None, Some, length, nat_lt, is_some, map, option_map, slice_get, IfOk, OnOk, OnErr, IfSome, IfNone};
+ghost use Rattle.std.specs.Prelude.{◌≡◌, ◌<◌, ◌≤◌, ◌==◌, ◌&&◌, ℕ, Bool, true, false, cond, List, [], None, Some, length, nat_lt, is_some, map, option_map, slice_get, IfOk, OnOk, OnErr, IfSome, IfNone};
 ghost use Rattle.std.specs.List.{find, list_any, AllByRecursion};
 ghost use Rattle.guid_handles.specs.HandleTables.{same_guid};
 ghost use Rattle.guid_handles.specs.Sorting.{Ascending, place, kept_if};
@@ -223,28 +223,28 @@ impl<A: Allocator + Copy> Groups<A> {
         }
     }
 
-    /// Gives the turn of a handle in the group at a place a stamp above all others in place of its
-    /// own.
-    fn move_last_at(&mut self, at: usize, guid: Uuid, handle: u64, own: u64, stamp: u64)
+    /// Gives the turn of a handle in the group at a place a stamp that no other has in place of its own.
+    fn restamp_at(&mut self, at: usize, guid: Uuid, handle: u64, own: u64, stamp: u64)
         requires place { IsPlaceOf guid self.old at }
         requires there { list_any (λ t. t.stamp == own) (turns_of self.old guid) ≡ true }
-        requires last { AllByRecursion (λ t. t.stamp < stamp) (turns_of self.old guid) }
+        requires free { AllByRecursion (λ t. (t.stamp == stamp) ≡ false)
+            (without_turn own (turns_of self.old guid)) }
         ensures keys { HaveSameKeys self.old self.new }
         ensures turns { ChangesTurns guid (moved_turn handle own stamp) self.old self.new }
     {
-        self.groups[at].move_last(handle, own, stamp);
+        self.groups[at].restamp(handle, own, stamp);
     }
 
-    /// Gives the interface of a GUID on a handle a stamp above all others of its GUID in place of its
-    /// own.
-    pub(crate) fn move_last(&mut self, guid: Uuid, handle: u64, own: u64, stamp: u64)
+    /// Gives the interface of a GUID on a handle a stamp that no other of its GUID has in place of its own.
+    pub(crate) fn restamp(&mut self, guid: Uuid, handle: u64, own: u64, stamp: u64)
         requires there { list_any (λ t. t.stamp == own) (turns_of self.old guid) ≡ true }
-        requires last { AllByRecursion (λ t. t.stamp < stamp) (turns_of self.old guid) }
+        requires free { AllByRecursion (λ t. (t.stamp == stamp) ≡ false)
+            (without_turn own (turns_of self.old guid)) }
         ensures keys { HaveSameKeys self.old self.new }
         ensures turns { ChangesTurns guid (moved_turn handle own stamp) self.old self.new }
     {
         if let Some(at) = place_of(self.groups.as_slice(), guid) {
-            self.move_last_at(at, guid, handle, own, stamp);
+            self.restamp_at(at, guid, handle, own, stamp);
         }
     }
 }

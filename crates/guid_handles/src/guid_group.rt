@@ -144,14 +144,15 @@ impl<A: Allocator + Copy> GuidGroup<A> {
         }
     }
 
-    /// Gives the turn of a handle a stamp above all others in place of its own.
-    pub(crate) fn move_last(&mut self, handle: u64, own: u64, stamp: u64)
+    /// Gives the turn of a handle a stamp that no other has in place of its own.
+    pub(crate) fn restamp(&mut self, handle: u64, own: u64, stamp: u64)
         requires there { list_any (λ t. t.stamp == own) self.old.turns ≡ true }
-        requires last { AllByRecursion (λ t. t.stamp < stamp) self.old.turns }
+        requires free { AllByRecursion (λ t. (t.stamp == stamp) ≡ false)
+            (without_turn own self.old.turns) }
         ensures { self.new ≡ record self.old {
           turns = moved_turn handle own stamp self.old.turns;
         } }
     {
-        self.turns.move_last(handle, own, stamp);
+        self.turns.restamp(handle, own, stamp);
     }
 }

@@ -7,7 +7,7 @@ ghost use Rattle.guid_handles.specs.Indexes.{AreAbsent, ChangesKeys, ChangesTurn
 ghost use Rattle.guid_handles.specs.Slots.{record_at, with_stamp};
 ghost use Rattle.guid_handles.specs.Sorting.{Ascending};
 ghost use Rattle.guid_handles.specs.MadeOn.{made_on};
-ghost use Rattle.guid_handles.specs.TableSteps.{AreOthersLower, AreOthersOlder, InstallsMany, InstallsOne, MakesHandle, MakesHandleWith, AreOlder, taken_back, taken_back_to, taken_out, without_above, without_last_handle};
+ghost use Rattle.guid_handles.specs.TableSteps.{AreOthersLower, AreOthersOlder, InstallsMany, InstallsOne, MakesHandle, MakesHandleWith, AreOlder, taken_back, taken_back_to, taken_out, IsAlone, MayHave, put_at, with_stamp_given, without_above, without_last_handle};
 ghost use Rattle.guid_handles.specs.Stores.{AgreeOnKeys};
 
 use crate::groups::Groups;
@@ -633,6 +633,31 @@ impl<A: Allocator + Copy> Handles<A> {
         self.last_stamp = last_stamp;
     }
 
+    /// Gives the next stamp, which is not an interface's yet, and returns it.
+    pub fn give_stamp(&mut self) -> u64
+        requires { self.old.last_stamp < 2 ^ 62 }
+        ensures table { self.new ≡ with_stamp_given self.old }
+        ensures stamp { result ≡ self.old.last_stamp + 1 }
+        ensures earlier { AllByRecursion (λ i. i.stamp < result) self.old.interfaces }
+    {
+        self.last_stamp += 1;
+        self.last_stamp
+    }
+
+    /// Gives the interface of a GUID on a handle a value and a stamp, which is not below its own and no
+    /// other's. It keeps its place in the order of installation. This takes no memory.
+    pub fn put(&mut self, handle: u64, guid: Uuid, value: u64, stamp: u64)
+        requires there { carries self.old guid handle ≡ true }
+        requires may { AllByRecursion (MayHave handle guid stamp) self.old.interfaces }
+        requires given { stamp ≤ self.old.last_stamp }
+        ensures { self.new ≡ put_at handle guid value stamp self.old }
+    {
+        if let Some(key) = key_of(&self.rows, &self.records, &self.groups, handle, guid) {
+            let own = restamp(&mut self.records, key, value, stamp);
+            self.groups.restamp(guid, handle, own, stamp);
+        }
+    }
+
     /// Gives the interface of a GUID on a handle a value and a new stamp. It keeps its place in the
     /// order of installation.
     pub fn replace(&mut self, handle: u64, guid: Uuid, value: u64)
@@ -640,11 +665,21 @@ impl<A: Allocator + Copy> Handles<A> {
         requires stamps { self.old.last_stamp < 2 ^ 62 }
         ensures { self.new ≡ with_value handle guid value self.old }
     {
-        self.last_stamp += 1;
-        if let Some(key) = key_of(&self.rows, &self.records, &self.groups, handle, guid) {
-            let own = restamp(&mut self.records, key, value, self.last_stamp);
-            self.groups.move_last(guid, handle, own, self.last_stamp);
-        }
+        let stamp = self.give_stamp();
+        self.put(handle, guid, value, stamp);
+    }
+
+    /// The interface of a GUID on a handle, if there is one, which is the only one of the kind and has a
+    /// stamp of its own.
+    pub fn installed(&self, handle: u64, guid: Uuid) -> Option<Interface>
+        ensures value { result ≡ interface_at self.now handle guid }
+        ensures alone { IfSome result
+            (λ x. AllByRecursion (IsAlone handle guid x) self.now.interfaces) }
+        ensures given { IfSome result (λ x. x.stamp ≤ self.now.last_stamp) }
+    {
+        // No interface has a stamp above the last.
+        let _last = self.last_stamp;
+        self.find(handle, guid)
     }
 }
 

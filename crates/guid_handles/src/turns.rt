@@ -1,5 +1,5 @@
 //! The interfaces of one GUID by their stamps.
-ghost use Rattle.std.specs.Prelude.{◌≡◌, ◌<◌, ◌≤◌, ◌==◌, [], true, not, length, nat_lt, is_some, option_map, slice_get, IfOk, OnOk, OnErr};
+ghost use Rattle.std.specs.Prelude.{◌≡◌, ◌<◌, ◌≤◌, ◌==◌, [], true, false, not, length, nat_lt, is_some, option_map, slice_get, IfOk, OnOk, OnErr};
 ghost use Rattle.std.specs.List.{find, list_any, AllByRecursion};
 ghost use Rattle.guid_handles.specs.Sorting.{kept_if, place};
 ghost use Rattle.guid_handles.specs.Indexes.{AreInTurn, with_turn, without_turn};
@@ -131,16 +131,18 @@ impl<A: Allocator + Copy> Turns<A> {
         }
     }
 
-    /// Puts the turn of a handle behind all others, with a stamp above theirs in place of its own.
-    pub(crate) fn move_last(&mut self, handle: u64, own: u64, stamp: u64)
+    /// Gives the turn of a handle a stamp that no other has in place of its own.
+    pub(crate) fn restamp(&mut self, handle: u64, own: u64, stamp: u64)
         requires there { list_any (λ t. t.stamp == own) self.old ≡ true }
-        requires last { AllByRecursion (λ t. t.stamp < stamp) self.old }
+        requires free { AllByRecursion (λ t. (t.stamp == stamp) ≡ false)
+            (without_turn own self.old) }
         ensures { self.new ≡ moved_turn handle own stamp self.old }
     {
         let at = count_lower(self.turns.as_slice(), own);
         if is_turn_at(self.turns.as_slice(), at, own) {
             self.turns.remove(at);
-            self.turns.push(Turn { stamp, handle });
+            let place = count_lower(self.turns.as_slice(), stamp);
+            self.turns.insert(place, Turn { stamp, handle });
         }
     }
 }

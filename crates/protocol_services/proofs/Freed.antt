@@ -18,14 +18,16 @@ use Rattle.protocol_notify.specs.Registrations.{events_for}
 use Rattle.driver_connect.specs.Drivers.{Meaning}
 use Rattle.driver_connect.specs.Starting.{Progress, Site, site}
 use Rattle.driver_connect.specs.Stopping.{PlannedStop, planned_stop, takes_item, can_be_stopped, is_made_by, is_one_of, is_unobstructed, made_by, may_stop, spares_opener, stop_set, without_handles, without_opens}
-use Rattle.driver_connect.specs.Connecting.{connected, first_progress, levels_below}
+use Rattle.driver_connect.specs.Connecting.{ConnectsBelow, first_progress, levels_below}
 use Rattle.driver_connect.specs.Readiness.{is_any_ready}
 use Rattle.driver_connect.proofs.Counts.{connect_counts}
+use Rattle.driver_connect.proofs.Filters.{handles_none}
 use Rattle.driver_connect.proofs.Idle.{idle_connect}
 use Rattle.driver_connect.proofs.PlannedStops.{added_first, kept_left, opener_spared}
 use Rattle.driver_connect.proofs.Ready.{ready_start}
 use Rattle.protocol_services.specs.Lists.{Lists, IsRaised}
 use Rattle.protocol_services.specs.Opening.{OpensAs, opened_value}
+use Rattle.protocol_services.specs.Saved.{Saved, put_back, saved_of}
 use Rattle.protocol_services.specs.Stopping.{can_stop}
 use Rattle.protocol_services.specs.Removing.{Reinstalls, Replaces, can_be_freed, drivers_on, freed, is_value, once_freed, reconnected, removal_refusal, replaced, uninstalled, with_progress, without_dead}
 use Rattle.protocol_services.proofs.OpenCounts.{CountUpTo, one_higher, opened_counts}
@@ -257,39 +259,82 @@ pub replaced_or_not_raised : {R : Type 0} {E : Type 0} (l new : Lists) (handle :
 replaced_or_not_raised l new handle guid value (Ok returned) n same = replaced_raised l new handle guid value n
 replaced_or_not_raised l new handle guid value (Err status) n same = rw same (stays_raised l)
 
--- a copy in which an interface was freed and has another value
-pub begun : (l : Lists) (plan : PlannedStop) (handle : ℕ) (guid : List ℕ) (value : ℕ) (copy : Progress) (t given : HandleTable) (opens : List OpenRecord) → copy ≡ first_progress l.handles l.opens
-    → t ≡ without_handles plan.handles copy.handles → given ≡ with_value handle guid value t → opens ≡ without_items (is_open_on handle guid) (without_opens plan.handles plan.pairs copy.opens)
-    → record { handles = given; opens = opens; events = copy.events }
-    ≡ first_progress (with_value handle guid value (without_handles plan.handles l.handles)) (without_items (is_open_on handle guid) (without_opens plan.handles plan.pairs l.opens))
-begun l plan handle guid value copy t given opens e h g o = rw g (rw h (rw o (rw e refl)))
-
--- a value in place of another, with all that is connected on a draft
-pub replaced_connected : {A : Type 0} (ds : List Meaning) (l new : Lists) (plan : PlannedStop) (handle : ℕ) (guid : List ℕ) (value : ℕ) (events : Vec ℕ A) (before after : Progress) → plan ≡ planned_stop l.handles l.opens (drivers_on l.opens handle guid)
-    → before ≡ first_progress (with_value handle guid value (without_handles plan.handles l.handles)) (without_items (is_open_on handle guid) (without_opens plan.handles plan.pairs l.opens))
-    → after ≡ connected (levels_below true) (site ds l.registrations handle) [] before → events.items ≡ events_for l.registrations guid ++ after.events → new ≡ record l { handles = after.handles; opens = after.opens }
+-- a value in place of another, with all that is connected then
+pub replaced_below : {A : Type 0} (ds : List Meaning) (l mid new : Lists) (handle : ℕ) (guid : List ℕ) (value : ℕ) (given : List ℕ) (events : Vec ℕ A) → mid ≡ replaced handle guid value (freed handle guid l)
+    → given ≡ events_for l.registrations guid → ConnectsBelow (site ds mid.registrations handle) mid.handles mid.opens given events.items new.handles new.opens → new.registrations ≡ mid.registrations
     → Replaces ds handle guid value (freed handle guid l) events new
-replaced_connected ds l new plan handle guid value events before after p b a e n =
-    let reached : after ≡ reconnected ds handle (replaced handle guid value (freed handle guid l)) = rw b at a ∙ rw p refl in
-    (e ∙ ap (λ (q : Progress). events_for l.registrations guid ++ q.events) reached, n ∙ ap (λ (q : Progress). with_progress q (freed handle guid l)) reached)
+replaced_below ds l mid new handle guid value given events m e c r =
+    let reached : reconnected ds handle mid ≡ reconnected ds handle (replaced handle guid value (freed handle guid l)) = ap (reconnected ds handle) m in
+    let handles = c.0 ∙ ap (λ (q : Progress). q.handles) reached in
+    let opens = c.1 ∙ ap (λ (q : Progress). q.opens) reached in
+    let registered = r ∙ ap (λ (x : Lists). x.registrations) m in (
+      c.2 ∙ ap (λ (es : List ℕ). es ++ (reconnected ds handle mid).events) e ∙ ap (λ (q : Progress). events_for l.registrations guid ++ q.events) reached,
+      rw (← handles, ← opens) (rw (← registered) refl),
+    )
 
-pub connected_raised : (ds : List Meaning) (l new : Lists) (plan : PlannedStop) (handle : ℕ) (guid : List ℕ) (value : ℕ) (before after : Progress) → plan ≡ planned_stop l.handles l.opens (drivers_on l.opens handle guid)
-    → before ≡ first_progress (with_value handle guid value (without_handles plan.handles l.handles)) (without_items (is_open_on handle guid) (without_opens plan.handles plan.pairs l.opens))
-    → after ≡ connected (levels_below true) (site ds l.registrations handle) [] before → after.handles.last_number ≤ before.handles.last_number + 4096 → after.handles.last_stamp ≤ before.handles.last_stamp + 16384
-    → new ≡ record l { handles = after.handles; opens = after.opens } → IsRaised l new
-connected_raised ds l new plan handle guid value before after p b a numbers stamps n =
+pub below_raised : (ds : List Meaning) (l mid new : Lists) (handle : ℕ) (guid : List ℕ) (value : ℕ) (given events : List ℕ) → mid ≡ replaced handle guid value (freed handle guid l)
+    → ConnectsBelow (site ds mid.registrations handle) mid.handles mid.opens given events new.handles new.opens → new.registrations ≡ mid.registrations
+    → new.handles.last_number ≤ mid.handles.last_number + 4096 → new.handles.last_stamp ≤ mid.handles.last_stamp + 16384 → IsRaised l new
+below_raised ds l mid new handle guid value given events m c r numbers stamps =
     let part : IsPart l (freed handle guid l) = freed_part l handle guid in
-    let number : before.handles.last_number ≡ l.handles.last_number = ap (λ (q : Progress). q.handles.last_number) b in
-    let stamp : before.handles.last_stamp ≡ l.handles.last_stamp + 1 = ap (λ (q : Progress). q.handles.last_stamp) b in
-    let opens : before.opens ≡ (freed handle guid l).opens = ap (λ (q : Progress). q.opens) b ∙ rw p refl in
-    rw n record {
+    let number : mid.handles.last_number ≡ l.handles.last_number = ap (λ (x : Lists). x.handles.last_number) m ∙ part.numbers in
+    let stamp : mid.handles.last_stamp ≡ l.handles.last_stamp + 1 = ap (λ (x : Lists). x.handles.last_stamp) m ∙ ap (λ (k : ℕ). k + 1) part.stamps in
+    let opens : mid.opens ≡ (freed handle guid l).opens = ap (λ (x : Lists). x.opens) m in
+    let registered : new.registrations ≡ l.registrations = r ∙ ap (λ (x : Lists). x.registrations) m in
+    record {
       numbers = omega (arith, number, numbers);
       stamps = omega (arith, stamp, stamps);
-      keys = omega arith;
+      keys = rw registered (omega arith);
       counts = λ k h.
-          let c : CountUpTo (k + 1) before.opens = rw opens (one_higher k (freed handle guid l).opens (part.counts k h)) in
-          subst (CountUpTo (k + 1)) (sym (ap (λ (q : Progress). q.opens) a)) (connect_counts (k + 1) (levels_below true) (site ds l.registrations handle) [] before (omega arith) c);
+          let a : CountUpTo (k + 1) mid.opens = rw opens (one_higher k (freed handle guid l).opens (part.counts k h)) in
+          subst (CountUpTo (k + 1)) (sym c.1) (connect_counts (k + 1) (levels_below true) (site ds mid.registrations handle) [] (first_progress mid.handles mid.opens) (omega arith) a);
     }
+
+-- the same where the parts of the lists are given
+pub connected_freed : {A : Type 0} (ds : List Meaning) (l new : Lists) (plan : PlannedStop) (handle : ℕ) (guid : List ℕ) (value : ℕ) (given : List ℕ) (events : Vec ℕ A) (t : HandleTable) (opens : List OpenRecord)
+    → plan ≡ planned_stop l.handles l.opens (drivers_on l.opens handle guid) → t ≡ without_handles plan.handles l.handles → opens ≡ without_items (is_open_on handle guid) (without_opens plan.handles plan.pairs l.opens)
+    → given ≡ events_for l.registrations guid → ConnectsBelow (site ds l.registrations handle) (with_value handle guid value t) opens given events.items new.handles new.opens → new.registrations ≡ l.registrations
+    → Replaces ds handle guid value (freed handle guid l) events new
+connected_freed ds l new plan handle guid value given events t opens p h o e c r =
+    replaced_below ds l (record l { handles = with_value handle guid value t; opens = opens }) new handle guid value given events (replaced_in_place l plan handle guid value t (with_value handle guid value t) opens p h refl o) e c r
+
+pub connected_freed_raised : (ds : List Meaning) (l new : Lists) (plan : PlannedStop) (handle : ℕ) (guid : List ℕ) (value : ℕ) (given events : List ℕ) (t : HandleTable) (opens : List OpenRecord)
+    → plan ≡ planned_stop l.handles l.opens (drivers_on l.opens handle guid) → t ≡ without_handles plan.handles l.handles → opens ≡ without_items (is_open_on handle guid) (without_opens plan.handles plan.pairs l.opens)
+    → ConnectsBelow (site ds l.registrations handle) (with_value handle guid value t) opens given events new.handles new.opens → new.registrations ≡ l.registrations
+    → new.handles.last_number ≤ t.last_number + 4096 → new.handles.last_stamp ≤ t.last_stamp + 16385 → IsRaised l new
+connected_freed_raised ds l new plan handle guid value given events t opens p h o c r numbers stamps =
+    below_raised ds l (record l { handles = with_value handle guid value t; opens = opens }) new handle guid value given events (replaced_in_place l plan handle guid value t (with_value handle guid value t) opens p h refl o) c r
+    numbers (omega (arith, stamps))
+
+-- the same where memory may run out
+pub freed_or_not : {A : Type 0} {E : Type 0} (ds : List Meaning) (l new : Lists) (plan : PlannedStop) (handle : ℕ) (guid : List ℕ) (value : ℕ) (given : List ℕ) (result : Result (Vec ℕ A) E) (t : HandleTable) (opens : List OpenRecord)
+    → plan ≡ planned_stop l.handles l.opens (drivers_on l.opens handle guid) → t ≡ without_handles plan.handles l.handles → opens ≡ without_items (is_open_on handle guid) (without_opens plan.handles plan.pairs l.opens)
+    → given ≡ events_for l.registrations guid → IfOk result (λ events. ConnectsBelow (site ds l.registrations handle) (with_value handle guid value t) opens given events.items new.handles new.opens) → new.registrations ≡ l.registrations
+    → IfOk result (λ events. Replaces ds handle guid value (freed handle guid l) events new)
+freed_or_not ds l new plan handle guid value given (Ok events) t opens p h o e c r = connected_freed ds l new plan handle guid value given events t opens p h o e c r
+freed_or_not ds l new plan handle guid value given (Err error) t opens p h o e c r = tt
+
+pub freed_raised_or_not : {A : Type 0} {E : Type 0} (ds : List Meaning) (l new : Lists) (plan : PlannedStop) (handle : ℕ) (guid : List ℕ) (value : ℕ) (given : List ℕ) (result : Result (Vec ℕ A) E) (t : HandleTable) (opens : List OpenRecord)
+    → plan ≡ planned_stop l.handles l.opens (drivers_on l.opens handle guid) → t ≡ without_handles plan.handles l.handles → opens ≡ without_items (is_open_on handle guid) (without_opens plan.handles plan.pairs l.opens)
+    → IfOk result (λ events. ConnectsBelow (site ds l.registrations handle) (with_value handle guid value t) opens given events.items new.handles new.opens) → new.registrations ≡ l.registrations
+    → new.handles.last_number ≤ t.last_number + 4096 → new.handles.last_stamp ≤ t.last_stamp + 16385 → OnOk result (IsRaised l new)
+freed_raised_or_not ds l new plan handle guid value given (Ok events) t opens p h o c r numbers stamps = connected_freed_raised ds l new plan handle guid value given events.items t opens p h o c r numbers stamps
+freed_raised_or_not ds l new plan handle guid value given (Err error) t opens p h o c r numbers stamps = tt
+
+pub handles_left : {R : Type 0} {E : Type 0} (result : Result R E) (t left new : HandleTable) (opens old : List OpenRecord) → t ≡ left → OnErr result ((new ≡ t) × (opens ≡ old)) → OnErr result (new ≡ left)
+handles_left (Ok returned) t left new opens old e h = tt
+handles_left (Err error) t left new opens old e h = h.0 ∙ e
+
+-- ---- what is put back
+
+pub opens_back : (l left : Lists) (plan : PlannedStop) (opens : List OpenRecord) → plan.handles ≡ [] → left.handles ≡ without_handles plan.handles l.handles → left.registrations ≡ l.registrations → opens ≡ l.opens
+    → record left { opens = opens } ≡ l
+opens_back l left plan opens none h r o =
+    let handles : left.handles ≡ l.handles = h ∙ ap (λ (ns : List ℕ). without_handles ns l.handles) none ∙ sym (handles_none l.handles) in
+    rw (handles, r, o) refl
+
+pub copies_back : (l left : Lists) (saved : Saved) → saved ≡ saved_of l → left.registrations ≡ l.registrations → put_back saved left ≡ l
+copies_back l left saved e r = rw (e, r) refl
 
 pub reinstalls : {A : Type 0} (ds : List Meaning) (l new : Lists) (handle : ℕ) (guid : List ℕ) (old value : ℕ) (events : Vec ℕ A) → removal_refusal l.handles handle guid old ≡ None → can_be_freed ds l handle guid ≡ true
     → Replaces ds handle guid value (freed handle guid l) events new → Reinstalls ds l handle guid old value (Ok events) new

@@ -16,3 +16,7 @@ saved_of l = record { handles = l.handles; opens = l.opens }
 abbrev pub put_back : Saved → Lists → Lists
 put_back saved l =
     record { handles = saved.handles; opens = saved.opens; registrations = l.registrations }
+
+-- the lists with open items put back; the handles and the registrations stay
+abbrev pub with_opens : List OpenRecord → Lists → Lists
+with_opens opens l = record l { opens = opens }

@@ -1,5 +1,5 @@
 //! Uninstalling and reinstalling interfaces.
-ghost use Rattle.std.specs.Prelude.{◌≡◌, ◌<◌, ◌^◌, true, map, IfOk, OnOk, OnErr};
+ghost use Rattle.std.specs.Prelude.{◌≡◌, ◌<◌, ◌^◌, [], true, map, IfOk, OnOk, OnErr};
 ghost use Rattle.std.specs.List.{list_any};
 ghost use Rattle.guid_handles.specs.HandleTables.{carries, value_at};
 ghost use Rattle.guid_handles.specs.HandleChanges.{IsHandleTable};
@@ -12,7 +12,7 @@ ghost use Rattle.protocol_services.specs.Removing as spec;
 ghost use Rattle.protocol_services.specs.RemovalSteps.{FreesAndReplaces, PlansToFree, TakesOut, freed_and_replaced, leaves_keeper, stop_among, stop_to_free};
 
 use crate::protocols::Protocols;
-use driver_connect::{Connecting, Driver, StopPlan, connect_draft, may_start_after};
+use driver_connect::{Driver, StopPlan, may_start_after, replace_and_connect};
 use guid_handles::Handles;
 use open_agents::{BY_CHILD_CONTROLLER, EXCLUSIVE, OpenItem, Opens, Usage, is_for_driver};
 use page_ranges::Status;
@@ -266,7 +266,7 @@ impl<A: Allocator + Copy> Protocols<A> {
             guid,
             value,
         )? {
-            self.replace_on_draft(plan, drivers, handle, guid, value)
+            self.replace_and_connect(plan, drivers, handle, guid, value)
         } else {
             self.replace_in_place(plan, handle, guid, value)
         }
@@ -298,10 +298,78 @@ impl<A: Allocator + Copy> Protocols<A> {
         Ok(events)
     }
 
-    /// Frees an interface, gives it another value and connects its handle with all below it, on a copy of
-    /// the lists that is put in place at the end. It returns the events of the GUID, then those of the
-    /// connect. On an `Err` nothing changes.
-    fn replace_on_draft<D: Driver>(
+    /// Frees an interface, gives it another value and connects its handle with all below it. It returns
+    /// the events given, then those of the connect. On an `Err` memory ran out, and what the stop removed
+    /// is gone.
+    fn free_and_connect<D: Driver>(
+        &mut self,
+        plan: &StopPlan<A>,
+        drivers: &[D],
+        handle: u64,
+        guid: Uuid,
+        value: u64,
+        given: Vec<u64, A>,
+    ) -> Result<Vec<u64, A>, AllocError>
+        requires plan { plan.now ≡ stop_to_free self.old handle guid }
+        requires there { carries (spec.freed handle guid self.old).handles guid handle ≡ true }
+        requires room { spec.HasRoomToReinstall self.old }
+        requires given { given.items ≡ events_for self.old.registrations guid }
+        ensures ok { FreesAndReplaces
+            D.meaning drivers.now self.old handle guid value result self.new }
+        ensures raised { OnOk result (IsRaised self.old self.new) }
+        ensures handles { OnErr result
+            (self.new.handles ≡ without_handles plan.now.handles self.old.handles) }
+        ensures registrations { self.new.registrations ≡ self.old.registrations }
+    {
+        free(plan, &mut self.handles, &mut self.opens, handle, guid);
+        replace_and_connect(
+            self.alloc,
+            &mut self.handles,
+            &mut self.opens,
+            &self.registrations,
+            drivers,
+            handle,
+            guid,
+            value,
+            given,
+        )
+    }
+
+    /// Frees an interface by a stop that no handle goes with, gives it another value and connects its
+    /// handle with all below it. It returns the events of the GUID, then those of the connect. On an `Err`
+    /// nothing changes: a copy of the open items is put back.
+    fn connect_with_opens<D: Driver>(
+        &mut self,
+        plan: &StopPlan<A>,
+        drivers: &[D],
+        handle: u64,
+        guid: Uuid,
+        value: u64,
+    ) -> Result<Vec<u64, A>, AllocError>
+        requires plan { plan.now ≡ stop_to_free self.old handle guid }
+        requires there { carries (spec.freed handle guid self.old).handles guid handle ≡ true }
+        requires room { spec.HasRoomToReinstall self.old }
+        requires none { plan.now.handles ≡ [] }
+        ensures ok { FreesAndReplaces
+            D.meaning drivers.now self.old handle guid value result self.new }
+        ensures err { OnErr result (self.new ≡ self.old) }
+        ensures raised { IsRaised self.old self.new }
+    {
+        let events = self.registrations.signaled(guid)?;
+        let opens = self.opens.try_copy()?;
+        match self.free_and_connect(plan, drivers, handle, guid, value, events) {
+            Ok(events) => Ok(events),
+            Err(error) => {
+                self.put_opens_back(opens);
+                Err(error)
+            }
+        }
+    }
+
+    /// Frees an interface, gives it another value and connects its handle with all below it. It returns
+    /// the events of the GUID, then those of the connect. On an `Err` nothing changes: copies of the handles
+    /// and the open items are put back.
+    fn connect_with_copies<D: Driver>(
         &mut self,
         plan: &StopPlan<A>,
         drivers: &[D],
@@ -317,13 +385,39 @@ impl<A: Allocator + Copy> Protocols<A> {
         ensures err { OnErr result (self.new ≡ self.old) }
         ensures raised { IsRaised self.old self.new }
     {
-        let mut events = self.registrations.signaled(guid)?;
-        let mut draft = Connecting::begin(self.alloc, &self.handles, &self.opens)?;
-        free(plan, &mut draft.handles, &mut draft.opens, handle, guid);
-        draft.handles.replace(handle, guid, value);
-        connect_draft(self.alloc, &mut draft, &self.registrations, drivers, handle)?;
-        events.extend_from_slice(draft.events.as_slice())?;
-        draft.put_in_place(&mut self.handles, &mut self.opens);
-        Ok(events)
+        let events = self.registrations.signaled(guid)?;
+        let saved = self.saved()?;
+        match self.free_and_connect(plan, drivers, handle, guid, value, events) {
+            Ok(events) => Ok(events),
+            Err(error) => {
+                self.put_back(saved);
+                Err(error)
+            }
+        }
+    }
+
+    /// Frees an interface, gives it another value and connects its handle with all below it. It returns
+    /// the events of the GUID, then those of the connect. On an `Err` nothing changes.
+    fn replace_and_connect<D: Driver>(
+        &mut self,
+        plan: &StopPlan<A>,
+        drivers: &[D],
+        handle: u64,
+        guid: Uuid,
+        value: u64,
+    ) -> Result<Vec<u64, A>, AllocError>
+        requires plan { plan.now ≡ stop_to_free self.old handle guid }
+        requires there { carries (spec.freed handle guid self.old).handles guid handle ≡ true }
+        requires room { spec.HasRoomToReinstall self.old }
+        ensures ok { FreesAndReplaces
+            D.meaning drivers.now self.old handle guid value result self.new }
+        ensures err { OnErr result (self.new ≡ self.old) }
+        ensures raised { IsRaised self.old self.new }
+    {
+        if plan.takes_handles() {
+            self.connect_with_copies(plan, drivers, handle, guid, value)
+        } else {
+            self.connect_with_opens(plan, drivers, handle, guid, value)
+        }
     }
 }

@@ -1,6 +1,6 @@
 //! The lists as they were, to be put back.
 ghost use Rattle.std.specs.Prelude.{◌≡◌, IfOk};
-ghost use Rattle.protocol_services.specs.Saved.{put_back, saved_of};
+ghost use Rattle.protocol_services.specs.Saved.{put_back, saved_of, with_opens};
 
 use crate::protocols::Protocols;
 use guid_handles::Handles;
@@ -39,6 +39,13 @@ impl<A: Allocator + Copy> Protocols<A> {
     {
         let SavedLists { handles, opens } = saved;
         self.handles = handles;
+        self.opens = opens;
+    }
+
+    /// Puts open items back. The handles and the registrations stay.
+    pub(crate) fn put_opens_back(&mut self, opens: Opens<A>)
+        ensures { self.new ≡ with_opens opens self.old }
+    {
         self.opens = opens;
     }
 }

@@ -1,32 +1,11 @@
-use Rattle.std.proofs.Common.{sym}
-use Rattle.guid_handles.proofs.Stored.{is_recorded, keys_agree, stored_changed, turn_of_key, turned_below, uncarried}
+use Rattle.std.proofs.Common.{◌<◌, ◌+◌, refl, arith}
+use Rattle.std.proofs.lemmas.Bool.{ne_eqb}
+use Rattle.guid_handles.specs.TableSteps.{MayHave}
+use Rattle.guid_handles.proofs.SortedLists.{all_map}
 use Rattle.guid_handles.proofs.handles.Handles.replace.Goals as goal
 
-pub key_of-requires : goal.key_of-requires
-key_of-requires g c = keys_agree _ _ _ _ _ c.self.invariant
-
-pub restamp-own-requires : goal.restamp-own-requires
-restamp-own-requires g c = record { there = is_recorded _ _ _ _ _ c.self.invariant c.args.handle c.args.guid _ (sym c.in-Some.ensures) }
-
-pub move_last-requires-clause-there : goal.move_last-requires-clause-there
-move_last-requires-clause-there g c = turn_of_key _ _ _ _ _ c.self.invariant c.args.handle c.args.guid _ _ (sym c.in-Some.ensures) c.restamp-own.ensures.own
-
-pub move_last-requires-clause-last : goal.move_last-requires-clause-last
-move_last-requires-clause-last g c = turned_below _ _ _ _ _ c.self.invariant c.args.guid
-
-pub invariant_of-self : goal.invariant_of-self
-invariant_of-self g c =
-    (stored_changed _ _ _ _ _ c.self.invariant _ _ c.args.handle c.args.guid c.args.value _ _ (sym c.in-Some.ensures) c.restamp-own.ensures.own c.restamp-own.ensures.changed c.restamp-own.ensures.others
-    c.move_last.ensures.keys c.move_last.ensures.turns).1
-
-pub invariant_of-self-in_default : goal.invariant_of-self-in_default
-invariant_of-self-in_default g c = absurd (uncarried _ _ _ _ _ c.self.invariant c.args.handle c.args.guid (sym c.in_default.ensures) (rw (← c.self.view_is) at c.requires.there))
-
-pub returns-in-Some : goal.returns-in-Some
-returns-in-Some g c =
-    rw (← c.self.view_is)
-    (stored_changed _ _ _ _ _ c.self.invariant _ _ c.args.handle c.args.guid c.args.value _ _ (sym c.in-Some.ensures) c.restamp-own.ensures.own c.restamp-own.ensures.changed c.restamp-own.ensures.others
-    c.move_last.ensures.keys c.move_last.ensures.turns).0
-
-pub returns-in_default : goal.returns-in_default
-returns-in_default g c = absurd (uncarried _ _ _ _ _ c.self.invariant c.args.handle c.args.guid (sym c.in_default.ensures) (rw (← c.self.view_is) at c.requires.there))
+pub put-requires-clause-may : goal.put-requires-clause-may
+put-requires-clause-may g c =
+    let stamp = c.give_stamp-stamp.result in
+    rw c.give_stamp-stamp.ensures.table
+    (all_map (λ i. i.stamp < stamp) (MayHave c.args.handle c.args.guid stamp) (λ i l. (λ t. omega (arith, l), λ f. ne_eqb i.stamp stamp (λ e. omega (arith, e, l)))) _ c.give_stamp-stamp.ensures.earlier)

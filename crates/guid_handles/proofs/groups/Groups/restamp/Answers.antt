@@ -2,7 +2,7 @@ use Rattle.std.proofs.Common.{sym, ap, ◌∙◌, ◌≡◌, ◌==◌, true, fal
 use Rattle.std.specs.List.{list_any}
 use Rattle.guid_handles.specs.declared.records.Turn.{Turn}
 use Rattle.guid_handles.proofs.Grouped.{no_turns}
-use Rattle.guid_handles.proofs.groups.Groups.move_last.Goals as goal
+use Rattle.guid_handles.proofs.groups.Groups.restamp.Goals as goal
 
 pub returns-in_default-clause-keys : goal.returns-in_default-clause-keys
 returns-in_default-clause-keys g c =

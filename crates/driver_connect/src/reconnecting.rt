@@ -1,0 +1,62 @@
+//! Putting another value in place of an interface's, and connecting its handle.
+ghost use Rattle.std.specs.Prelude.{◌≡◌, ◌+◌, ◌<◌, ◌≤◌, ◌^◌, true, IfOk, OnErr};
+ghost use Rattle.guid_handles.specs.HandleTables.{carries};
+ghost use Rattle.guid_handles.specs.HandleChanges.{with_value};
+ghost use Rattle.driver_connect.specs.Connecting.{ConnectsBelow};
+ghost use Rattle.driver_connect.specs.Starting.{site_of};
+
+use crate::connecting::connect_below;
+use crate::driver::Driver;
+use guid_handles::Handles;
+use open_agents::Opens;
+use protocol_notify::Notify;
+use std::alloc::{AllocError, Allocator};
+use uuid::Uuid;
+
+/// Gives an interface another value and a new stamp, and connects its handle with all below it, with no
+/// driver named. It returns the events given, then those of the connect. On an `Err` memory ran out, and
+/// nothing changes. No driver is shown a stamp, so the interface keeps its own until no more memory is
+/// taken.
+pub fn replace_and_connect<D: Driver, A: Allocator + Copy>(
+    alloc: A,
+    handles: &mut Handles<A>,
+    opens: &mut Opens<A>,
+    notify: &Notify<A>,
+    drivers: &[D],
+    handle: u64,
+    guid: Uuid,
+    value: u64,
+    given: Vec<u64, A>,
+) -> Result<Vec<u64, A>, AllocError>
+    requires there { carries handles.old guid handle ≡ true }
+    requires numbers { handles.old.last_number < 2 ^ 61 }
+    requires stamps { handles.old.last_stamp + 1 < 2 ^ 61 }
+    ensures ok { IfOk result (λ events. ConnectsBelow
+        (site_of D.meaning drivers.now notify.now handle)
+        (with_value handle guid value handles.old) opens.old given.items
+        events.items handles.new opens.new) }
+    ensures err { OnErr result ((handles.new ≡ handles.old) × (opens.new ≡ opens.old)) }
+    ensures numbers { handles.new.last_number ≤ handles.old.last_number + 4096 }
+    ensures stamps { handles.new.last_stamp ≤ handles.old.last_stamp + 16385 }
+{
+    let Some(own) = handles.installed(handle, guid) else {
+        unreachable!();
+    };
+    // The contracts of these look-ups say that the handles are in order, and that no stamp is later.
+    let _numbers = handles.all();
+    let last_number = handles.last_number();
+    let last_stamp = handles.last_stamp();
+    handles.put(handle, guid, value, own.stamp);
+    let stamp = handles.give_stamp();
+    match connect_below(alloc, handles, opens, notify, drivers, handle, given) {
+        Ok(events) => {
+            handles.put(handle, guid, value, stamp);
+            Ok(events)
+        }
+        Err(error) => {
+            handles.put(handle, guid, own.value, own.stamp);
+            handles.take_back_to(last_number, last_stamp);
+            Err(error)
+        }
+    }
+}
