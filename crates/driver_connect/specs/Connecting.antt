@@ -6,6 +6,7 @@ use Rattle.std.specs.Result.{result_map_both}
 use Rattle.page_ranges.specs.declared.statuses.Status.{Status}
 use Rattle.page_ranges.specs.declared.statuses.Status.TheVariants.{InvalidParameter, OutOfResources, NotFound}
 use Rattle.guid_handles.specs.HandleTables.{HandleTable, numbers, is_live}
+use Rattle.guid_handles.specs.HandleChanges.{with_value}
 use Rattle.open_agents.specs.declared.items.OpenRecord.{OpenRecord}
 use Rattle.protocol_notify.specs.declared.notify.Registration.{Registration}
 use Rattle.driver_connect.specs.Drivers.{Meaning}
@@ -75,11 +76,28 @@ ConnectsBy meaning drivers rs handle named recursive t opens result new_t new_op
     Connects (site_of meaning drivers rs handle) named recursive t opens
     (result_map_both (λ v. v.items) (λ e. e) result) new_t new_opens
 
+-- a handle and all below it, connected with no driver named
+abbrev pub connected_below : Site → Progress → Progress
+connected_below c p = connected (levels_below true) c [] p
+
 -- A handle and all below it are connected, with no driver named: events that are given come before
 -- those of the connect.
 abbrev pub ConnectsBelow : Site → HandleTable → List OpenRecord → List ℕ → List ℕ → HandleTable
     → List OpenRecord → Type 0
 ConnectsBelow c t opens given events new_t new_opens =
-    (new_t ≡ (connected (levels_below true) c [] (first_progress t opens)).handles)
-    × (new_opens ≡ (connected (levels_below true) c [] (first_progress t opens)).opens)
-    × (events ≡ given ++ (connected (levels_below true) c [] (first_progress t opens)).events)
+    (new_t ≡ (connected_below c (first_progress t opens)).handles)
+    × (new_opens ≡ (connected_below c (first_progress t opens)).opens)
+    × (events ≡ given ++ (connected_below c (first_progress t opens)).events)
+
+-- The same with drivers of these meanings.
+abbrev pub ConnectsAll : {D : Type 0} → (D → Meaning) → List D → List Registration → ℕ → HandleTable
+    → List OpenRecord → List ℕ → List ℕ → HandleTable → List OpenRecord → Type 0
+ConnectsAll meaning drivers rs handle t opens given events new_t new_opens =
+    ConnectsBelow (site_of meaning drivers rs handle) t opens given events new_t new_opens
+
+-- The same once an interface of the handle has another value and a new stamp.
+abbrev pub Reconnects : {D : Type 0} → (D → Meaning) → List D → List Registration → ℕ → List ℕ → ℕ
+    → HandleTable → List OpenRecord → List ℕ → List ℕ → HandleTable → List OpenRecord → Type 0
+Reconnects meaning drivers rs handle guid value t opens given events new_t new_opens =
+    ConnectsAll meaning drivers rs handle (with_value handle guid value t) opens given events
+    new_t new_opens

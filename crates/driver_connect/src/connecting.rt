@@ -1,7 +1,7 @@
 //! Connecting a handle, and the handles that are made.
 ghost use Rattle.std.specs.Prelude.{◌≡◌, ◌+◌, ◌<◌, ◌≤◌, ◌^◌, ◌++◌, true, false, [], map, IfOk, OnOk, OnErr};
 ghost use Rattle.driver_connect.specs.Connecting as spec;
-ghost use Rattle.driver_connect.specs.Connecting.{ConnectsBelow, ConnectsBy};
+ghost use Rattle.driver_connect.specs.Connecting.{ConnectsAll, ConnectsBy};
 ghost use Rattle.driver_connect.specs.GoingOn.{GoesOn};
 ghost use Rattle.driver_connect.specs.Room.{HasRoom, Grows};
 ghost use Rattle.driver_connect.specs.Starting.{site_of, starts_on, is_any_carried_out as is_any};
@@ -207,8 +207,8 @@ fn connect_all<D: Driver, A: Allocator + Copy>(
 ) -> Result<(), AllocError>
     requires { HasRoom connecting.old.handles }
     ensures progress { OnOk result
-        (connecting.new ≡ spec.connected (spec.levels_below true)
-        (site_of D.meaning drivers.now notify.now controller) [] connecting.old) }
+        (connecting.new ≡ spec.connected_below
+        (site_of D.meaning drivers.now notify.now controller) connecting.old) }
     ensures events { OnOk result
         (events.new.items ≡ events.old.items ++ connecting.new.events) }
     ensures grows { OnOk result (Grows connecting.old.handles connecting.new.handles) }
@@ -240,9 +240,8 @@ pub(crate) fn connect_below<D: Driver, A: Allocator + Copy>(
 ) -> Result<Vec<u64, A>, AllocError>
     requires numbers { handles.old.last_number < 2 ^ 61 }
     requires stamps { handles.old.last_stamp < 2 ^ 61 }
-    ensures ok { IfOk result (λ events. ConnectsBelow
-        (site_of D.meaning drivers.now notify.now handle)
-        handles.old opens.old given.items events.items handles.new opens.new) }
+    ensures ok { IfOk result (λ events. ConnectsAll D.meaning drivers.now notify.now
+        handle handles.old opens.old given.items events.items handles.new opens.new) }
     ensures err { OnErr result ((handles.new ≡ handles.old) × (opens.new ≡ opens.old)) }
     ensures numbers { handles.new.last_number ≤ handles.old.last_number + 4096 }
     ensures stamps { handles.new.last_stamp ≤ handles.old.last_stamp + 16384 }

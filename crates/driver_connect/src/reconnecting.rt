@@ -1,9 +1,7 @@
 //! Putting another value in place of an interface's, and connecting its handle.
 ghost use Rattle.std.specs.Prelude.{◌≡◌, ◌+◌, ◌<◌, ◌≤◌, ◌^◌, true, IfOk, OnErr};
 ghost use Rattle.guid_handles.specs.HandleTables.{carries};
-ghost use Rattle.guid_handles.specs.HandleChanges.{with_value};
-ghost use Rattle.driver_connect.specs.Connecting.{ConnectsBelow};
-ghost use Rattle.driver_connect.specs.Starting.{site_of};
+ghost use Rattle.driver_connect.specs.Connecting.{Reconnects};
 
 use crate::connecting::connect_below;
 use crate::driver::Driver;
@@ -31,10 +29,8 @@ pub fn replace_and_connect<D: Driver, A: Allocator + Copy>(
     requires there { carries handles.old guid handle ≡ true }
     requires numbers { handles.old.last_number < 2 ^ 61 }
     requires stamps { handles.old.last_stamp + 1 < 2 ^ 61 }
-    ensures ok { IfOk result (λ events. ConnectsBelow
-        (site_of D.meaning drivers.now notify.now handle)
-        (with_value handle guid value handles.old) opens.old given.items
-        events.items handles.new opens.new) }
+    ensures ok { IfOk result (λ e. Reconnects D.meaning drivers.now notify.now
+        handle guid value handles.old opens.old given.items e.items handles.new opens.new) }
     ensures err { OnErr result ((handles.new ≡ handles.old) × (opens.new ≡ opens.old)) }
     ensures numbers { handles.new.last_number ≤ handles.old.last_number + 4096 }
     ensures stamps { handles.new.last_stamp ≤ handles.old.last_stamp + 16385 }

@@ -87,7 +87,8 @@ put_at n guid value stamp t =
 -- the interface of a GUID on a handle may have a stamp: it has none above that, and no other has it
 abbrev pub MayHave : ℕ → List ℕ → ℕ → Interface → Type 0
 MayHave n guid stamp i =
-    (is_at n guid i ≡ true → i.stamp ≤ stamp) × (is_at n guid i ≡ false → (i.stamp == stamp) ≡ false)
+    (is_at n guid i ≡ true → i.stamp ≤ stamp)
+    × (is_at n guid i ≡ false → (i.stamp == stamp) ≡ false)
 
 -- an interface is the one of a GUID on a handle, or has another stamp
 abbrev pub IsAlone : ℕ → List ℕ → Interface → Interface → Type 0
