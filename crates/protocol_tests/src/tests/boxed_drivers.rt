@@ -1,5 +1,5 @@
 //! A core with drivers in boxes, which may be of several kinds.
-use super::{Returned, Services, guid, returned_by, small_machine, returns};
+use super::{Returned, Services, guid, returned_by, returns, small_machine};
 use arrayvec::ArrayVec;
 use boot_core::{Call, CallHandles, Core, Reply};
 use driver_connect::{Driver, StartPlan, TableDriver, View, driver_binding};

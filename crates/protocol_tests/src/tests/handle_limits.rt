@@ -1,5 +1,5 @@
 //! The most handles that can be live.
-use super::{Services, assert_returns, guid, small_core, returns_one};
+use super::{Services, assert_returns, guid, returns_one, small_core};
 use boot_core::{Call, Core};
 use driver_connect::TableDriver;
 use page_ranges::Status;
@@ -19,7 +19,13 @@ fn assert_installed(
         kind: 0,
         value: 0,
     };
-    assert_returns(rt, core, Services::Installing, call, returns_one(rt, answer));
+    assert_returns(
+        rt,
+        core,
+        Services::Installing,
+        call,
+        returns_one(rt, answer),
+    );
 }
 
 /// 4,096 handles can be live; a live one still takes interfaces then.
