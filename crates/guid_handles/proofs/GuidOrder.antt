@@ -1,6 +1,5 @@
 -- The order of GUIDs: which groups come before a GUID, and which one is of it.
-use Rattle.std.proofs.Common.{◌≡◌, ◌≢◌, ◌&&◌, Bool, true, false, List, [], ◌∷◌, inl, inr, refl, sym, ap, ◌∙◌, ℕ, ◌≤◌, length, drop}
-use Rattle.std.proofs.Math.ListN.{drop_of_length-le}
+use Rattle.std.proofs.Common.{◌≡◌, ◌≢◌, ◌&&◌, Bool, true, false, List, [], ◌∷◌, inl, inr, refl, sym, ap, ◌∙◌, ℕ}
 use Rattle.std.specs.declared.cmp.Ordering.{Ordering}
 use Rattle.std.specs.declared.cmp.Ordering.TheVariants.{Less, Equal, Greater}
 use Rattle.std.specs.Ordering.{nat_cmp, ordering_reverse, is_lt, is_eq}
@@ -50,10 +49,6 @@ pub greater_of : (o : Ordering) → is_lt o ≡ false → is_eq o ≡ false → 
 greater_of Less h k = cc
 greater_of Equal h k = cc
 greater_of Greater h k = refl
-
--- lists of bytes that were compared to their ends
-pub ordered_whole : (xs ys : List ℕ) (k : ℕ) → length xs ≤ k → length ys ≤ k → is_lt (slice_cmp nat_cmp (drop k xs) (drop k ys)) ≡ false
-ordered_whole xs ys k l m = rw (drop_of_length-le xs {i = k} l, drop_of_length-le ys {i = k} m) refl
 
 -- ---- GUIDs
 

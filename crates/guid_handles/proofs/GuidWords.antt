@@ -40,7 +40,7 @@ first_bytes (a ∷ b ∷ c ∷ d ∷ e ∷ f ∷ g ∷ h ∷ xs) l s =
 same_bytes : (xs ys : List ℕ) → 8 ≤ length xs → 8 ≤ length ys → AreBytes xs → AreBytes ys → from_le_bytes w64 xs ≡ from_le_bytes w64 ys → take 8 xs ≡ take 8 ys
 same_bytes xs ys l m s t e = sym (first_bytes xs l s) ∙ ap (to_le_bytes w64) e ∙ first_bytes ys m t
 
-bytes_behind : (xs : List ℕ) (n : ℕ) → AreBytes xs → AreBytes (drop n xs)
+pub bytes_behind : (xs : List ℕ) (n : ℕ) → AreBytes xs → AreBytes (drop n xs)
 bytes_behind xs n s i = omega (arith, get_or-drop n xs i 0, s (n + i))
 
 -- lists of 16 bytes with the same two numbers are the same

@@ -3,6 +3,7 @@ pub mod Filters
 pub mod Retained
 pub mod GuidOrder
 pub mod GuidWords
+pub mod GuidNumbers
 pub mod Indexed
 pub mod Grouped
 pub mod Beside

@@ -1,8 +1,7 @@
 -- Lists in order: where a test stops passing, what is found there, and what insertions, filters and changes keep.
 use Rattle.std.proofs.Math.Seq.{drop-cons}
-use Rattle.std.proofs.Math.ListN.{drop_of_length-le, set}
-use lib.Pointwise.{pointwise}
-use Rattle.std.proofs.Common.{add-one, ◌≡◌, ◌⊎◌, ℕ, zero, suc, ◌+◌, ◌-◌, ◌<◌, ◌≤◌, ◌==◌, ◌||◌, nat_eq, nat_lt, not, subst, Bool, true, false, cond, List, [], ◌∷◌, ◌++◌, map, length, take, drop, get_or, Option, Some, None, is_some, inl, inr, refl, sym, ap, ◌∙◌, arith}
+use Rattle.std.proofs.Math.ListN.{set}
+use Rattle.std.proofs.Common.{add-one, ◌≡◌, ◌⊎◌, ℕ, zero, suc, ◌+◌, ◌-◌, ◌<◌, ◌≤◌, ◌==◌, ◌||◌, nat_lt, not, subst, Bool, true, false, cond, List, [], ◌∷◌, ◌++◌, map, length, take, drop, get_or, Option, Some, None, is_some, inl, inr, refl, sym, ap, ◌∙◌, arith}
 use Rattle.std.specs.List.{filter, find, list_any, AllByRecursion, slice_get, insert, remove}
 use Rattle.std.specs.List.Sorted.{IsPartitionedBy, IsPartitionPoint}
 use Rattle.std.specs.Option.{option_map}
@@ -14,12 +13,6 @@ use Rattle.std.proofs.lemmas.Bool.Decides.{eqb_tells}
 use Rattle.std.proofs.lemmas.Option.{same_Some}
 use Rattle.guid_handles.specs.HandleTables.{written_over}
 use Rattle.guid_handles.specs.Sorting.{Ascending, place, kept_if}
-
--- ---- whole lists
-
--- lists of numbers that were compared to their ends
-pub compared_whole : (xs ys : List ℕ) (k : ℕ) → length xs ≤ k → length ys ≤ k → pointwise nat_eq (drop k xs) (drop k ys) ≡ true
-compared_whole xs ys k l m = rw (drop_of_length-le xs {i = k} l, drop_of_length-le ys {i = k} m) refl
 
 -- ---- all items
 
