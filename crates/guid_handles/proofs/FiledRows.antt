@@ -171,6 +171,14 @@ filed_changes n fs at f new k a h e l g c =
       ];
     }
 
+-- the keys of that handle are then those of its row
+pub keys_after : (n : ℕ) (fs : List FiledRow) (at : ℕ) (f new : FiledRow) → Ascending (λ a b. a < b) (filed_numbers fs) → is_filed_at n fs at ≡ true → slice_get fs at ≡ Some f
+    → new.row.live ≡ f.row.live → new.gone ≡ f.gone → keys_on (rows_in (set fs at new)) n ≡ new.row.keys
+keys_after n fs at f new a h e l g =
+    let changed = filed_changes n fs at f new (λ ks. new.row.keys) a h e l g refl in
+    let same : (n == n) ≡ true = eq-eqb n n refl in
+    rw same at (changed.keys n)
+
 -- the numbers stay where the live handles do
 pub rows_changed : (fs gs : List FiledRow) (ns : List ℕ) → AreRows fs ns → filed_numbers gs ≡ filed_numbers fs → lives (rows_in gs) ≡ lives (rows_in fs) → AreRows gs ns
 rows_changed fs gs ns r e l = record {

@@ -11,7 +11,7 @@ use Rattle.guid_handles.specs.declared.records.Interface.{Interface}
 use Rattle.guid_handles.specs.declared.records.LiveHandle.{LiveHandle}
 use Rattle.guid_handles.specs.declared.records.Record.{Record}
 use Rattle.guid_handles.specs.HandleTables.{HandleTable, numbers, same_guid, is_on, is_at, is_live, has_number, carries, holders_of}
-use Rattle.guid_handles.specs.HandleChanges.{IsHandleTable, max_handles, is_taken, has_guid_twice, stamped, restamped, with_interfaces, with_handle, with_value, without_handle}
+use Rattle.guid_handles.specs.HandleChanges.{IsHandleTable, max_handles, is_taken, has_guid_twice, stamped, restamped, with_interfaces, with_handle, without_handle}
 use Rattle.guid_handles.specs.Sorting.{Ascending}
 use Rattle.guid_handles.specs.Indexes.{Row, Group, ChangesKeys, ChangesTurns, AreOn, AreAbsent, HaveSameTurns, lives, is_row_of, row_numbers, keys_of, keys_on, key_at, turns_of, with_turn, without_turn}
 use Rattle.guid_handles.specs.Slots.{at_key, at_keys, record_at, installed_until, with_stamp}
@@ -28,7 +28,7 @@ use Rattle.guid_handles.proofs.Numbered.{find_lives, live_numbers}
 use Rattle.guid_handles.proofs.Slotted.{AreBelow, tagged, until_changed, until_later, until_less, until_more}
 use Rattle.guid_handles.proofs.Grouped.{is_same, none_of, some_map}
 use Rattle.guid_handles.proofs.InTurn.{turn_there, turns_below, found_alone, turns_changed, turns_free, turns_less, turns_more}
-use Rattle.guid_handles.proofs.Filed.{agreed, found_at, have_these, filed_changed, filed_less, filed_more, keyed_at, only_one}
+use Rattle.guid_handles.proofs.Filed.{agreed, found_at, have_long, have_these, filed_changed, filed_less, filed_more, keyed_at, only_one}
 
 -- ---- tables
 
@@ -380,6 +380,12 @@ module _ (rows : List Row) (slots : List (Option Record)) (groups : List Group) 
 
   pub carried_these : (n : ℕ) → at_keys slots (keys_on rows n) ≡ filter (is_on n) (installed_until stamp slots)
   carried_these n = have_these slots (keys_on rows n) (filter (is_on n) (installed_until stamp slots)) (carried_at n)
+
+  -- keys are left in the row of a handle where an interface is on it
+  pub left_on : (n : ℕ) → not (length (keys_on rows n) == 0) ≡ list_any (is_on n) (installed_until stamp slots)
+  left_on n =
+      rw (have_long slots (keys_on rows n) (filter (is_on n) (installed_until stamp slots)) (carried_at n))
+      (any_counted (is_on n) (installed_until stamp slots))
 
   at_others : (new : List (Option Record)) (key : ℕ) → ((j : ℕ) → j ≢ key → record_at new j ≡ record_at slots j) → (j : ℕ) → j ≢ key → at_key new j ≡ at_key slots j
   at_others new key others j d = ap (option_map (λ r. r.interface)) (others j d)

@@ -1,5 +1,5 @@
 //! The row of one handle.
-ghost use Rattle.std.specs.Prelude.{◌≡◌, ◌==◌, ◌++◌, [], ◌∷◌, not, true, false, IfOk, OnOk, OnErr};
+ghost use Rattle.std.specs.Prelude.{◌≡◌, ◌==◌, ◌++◌, [], ◌∷◌, not, true, false, length, IfOk, OnOk, OnErr};
 ghost use Rattle.std.specs.List.{filter};
 ghost use Rattle.guid_handles.specs.Indexes.{is_filed_of};
 
@@ -106,12 +106,14 @@ impl<A: Allocator + Copy> HandleRow<A> {
         self.keys.push(key)
     }
 
-    /// Removes a key.
-    pub(crate) fn remove_key(&mut self, key: usize)
+    /// Removes a key, and returns whether others are left.
+    pub(crate) fn remove_key(&mut self, key: usize) -> bool
         ensures live { self.new.row.live ≡ self.old.row.live }
         ensures gone { self.new.gone ≡ self.old.gone }
         ensures keys { self.new.row.keys ≡ filter (λ k. not (k == key)) self.old.row.keys }
+        ensures left { result ≡ not (length self.new.row.keys == 0) }
     {
         self.keys.remove(key);
+        !self.keys.as_slice().is_empty()
     }
 }

@@ -556,14 +556,19 @@ impl<A: Allocator + Copy> Handles<A> {
         self.install_on_new(Some((controller, agent)), pairs)
     }
 
-    /// Removes an interface, and leaves its handle.
-    fn take_out(&mut self, handle: u64, guid: Uuid)
-        ensures { self.new ≡ taken_out handle guid self.old }
+    /// Removes an interface, and leaves its handle. Returns whether others are left on it.
+    fn take_out(&mut self, handle: u64, guid: Uuid) -> bool
+        ensures table { self.new ≡ taken_out handle guid self.old }
+        ensures any { result ≡ list_any (is_on handle) self.new.interfaces }
+        ensures live { result ≡ true → is_live self.new handle ≡ true }
     {
-        if let Some(key) = key_of(&self.rows, &self.records, &self.groups, handle, guid) {
-            let stamp = take_record(&mut self.records, key);
-            self.rows.remove_key(handle, key);
-            self.groups.remove(guid, handle, stamp);
+        match key_of(&self.rows, &self.records, &self.groups, handle, guid) {
+            Some(key) => {
+                let stamp = take_record(&mut self.records, key);
+                self.groups.remove(guid, handle, stamp);
+                self.rows.remove_key(handle, key)
+            }
+            None => self.has_any(handle),
         }
     }
 
@@ -574,8 +579,7 @@ impl<A: Allocator + Copy> Handles<A> {
         ensures table { self.new ≡ without_interface handle guid self.old }
         ensures gone { result ≡ not (is_live self.new handle) }
     {
-        self.take_out(handle, guid);
-        if self.has_any(handle) {
+        if self.take_out(handle, guid) {
             return false;
         }
         self.remove_bare(handle);

@@ -292,12 +292,14 @@ impl<A: Allocator + Copy> Rows<A> {
         }
     }
 
-    /// Removes a key of a handle.
-    pub(crate) fn remove_key(&mut self, number: u64, key: usize)
-        ensures { ChangesKeys number (filter (λ k. not (k == key))) self.old self.new }
+    /// Removes a key of a handle, and returns whether others are left.
+    pub(crate) fn remove_key(&mut self, number: u64, key: usize) -> bool
+        ensures keys { ChangesKeys number (filter (λ k. not (k == key))) self.old self.new }
+        ensures left { result ≡ not (length (keys_on self.new number) == 0) }
     {
-        if let Some(at) = place_of(self.rows.as_slice(), number) {
-            self.rows[at].remove_key(key);
+        match place_of(self.rows.as_slice(), number) {
+            Some(at) => self.rows[at].remove_key(key),
+            None => false,
         }
     }
 }

@@ -1,5 +1,3 @@
-use Rattle.std.proofs.Common.{Option, None, Some, IfSome, sym, ◌≡◌, ◌∙◌, ◌≤◌}
-use Rattle.std.specs.List.{AllByRecursion}
 use Rattle.guid_handles.proofs.Stored.{alone_if, given_if}
 use Rattle.guid_handles.proofs.handles.Handles.installed.Goals as goal
 

@@ -1,4 +1,4 @@
-use Rattle.std.proofs.Common.{◌<◌, ◌+◌, refl, arith}
+use Rattle.std.proofs.Common.{◌<◌, arith}
 use Rattle.std.proofs.lemmas.Bool.{ne_eqb}
 use Rattle.guid_handles.specs.TableSteps.{MayHave}
 use Rattle.guid_handles.proofs.SortedLists.{all_map}

@@ -1,5 +1,6 @@
-use Rattle.std.proofs.Common.{sym}
-use Rattle.guid_handles.proofs.Stored.{is_recorded, keys_agree, stored_kept, stored_less}
+use Rattle.std.proofs.Common.{sym, ◌∙◌}
+use Rattle.guid_handles.proofs.Found.{carrier_live}
+use Rattle.guid_handles.proofs.Stored.{is_recorded, keys_agree, left_on, stored_kept, stored_less}
 use Rattle.guid_handles.proofs.handles.Handles.take_out.Goals as goal
 
 pub key_of-requires : goal.key_of-requires
@@ -11,13 +12,25 @@ take_record-stamp-requires g c = record { there = is_recorded _ _ _ _ _ c.self.i
 pub invariant_of-self : goal.invariant_of-self
 invariant_of-self g c =
     (stored_less _ _ _ _ _ c.self.invariant _ _ _ c.args.handle c.args.guid _ _ (sym c.in-Some.ensures) c.take_record-stamp.ensures.own c.take_record-stamp.ensures.gone c.take_record-stamp.ensures.others
-    c.remove_key.ensures c.remove.ensures.keys c.remove.ensures.turns).1
+    c.remove_key.ensures.keys c.remove.ensures.keys c.remove.ensures.turns).1
 
-pub returns-in-Some : goal.returns-in-Some
-returns-in-Some g c =
+pub returns-in-Some-clause-table : goal.returns-in-Some-clause-table
+returns-in-Some-clause-table g c =
     rw (← c.self.view_is)
     (stored_less _ _ _ _ _ c.self.invariant _ _ _ c.args.handle c.args.guid _ _ (sym c.in-Some.ensures) c.take_record-stamp.ensures.own c.take_record-stamp.ensures.gone c.take_record-stamp.ensures.others
-    c.remove_key.ensures c.remove.ensures.keys c.remove.ensures.turns).0
+    c.remove_key.ensures.keys c.remove.ensures.keys c.remove.ensures.turns).0
 
-pub returns-in_default : goal.returns-in_default
-returns-in_default g c = rw (← c.self.view_is) (stored_kept _ _ _ _ _ c.self.invariant c.args.handle c.args.guid (sym c.in_default.ensures))
+pub returns-in-Some-clause-any : goal.returns-in-Some-clause-any
+returns-in-Some-clause-any g c =
+    let kept = (stored_less _ _ _ _ _ c.self.invariant _ _ _ c.args.handle c.args.guid _ _ (sym c.in-Some.ensures) c.take_record-stamp.ensures.own c.take_record-stamp.ensures.gone c.take_record-stamp.ensures.others
+        c.remove_key.ensures.keys c.remove.ensures.keys c.remove.ensures.turns).1 in
+    c.remove_key.ensures.left ∙ left_on _ _ _ _ _ kept c.args.handle
+
+pub returns-in-Some-clause-live : goal.returns-in-Some-clause-live
+returns-in-Some-clause-live g c = λ t.
+    let kept = (stored_less _ _ _ _ _ c.self.invariant _ _ _ c.args.handle c.args.guid _ _ (sym c.in-Some.ensures) c.take_record-stamp.ensures.own c.take_record-stamp.ensures.gone c.take_record-stamp.ensures.others
+        c.remove_key.ensures.keys c.remove.ensures.keys c.remove.ensures.turns).1 in
+    carrier_live _ kept.table.proper c.args.handle (sym (c.remove_key.ensures.left ∙ left_on _ _ _ _ _ kept c.args.handle) ∙ t)
+
+pub returns-in-None-clause-table : goal.returns-in-None-clause-table
+returns-in-None-clause-table g c = rw (← c.self.view_is) (stored_kept _ _ _ _ _ c.self.invariant c.args.handle c.args.guid (sym c.in-None.ensures))

@@ -1,5 +1,4 @@
-use Rattle.std.proofs.Common.{refl, sym, ap, ◌∙◌}
-use Rattle.guid_handles.specs.TurnSteps.{turn_in}
+use Rattle.std.proofs.Common.{refl, sym, ◌∙◌}
 use Rattle.guid_handles.proofs.InTurn.{in_turn_insert, in_turn_remove, turn_gone, turn_missed}
 use Rattle.guid_handles.proofs.turns.Turns.restamp.Goals as goal
 
