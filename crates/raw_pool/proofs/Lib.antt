@@ -13,3 +13,7 @@ pub mod Writes
 pub mod Regions
 pub mod RawSteps
 pub mod Leases
+mod PageContents
+mod PageRuns
+mod PageUnits
+mod PageRows

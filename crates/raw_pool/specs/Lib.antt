@@ -6,3 +6,8 @@ pub mod Stores
 pub mod Ownership
 pub mod RawRows
 pub mod Answers
+pub mod PageMarks
+pub mod PagePlaces
+pub mod PageOwnership
+pub mod PageCells
+pub mod GivenRows

@@ -4,6 +4,7 @@ ghost use Rattle.std.specs.Option.{is_some, option_map};
 ghost use Rattle.raw_pool.specs.Answers.{bytes_at};
 ghost use Rattle.raw_pool.specs.Blocks.{block_at, cells_for, given, holds_range, longest_run, lowest_fit, taken, written};
 
+use crate::pages::PageHeap;
 use crate::region::Region;
 use crate::store::{CELL_SIZE, Store};
 use std::alloc::{AllocError, Allocator, Global};
@@ -43,6 +44,29 @@ impl<A: Allocator + Copy> RawPool<A> {
     {
         let cells = PAGE_CELLS * pages;
         let region = Region::new(alloc, CELL_SIZE * cells, cells)?;
+        let store = Store {
+            region,
+            cells,
+            head: 0,
+        };
+        Ok(RawPool {
+            store: Box::new(alloc, store)?,
+        })
+    }
+
+    /// The same over pages of a heap, from one on, where all of them are free: the bytes of the cells are these
+    /// pages, and go back to the heap with the region.
+    pub fn over(
+        alloc: A,
+        home: &'static PageHeap,
+        at: usize,
+        pages: usize,
+    ) -> Result<RawPool<A>, AllocError>
+        requires { (1 ≤ pages) × (pages ≤ 2 ^ 21) }
+        ensures { IfOk result (λ p. p ≡ record { cells = 128 * pages; blocks = [] }) }
+    {
+        let cells = PAGE_CELLS * pages;
+        let region = Region::over(alloc, home, at, pages, cells)?;
         let store = Store {
             region,
             cells,

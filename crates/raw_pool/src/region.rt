@@ -1,31 +1,45 @@
 //! The memory of a region: one block, with the bytes of its cells and behind them their marks.
-ghost use Rattle.std.specs.Prelude.{◌≡◌, ◌≤◌, ◌<◌, ◌+◌, ◌^◌, [], ◌∷◌, length, replicate, IfOk};
+ghost use Rattle.std.specs.Prelude.{◌≡◌, ◌≤◌, ◌<◌, ◌+◌, ◌*◌, ◌^◌, [], ◌∷◌, length, replicate, IfOk};
 ghost use Rattle.byteorder.specs.Endian.{little_bytes};
 ghost use Rattle.raw_pool.specs.Answers.{IsUnset};
 ghost use Rattle.raw_pool.specs.Bytes.{with_put, word};
 
+use crate::pages::PageHeap;
 use crate::raw_bytes::{Lease, RawBytes};
 use std::alloc::{AllocError, Allocator, Global};
 use std::marker::Model;
 
-/// A block of memory in two parts, the bytes of cells and the marks, each set from its first byte on.
+/// Pages of a heap that are a region's bytes, in place of a part of its own block.
+pub(crate) struct Given {
+    home: &'static PageHeap,
+    at: usize,
+    pages: usize,
+    // The part of the block that they are in place of, which has no byte.
+    none: RawBytes,
+}
+
+/// The bytes of cells and their marks, each set from its first byte on. Both are parts of a block of memory, or the bytes
+/// are pages of a heap.
 pub(crate) struct Region<A: Allocator = Global> {
     alloc: A,
     bytes: RawBytes,
     marks: RawBytes,
     lease: Lease<A>,
+    given: Option<Given>,
 }
 
 impl<A: Allocator> Model for Region<A> {
     ghost use Rattle.std.specs.Prelude.{◌≡◌};
     ghost use Rattle.raw_pool.specs.Bytes.{Parts};
-    ghost use Rattle.raw_pool.specs.RawRows.{AreLeased, bytes_of};
+    ghost use Rattle.raw_pool.specs.RawRows.{bytes_of};
+    ghost use Rattle.raw_pool.specs.GivenRows.{AreHeld};
 
     ghost Value = { Parts };
 
     ghost view = { λ r. record { bytes = bytes_of r.bytes; marks = bytes_of r.marks } };
 
-    ghost invariant = { λ r. AreLeased r.bytes r.marks r.lease × (r.lease.alloc ≡ r.alloc) };
+    ghost invariant = { λ r.
+        AreHeld r.given r.bytes r.marks r.lease × (r.lease.alloc ≡ r.alloc) };
 }
 
 impl<A: Allocator> Region<A> {
@@ -40,6 +54,43 @@ impl<A: Allocator> Region<A> {
             bytes,
             marks,
             lease,
+            given: None,
+        })
+    }
+
+    /// The same over pages of a heap, from one on, where all of them are free.
+    pub(crate) fn over(
+        alloc: A,
+        home: &'static PageHeap,
+        at: usize,
+        pages: usize,
+        marks: usize,
+    ) -> Result<Region<A>, AllocError>
+        requires { (0 < pages) × (marks < 2 ^ 63) }
+        ensures { IfOk result (λ r. IsUnset (4096 * pages) marks r) }
+    {
+        let Some(bytes) = home.take(at, pages) else {
+            return Err(AllocError);
+        };
+        let (none, marks, lease) = match Lease::reserve(&alloc, 0, marks) {
+            Ok(block) => block,
+            Err(refused) => {
+                home.give(bytes, at, pages);
+                return Err(refused);
+            }
+        };
+        let given = Some(Given {
+            home,
+            at,
+            pages,
+            none,
+        });
+        Ok(Region {
+            alloc,
+            bytes,
+            marks,
+            lease,
+            given,
         })
     }
 
@@ -135,7 +186,21 @@ impl<A: Allocator> Drop for Region<A> {
             bytes,
             marks,
             lease,
+            given,
         } = self;
-        lease.release(bytes, marks, &alloc);
+        match given {
+            None => lease.release(bytes, marks, &alloc),
+            Some(
+                Given {
+                    home,
+                    at,
+                    pages,
+                    none,
+                },
+            ) => {
+                home.give(bytes, at, pages);
+                lease.release(none, marks, &alloc);
+            }
+        }
     }
 }
