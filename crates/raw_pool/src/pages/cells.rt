@@ -3,12 +3,9 @@ ghost use Rattle.std.specs.Prelude.{◌≡◌, ◌≤◌, ◌<◌, ◌+◌, ◌�
 ghost use Rattle.raw_pool.specs.PageMarks.{AreFree, remarked};
 ghost use Rattle.raw_pool.specs.PagePlaces.{ArePages};
 
-use super::memory::FreePages;
+use super::memory::{FreePages, PAGE};
 use crate::raw_bytes::RawBytes;
 use std::mem::ManuallyDrop;
-
-/// The bytes of a page.
-const PAGE: usize = 4096;
 
 /// The free pages of a row, and a mark for each page.
 pub(crate) struct Cells {

@@ -5,7 +5,8 @@ ghost use Rattle.raw_pool.specs.PagePlaces.{ArePages};
 use super::cells::Cells;
 use super::memory::PageRun;
 use super::slot::Slot;
-use crate::raw_bytes::RawBytes;
+use crate::raw_bytes::{Lease, RawBytes};
+use std::alloc::{AllocError, Allocator};
 use std::mem::ManuallyDrop;
 
 /// Pages of memory in a row. Who has a `&` to it takes runs of them, and gives them back.
@@ -24,6 +25,19 @@ impl PageHeap {
         PageHeap {
             slot: Slot::new(Cells::new(run.free(), marks, pages)),
         }
+    }
+
+    /// The same, with the heap and the marks in memory that an allocator gives, and never gets back.
+    pub fn lasting<'a, A: Allocator + 'a>(
+        alloc: A,
+        run: PageRun,
+    ) -> Result<&'a PageHeap, AllocError> {
+        let (pages, run) = run.with_pages();
+        let (marks, none, lease) = Lease::reserve(&alloc, pages, 0)?;
+        let _row = unsafe { ManuallyDrop::new_unchecked(none) };
+        let _right = unsafe { ManuallyDrop::new_unchecked(lease) };
+        let heap = Box::new(alloc, PageHeap::new(run, marks))?;
+        Ok(Box::leak(heap))
     }
 
     /// Takes a number of pages from one on as bytes of which none is set, where all of them are free.

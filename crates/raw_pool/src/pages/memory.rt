@@ -1,5 +1,5 @@
 //! The pages of memory that are free, of those that a maker hands over. No other file names a pointer.
-ghost use Rattle.std.specs.Prelude.{◌≡◌, ◌<◌, ◌≤◌, ◌+◌, ◌*◌, ◌^◌, ℕ, List, [], length, replicate};
+ghost use Rattle.std.specs.Prelude.{◌≡◌, ◌<◌, ◌≤◌, ◌+◌, ◌*◌, ◌^◌, ℕ, List, [], length, replicate, IfOk};
 ghost use types.Logic.{sem};
 ghost use denote.RawPtr.{room_for};
 ghost use Rattle.raw_pool.specs.Ownership.{byte_row};
@@ -7,8 +7,13 @@ ghost use Rattle.raw_pool.specs.PageMarks.{AreFree, remarked};
 ghost use Rattle.raw_pool.specs.PageOwnership.{free_from};
 ghost use Rattle.raw_pool.specs.PagePlaces.{ArePages, IsStart, Place, page_ptr};
 
-use crate::raw_bytes::RawBytes;
+use crate::raw_bytes::{Lease, RawBytes};
+use std::alloc::{AllocError, Allocator};
 use std::marker::Model;
+use std::mem::ManuallyDrop;
+
+/// The bytes of a page.
+pub(crate) const PAGE: usize = 4096;
 
 /// Pages of memory in a row that are their owner's alone.
 #[repr(C)]
@@ -44,6 +49,26 @@ impl PageRun {
         ensures { result.pages ≡ pages }
     {
         PageRun { start, pages }
+    }
+
+    /// Memory that another allocator gives, and never gets back.
+    pub fn within<A: Allocator>(alloc: &A, pages: usize) -> Result<PageRun, AllocError>
+        requires { 4096 * pages < 2 ^ 63 }
+        ensures { IfOk result (λ r. r.pages ≡ pages) }
+    {
+        let (bytes, none, lease) = Lease::reserve(alloc, PAGE * pages, 0)?;
+        let _row = unsafe { ManuallyDrop::new_unchecked(none) };
+        let _right = unsafe { ManuallyDrop::new_unchecked(lease) };
+        Ok(PageRun::of(bytes, pages))
+    }
+
+    /// The memory of a row of bytes.
+    fn of(bytes: RawBytes, pages: usize) -> PageRun
+        requires { bytes.room ≡ 4096 * pages }
+        ensures { result.pages ≡ pages }
+    {
+        let RawBytes { ptr, len: _ } = bytes;
+        PageRun { start: ptr, pages }
     }
 
     /// How many pages there are, and the run again.
