@@ -9,8 +9,9 @@ use Rattle.page_ranges.specs.MemoryTypes.{page_size, page_count, pages_below, co
 use Rattle.page_ranges.specs.Granules.{IsGranule, is_granular, granule_for, if_64_bits, rounded}
 use Rattle.page_ranges.specs.Memory.{Page, page_at, page_below, IsConventional, IsOwnedBy, AllInRange, retyped}
 use Rattle.placement_certificate.specs.declared.certificates.Request.{Request}
-use Rattle.placement_certificate.specs.Placement.{IsPermittedStart}
+use Rattle.placement_certificate.specs.Placement.{IsPermittedStart, IsProperRequest}
 use Rattle.placement_certificate.specs.Certificates.{CertificateValue, IsTrueCertificate}
+use Rattle.page_services.specs.declared.page_book.ChosenStart.{ChosenStart}
 use Rattle.page_services.specs.declared.page_book.Placed.{Placed}
 
 -- the memory, the map key, which is 1 at first and one more after each call that changed the type
@@ -106,6 +107,14 @@ IsBestChoice b r p returned =
 abbrev pub IsChosenPlace : {A : Type 0} → Choice → Book → Request → Placed A → Type 0
 IsChosenPlace Chosen b r placed =
     (start : ℕ) × Chosen b r start placed.certificate × (placed.address ≡ start * page_size)
+
+-- A start that was chosen on a book is the best one for its request, whose pages fill the granules
+-- that the book has for its type.
+pub record IsChosenOn {A : Type 0} (b : Book) (c : ChosenStart A) : Type 0 where
+  pub proper : IsProperRequest c.request
+  pub limit : c.request.limit ≤ page_count
+  pub granule : c.request.granule ≡ granule_for c.request.mtype b.granule
+  pub best : IsBestChoice b c.request c.first c.certificate
 
 -- What is answered where pages of an owner are placed for a request, and the book after it: they
 -- begin at a start that was chosen, with the type of the request and the owner. OUT_OF_RESOURCES,

@@ -5,4 +5,6 @@ mod laws;
 mod page_book;
 
 pub use laws::freed_pages_law;
-pub use page_book::{ALLOCATE_MAX_ADDRESS, PageBook, Placed, placement_request, pool_request};
+pub use page_book::{
+    ALLOCATE_MAX_ADDRESS, ChosenStart, PageBook, Placed, placement_request, pool_request,
+};

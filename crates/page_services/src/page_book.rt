@@ -1,11 +1,11 @@
 //! The book of a machine's pages.
-ghost use Rattle.std.specs.Prelude.{◌≡◌, false, ◌+◌, ◌*◌, ◌<◌, ◌≤◌, ◌^◌, IfSome, MatchResult, Err, option_and_then};
+ghost use Rattle.std.specs.Prelude.{◌≡◌, false, ◌+◌, ◌*◌, ◌<◌, ◌≤◌, ◌^◌, IfOk, IfSome, MatchResult, Err, option_and_then};
 ghost use Rattle.page_ranges.specs.declared.ranges.Owner.TheVariants.{Given, Pool};
 ghost use Rattle.page_ranges.specs.MemoryTypes.{conventional, is_bad_type, page_count, page_size};
 ghost use Rattle.page_ranges.specs.Memory.{page_at, IsPresent, IsOwnedBy, AllInRange};
 ghost use Rattle.page_ranges.specs.Granules.{IsGranule, granule_for};
 ghost use Rattle.placement_certificate.specs.Placement.{IsProperRequest};
-ghost use Rattle.page_services.specs.PageRules.{AllocatesPages, IsBestChoice, PlacesPages, FreesPages, HasWholeGranules, IsInGranules, TakesForPool, GivesFromPool, certifying, changed_book, fixed_address, freed_range, granule_of, if_counted, new_book, placement_request, pool_request, whole_pages, whole_request};
+ghost use Rattle.page_services.specs.PageRules.{AllocatesPages, IsBestChoice, PlacesPages, FreesPages, HasWholeGranules, IsChosenOn, IsInGranules, TakesForPool, GivesFromPool, certifying, changed_book, fixed_address, freed_range, granule_of, if_counted, new_book, placement_request, pool_request, whole_pages, whole_request};
 
 use descriptor_table::RunTable;
 use page_ranges::{
@@ -70,6 +70,16 @@ pub fn pool_request(granule: u64, mtype: MemoryType, pages: u64) -> Option<Reque
     ensures { result ≡ if_counted (pool_request granule mtype pages) }
 {
     whole_request(granule, mtype, pages, PAGE_COUNT)
+}
+
+/// A start that was chosen for a request, before pages are placed there.
+#[derive(Drop)]
+pub struct ChosenStart<A: Allocator = Global> {
+    pub request: Request,
+    /// The first page.
+    pub first: u64,
+    /// Why it is the best start, where the book returns certificates.
+    pub certificate: Option<Certificate<A>>,
 }
 
 /// Where pages were placed.
@@ -202,9 +212,24 @@ impl<A: Allocator + Copy> PageBook<A> {
         requires granule { request.granule ≡ granule_for request.mtype self.old.granule }
         ensures { PlacesPages IsBestChoice self.old request owner result self.new }
     {
-        let Some((first, certificate)) = self.best_place(&request) else {
-            return Err(Status::OutOfResources);
-        };
+        match self.best_place(request) {
+            Some(chosen) => self.place(chosen, owner),
+            None => Err(Status::OutOfResources),
+        }
+    }
+
+    // Places pages of an owner at a start that was chosen.
+    fn place(&mut self, chosen: ChosenStart<A>, owner: Owner) -> Result<Placed<A>, Status>
+        requires key { self.old.key < 2 ^ 62 }
+        requires chosen { IsChosenOn self.old chosen }
+        ensures places { PlacesPages IsBestChoice self.old chosen.request owner result self.new }
+        ensures at { IfOk result (λ p. p.address ≡ chosen.first * page_size) }
+    {
+        let ChosenStart {
+            request,
+            first,
+            certificate,
+        } = chosen;
         let range = PageRange {
             first,
             pages: request.pages,
@@ -218,17 +243,28 @@ impl<A: Allocator + Copy> PageBook<A> {
 
     // The best start for a request, and its certificate where certificates are returned. None where
     // no start is permitted, or where memory ran out for a certificate.
-    fn best_place(&self, request: &Request) -> Option<(u64, Option<Certificate<A>>)>
-        requires { IsProperRequest request.now }
-        ensures { IfSome result (λ best. IsBestChoice self.now request.now best.0 best.1) }
+    fn best_place(&self, request: Request) -> Option<ChosenStart<A>>
+        requires proper { IsProperRequest request }
+        requires limit { request.limit ≤ page_count }
+        requires granule { request.granule ≡ granule_for request.mtype self.now.granule }
+        ensures { IfSome result (λ c. (c.request ≡ request) × IsChosenOn self.now c) }
     {
         if !self.certifies {
-            return Some((best_start(&self.table, request)?, None));
+            let first = best_start(&self.table, &request)?;
+            return Some(ChosenStart {
+                request,
+                first,
+                certificate: None,
+            });
         }
-        let Ok(Some(certificate)) = choose(self.table.allocator(), &self.table, request) else {
+        let Ok(Some(certificate)) = choose(self.table.allocator(), &self.table, &request) else {
             return None;
         };
-        Some((certificate.answer, Some(certificate)))
+        Some(ChosenStart {
+            request,
+            first: certificate.answer,
+            certificate: Some(certificate),
+        })
     }
 
     /// FreePages of `pages` pages from the address `memory` on: they are conventional again, and at
@@ -298,10 +334,37 @@ impl<A: Allocator + Copy> PageBook<A> {
         requires some { 0 < pages }
         ensures { TakesForPool IsBestChoice self.old mtype pages result self.new }
     {
-        match pool_request(self.granule, mtype, pages) {
-            Some(request) => self.place_best(request, Owner::Pool),
+        match self.choose_for_pool(mtype, pages) {
+            Some(chosen) => self.place_for_pool(chosen),
             None => Err(Status::OutOfResources),
         }
+    }
+
+    /// The best place of all for pages of the pool, as [`PageBook::take_for_pool`] takes them.
+    ///
+    /// None where no place is permitted, or where memory ran out for the certificate.
+    pub fn choose_for_pool(&self, mtype: MemoryType, pages: u64) -> Option<ChosenStart<A>>
+        requires good { is_bad_type mtype ≡ false }
+        requires some { 0 < pages }
+        ensures { IfSome result (λ c. (c.request ≡ pool_request self.now.granule mtype pages)
+            × IsChosenOn self.now c) }
+    {
+        match pool_request(self.granule, mtype, pages) {
+            Some(request) => self.best_place(request),
+            None => None,
+        }
+    }
+
+    /// Takes pages for the pool at a start that was chosen on the book as it is.
+    ///
+    /// OUT_OF_RESOURCES: memory ran out. The book is then as it was.
+    pub fn place_for_pool(&mut self, chosen: ChosenStart<A>) -> Result<Placed<A>, Status>
+        requires key { self.old.key < 2 ^ 62 }
+        requires chosen { IsChosenOn self.old chosen }
+        ensures places { PlacesPages IsBestChoice self.old chosen.request Pool result self.new }
+        ensures at { IfOk result (λ p. p.address ≡ chosen.first * page_size) }
+    {
+        self.place(chosen, Owner::Pool)
     }
 
     /// Gives pages of the pool back, as those of an extent that ends: they are conventional again.

@@ -1,29 +1,28 @@
 -- Terms and searches, and no second tactic after them: a body that is wrong is then refused sooner.
-use Rattle.std.proofs.Common.{◌≡◌, ◌≤◌, Some, refl, sym, subst, ◌∙◌, arith}
-use Rattle.page_ranges.specs.declared.ranges.Owner.TheVariants.{Pool}
+use Rattle.std.proofs.Common.{◌≡◌, ◌≤◌, IfSome, Some, refl, sym, subst, ◌∙◌, arith}
 use Rattle.page_ranges.specs.MemoryTypes.{page_count}
 use Rattle.page_ranges.specs.Granules.{granule_for}
 use Rattle.placement_certificate.specs.declared.certificates.Request.{Request}
 use Rattle.placement_certificate.specs.Placement.{IsProperRequest}
-use Rattle.page_services.specs.PageRules.{Book, IsInGranules, IsBestChoice, PlacesPages, if_counted, pool_request}
+use Rattle.page_services.specs.PageRules.{Book, IsChosenOn, IsInGranules, if_counted, pool_request}
 use Rattle.page_services.proofs.Granules.{counted_is, whole_request_proper}
-use Rattle.page_services.proofs.page_book.PageBook.take_for_pool.Goals as goal
+use Rattle.page_services.proofs.page_book.PageBook.choose_for_pool.Goals as goal
 
-pub place_best-requires-clause-proper : goal.place_best-requires-clause-proper
-place_best-requires-clause-proper g c =
+pub best_place-requires-clause-proper : goal.best_place-requires-clause-proper
+best_place-requires-clause-proper g c =
     let asked = subst (λ (b : Book). if_counted (pool_request b.granule c.args.mtype c.args.pages) ≡ Some c.in-Some.request) c.self.view_is (sym c.pool_request.ensures ∙ c.in-Some.is) in
     let same = (counted_is (pool_request c.args.self.now.granule c.args.mtype c.args.pages) c.in-Some.request asked).0 in
     let is = subst IsInGranules c.self.view_is c.self.invariant in
     subst IsProperRequest (sym same) (whole_request_proper c.args.self.now.granule c.args.mtype c.args.pages page_count is.granule c.requires.good c.requires.some)
 
-pub place_best-requires-clause-limit : goal.place_best-requires-clause-limit
-place_best-requires-clause-limit g c =
+pub best_place-requires-clause-limit : goal.best_place-requires-clause-limit
+best_place-requires-clause-limit g c =
     let asked = subst (λ (b : Book). if_counted (pool_request b.granule c.args.mtype c.args.pages) ≡ Some c.in-Some.request) c.self.view_is (sym c.pool_request.ensures ∙ c.in-Some.is) in
     let same = (counted_is (pool_request c.args.self.now.granule c.args.mtype c.args.pages) c.in-Some.request asked).0 in
     subst (λ (q : Request). q.limit ≤ page_count) (sym same) (omega arith)
 
-pub place_best-requires-clause-granule : goal.place_best-requires-clause-granule
-place_best-requires-clause-granule g c =
+pub best_place-requires-clause-granule : goal.best_place-requires-clause-granule
+best_place-requires-clause-granule g c =
     let asked = subst (λ (b : Book). if_counted (pool_request b.granule c.args.mtype c.args.pages) ≡ Some c.in-Some.request) c.self.view_is (sym c.pool_request.ensures ∙ c.in-Some.is) in
     let same = (counted_is (pool_request c.args.self.now.granule c.args.mtype c.args.pages) c.in-Some.request asked).0 in
     subst (λ (q : Request). q.granule ≡ granule_for q.mtype c.args.self.now.granule) (sym same) refl
@@ -32,7 +31,4 @@ pub returns-in-Some : goal.returns-in-Some
 returns-in-Some g c =
     let asked = subst (λ (b : Book). if_counted (pool_request b.granule c.args.mtype c.args.pages) ≡ Some c.in-Some.request) c.self.view_is (sym c.pool_request.ensures ∙ c.in-Some.is) in
     let same = (counted_is (pool_request c.args.self.now.granule c.args.mtype c.args.pages) c.in-Some.request asked).0 in
-    subst (λ (q : Request). PlacesPages IsBestChoice c.args.self.now q Pool c.place_best.result c.place_best.new.self) same c.place_best.ensures
-
-pub returns-in-None : goal.returns-in-None
-returns-in-None g c = refl
+    subst (λ (q : Request). IfSome c.best_place.result (λ x. (x.request ≡ q) × IsChosenOn c.args.self.now x)) same c.best_place.ensures
