@@ -1,5 +1,5 @@
 //! The core: the state of the boot services.
-ghost use Rattle.std.specs.Prelude.{◌≡◌, ◌+◌, ◌<◌, ◌≤◌, length, map, IfOk, OnErr, slice_get, if◌then◌else◌};
+ghost use Rattle.std.specs.Prelude.{◌≡◌, ◌+◌, ◌<◌, ◌≤◌, [], length, map, IfOk, OnErr, slice_get, if◌then◌else◌};
 ghost use Rattle.page_ranges.specs.Memory.{IsProperMemory};
 ghost use Rattle.page_ranges.specs.MemoryMap.{memory_map};
 ghost use Rattle.protocol_services.specs.Driving.{HasRoomToConnect};
@@ -21,7 +21,7 @@ use driver_connect::Driver;
 use map_keys::{MapReply, get_memory_map};
 use page_ranges::{Descriptor, Status};
 use page_services::PageBook;
-use pool_services::Pools;
+use pool_services::{PoolMemory, Pools};
 use protocol_services::Protocols;
 use std::alloc::{AllocError, Allocator, Global};
 use std::marker::Model;
@@ -60,10 +60,38 @@ impl<D: Driver, A: Allocator + Copy> Core<D, A> {
         ensures { IfOk result
             (λ c. c ≡ record { state = first_state machine; drivers = drivers.items }) }
     {
+        Core::with_pools(alloc, machine, drivers, Pools::new(alloc))
+    }
+
+    /// The same, whose pool lies in memory that the machine's pages are: the bytes of a block are those at its
+    /// address.
+    pub fn over(
+        alloc: A,
+        machine: Machine<A>,
+        drivers: Vec<D, A>,
+        memory: PoolMemory,
+    ) -> Result<Core<D, A>, AllocError>
+        ensures { IfOk result
+            (λ c. c ≡ record { state = first_state machine; drivers = drivers.items }) }
+    {
+        Core::with_pools(alloc, machine, drivers, Pools::over(alloc, memory))
+    }
+
+    // The core of a machine with a pool that has no blocks.
+    fn with_pools(
+        alloc: A,
+        machine: Machine<A>,
+        drivers: Vec<D, A>,
+        pools: Pools<A>,
+    ) -> Result<Core<D, A>, AllocError>
+        requires { pools ≡ [] }
+        ensures { IfOk result
+            (λ c. c ≡ record { state = first_state machine; drivers = drivers.items }) }
+    {
         let table = RunTable::from_runs(alloc, machine.runs())?;
         Ok(Core {
             book: PageBook::new(table, machine.granule()),
-            pools: Pools::new(alloc),
+            pools,
             protocols: Protocols::new(alloc),
             drivers,
             exited: false,

@@ -24,4 +24,4 @@ pub use laws::{
     read_bytes_law, read_step_law, record_entries_law, sound_law, uninstall_run_law,
 };
 pub use open_agents::{OpenItem, OpenRecord};
-pub use pool_services::PoolBlock;
+pub use pool_services::{PoolBlock, PoolMemory};

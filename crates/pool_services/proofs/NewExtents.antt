@@ -1,5 +1,5 @@
 -- What a new extent is, and what is known of memory and pool once its pages are taken.
-use Rattle.std.proofs.Common.{◌≡◌, ℕ, ◌+◌, ◌*◌, ◌/◌, ◌^◌, ◌<◌, ◌≤◌, inl, inr, List, Option, Some, None, Err, sym, ap, ◌∙◌, arith, subst}
+use Rattle.std.proofs.Common.{◌≡◌, ℕ, ◌+◌, ◌*◌, ◌/◌, ◌^◌, ◌<◌, ◌≤◌, inl, inr, List, Option, Some, None, Result, Err, sym, ap, ◌∙◌, arith, subst}
 use Rattle.std.proofs.lemmas.Bool.{cases_lt}
 use Rattle.std.proofs.lemmas.List.{length-replicate}
 use Rattle.std.proofs.lemmas.Option.{same_Some}
@@ -10,9 +10,10 @@ use Rattle.page_ranges.specs.MemoryTypes.{page_size, page_count}
 use Rattle.page_ranges.specs.Granules.{IsGranule, granule_for, if_64_bits, rounded}
 use Rattle.page_ranges.specs.Memory.{retyped, AllInRange, IsConventional, IsProperMemory}
 use Rattle.page_ranges.proofs.WholeGranules.{granule_for_granule, if_64_bits_none, if_64_bits_some, rounded_at_least, rounded_near}
+use Rattle.placement_certificate.specs.declared.certificates.Request.{Request}
 use Rattle.placement_certificate.specs.Certificates.{CertificateValue}
 use Rattle.page_services.specs.declared.page_book.Placed.{Placed}
-use Rattle.page_services.specs.PageRules.{Book, Choice, IsBestChoice, IsChosenPlace, TakesForPool, changed_book, pool_request, range_from}
+use Rattle.page_services.specs.PageRules.{Book, Choice, IsBestChoice, IsChosenPlace, PlacesPages, TakesForPool, changed_book, pool_request, range_from}
 use Rattle.page_services.proofs.Choices.{Permits, best_is_permitted}
 use Rattle.pool_services.specs.Extents.{Extent, AreExtents, IsExtent, address_of, extent_pages, extent_with_block, first_fit, max_size, new_extent, pages_for, range_of, with_extent}
 use Rattle.pool_services.specs.PoolRules.{IsPut, OwnsExtents}
@@ -22,6 +23,10 @@ use Rattle.pool_services.proofs.PoolPages.{are-more, owns-more}
 pub refused : (A : Type 0) (b : Book) (t pages : ℕ) (status : Status) (new_b : Book) → TakesForPool {A = A} IsBestChoice b t pages (Err status) new_b → new_b ≡ b
 refused A b t pages OutOfResources new_b h = h
 refused A b t pages status new_b h = absurd h
+
+-- pages that are placed for the request of the pool are taken for the pool
+pub takes : (A : Type 0) (b new_b : Book) (q : Request) (t pages : ℕ) (result : Result (Placed A) Status) → q ≡ pool_request b.granule t pages → PlacesPages IsBestChoice b q Pool result new_b → TakesForPool IsBestChoice b t pages result new_b
+takes A b new_b q t pages result e h = subst (λ (r : Request). PlacesPages IsBestChoice b r Pool result new_b) e h
 
 -- ---- the pages of a new extent
 

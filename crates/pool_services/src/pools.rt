@@ -3,13 +3,14 @@ ghost use Rattle.std.specs.Prelude.{◌≡◌, ◌+◌, ◌<◌, ◌≤◌, ◌^
 ghost use Rattle.std.specs.List.{find};
 ghost use Rattle.page_ranges.specs.MemoryTypes.{is_bad_type};
 ghost use Rattle.page_services.specs.PageRules.{IsBestChoice, if_counted};
-ghost use Rattle.pool_services.specs.Extents.{first_fit, max_size, tail_at};
+ghost use Rattle.pool_services.specs.Extents.{cells_in, first_fit, max_size, tail_at};
 ghost use Rattle.pool_services.specs.Listed.{blocks_of, is_from};
 ghost use Rattle.pool_services.specs.PoolRules.{AllocatesPool, FillsPool, FreesPool, OwnsExtents, ReadsPool, WritesPool, extent_request};
 ghost use Rattle.pool_services.specs.Searches.{IsEnded, IsFound, IsGivable, IsGivenIn, IsHolder, IsTakenIn, IsTakenLive, IsWrittenIn};
 
 use crate::extents::{HEADER_SIZE, PoolExtent, cells_for, extent_pages, pages_for};
 use crate::listed::PoolBlock;
+use crate::memory::PoolMemory;
 use crate::rooms::Rooms;
 use crate::searches::{add, count_up_to, holder};
 use page_ranges::{MemoryType, PAGE_SIZE, Status, type_for_alloc};
@@ -44,6 +45,8 @@ pub struct Pools<A: Allocator = Global> {
     extents: Vec<PoolExtent<A>, A>,
     // What a search asks of each extent.
     rooms: Rooms<A>,
+    // Where the blocks' bytes lie at their addresses.
+    memory: Option<PoolMemory>,
 }
 
 impl<A: Allocator> Model for Pools<A> {
@@ -67,6 +70,20 @@ impl<A: Allocator + Copy> Pools<A> {
             alloc,
             extents: Vec::new(alloc),
             rooms: Rooms::new(alloc),
+            memory: None,
+        }
+    }
+
+    /// The same, whose extents lie in memory that the machine's pages are: the bytes of a block are those at
+    /// its address. An extent of other pages than these is refused for want of memory.
+    pub fn over(alloc: A, memory: PoolMemory) -> Pools<A>
+        ensures { result ≡ [] }
+    {
+        Pools {
+            alloc,
+            extents: Vec::new(alloc),
+            rooms: Rooms::new(alloc),
+            memory: Some(memory),
         }
     }
 
@@ -148,6 +165,17 @@ impl<A: Allocator + Copy> Pools<A> {
         Some(address)
     }
 
+    // A region for a new extent that begins at a page.
+    fn region(&self, first: u64, pages: usize) -> Option<RawPool<A>>
+        requires { (1 ≤ pages) × (pages ≤ 2 ^ 21) }
+        ensures { IfSome result (λ r. r ≡ record { cells = cells_in pages; blocks = [] }) }
+    {
+        match self.memory {
+            Some(memory) => memory.region(self.alloc, first, pages),
+            None => RawPool::new(self.alloc, pages).ok(),
+        }
+    }
+
     // Takes a block in a new extent. All memory is taken before the pages.
     fn take_new(
         &mut self,
@@ -165,7 +193,10 @@ impl<A: Allocator + Copy> Pools<A> {
         ensures owns { OwnsExtents book.new.memory self.new }
     {
         let pages = extent_pages(book.granule(), mtype, size);
-        let Ok(region) = RawPool::new(self.alloc, pages) else {
+        let Some(chosen) = book.choose_for_pool(mtype, pages_for(size) as u64) else {
+            return Err(Status::OutOfResources);
+        };
+        let Some(region) = self.region(chosen.first, pages) else {
             return Err(Status::OutOfResources);
         };
         let Ok(()) = self.extents.reserve(1) else {
@@ -176,7 +207,7 @@ impl<A: Allocator + Copy> Pools<A> {
         };
         // That the book's memory is proper is known of its table's length.
         let _ = book.table().len();
-        let Ok(placed) = book.take_for_pool(mtype, pages_for(size) as u64) else {
+        let Ok(placed) = book.place_for_pool(chosen) else {
             return Err(Status::OutOfResources);
         };
         let first = placed.address / PAGE_SIZE;

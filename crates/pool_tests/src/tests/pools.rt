@@ -75,7 +75,7 @@ fn assert_step(rt: &impl Abort, book: &mut PageBook, pools: &mut Pools, step: &S
 }
 
 // The address of a block that is asked for, and whether it is in a new extent.
-fn allocate(
+pub fn allocate(
     rt: &impl Abort,
     book: &mut PageBook,
     pools: &mut Pools,
@@ -94,7 +94,12 @@ fn allocate(
     }
 }
 
-fn free(rt: &impl Abort, book: &mut PageBook, pools: &mut Pools, address: u64) -> Result<(), Status>
+pub fn free(
+    rt: &impl Abort,
+    book: &mut PageBook,
+    pools: &mut Pools,
+    address: u64,
+) -> Result<(), Status>
     requires { OwnsExtents book.old.memory pools.old }
     ensures { OwnsExtents book.new.memory pools.new }
 {

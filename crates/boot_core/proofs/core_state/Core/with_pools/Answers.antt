@@ -10,15 +10,15 @@ use Rattle.boot_machines.specs.Machines.{IsMachine, MachineValue}
 use Rattle.boot_core.specs.Machines.{Parts, AreSound, FollowsCalls, all_calls, first_state}
 use Rattle.boot_core.proofs.Follows.{first_follows}
 use Rattle.boot_core.proofs.Soundness.{first_sound, parts_of}
-use Rattle.boot_core.proofs.core_state.Core.new.Goals as goal
+use Rattle.boot_core.proofs.core_state.Core.with_pools.Goals as goal
 
 pub invariant_of-result : goal.invariant_of-result
 invariant_of-result g c =
     let machine : MachineValue = c.args.machine in
     let book : c.new.result ≡ new_book machine.granule (pages_of machine.runs) =
     c.new.ensures ∙ ap (λ (n : ℕ). new_book n c.in_ok-table.table) c.granule.ensures.granule ∙ ap (new_book machine.granule) (c.in_ok-table.ensures ∙ ap pages_of c.runs.ensures.runs) in
-    let is : parts_of c.new.result c.new-2.result c.new-3.result ≡ (first_state machine).parts =
-    ap (λ (b : Book). parts_of b c.new-2.result c.new-3.result) book ∙ ap (λ (es : List Extent). parts_of (first_state machine).parts.book es c.new-3.result) c.new-2.ensures ∙ ap (parts_of (first_state machine).parts.book []) c.new-3.ensures in
+    let is : parts_of c.new.result c.args.pools c.new-2.result ≡ (first_state machine).parts =
+    ap (λ (b : Book). parts_of b c.args.pools c.new-2.result) book ∙ ap (λ (es : List Extent). parts_of (first_state machine).parts.book es c.new-2.result) c.requires ∙ ap (parts_of (first_state machine).parts.book []) c.new-2.ensures in
     let valid : IsMachine machine = record { runs = c.runs.ensures.valid; granule = subst IsGranule c.granule.ensures.granule c.granule.ensures.valid } in (
       subst (λ (p : Parts). FollowsCalls p all_calls) (sym is) (first_follows machine),
       subst AreSound (sym is) (first_sound true machine valid),
