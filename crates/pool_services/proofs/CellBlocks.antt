@@ -272,6 +272,10 @@ pub written-kept : (done : Bool) (c at : ℕ) (bytes : List ℕ) (p : Pool) →
 written-kept false c at bytes p = (refl, refl, refl)
 written-kept true c at bytes p = (refl, count-written c at bytes p.blocks, longest-written p.cells 0 c at bytes p.blocks)
 
+pub written-lies : (done : Bool) (c at : ℕ) (bytes : List ℕ) (p : Pool) → (written done c at bytes p).lies ≡ p.lies
+written-lies false c at bytes p = refl
+written-lies true c at bytes p = refl
+
 -- ---- as the code asks
 
 some-cell : (c : ℕ) (o : Option Block) → is_some (option_map (λ (b : Block). b.size) o) ≡ true → option_map (λ (b : Block). c) o ≡ Some c

@@ -1,6 +1,7 @@
 -- The extents of the pool with what is kept beside them, and their changes.
-use Rattle.std.specs.Prelude.{◌≡◌, ℕ, ◌+◌, ◌<◌, ◌≤◌, List, ◌++◌, drop, length, map, take, Option, Vec, vec_capacity, vec_len}
-use Rattle.raw_pool.specs.Blocks.{Block, new_block, with_block}
+use Rattle.std.specs.Prelude.{◌≡◌, ℕ, ◌+◌, ◌<◌, ◌≤◌, List, [], ◌++◌, drop, length, map, take, Option, None, Some, Vec, vec_capacity, vec_len}
+use Rattle.page_ranges.specs.declared.ranges.PageRange.{PageRange}
+use Rattle.raw_pool.specs.Blocks.{Pool, new_block, with_block}
 use Rattle.pool_services.specs.declared.rooms.Room.{Room}
 use Rattle.pool_services.specs.Extents.{AreExtents, Extent, cells_in, with_blocks}
 use Rattle.pool_services.specs.Rooms.{HasPlace, IsFirstServing, IsRoomAt, class_of, room_of}
@@ -30,9 +31,21 @@ without_room at rs = take at rs ++ drop (at + 1) rs
 abbrev pub AreExtentsWithRooms : List Extent → List Room → Type 0
 AreExtentsWithRooms extents rooms = AreExtents extents × (rooms ≡ map room_of extents)
 
--- the cells are those of a number of pages, and the blocks are as many as are counted
-abbrev pub IsCountedRegion : ℕ → ℕ → ℕ → List Block → Type 0
-IsCountedRegion cells pages live blocks = (cells ≡ cells_in pages) × (live ≡ length blocks)
+-- where cells lie: at a page of the machine, or in memory that is none of its pages
+abbrev pub LiesAt : ℕ → Option ℕ → Type 0
+LiesAt first None = Unit {0}
+LiesAt first (Some page) = page ≡ first
+
+-- the cells are those of a number of pages, the blocks are as many as are counted, and where the
+-- bytes lie at pages of the machine, these are the pages
+abbrev pub IsCountedRegion : PageRange → ℕ → Pool → Type 0
+IsCountedRegion range live p =
+    (p.cells ≡ cells_in range.pages) × (live ≡ length p.blocks) × LiesAt range.first p.lies
+
+-- a region without blocks for a number of pages from one on
+abbrev pub IsRegionFor : ℕ → ℕ → Pool → Type 0
+IsRegionFor first pages p =
+    (p ≡ record { cells = cells_in pages; blocks = []; lies = p.lies }) × LiesAt first p.lies
 
 -- the extent with a new block of a size at a cell
 abbrev pub with_block_at : ℕ → ℕ → Extent → Extent

@@ -4,7 +4,7 @@ ghost use Rattle.std.specs.List.{find};
 ghost use Rattle.page_ranges.specs.Granules.{IsGranule};
 ghost use Rattle.raw_pool.specs.Blocks.{block_at, cells_for, lowest_fit, new_block, with_block, without_block};
 ghost use Rattle.pool_services.specs.Extents.{IsExtent, address_of, cell_of, cells_in, extent_pages, extent_with_block, max_size, pages_for, tail_in, with_blocks};
-ghost use Rattle.pool_services.specs.KeptRooms.{with_block_at};
+ghost use Rattle.pool_services.specs.KeptRooms.{IsRegionFor, with_block_at};
 ghost use Rattle.pool_services.specs.Listed.{begins_from, is_from, listed};
 ghost use Rattle.pool_services.specs.Rooms.{room_of};
 ghost use Rattle.pool_services.specs.Searches.{HasRoom, HoldsAddress, IsLastUpTo, IsLocated, written_if};
@@ -79,7 +79,7 @@ impl<A: Allocator> Model for PoolExtent<A> {
         } };
 
     ghost invariant = { λ e.
-        IsCountedRegion e.region.cells e.range.pages e.live e.region.blocks };
+        IsCountedRegion e.range e.live e.region };
 }
 
 impl<A: Allocator + Copy> PoolExtent<A> {
@@ -93,7 +93,7 @@ impl<A: Allocator + Copy> PoolExtent<A> {
     ) -> PoolExtent<A>
         requires pages { pages_for size ≤ pages }
         requires size { size ≤ max_size }
-        requires region { region ≡ record { cells = cells_in pages; blocks = [] } }
+        requires region { IsRegionFor first pages region }
         ensures { result ≡ extent_with_block first pages mtype size }
     {
         if region.take(size).is_none() {

@@ -4,7 +4,6 @@
 mod extents;
 mod laws;
 mod listed;
-mod memory;
 mod pools;
 mod room;
 mod rooms;
@@ -15,5 +14,5 @@ pub use laws::{
     placed_keeps_pool_law, read_bytes_law, written_bytes_law, written_keeps_pool_law,
 };
 pub use listed::PoolBlock;
-pub use memory::PoolMemory;
 pub use pools::{Pools, extent_request};
+pub use raw_pool::PoolMemory;

@@ -3,20 +3,20 @@ ghost use Rattle.std.specs.Prelude.{◌≡◌, ◌+◌, ◌<◌, ◌≤◌, ◌^
 ghost use Rattle.std.specs.List.{find};
 ghost use Rattle.page_ranges.specs.MemoryTypes.{is_bad_type};
 ghost use Rattle.page_services.specs.PageRules.{IsBestChoice, if_counted};
-ghost use Rattle.pool_services.specs.Extents.{cells_in, first_fit, max_size, tail_at};
+ghost use Rattle.pool_services.specs.Extents.{first_fit, max_size, tail_at};
+ghost use Rattle.pool_services.specs.KeptRooms.{IsRegionFor};
 ghost use Rattle.pool_services.specs.Listed.{blocks_of, is_from};
 ghost use Rattle.pool_services.specs.PoolRules.{AllocatesPool, FillsPool, FreesPool, OwnsExtents, ReadsPool, WritesPool, extent_request};
 ghost use Rattle.pool_services.specs.Searches.{IsEnded, IsFound, IsGivable, IsGivenIn, IsHolder, IsTakenIn, IsTakenLive, IsWrittenIn};
 
 use crate::extents::{HEADER_SIZE, PoolExtent, cells_for, extent_pages, pages_for};
 use crate::listed::PoolBlock;
-use crate::memory::PoolMemory;
 use crate::rooms::Rooms;
 use crate::searches::{add, count_up_to, holder};
 use page_ranges::{MemoryType, PAGE_SIZE, Status, type_for_alloc};
 use page_services::{PageBook, pool_request};
 use placement_certificate::{Certificate, Request};
-use raw_pool::RawPool;
+use raw_pool::{PoolMemory, RawPool};
 use std::alloc::{Allocator, Global};
 use std::marker::Model;
 
@@ -168,10 +168,10 @@ impl<A: Allocator + Copy> Pools<A> {
     // A region for a new extent that begins at a page.
     fn region(&self, first: u64, pages: usize) -> Option<RawPool<A>>
         requires { (1 ≤ pages) × (pages ≤ 2 ^ 21) }
-        ensures { IfSome result (λ r. r ≡ record { cells = cells_in pages; blocks = [] }) }
+        ensures { IfSome result (λ r. IsRegionFor first pages r) }
     {
         match self.memory {
-            Some(memory) => memory.region(self.alloc, first, pages),
+            Some(memory) => RawPool::over(self.alloc, memory, first, pages).ok(),
             None => RawPool::new(self.alloc, pages).ok(),
         }
     }

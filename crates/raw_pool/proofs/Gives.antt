@@ -1,5 +1,5 @@
 -- A block that is given back: its cells join the free runs beside them.
-use Rattle.std.proofs.Common.{◌≡◌, ℕ, ◌+◌, ◌-◌, ◌*◌, ◌^◌, ◌<◌, ◌≤◌, ◌==◌, ◌⊎◌, inl, inr, cond, List, [], ◌∷◌, ◌++◌, length, map, refl, sym, ap, ◌∙◌, append_assoc, arith, subst, take, drop, get_or}
+use Rattle.std.proofs.Common.{◌≡◌, ℕ, ◌+◌, ◌-◌, ◌*◌, ◌^◌, ◌<◌, ◌≤◌, ◌==◌, ◌⊎◌, inl, inr, cond, None, List, [], ◌∷◌, ◌++◌, length, map, refl, sym, ap, ◌∙◌, append_assoc, arith, subst, take, drop, get_or}
 use Rattle.std.specs.List.{AllByRecursion}
 use Rattle.std.proofs.lemmas.Bool.{cases_lt, cases_eq}
 use Rattle.std.proofs.lemmas.List.{same_from_push, append-nil, length-take-le}
@@ -406,9 +406,9 @@ given bytes marks new cells head head' cell last end after before f h z w few n 
     ]
 
 pub given_store : (bytes marks new marks' : Bytes) (cells cells' head head' cell : ℕ) → IsStore bytes marks cells head → Freed bytes.set new.set marks.set cells head' cell × (new.room ≡ bytes.room) → marks' ≡ record { set = put marks.set cell (0 ∷ []); room = marks.room } → cells' ≡ cells →
-    (pool_of new marks' cells' ≡ record { cells = cells; blocks = without_block cell (blocks_in bytes.set marks.set) }) × IsStore new marks' cells' head'
+    (pool_of new marks' cells' ≡ record { cells = cells; blocks = without_block cell (blocks_in bytes.set marks.set); lies = None }) × IsStore new marks' cells' head'
 given_store bytes marks new marks' cells cells' head head' cell s f em ec =
-    rw (em, ec) (ap (λ (bs : List Block). record { cells = cells; blocks = bs }) f.0.blocks, record { laid = f.0.laid; room = f.1 ∙ s.room; marks_room = s.marks_room; some = s.some; few = s.few })
+    rw (em, ec) (ap (λ (bs : List Block). record { cells = cells; blocks = bs; lies = None }) f.0.blocks, record { laid = f.0.laid; room = f.1 ∙ s.room; marks_room = s.marks_room; some = s.some; few = s.few })
 
 pub freeing_by : (bytes marks : Bytes) (cells head cell last next end after count : ℕ) → IsStore bytes marks cells head → cell < length marks.set → (get_or marks.set cell 0 ≡ 0 → ⊥) →
     (c : Scan (λ (r : FreeRun). r.first < cell) bytes.set cells head (runs_of bytes marks cells) last next) → cell ≤ next → count ≡ cells_in bytes.set cell →

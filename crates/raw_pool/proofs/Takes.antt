@@ -1,5 +1,5 @@
 -- A block that is taken off the front of a free run.
-use Rattle.std.proofs.Common.{◌≡◌, ℕ, ◌+◌, ◌-◌, ◌*◌, ◌^◌, ◌<◌, ◌≤◌, ◌==◌, ◌⊎◌, inl, inr, cond, List, [], ◌∷◌, ◌++◌, length, map, replicate, Some, sym, ap, ◌∙◌, arith, subst, eq-eqb, ne_eqb}
+use Rattle.std.proofs.Common.{◌≡◌, ℕ, ◌+◌, ◌-◌, ◌*◌, ◌^◌, ◌<◌, ◌≤◌, ◌==◌, ◌⊎◌, inl, inr, cond, None, List, [], ◌∷◌, ◌++◌, length, map, replicate, Some, sym, ap, ◌∙◌, arith, subst, eq-eqb, ne_eqb}
 use Rattle.std.specs.List.{AllByRecursion}
 use Rattle.std.proofs.lemmas.Bool.{cases_lt, cases_eq}
 use Rattle.std.proofs.lemmas.List.{map-append}
@@ -226,7 +226,7 @@ placed bytes marks two three four marks' cells head cells2 head2 head3 last at s
     e3 ∙ ap (λ (k : ℕ). record { set = cond (last == k) two.set (put two.set (32 * last + 8) (little_bytes 8 rest)); room = two.room }) e2 in
     let g4 : four ≡ record { set = new; room = two.room } = e4 ∙ ap (λ (b : Bytes). record { set = put b.set (32 * at) (little_bytes 8 size); room = b.room }) g3 in
     let gh : head3 ≡ cond (last == cells) rest head = h3 ∙ ap (λ (k : ℕ). cond (last == k) rest head2) e2 ∙ ap (λ (k : ℕ). cond (last == cells) rest k) h2 in (
-      ap (λ (b : Bytes). pool_of b marks' cells) g4 ∙ ap (λ (m : Bytes). pool_of (record { set = new; room = two.room }) m cells) em ∙ ap (λ (bs : List Block). record { cells = cells; blocks = bs }) t.blocks,
+      ap (λ (b : Bytes). pool_of b marks' cells) g4 ∙ ap (λ (m : Bytes). pool_of (record { set = new; room = two.room }) m cells) em ∙ ap (λ (bs : List Block). record { cells = cells; blocks = bs; lies = None }) t.blocks,
       subst (λ (k : ℕ). IsStore four marks' cells k) (sym gh)
           (subst (λ (b : Bytes). IsStore b marks' cells (cond (last == cells) rest head)) (sym g4)
           (subst (λ (m : Bytes). IsStore (record { set = new; room = two.room }) m cells (cond (last == cells) rest head)) (sym em)

@@ -8,10 +8,12 @@ pub record Block : Type 0 where
   pub size : ℕ
   pub bytes : List ℕ
 
--- a region of the given number of cells, and its blocks by ascending first cell
+-- a region of the given number of cells, and its blocks by ascending first cell; and the number of
+-- the page that the cells lie at, where they are pages of a machine
 pub record Pool : Type 0 where
   pub cells : ℕ
   pub blocks : List Block
+  pub lies : Option ℕ
 
 -- the cells of 32 bytes that a block of a size takes: a header of 8 bytes comes before its bytes
 abbrev pub cells_for : ℕ → ℕ
@@ -46,7 +48,7 @@ new_block cell size = record { first = cell; size = size; bytes = replicate size
 abbrev pub taken : Pool → ℕ → Option ℕ → Pool
 taken p size None = p
 taken p size (Some cell) =
-    record { cells = p.cells; blocks = with_block (new_block cell size) p.blocks }
+    record { cells = p.cells; blocks = with_block (new_block cell size) p.blocks; lies = p.lies }
 
 -- the blocks without the one that begins at a cell
 abbrev pub without_block : ℕ → List Block → List Block
@@ -55,7 +57,7 @@ without_block cell (b ∷ bs) = cond (b.first == cell) bs (b ∷ without_block c
 
 -- the pool once the block that begins at a cell is given back
 abbrev pub given : Pool → ℕ → Pool
-given p cell = record { cells = p.cells; blocks = without_block cell p.blocks }
+given p cell = record { cells = p.cells; blocks = without_block cell p.blocks; lies = p.lies }
 
 -- the blocks once bytes are written into the one that begins at a cell
 abbrev pub with_bytes : ℕ → ℕ → List ℕ → List Block → List Block
@@ -73,7 +75,8 @@ holds_range at count (Some b) = nat_le (at + count) b.size
 -- the pool once bytes are written into a block, if they are
 abbrev pub written : Bool → ℕ → ℕ → List ℕ → Pool → Pool
 written done cell at bytes p =
-    cond done (record { cells = p.cells; blocks = with_bytes cell at bytes p.blocks }) p
+    cond done
+    (record { cells = p.cells; blocks = with_bytes cell at bytes p.blocks; lies = p.lies }) p
 
 -- how many cells the longest run of free cells has, of those from a cell on, where the blocks from
 -- there on are given

@@ -1,5 +1,5 @@
 -- The bytes of a region: those that were set are its front.
-use Rattle.std.specs.Prelude.{ℕ, ◌+◌, ◌-◌, List, ◌++◌, length, replicate, take, drop}
+use Rattle.std.specs.Prelude.{Option, ℕ, ◌+◌, ◌-◌, List, ◌++◌, length, replicate, take, drop}
 use Rattle.byteorder.specs.Endian.{little_number}
 
 -- bytes in a row: those that were set, and how many there is room for
@@ -7,10 +7,12 @@ pub record Bytes : Type 0 where
   pub set : List ℕ
   pub room : ℕ
 
--- a region: the bytes of its cells, and their marks
+-- a region: the bytes of its cells, and their marks; and the number of the page that the bytes lie
+-- at, where they are pages of a machine
 pub record Parts : Type 0 where
   pub bytes : Bytes
   pub marks : Bytes
+  pub lies : Option ℕ
 
 -- the bytes once those up to an index are set, to 0 where they were not
 abbrev pub extended : List ℕ → ℕ → List ℕ

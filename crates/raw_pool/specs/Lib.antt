@@ -10,4 +10,6 @@ pub mod PageMarks
 pub mod PagePlaces
 pub mod PageOwnership
 pub mod PageCells
+pub mod PageNumbers
 pub mod GivenRows
+pub mod Lying

@@ -1,5 +1,5 @@
 -- What a walk along the free list has found.
-use Rattle.std.specs.Prelude.{◌≡◌, ◌≤◌, ◌<◌, ℕ, ◌+◌, ◌-◌, ◌*◌, ◌^◌, ◌⊎◌, ◌==◌, cond, replicate, List, [], ◌∷◌, ◌++◌, length}
+use Rattle.std.specs.Prelude.{None, ◌≡◌, ◌≤◌, ◌<◌, ℕ, ◌+◌, ◌-◌, ◌*◌, ◌^◌, ◌⊎◌, ◌==◌, cond, replicate, List, [], ◌∷◌, ◌++◌, length}
 use Rattle.std.specs.List.{AllByRecursion}
 use Rattle.byteorder.specs.Endian.{little_bytes}
 use Rattle.raw_pool.specs.Bytes.{Bytes, part, put, word}
@@ -62,7 +62,8 @@ grown marks at = put marks (length marks) (replicate (at - length marks) 0)
 
 -- the pool that a store represents
 abbrev pub pool_of : Bytes → Bytes → ℕ → Pool
-pool_of bytes marks cells = record { cells = cells; blocks = blocks_in bytes.set marks.set }
+pool_of bytes marks cells =
+    record { cells = cells; blocks = blocks_in bytes.set marks.set; lies = None }
 
 -- all free runs of a store
 abbrev pub runs_of : Bytes → Bytes → ℕ → List FreeRun

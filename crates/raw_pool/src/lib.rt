@@ -7,7 +7,7 @@ mod raw_bytes;
 mod region;
 mod store;
 
-pub use pages::{PageHeap, PageRun};
+pub use pages::{PageHeap, PageRun, PoolMemory};
 pub use pool::{PAGE_CELLS, RawPool};
 pub use raw_bytes::RawBytes;
 pub use store::{CELL_SIZE, HEADER_SIZE};

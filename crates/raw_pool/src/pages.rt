@@ -4,7 +4,9 @@
 mod cells;
 mod heap;
 mod memory;
+mod numbered;
 mod slot;
 
 pub use heap::PageHeap;
 pub use memory::PageRun;
+pub use numbered::PoolMemory;

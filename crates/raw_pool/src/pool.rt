@@ -1,10 +1,10 @@
 //! A region of whole pages, whose cells are blocks and free runs.
-ghost use Rattle.std.specs.Prelude.{◌≡◌, ◌≤◌, ◌*◌, ◌^◌, ◌<◌, [], length, IfOk, IsTrue, ◌↔◌};
+ghost use Rattle.std.specs.Prelude.{◌≡◌, ◌≤◌, ◌*◌, ◌^◌, ◌<◌, [], length, IfOk, None, Some, IsTrue, ◌↔◌};
 ghost use Rattle.std.specs.Option.{is_some, option_map};
 ghost use Rattle.raw_pool.specs.Answers.{bytes_at};
 ghost use Rattle.raw_pool.specs.Blocks.{block_at, cells_for, given, holds_range, longest_run, lowest_fit, taken, written};
 
-use crate::pages::PageHeap;
+use crate::pages::PoolMemory;
 use crate::region::Region;
 use crate::store::{CELL_SIZE, Store};
 use std::alloc::{AllocError, Allocator, Global};
@@ -26,11 +26,12 @@ pub struct RawPool<A: Allocator = Global> {
 
 impl<A: Allocator> Model for RawPool<A> {
     ghost use Rattle.raw_pool.specs.Blocks.{Pool};
-    ghost use Rattle.raw_pool.specs.Stores.{IsWholeStore, pool_in};
+    ghost use Rattle.raw_pool.specs.Lying.{whole_pool};
+    ghost use Rattle.raw_pool.specs.Stores.{IsWholeStore};
 
     ghost Value = { Pool };
 
-    ghost view = { λ p. pool_in p.store.value };
+    ghost view = { λ p. whole_pool p.store.value };
 
     ghost invariant = { λ p. IsWholeStore p.store.value };
 }
@@ -40,7 +41,7 @@ impl<A: Allocator + Copy> RawPool<A> {
     /// memory. It touches none of it.
     pub fn new(alloc: A, pages: usize) -> Result<RawPool<A>, AllocError>
         requires { (1 ≤ pages) × (pages ≤ 2 ^ 21) }
-        ensures { IfOk result (λ p. p ≡ record { cells = 128 * pages; blocks = [] }) }
+        ensures { IfOk result (λ p. p ≡ record { cells = 128 * pages; blocks = []; lies = None }) }
     {
         let cells = PAGE_CELLS * pages;
         let region = Region::new(alloc, CELL_SIZE * cells, cells)?;
@@ -54,19 +55,20 @@ impl<A: Allocator + Copy> RawPool<A> {
         })
     }
 
-    /// The same over pages of a heap, from one on, where all of them are free: the bytes of the cells are these
-    /// pages, and go back to the heap with the region.
+    /// The same over pages of a machine, from one on, where all of them are free: the bytes of the cells are these
+    /// pages, and go back to their heap with the region.
     pub fn over(
         alloc: A,
-        home: &'static PageHeap,
-        at: usize,
+        home: PoolMemory,
+        page: u64,
         pages: usize,
     ) -> Result<RawPool<A>, AllocError>
         requires { (1 ≤ pages) × (pages ≤ 2 ^ 21) }
-        ensures { IfOk result (λ p. p ≡ record { cells = 128 * pages; blocks = [] }) }
+        ensures { IfOk result
+            (λ p. p ≡ record { cells = 128 * pages; blocks = []; lies = Some page }) }
     {
         let cells = PAGE_CELLS * pages;
-        let region = Region::over(alloc, home, at, pages, cells)?;
+        let region = Region::over(alloc, home, page, pages, cells)?;
         let store = Store {
             region,
             cells,

@@ -1,18 +1,18 @@
 //! The memory of a region: one block, with the bytes of its cells and behind them their marks.
-ghost use Rattle.std.specs.Prelude.{◌≡◌, ◌≤◌, ◌<◌, ◌+◌, ◌*◌, ◌^◌, [], ◌∷◌, length, replicate, IfOk};
+ghost use Rattle.std.specs.Prelude.{◌≡◌, ◌≤◌, ◌<◌, ◌+◌, ◌*◌, ◌^◌, [], ◌∷◌, length, replicate, IfOk, None, Some};
 ghost use Rattle.byteorder.specs.Endian.{little_bytes};
 ghost use Rattle.raw_pool.specs.Answers.{IsUnset};
 ghost use Rattle.raw_pool.specs.Bytes.{with_put, word};
 
-use crate::pages::PageHeap;
+use crate::pages::PoolMemory;
 use crate::raw_bytes::{Lease, RawBytes};
 use std::alloc::{AllocError, Allocator, Global};
 use std::marker::Model;
 
-/// Pages of a heap that are a region's bytes, in place of a part of its own block.
+/// Pages of a machine that are a region's bytes, in place of a part of its own block.
 pub(crate) struct Given {
-    home: &'static PageHeap,
-    at: usize,
+    home: PoolMemory,
+    page: u64,
     pages: usize,
     // The part of the block that they are in place of, which has no byte.
     none: RawBytes,
@@ -32,11 +32,12 @@ impl<A: Allocator> Model for Region<A> {
     ghost use Rattle.std.specs.Prelude.{◌≡◌};
     ghost use Rattle.raw_pool.specs.Bytes.{Parts};
     ghost use Rattle.raw_pool.specs.RawRows.{bytes_of};
-    ghost use Rattle.raw_pool.specs.GivenRows.{AreHeld};
+    ghost use Rattle.raw_pool.specs.GivenRows.{AreHeld, lies_at};
 
     ghost Value = { Parts };
 
-    ghost view = { λ r. record { bytes = bytes_of r.bytes; marks = bytes_of r.marks } };
+    ghost view = { λ r.
+        record { bytes = bytes_of r.bytes; marks = bytes_of r.marks; lies = lies_at r.given } };
 
     ghost invariant = { λ r.
         AreHeld r.given r.bytes r.marks r.lease × (r.lease.alloc ≡ r.alloc) };
@@ -46,7 +47,7 @@ impl<A: Allocator> Region<A> {
     /// Room for the given numbers of bytes and marks, none of which is set. It touches none of the memory.
     pub(crate) fn new(alloc: A, bytes: usize, marks: usize) -> Result<Region<A>, AllocError>
         requires { bytes + marks < 2 ^ 63 }
-        ensures { IfOk result (λ r. IsUnset bytes marks r) }
+        ensures { IfOk result (λ r. IsUnset bytes marks r × (r.lies ≡ None)) }
     {
         let (bytes, marks, lease) = Lease::reserve(&alloc, bytes, marks)?;
         Ok(Region {
@@ -58,30 +59,30 @@ impl<A: Allocator> Region<A> {
         })
     }
 
-    /// The same over pages of a heap, from one on, where all of them are free.
+    /// The same over pages of a machine, from one on, where all of them are free.
     pub(crate) fn over(
         alloc: A,
-        home: &'static PageHeap,
-        at: usize,
+        home: PoolMemory,
+        page: u64,
         pages: usize,
         marks: usize,
     ) -> Result<Region<A>, AllocError>
         requires { (0 < pages) × (marks < 2 ^ 63) }
-        ensures { IfOk result (λ r. IsUnset (4096 * pages) marks r) }
+        ensures { IfOk result (λ r. IsUnset (4096 * pages) marks r × (r.lies ≡ Some page)) }
     {
-        let Some(bytes) = home.take(at, pages) else {
+        let Some(bytes) = home.take(page, pages) else {
             return Err(AllocError);
         };
         let (none, marks, lease) = match Lease::reserve(&alloc, 0, marks) {
             Ok(block) => block,
             Err(refused) => {
-                home.give(bytes, at, pages);
+                home.give(bytes, page, pages);
                 return Err(refused);
             }
         };
         let given = Some(Given {
             home,
-            at,
+            page,
             pages,
             none,
         });
@@ -115,6 +116,7 @@ impl<A: Allocator> Region<A> {
             × (at + length bytes.now ≤ self.old.bytes.room) }
         ensures bytes { self.new.bytes ≡ with_put self.old.bytes at bytes.now }
         ensures marks { self.new.marks ≡ self.old.marks }
+        ensures lies { self.new.lies ≡ self.old.lies }
     {
         self.bytes.write(at, bytes);
     }
@@ -124,6 +126,7 @@ impl<A: Allocator> Region<A> {
         requires { (at ≤ length self.old.bytes.set) × (at + count ≤ self.old.bytes.room) }
         ensures bytes { self.new.bytes ≡ with_put self.old.bytes at (replicate count 0) }
         ensures marks { self.new.marks ≡ self.old.marks }
+        ensures lies { self.new.lies ≡ self.old.lies }
     {
         self.bytes.clear(at, count);
     }
@@ -141,6 +144,7 @@ impl<A: Allocator> Region<A> {
         requires { (at ≤ length self.old.bytes.set) × (at + 8 ≤ self.old.bytes.room) }
         ensures bytes { self.new.bytes ≡ with_put self.old.bytes at (little_bytes 8 number) }
         ensures marks { self.new.marks ≡ self.old.marks }
+        ensures lies { self.new.lies ≡ self.old.lies }
     {
         self.bytes.write_word(at, number);
     }
@@ -165,6 +169,7 @@ impl<A: Allocator> Region<A> {
         requires { (cell ≤ length self.old.marks.set) × (cell + count ≤ self.old.marks.room) }
         ensures marks { self.new.marks ≡ with_put self.old.marks cell (replicate count 0) }
         ensures bytes { self.new.bytes ≡ self.old.bytes }
+        ensures lies { self.new.lies ≡ self.old.lies }
     {
         self.marks.clear(cell, count);
     }
@@ -174,6 +179,7 @@ impl<A: Allocator> Region<A> {
         requires { (cell ≤ length self.old.marks.set) × (cell < self.old.marks.room) }
         ensures marks { self.new.marks ≡ with_put self.old.marks cell (mark ∷ []) }
         ensures bytes { self.new.bytes ≡ self.old.bytes }
+        ensures lies { self.new.lies ≡ self.old.lies }
     {
         self.marks.put(cell, mark);
     }
@@ -193,12 +199,12 @@ impl<A: Allocator> Drop for Region<A> {
             Some(
                 Given {
                     home,
-                    at,
+                    page,
                     pages,
                     none,
                 },
             ) => {
-                home.give(bytes, at, pages);
+                home.give(bytes, page, pages);
                 lease.release(none, marks, &alloc);
             }
         }

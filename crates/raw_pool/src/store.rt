@@ -79,6 +79,7 @@ impl<A: Allocator + Copy> Store<A> {
         ensures bytes { self.new.region.bytes ≡ bytes_with_link self.old run next }
         ensures head { self.new.head ≡ cond (run == self.old.cells) next self.old.head }
         ensures others { ChangesLinks self.old self.new }
+        ensures lies { self.new.region.lies ≡ self.old.region.lies }
     {
         if run == self.cells {
             self.head = next;
@@ -94,6 +95,7 @@ impl<A: Allocator + Copy> Store<A> {
         requires set { 32 * run ≤ length self.old.region.bytes.set }
         ensures bytes { self.new.region.bytes ≡ bytes_with_run self.old run cells next }
         ensures others { ChangesBytes self.old self.new }
+        ensures lies { self.new.region.lies ≡ self.old.region.lies }
     {
         self.region.write_word(CELL_SIZE * run, cells as u64);
         self.region.write_word(CELL_SIZE * run + 8, next as u64);
@@ -142,6 +144,7 @@ impl<A: Allocator + Copy> Store<A> {
         ensures cut { IsCut self.old.region.bytes.set self.new.region.bytes.set self.old.cells
             self.old.head at need result }
         ensures others { ChangesSet self.old self.new }
+        ensures lies { self.new.region.lies ≡ self.old.region.lies }
     {
         let free = self.run_cells(at);
         let next = self.link(at);
@@ -159,6 +162,7 @@ impl<A: Allocator + Copy> Store<A> {
         requires { (self.old.region.marks.room ≡ self.old.cells) × (cell < self.old.cells) }
         ensures marks { self.new.region.marks ≡ marks_with self.old cell }
         ensures others { ChangesMarks self.old self.new }
+        ensures lies { self.new.region.lies ≡ self.old.region.lies }
     {
         let set = self.region.marks_len();
         self.region.clear_marks(set, cell.saturating_sub(set));
@@ -174,6 +178,7 @@ impl<A: Allocator + Copy> Store<A> {
         requires fits { need ≤ word self.old.region.bytes.set (32 * at) }
         ensures pool { pool_in self.new ≡ taken (pool_in self.old) size (Some at) }
         ensures store { IsLaidStore self.new }
+        ensures lies { self.new.region.lies ≡ self.old.region.lies }
     {
         let rest = self.cut(at, need);
         self.set_link(last, rest);
@@ -187,6 +192,7 @@ impl<A: Allocator + Copy> Store<A> {
         ensures cell { result ≡ lowest_fit self.old.cells (cells_for size) 0 (blocks_of self.old) }
         ensures pool { pool_in self.new ≡ taken (pool_in self.old) size result }
         ensures store { IsLaidStore self.new }
+        ensures lies { self.new.region.lies ≡ self.old.region.lies }
     {
         if size > CELL_SIZE * self.cells {
             return None;
@@ -234,6 +240,7 @@ impl<A: Allocator + Copy> Store<A> {
         ensures touching { JoinsRun self.old last cell end after self.new }
         ensures apart { AddsRun self.old last cell end after self.new }
         ensures others { ChangesLinks self.old self.new }
+        ensures lies { self.new.region.lies ≡ self.old.region.lies }
     {
         if last < self.cells && last + self.run_cells(last) == cell {
             self.set_run(last, end - last, after);
@@ -249,6 +256,7 @@ impl<A: Allocator + Copy> Store<A> {
         requires block { IsMarked self.old cell }
         ensures pool { pool_in self.new ≡ given (pool_in self.old) cell }
         ensures store { IsLaidStore self.new }
+        ensures lies { self.new.region.lies ≡ self.old.region.lies }
     {
         let block_end = cell + cells_of(self.region.word(CELL_SIZE * cell) as usize);
         let (last, next) = self.find_place(cell);
@@ -262,6 +270,7 @@ impl<A: Allocator + Copy> Store<A> {
         requires { IsWholeStore self.old }
         ensures pool { pool_in self.new ≡ pool_in self.old }
         ensures store { IsLaidStore self.new }
+        ensures lies { self.new.region.lies ≡ self.old.region.lies }
     {
         if self.region.len() == 0 {
             self.set_run(0, self.cells, self.cells);
@@ -276,6 +285,7 @@ impl<A: Allocator + Copy> Store<A> {
         ensures cell { result ≡ lowest_fit self.old.cells (cells_for size) 0 (blocks_of self.old) }
         ensures pool { pool_in self.new ≡ taken (pool_in self.old) size result }
         ensures region { IsWholeStore self.new }
+        ensures lies { self.new.region.lies ≡ self.old.region.lies }
     {
         self.prepare();
         self.take_prepared(size)
@@ -287,6 +297,7 @@ impl<A: Allocator + Copy> Store<A> {
         ensures given { result ≡ is_some (block_at cell (blocks_of self.old)) }
         ensures pool { pool_in self.new ≡ given (pool_in self.old) cell }
         ensures region { IsWholeStore self.new }
+        ensures lies { self.new.region.lies ≡ self.old.region.lies }
     {
         let is_block = self.is_block(cell);
         if is_block {
@@ -324,6 +335,7 @@ impl<A: Allocator + Copy> Store<A> {
             (block_at cell (blocks_of self.old)) }
         ensures pool { pool_in self.new ≡ written result cell at bytes.now (pool_in self.old) }
         ensures region { IsWholeStore self.new }
+        ensures lies { self.new.region.lies ≡ self.old.region.lies }
     {
         let Some(size) = self.size_of(cell) else {
             return false;

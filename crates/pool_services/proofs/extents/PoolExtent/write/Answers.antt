@@ -1,12 +1,14 @@
-use Rattle.std.proofs.Common.{length, sym, ◌∙◌}
-use Rattle.pool_services.proofs.CellBlocks.{written-kept, room-returned, extent-written}
+use Rattle.std.proofs.Common.{ℕ, Option, length, subst, sym, ◌∙◌}
+use Rattle.pool_services.specs.KeptRooms.{LiesAt}
+use Rattle.pool_services.proofs.CellBlocks.{written-kept, written-lies, room-returned, extent-written}
 use Rattle.pool_services.proofs.extents.PoolExtent.write.Goals as goal
 
 pub invariant_of-self : goal.invariant_of-self
 invariant_of-self g c =
     let k = written-kept c.write.result c.in-Some.cell c.in-Some.at c.args.bytes.now c.self.inside.region in
     let i = c.self.invariant in
-    rw c.write.ensures.pool (k.0 ∙ i.0, i.1 ∙ sym k.1)
+    let lies = written-lies c.write.result c.in-Some.cell c.in-Some.at c.args.bytes.now c.self.inside.region in
+    rw c.write.ensures.pool (k.0 ∙ i.0, i.1 ∙ sym k.1, subst (λ (l : Option ℕ). LiesAt c.self.inside.range.first l) (sym lies) i.2)
 
 pub returns-in-Some-clause-written : goal.returns-in-Some-clause-written
 returns-in-Some-clause-written g c =

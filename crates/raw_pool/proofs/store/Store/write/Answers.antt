@@ -1,4 +1,4 @@
-use Rattle.std.proofs.Common.{◌≤◌, ◌+◌, ◌*◌, inr, List, length, sym, ap, ◌∙◌, subst, arith}
+use Rattle.std.proofs.Common.{◌≤◌, None, ◌+◌, ◌*◌, inr, List, length, sym, ap, ◌∙◌, subst, arith}
 use Rattle.raw_pool.specs.Bytes.{Bytes, put, word}
 use Rattle.raw_pool.specs.Blocks.{Block}
 use Rattle.raw_pool.specs.Searches.{IsStore, pool_of}
@@ -43,7 +43,7 @@ returns-clause-pool g c =
     let fits : c.args.at + length c.args.bytes.now ≤ word c.args.self.now.region.bytes.set (32 * c.args.cell) = omega (arith, f.size_is) in
     let w : WrittenIn c.args.self.now.region.bytes.set (put c.args.self.now.region.bytes.set (32 * c.args.cell + 8 + c.args.at) c.args.bytes.now) c.args.self.now.region.marks.set c.args.self.now.cells c.args.self.now.head c.args.cell c.args.at c.args.bytes.now =
     written_in c.args.self.now.region.bytes c.args.self.now.region.marks c.args.self.now.cells c.args.self.now.head c.args.cell c.args.at c.args.bytes.now s f.marked_in f.mark fits in
-    ap (λ (m : Bytes). pool_of c.write.new.self.bytes m c.args.self.now.cells) c.write.ensures.marks ∙ ap (λ (x : Bytes). pool_of x c.args.self.now.region.marks c.args.self.now.cells) c.write.ensures.bytes ∙ ap (λ (bs : List Block). record { cells = c.args.self.now.cells; blocks = bs }) w.blocks
+    ap (λ (m : Bytes). pool_of c.write.new.self.bytes m c.args.self.now.cells) c.write.ensures.marks ∙ ap (λ (x : Bytes). pool_of x c.args.self.now.region.marks c.args.self.now.cells) c.write.ensures.bytes ∙ ap (λ (bs : List Block). record { cells = c.args.self.now.cells; blocks = bs; lies = None }) w.blocks
 
 pub returns-clause-region : goal.returns-clause-region
 returns-clause-region g c =
