@@ -1,21 +1,17 @@
 //! Regions over pages of a heap: taken, given back, and taken again.
-use raw_pool::{PageHeap, PageRun, RawPool};
+use raw_pool::{PageHeap, PageRun, PoolMemory, RawPool};
 use refusing_memory::Refusing;
 use std::process::Abort;
 
-/// A heap of four pages.
-fn four_pages(rt: &(impl AllocGlobal + Abort)) -> &'static PageHeap {
+/// Four pages, the first of which is page 0.
+fn four_pages(rt: &(impl AllocGlobal + Abort)) -> PoolMemory {
     let run = PageRun::within(&rt.alloc(), 4).expect(rt, "memory");
-    PageHeap::lasting(rt.alloc(), run).expect(rt, "memory")
+    let heap = PageHeap::lasting(rt.alloc(), run).expect(rt, "memory");
+    PoolMemory { heap, first: 0 }
 }
 
 /// A region over pages of a heap, from one on, where all of them are free.
-fn region_over(
-    rt: &impl AllocGlobal,
-    home: &'static PageHeap,
-    at: usize,
-    pages: usize,
-) -> Option<RawPool> {
+fn region_over(rt: &impl AllocGlobal, home: PoolMemory, at: u64, pages: usize) -> Option<RawPool> {
     if pages == 0 || pages > 5 {
         return None;
     }
@@ -23,13 +19,7 @@ fn region_over(
 }
 
 /// Asserts whether a region can be had over some pages. It is dropped at once.
-fn assert_has(
-    rt: &(impl AllocGlobal + Abort),
-    home: &'static PageHeap,
-    at: usize,
-    pages: usize,
-    has: bool,
-) {
+fn assert_has(rt: &(impl AllocGlobal + Abort), home: PoolMemory, at: u64, pages: usize, has: bool) {
     assert_eq!(rt;
         region_over(rt, home, at, pages).is_some(),
         has,

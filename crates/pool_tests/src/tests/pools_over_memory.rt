@@ -14,15 +14,15 @@ enum Step {
     /// A size, and the block's address.
     Pool(u64, Result<u64, Status>),
     Free(u64),
-    /// A page of the heap, and whether it is free.
-    Page(usize, bool),
+    /// A page of the machine, and whether it is free.
+    Page(u64, bool),
 }
 
 fn assert_step(
     rt: &(impl AllocGlobal + Abort),
     book: &mut PageBook,
     pools: &mut Pools,
-    home: &'static PageHeap,
+    memory: PoolMemory,
     step: &Step,
 )
     requires { OwnsExtents book.old.memory pools.old }
@@ -37,13 +37,13 @@ fn assert_step(
             let returned = free(rt, book, pools, *address);
             assert!(rt; returned.is_ok(), "{address:#x}");
         }
-        Step::Page(at, is_free) => assert_page(rt, home, *at, *is_free),
+        Step::Page(at, is_free) => assert_page(rt, memory, *at, *is_free),
     }
 }
 
 /// Asserts whether a page is free.
-fn assert_page(rt: &(impl AllocGlobal + Abort), home: &'static PageHeap, at: usize, is_free: bool) {
-    let region = RawPool::over(rt.alloc(), home, at, 1);
+fn assert_page(rt: &(impl AllocGlobal + Abort), memory: PoolMemory, at: u64, is_free: bool) {
+    let region = RawPool::over(rt.alloc(), memory, at, 1);
     assert_eq!(rt; region.is_ok(), is_free, "page {at}");
 }
 
@@ -53,12 +53,13 @@ fn assert_steps(rt: &(impl AllocGlobal + Abort), first: u64, pages: usize, steps
         panic!(rt; "too many pages");
     }
     let run = PageRun::within(&rt.alloc(), pages).expect(rt, "memory");
-    let home = PageHeap::lasting(rt.alloc(), run).expect(rt, "memory");
+    let heap = PageHeap::lasting(rt.alloc(), run).expect(rt, "memory");
+    let memory = PoolMemory { heap, first };
     let table = RunTable::from_runs(rt.alloc(), &machine_a()).expect(rt, "memory");
     let mut book = PageBook::new(table, 1);
-    let mut pools = Pools::over(rt.alloc(), PoolMemory { heap: home, first });
+    let mut pools = Pools::over(rt.alloc(), memory);
     for step in steps {
-        assert_step(rt, &mut book, &mut pools, home, step);
+        assert_step(rt, &mut book, &mut pools, memory, step);
     }
 }
 
@@ -70,28 +71,28 @@ fn a_block_takes_the_pages_of_its_address(rt: HostRuntime) {
 // The machine's last pages, up to the page 2047.
 const LAST_PAGES: &[Step] = &[
     Step::Pool(24, Ok(0x7f_f008)),
-    Step::Page(15, false),
-    Step::Page(14, true),
+    Step::Page(2047, false),
+    Step::Page(2046, true),
     Step::Pool(4088, Ok(0x7f_e008)),
-    Step::Page(14, false),
-    Step::Page(13, true),
+    Step::Page(2046, false),
+    Step::Page(2045, true),
     // Three pages, and eleven.
     Step::Pool(12280, Ok(0x7f_b008)),
-    Step::Page(10, true),
-    Step::Page(11, false),
+    Step::Page(2042, true),
+    Step::Page(2043, false),
     Step::Pool(45048, Ok(0x7f_0008)),
-    Step::Page(0, false),
+    Step::Page(2032, false),
     // The page below is not among them.
     Step::Pool(4088, Err(Status::OutOfResources)),
     Step::Pool(24, Ok(0x7f_f028)),
     Step::Free(0x7f_e008),
-    Step::Page(14, true),
-    Step::Page(13, false),
+    Step::Page(2046, true),
+    Step::Page(2045, false),
     Step::Pool(4088, Ok(0x7f_e008)),
     Step::Free(0x7f_f008),
-    Step::Page(15, false),
+    Step::Page(2047, false),
     Step::Free(0x7f_f028),
-    Step::Page(15, true),
+    Step::Page(2047, true),
 ];
 
 #[test]
@@ -103,5 +104,5 @@ fn pages_behind_the_memory_are_refused(rt: HostRuntime) {
 const LAST_IS_BEHIND: &[Step] = &[
     Step::Pool(24, Err(Status::OutOfResources)),
     Step::Pool(4089, Err(Status::OutOfResources)),
-    Step::Page(15, true),
+    Step::Page(2046, true),
 ];
