@@ -74,15 +74,6 @@ insert_beside hs ks at h k a z e = record {
   even = even_insert hs ks at h k a.even;
 }
 
-longer : (hs : List ℕ) (at h : ℕ) → 0 < length (insert hs at h)
-longer [] zero h = omega arith
-longer [] (suc at) h = omega arith
-longer (x ∷ xs) zero h = omega arith
-longer (x ∷ xs) (suc at) h = omega arith
-
-pub insert_held : (hs : List ℕ) (at h : ℕ) → (length (insert hs at h) == 0) ≡ false
-insert_held hs at h = ne_eqb (length (insert hs at h)) 0 (λ e. omega (arith, e, longer hs at h))
-
 -- ---- one less
 
 pub beside_remove : (hs ks : List ℕ) (at h n : ℕ) → AreBeside hs ks → slice_get hs at ≡ Some h → key_beside (remove hs at) (remove ks at) n ≡ cond (h == n) None (key_beside hs ks n)

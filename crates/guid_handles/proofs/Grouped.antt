@@ -1,23 +1,22 @@
 -- Groups by GUID: which one is found, and which keys are once one of them has changed.
 use Rattle.std.proofs.Math.ListN.{set}
 use Rattle.std.proofs.Math.Numerals.{add-one}
-use Rattle.std.proofs.Common.{get_or, take, ◌&&◌, ◌≡◌, ℕ, zero, suc, ◌<◌, ◌≤◌, ◌==◌, nat_lt, Bool, true, false, cond, List, [], ◌∷◌, map, length, Option, Some, None, is_some, inl, inr, refl, sym, ap, ◌∙◌, arith, subst, ◌+◌, ◌++◌}
-use Rattle.std.specs.List.{find, list_any, slice_get, insert, remove}
+use Rattle.std.proofs.Common.{get_or, take, ◌&&◌, ◌≡◌, ℕ, zero, suc, ◌<◌, ◌≤◌, ◌==◌, nat_lt, not, Bool, true, false, cond, List, [], ◌∷◌, map, length, Option, Some, None, is_some, inl, inr, refl, sym, ap, ◌∙◌, arith, subst, ◌+◌, ◌++◌}
+use Rattle.std.specs.List.{AllByRecursion, filter, find, list_any, slice_get, insert, remove}
 use Rattle.std.specs.Option.{option_map, option_and_then}
 use Rattle.std.specs.declared.cmp.Ordering.TheVariants.{Less}
 use Rattle.std.specs.Ordering.{nat_cmp, is_lt, is_eq}
 use Rattle.std.specs.Cmp.Lexicographic.{slice_cmp, texts_ties}
 use Rattle.std.proofs.lemmas.Cmp.{nat_list_cmp_total}
-use Rattle.std.proofs.lemmas.Bool.{and_parts, cases_Bool, ltb-false, ne_eqb}
+use Rattle.std.proofs.lemmas.Bool.{and_parts, cases_Bool, ltb-false}
 use Rattle.std.proofs.lemmas.Bool.Decides.{eqb_tells}
 use Rattle.std.proofs.lemmas.List.{set-get_or}
 use Rattle.std.proofs.lemmas.Option.{same_Some}
 use Rattle.guid_handles.specs.declared.records.Turn.{Turn}
 use Rattle.guid_handles.specs.HandleTables.{same_guid}
 use Rattle.guid_handles.specs.Sorting.{Ascending, place, kept_if}
-use Rattle.guid_handles.specs.Indexes.{Group, AreGroups, is_bare, is_group_of, is_before, AscendByGuid, IsPlaceOf, key_beside, key_in, key_at, turns_in, turns_of}
-use Rattle.guid_handles.specs.TurnSteps.{turn_in}
-use Rattle.guid_handles.proofs.SortedLists.{IsSplit, all_insert, all_mapped, all_remove, all_set, set_same, find_none, found_none, find_split, find_insert_other, find_insert_new, ascending_insert, ascending_remove, map_insert, map_remove, place_map}
+use Rattle.guid_handles.specs.Indexes.{Group, ChangesTurns, HaveSameKeys, HaveSameTurns, SetsKey, is_bare, is_group_of, is_before, AscendByGuid, IsPlaceOf, key_beside, key_in, key_at, turns_in, turns_of}
+use Rattle.guid_handles.proofs.SortedLists.{all_filter, all_mapped, set_same, find_none, found_none, find_split, find_insert_other, find_insert_new, ascending_insert, map_insert, place_map}
 use Rattle.guid_handles.proofs.GuidOrder.{same_guid-true, guid_splits, is_less, less_from, greater_of, and_false, and_true}
 
 pub is_same : (m n : ℕ) → (m == n) ≡ true → m ≡ n
@@ -143,18 +142,6 @@ key_same groups guid at g new p e s c k n = key_set groups guid at g new p e s k
   | inr f ↦ rw f refl
 ]
 
--- a group with a turn is not bare
-pub turns_held : (n stamp : ℕ) (g : Group) (ts : List Turn) → g.turns ≡ turn_in n stamp ts → is_bare g ≡ false
-turns_held n stamp g ts e =
-    let some : (length g.turns == 0) ≡ false = rw e (ne_eqb (length (turn_in n stamp ts)) 0 (λ z. omega (arith, z, longer ts (place (λ t. nat_lt t.stamp stamp) ts)))) in
-    rw some (and_false (length g.holders == 0))
-  where
-    longer : (us : List Turn) (at : ℕ) → 0 < length (insert us at (record { stamp = stamp; handle = n }))
-    longer [] zero = omega arith
-    longer [] (suc at) = omega arith
-    longer (u ∷ us) zero = omega arith
-    longer (u ∷ us) (suc at) = omega arith
-
 -- what the group at a place has by stamps
 pub turns_there : (groups : List Group) (guid : List ℕ) (at : ℕ) (g : Group) → IsPlaceOf guid groups at → slice_get groups at ≡ Some g → turns_of groups guid ≡ g.turns
 turns_there groups guid at g p e = ap turns_in (p.1 ∙ e)
@@ -167,11 +154,8 @@ turns_set groups guid at g new f p e s c k = ap turns_in (group_set groups guid 
   | inr n ↦ rw n refl
 ]
 
-pub groups_set : (groups : List Group) (at : ℕ) (g new : Group) → AreGroups groups → slice_get groups at ≡ Some g → new.guid ≡ g.guid → is_bare new ≡ false → AreGroups (set groups at new)
-groups_set groups at g new a e s l = record {
-  ascending = subst (Ascending (λ x y. slice_cmp nat_cmp x y ≡ Less)) (sym (set_same (λ h. h.guid) groups at g new e s)) a.ascending;
-  held = all_set (λ h. is_bare h ≡ false) groups at new a.held l;
-}
+pub groups_set : (groups : List Group) (at : ℕ) (g new : Group) → AscendByGuid groups → slice_get groups at ≡ Some g → new.guid ≡ g.guid → AscendByGuid (set groups at new)
+groups_set groups at g new a e s = subst (Ascending (λ x y. slice_cmp nat_cmp x y ≡ Less)) (sym (set_same (λ h. h.guid) groups at g new e s)) a
 
 -- ---- a group comes
 
@@ -220,13 +204,10 @@ turns_insert groups new guid at f own none c k = ap turns_in (group_insert group
   | inr n ↦ rw n refl
 ]
 
-pub groups_insert : (groups : List Group) (new : Group) (guid : List ℕ) (at : ℕ) → new.guid ≡ guid → AreGroups groups → find (is_group_of guid) groups ≡ None → at ≡ place (is_before guid) groups → is_bare new ≡ false → AreGroups (insert groups at new)
-groups_insert groups new guid at own a none e l = record {
-  ascending = ascend_insert groups new at a.ascending (rw own none) (rw own e);
-  held = all_insert (λ h. is_bare h ≡ false) groups at new a.held l;
-}
+pub groups_insert : (groups : List Group) (new : Group) (guid : List ℕ) (at : ℕ) → new.guid ≡ guid → AscendByGuid groups → find (is_group_of guid) groups ≡ None → at ≡ place (is_before guid) groups → AscendByGuid (insert groups at new)
+groups_insert groups new guid at own a none e = ascend_insert groups new at a (rw own none) (rw own e)
 
--- ---- a group goes
+-- ---- bare groups go
 
 -- a bare group has no holders, and no turns
 pub bare_parts : (g : Group) → is_bare g ≡ true → (length g.holders ≡ 0) × (g.turns ≡ [])
@@ -237,6 +218,16 @@ bare_parts g h =
     empty : (ts : List Turn) → length ts ≡ 0 → ts ≡ []
     empty [] e = refl
     empty (t ∷ ts) e = absurd (omega (arith, e))
+
+-- so it is a group without anything
+pub bare_whole : (g : Group) → is_bare g ≡ true → length g.holders ≡ length g.keys → record { guid = g.guid; holders = []; keys = []; turns = [] } ≡ g
+bare_whole g h even =
+    let parts = bare_parts g h in
+    rw (none g.holders parts.0, none g.keys (sym even ∙ parts.0), parts.1) refl
+  where
+    none : (xs : List ℕ) → length xs ≡ 0 → xs ≡ []
+    none [] e = refl
+    none (x ∷ xs) e = absurd (omega (arith, e))
 
 -- no holders, no keys
 pub no_keys : (g : Group) → length g.holders ≡ 0 → (n : ℕ) → key_in g n ≡ None
@@ -252,51 +243,69 @@ remove_set [] (suc at) y = refl
 remove_set (x ∷ xs) zero y = refl
 remove_set (x ∷ xs) (suc at) y = ap (λ r. x ∷ r) (remove_set xs at y)
 
-find_remove_other : {X : Type 0} (q : X → Bool) (xs : List X) (at : ℕ) (x : X) → slice_get xs at ≡ Some x → q x ≡ false → find q (remove xs at) ≡ find q xs
-find_remove_other q [] zero x e f = refl
-find_remove_other q [] (suc at) x e f = refl
-find_remove_other q (z ∷ zs) zero x e f = let n : q z ≡ false = rw (same_Some z x e) f in rw n refl
-find_remove_other q (z ∷ zs) (suc at) x e f = ap (λ r. cond (q z) (Some z) r) (find_remove_other q zs at x e f)
-
-remove_split : {X : Type 0} (before tie : X → Bool) (xs : List X) → IsSplit before tie xs → find tie (remove xs (place before xs)) ≡ None
-remove_split before tie [] h = refl
-remove_split before tie (x ∷ xs) h = elim (cases_Bool (before x)) [
-  | inl e ↦ rw e (rw (h.0 e) (remove_split before tie xs h.2))
-  | inr e ↦ rw e (find_none tie xs (h.1 e))
+all_held : (P : List ℕ → Type 0) (gs : List Group) → AllByRecursion P (map (λ g. g.guid) gs) → AllByRecursion P (map (λ g. g.guid) (filter (λ g. not (is_bare g)) gs))
+all_held P [] a = tt
+all_held P (g ∷ gs) a = elim (cases_Bool (is_bare g)) [
+  | inl b ↦ rw b (all_held P gs a.1)
+  | inr h ↦ rw h (a.0, all_held P gs a.1)
 ]
 
--- which group is found once that of a GUID goes
-group_removed : (groups : List Group) (guid : List ℕ) (at : ℕ) (g : Group) → AscendByGuid groups → IsPlaceOf guid groups at → slice_get groups at ≡ Some g
-    → (k : List ℕ) → find (is_group_of k) (remove groups at) ≡ cond (same_guid guid k) None (find (is_group_of k) groups)
-group_removed groups guid at g a p e k =
-    let same : g.guid ≡ guid = same_guid-true g.guid guid (found_of groups guid g (p.1 ∙ e)) in
-    elim (cases_Bool (same_guid guid k)) [
-      | inl y ↦ rw y (rw (← same_guid-true guid k y) (rw p.2 (remove_split (is_before guid) (is_group_of guid) groups (guid_splits guid groups a))))
-      | inr f ↦ rw f (find_remove_other (is_group_of k) groups at g e (other_guid guid k g.guid same f))
+pub held_ascend : (gs : List Group) → AscendByGuid gs → AscendByGuid (filter (λ g. not (is_bare g)) gs)
+held_ascend [] a = tt
+held_ascend (g ∷ gs) a = elim (cases_Bool (is_bare g)) [
+  | inl b ↦ rw b (held_ascend gs a.1)
+  | inr h ↦ rw h (all_held (λ k. slice_cmp nat_cmp g.guid k ≡ Less) gs a.0, held_ascend gs a.1)
+]
+
+-- the group of a GUID that is found then is the one before, unless that was bare
+held_found : (k : List ℕ) (gs : List Group) → AscendByGuid gs → find (is_group_of k) (filter (λ g. not (is_bare g)) gs) ≡ kept_if (λ g. not (is_bare g)) (find (is_group_of k) gs)
+held_found k [] a = refl
+held_found k (g ∷ gs) a = elim (cases_Bool (is_group_of k g)) [
+  | inl t ↦
+      let first : is_before k g ≡ false = elim (cases_Bool (is_before k g)) [
+        | inl b ↦ let w : false ≡ true = sym (before_other k g b) ∙ t in absurd cc
+        | inr n ↦ n
+      ] in
+      let others = (guid_splits k (g ∷ gs) a).1 first in
+      elim (cases_Bool (is_bare g)) [
+        | inl b ↦ rw (t, b) (find_none (is_group_of k) (filter (λ h. not (is_bare h)) gs) (all_filter (λ h. is_group_of k h ≡ false) (λ h. not (is_bare h)) gs others))
+        | inr h ↦ rw (t, h) (rw t refl)
+      ]
+  | inr f ↦ elim (cases_Bool (is_bare g)) [
+    | inl b ↦ rw (f, b) (held_found k gs a.1)
+    | inr h ↦ rw (f, h) (rw f (held_found k gs a.1))
+  ]
+]
+
+pub held_keys : (gs : List Group) → AscendByGuid gs → (k : List ℕ) (n : ℕ) → key_at (filter (λ g. not (is_bare g)) gs) k n ≡ key_at gs k n
+held_keys gs a k n = ap (option_and_then (λ g. key_in g n)) (held_found k gs a) ∙ same (find (is_group_of k) gs)
+  where
+    same : (o : Option Group) → option_and_then (λ g. key_in g n) (kept_if (λ g. not (is_bare g)) o) ≡ option_and_then (λ g. key_in g n) o
+    same None = refl
+    same (Some g) = elim (cases_Bool (is_bare g)) [
+      | inl b ↦ rw b (sym (no_keys g (bare_parts g b).0 n))
+      | inr h ↦ rw h refl
     ]
 
--- the group of a GUID goes with the last of its holders
-pub key_removed : (groups : List Group) (guid : List ℕ) (at : ℕ) (g new : Group) (m : ℕ) → AscendByGuid groups → IsPlaceOf guid groups at → slice_get groups at ≡ Some g
-    → ((n : ℕ) → key_in new n ≡ cond (m == n) None (key_in g n)) → length new.holders ≡ 0
-    → (k : List ℕ) (n : ℕ) → key_at (remove groups at) k n ≡ cond ((m == n) && same_guid guid k) None (key_at groups k n)
-key_removed groups guid at g new m a p e c z k n = ap (option_and_then (λ h. key_in h n)) (group_removed groups guid at g a p e k) ∙ elim (cases_Bool (same_guid guid k)) [
-  | inl y ↦
-      rw (y, and_true (m == n)) (rw (← same_guid-true guid k y) (sym (no_keys new z n) ∙ c n ∙ ap (cond (m == n) None) (sym (key_there groups guid at g p e n))))
-  | inr f ↦ rw (f, and_false (m == n)) refl
-]
+pub held_turns : (gs : List Group) → AscendByGuid gs → (k : List ℕ) → turns_of (filter (λ g. not (is_bare g)) gs) k ≡ turns_of gs k
+held_turns gs a k = ap turns_in (held_found k gs a) ∙ same (find (is_group_of k) gs)
+  where
+    same : (o : Option Group) → turns_in (kept_if (λ g. not (is_bare g)) o) ≡ turns_in o
+    same None = refl
+    same (Some g) = elim (cases_Bool (is_bare g)) [
+      | inl b ↦ rw b (sym (bare_parts g b).1)
+      | inr h ↦ rw h refl
+    ]
 
-pub turns_removed : (groups : List Group) (guid : List ℕ) (at : ℕ) (g new : Group) (f : List Turn → List Turn) → AscendByGuid groups → IsPlaceOf guid groups at → slice_get groups at ≡ Some g
-    → new.turns ≡ f g.turns → new.turns ≡ [] → (k : List ℕ) → turns_of (remove groups at) k ≡ cond (same_guid guid k) (f (turns_of groups k)) (turns_of groups k)
-turns_removed groups guid at g new f a p e c z k = ap turns_in (group_removed groups guid at g a p e k) ∙ elim (cases_Bool (same_guid guid k)) [
-  | inl y ↦ rw y (rw (← same_guid-true guid k y) (sym z ∙ c ∙ ap f (sym (turns_there groups guid at g p e))))
-  | inr n ↦ rw n refl
-]
+pub held_none : (gs : List Group) → AscendByGuid gs → (k : List ℕ) → find (is_group_of k) gs ≡ None → find (is_group_of k) (filter (λ g. not (is_bare g)) gs) ≡ None
+held_none gs a k none = held_found k gs a ∙ ap (kept_if (λ g. not (is_bare g))) none
 
-pub groups_remove : (groups : List Group) (at : ℕ) → AreGroups groups → AreGroups (remove groups at)
-groups_remove groups at a = record {
-  ascending = rw (map_remove (λ g. g.guid) groups at) (ascending_remove (λ x y. slice_cmp nat_cmp x y ≡ Less) (map (λ g. g.guid) groups) at a.ascending);
-  held = all_remove (λ h. is_bare h ≡ false) groups at a.held;
-}
+-- what changes after bare groups went
+pub sets_after : (guid : List ℕ) (m : ℕ) (o : Option ℕ) (old mid new : List Group) → HaveSameKeys old mid → SetsKey guid m o mid new → SetsKey guid m o old new
+sets_after guid m o old mid new h s k n = s k n ∙ ap (λ x. cond ((m == n) && same_guid guid k) o x) (h k n)
+
+pub turns_after : (guid : List ℕ) (f : List Turn → List Turn) (old mid new : List Group) → HaveSameTurns old mid → ChangesTurns guid f mid new → ChangesTurns guid f old new
+turns_after guid f old mid new h c k = c k ∙ ap (λ x. cond (same_guid guid k) (f x) x) (h k)
 
 -- no group, no key
 pub none_there : (groups : List Group) (guid : List ℕ) (m : ℕ) → find (is_group_of guid) groups ≡ None → (k : List ℕ) (n : ℕ) → key_at groups k n ≡ cond ((m == n) && same_guid guid k) None (key_at groups k n)

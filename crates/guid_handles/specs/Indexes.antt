@@ -1,5 +1,5 @@
 -- The keys of interfaces: by handle in rows, and by GUID in groups.
-use Rattle.std.specs.Prelude.{◌≡◌, ℕ, ◌<◌, ◌==◌, ◌&&◌, nat_eq, Bool, true, false, not, cond, List, [], ◌∷◌, ◌++◌, map, length, Option, None, Some, is_some}
+use Rattle.std.specs.Prelude.{◌≡◌, ℕ, ◌<◌, ◌==◌, ◌&&◌, nat_eq, Bool, true, not, cond, List, [], ◌∷◌, ◌++◌, map, length, Option, None, Some, is_some}
 use Rattle.std.specs.List.{filter, find, list_any, AllByRecursion, slice_get}
 use Rattle.std.specs.Option.{option_and_then}
 use Rattle.std.specs.declared.cmp.Ordering.TheVariants.{Less}
@@ -127,11 +127,6 @@ AscendByGuid groups = Ascending (λ a b. slice_cmp nat_cmp a b ≡ Less) (map (�
 -- a group has no holders and no turns
 abbrev pub is_bare : Group → Bool
 is_bare g = (length g.holders == 0) && (length g.turns == 0)
-
--- groups by ascending GUID, none of them bare
-pub record AreGroups (groups : List Group) : Type 0 where
-  pub ascending : AscendByGuid groups
-  pub held : AllByRecursion (λ g. is_bare g ≡ false) groups
 
 -- the place of the group of a GUID
 abbrev pub IsPlaceOf : List ℕ → List Group → ℕ → Type 0

@@ -1,9 +1,9 @@
 //! The interfaces by GUID.
-ghost use Rattle.std.specs.Prelude.{◌≡◌, ◌<◌, ◌≤◌, ◌==◌, ◌&&◌, ℕ, Bool, true, false, cond, List, [], None, Some, length, nat_lt, is_some, map, option_map, slice_get, IfOk, OnOk, OnErr, IfSome, IfNone};
-ghost use Rattle.std.specs.List.{find, list_any, AllByRecursion};
+ghost use Rattle.std.specs.Prelude.{◌≡◌, ◌<◌, ◌≤◌, ◌==◌, ◌&&◌, ℕ, Bool, true, false, not, cond, List, [], None, Some, length, nat_lt, is_some, map, option_map, slice_get, IfOk, OnOk, OnErr, IfSome, IfNone};
+ghost use Rattle.std.specs.List.{filter, find, list_any, AllByRecursion};
 ghost use Rattle.guid_handles.specs.HandleTables.{same_guid};
 ghost use Rattle.guid_handles.specs.Sorting.{Ascending, place, kept_if};
-ghost use Rattle.guid_handles.specs.Indexes.{AreInTurn, AscendByGuid, ChangesTurns, HaveSameKeys, IsPlaceOf, SetsKey, is_before, is_group_of, key_at, key_in, turns_of, with_turn, without_turn};
+ghost use Rattle.guid_handles.specs.Indexes.{AreInTurn, AscendByGuid, ChangesTurns, HaveSameKeys, HaveSameTurns, IsPlaceOf, SetsKey, is_bare, is_before, is_group_of, key_at, key_in, turns_of, with_turn, without_turn};
 ghost use Rattle.guid_handles.specs.TurnSteps.{moved_turn, turn_after};
 
 use crate::guid_group::GuidGroup;
@@ -12,7 +12,7 @@ use std::alloc::{AllocError, Allocator};
 use std::marker::Model;
 use uuid::Uuid;
 
-/// Groups by ascending GUID. A group that is left bare goes.
+/// Groups by ascending GUID. One that is left bare stays until there is no room for another group.
 #[derive(Drop)]
 pub(crate) struct Groups<A: Allocator> {
     groups: Vec<GuidGroup<A>, A>,
@@ -20,13 +20,13 @@ pub(crate) struct Groups<A: Allocator> {
 
 impl<A: Allocator> Model for Groups<A> {
     ghost use Rattle.std.specs.Prelude.{List};
-    ghost use Rattle.guid_handles.specs.Indexes.{Group, AreGroups};
+    ghost use Rattle.guid_handles.specs.Indexes.{Group, AscendByGuid};
 
     ghost Value = { List Group };
 
     ghost view = { λ g. g.groups.items };
 
-    ghost invariant = { λ g. AreGroups g.groups.items };
+    ghost invariant = { λ g. AscendByGuid g.groups.items };
 }
 
 /// How many groups have lower GUIDs.
@@ -79,6 +79,17 @@ fn place_of<A: Allocator + Copy>(groups: &[GuidGroup<A>], guid: Uuid) -> Option<
     } else {
         None
     }
+}
+
+/// Gives up the groups that are bare.
+fn drop_bare<A: Allocator + Copy>(groups: &mut Vec<GuidGroup<A>, A>)
+    ensures { groups.new.items ≡ filter (λ g. not (is_bare g)) groups.old.items }
+{
+    groups.retain(
+        |g: &GuidGroup<A>| -> bool
+            ensures { result ≡ not (is_bare g.now) }
+        { !g.is_bare() },
+    );
 }
 
 impl<A: Allocator + Copy> Groups<A> {
@@ -157,6 +168,31 @@ impl<A: Allocator + Copy> Groups<A> {
         Ok(())
     }
 
+    /// Gives up the groups that are bare.
+    fn tidy(&mut self)
+        ensures keys { HaveSameKeys self.old self.new }
+        ensures turns { HaveSameTurns self.old self.new }
+        ensures none { (k : List ℕ) → find (is_group_of k) self.old ≡ None
+            → find (is_group_of k) self.new ≡ None }
+    {
+        drop_bare(&mut self.groups);
+    }
+
+    /// Makes a group of a GUID that has none, with one holder, once bare groups are given up. On an `Err`
+    /// the keys and the turns are as they were.
+    fn make(&mut self, guid: Uuid, handle: u64, key: usize, stamp: u64) -> Result<(), AllocError>
+        requires { find (is_group_of guid) self.old ≡ None }
+        ensures ok { OnOk result (SetsKey guid handle (Some key) self.old self.new) }
+        ensures turns { OnOk result (ChangesTurns guid (with_turn handle stamp) self.old self.new) }
+        ensures keys_stay { OnErr result (HaveSameKeys self.old self.new) }
+        ensures turns_stay { OnErr result (HaveSameTurns self.old self.new) }
+    {
+        self.tidy();
+        let at = count_before(self.groups.as_slice(), guid);
+        self.make_at(at, guid, handle, key, stamp)?;
+        Ok(())
+    }
+
     /// Adds a holder that is not there to the group at a place. On an `Err` the groups are as they
     /// were.
     fn add_at(
@@ -179,7 +215,7 @@ impl<A: Allocator + Copy> Groups<A> {
     }
 
     /// Adds the key of an interface that is not there, and its stamp, which is above all others of
-    /// its GUID. On an `Err` the groups are as they were.
+    /// its GUID. On an `Err` the keys and the turns are as they were.
     pub(crate) fn add(
         &mut self,
         guid: Uuid,
@@ -191,14 +227,17 @@ impl<A: Allocator + Copy> Groups<A> {
         requires last { AllByRecursion (λ t. t.stamp < stamp) (turns_of self.old guid) }
         ensures ok { OnOk result (SetsKey guid handle (Some key) self.old self.new) }
         ensures turns { OnOk result (ChangesTurns guid (with_turn handle stamp) self.old self.new) }
-        ensures err { OnErr result (self.new ≡ self.old) }
+        ensures keys_stay { OnErr result (HaveSameKeys self.old self.new) }
+        ensures turns_stay { OnErr result (HaveSameTurns self.old self.new) }
     {
         let at = count_before(self.groups.as_slice(), guid);
         if group_if(self.groups.as_slice(), at, guid).is_some() {
-            self.add_at(at, guid, handle, key, stamp)
-        } else {
-            self.make_at(at, guid, handle, key, stamp)
+            return self.add_at(at, guid, handle, key, stamp);
         }
+        if self.groups.len() < self.groups.capacity() {
+            return self.make_at(at, guid, handle, key, stamp);
+        }
+        self.make(guid, handle, key, stamp)
     }
 
     /// Removes a handle from the group at a place, and the turn of its stamp.
@@ -208,9 +247,6 @@ impl<A: Allocator + Copy> Groups<A> {
         ensures turns { ChangesTurns guid (without_turn stamp) self.old self.new }
     {
         self.groups[at].remove(handle, stamp);
-        if self.groups[at].is_bare() {
-            self.groups.remove(at);
-        }
     }
 
     /// Removes the key of the interface of a GUID on a handle, and the turn of its stamp.

@@ -115,7 +115,6 @@ impl<A: Allocator + Copy> GuidGroup<A> {
         requires absent { key_in self.old handle ≡ None }
         requires last { AllByRecursion (λ t. t.stamp < stamp) self.old.turns }
         ensures guid { self.new.guid ≡ self.old.guid }
-        ensures held { OnOk result (is_bare self.new ≡ false) }
         ensures ok { OnOk result (SetsKeyIn handle (Some key) self.old self.new) }
         ensures turns { OnOk result (self.new.turns ≡ with_turn handle stamp self.old.turns) }
         ensures err { OnErr result (self.new ≡ self.old) }
@@ -130,8 +129,8 @@ impl<A: Allocator + Copy> GuidGroup<A> {
         Ok(())
     }
 
-    /// Removes a handle, and the turn of its stamp.
-    pub(crate) fn remove(&mut self, handle: u64, stamp: u64)
+    /// Removes a handle, and the turn of its stamp, and keeps all memory.
+    fn take_out(&mut self, handle: u64, stamp: u64)
         ensures guid { self.new.guid ≡ self.old.guid }
         ensures keys { SetsKeyIn handle None self.old self.new }
         ensures turns { self.new.turns ≡ without_turn stamp self.old.turns }
@@ -142,6 +141,25 @@ impl<A: Allocator + Copy> GuidGroup<A> {
             self.holders.remove(at);
             self.keys.remove(at);
         }
+    }
+
+    /// Gives up the memory of the group if it is bare.
+    fn tidy(&mut self)
+        ensures { self.new ≡ self.old }
+    {
+        if self.is_bare() {
+            *self = GuidGroup::new(*self.holders.allocator(), self.guid);
+        }
+    }
+
+    /// Removes a handle, and the turn of its stamp. A group that is left bare keeps no memory.
+    pub(crate) fn remove(&mut self, handle: u64, stamp: u64)
+        ensures guid { self.new.guid ≡ self.old.guid }
+        ensures keys { SetsKeyIn handle None self.old self.new }
+        ensures turns { self.new.turns ≡ without_turn stamp self.old.turns }
+    {
+        self.take_out(handle, stamp);
+        self.tidy();
     }
 
     /// Gives the turn of a handle a stamp that no other has in place of its own.

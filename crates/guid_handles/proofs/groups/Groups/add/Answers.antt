@@ -6,16 +6,16 @@ pub add_at-requires-clause-place : goal.add_at-requires-clause-place
 add_at-requires-clause-place g c =
     let place = rw c.as_slice.ensures.value at c.count_before-at.ensures.place in
     let there = rw c.as_slice-2.ensures.value at c.group_if.ensures in
-    rw (← c.self.view_is) (place_returned _ _ c.args.guid _ c.group_if.result c.self.invariant.ascending place there (sym c.is_some.ensures ∙ c.if-is_some.true))
+    rw (← c.self.view_is) (place_returned _ _ c.args.guid _ c.group_if.result c.self.invariant place there (sym c.is_some.ensures ∙ c.if-is_some.true))
 
-pub make_at-requires-clause-none : goal.make_at-requires-clause-none
-make_at-requires-clause-none g c =
+pub make-requires : goal.make-requires
+make-requires g c =
     let place = rw c.as_slice.ensures.value at c.count_before-at.ensures.place in
     let there = rw c.as_slice-2.ensures.value at c.group_if.ensures in
-    rw (← c.self.view_is) (none_returned _ _ c.args.guid _ c.group_if.result c.self.invariant.ascending place there (sym c.is_some.ensures ∙ c.if-is_some.false))
+    rw (← c.self.view_is) (none_returned _ _ c.args.guid _ c.group_if.result c.self.invariant place there (sym c.is_some.ensures ∙ c.if-is_some.false))
 
 pub count_before-at-requires : goal.count_before-at-requires
-count_before-at-requires g c = rw c.as_slice.ensures.value c.self.invariant.ascending
+count_before-at-requires g c = rw c.as_slice.ensures.value c.self.invariant
 
 pub add_at-requires-clause-absent : goal.add_at-requires-clause-absent
 add_at-requires-clause-absent g c = c.requires.absent
@@ -23,14 +23,14 @@ add_at-requires-clause-absent g c = c.requires.absent
 pub add_at-requires-clause-last : goal.add_at-requires-clause-last
 add_at-requires-clause-last g c = c.requires.last
 
+pub make_at-requires-clause-none : goal.make_at-requires-clause-none
+make_at-requires-clause-none g c =
+    let place = rw c.as_slice.ensures.value at c.count_before-at.ensures.place in
+    let there = rw c.as_slice-2.ensures.value at c.group_if.ensures in
+    rw (← c.self.view_is) (none_returned _ _ c.args.guid _ c.group_if.result c.self.invariant place there (sym c.is_some.ensures ∙ c.if-is_some.false))
+
 pub make_at-requires-clause-place : goal.make_at-requires-clause-place
 make_at-requires-clause-place g c = rw (← c.self.view_is) (rw c.as_slice.ensures.value at c.count_before-at.ensures.place)
 
 pub make_at-requires-clause-bound : goal.make_at-requires-clause-bound
 make_at-requires-clause-bound g c = rw (← c.self.view_is) (rw c.as_slice.ensures.value at c.count_before-at.ensures.bound)
-
-pub returns-then-is_some : goal.returns-then-is_some
-returns-then-is_some g c = record { ok = c.add_at.ensures.ok; turns = c.add_at.ensures.turns; err = c.add_at.ensures.err }
-
-pub returns-else-is_some : goal.returns-else-is_some
-returns-else-is_some g c = record { ok = c.make_at.ensures.ok; turns = c.make_at.ensures.turns; err = c.make_at.ensures.err }

@@ -1,5 +1,5 @@
 use Rattle.std.proofs.Common.{subst, sym, ◌∙◌, Some}
-use Rattle.guid_handles.specs.Indexes.{AreGroups, with_turn}
+use Rattle.guid_handles.specs.Indexes.{AscendByGuid, with_turn}
 use Rattle.guid_handles.proofs.Grouped.{got, groups_set, key_changed, key_there, put_back, turns_set, turns_there}
 use Rattle.guid_handles.proofs.SlidRows.{on_err}
 use Rattle.guid_handles.proofs.groups.Groups.add_at.Goals as goal
@@ -19,7 +19,7 @@ add-requires-clause-last g c =
 pub invariant_of-self-2 : goal.invariant_of-self-2
 invariant_of-self-2 g c =
     let place = rw (← c.self.view_is) at c.requires.place in
-    groups_set _ _ _ _ c.self.invariant (got _ _ _ place.0 c.index_mut.ensures.value) c.add.ensures.guid c.in_ok-add.ensures.held
+    groups_set _ _ _ _ c.self.invariant (got _ _ _ place.0 c.index_mut.ensures.value) c.add.ensures.guid
 
 pub returns-clause-ok : goal.returns-clause-ok
 returns-clause-ok g c =
@@ -42,4 +42,4 @@ pub index_mut-requires : goal.index_mut-requires
 index_mut-requires g c = let place = rw (← c.self.view_is) at c.requires.place in rw c.self.inside.groups.ok.0 place.0
 
 pub invariant_of-self : goal.invariant_of-self
-invariant_of-self g c = subst AreGroups (sym (put_back c.self.inside.groups.items c.args.at _ _ c.in_err-add.ensures.err c.index_mut.ensures.value)) c.self.invariant
+invariant_of-self g c = subst AscendByGuid (sym (put_back c.self.inside.groups.items c.args.at _ _ c.in_err-add.ensures.err c.index_mut.ensures.value)) c.self.invariant

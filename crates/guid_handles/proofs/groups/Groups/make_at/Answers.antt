@@ -8,7 +8,7 @@ pub invariant_of-self-2 : goal.invariant_of-self-2
 invariant_of-self-2 g c =
     let own = c.add.ensures.guid ∙ ap (λ (x : Group). x.guid) c.new-group.ensures in
     rw c.in_ok-insert.ensures.items
-    (groups_insert _ _ c.args.guid _ own c.self.invariant (rw (← c.self.view_is) at c.requires.none) (rw (← c.self.view_is) at c.requires.place) c.in_ok-add.ensures.held)
+    (groups_insert _ _ c.args.guid _ own c.self.invariant (rw (← c.self.view_is) at c.requires.none) (rw (← c.self.view_is) at c.requires.place))
 
 pub returns-clause-ok : goal.returns-clause-ok
 returns-clause-ok g c =

@@ -1,7 +1,7 @@
 use Rattle.std.proofs.Common.{ap}
 use Rattle.guid_handles.specs.Indexes.{Group, key_in}
 use Rattle.guid_handles.specs.TurnSteps.{moved_turn}
-use Rattle.guid_handles.proofs.Grouped.{got, groups_set, key_same, turns_held, turns_set, turns_there}
+use Rattle.guid_handles.proofs.Grouped.{got, groups_set, key_same, turns_set, turns_there}
 use Rattle.guid_handles.proofs.groups.Groups.restamp_at.Goals as goal
 
 pub restamp-requires-clause-there : goal.restamp-requires-clause-there
@@ -18,7 +18,6 @@ pub invariant_of-self : goal.invariant_of-self
 invariant_of-self g c =
     let place = rw (← c.self.view_is) at c.requires.place in
     groups_set _ _ _ _ c.self.invariant (got _ _ _ place.0 c.index_mut.ensures.value) (ap (λ (x : Group). x.guid) c.restamp.ensures)
-    (turns_held c.args.handle c.args.stamp c.restamp.new.self _ (ap (λ (x : Group). x.turns) c.restamp.ensures))
 
 pub returns-clause-keys : goal.returns-clause-keys
 returns-clause-keys g c =

@@ -23,13 +23,13 @@ returns-in-Some-clause-table g c =
 pub returns-in-Some-clause-any : goal.returns-in-Some-clause-any
 returns-in-Some-clause-any g c =
     let kept = (stored_less _ _ _ _ _ c.self.invariant _ _ _ c.args.handle c.args.guid _ _ (sym c.in-Some.ensures) c.take_record-stamp.ensures.own c.take_record-stamp.ensures.gone c.take_record-stamp.ensures.others
-        c.remove_key.ensures.keys c.remove.ensures.keys c.remove.ensures.turns).1 in
+    c.remove_key.ensures.keys c.remove.ensures.keys c.remove.ensures.turns).1 in
     c.remove_key.ensures.left ∙ left_on _ _ _ _ _ kept c.args.handle
 
 pub returns-in-Some-clause-live : goal.returns-in-Some-clause-live
 returns-in-Some-clause-live g c = λ t.
     let kept = (stored_less _ _ _ _ _ c.self.invariant _ _ _ c.args.handle c.args.guid _ _ (sym c.in-Some.ensures) c.take_record-stamp.ensures.own c.take_record-stamp.ensures.gone c.take_record-stamp.ensures.others
-        c.remove_key.ensures.keys c.remove.ensures.keys c.remove.ensures.turns).1 in
+    c.remove_key.ensures.keys c.remove.ensures.keys c.remove.ensures.turns).1 in
     carrier_live _ kept.table.proper c.args.handle (sym (c.remove_key.ensures.left ∙ left_on _ _ _ _ _ kept c.args.handle) ∙ t)
 
 pub returns-in-None-clause-table : goal.returns-in-None-clause-table
