@@ -1,13 +1,15 @@
 //! Making a core.
-ghost use Rattle.std.specs.Prelude.{◌≡◌};
+ghost use Rattle.std.specs.Prelude.{◌≡◌, IfOk};
+ghost use Rattle.boot_core.specs.Machines.{first_state};
 ghost use Rattle.page_ranges.specs.Statuses.{status_number};
 ghost use Rattle.c_interface.specs.Making.{MakesCore, fault_status};
 
 use crate::efi_core::EfiCore;
-use boot_core::Core;
+use boot_core::{Core, Machine, PoolMemory};
 use c_machines::{DriverTable, MachineFault, are_tables, machine_of, table_drivers};
+use driver_connect::TableDriver;
 use page_ranges::Status;
-use std::alloc::Allocator;
+use std::alloc::{AllocError, Allocator};
 
 impl<A: Allocator + Copy> EfiCore<A> {
     /// The core of a machine before any call. Its memory is described by records (EFI_MEMORY_DESCRIPTOR) of
@@ -25,6 +27,36 @@ impl<A: Allocator + Copy> EfiCore<A> {
     ) -> Result<EfiCore<A>, u64>
         ensures { MakesCore descriptor_size records.now granule tables.now result }
     {
+        EfiCore::make_with(alloc, records, descriptor_size, granule, tables, None)
+    }
+
+    /// The same, whose pool lies in memory that the machine's pages are: the bytes of a block are those at its
+    /// address.
+    pub fn make_over(
+        alloc: A,
+        records: &[u8],
+        descriptor_size: usize,
+        granule: u64,
+        tables: &[DriverTable],
+        memory: PoolMemory,
+    ) -> Result<EfiCore<A>, u64>
+        ensures { MakesCore descriptor_size records.now granule tables.now result }
+    {
+        let memory = Some(memory);
+        EfiCore::make_with(alloc, records, descriptor_size, granule, tables, memory)
+    }
+
+    // The core of a machine, whose pool lies in the memory, if there is one.
+    fn make_with(
+        alloc: A,
+        records: &[u8],
+        descriptor_size: usize,
+        granule: u64,
+        tables: &[DriverTable],
+        memory: Option<PoolMemory>,
+    ) -> Result<EfiCore<A>, u64>
+        ensures { MakesCore descriptor_size records.now granule tables.now result }
+    {
         if !are_tables(tables) {
             return Err(Status::InvalidParameter.number());
         }
@@ -36,13 +68,29 @@ impl<A: Allocator + Copy> EfiCore<A> {
             Ok(drivers) => drivers,
             Err(fault) => return Err(fault_status(fault)),
         };
-        match Core::new(alloc, machine, drivers) {
+        match core_of(alloc, machine, drivers, memory) {
             Ok(mut core) => {
                 core.certify(false);
                 Ok(EfiCore::new(alloc, core))
             }
             Err(_) => Err(Status::OutOfResources.number()),
         }
+    }
+}
+
+/// The core of a machine, whose pool lies in the memory, if there is one.
+fn core_of<A: Allocator + Copy>(
+    alloc: A,
+    machine: Machine<A>,
+    drivers: Vec<TableDriver, A>,
+    memory: Option<PoolMemory>,
+) -> Result<Core<TableDriver, A>, AllocError>
+    ensures { IfOk result
+        (λ c. c ≡ record { state = first_state machine; drivers = drivers.items }) }
+{
+    match memory {
+        Some(memory) => Core::over(alloc, machine, drivers, memory),
+        None => Core::new(alloc, machine, drivers),
     }
 }
 

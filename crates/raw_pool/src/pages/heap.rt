@@ -9,7 +9,7 @@ use crate::raw_bytes::{Lease, RawBytes};
 use std::alloc::{AllocError, Allocator};
 use std::mem::ManuallyDrop;
 
-/// Pages of memory in a row. Who has a `&` to it takes runs of them, and gives them back.
+/// Pages of memory in a row. Through a `&` to it runs of them are taken and given back.
 pub struct PageHeap {
     slot: Slot,
 }
