@@ -3,7 +3,8 @@
  * A core is the boot services of one machine. docs/RULES.md states what each service does, point by
  * point, and docs/FORMATS.md the bytes of maps, lists, device paths and certificates; the end of
  * RULES.md says what of the standard is left out. No hardware is touched: addresses are those of
- * the machine that RafkudinMake describes, never pointers of this program.
+ * the machine that RafkudinMake describes, never pointers of this program, but of a core that
+ * RafkudinMakeOver makes over memory.
  *
  * NAMES. There are 24 services. 22 of them have their names in the UEFI Specification 2.10 with
  * the prefix Rafkudin, and the standard's parameters in the standard's order, after the core; where
@@ -44,7 +45,8 @@
  * - INVALID_PARAMETER of UninstallMultipleProtocolInterfaces with up to 16 interfaces.
  *
  * WHAT THE CALLER MUST DO. Nothing checks it, and the proofs hold only where it holds:
- * - `core` is a pointer that RafkudinMake set, and RafkudinFree has not been called with it.
+ * - `core` is a pointer that RafkudinMake or RafkudinMakeOver set, and RafkudinFree has not been
+ *   called with it.
  * - Each pointer is null or aligned for its type.
  * - A buffer has the room, and an array the entries, that the parameter beside it states. What is
  *   read is initialized, all of it: every field of a structure, entries beyond its counts too. A
@@ -281,6 +283,38 @@ RAFKUDIN_API rafkudin_uint64 RafkudinMake(const uint8_t *records, size_t size,
                                           size_t descriptor_size, rafkudin_uint64 granule,
                                           const struct rafkudin_driver *drivers,
                                           size_t driver_count, struct rafkudin **core);
+
+/* Memory that a caller hands over: `pages` pages of 4,096 bytes from `start` on. `start` is not
+ * null, and `pages` below 2^51. */
+struct rafkudin_memory {
+    void *start;
+    size_t pages;
+};
+
+/* RafkudinMake with memory for the machine's pages from number `first_page` on, where page k of the
+ * memory is page `first_page` + k of the machine. A block of the pool then is at its address: its
+ * bytes are those of the memory. All replies are the same, but that of a pool extent of other pages
+ * than these, which is refused as where memory runs out. So there is to be memory for each
+ * conventional page of the machine; `start` is at least as aligned as a page.
+ *
+ * The memory is the core's alone until RafkudinFree, but for what it has handed out. The caller may
+ * read and write, by their addresses,
+ * - the bytes of its own live blocks: RafkudinPoolRead returns what was written last, by either
+ *   way. The 8 bytes before a block, and those behind it up to the next multiple of 32, are the
+ *   core's, as are free bytes of an extent, in which it keeps its list;
+ * - pages that AllocatePages placed, until they are freed: the core reads and writes no page but
+ *   those of the pool.
+ * Two cores have no page of memory in common. What the core keeps of each page, a byte and some
+ * more, stays allocated once it is freed, and where none is made.
+ *
+ * INVALID_PARAMETER: the memory begins at null, or has 2^51 pages or more; and as of RafkudinMake.
+ * OUT_OF_RESOURCES: memory was refused. *core is set on SUCCESS alone. */
+RAFKUDIN_API rafkudin_uint64 RafkudinMakeOver(struct rafkudin_memory memory,
+                                              rafkudin_uint64 first_page, const uint8_t *records,
+                                              size_t size, size_t descriptor_size,
+                                              rafkudin_uint64 granule,
+                                              const struct rafkudin_driver *drivers,
+                                              size_t driver_count, struct rafkudin **core);
 
 /* Frees all memory of a core, also once boot services have ended. With null it does nothing. */
 RAFKUDIN_API void RafkudinFree(struct rafkudin *core);

@@ -24,6 +24,27 @@ static inline rafkudin_uint64 rafkudin_make(const uint8_t *records, size_t size,
 }
 #define RafkudinMake rafkudin_make
 
+static inline rafkudin_uint64 rafkudin_make_over(struct rafkudin_memory memory,
+                                                 rafkudin_uint64 first_page, const uint8_t *records,
+                                                 size_t size, size_t descriptor_size,
+                                                 rafkudin_uint64 granule,
+                                                 const struct rafkudin_driver *drivers,
+                                                 size_t driver_count, struct rafkudin **core)
+{
+    rafkudin_uint64 nothing = 0;
+
+    if (memory.start == NULL || memory.pages >= (size_t)1 << 51 || core == NULL ||
+        (records == NULL && size != 0) || (drivers == NULL && driver_count != 0))
+        return RAFKUDIN_INVALID_PARAMETER;
+    if (records == NULL)
+        records = (const uint8_t *)(void *)&nothing;
+    if (drivers == NULL)
+        drivers = (const struct rafkudin_driver *)(void *)&nothing;
+    return RafkudinMakeOver(memory, first_page, records, size, descriptor_size, granule, drivers,
+                            driver_count, core);
+}
+#define RafkudinMakeOver rafkudin_make_over
+
 static inline rafkudin_uint64 rafkudin_certificate(const struct rafkudin *core, uint8_t *text,
                                                    size_t room, rafkudin_uint64 *length)
 {

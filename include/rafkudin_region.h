@@ -2,9 +2,9 @@
  * of a firmware that calls no heap.
  *
  * A program that includes this header is linked with librafkudin_region.a instead of librafkudin.a.
- * That library has the functions of rafkudin.h but three: instead of RafkudinMake it has
- * RafkudinMakeIn, which takes a region, and instead of RafkudinPlace and RafkudinCheck there are
- * those of rafkudin_place.h. It needs memcpy, memmove and memset and nothing else, and two cores
+ * That library has the functions of rafkudin.h but four: instead of RafkudinMake and
+ * RafkudinMakeOver it has RafkudinMakeIn and RafkudinMakeOverIn, which take a region, and instead
+ * of RafkudinPlace and RafkudinCheck there are those of rafkudin_place.h. It needs memcpy, memmove and memset and nothing else, and two cores
  * share nothing. docs/C.md says how it is linked.
  *
  * A region is any memory, from any address on, that the library alone reads and writes while the
@@ -23,6 +23,11 @@ RAFKUDIN_API rafkudin_uint64 RafkudinMakeInRegion(
     struct rafkudin_region region, const uint8_t *records, size_t size, size_t descriptor_size,
     rafkudin_uint64 granule, const struct rafkudin_driver *drivers, size_t driver_count,
     struct rafkudin **core);
+
+RAFKUDIN_API rafkudin_uint64 RafkudinMakeOverInRegion(
+    struct rafkudin_region region, struct rafkudin_memory memory, rafkudin_uint64 first_page,
+    const uint8_t *records, size_t size, size_t descriptor_size, rafkudin_uint64 granule,
+    const struct rafkudin_driver *drivers, size_t driver_count, struct rafkudin **core);
 
 /* How many bytes of a region serve a core whose memory map never has more than `entries` entries,
  * on which no more than `handles` handles with 8 interfaces each are live, and whose pool has no
@@ -53,6 +58,31 @@ static inline rafkudin_uint64 RafkudinMakeIn(void *region, size_t room, const ui
         drivers = (const struct rafkudin_driver *)(void *)&nothing;
     return RafkudinMakeInRegion(rafkudin_region_in(region, room), records, size, descriptor_size,
                                 granule, drivers, driver_count, core);
+}
+
+/* RafkudinMakeOver in the `room` bytes of a region, which are none of the memory. The region has
+ * the byte for each page, but not the bytes of the pool.
+ *
+ * INVALID_PARAMETER: `region` is null; and as of RafkudinMakeOver. OUT_OF_RESOURCES: the region is
+ * too small. */
+static inline rafkudin_uint64
+RafkudinMakeOverIn(void *region, size_t room, struct rafkudin_memory memory,
+                   rafkudin_uint64 first_page, const uint8_t *records, size_t size,
+                   size_t descriptor_size, rafkudin_uint64 granule,
+                   const struct rafkudin_driver *drivers, size_t driver_count,
+                   struct rafkudin **core)
+{
+    rafkudin_uint64 nothing = 0;
+
+    if (region == NULL || memory.start == NULL || memory.pages >= (size_t)1 << 51 || core == NULL ||
+        (records == NULL && size != 0) || (drivers == NULL && driver_count != 0))
+        return RAFKUDIN_INVALID_PARAMETER;
+    if (records == NULL)
+        records = (const uint8_t *)(void *)&nothing;
+    if (drivers == NULL)
+        drivers = (const struct rafkudin_driver *)(void *)&nothing;
+    return RafkudinMakeOverInRegion(rafkudin_region_in(region, room), memory, first_page, records,
+                                    size, descriptor_size, granule, drivers, driver_count, core);
 }
 
 #ifdef __cplusplus

@@ -52,8 +52,11 @@ uint64_t core_map(uint64_t *size, void *map, uint64_t *key, uint64_t *step, uint
 
 uint64_t core_pool(uint32_t type, uint64_t size, uint64_t *address)
 {
-    uint64_t status = RafkudinAllocatePool(host.core, type, size, address);
+    uint64_t status;
 
+    host.in_pool = true;
+    status = RafkudinAllocatePool(host.core, type, size, address);
+    host.in_pool = false;
     TRACE(.service = RAFKUDIN_CALL_ALLOCATE_POOL, .memory_type = type, .size = size);
     check_certificate();
     return status;
@@ -61,8 +64,11 @@ uint64_t core_pool(uint32_t type, uint64_t size, uint64_t *address)
 
 uint64_t core_free_pool(uint64_t address)
 {
-    uint64_t status = RafkudinFreePool(host.core, address);
+    uint64_t status;
 
+    host.in_pool = true;
+    status = RafkudinFreePool(host.core, address);
+    host.in_pool = false;
     TRACE(.service = RAFKUDIN_CALL_FREE_POOL, .address = address);
     return status;
 }

@@ -104,7 +104,9 @@ NO_RETURN static void end_by_fault(int number, const siginfo_t *info, ucontext_t
     const char *name = general && in_image(instruction) ? pass_over(context, true) : NULL;
     char what[200];
 
-    if (name != NULL)
+    if (host.in_pool && host.over_memory)
+        snprintf(what, sizeof what, "the pool's own bytes were overwritten");
+    else if (name != NULL)
         snprintf(what, sizeof what, "an instruction that a process may not carry out, %s", name);
     else if (general)
         snprintf(what, sizeof what, "an access to an address that no memory has");

@@ -61,6 +61,8 @@ struct host {
     struct call *call;
     struct image *running, *application;
     bool exited, checks;
+    bool over_memory; /* a block of the core's pool is at its address */
+    bool in_pool;     /* the core's pool is being called */
     uint64_t calls;
     volatile bool wants_pictures; /* since a SIGUSR1 */
     uint64_t images_start, images_end; /* all images that there ever were lie between */

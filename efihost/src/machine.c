@@ -8,6 +8,7 @@
 
 #define MAX_RANGES 65536U
 #define LOWEST 0x10000ULL /* what a process may have lies at or above this */
+#define MAX_PAGES 0xc0000 /* of memory that the core is handed: it keeps a byte for each page */
 #define ALL (PROT_READ | PROT_WRITE | PROT_EXEC)
 
 static struct machine_range *ranges;
@@ -145,10 +146,51 @@ static int by_start(const void *one, const void *other)
     return a->start < b->start ? -1 : a->start > b->start;
 }
 
-/* Makes the core of the ranges, in the form in which GetMemoryMap writes them. */
+/* Makes addresses this process's, where nothing is to be. */
+static bool take_hole(uint64_t start, uint64_t end)
+{
+    int flags = MAP_PRIVATE | MAP_ANONYMOUS | MAP_NORESERVE | MAP_FIXED_NOREPLACE;
+    void *at = POINTER(start);
+
+    return start == end || (start < end && mmap(at, end - start, PROT_NONE, flags, -1, 0) == at);
+}
+
+/* The memory from the first conventional page to the last one. False where that is long, or where
+ * this process cannot have what lies between. */
+static bool one_run(struct rafkudin_memory *memory)
+{
+    size_t first = 0, behind = range_count;
+    uint64_t start, end;
+
+    while (first < behind && ranges[first].type != RAFKUDIN_CONVENTIONAL)
+        first++;
+    while (first < behind && ranges[behind - 1].type != RAFKUDIN_CONVENTIONAL)
+        behind--;
+    if (first == behind)
+        return false;
+    start = end = ranges[first].start;
+    if (ranges[behind - 1].start / PAGE + ranges[behind - 1].pages > MAX_PAGES)
+        return false;
+    for (size_t i = first; i < behind; i++) {
+        if (!take_hole(end, ranges[i].start))
+            return false;
+        end = ranges[i].start + ranges[i].pages * PAGE;
+        if (!ranges[i].mapped && !take_hole(ranges[i].start, end))
+            return false;
+    }
+    memory->start = POINTER(start);
+    memory->pages = (end - start) / PAGE;
+    return true;
+}
+
+/* Makes the core of the ranges, in the form in which GetMemoryMap writes them. Its pool lies in the
+ * machine's memory, but where each access to that is looked at: free bytes of the pool are the
+ * core's then. */
 static void make_core(void)
 {
     EFI_MEMORY_DESCRIPTOR *records = must(calloc(range_count + 1, sizeof *records));
+    const size_t size = range_count * sizeof *records;
+    struct rafkudin_memory memory;
     uint64_t status;
 
     for (size_t i = 0; i < range_count; i++) {
@@ -157,8 +199,13 @@ static void make_core(void)
         records[i].NumberOfPages = ranges[i].pages;
         records[i].Attribute = ranges[i].attributes;
     }
-    status = RafkudinMake((const uint8_t *)records, range_count * sizeof *records,
-                          sizeof *records, granule, NULL, 0, &host.core);
+    host.over_memory = !host.checks && one_run(&memory);
+    if (host.over_memory)
+        status = RafkudinMakeOver(memory, NUMBER(memory.start) / PAGE, (const uint8_t *)records,
+                                  size, sizeof *records, granule, NULL, 0, &host.core);
+    else
+        status = RafkudinMake((const uint8_t *)records, size, sizeof *records, granule, NULL, 0,
+                              &host.core);
     if (status != RAFKUDIN_SUCCESS)
         refuse("machine: the core refuses it: %s", status_text(status));
     RafkudinCertify(host.core, host.options.certify);

@@ -116,14 +116,15 @@ EFI_STATUS host_free_pool(void *address)
     return status;
 }
 
-/* Makes a block that the core filled the caller's: its bytes go to where its address says. With
- * --check it is another block, which has something around it. */
+/* Makes a block that the core filled the caller's: its bytes go to where its address says, if they
+ * are not there. With --check it is another block, which has something around it. */
 EFI_STATUS host_adopt_block(uint64_t core_at, uint64_t size, void **block)
 {
     EFI_STATUS status;
 
     if (!host.checks) {
-        core_read(core_at, POINTER(core_at), size);
+        if (!host.over_memory)
+            core_read(core_at, POINTER(core_at), size);
         *block = POINTER(core_at);
         return EFI_SUCCESS;
     }

@@ -8,8 +8,10 @@ use crate::blocks::Block;
 use crate::handle::Rafkudin;
 use crate::place::Place;
 use c_interface::EfiCore;
-use c_machines::DriverTable;
+use c_machines::{DriverTable, are_tables};
 use page_ranges::Status;
+use pool_services::PoolMemory;
+use raw_pool::{PageHeap, PageRun};
 use std::alloc::Global;
 
 /// Makes a core of EFI_MEMORY_DESCRIPTORs, a granule of 1 or 16 pages and up to 64 drivers, and puts its
@@ -41,6 +43,44 @@ pub extern "C" fn RafkudinMake(
     }
 }
 
+/// The same, whose pool lies in pages of memory that are those of the machine from its page `first` on: the bytes of a
+/// block are those at its address. What is kept of each page stays allocated, also where no core is made.
+///
+/// INVALID_PARAMETER, OUT_OF_RESOURCES: as of `RafkudinMake`.
+#[unsafe(no_mangle)]
+pub extern "C" fn RafkudinMakeOver(
+    alloc: Global,
+    run: PageRun,
+    first: u64,
+    records: &[u8],
+    descriptor_size: usize,
+    granule: u64,
+    drivers: &[DriverTable],
+    core: &mut Place,
+) -> u64
+    ensures made { result ≡ 0
+        → Holds descriptor_size records.now granule drivers.now core.new.held }
+    ensures refused { 0 < result
+        → Refuses descriptor_size records.now granule drivers.now result }
+    ensures kept { 0 < result → core.new ≡ core.old }
+{
+    match made_over(
+        alloc,
+        run,
+        first,
+        records,
+        descriptor_size,
+        granule,
+        drivers,
+    ) {
+        Ok(made) => {
+            *core = made;
+            Status::Success.number()
+        }
+        Err(refusal) => refusal,
+    }
+}
+
 /// Frees all memory of a core. A null pointer is allowed, and does nothing.
 #[unsafe(no_mangle)]
 pub unsafe extern "C" fn RafkudinFree(alloc: Global, core: *mut Rafkudin)
@@ -65,6 +105,29 @@ fn made(
     ensures { MakesPlace descriptor_size records.now granule drivers.now result }
 {
     let core = EfiCore::make(alloc, records, descriptor_size, granule, drivers)?;
+    pointer_to(alloc, core).ok_or(Status::OutOfResources.number())
+}
+
+/// The pointer to a core that is made over pages.
+fn made_over(
+    alloc: Global,
+    run: PageRun,
+    first: u64,
+    records: &[u8],
+    descriptor_size: usize,
+    granule: u64,
+    drivers: &[DriverTable],
+) -> Result<Place, u64>
+    ensures { MakesPlace descriptor_size records.now granule drivers.now result }
+{
+    if !are_tables(drivers) {
+        return Err(Status::InvalidParameter.number());
+    }
+    let Ok(heap) = PageHeap::lasting(alloc, run) else {
+        return Err(Status::OutOfResources.number());
+    };
+    let memory = PoolMemory { heap, first };
+    let core = EfiCore::make_over(alloc, records, descriptor_size, granule, drivers, memory)?;
     pointer_to(alloc, core).ok_or(Status::OutOfResources.number())
 }
 
