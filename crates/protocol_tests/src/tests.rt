@@ -14,12 +14,14 @@ mod plain_drivers;
 mod plain_lists;
 mod plain_opens;
 mod refused_calls;
+mod replies;
 mod searching;
 mod tallies;
 
 use boot_core::{Call, Core, Machine, Reply};
 use driver_connect::{Driver, TableDriver};
 use page_ranges::{MemoryType, Owner, PageRange, Run, Status};
+use std::alloc::Allocator;
 use std::process::Abort;
 use uuid::Uuid;
 
@@ -50,74 +52,42 @@ pub fn small_core(rt: &(impl AllocGlobal + Abort)) -> Core<TableDriver> {
     Core::new(rt.alloc(), machine, Vec::new(rt.alloc())).expect(rt, "memory")
 }
 
-/// Which services a call is one of.
-#[derive(Clone, Copy)]
-pub enum Services {
-    Installing,
-    Searching,
-    Opening,
-    Listing,
-    Driving,
-}
-
-/// What a call of some services returns, if one may still be made.
-pub fn returned_by<D: Driver>(
-    rt: &(impl AllocGlobal + Abort),
-    core: &mut Core<D>,
-    services: Services,
-    call: Call,
-) -> Returned {
+/// Makes a call, if one may still be made.
+fn reply_to<D: Driver>(rt: &impl Abort, core: &mut Core<D>, call: &Call) -> Reply {
     if core.calls_left() == 0 {
         panic!(rt; "no calls left");
     }
-    let reply = core.call(&call);
-    returned_of(rt, services, &reply)
+    core.call(call)
 }
 
-/// What a reply of some services returns.
-fn returned_of(rt: &(impl AllocGlobal + Abort), services: Services, reply: &Reply) -> Returned {
-    match services {
-        Services::Installing => installing::returned_of(rt, reply),
-        Services::Searching => searching::returned_of(rt, reply),
-        Services::Opening => opening::returned_of(rt, reply),
-        Services::Listing => listing::returned_of(rt, reply),
-        Services::Driving => boxed_drivers::returned_of(rt, reply),
+/// The status of a reply of the calls that are made one by one.
+fn status_of<A: Allocator>(rt: &impl Abort, reply: &Reply<A>) -> Status {
+    match reply {
+        Reply::InstallProtocolInterface(Ok(_))
+        | Reply::OpenProtocol(Ok(_))
+        | Reply::RegisterProtocolNotify(Ok(_))
+        | Reply::ConnectController(Ok(_))
+        | Reply::DisconnectController(Ok(()))
+        | Reply::UninstallProtocolInterface(Ok(())) => Status::Success,
+        Reply::InstallProtocolInterface(Err(status))
+        | Reply::OpenProtocol(Err(status))
+        | Reply::RegisterProtocolNotify(Err(status))
+        | Reply::ConnectController(Err(status))
+        | Reply::DisconnectController(Err(status))
+        | Reply::UninstallProtocolInterface(Err(status)) => *status,
+        _ => panic!(rt; "a reply of another call"),
     }
 }
 
-/// What a service returns: its status, and numbers.
-#[derive(Drop)]
-pub struct Returned {
-    pub status: Status,
-    pub numbers: Vec<u64>,
-}
-
-/// A reply with the given numbers.
-pub fn returns(rt: &(impl AllocGlobal + Abort), status: Status, numbers: &[u64]) -> Returned {
-    Returned {
-        status,
-        numbers: Vec::from_slice(rt.alloc(), numbers).expect(rt, "memory"),
-    }
-}
-
-/// A reply with one number, or a refusal.
-pub fn returns_one(rt: &(impl AllocGlobal + Abort), answer: Result<u64, Status>) -> Returned {
-    match answer {
-        Ok(number) => returns(rt, Status::Success, &[number]),
-        Err(status) => returns(rt, status, &[]),
-    }
-}
-
-/// Asserts that a call of some services returns what the plain lists return, and returns the status.
+/// Asserts that a call returns what the plain lists return: a status, and numbers. Returns the status.
 pub fn assert_returns(
-    rt: &(impl AllocGlobal + Abort),
+    rt: &impl Abort,
     core: &mut Core<TableDriver>,
-    services: Services,
     call: Call,
-    plain: Returned,
+    status: Status,
+    numbers: &[u64],
 ) -> Status {
-    let returned = returned_by(rt, core, services, call);
-    assert!(rt; returned.status == plain.status);
-    assert!(rt; returned.numbers.as_slice() == plain.numbers.as_slice());
-    plain.status
+    let reply = reply_to(rt, core, &call);
+    assert!(rt; replies::is_reply(&reply, status, numbers));
+    status
 }

@@ -1,7 +1,7 @@
 //! A core with drivers in boxes, which may be of several kinds.
-use super::{Returned, Services, guid, returned_by, returns, small_machine};
+use super::{guid, reply_to, small_machine, status_of};
 use arrayvec::ArrayVec;
-use boot_core::{Call, CallHandles, Core, Reply};
+use boot_core::{Call, CallHandles, Core};
 use driver_connect::{Driver, StartPlan, TableDriver, View, driver_binding};
 use page_ranges::Status;
 use std::process::Abort;
@@ -57,29 +57,10 @@ fn table(needed: Uuid) -> TableDriver {
     }
 }
 
-/// What a connect or a disconnect returns: its status.
-pub fn returned_of(rt: &(impl AllocGlobal + Abort), reply: &Reply) -> Returned {
-    match reply {
-        Reply::ConnectController(Ok(_)) | Reply::DisconnectController(Ok(())) => {
-            returns(rt, Status::Success, &[])
-        }
-        Reply::ConnectController(Err(status)) | Reply::DisconnectController(Err(status)) => {
-            returns(rt, *status, &[])
-        }
-        _ => panic!(rt; "another reply"),
-    }
-}
-
-/// Asserts whether a call of some services is served.
-fn assert_served<D: Driver>(
-    rt: &(impl AllocGlobal + Abort),
-    core: &mut Core<D>,
-    services: Services,
-    call: Call,
-    is_served: bool,
-) {
-    let returned = returned_by(rt, core, services, call);
-    assert!(rt; (returned.status == Status::Success) == is_served);
+/// Asserts whether a call is served.
+fn assert_served<D: Driver>(rt: &impl Abort, core: &mut Core<D>, call: Call, is_served: bool) {
+    let reply = reply_to(rt, core, &call);
+    assert!(rt; (status_of(rt, &reply) == Status::Success) == is_served);
 }
 
 /// Installs an interface on a new handle.
@@ -95,7 +76,7 @@ pub fn install<D: Driver>(
         kind: 0,
         value,
     };
-    assert_served(rt, core, Services::Installing, call, true);
+    assert_served(rt, core, call, true);
 }
 
 /// Asserts whether a connect of a handle starts a driver.
@@ -110,7 +91,7 @@ pub fn assert_connects<D: Driver>(
         drivers: CallHandles::new(Vec::new(rt.alloc())),
         recursive: false,
     };
-    assert_served(rt, core, Services::Driving, call, starts);
+    assert_served(rt, core, call, starts);
 }
 
 /// Asserts whether the drivers of a handle are stopped.
@@ -121,7 +102,7 @@ pub fn assert_disconnects<D: Driver>(
     stops: bool,
 ) {
     let call = Call::DisconnectController { handle, driver: 0 };
-    assert_served(rt, core, Services::Driving, call, stops);
+    assert_served(rt, core, call, stops);
 }
 
 /// Connects handles of a core with two drivers of different kinds, and stops one of them.

@@ -1,5 +1,5 @@
 //! The most handles that can be live.
-use super::{Services, assert_returns, guid, returns_one, small_core};
+use super::{assert_returns, guid, small_core};
 use boot_core::{Call, Core};
 use driver_connect::TableDriver;
 use page_ranges::Status;
@@ -7,7 +7,7 @@ use std::process::Abort;
 
 /// Asserts what an installation on a handle returns: the handle, and no event, or a refusal.
 fn assert_installed(
-    rt: &(impl AllocGlobal + Abort),
+    rt: &impl Abort,
     core: &mut Core<TableDriver>,
     handle: u64,
     byte: u8,
@@ -19,13 +19,10 @@ fn assert_installed(
         kind: 0,
         value: 0,
     };
-    assert_returns(
-        rt,
-        core,
-        Services::Installing,
-        call,
-        returns_one(rt, answer),
-    );
+    match answer {
+        Ok(number) => assert_returns(rt, core, call, Status::Success, &[number]),
+        Err(status) => assert_returns(rt, core, call, status, &[]),
+    };
 }
 
 /// 4,096 handles can be live; a live one still takes interfaces then.

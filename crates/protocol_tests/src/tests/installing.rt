@@ -1,8 +1,8 @@
 //! Drawn installations and registrations.
 use super::draws::Draws;
 use super::plain_lists::{self, Lists};
-use super::{Returned, Services, assert_returns, guid, returns, returns_one};
-use boot_core::{Call, CallPairs, Core, Reply};
+use super::{assert_returns, guid};
+use boot_core::{Call, CallPairs, Core};
 use driver_connect::TableDriver;
 use page_ranges::Status;
 use std::process::Abort;
@@ -25,27 +25,6 @@ fn target(draws: &mut Draws, lists: &Lists) -> u64 {
     }
 }
 
-/// The handle and the events of an installation.
-fn returned_installed(rt: &(impl AllocGlobal + Abort), handle: u64, events: &[u64]) -> Returned {
-    let mut reply = returns(rt, Status::Success, &[handle]);
-    reply.numbers.extend_from_slice(events).expect(rt, "memory");
-    reply
-}
-
-/// What an installation or a registration returns.
-pub fn returned_of(rt: &(impl AllocGlobal + Abort), reply: &Reply) -> Returned {
-    match reply {
-        Reply::InstallProtocolInterface(Ok(done))
-        | Reply::InstallMultipleProtocolInterfaces(Ok(done)) => {
-            returned_installed(rt, done.handle, done.events.as_slice())
-        }
-        Reply::InstallProtocolInterface(Err(status))
-        | Reply::InstallMultipleProtocolInterfaces(Err(status)) => returns(rt, *status, &[]),
-        Reply::RegisterProtocolNotify(key) => returns_one(rt, *key),
-        _ => panic!(rt; "another reply"),
-    }
-}
-
 /// Installs an interface.
 pub fn install(
     rt: &(impl AllocGlobal + Abort),
@@ -63,8 +42,8 @@ pub fn install(
         kind,
         value,
     };
-    let plain = plain_lists::install(rt, lists, handle, kind, &[(byte, value)]);
-    assert_returns(rt, core, Services::Installing, call, plain)
+    let status = plain_lists::install(rt, lists, handle, kind, &[(byte, value)]);
+    assert_returns(rt, core, call, status, lists.numbers.as_slice())
 }
 
 /// Up to three interfaces, in which a GUID may occur twice.
@@ -99,8 +78,8 @@ pub fn install_many(
         handle,
         pairs: call_pairs(rt, pairs.as_slice()),
     };
-    let plain = plain_lists::install(rt, lists, handle, 0, pairs.as_slice());
-    assert_returns(rt, core, Services::Installing, call, plain)
+    let status = plain_lists::install(rt, lists, handle, 0, pairs.as_slice());
+    assert_returns(rt, core, call, status, lists.numbers.as_slice())
 }
 
 /// Registers an event.
@@ -116,6 +95,6 @@ pub fn register(
         guid: guid(byte),
         event,
     };
-    let plain = plain_lists::register(rt, lists, byte, event);
-    assert_returns(rt, core, Services::Installing, call, plain)
+    let status = plain_lists::register(rt, lists, byte, event);
+    assert_returns(rt, core, call, status, lists.numbers.as_slice())
 }

@@ -5,7 +5,7 @@ use super::listing::assert_list;
 use super::plain_drivers::{self, CHILD_VALUE, PlainDriver};
 use super::plain_lists::{self, Hindrance, Item, Lists, MAX_HANDLES, Made, empty_lists};
 use super::tallies::{Service, Tally, assert_least, count};
-use super::{Returned, Services, assert_returns, plain_opens, small_machine};
+use super::{assert_returns, plain_opens, small_machine};
 use boot_core::{Call, CallHandles, Core};
 use driver_connect::TableDriver;
 use page_ranges::Status;
@@ -132,8 +132,19 @@ fn assert_installs(
         kind: 0,
         value,
     };
-    let plain = plain_lists::install(rt, &mut both.lists, handle, 0, &[(byte, value)]);
-    assert_returns(rt, &mut both.core, Services::Installing, call, plain)
+    let status = plain_lists::install(rt, &mut both.lists, handle, 0, &[(byte, value)]);
+    assert_served_so(rt, both, call, status)
+}
+
+/// Asserts that a call returns a status and the numbers that the plain lists returned.
+fn assert_served_so(rt: &impl Abort, both: &mut Both, call: Call, status: Status) -> Status {
+    assert_returns(
+        rt,
+        &mut both.core,
+        call,
+        status,
+        both.lists.numbers.as_slice(),
+    )
 }
 
 /// Makes the driver handles, and a number of handles that carry one of five GUIDs.
@@ -267,8 +278,8 @@ fn uninstall(rt: &(impl AllocGlobal + Abort), both: &mut Both) -> Status {
         guid: drivers::guid(byte),
         value,
     };
-    let plain = plain_drivers::uninstall(rt, &mut both.lists, &DRIVERS, (handle, byte), value);
-    assert_returns(rt, &mut both.core, Services::Opening, call, plain)
+    let status = plain_drivers::uninstall(rt, &mut both.lists, &DRIVERS, (handle, byte), value);
+    assert_served_so(rt, both, call, status)
 }
 
 /// Opens an interface.
@@ -281,8 +292,8 @@ fn open(rt: &(impl AllocGlobal + Abort), both: &mut Both) -> Status {
         controller: open.controller,
         attributes: open.attributes,
     };
-    let plain = plain_drivers::open(rt, &mut both.lists, &DRIVERS, &open);
-    assert_returns(rt, &mut both.core, Services::Opening, call, plain)
+    let status = plain_drivers::open(rt, &mut both.lists, &DRIVERS, &open);
+    assert_served_so(rt, both, call, status)
 }
 
 /// Closes an interface.
@@ -294,8 +305,8 @@ fn close(rt: &(impl AllocGlobal + Abort), both: &mut Both) -> Status {
         agent: closed.agent,
         controller: closed.controller,
     };
-    let plain = plain_opens::close(rt, &mut both.lists, &closed);
-    assert_returns(rt, &mut both.core, Services::Opening, call, plain)
+    let status = plain_opens::close(&mut both.lists, &closed);
+    assert_served_so(rt, both, call, status)
 }
 
 /// Starts drivers on a handle.
@@ -306,8 +317,8 @@ fn connect(rt: &(impl AllocGlobal + Abort), both: &mut Both) -> Status {
         drivers: CallHandles::new(Vec::new(rt.alloc())),
         recursive: false,
     };
-    let plain = plain_drivers::connect(rt, &mut both.lists, &DRIVERS, handle);
-    assert_returns(rt, &mut both.core, Services::Driving, call, plain)
+    let status = plain_drivers::connect(rt, &mut both.lists, &DRIVERS, handle);
+    assert_served_so(rt, both, call, status)
 }
 
 /// Stops the drivers of the controller of an item, or of a handle, or one of them.
@@ -319,8 +330,8 @@ fn disconnect(rt: &(impl AllocGlobal + Abort), both: &mut Both) -> Status {
         both.agent()
     };
     let call = Call::DisconnectController { handle, driver };
-    let plain = plain_drivers::disconnect(rt, &mut both.lists, &DRIVERS, handle, driver);
-    assert_returns(rt, &mut both.core, Services::Driving, call, plain)
+    let status = plain_drivers::disconnect(rt, &mut both.lists, &DRIVERS, handle, driver);
+    assert_served_so(rt, both, call, status)
 }
 
 /// Calls a service, and returns its status.
@@ -337,7 +348,7 @@ fn status_of(rt: &(impl AllocGlobal + Abort), both: &mut Both, service: Service)
 }
 
 /// Asserts that the handles are those of the plain lists.
-fn assert_handles(rt: &(impl AllocGlobal + Abort), both: &mut Both) {
+fn assert_handles(rt: &impl Abort, both: &mut Both) {
     let size = MAX_HANDLES * 8;
     let call = Call::LocateHandle {
         search: 0,
@@ -345,18 +356,17 @@ fn assert_handles(rt: &(impl AllocGlobal + Abort), both: &mut Both) {
         key: 0,
         size,
     };
-    let plain = plain_lists::locate(rt, &mut both.lists, 0, 1, 0, size);
-    assert_returns(rt, &mut both.core, Services::Searching, call, plain);
+    let status = plain_lists::locate(rt, &mut both.lists, 0, 1, 0, size);
+    assert_served_so(rt, both, call, status);
 }
 
 /// Asserts that the interfaces on a handle are those of the plain lists, or that it is a driver handle.
-fn assert_protocols(rt: &(impl AllocGlobal + Abort), both: &mut Both, handle: u64) {
+fn assert_protocols(rt: &impl Abort, both: &mut Both, handle: u64) {
     if both.lists.value(handle, BINDING).is_some() {
         return;
     }
-    let plain = plain_lists::protocols(rt, &both.lists, handle);
-    let call = Call::ProtocolsPerHandle { handle };
-    assert_returns(rt, &mut both.core, Services::Searching, call, plain);
+    let status = plain_lists::protocols(rt, &mut both.lists, handle);
+    assert_served_so(rt, both, Call::ProtocolsPerHandle { handle }, status);
 }
 
 /// Asserts that the items on an interface are those of the plain lists.
@@ -450,19 +460,17 @@ fn make_calls_on_few(rt: &(impl AllocGlobal + Abort), both: &mut Both) {
 /// A stop is refused for each reason, and changes nothing then.
 #[test]
 fn drawn_on_few_handles(rt: HostRuntime) {
-    let mut found = [0usize; 7];
+    let mut found = Vec::new(rt.alloc());
     for seed in 0u64..8 {
         let mut both = begun(&rt, seed);
         make_handles(&rt, &mut both, 25);
         make_calls_on_few(&rt, &mut both);
-        for (at, (hindrance, _)) in HINDRANCES.iter().enumerate() {
-            found[at] = found[at].saturating_add(times_refused(
-                both.lists.hindrances.as_slice(),
-                *hindrance,
-            ));
-        }
+        found
+            .extend_from_slice(both.lists.hindrances.as_slice())
+            .expect(&rt, "memory");
     }
-    for (at, (_, least)) in HINDRANCES.iter().enumerate() {
-        assert!(rt; found[at] >= *least, "hindrance {at}: {}", found[at]);
+    for (hindrance, least) in &HINDRANCES {
+        let times = times_refused(found.as_slice(), *hindrance);
+        assert!(rt; times >= *least, "{times} of {least}");
     }
 }

@@ -2,8 +2,8 @@
 use super::draws::Draws;
 use super::listing::assert_list;
 use super::plain_lists::{Item, Lists};
-use super::{Returned, Services, assert_returns, guid, plain_opens, returns};
-use boot_core::{Call, Core, Reply};
+use super::{assert_returns, guid, plain_opens};
+use boot_core::{Call, Core};
 use driver_connect::TableDriver;
 use page_ranges::Status;
 use std::process::Abort;
@@ -53,23 +53,6 @@ fn like_open(draws: &mut Draws, lists: &Lists) -> Item {
     open
 }
 
-/// What an open, a close or a look at a value returns.
-pub fn returned_of(rt: &(impl AllocGlobal + Abort), reply: &Reply) -> Returned {
-    match reply {
-        Reply::OpenProtocol(Ok(Some(value))) | Reply::HandleProtocol(Ok(value)) => {
-            returns(rt, Status::Success, &[*value])
-        }
-        Reply::OpenProtocol(Ok(None))
-        | Reply::CloseProtocol(Ok(()))
-        | Reply::UninstallProtocolInterface(Ok(())) => returns(rt, Status::Success, &[]),
-        Reply::OpenProtocol(Err(status))
-        | Reply::CloseProtocol(Err(status))
-        | Reply::UninstallProtocolInterface(Err(status))
-        | Reply::HandleProtocol(Err(status)) => returns(rt, *status, &[]),
-        _ => panic!(rt; "another reply"),
-    }
-}
-
 /// Opens an interface.
 pub fn open(
     rt: &(impl AllocGlobal + Abort),
@@ -85,8 +68,8 @@ pub fn open(
         controller: open.controller,
         attributes: open.attributes,
     };
-    let plain = plain_opens::open(rt, lists, &open);
-    assert_returns(rt, core, Services::Opening, call, plain)
+    let status = plain_opens::open(rt, lists, &open);
+    assert_returns(rt, core, call, status, lists.numbers.as_slice())
 }
 
 /// Closes an interface.
@@ -103,8 +86,8 @@ pub fn close(
         agent: closed.agent,
         controller: closed.controller,
     };
-    let plain = plain_opens::close(rt, lists, &closed);
-    assert_returns(rt, core, Services::Opening, call, plain)
+    let status = plain_opens::close(lists, &closed);
+    assert_returns(rt, core, call, status, &[])
 }
 
 /// Asks for the value of an interface.
@@ -120,8 +103,8 @@ pub fn handle_protocol(
         handle,
         guid: guid(byte),
     };
-    let plain = plain_opens::handle_protocol(rt, lists, handle, byte);
-    assert_returns(rt, core, Services::Opening, call, plain)
+    let status = plain_opens::handle_protocol(rt, lists, handle, byte);
+    assert_returns(rt, core, call, status, lists.numbers.as_slice())
 }
 
 /// Lists the open items of an interface in a pool block, which is freed.

@@ -1,7 +1,7 @@
 //! Drivers on plain lists: what starts, what stops, and what goes with it.
 use super::drivers::BINDING;
 use super::plain_lists::{Hindrance, Interface, Item, Lists, MAX_HANDLES, Made, Pair};
-use super::{Returned, plain_opens, returns};
+use super::plain_opens;
 use page_ranges::Status;
 use std::process::Abort;
 
@@ -48,10 +48,15 @@ fn driver_of(lists: &Lists, drivers: &[PlainDriver], handle: u64) -> Option<Plai
     Some(*drivers.get(place as usize)?)
 }
 
-/// Puts the pairs that manage a handle behind others, each once.
-fn add_managers(rt: &impl Abort, lists: &Lists, handle: u64, pairs: &mut Vec<Pair>) {
+/// Whether an item is that of a manager of a handle, of one driver where it is not 0.
+fn is_manager(item: &Item, handle: u64, driver: u64) -> bool {
+    is_for_driver(item) && item.controller == handle && (driver == 0 || item.agent == driver)
+}
+
+/// Puts the pairs that manage a handle behind others, each once; those of one driver where it is not 0.
+fn add_managers(rt: &impl Abort, lists: &Lists, handle: u64, driver: u64, pairs: &mut Vec<Pair>) {
     for item in &lists.items {
-        if is_for_driver(item) && item.controller == handle && !pairs.contains(&pair_of(item)) {
+        if is_manager(item, handle, driver) && !pairs.contains(&pair_of(item)) {
             pairs.push(pair_of(item)).expect(rt, "memory");
         }
     }
@@ -62,17 +67,15 @@ fn add_made(rt: &impl Abort, lists: &Lists, pair: Pair, stop: &mut Stop) {
     for made in &lists.made {
         if made.by == pair {
             stop.handles.push(made.handle).expect(rt, "memory");
-            add_managers(rt, lists, made.handle, &mut stop.pairs);
+            add_managers(rt, lists, made.handle, 0, &mut stop.pairs);
         }
     }
 }
 
 /// The stop of some pairs: each pair in turn, those that join it among them.
-fn stop_of(rt: &(impl AllocGlobal + Abort), lists: &Lists, pairs: &[Pair]) -> Stop {
-    let mut stop = Stop {
-        pairs: Vec::from_slice(rt.alloc(), pairs).expect(rt, "memory"),
-        handles: Vec::new(rt.alloc()),
-    };
+fn stop_of(rt: &(impl AllocGlobal + Abort), lists: &Lists, pairs: Vec<Pair>) -> Stop {
+    let handles = Vec::new(rt.alloc());
+    let mut stop = Stop { pairs, handles };
     for at in 0..lists.items.len() {
         let Some(pair) = stop.pairs.get(at).copied() else {
             break;
@@ -236,18 +239,31 @@ pub fn uninstall(
     drivers: &[PlainDriver],
     (handle, guid): (u64, u8),
     value: u64,
-) -> Returned {
+) -> Status {
+    lists.numbers.clear();
     if let Some(status) = removal_refusal(lists, handle, guid, value) {
-        return returns(rt, status, &[]);
+        return status;
     }
-    let stop = stop_of(rt, lists, pairs_on(rt, lists, handle, guid).as_slice());
+    let stop = stop_of(rt, lists, pairs_on(rt, lists, handle, guid));
     let hindrance = freeing_hindrance(lists, drivers, &stop, handle, guid);
+    free_interface(rt, lists, &stop, hindrance, handle, guid)
+}
+
+/// Takes an interface out with what its stop takes, if nothing hinders that.
+fn free_interface(
+    rt: &impl Abort,
+    lists: &mut Lists,
+    stop: &Stop,
+    hindrance: Option<Hindrance>,
+    handle: u64,
+    guid: u8,
+) -> Status {
     if is_refused(rt, lists, hindrance) {
-        return returns(rt, Status::AccessDenied, &[]);
+        return Status::AccessDenied;
     }
-    carry_out(lists, &stop);
+    carry_out(lists, stop);
     lists.drop_interface(handle, guid);
-    returns(rt, Status::Success, &[])
+    Status::Success
 }
 
 /// The pair that has an interface open as a driver and not exclusively.
@@ -276,15 +292,28 @@ pub fn open(
     lists: &mut Lists,
     drivers: &[PlainDriver],
     open: &Item,
-) -> Returned {
+) -> Status {
     if let Some(pair) = pair_in_the_way(lists, open) {
-        let stop = stop_of(rt, lists, &[pair]);
-        let hindrance = hindrance(lists, drivers, &stop, open.handle, Some(pair_of(open)));
-        if !is_refused(rt, lists, hindrance) {
-            carry_out(lists, &stop);
-        }
+        stop_for(rt, lists, drivers, pair, open);
     }
     plain_opens::open(rt, lists, open)
+}
+
+/// Stops a driver that is in the way of an open, if nothing hinders that.
+fn stop_for(
+    rt: &(impl AllocGlobal + Abort),
+    lists: &mut Lists,
+    drivers: &[PlainDriver],
+    pair: Pair,
+    open: &Item,
+) {
+    let mut pairs = Vec::new(rt.alloc());
+    pairs.push(pair).expect(rt, "memory");
+    let stop = stop_of(rt, lists, pairs);
+    let hindrance = hindrance(lists, drivers, &stop, open.handle, Some(pair_of(open)));
+    if !is_refused(rt, lists, hindrance) {
+        carry_out(lists, &stop);
+    }
 }
 
 /// The driver handles, the highest version first. Equal versions are in the order of installation, which
@@ -357,47 +386,34 @@ pub fn connect(
     lists: &mut Lists,
     drivers: &[PlainDriver],
     controller: u64,
-) -> Returned {
+) -> Status {
+    lists.numbers.clear();
     if !lists.is_live(controller) {
-        return returns(rt, Status::InvalidParameter, &[]);
+        return Status::InvalidParameter;
     }
-    let mut has_started = false;
+    let mut status = Status::NotFound;
     for agent in &candidates(rt, lists, drivers) {
-        let pair = Pair {
-            controller,
-            agent: *agent,
-        };
-        match driver_of(lists, drivers, *agent) {
-            Some(driver) if is_free(lists, controller, driver.opens) => {
-                has_started = start(rt, lists, &driver, pair) || has_started;
-            }
-            _ => {}
+        if has_started(rt, lists, drivers, controller, *agent) {
+            status = Status::Success;
         }
     }
-    let status = if has_started {
-        Status::Success
-    } else {
-        Status::NotFound
-    };
-    returns(rt, status, &[])
+    status
 }
 
-/// The pairs that manage a handle, those of one driver where it is not 0.
-fn pairs_meant(
-    rt: &(impl AllocGlobal + Abort),
-    lists: &Lists,
-    handle: u64,
-    driver: u64,
-) -> Vec<Pair> {
-    let mut managers = Vec::new(rt.alloc());
-    add_managers(rt, lists, handle, &mut managers);
-    let mut pairs = Vec::new(rt.alloc());
-    for pair in &managers {
-        if driver == 0 || pair.agent == driver {
-            pairs.push(*pair).expect(rt, "memory");
+/// Starts a driver on a controller that has use for it, and returns whether it did.
+fn has_started(
+    rt: &impl Abort,
+    lists: &mut Lists,
+    drivers: &[PlainDriver],
+    controller: u64,
+    agent: u64,
+) -> bool {
+    match driver_of(lists, drivers, agent) {
+        Some(driver) if is_free(lists, controller, driver.opens) => {
+            start(rt, lists, &driver, Pair { controller, agent })
         }
+        _ => false,
     }
-    pairs
 }
 
 /// Stops the drivers of a handle, or one of them.
@@ -407,16 +423,20 @@ pub fn disconnect(
     drivers: &[PlainDriver],
     handle: u64,
     driver: u64,
-) -> Returned {
+) -> Status {
+    lists.numbers.clear();
     let is_no_driver = driver != 0 && lists.value(driver, BINDING).is_none();
     if !lists.is_live(handle) || is_no_driver {
-        return returns(rt, Status::InvalidParameter, &[]);
+        return Status::InvalidParameter;
     }
-    let stop = stop_of(rt, lists, pairs_meant(rt, lists, handle, driver).as_slice());
+    let mut pairs = Vec::new(rt.alloc());
+    add_managers(rt, lists, handle, driver, &mut pairs);
+    let stop = stop_of(rt, lists, pairs);
     let hindrance = hindrance(lists, drivers, &stop, handle, None);
     if is_refused(rt, lists, hindrance) {
-        return returns(rt, Status::DeviceError, &[]);
+        Status::DeviceError
+    } else {
+        carry_out(lists, &stop);
+        Status::Success
     }
-    carry_out(lists, &stop);
-    returns(rt, Status::Success, &[])
 }

@@ -1,5 +1,4 @@
 //! Handles, interfaces and registrations in plain lists; each search walks along one.
-use super::{Returned, returns, returns_one};
 use page_ranges::Status;
 use std::process::Abort;
 
@@ -78,6 +77,8 @@ pub struct Lists {
     pub registrations: Vec<Registration>,
     /// Why stops were refused.
     pub hindrances: Vec<Hindrance>,
+    /// What the last call returned beside its status.
+    pub numbers: Vec<u64>,
     pub last_number: u64,
     pub last_stamp: u64,
 }
@@ -90,6 +91,7 @@ pub fn empty_lists(rt: &impl AllocGlobal) -> Lists {
         items: Vec::new(rt.alloc()),
         registrations: Vec::new(rt.alloc()),
         hindrances: Vec::new(rt.alloc()),
+        numbers: Vec::new(rt.alloc()),
         last_number: 0,
         last_stamp: 0,
     }
@@ -240,13 +242,18 @@ impl Lists {
         self.items.retain(|i| i.handle != handle && i.agent != handle && i.controller != handle);
     }
 
-    /// Puts the events for a GUID behind some numbers.
-    fn push_events(&self, rt: &impl Abort, guid: u8, numbers: &mut Vec<u64>) {
+    /// Puts the events for a GUID behind the numbers that are returned.
+    fn return_events(&mut self, rt: &impl Abort, guid: u8) {
         for registration in &self.registrations {
             if registration.guid == guid {
-                numbers.push(registration.event).expect(rt, "memory");
+                self.numbers.push(registration.event).expect(rt, "memory");
             }
         }
+    }
+
+    /// Puts a number behind those that are returned.
+    pub fn return_number(&mut self, rt: &impl Abort, number: u64) {
+        self.numbers.push(number).expect(rt, "memory");
     }
 }
 
@@ -261,36 +268,33 @@ fn times(pairs: &[(u8, u64)], guid: u8) -> usize {
     count
 }
 
-/// Installs some pairs, and returns the handle and the events.
+/// Installs some pairs; the handle and the events are returned.
 pub fn install(
-    rt: &(impl AllocGlobal + Abort),
+    rt: &impl Abort,
     lists: &mut Lists,
     handle: u64,
     kind: u32,
     pairs: &[(u8, u64)],
-) -> Returned {
+) -> Status {
+    lists.numbers.clear();
     if kind != 0 || lists.is_bad(handle, pairs) {
-        return returns(rt, Status::InvalidParameter, &[]);
+        return Status::InvalidParameter;
     }
     if handle == 0 && lists.count() >= MAX_HANDLES {
-        return returns(rt, Status::OutOfResources, &[]);
+        return Status::OutOfResources;
     }
     let handle = lists.given_or_new(rt, handle);
-    let mut reply = returns(rt, Status::Success, &[handle]);
+    lists.return_number(rt, handle);
     for pair in pairs {
         lists.push_interface(rt, handle, pair.0, pair.1);
-        lists.push_events(rt, pair.0, &mut reply.numbers);
+        lists.return_events(rt, pair.0);
     }
-    reply
+    Status::Success
 }
 
-/// Registers an event, and returns the key.
-pub fn register(
-    rt: &(impl AllocGlobal + Abort),
-    lists: &mut Lists,
-    guid: u8,
-    event: u64,
-) -> Returned {
+/// Registers an event; the key is returned.
+pub fn register(rt: &impl Abort, lists: &mut Lists, guid: u8, event: u64) -> Status {
+    lists.numbers.clear();
     let key = (lists.registrations.len() as u64).saturating_add(1);
     let mark = lists.last_stamp;
     lists
@@ -302,67 +306,74 @@ pub fn register(
             mark,
         })
         .expect(rt, "memory");
-    returns(rt, Status::Success, &[key])
+    lists.return_number(rt, key);
+    Status::Success
 }
 
-/// The handles that carry a GUID.
-fn holders(rt: &(impl AllocGlobal + Abort), lists: &Lists, guid: u8) -> Vec<u64> {
-    let mut found = Vec::new(rt.alloc());
+/// All handles are found.
+fn find_all(rt: &impl Abort, lists: &mut Lists) {
     for handle in &lists.handles {
-        if lists.value(*handle, guid).is_some() {
-            found.push(*handle).expect(rt, "memory");
+        lists.numbers.push(*handle).expect(rt, "memory");
+    }
+}
+
+/// The handles that carry a GUID are found.
+fn find_holders(rt: &impl Abort, lists: &mut Lists, guid: u8) {
+    for at in 0..lists.handles.len() {
+        if let Some(handle) = lists.handles.get(at).copied() {
+            if lists.value(handle, guid).is_some() {
+                lists.return_number(rt, handle);
+            }
         }
     }
-    found
 }
 
-/// Some handles where they fit into a buffer of this size; else a refusal, with the size where they are too many.
-fn fitted(rt: &(impl AllocGlobal + Abort), handles: &[u64], room: u64) -> Returned {
-    let size = (handles.len() as u64).saturating_mul(8);
-    if handles.is_empty() {
-        returns(rt, Status::NotFound, &[])
-    } else if room < size {
-        returns(rt, Status::BufferTooSmall, &[size])
-    } else {
-        returns(rt, Status::Success, handles)
+/// What is returned of the handles that were found, for a buffer of this size: the size where they are too many.
+fn fitted(rt: &impl Abort, found: &mut Vec<u64>, room: u64) -> Status {
+    let size = (found.len() as u64).saturating_mul(8);
+    if size == 0 {
+        return Status::NotFound;
     }
+    if room >= size {
+        return Status::Success;
+    }
+    found.clear();
+    found.push(size).expect(rt, "memory");
+    Status::BufferTooSmall
 }
 
 /// The handle that a key meets next, which is taken if it fits.
-fn locate_next(
-    rt: &(impl AllocGlobal + Abort),
-    lists: &mut Lists,
-    key: u64,
-    room: u64,
-) -> Returned {
+fn locate_next(rt: &impl Abort, lists: &mut Lists, key: u64, room: u64) -> Status {
     let Some(registration) = lists.registration(key) else {
-        return returns(rt, Status::InvalidParameter, &[]);
+        return Status::InvalidParameter;
     };
     let Some(found) = lists.next(&registration) else {
-        return returns(rt, Status::NotFound, &[]);
+        return Status::NotFound;
     };
-    let reply = fitted(rt, &[found.handle], room);
-    if reply.status == Status::Success {
+    if room >= 8 {
         lists.take(key, found.stamp);
     }
-    reply
+    lists.return_number(rt, found.handle);
+    fitted(rt, &mut lists.numbers, room)
 }
 
-/// The handles that a search is for.
+/// The handles that a search is for are returned.
 pub fn locate(
-    rt: &(impl AllocGlobal + Abort),
+    rt: &impl Abort,
     lists: &mut Lists,
     search: u32,
     guid: u8,
     key: u64,
     room: u64,
-) -> Returned {
+) -> Status {
+    lists.numbers.clear();
     match search {
-        0 => fitted(rt, lists.handles.as_slice(), room),
-        1 => locate_next(rt, lists, key, room),
-        2 => fitted(rt, holders(rt, lists, guid).as_slice(), room),
-        _ => returns(rt, Status::InvalidParameter, &[]),
+        0 => find_all(rt, lists),
+        1 => return locate_next(rt, lists, key, room),
+        2 => find_holders(rt, lists, guid),
+        _ => return Status::InvalidParameter,
     }
+    fitted(rt, &mut lists.numbers, room)
 }
 
 /// The value of a GUID on the lowest handle that carries it.
@@ -390,30 +401,38 @@ fn next_value(lists: &mut Lists, guid: u8, key: u64) -> Result<u64, Status> {
     Ok(found.value)
 }
 
-/// The value of an interface of a GUID.
-pub fn locate_protocol(
-    rt: &(impl AllocGlobal + Abort),
-    lists: &mut Lists,
-    guid: u8,
-    key: u64,
-) -> Returned {
-    if key == 0 {
-        returns_one(rt, lowest_value(lists, guid))
+/// The value of an interface of a GUID is returned.
+pub fn locate_protocol(rt: &impl Abort, lists: &mut Lists, guid: u8, key: u64) -> Status {
+    let answer = if key == 0 {
+        lowest_value(lists, guid)
     } else {
-        returns_one(rt, next_value(lists, guid, key))
+        next_value(lists, guid, key)
+    };
+    return_one(rt, lists, answer)
+}
+
+/// A value alone is returned, or none.
+pub fn return_one(rt: &impl Abort, lists: &mut Lists, answer: Result<u64, Status>) -> Status {
+    lists.numbers.clear();
+    match answer {
+        Ok(value) => {
+            lists.return_number(rt, value);
+            Status::Success
+        }
+        Err(status) => status,
     }
 }
 
-/// The bytes of the GUIDs on a handle.
-pub fn protocols(rt: &(impl AllocGlobal + Abort), lists: &Lists, handle: u64) -> Returned {
+/// The bytes of the GUIDs on a handle are returned.
+pub fn protocols(rt: &impl Abort, lists: &mut Lists, handle: u64) -> Status {
+    lists.numbers.clear();
     if !lists.is_live(handle) {
-        return returns(rt, Status::InvalidParameter, &[]);
+        return Status::InvalidParameter;
     }
-    let mut reply = returns(rt, Status::Success, &[]);
     for i in &lists.interfaces {
         if i.handle == handle {
-            reply.numbers.push(i.guid as u64).expect(rt, "memory");
+            lists.numbers.push(u64::from(i.guid)).expect(rt, "memory");
         }
     }
-    reply
+    Status::Success
 }

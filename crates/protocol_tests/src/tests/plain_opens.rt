@@ -1,6 +1,5 @@
 //! The open table on plain lists.
-use super::plain_lists::{Item, Lists};
-use super::{Returned, returns, returns_one};
+use super::plain_lists::{Item, Lists, return_one};
 use page_ranges::Status;
 use std::process::Abort;
 
@@ -123,60 +122,51 @@ fn add(rt: &impl Abort, items: &mut Vec<Item>, open: &Item) {
     }
 }
 
-/// Opens an interface, and returns its value.
-pub fn open(rt: &(impl AllocGlobal + Abort), lists: &mut Lists, open: &Item) -> Returned {
+/// Opens an interface; its value is returned.
+pub fn open(rt: &impl Abort, lists: &mut Lists, open: &Item) -> Status {
+    lists.numbers.clear();
     if let Some(status) = refusal(lists, open) {
-        return returns(rt, status, &[]);
+        return status;
     }
     add(rt, &mut lists.items, open);
-    match lists.value(open.handle, open.guid) {
-        Some(value) if open.attributes != 0x4 => returns(rt, Status::Success, &[value]),
-        _ => returns(rt, Status::Success, &[]),
+    if open.attributes != 0x4 {
+        let value = lists.value(open.handle, open.guid).expect(rt, "a value");
+        lists.return_number(rt, value);
     }
+    Status::Success
 }
 
-/// The value of an interface.
-pub fn handle_protocol(
-    rt: &(impl AllocGlobal + Abort),
-    lists: &Lists,
-    handle: u64,
-    guid: u8,
-) -> Returned {
-    if !lists.is_live(handle) {
-        return returns(rt, Status::InvalidParameter, &[]);
-    }
-    returns_one(rt, lists.value(handle, guid).ok_or(Status::Unsupported))
+/// The value of an interface is returned.
+pub fn handle_protocol(rt: &impl Abort, lists: &mut Lists, handle: u64, guid: u8) -> Status {
+    let answer = if lists.is_live(handle) {
+        lists.value(handle, guid).ok_or(Status::Unsupported)
+    } else {
+        Err(Status::InvalidParameter)
+    };
+    return_one(rt, lists, answer)
 }
 
 /// Closes what an agent and a controller have open on an interface.
-pub fn close(rt: &(impl AllocGlobal + Abort), lists: &mut Lists, closed: &Item) -> Returned {
+pub fn close(lists: &mut Lists, closed: &Item) -> Status {
+    lists.numbers.clear();
     if !lists.is_live(closed.handle)
         || !lists.is_live(closed.agent)
         || lists.is_dead(closed.controller)
     {
-        return returns(rt, Status::InvalidParameter, &[]);
+        return Status::InvalidParameter;
     }
     let before = lists.items.len();
-    lists.items = items_but(rt, lists.items.as_slice(), closed);
+    lists.items.retain(|item| !is_closed(item, closed));
     if lists.items.len() == before {
-        returns(rt, Status::NotFound, &[])
+        Status::NotFound
     } else {
-        returns(rt, Status::Success, &[])
+        Status::Success
     }
 }
 
-/// The items but those on an interface by an agent and a controller.
-fn items_but(rt: &(impl AllocGlobal + Abort), items: &[Item], closed: &Item) -> Vec<Item> {
-    let mut kept = Vec::new(rt.alloc());
-    for item in items {
-        let is_closed = is_beside(item, closed)
-            && item.agent == closed.agent
-            && item.controller == closed.controller;
-        if !is_closed {
-            kept.push(*item).expect(rt, "memory");
-        }
-    }
-    kept
+/// Whether an item is on an interface by an agent and a controller.
+fn is_closed(item: &Item, closed: &Item) -> bool {
+    is_beside(item, closed) && item.agent == closed.agent && item.controller == closed.controller
 }
 
 /// The bytes of the open items on an interface.

@@ -1,7 +1,7 @@
 //! Calls on handles over memory that is refused, each allocation in turn, as the lists grow.
 use super::drivers::{BINDING, guid, opening, table};
-use super::small_machine;
-use boot_core::{Call, CallHandles, Core, Machine, Reply};
+use super::{small_machine, status_of};
+use boot_core::{Call, CallHandles, Core, Machine};
 use driver_connect::TableDriver;
 use page_ranges::Status;
 use refusing_memory::Refusing;
@@ -69,23 +69,6 @@ fn digest(core: &RefusedCore<'_>) -> u64 {
         number = handle_behind(core, number, *handle);
     }
     number
-}
-
-/// The status of a reply of the calls that are made here.
-fn status_of<A: Allocator>(rt: &impl Abort, reply: &Reply<A>) -> Status {
-    match reply {
-        Reply::InstallProtocolInterface(Ok(_))
-        | Reply::OpenProtocol(Ok(_))
-        | Reply::RegisterProtocolNotify(Ok(_))
-        | Reply::ConnectController(Ok(_))
-        | Reply::UninstallProtocolInterface(Ok(())) => Status::Success,
-        Reply::InstallProtocolInterface(Err(status))
-        | Reply::OpenProtocol(Err(status))
-        | Reply::RegisterProtocolNotify(Err(status))
-        | Reply::ConnectController(Err(status))
-        | Reply::UninstallProtocolInterface(Err(status)) => *status,
-        _ => panic!(rt; "a reply of another call"),
-    }
 }
 
 /// Makes a call, and returns its status.

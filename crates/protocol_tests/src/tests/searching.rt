@@ -3,12 +3,11 @@ use super::draws::Draws;
 use super::listing::assert_list;
 use super::plain_lists::{self, Lists};
 use super::plain_opens::push_bytes;
-use super::{Returned, Services, assert_returns, guid, returns, returns_one};
-use boot_core::{Call, Core, Reply};
+use super::{assert_returns, guid};
+use boot_core::{Call, Core};
 use driver_connect::TableDriver;
 use page_ranges::Status;
 use std::process::Abort;
-use uuid::Uuid;
 
 /// 0, a key that was given, or one of the two behind them.
 fn drawn_key(draws: &mut Draws, lists: &Lists) -> u64 {
@@ -38,19 +37,6 @@ fn drawn_search(draws: &mut Draws) -> u32 {
     }
 }
 
-/// What a search returns.
-pub fn returned_of(rt: &(impl AllocGlobal + Abort), reply: &Reply) -> Returned {
-    match reply {
-        Reply::LocateHandle(found) => {
-            returned_handles(rt, found.status, found.size, found.handles.as_slice())
-        }
-        Reply::LocateProtocol(value) => returns_one(rt, *value),
-        Reply::ProtocolsPerHandle(Ok(guids)) => returned_guids(rt, guids.as_slice()),
-        Reply::ProtocolsPerHandle(Err(status)) => returns(rt, *status, &[]),
-        _ => panic!(rt; "another reply"),
-    }
-}
-
 /// Locates handles.
 pub fn locate(
     rt: &(impl AllocGlobal + Abort),
@@ -68,24 +54,8 @@ pub fn locate(
         key,
         size,
     };
-    let plain = plain_lists::locate(rt, lists, search, byte, key, size);
-    assert_returns(rt, core, Services::Searching, call, plain)
-}
-
-/// What LocateHandle returns: the handles, or the size that they need.
-fn returned_handles(
-    rt: &(impl AllocGlobal + Abort),
-    status: Status,
-    size: u64,
-    handles: &[u64],
-) -> Returned {
-    let count = handles.len() as u64;
-    match status {
-        Status::Success => assert!(rt; size == count.saturating_mul(8)),
-        Status::BufferTooSmall => return returns(rt, status, &[size]),
-        _ => assert!(rt; size == 0),
-    }
-    returns(rt, status, handles)
+    let status = plain_lists::locate(rt, lists, search, byte, key, size);
+    assert_returns(rt, core, call, status, lists.numbers.as_slice())
 }
 
 /// The bytes of some handles.
@@ -112,9 +82,9 @@ pub fn locate_buffer(
         guid: guid(byte),
         key,
     };
-    let plain = plain_lists::locate(rt, lists, search, byte, key, u64::MAX);
-    let bytes = handle_bytes(rt, plain.numbers.as_slice());
-    assert_list(rt, core, call, 8, plain.status, bytes.as_slice())
+    let status = plain_lists::locate(rt, lists, search, byte, key, u64::MAX);
+    let bytes = handle_bytes(rt, lists.numbers.as_slice());
+    assert_list(rt, core, call, 8, status, bytes.as_slice())
 }
 
 /// Locates an interface.
@@ -133,19 +103,8 @@ pub fn locate_protocol(
         guid: guid(byte),
         key,
     };
-    let plain = plain_lists::locate_protocol(rt, lists, byte, key);
-    assert_returns(rt, core, Services::Searching, call, plain)
-}
-
-/// The byte of each GUID, all of whose bytes are that one.
-fn returned_guids(rt: &(impl AllocGlobal + Abort), guids: &[Uuid]) -> Returned {
-    let mut reply = returns(rt, Status::Success, &[]);
-    for name in guids {
-        let byte = name.as_bytes()[0];
-        assert!(rt; *name == guid(byte));
-        reply.numbers.push(byte as u64).expect(rt, "memory");
-    }
-    reply
+    let status = plain_lists::locate_protocol(rt, lists, byte, key);
+    assert_returns(rt, core, call, status, lists.numbers.as_slice())
 }
 
 /// Lists the GUIDs on a handle.
@@ -157,6 +116,6 @@ pub fn protocols(
 ) -> Status {
     let handle = draws.handle(lists.count());
     let call = Call::ProtocolsPerHandle { handle };
-    let plain = plain_lists::protocols(rt, lists, handle);
-    assert_returns(rt, core, Services::Searching, call, plain)
+    let status = plain_lists::protocols(rt, lists, handle);
+    assert_returns(rt, core, call, status, lists.numbers.as_slice())
 }

@@ -61,8 +61,9 @@ pub fn count(rt: &impl Abort, tallies: &mut Vec<Tally>, service: Service, status
 
 /// Asserts that each status of each row was returned so often at least.
 pub fn assert_least(rt: &impl Abort, tallies: &[Tally], least: &[(Service, Status, u64)]) {
-    for (row, (service, status, wanted)) in least.iter().enumerate() {
-        let calls = calls_of(tallies, *service, *status);
-        assert!(rt; calls >= *wanted, "row {row}: {calls} calls");
+    for row in 0..least.len() {
+        let (service, status, wanted) = least[row];
+        let calls = calls_of(tallies, service, status);
+        assert!(rt; calls >= wanted, "row {row}: {calls} calls");
     }
 }
