@@ -143,7 +143,3 @@ replaced_length rs parts low high a b = omega (arith, length-append (take low rs
 pub first_is : (rs : List Run) (r : Run) → r ≡ get_or rs 0 r → 0 < length rs → r.range.first ≡ first_page rs
 first_is [] r e h = absurd (omega arith)
 first_is (q ∷ rs) r e h = ap (λ (x : Run). x.range.first) e
-
--- what a splice put in is the parts
-pub put_in : {X : Type 0} (ss low high xs ys : List X) → ss ≡ low ++ (xs ++ high) → map (λ y. y) xs ≡ ys → ss ≡ low ++ (ys ++ high)
-put_in ss low high xs ys e f = e ∙ ap (λ zs. low ++ (zs ++ high)) (sym (map-id xs) ∙ f)

@@ -5,6 +5,7 @@ pub mod Counts
 pub mod Finding
 pub mod TableFacts
 pub mod Meetings
+pub mod Moves
 pub mod Ends
 pub mod Splices
 pub mod Replaced

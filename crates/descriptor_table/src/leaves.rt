@@ -157,7 +157,8 @@ pub(crate) fn leaves_of<A: Allocator + Copy>(
     let mut rest = runs;
     while !rest.is_empty() {
         let count = first_share(rest.len());
-        leaves.push(Leaf::from_slice(alloc, &rest[..count])?)?;
+        leaves.reserve(1)?;
+        leaves.push_reserved(Leaf::from_slice(alloc, &rest[..count])?);
         rest = &rest[count..];
     }
     Ok(leaves)

@@ -1,6 +1,5 @@
 //! A range of a table that gets a type and an owner.
 ghost use Rattle.std.specs.Prelude.{◌≡◌, ℕ, ◌+◌, ◌-◌, ◌<◌, ◌≤◌, ◌^◌, ◌++◌, ◌∷◌, [], length, map, set, take, drop, IfOk, OnErr, IfSome, OnSome, IfNone};
-ghost use Rattle.std.specs.List.{splice};
 ghost use Rattle.page_ranges.specs.declared.ranges.Owner.TheVariants.{Given};
 ghost use Rattle.page_ranges.specs.MemoryTypes.{conventional, page_count};
 ghost use Rattle.page_ranges.specs.Memory.{IsPresent, AllInRange, retyped};
@@ -17,6 +16,7 @@ use crate::entries::count_entries;
 use crate::entry_starts::{begun_in, count_begun, runs_before};
 use crate::leaf_searches::count_leaves_below;
 use crate::leaves::{LEAF_SIZE, Leaf, leaves_of, runs_of_leaves, sizes_of};
+use crate::replacing::replace_between;
 use crate::searches::{count_beginning_by, count_beginning_by_from, count_ending_below};
 use crate::tallies::Tally;
 use arrayvec::ArrayVec;
@@ -133,7 +133,7 @@ fn put_in_new_leaves<A: Allocator + Copy>(
     let (from, to) = near;
     let (low, high) = window;
     let alloc = *leaves.allocator();
-    let _replaced = runs.splice(low..high, parts)?;
+    replace_between(&mut runs, low, high, parts)?;
     let new_leaves = leaves_of(alloc, runs.as_slice())?;
     let part = begun_in(
         alloc,
@@ -143,7 +143,7 @@ fn put_in_new_leaves<A: Allocator + Copy>(
     let new_begun = begun.with_part(alloc, from, to, part.as_slice())?;
     let part = sizes_of(alloc, new_leaves.as_slice())?;
     let new_sizes = sizes.with_part(alloc, from, to, part.as_slice())?;
-    let _given_up = leaves.splice(from..to, new_leaves)?;
+    replace_between(leaves, from, to, new_leaves)?;
     *begun = new_begun;
     *sizes = new_sizes;
     Ok(())

@@ -1,6 +1,4 @@
 use Rattle.std.proofs.Common.{◌+◌, ◌≤◌, ◌++◌, [], take, drop, ap, sym, subst, ◌∙◌, arith}
-use Rattle.std.proofs.lemmas.Iterator.{items_from_drains}
-use Rattle.std.proofs.lemmas.Iterator.Adapters.{YieldsList-from_vec}
 use Rattle.page_ranges.specs.MemoryTypes.{page_count}
 use Rattle.page_ranges.specs.Runs.{AreRuns}
 use Rattle.page_ranges.proofs.Members.{all_append_left, all_append_right}
@@ -8,7 +6,7 @@ use Rattle.page_ranges.proofs.RunLists.{runs-left, runs-right}
 use Rattle.descriptor_table.specs.Tables.{EndBy}
 use Rattle.descriptor_table.specs.Leaves.{runs_in}
 use Rattle.descriptor_table.proofs.LeafLists.{runs_in-append}
-use Rattle.descriptor_table.proofs.LeafSplices.{leaves_put, put_in}
+use Rattle.descriptor_table.proofs.LeafSplices.{leaves_put}
 use Rattle.descriptor_table.proofs.LeafSizes.{sizes_put, sizes_put_within}
 use Rattle.descriptor_table.proofs.Begun.{begin_length, last_and_part, put_begun, put_within}
 use Rattle.descriptor_table.proofs.Grouped.{put_keeps}
@@ -18,24 +16,18 @@ pub returns-clause-leaves : goal.returns-clause-leaves
 returns-clause-leaves g c =
     let ls = c.args.leaves.now.items in
     let fresh = c.in_ok-new_leaves.new_leaves.items in
-    let done = c.in_ok-_given_up.ensures.items in
-    let drained = items_from_drains done.1 (done.3.1.0, done.3.1.1, λ _. (done.3.0, done.3.1.2)) (YieldsList-from_vec fresh done.2.0 (done.2.1 ∙ c.in_ok-new_leaves.new_leaves.ok.0)) in
-    let put = put_in c.splice-2.new.self.items (take c.args.near.0 ls) (drop c.args.near.1 ls) done.1 fresh done.4 drained in
-    leaves_put ls fresh c.splice-2.new.self.items c.args.near.0 c.args.near.1 put c.requires.leaves c.in_ok-new_leaves.ensures.leaves
+    let put = c.in_ok-replace_between-2.ensures.ok in
+    leaves_put ls fresh c.replace_between-2.new.items.items c.args.near.0 c.args.near.1 put c.requires.leaves c.in_ok-new_leaves.ensures.leaves
 
 pub returns-clause-runs : goal.returns-clause-runs
 returns-clause-runs g c =
     let ls = c.args.leaves.now.items in
     let rs = c.args.runs.items in
     let parts = c.args.parts.items in
-    let done = c.in_ok-_replaced.ensures.items in
-    let drained = items_from_drains done.1 (done.3.1.0, done.3.1.1, λ _. (done.3.0, done.3.1.2)) (YieldsList-from_vec parts done.2.0 (done.2.1 ∙ c.args.parts.ok.0)) in
-    let middle = put_in c.splice.new.self.items (take c.args.window.0 rs) (drop c.args.window.1 rs) done.1 parts done.4 drained in
+    let middle = c.in_ok-replace_between.ensures.ok in
     let fresh = c.in_ok-new_leaves.new_leaves.items in
     let fresh_runs = rw c.as_slice.ensures.value at c.in_ok-new_leaves.ensures.runs in
-    let done' = c.in_ok-_given_up.ensures.items in
-    let drained' = items_from_drains done'.1 (done'.3.1.0, done'.3.1.1, λ _. (done'.3.0, done'.3.1.2)) (YieldsList-from_vec fresh done'.2.0 (done'.2.1 ∙ c.in_ok-new_leaves.new_leaves.ok.0)) in
-    let put = put_in c.splice-2.new.self.items (take c.args.near.0 ls) (drop c.args.near.1 ls) done'.1 fresh done'.4 drained' in
+    let put = c.in_ok-replace_between-2.ensures.ok in
     ap runs_in put ∙ runs_in-append (take c.args.near.0 ls) (fresh ++ drop c.args.near.1 ls)
     ∙ ap (λ m. runs_in (take c.args.near.0 ls) ++ m) (runs_in-append fresh (drop c.args.near.1 ls) ∙ ap (λ m. m ++ runs_in (drop c.args.near.1 ls)) (fresh_runs ∙ middle))
 
@@ -47,9 +39,7 @@ begun_in-requires-clause-runs g c =
     let rs = c.args.runs.items in
     let parts = c.args.parts.items in
     let part = take c.args.window.0 rs ++ (parts ++ drop c.args.window.1 rs) in
-    let done = c.in_ok-_replaced.ensures.items in
-    let drained = items_from_drains done.1 (done.3.1.0, done.3.1.1, λ _. (done.3.0, done.3.1.2)) (YieldsList-from_vec parts done.2.0 (done.2.1 ∙ c.args.parts.ok.0)) in
-    let middle = put_in c.splice.new.self.items (take c.args.window.0 rs) (drop c.args.window.1 rs) done.1 parts done.4 drained in
+    let middle = c.in_ok-replace_between.ensures.ok in
     let fresh = c.in_ok-new_leaves.new_leaves.items in
     let fresh_runs = rw c.as_slice.ensures.value at c.in_ok-new_leaves.ensures.runs in
     let same = fresh_runs ∙ middle in
@@ -65,9 +55,7 @@ begun_in-requires-clause-ends g c =
     let rs = c.args.runs.items in
     let parts = c.args.parts.items in
     let part = take c.args.window.0 rs ++ (parts ++ drop c.args.window.1 rs) in
-    let done = c.in_ok-_replaced.ensures.items in
-    let drained = items_from_drains done.1 (done.3.1.0, done.3.1.1, λ _. (done.3.0, done.3.1.2)) (YieldsList-from_vec parts done.2.0 (done.2.1 ∙ c.args.parts.ok.0)) in
-    let middle = put_in c.splice.new.self.items (take c.args.window.0 rs) (drop c.args.window.1 rs) done.1 parts done.4 drained in
+    let middle = c.in_ok-replace_between.ensures.ok in
     let fresh = c.in_ok-new_leaves.new_leaves.items in
     let fresh_runs = rw c.as_slice.ensures.value at c.in_ok-new_leaves.ensures.runs in
     let same = fresh_runs ∙ middle in
@@ -88,9 +76,7 @@ with_part-requires-clause-within g c =
     let rs = c.args.runs.items in
     let parts = c.args.parts.items in
     let part = take c.args.window.0 rs ++ (parts ++ drop c.args.window.1 rs) in
-    let done = c.in_ok-_replaced.ensures.items in
-    let drained = items_from_drains done.1 (done.3.1.0, done.3.1.1, λ _. (done.3.0, done.3.1.2)) (YieldsList-from_vec parts done.2.0 (done.2.1 ∙ c.args.parts.ok.0)) in
-    let middle = put_in c.splice.new.self.items (take c.args.window.0 rs) (drop c.args.window.1 rs) done.1 parts done.4 drained in
+    let middle = c.in_ok-replace_between.ensures.ok in
     let fresh = c.in_ok-new_leaves.new_leaves.items in
     let fresh_runs = rw c.as_slice.ensures.value at c.in_ok-new_leaves.ensures.runs in
     let same = fresh_runs ∙ middle in
@@ -107,18 +93,14 @@ returns-clause-begun g c =
     let rs = c.args.runs.items in
     let parts = c.args.parts.items in
     let part = take c.args.window.0 rs ++ (parts ++ drop c.args.window.1 rs) in
-    let done = c.in_ok-_replaced.ensures.items in
-    let drained = items_from_drains done.1 (done.3.1.0, done.3.1.1, λ _. (done.3.0, done.3.1.2)) (YieldsList-from_vec parts done.2.0 (done.2.1 ∙ c.args.parts.ok.0)) in
-    let middle = put_in c.splice.new.self.items (take c.args.window.0 rs) (drop c.args.window.1 rs) done.1 parts done.4 drained in
+    let middle = c.in_ok-replace_between.ensures.ok in
     let fresh = c.in_ok-new_leaves.new_leaves.items in
     let fresh_runs = rw c.as_slice.ensures.value at c.in_ok-new_leaves.ensures.runs in
     let same = fresh_runs ∙ middle in
     let before = c.runs_before.result.now in
     let last = rw c.as_slice-2.ensures.value at c.runs_before.ensures in
     let counted = rw c.as_slice-3.ensures.value at c.in_ok-part.ensures in
-    let done' = c.in_ok-_given_up.ensures.items in
-    let drained' = items_from_drains done'.1 (done'.3.1.0, done'.3.1.1, λ _. (done'.3.0, done'.3.1.2)) (YieldsList-from_vec fresh done'.2.0 (done'.2.1 ∙ c.in_ok-new_leaves.new_leaves.ok.0)) in
-    let put = put_in c.splice-2.new.self.items (take from ls) (drop to ls) done'.1 fresh done'.4 drained' in
+    let put = c.in_ok-replace_between-2.ensures.ok in
     let numbers = rw c.as_slice-4.ensures.value at c.in_ok-new_begun.ensures in
     rw (put, numbers) (put_begun ls fresh c.args.begun.now c.in_ok-part.part.items from to c.args.entries.0 c.args.entries.1 before part c.requires.begun last same c.requires.order c.requires.grows counted)
 
@@ -130,9 +112,7 @@ with_part-requires-2-clause-within g c =
     let rs = c.args.runs.items in
     let parts = c.args.parts.items in
     let part = take c.args.window.0 rs ++ (parts ++ drop c.args.window.1 rs) in
-    let done = c.in_ok-_replaced.ensures.items in
-    let drained = items_from_drains done.1 (done.3.1.0, done.3.1.1, λ _. (done.3.0, done.3.1.2)) (YieldsList-from_vec parts done.2.0 (done.2.1 ∙ c.args.parts.ok.0)) in
-    let middle = put_in c.splice.new.self.items (take c.args.window.0 rs) (drop c.args.window.1 rs) done.1 parts done.4 drained in
+    let middle = c.in_ok-replace_between.ensures.ok in
     let fresh = c.in_ok-new_leaves.new_leaves.items in
     let fresh_runs = rw c.as_slice.ensures.value at c.in_ok-new_leaves.ensures.runs in
     let numbers = c.as_slice-6.ensures.value ∙ rw c.as_slice-5.ensures.value at c.in_ok-part-2.ensures in
@@ -145,16 +125,12 @@ returns-clause-sizes g c =
     let to = c.args.near.1 in
     let fresh = c.in_ok-new_leaves.new_leaves.items in
     let numbers = c.as_slice-6.ensures.value ∙ rw c.as_slice-5.ensures.value at c.in_ok-part-2.ensures in
-    let done = c.in_ok-_given_up.ensures.items in
-    let drained = items_from_drains done.1 (done.3.1.0, done.3.1.1, λ _. (done.3.0, done.3.1.2)) (YieldsList-from_vec fresh done.2.0 (done.2.1 ∙ c.in_ok-new_leaves.new_leaves.ok.0)) in
-    let put = put_in c.splice-2.new.self.items (take from ls) (drop to ls) done.1 fresh done.4 drained in
+    let put = c.in_ok-replace_between-2.ensures.ok in
     rw (put, c.in_ok-new_sizes.ensures, numbers, c.requires.sizes) (sizes_put ls fresh from to)
 
 pub returns-clause-kept : goal.returns-clause-kept
 returns-clause-kept g c =
     let ls = c.args.leaves.now.items in
     let fresh = c.in_ok-new_leaves.new_leaves.items in
-    let done = c.in_ok-_given_up.ensures.items in
-    let drained = items_from_drains done.1 (done.3.1.0, done.3.1.1, λ _. (done.3.0, done.3.1.2)) (YieldsList-from_vec fresh done.2.0 (done.2.1 ∙ c.in_ok-new_leaves.new_leaves.ok.0)) in
-    let put = put_in c.splice-2.new.self.items (take c.args.near.0 ls) (drop c.args.near.1 ls) done.1 fresh done.4 drained in
-    put_keeps ls fresh c.splice-2.new.self.items c.args.near.0 c.args.near.1 c.requires.some.0 c.requires.some.1 put
+    let put = c.in_ok-replace_between-2.ensures.ok in
+    put_keeps ls fresh c.replace_between-2.new.items.items c.args.near.0 c.args.near.1 c.requires.some.0 c.requires.some.1 put
