@@ -143,16 +143,16 @@ impl<A: Allocator + Copy> GuidGroup<A> {
         }
     }
 
-    /// Gives up the memory of the group if it is bare.
+    /// Gives up the memory of the group if it is bare and has much.
     fn tidy(&mut self)
         ensures { self.new ≡ self.old }
     {
-        if self.is_bare() {
+        if self.is_bare() && self.holders.is_roomy() {
             *self = GuidGroup::new(*self.holders.allocator(), self.guid);
         }
     }
 
-    /// Removes a handle, and the turn of its stamp. A group that is left bare keeps no memory.
+    /// Removes a handle, and the turn of its stamp. A group that is left bare keeps little memory.
     pub(crate) fn remove(&mut self, handle: u64, stamp: u64)
         ensures guid { self.new.guid ≡ self.old.guid }
         ensures keys { SetsKeyIn handle None self.old self.new }

@@ -29,6 +29,9 @@ impl<T: Copy, A: Allocator> Model for SlidingRow<T, A> {
     ghost invariant = { λ r. r.gone ≤ length r.values.items };
 }
 
+/// For how many values the memory of a row is little.
+const FEW_VALUES: usize = 16;
+
 /// How many values more a full row gets room for at least: four at first, so that many short rows take
 /// little, then 12.
 fn values_added(len: usize) -> usize
@@ -79,6 +82,11 @@ impl<T: Copy, A: Allocator> SlidingRow<T, A> {
         ensures value { result.now ≡ self.now.items }
     {
         &self.values.as_slice()[self.gone..]
+    }
+
+    /// Whether the row has memory for many values.
+    pub(crate) fn is_roomy(&self) -> bool {
+        self.values.capacity() > FEW_VALUES
     }
 
     /// Makes room for one more value, if there is none.
