@@ -7,5 +7,5 @@ mod making;
 mod place;
 
 pub use handle::Rafkudin;
-pub use making::make_in;
+pub use making::{make_in, make_over};
 pub use place::Place;

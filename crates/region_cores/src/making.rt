@@ -8,6 +8,8 @@ use crate::place::Place;
 use c_interface::EfiCore;
 use c_machines::{DriverTable, are_tables};
 use page_ranges::Status;
+use pool_services::PoolMemory;
+use raw_pool::{PageHeap, PageRun};
 use region_heap::{Region, RegionHeap};
 
 /// The pointer to a core that is made of EFI_MEMORY_DESCRIPTORs, a granule of 1 or 16 pages and up to 64 drivers. All
@@ -24,13 +26,54 @@ pub fn make_in(
 ) -> Result<Place, u64>
     ensures { MakesPlace descriptor_size records.now granule drivers.now result }
 {
+    make(region, None, records, descriptor_size, granule, drivers)
+}
+
+/// The same, whose pool lies in pages of memory that are those of the machine from its page `first` on: the bytes of a
+/// block are those at its address. What is kept of each page lies in the region.
+pub fn make_over(
+    region: Region,
+    run: PageRun,
+    first: u64,
+    records: &[u8],
+    descriptor_size: usize,
+    granule: u64,
+    drivers: &[DriverTable],
+) -> Result<Place, u64>
+    ensures { MakesPlace descriptor_size records.now granule drivers.now result }
+{
+    let pages = Some((run, first));
+    make(region, pages, records, descriptor_size, granule, drivers)
+}
+
+/// The pointer to a core in a region, whose pool lies in a run of pages, if there is one, from a page of the machine
+/// on.
+fn make(
+    region: Region,
+    pages: Option<(PageRun, u64)>,
+    records: &[u8],
+    descriptor_size: usize,
+    granule: u64,
+    drivers: &[DriverTable],
+) -> Result<Place, u64>
+    ensures { MakesPlace descriptor_size records.now granule drivers.now result }
+{
     if !are_tables(drivers) {
         return Err(Status::InvalidParameter.number());
     }
     let Some(heap) = RegionHeap::lasting(region) else {
         return Err(Status::OutOfResources.number());
     };
-    let core = EfiCore::make(heap, records, descriptor_size, granule, drivers)?;
+    let core = match pages {
+        None => EfiCore::make(heap, records, descriptor_size, granule, drivers)?,
+        Some((run, first)) => {
+            let Ok(pages) = PageHeap::lasting(heap, run) else {
+                return Err(Status::OutOfResources.number());
+            };
+            let memory = PoolMemory { heap: pages, first };
+            EfiCore::make_over(heap, records, descriptor_size, granule, drivers, memory)?
+        }
+    };
     pointer_to(heap, core).ok_or(Status::OutOfResources.number())
 }
 
