@@ -1,10 +1,10 @@
 -- The first block from an address on: in an extent by cells, and among extents.
 use Rattle.std.proofs.Common.{◌≡◌, ℕ, zero, suc, ◌+◌, ◌-◌, ◌*◌, ◌/◌, ◌<◌, ◌≤◌, nat_le, Bool, true, false, inl, inr, List, [], ◌∷◌, ◌++◌, map, length, drop, Option, Some, None, is_some, add-one, refl, sym, ap, ◌∙◌, arith, subst, eq-eqb, ne_eqb, le-leb}
 use Rattle.std.specs.Option.{option_map}
-use Rattle.std.specs.List.{find, flat_map}
+use Rattle.std.specs.List.{find}
 use Rattle.std.proofs.lemmas.Bool.{cases_lt, cases_eq, cases_Bool, lt-leb}
 use Rattle.raw_pool.specs.Blocks.{Block, block_at, cells_for, end_of}
-use Rattle.pool_services.specs.Extents.{Extent, AreBlocks, AreExtents, IsExtent, address_of, cells_in}
+use Rattle.pool_services.specs.Extents.{Extent, AreBlocks, AreExtents, address_of, cells_in}
 use Rattle.pool_services.specs.Listed.{begins_from, blocks_of, is_from, listed}
 use Rattle.pool_services.specs.Searches.{IsAt, place}
 use Rattle.pool_services.specs.declared.listed.PoolBlock.{PoolBlock}

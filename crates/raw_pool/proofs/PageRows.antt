@@ -1,8 +1,8 @@
 -- Rows of bytes of which none is set, and rows as memory. Assumes `Logic`.
-use mathlib.Core.Path.{◌≡◌, refl, sym, ap, ◌∙◌}
+use mathlib.Core.Path.{◌≡◌, refl, sym}
 use Prim.Native.Nat.{ℕ, ◌+◌, ◌-◌, ◌<◌, ◌^◌}
 use native.Mathlib.Omega.{arith}
-use mathlib.Core.List.{List, [], ◌∷◌}
+use mathlib.Core.List.{[], ◌∷◌}
 use lib.ListN.{length}
 use seplogic.Ra.Ura.{Ura}
 use base.Fraction.{full_share}
@@ -10,7 +10,7 @@ use mir.Syntax.{w8, ty_int}
 use base.Logic.{ent, sep}
 use base.Fml.{froom, fsep, feq}
 use types.Logic.{Logic, sem}
-use types.Kit.{‵, ◌⊛◌, ◌$◌, ◌∵◌, !, qed, by, drop, use1, use2, rewrite, fsplit, fjoin, feq_i, done}
+use types.Kit.{‵, ◌$◌, ◌∵◌, !, qed, by, drop, use1, use2, rewrite, fsplit, fjoin, feq_i, done}
 use denote.Array.{Array}
 use denote.Builtin.{u8}
 use denote.Memory.{part_at}

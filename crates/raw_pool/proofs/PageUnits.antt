@@ -1,5 +1,5 @@
 -- Free pages are taken out of what the marks say is free, and put back. Assumes `Logic`.
-use Rattle.std.proofs.Common.{◌≡◌, ℕ, zero, suc, ◌+◌, ◌*◌, ◌<◌, ◌≤◌, List, [], ◌∷◌, ◌++◌, length, replicate, take, drop, refl, sym, ap, subst, ◌∙◌, append_assoc, arith}
+use Rattle.std.proofs.Common.{◌≡◌, ℕ, zero, suc, ◌+◌, ◌*◌, ◌<◌, ◌≤◌, List, [], ◌∷◌, ◌++◌, length, replicate, take, drop, refl, sym, ap, ◌∙◌, append_assoc, arith}
 use Rattle.std.proofs.lemmas.List.{take-append-drop, length-replicate, length-take-le, length-drop, drop-drop}
 use seplogic.Ra.Ura.{Ura}
 use base.Logic.{SProp, ent, sep, emp}
@@ -7,7 +7,7 @@ use base.Fml.{froom}
 use mir.Syntax.{w8, ty_int}
 use denote.RawPtr.Room.{past, past_bytes, room_cut, room_glue}
 use types.Logic.{Logic, sem}
-use types.Kit.{‵, raw, ◌⊛◌, ◌$◌, ◌∵◌, !, qed, by, move, keep, drop as lose, use0, use1, use2, split, fsplit, fjoin, rewrite, done}
+use types.Kit.{‵, ◌⊛◌, ◌$◌, ◌∵◌, !, qed, by, move, keep, drop as lose, use0, use1, use2, split, fsplit, fjoin, rewrite, done}
 use denote.Steps.{nothing}
 use Rattle.raw_pool.specs.Bytes.{put}
 use Rattle.raw_pool.specs.Ownership.{byte_row}

@@ -1,8 +1,8 @@
 -- `zero` goes along memory that is not set and sets one byte after the other. Assumes `Logic`.
-use mathlib.Core.Path.{◌≡◌, refl, sym, ap, subst, ◌∙◌}
+use mathlib.Core.Path.{◌≡◌, refl}
 use mathlib.Core.List.{List, [], ◌∷◌, ◌++◌}
 use mathlib.Core.WellFounded.InvImage
-use Prim.Native.Nat.{ℕ, zero, suc, ◌+◌, ◌-◌, ◌*◌, ◌≤◌, ◌<◌, ◌^◌}
+use Prim.Native.Nat.{ℕ, suc, ◌+◌, ◌-◌, ◌≤◌, ◌<◌, ◌^◌}
 use native.Mathlib.Omega.{arith}
 use seplogic.Ra.Ura.{Ura}
 use lib.Dec.{lit<, ltb→lt, nltb→le}
@@ -11,24 +11,23 @@ use lib.WfN.{lt-wf_rel}
 use base.Fraction.{full_share}
 use mir.Syntax.{Body, w8, w64, ty_int}
 use mir.Val.{Val, vunit, vint, vptr}
-use base.Logic.{SProp, ent, sep, id⊢, never}
-use base.Fml.{ftrue, fsep, feq, fat, froom}
+use base.Logic.{SProp, ent, sep, id⊢}
+use base.Fml.{fat, froom}
 use contract.Monad.{fact}
 use contract.Running.{tables, tables_of}
 use prog.Wp.{Env, Out, Wp, WpFn, Tables, at_return, after_seq, after_block, after_turn}
 use types.Logic.{Logic, sem}
-use types.Kit.{Item, Sq, any_q, runs, ‵, raw, ◌⊛◌, prop, at_ret, ◌$◌, ◌∵◌, !, qed, by, move, keep, drop, use0, use1, use2, join, split, rewrite, regoal, fsplit, fjoin, feq_i, suffices, group, done}
+use types.Kit.{Item, Sq, any_q, runs, ‵, raw, ◌⊛◌, prop, at_ret, ◌$◌, ◌∵◌, !, qed, by, move, drop, use0, use1, use2, join, split, rewrite, regoal, fjoin, feq_i, suffices, group, done}
 use types.Run.{stop, lit, bin, unit_lit, of_opd, init, assigns_last, first, blocks, skips, jumps, branches, exec, returns, enter, loops, again, Below}
-use types.ByLocal.{alloc_all, pass_all, free_all, look_at, get, through, sets, sets_last, env, holding, forget_but, take_at, give_at}
+use types.ByLocal.{alloc_all, pass_all, free_all, look_at, get, through, sets, sets_last, env, holding, forget_but}
 use denote.Array.{Array}
 use denote.Builtin.{u8, usize}
 use denote.Exit.{yes}
 use denote.Memory.{part_at}
 use denote.Plain.{uint_vals, uint_Tells, uint_in}
-use denote.RattleType.{owns}
-use denote.RawPtr.{Ptr, RawPtr, block_ptr, ptr_val, lies_at, room_for, in_a_block, rawptr_vals, rawptr_Tells}
+use denote.RawPtr.{Ptr, RawPtr, block_ptr, ptr_val, room_for, in_a_block, rawptr_vals, rawptr_Tells}
 use denote.RawPtr.Bytes.{bytes, bytes_glue, bytes_whole}
-use denote.Signature.{plain, types_at}
+use denote.Signature.{plain}
 use denote.Steps.{heard, nothing}
 use denote.Triple.Entry.{on_entry}
 use denote.Triple.Walked.{Stays, stay_dropped, walk_of, ends_at, Goes-dropped}

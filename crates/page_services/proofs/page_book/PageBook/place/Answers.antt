@@ -1,5 +1,4 @@
 -- Terms and searches, and no second tactic after them: a body that is wrong is then refused sooner.
-use Rattle.std.proofs.Common.{rules}
 use Rattle.page_services.proofs.Choices.{best_is_permitted}
 use Rattle.page_services.proofs.Granules.{chosen_granules}
 use Rattle.page_services.proofs.page_book.PageBook.place.Goals as goal

@@ -1,4 +1,4 @@
-use Rattle.std.proofs.Common.{◌≡◌, ◌∙◌, ap}
+use Rattle.std.proofs.Common.{◌≡◌, ap}
 use Rattle.pool_services.specs.Extents.{Extent}
 use Rattle.pool_services.proofs.ListedBlocks.{block_none, block_some, cell_within}
 use Rattle.pool_services.proofs.extents.PoolExtent.block_from.Goals as goal

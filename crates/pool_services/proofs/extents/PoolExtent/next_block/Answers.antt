@@ -1,4 +1,4 @@
-use Rattle.std.proofs.Common.{ℕ, ◌*◌, ◌<◌, ◌≤◌, arith}
+use Rattle.std.proofs.Common.{arith}
 use Rattle.pool_services.proofs.ListedBlocks.{next_none, next_some}
 use Rattle.pool_services.proofs.extents.PoolExtent.next_block.Goals as goal
 

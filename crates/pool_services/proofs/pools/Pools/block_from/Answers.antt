@@ -1,4 +1,4 @@
-use Rattle.std.proofs.Common.{◌≡◌, ◌+◌, ◌∙◌, List, drop, sym, ap, arith}
+use Rattle.std.proofs.Common.{◌∙◌, List, sym, ap, arith}
 use Rattle.std.specs.List.{find}
 use Rattle.pool_services.specs.Extents.{Extent}
 use Rattle.pool_services.specs.Listed.{blocks_of, is_from}

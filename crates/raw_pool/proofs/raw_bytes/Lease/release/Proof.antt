@@ -1,6 +1,6 @@
 -- `release` makes memory of both rows and hands the block back with the lease. Assumes `Logic`.
 use mathlib.Core.Path.{◌≡◌, refl, sym, ap, subst, ◌∙◌}
-use Prim.Native.Nat.{ℕ, ◌+◌, ◌-◌, ◌*◌, ◌<◌, ◌^◌}
+use Prim.Native.Nat.{ℕ, ◌+◌, ◌-◌, ◌*◌}
 use native.Mathlib.Omega.{arith}
 use mathlib.Core.List.{List, [], ◌∷◌, ◌++◌}
 use lib.Dec.{T as Holds, lit<}
@@ -8,8 +8,8 @@ use lib.ListN.{length}
 use seplogic.Ra.Ura.{Ura}
 use base.Fraction.{full_share}
 use mir.MapTy.{inst_fn}
-use mir.Syntax.{Fn, Args, a_type, dcons, dnil, w8, w64, ty_int, ty_unit}
-use mir.Val.{Val, WT, has_ty, vunit, vint, vptr}
+use mir.Syntax.{Fn, Args, a_type, dcons, dnil, w8, ty_int, ty_unit}
+use mir.Val.{Val, WT, has_ty, vunit, vptr}
 use base.Logic.{SProp, ent, sep, id⊢}
 use base.Fml.{Lft, Share, ftrue, fsep, feq, froom, flft}
 use contract.BorrowLft.{◌⊑◌, ⊑_trans}
@@ -19,18 +19,17 @@ use prog.Capped.{capped_is}
 use prog.Memory.{size, capped}
 use prog.Wp.{Env, WpFn}
 use types.Logic.{Logic, sem}
-use types.Kit.{‵, raw, ◌⊛◌, given, later, prop, at_ret, ◌$◌, ◌∵◌, !, qed, by, move, keep, drop, use1, use2, use3, split, join, learn, rewrite, regoal, fsplit, fjoin, feq_i, await, done}
+use types.Kit.{‵, raw, ◌⊛◌, given, later, prop, at_ret, ◌$◌, ◌∵◌, !, qed, by, move, drop, use1, use2, use3, split, join, learn, rewrite, regoal, fsplit, fjoin, feq_i, await, done}
 use types.Part.{whole, sub}
 use types.Run.{stop, fld, lit, unit_lit, of_opd, no_more, and_then, first, blocks, exec, returns, enter}
 use types.ByLocal.{alloc_all, pass_all, free_all, look_at, get, get_in, sets, lands_last, env}
 use denote.Builtin.{RefOf}
 use denote.Exit.{yes, no}
-use denote.Memory.{part_at}
 use denote.Param.{bounded}
 use denote.RattleType.{owns}
 use denote.RawPtr.{Ptr, block_ptr, ◌+ₚ◌}
 use denote.RawPtr.Bytes.{bytes, bytes_apart, bytes-room}
-use denote.RawPtr.Room.{past, past_bytes, room_glue}
+use denote.RawPtr.Room.{past_bytes, room_glue}
 use denote.Signature.{plain, types_at}
 use denote.Steps.{nothing, heard}
 use denote.Triple.Call.{calls_at_last}

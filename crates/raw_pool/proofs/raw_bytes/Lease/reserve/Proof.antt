@@ -1,5 +1,5 @@
 -- `reserve` asks the allocator for a block of bytes and makes two rows of it and a lease of the right to free it. Assumes `Logic`.
-use mathlib.Core.Path.{◌≡◌, refl, sym, ap, ◌∙◌}
+use mathlib.Core.Path.{◌≡◌, refl, ap, ◌∙◌}
 use Prim.Native.Nat.{ℕ, ◌+◌, ◌-◌, ◌*◌, ◌<◌, ◌^◌}
 use native.Mathlib.Omega.{arith}
 use mathlib.Core.Bool.{true, false}
@@ -11,7 +11,7 @@ use mir.MapTy.{inst_fn}
 use mir.Syntax.{Fn, Args, a_type, dcons, dnil, w8, w64, ty_int}
 use mir.Val.{Val, WT, vint, vptr, vstruct, vcons, vnil}
 use base.Logic.{SProp, ent, sep, emp, id⊢}
-use base.Fml.{Lft, Share, Incl-trans, ftrue, fsep, feq, froom, flft}
+use base.Fml.{Lft, Share, ftrue, froom, flft}
 use contract.BorrowLft.{◌⊑◌, ⊑_trans}
 use contract.Monad.{fact, fact_i}
 use contract.Running.{tables}
@@ -19,7 +19,7 @@ use prog.Capped.{capped_is}
 use prog.Memory.{size, capped}
 use prog.Wp.{Env, Wp, WpFn, after_seq, at_return}
 use types.Logic.{Logic, sem}
-use types.Kit.{any_q, ‵, raw, ◌⊛◌, later, prop, at_ret, ◌$◌, ◌∵◌, !, qed, by, move, keep, drop, use0, use1, use2, split, join, rewrite, regoal, fsplit, fjoin, fjoin3, fpack, feq_i, await, done}
+use types.Kit.{any_q, ‵, raw, ◌⊛◌, later, prop, at_ret, ◌$◌, ◌∵◌, !, qed, by, move, drop, use0, use1, use2, split, join, rewrite, regoal, fsplit, fjoin, fpack, feq_i, await, done}
 use types.Part.{whole, agg}
 use types.Match.{live, vrt, in_variant}
 use types.Run.{stop, fld, lit, bin, of_opd, no_more, and_then, first, blocks, switches_on, exec, returns, enter}
@@ -31,7 +31,7 @@ use denote.Memory.{part_at}
 use denote.Param.{bounded}
 use denote.RattleType.{RattleType, Valss, owns}
 use denote.RawPtr.{Ptr, block_ptr}
-use denote.RawPtr.Bytes.{bytes, bytes_whole}
+use denote.RawPtr.Bytes.{bytes_whole}
 use denote.RawPtr.Room.{past, past_bytes, room_cut}
 use denote.Signature.{plain, types_at, type_at}
 use denote.Laws.{Is}
@@ -43,7 +43,7 @@ use denote.Triple.Call.{calls_at}
 use denote.Triple.Entry.{alive}
 use denote.Triple.Walked.{Stays, stay_dropped, walk_of, Goes-dropped}
 use Rattle.std.proofs.raw_atomic.Walks.{proved_at, leaves}
-use Rattle.core.proofs.alloc.Calls.{Al, Answer-typed, token, seen, Takes, at_takes, Answered, Takes-goes, Takes-gives, answers}
+use Rattle.core.proofs.alloc.Calls.{Al, Answer-typed, seen, Takes, at_takes, Answered, Takes-goes, Takes-gives, answers}
 use Rattle.core.proofs.atomic.Steps.{fm}
 use Rattle.core.proofs.slots.Bodies.{after, head, arm_body}
 use Rattle.core.specs.declared.result.Result.TheVariants.{Ok, Err}

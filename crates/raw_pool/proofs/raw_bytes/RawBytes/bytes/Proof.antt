@@ -4,7 +4,6 @@ use Prim.Native.Nat.{ℕ, ◌+◌, ◌*◌, ◌<◌, ◌^◌}
 use native.Mathlib.Omega.{arith}
 use mathlib.Core.List.{List, [], ◌∷◌}
 use lib.ListN.{length}
-use seplogic.Ra.Ura.{Ura}
 use mir.Syntax.{named}
 use mir.Val.{Val}
 use base.Fml.{ftrue, flft}
@@ -13,7 +12,7 @@ use types.Kit.{at_ret, ‵, ◌⊛◌, ◌$◌, ◌∵◌, !, qed, move, keep, d
 use types.Part.{agg}
 use types.Run.{look, stop, fld, load, no_more, and_then, of_opd, first, blocks, exec, returns, enter}
 use types.ByLocal.{alloc_all, pass_all, free_all, look_at, get, through, sets, sets_last, env}
-use denote.Builtin.{u8, usize, RefOf}
+use denote.Builtin.{usize, RefOf}
 use denote.Exit.{yes}
 use denote.Memory.{hidden_shr}
 use denote.Opens.{hide}

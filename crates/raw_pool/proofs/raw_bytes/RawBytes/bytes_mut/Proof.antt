@@ -1,18 +1,18 @@
 -- `bytes_mut` lends the bytes that are set, and the row follows them. Assumes `Logic`.
-use mathlib.Core.Path.{◌≡◌, refl, sym, ap, ◌∙◌}
+use mathlib.Core.Path.{◌≡◌, refl, sym, ◌∙◌}
 use Prim.Native.Nat.{ℕ, ◌+◌, ◌-◌, ◌*◌, ◌<◌, ◌^◌}
 use native.Mathlib.Omega.{arith}
-use mathlib.Core.List.{List, [], ◌∷◌, ◌++◌}
-use lib.ListN.{length, take, drop as drop_l}
+use mathlib.Core.List.{List, [], ◌∷◌}
+use lib.ListN.{length, drop as drop_l}
 use seplogic.Ra.Ura.{Ura}
 use base.Fraction.{full_share}
 use mir.Syntax.{named}
 use mir.Val.{Val}
-use base.Logic.{ent, sep, id⊢}
+use base.Logic.{ent, sep}
 use base.Fml.{GName, Fml, ftrue, fsep, froom, feq, flft}
 use contract.Running.{tables}
 use types.Logic.{Logic, sem}
-use types.Kit.{at_ret, ‵, raw, ◌⊛◌, some, later, ◌$◌, ◌∵◌, !, qed, move, keep, drop, use1, use2, split, split3, join, pick, rewrite, fsplit, fsplit3, fjoin, fpack, feq_i, suffices, frame, await, group, done}
+use types.Kit.{at_ret, ‵, ◌⊛◌, some, later, ◌$◌, ◌∵◌, !, qed, move, keep, drop, use1, split, split3, join, pick, rewrite, fsplit, fsplit3, fjoin, fpack, feq_i, suffices, frame, await, group, done}
 use types.Part.{whole, sub, look_in, agg}
 use types.Run.{stop, fld, load, no_more, and_then, of_opd, first, blocks, exec, returns, enter}
 use types.ByLocal.{alloc_all, pass_all, free_all, look_at, get, through, sets, sets_last, env}
@@ -21,7 +21,7 @@ use denote.Array.{Array}
 use denote.Builtin.{u8}
 use denote.Exit.{no}
 use denote.Follow.{follows}
-use denote.FollowSlice.{Elements, lends_Elements}
+use denote.FollowSlice.{lends_Elements}
 use denote.Index.{row, whole_in, whole_out}
 use denote.Memory.{cell_at, part_at, part_of, mem}
 use denote.RattleType.{owns}
@@ -40,7 +40,7 @@ use Rattle.raw_pool.specs.RawRows.{with_set}
 use Rattle.raw_pool.specs.declared.raw_bytes.RawBytes.{RawBytes}
 use Rattle.raw_pool.specs.contracts.raw_bytes.RawBytes.{the_row}
 use Rattle.raw_pool.specs.contracts.raw_bytes.RawBytes.bytes_mut as f
-use Rattle.raw_pool.proofs.RawSteps.{row_val, memory, row_made, row_opens}
+use Rattle.raw_pool.proofs.RawSteps.{row_val, row_made, row_opens}
 use Rattle.raw_pool.proofs.raw_bytes.RawBytes.bytes_mut.Statement.{statement}
 use Rattle.raw_pool.proofs.raw_bytes.RawBytes.bytes_mut.Code as code
 

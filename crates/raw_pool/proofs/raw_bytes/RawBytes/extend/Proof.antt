@@ -1,6 +1,6 @@
 -- `extend` takes memory from behind the bytes that are set, has `zero` set it, and puts it to them. Assumes `Logic`.
 use mathlib.Core.Path.{◌≡◌, refl, sym, ap, subst, ◌∙◌}
-use Prim.Native.Nat.{ℕ, ◌+◌, ◌-◌, ◌*◌, ◌≤◌, ◌<◌, ◌^◌}
+use Prim.Native.Nat.{ℕ, ◌+◌, ◌-◌, ◌≤◌, ◌<◌, ◌^◌}
 use native.Mathlib.Omega.{arith}
 use mathlib.Core.List.{List, [], ◌∷◌, ◌++◌}
 use lib.ListN.{length, replicate, length-replicate, length-append}
@@ -10,21 +10,21 @@ use mir.Syntax.{named, w8, w64, ty_int, ty_unit}
 use lib.Dec.{T}
 use mir.Val.{Val, vunit, vint, vptr, has_ty, WT}
 use base.Logic.{ent, sep, emp, id⊢}
-use base.Fml.{GName, Fml, ftrue, fsep, feq, froom, flft}
+use base.Fml.{ftrue, fsep, feq, froom, flft}
 use contract.Monad.{fact, fact_i}
 use contract.Running.{tables}
 use types.Logic.{Logic, sem}
-use types.Kit.{at_ret, ‵, raw, ◌⊛◌, some, later, ◌$◌, ◌∵◌, !, qed, by, move, keep, drop, use0, use1, use2, split, join, pick, rewrite, fsplit, fsplit3, fjoin, fjoin3, feq_i, feq_l, flt_i, suffices, frame, await, done}
+use types.Kit.{at_ret, ‵, raw, ◌⊛◌, some, later, ◌$◌, ◌∵◌, !, qed, move, keep, drop, use0, use1, use2, split, join, pick, rewrite, fsplit, fsplit3, fjoin, fjoin3, feq_i, feq_l, flt_i, suffices, await, done}
 use types.Part.{whole, sub, look_in, store_in}
-use types.Run.{stop, fld, load, lit, unit_lit, bin, no_more, and_then, of_opd, assigns, first, blocks, exec, returns, enter}
+use types.Run.{stop, fld, load, unit_lit, bin, no_more, and_then, of_opd, assigns, first, blocks, exec, returns, enter}
 use types.ByLocal.{alloc_all, pass_all, free_all, look_at, get, through, sets, lands_last, env}
 use denote.Array.{Array}
 use denote.Builtin.{u8, usize, unit}
 use denote.Exit.{yes}
-use denote.Memory.{cell_at, part_at}
+use denote.Memory.{part_at}
 use denote.Plain.{uint_vals, uint_Tells}
 use denote.RattleType.{owns}
-use denote.RawPtr.{Ptr, RawPtr, block_ptr, rawptr_vals}
+use denote.RawPtr.{Ptr, block_ptr, rawptr_vals}
 use denote.RawPtr.Bytes.{bytes, bytes_apart, bytes_glue, bytes_whole}
 use denote.RawPtr.Room.{past, past_bytes, room_cut}
 use denote.Ref.{mut_vals, mut_Tells}
@@ -42,7 +42,7 @@ use Rattle.raw_pool.specs.Ownership.{byte_row}
 use Rattle.raw_pool.specs.declared.raw_bytes.RawBytes.{RawBytes}
 use Rattle.raw_pool.specs.contracts.raw_bytes.RawBytes.{the_row}
 use Rattle.raw_pool.specs.contracts.raw_bytes.RawBytes.extend as f
-use Rattle.raw_pool.proofs.RawSteps.{row_val, memory, row_opens, row_closes}
+use Rattle.raw_pool.proofs.RawSteps.{row_opens, row_closes}
 use Rattle.raw_pool.proofs.raw_bytes.RawBytes.extend.Statement.{statement}
 use Rattle.raw_pool.proofs.raw_bytes.RawBytes.extend.Code as code
 use Rattle.raw_pool.specs.contracts.raw_bytes.zero as z

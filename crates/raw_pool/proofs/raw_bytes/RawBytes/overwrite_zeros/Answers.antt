@@ -1,6 +1,5 @@
-use Rattle.std.proofs.Common.{◌≡◌, ◌≤◌, ◌+◌, ◌-◌, ◌++◌, ◌∷◌, [], ℕ, List, replicate, length, set, length-set, take, drop, sym, ap, ◌∙◌, arith, rules}
+use Rattle.std.proofs.Common.{◌≡◌, ◌+◌, ◌-◌, ℕ, List, replicate, length, take, drop, ap, ◌∙◌, arith}
 use Rattle.std.proofs.lemmas.List.{length-replicate, length-take-le, length-drop}
-use Rattle.raw_pool.specs.Bytes.{put}
 use Rattle.raw_pool.proofs.Puts.{lent-put}
 use Rattle.raw_pool.proofs.raw_bytes.RawBytes.overwrite_zeros.Goals as goal
 

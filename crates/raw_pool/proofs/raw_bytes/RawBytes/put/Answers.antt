@@ -1,6 +1,6 @@
-use Rattle.std.proofs.Common.{◌≡◌, ◌≤◌, ◌+◌, ◌-◌, ◌++◌, ◌∷◌, [], ℕ, List, replicate, length, set, length-set, drop, sym, ap, ◌∙◌, arith, rules}
+use Rattle.std.proofs.Common.{◌≡◌, ◌+◌, ◌-◌, ◌∷◌, [], ℕ, List, length, set, length-set, drop, sym, ap, ◌∙◌, arith}
 use Rattle.std.proofs.lemmas.List.{take_at}
-use Rattle.raw_pool.specs.Bytes.{extended, put}
+use Rattle.raw_pool.specs.Bytes.{put}
 use Rattle.raw_pool.proofs.Puts.{length-extended, put-extended, put-over}
 use Rattle.raw_pool.proofs.raw_bytes.RawBytes.put.Goals as goal
 

@@ -1,5 +1,5 @@
-use Rattle.std.proofs.Common.{◌≡◌, ◌≤◌, ◌+◌, ◌-◌, ◌++◌, ◌∷◌, [], ℕ, List, replicate, length, set, length-set, drop, sym, ap, ◌∙◌, arith, rules}
-use Rattle.raw_pool.specs.Bytes.{extended, put}
+use Rattle.std.proofs.Common.{◌≡◌, ◌+◌, ◌-◌, ℕ, List, length, ap, ◌∙◌, arith}
+use Rattle.raw_pool.specs.Bytes.{put}
 use Rattle.raw_pool.proofs.Puts.{lent-put, length-extended, put-extended}
 use Rattle.raw_pool.proofs.raw_bytes.RawBytes.write.Goals as goal
 

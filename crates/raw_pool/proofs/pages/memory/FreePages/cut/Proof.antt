@@ -1,5 +1,5 @@
 -- `cut` takes pages out of those that are free, as bytes of which none is set. Assumes `Logic`.
-use Rattle.std.proofs.Common.{◌≡◌, ℕ, ◌+◌, ◌*◌, ◌^◌, ◌<◌, ◌≤◌, List, [], ◌∷◌, ◌++◌, length, refl, sym, ap, ◌∙◌, arith, lit<, w64}
+use Rattle.std.proofs.Common.{◌≡◌, ℕ, ◌+◌, ◌*◌, ◌^◌, ◌<◌, ◌≤◌, List, [], ◌∷◌, ◌++◌, length, refl, ap, ◌∙◌, arith, lit<, w64}
 use mir.Syntax.{Fn}
 use mir.Val.{Val, vint, vptr}
 use base.Logic.{SProp, emp}
@@ -7,7 +7,7 @@ use base.Fml.{froom}
 use prog.Wp.{Env, WpFn}
 use contract.Monad.{fact, fact_i}
 use contract.Running.{tables}
-use types.Kit.{‵, raw, ◌⊛◌, prop, at_ret, ◌$◌, ◌∵◌, !, qed, by, move, drop, use0, use1, use2, split, regoal, rewrite, fsplit, fjoin, join}
+use types.Kit.{‵, raw, ◌⊛◌, prop, at_ret, ◌$◌, ◌∵◌, !, qed, by, move, drop, use0, use1, use2, split, regoal, fsplit, fjoin, join}
 use types.Part.{whole, sub, agg}
 use types.Run.{stop, fld, lit, bin, of_opd, no_more, and_then, first, blocks, exec, returns, enter}
 use types.ByLocal.{alloc_all, pass_all, free_all, look_at, get, get_in, sets, sets_last, is, env}
@@ -24,15 +24,15 @@ use Rattle.std_alloc.proofs.Pairs.{pair_of, pair_val}
 use Rattle.std.proofs.raw_atomic.Walks.{proved_at, leaves}
 use Rattle.linked_list_allocator.proofs.Walks.{slot_at}
 use Rattle.linked_list_allocator.proofs.Values.{list_val, list_own, list_told, list_made}
-use Rattle.raw_pool.specs.Ownership.{byte_row, row_owned}
+use Rattle.raw_pool.specs.Ownership.{byte_row}
 use Rattle.raw_pool.specs.declared.raw_bytes.RawBytes.{RawBytes}
 use Rattle.raw_pool.specs.contracts.raw_bytes.RawBytes as row
-use Rattle.raw_pool.proofs.RawSteps.{row_val, memory, row_had, row_made}
+use Rattle.raw_pool.proofs.RawSteps.{row_val, memory, row_made}
 use Rattle.raw_pool.specs.PageMarks.{AreFree, remarked}
 use Rattle.raw_pool.specs.PagePlaces.{ArePages, Place, page_ptr}
 use Rattle.raw_pool.specs.PageOwnership.{free_from}
-use Rattle.raw_pool.proofs.PageUnits.{takes, puts_in, length-remarked}
-use Rattle.raw_pool.proofs.PageRows.{bare, none_set, unset}
+use Rattle.raw_pool.proofs.PageUnits.{takes, length-remarked}
+use Rattle.raw_pool.proofs.PageRows.{bare, none_set}
 use Rattle.raw_pool.specs.contracts.pages.memory.FreePages as free
 use Rattle.raw_pool.specs.contracts.pages.memory.FreePages.cut.{ended, clauses}
 use Rattle.raw_pool.specs.contracts.pages.memory.FreePages.cut.Key.{name as #self}

@@ -1,38 +1,34 @@
 -- `put` makes memory of a row and puts it back to the free pages. Assumes `Logic`.
-use Rattle.std.proofs.Common.{◌≡◌, ℕ, ◌+◌, ◌*◌, ◌^◌, ◌<◌, ◌≤◌, List, [], ◌∷◌, ◌++◌, length, refl, sym, ap, ◌∙◌, arith, lit<, w64}
+use Rattle.std.proofs.Common.{◌≡◌, ℕ, ◌+◌, ◌*◌, ◌^◌, ◌<◌, ◌≤◌, List, [], ◌∷◌, ◌++◌, length, refl, sym, ap, ◌∙◌, arith, w64}
 use mir.Syntax.{Fn}
-use mir.Val.{Val, vint, vptr}
+use mir.Val.{Val, vint}
 use base.Logic.{SProp, emp}
 use base.Fml.{froom}
 use prog.Wp.{Env, WpFn}
 use contract.Monad.{fact, fact_i}
 use contract.Running.{tables}
-use types.Kit.{‵, raw, ◌⊛◌, prop, at_ret, ◌$◌, ◌∵◌, !, qed, by, move, drop, use0, use1, use2, split, regoal, rewrite, fsplit, fjoin, join}
+use types.Kit.{‵, raw, ◌⊛◌, prop, ◌$◌, ◌∵◌, !, qed, by, move, drop, use0, use1, use2, split, regoal, rewrite, fsplit, fjoin}
 use types.Part.{whole, sub, agg}
-use types.Run.{stop, fld, lit, bin, of_opd, no_more, and_then, first, blocks, exec, returns, enter}
-use types.ByLocal.{alloc_all, pass_all, free_all, look_at, get, get_in, sets, sets_last, is, env}
+use types.Run.{stop, fld, of_opd, no_more, and_then, returns, enter}
+use types.ByLocal.{alloc_all, pass_all, free_all, look_at, get, get_in, sets, env}
 use denote.RattleType.{owns}
 use denote.RawPtr.{Ptr, block_ptr}
 use denote.Signature.{types_at}
 use denote.Steps.{nothing, heard}
-use denote.Struct.Tuple.{Tuple}
 use denote.Triple.Entry.{alive}
 use denote.Triple.Walked.{Stays, stay_dropped, walk_of, Goes-dropped}
 use Rattle.core.proofs.alloc.Calls.{Goes-blank}
-use Rattle.core.proofs.alloc.Shapes.{after}
-use Rattle.std_alloc.proofs.Pairs.{pair_of, pair_val}
 use Rattle.std.proofs.raw_atomic.Walks.{proved_at, leaves}
 use Rattle.linked_list_allocator.proofs.Walks.{slot_at}
 use Rattle.linked_list_allocator.proofs.Values.{list_val, list_own, list_told, list_made}
 use Rattle.raw_pool.specs.Ownership.{byte_row, row_owned}
 use Rattle.raw_pool.specs.declared.raw_bytes.RawBytes.{RawBytes}
-use Rattle.raw_pool.specs.contracts.raw_bytes.RawBytes as row
-use Rattle.raw_pool.proofs.RawSteps.{row_val, memory, row_had, row_made}
-use Rattle.raw_pool.specs.PageMarks.{AreFree, remarked}
+use Rattle.raw_pool.proofs.RawSteps.{row_val, row_had}
+use Rattle.raw_pool.specs.PageMarks.{remarked}
 use Rattle.raw_pool.specs.PagePlaces.{Place, page_ptr}
 use Rattle.raw_pool.specs.PageOwnership.{free_from}
-use Rattle.raw_pool.proofs.PageUnits.{takes, puts_in, length-remarked}
-use Rattle.raw_pool.proofs.PageRows.{bare, none_set, unset}
+use Rattle.raw_pool.proofs.PageUnits.{puts_in, length-remarked}
+use Rattle.raw_pool.proofs.PageRows.{unset}
 use Rattle.raw_pool.specs.contracts.pages.memory.FreePages as free
 use Rattle.raw_pool.specs.contracts.pages.memory.FreePages.put.{ended, clauses}
 use Rattle.raw_pool.specs.contracts.pages.memory.FreePages.put.Key.{name as #self}

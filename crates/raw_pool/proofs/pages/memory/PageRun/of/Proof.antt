@@ -1,5 +1,5 @@
 -- `of` makes memory of a row. Assumes `Logic`.
-use Rattle.std.proofs.Common.{◌≡◌, ℕ, ◌*◌, ◌^◌, ◌<◌, List, [], ◌∷◌, ◌++◌, refl, subst, sym, arith, w64}
+use Rattle.std.proofs.Common.{◌≡◌, ℕ, ◌*◌, ◌^◌, ◌<◌, List, [], ◌∷◌, ◌++◌, refl, subst, w64}
 use mir.Syntax.{Fn}
 use mir.Val.{Val, vint}
 use base.Logic.{SProp, emp}
