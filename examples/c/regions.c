@@ -1,5 +1,6 @@
 /* Cores in regions: regions of many sizes, of which the small ones are refused or run full with
- * nothing lost; two cores that share nothing; and regions of the sizes that RafkudinRoom returns. */
+ * nothing lost; two cores that share nothing, also over memory, where a block is at its address; and
+ * regions of the sizes that RafkudinRoom returns. */
 #include "points.h"
 
 #include <rafkudin_region.h>
@@ -185,13 +186,111 @@ static void try_room(uint64_t entries, uint64_t handles, uint64_t pool_pages)
     free_guarded(guarded);
 }
 
+/* ---- Cores in regions over memory ---- */
+
+#define OVER_PAGES 32
+#define OVER_FIRST 7
+
+static uint64_t make_over(struct guarded region, struct guarded memory, struct rafkudin **core)
+{
+    uint64_t record[6] = {RAFKUDIN_CONVENTIONAL, OVER_FIRST * 0x1000, 0, OVER_PAGES, 0xf, 0};
+    struct rafkudin_memory handed = {memory.region, memory.room / 0x1000};
+
+    return RafkudinMakeOverIn(region.region, region.room, handed, OVER_FIRST,
+                              (const uint8_t *)record, sizeof record, sizeof record, 1, NULL, 0,
+                              core);
+}
+
+/* Blocks of all sizes: what is written through their addresses is what the core reads. */
+static void use_over(struct rafkudin *core, struct guarded memory, uint8_t fill)
+{
+    static uint8_t bytes[OVER_PAGES * 0x1000];
+
+    for (size_t size = 1; size <= sizeof bytes - 8; size = size * 2 + 1) {
+        uint64_t address = 0;
+        uint8_t *block;
+
+        HOLDS(RafkudinAllocatePool(core, RAFKUDIN_BOOT_SERVICES_DATA, size, &address) ==
+              RAFKUDIN_SUCCESS);
+        block = memory.region + (address - OVER_FIRST * 0x1000);
+        memset(block, fill, size);
+        HOLDS(RafkudinPoolRead(core, address, bytes, size) == RAFKUDIN_SUCCESS);
+        HOLDS(memcmp(block, bytes, size) == 0);
+        memset(bytes, fill + 1, size);
+        HOLDS(RafkudinPoolWrite(core, address, bytes, size) == RAFKUDIN_SUCCESS);
+        HOLDS(memcmp(block, bytes, size) == 0);
+        HOLDS(RafkudinFreePool(core, address) == RAFKUDIN_SUCCESS);
+    }
+}
+
+static void try_over(void)
+{
+    struct guarded regions[2], memories[2];
+    struct rafkudin *cores[2] = {NULL, NULL};
+    uint64_t blocks[2] = {0, 0};
+
+    for (int i = 0; i < 2; i++) {
+        regions[i] = guarded_region(40000, (size_t)i);
+        memories[i] = guarded_region(OVER_PAGES * 0x1000, 0);
+        HOLDS(make_over(regions[i], memories[i], &cores[i]) == RAFKUDIN_SUCCESS);
+        use_over(cores[i], memories[i], (uint8_t)(10 * i + 1));
+        HOLDS(RafkudinAllocatePool(cores[i], RAFKUDIN_BOOT_SERVICES_DATA, 4000, &blocks[i]) ==
+              RAFKUDIN_SUCCESS);
+        memset(memories[i].region + (blocks[i] - OVER_FIRST * 0x1000), 0x11 * (i + 1), 4000);
+    }
+    for (int i = 0; i < 2; i++) {
+        uint8_t seen = 0;
+
+        HOLDS(RafkudinPoolRead(cores[i], blocks[i] + 3999, &seen, 1) == RAFKUDIN_SUCCESS);
+        HOLDS(seen == 0x11 * (i + 1));
+        RafkudinFree(cores[i]);
+        /* Both are their caller's again. */
+        HOLDS(make_over(regions[i], memories[i], &cores[i]) == RAFKUDIN_SUCCESS);
+        use_over(cores[i], memories[i], 3);
+        RafkudinFree(cores[i]);
+        free_guarded(regions[i]);
+        free_guarded(memories[i]);
+    }
+}
+
+/* Regions that are too small for the core over memory, or for what its pool needs beside it. */
+static void try_small_over(void)
+{
+    struct guarded memory = guarded_region(OVER_PAGES * 0x1000, 0);
+    size_t made = 0, refused = 0;
+
+    for (size_t room = 0; room < 12000; room += 113) {
+        struct guarded region = guarded_region(room, room % 16);
+        struct rafkudin *core = NULL;
+        uint64_t address = 0, status = make_over(region, memory, &core);
+
+        if (status == RAFKUDIN_SUCCESS) {
+            made++;
+            for (int i = 0; i < 40 && status == RAFKUDIN_SUCCESS; i++)
+                status = RafkudinAllocatePool(core, (uint32_t)(1 + i % 6), 3000, &address);
+            HOLDS(status == RAFKUDIN_OUT_OF_RESOURCES);
+        } else {
+            refused++;
+            HOLDS(status == RAFKUDIN_OUT_OF_RESOURCES && core == NULL);
+        }
+        free_guarded(region);
+    }
+    HOLDS(made > 10 && refused > 10);
+    free_guarded(memory);
+}
+
 static void try_null(void)
 {
     uint64_t record[6] = {RAFKUDIN_CONVENTIONAL, 0x1000, 0, 16, 0xf, 0}, number = 0;
     static uint8_t region[4096];
+    struct rafkudin_memory none = {NULL, 1}, one = {&number, 0};
     struct rafkudin *core = NULL;
     uint8_t byte = 0;
 
+    HOLDS(RafkudinMakeOverIn(region, sizeof region, none, 1, (const uint8_t *)record, 48, 48, 1,
+                             NULL, 0, &core) == RAFKUDIN_INVALID_PARAMETER);
+    HOLDS(RafkudinMakeOverIn(NULL, 4096, one, 1, (const uint8_t *)record, 48, 48, 1, NULL, 0,
+                             &core) == RAFKUDIN_INVALID_PARAMETER);
     HOLDS(make(NULL, 4096, 16, &core) == RAFKUDIN_INVALID_PARAMETER);
     HOLDS(make(region, sizeof region, 16, NULL) == RAFKUDIN_INVALID_PARAMETER);
     HOLDS(make(region, 0, 16, &core) == RAFKUDIN_OUT_OF_RESOURCES && core == NULL);
@@ -213,6 +312,8 @@ int main(void)
     try_null();
     try_sizes();
     try_two();
+    try_over();
+    try_small_over();
     for (uint64_t entries = 4; entries <= 4096; entries *= 4)
         try_room(entries, 1, 1);
     for (uint64_t handles = 4; handles <= 4096; handles *= 4)

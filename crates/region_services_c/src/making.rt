@@ -5,7 +5,8 @@ ghost use Rattle.region_services_c.specs.Rooms.{room_for};
 
 use c_machines::DriverTable;
 use page_ranges::Status;
-use region_cores::{Place, Rafkudin, make_in};
+use raw_pool::PageRun;
+use region_cores::{Place, Rafkudin, make_in, make_over};
 use region_heap::Region;
 
 /// What a core takes of its region: always, for an entry of the memory map, for a handle with 8 interfaces, and
@@ -48,6 +49,44 @@ pub extern "C" fn RafkudinMakeInRegion(
             Status::Success.number()
         }
         Err(status) => status,
+    }
+}
+
+/// The same, whose pool lies in pages of memory that are those of the machine from its page `first` on: the bytes of a
+/// block are those at its address. What is kept of each page lies in the region.
+///
+/// INVALID_PARAMETER, OUT_OF_RESOURCES: as of `RafkudinMakeInRegion`.
+#[unsafe(no_mangle)]
+pub extern "C" fn RafkudinMakeOverInRegion(
+    region: Region,
+    run: PageRun,
+    first: u64,
+    records: &[u8],
+    descriptor_size: usize,
+    granule: u64,
+    drivers: &[DriverTable],
+    core: &mut Place,
+) -> u64
+    ensures made { result ≡ 0
+        → Holds descriptor_size records.now granule drivers.now core.new.held }
+    ensures refused { 0 < result
+        → Refuses descriptor_size records.now granule drivers.now result }
+    ensures kept { 0 < result → core.new ≡ core.old }
+{
+    match make_over(
+        region,
+        run,
+        first,
+        records,
+        descriptor_size,
+        granule,
+        drivers,
+    ) {
+        Ok(made) => {
+            *core = made;
+            Status::Success.number()
+        }
+        Err(refusal) => refusal,
     }
 }
 
