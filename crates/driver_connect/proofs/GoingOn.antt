@@ -1,5 +1,5 @@
 -- A connect goes on, and is taken back.
-use Rattle.std.proofs.Common.{◌≡◌, ℕ, ◌+◌, ◌<◌, ◌≤◌, ◌==◌, nat_eq, nat_le, Bool, true, false, List, [], ◌∷◌, ◌++◌, Some, length, take, map, inl, inr, refl, sym, ap, ◌∙◌, append_assoc, append-nil, arith}
+use Rattle.std.proofs.Common.{◌≡◌, ℕ, ◌+◌, ◌<◌, ◌≤◌, ◌==◌, nat_eq, nat_le, Bool, true, false, List, [], ◌∷◌, ◌++◌, Some, length, take, inl, inr, refl, sym, ap, ◌∙◌, append_assoc, append-nil, arith}
 use Rattle.std.specs.List.{filter, list_any, AllByRecursion}
 use Rattle.std.proofs.lemmas.Bool.{cases_Bool, le-leb, lt-leb}
 use Rattle.std.proofs.Math.Seq.{take-append_seam}
@@ -14,7 +14,8 @@ use Rattle.open_agents.specs.declared.items.OpenRecord.{OpenRecord}
 use Rattle.open_agents.specs.OpenItems.{is_equal_item, with_item}
 use Rattle.open_agents.specs.OpenRule.{has_holder}
 use Rattle.driver_connect.specs.GoingOn.{GoesOn, HasMade, HasOpened}
-use Rattle.driver_connect.specs.Starting.{Progress, with_child}
+use Rattle.driver_connect.specs.Beside.{Draft}
+use Rattle.driver_connect.specs.Starting.{with_child}
 use Rattle.driver_connect.proofs.Opened.{none_equal}
 
 -- ---- handles
@@ -92,20 +93,18 @@ same_opened a b c o e = rw e o
 
 -- ---- both
 
-pub goes_nowhere : (p : Progress) → GoesOn p p
-goes_nowhere p = record { handles = made_none p.handles; opens = opened_none p.opens }
+pub goes_nowhere : (d : Draft) → GoesOn d d
+goes_nowhere d = record { handles = made_none d.handles; opens = opened_none d.opens; leaving = refl }
 
-pub goes_further : (p q r : Progress) → GoesOn p q → GoesOn q r → GoesOn p r
-goes_further p q r a b = record {
-  handles = made_further p.handles q.handles r.handles a.handles b.handles;
-  opens = opened_further p.opens q.opens r.opens a.opens b.opens;
+pub goes_further : (d e f : Draft) → GoesOn d e → GoesOn e f → GoesOn d f
+goes_further d e f a b = record {
+  handles = made_further d.handles e.handles f.handles a.handles b.handles;
+  opens = opened_further d.opens e.opens f.opens a.opens b.opens;
+  leaving = b.leaving ∙ a.leaving;
 }
 
-pub goes_by : (p q : Progress) → HasMade p.handles q.handles → HasOpened p.opens q.opens → GoesOn p q
-goes_by p q m o = record { handles = m; opens = o }
-
-pub goes_by_opens : (p q : Progress) → q.handles ≡ p.handles → HasOpened p.opens q.opens → GoesOn p q
-goes_by_opens p q e o = record { handles = rw e (made_none p.handles); opens = o }
+pub goes_by : (d e : Draft) → HasMade d.handles e.handles → HasOpened d.opens e.opens → e.leaving ≡ d.leaving → GoesOn d e
+goes_by d e m o l = record { handles = m; opens = o; leaving = l }
 
 -- ---- taken back
 

@@ -28,4 +28,5 @@ pub mod DriverLists
 pub mod TurnSteps
 pub mod StopsInOrder
 pub mod GoingOn
+pub mod Beside
 pub mod Restamped

@@ -1,5 +1,5 @@
 -- A pass over drivers, one turn after the other.
-use Rattle.std.proofs.Common.{◌≡◌, ℕ, suc, ◌+◌, ◌-◌, ◌<◌, ◌≤◌, ◌==◌, true, false, List, [], ◌∷◌, ◌++◌, map, length, drop, get_or, inl, inr, refl, sym, ap, ◌∙◌, append_assoc, append-nil, arith}
+use Rattle.std.proofs.Common.{◌≡◌, ℕ, suc, ◌+◌, ◌-◌, ◌<◌, ◌≤◌, ◌==◌, Bool, true, false, cond, Some, List, [], ◌∷◌, ◌++◌, map, length, drop, get_or, inl, inr, refl, sym, ap, ◌∙◌, append_assoc, append-nil, arith}
 use Rattle.std.specs.List.{list_all, filter, AllByRecursion}
 use Rattle.std.proofs.lemmas.Bool.{cases_Bool}
 use Rattle.std.proofs.lemmas.Bool.Decides.{eqb_tells}
@@ -15,7 +15,7 @@ use Rattle.driver_connect.specs.declared.starting.Start.{Start}
 use Rattle.driver_connect.specs.declared.view.ProtocolView.{ProtocolView}
 use Rattle.driver_connect.specs.Drivers.{Plan, protocol_view, protocols_on, is_free}
 use Rattle.driver_connect.specs.Room.{HasRoom, Grows}
-use Rattle.driver_connect.specs.Starting.{Site, Progress, Passed, can_start, has_twice, joined, turn, after_turn, starts_of, left_of, pass, passes}
+use Rattle.driver_connect.specs.Starting.{Site, Progress, Passed, can_start, carried_out, has_twice, is_carried_out, is_supported, joined, plan_for, turn, after_turn, starts_of, left_of, pass, passes}
 
 pub grows_same : (t : HandleTable) → Grows t t
 grows_same t = record { handles = omega arith; numbers = omega arith; stamps = omega arith }
@@ -89,6 +89,11 @@ turn_more c starts left agents k a p whole l e h =
 pub turns_end : (c : Site) (starts : List Start) (left : List Agent) (p : Progress) (whole : Passed) → joined starts left (pass c [] p) ≡ whole
     → (starts ≡ whole.starts) × (left ≡ whole.left) × (p ≡ whole.progress)
 turns_end c starts left p whole h = (sym (append-nil starts) ∙ ap (λ r. r.starts) h, sym (append-nil left) ∙ ap (λ r. r.left) h, ap (λ r. r.progress) h)
+
+-- what comes of a turn
+pub turn_of : (c : Site) (p : Progress) (a : Agent) (can : Bool) → is_supported c p a ≡ true → is_carried_out c p a ≡ can
+    → (Some can ≡ turn c p a) × (cond can (carried_out c.registrations c.controller a.handle (plan_for c p a) p) p ≡ after_turn c p a)
+turn_of c p a can s k = (rw (s, k) refl, rw (s, k) refl)
 
 -- ---- passes
 

@@ -11,4 +11,5 @@ pub mod StartOrder
 pub mod DriverTurns
 pub mod StopOrder
 pub mod AfterStop
+pub mod Beside
 pub mod GoingOn

@@ -2,13 +2,15 @@
 ghost use Rattle.std.specs.Prelude.{◌≡◌, ◌+◌, ◌<◌, ◌≤◌, ◌^◌, ◌++◌, true, false, [], map, IfOk, OnOk, OnErr};
 ghost use Rattle.driver_connect.specs.Connecting as spec;
 ghost use Rattle.driver_connect.specs.Connecting.{ConnectsAll, ConnectsBy};
+ghost use Rattle.driver_connect.specs.Beside.{MayLeave, reached};
 ghost use Rattle.driver_connect.specs.GoingOn.{GoesOn};
 ghost use Rattle.driver_connect.specs.Room.{HasRoom, Grows};
 ghost use Rattle.driver_connect.specs.Starting.{site_of, starts_on, is_any_carried_out as is_any};
+ghost use Rattle.driver_connect.specs.Stopping.{without_handles};
 
 use crate::driver::Driver;
 use crate::readiness::is_any_ready;
-use crate::starting::{Connecting, is_any_carried_out, run_passes};
+use crate::starting::{Connecting, Unfinished, is_any_carried_out, run_passes};
 use guid_handles::Handles;
 use open_agents::Opens;
 use page_ranges::Status;
@@ -44,7 +46,7 @@ fn made_after<A: Allocator + Copy>(
 #[cycle(levels)]
 fn connect_levels<D: Driver, A: Allocator + Copy>(
     alloc: A,
-    connecting: &mut Connecting<A>,
+    connecting: &mut Connecting<'_, A>,
     drivers: &[D],
     notify: &Notify<A>,
     controller: u64,
@@ -56,11 +58,12 @@ fn connect_levels<D: Driver, A: Allocator + Copy>(
         (λ b. b
         ≡ is_any
         (starts_on
-        (site_of D.meaning drivers.now notify.now controller) named.now connecting.old).starts) }
+        (site_of D.meaning drivers.now notify.now controller) named.now
+        (reached connecting.old)).starts) }
     ensures progress { OnOk result
-        (connecting.new
+        (reached connecting.new
         ≡ spec.connected levels
-        (site_of D.meaning drivers.now notify.now controller) named.now connecting.old) }
+        (site_of D.meaning drivers.now notify.now controller) named.now (reached connecting.old)) }
     ensures grows { OnOk result (Grows connecting.old.handles connecting.new.handles) }
     ensures goes_on { GoesOn connecting.old connecting.new }
 {
@@ -84,7 +87,7 @@ fn connect_levels<D: Driver, A: Allocator + Copy>(
 #[cycle(levels)]
 fn connect_each<D: Driver, A: Allocator + Copy>(
     alloc: A,
-    connecting: &mut Connecting<A>,
+    connecting: &mut Connecting<'_, A>,
     drivers: &[D],
     notify: &Notify<A>,
     made: &[u64],
@@ -92,8 +95,8 @@ fn connect_each<D: Driver, A: Allocator + Copy>(
 ) -> Result<(), AllocError>
     requires { HasRoom connecting.old.handles }
     ensures progress { OnOk result
-        (connecting.new ≡ spec.each_connected levels
-        (map D.meaning drivers.now) notify.now made.now connecting.old) }
+        (reached connecting.new ≡ spec.each_connected levels
+        (map D.meaning drivers.now) notify.now made.now (reached connecting.old)) }
     ensures grows { OnOk result (Grows connecting.old.handles connecting.new.handles) }
     ensures goes_on { GoesOn connecting.old connecting.new }
 {
@@ -139,7 +142,7 @@ fn connect_in_place<D: Driver, A: Allocator + Copy>(
     let number = handles.last_number();
     let stamp = handles.last_stamp();
     let items = opens.len();
-    let mut connecting = Connecting::take(alloc, handles, opens);
+    let mut connecting = Connecting::take(alloc, handles, opens, &[]);
     let levels = if recursive { LEVELS_BELOW } else { 0 };
     match connect_levels(
         alloc,
@@ -156,8 +159,7 @@ fn connect_in_place<D: Driver, A: Allocator + Copy>(
             Err(Status::NotFound)
         }
         Err(_) => {
-            connecting.take_back(number, stamp, items);
-            let _events = connecting.put_in_place(handles, opens);
+            let _why = connecting.take_back(handles, opens, number, stamp, items);
             Err(Status::OutOfResources)
         }
     }
@@ -195,22 +197,22 @@ pub fn connect<D: Driver, A: Allocator + Copy>(
     }
 }
 
-/// Connects a controller and all that is made below it, with no driver named, and appends the events to
-/// others.
+/// Connects a controller and all that is made below it, with no driver named. It returns the events
+/// given, then those of the connect.
 fn connect_all<D: Driver, A: Allocator + Copy>(
     alloc: A,
-    connecting: &mut Connecting<A>,
+    connecting: &mut Connecting<'_, A>,
     drivers: &[D],
     notify: &Notify<A>,
     controller: u64,
-    events: &mut Vec<u64, A>,
-) -> Result<(), AllocError>
+    given: &[u64],
+) -> Result<Vec<u64, A>, AllocError>
     requires { HasRoom connecting.old.handles }
     ensures progress { OnOk result
-        (connecting.new ≡ spec.connected_below
-        (site_of D.meaning drivers.now notify.now controller) connecting.old) }
-    ensures events { OnOk result
-        (events.new.items ≡ events.old.items ++ connecting.new.events) }
+        (reached connecting.new
+        ≡ spec.connected_below
+        (site_of D.meaning drivers.now notify.now controller) (reached connecting.old)) }
+    ensures events { IfOk result (λ v. v.items ≡ given.now ++ connecting.new.events) }
     ensures grows { OnOk result (Grows connecting.old.handles connecting.new.handles) }
     ensures goes_on { GoesOn connecting.old connecting.new }
 {
@@ -223,25 +225,31 @@ fn connect_all<D: Driver, A: Allocator + Copy>(
         &[],
         LEVELS_BELOW,
     )?;
+    let mut events = Vec::new(alloc);
+    events.extend_from_slice(given)?;
     events.extend_from_slice(connecting.events.as_slice())?;
-    Ok(())
+    Ok(events)
 }
 
-/// Connects a handle and all that is made below it, with no driver named. It returns the events given,
-/// then those of the connect. On an `Err` memory ran out, and nothing changes.
+/// Connects a handle and all that is made below it, with no driver named, as if some other handles had
+/// gone, which are left to be removed. It returns the events given, then those of the connect. On an
+/// `Err` nothing changes.
 pub(crate) fn connect_below<D: Driver, A: Allocator + Copy>(
     alloc: A,
     handles: &mut Handles<A>,
     opens: &mut Opens<A>,
+    leaving: &[u64],
     notify: &Notify<A>,
     drivers: &[D],
     handle: u64,
-    given: Vec<u64, A>,
-) -> Result<Vec<u64, A>, AllocError>
+    given: &[u64],
+) -> Result<Vec<u64, A>, Unfinished>
+    requires leaving { MayLeave leaving.now handles.old }
     requires numbers { handles.old.last_number < 2 ^ 61 }
     requires stamps { handles.old.last_stamp < 2 ^ 61 }
     ensures ok { IfOk result (λ events. ConnectsAll D.meaning drivers.now notify.now
-        handle handles.old opens.old given.items events.items handles.new opens.new) }
+        handle (without_handles leaving.now handles.old) opens.old given.now events.items
+        (without_handles leaving.now handles.new) opens.new) }
     ensures err { OnErr result ((handles.new ≡ handles.old) × (opens.new ≡ opens.old)) }
     ensures numbers { handles.new.last_number ≤ handles.old.last_number + 4096 }
     ensures stamps { handles.new.last_stamp ≤ handles.old.last_stamp + 16384 }
@@ -251,17 +259,12 @@ pub(crate) fn connect_below<D: Driver, A: Allocator + Copy>(
     let number = handles.last_number();
     let stamp = handles.last_stamp();
     let count = opens.len();
-    let mut events = given;
-    let mut connecting = Connecting::take(alloc, handles, opens);
-    match connect_all(alloc, &mut connecting, drivers, notify, handle, &mut events) {
-        Ok(()) => {
+    let mut connecting = Connecting::take(alloc, handles, opens, leaving);
+    match connect_all(alloc, &mut connecting, drivers, notify, handle, given) {
+        Ok(events) => {
             let _events = connecting.put_in_place(handles, opens);
             Ok(events)
         }
-        Err(error) => {
-            connecting.take_back(number, stamp, count);
-            let _events = connecting.put_in_place(handles, opens);
-            Err(error)
-        }
+        Err(_) => Err(connecting.take_back(handles, opens, number, stamp, count)),
     }
 }

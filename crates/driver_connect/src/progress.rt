@@ -2,6 +2,7 @@
 ghost use Rattle.std.specs.Prelude.{◌≡◌, ◌+◌, ◌≤◌, ◌++◌, true, false, map, length, OnOk};
 ghost use Rattle.std.specs.List.{list_all, AllByRecursion};
 ghost use Rattle.open_agents.specs.OpenRule.{has_holder};
+ghost use Rattle.guid_handles.specs.HandleTables.{HandleTable};
 ghost use Rattle.guid_handles.specs.HandleChanges.{max_handles};
 ghost use Rattle.driver_connect.specs.Drivers.{is_free};
 ghost use Rattle.driver_connect.specs.Starting as spec;
@@ -62,19 +63,18 @@ fn are_free(protocols: &[ProtocolView], guids: &[Uuid]) -> bool
     guids.iter().all(|guid| is_free(protocols, *guid))
 }
 
-/// Whether a plan can be carried out on a handle with some protocols.
-pub(crate) fn can_start<A: Allocator + Copy>(
-    handles: &Handles<A>,
-    protocols: &[ProtocolView],
-    plan: &StartPlan,
-) -> bool
-    ensures { result ≡ spec.can_start handles.now protocols.now plan.now }
+/// Whether a plan can be carried out on a handle with some protocols, where there are a number of
+/// handles.
+pub(crate) fn can_start(count: usize, protocols: &[ProtocolView], plan: &StartPlan) -> bool
+    requires { count ≤ max_handles }
+    ensures { (t : HandleTable) → count ≡ length t.handles
+        → result ≡ spec.can_start t protocols.now plan.now }
 {
     !plan.opens.is_empty()
         && !has_twice(plan.opens.as_slice())
         && are_free(protocols, plan.opens.as_slice())
         && are_children(plan.children.as_slice())
-        && handles.all().len() + plan.children.len() <= MAX_HANDLES
+        && count + plan.children.len() <= MAX_HANDLES
 }
 
 /// Opens GUIDs of a controller for a driver, in order.

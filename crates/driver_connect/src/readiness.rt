@@ -36,7 +36,11 @@ fn is_ready<D: Driver, A: Allocator + Copy>(
         protocols,
     };
     supports_at(drivers, agent.driver, &view)
-        && can_start(handles, protocols, &plan_at(drivers, agent.driver, &view))
+        && can_start(
+            handles.all().len(),
+            protocols,
+            &plan_at(drivers, agent.driver, &view),
+        )
 }
 
 /// Whether one of some agents is ready.

@@ -1,22 +1,30 @@
 //! Putting another value in place of an interface's, and connecting its handle.
-ghost use Rattle.std.specs.Prelude.{◌≡◌, ◌+◌, ◌<◌, ◌≤◌, ◌^◌, true, IfOk, OnErr};
+ghost use Rattle.std.specs.Prelude.{◌≡◌, ◌+◌, ◌<◌, ◌≤◌, ◌^◌, true, false, IfOk, OnErr};
+ghost use Rattle.std.specs.List.{AllByRecursion, list_any};
 ghost use Rattle.guid_handles.specs.HandleTables.{carries};
+ghost use Rattle.driver_connect.specs.Beside.{MayLeave};
 ghost use Rattle.driver_connect.specs.Connecting.{Reconnects};
+ghost use Rattle.driver_connect.specs.Drivers.{driver_binding as binding};
+ghost use Rattle.driver_connect.specs.Stopping.{made_by, without_handles};
 
+use crate::agents::driver_binding;
 use crate::connecting::connect_below;
 use crate::driver::Driver;
+use crate::starting::Unfinished;
+use crate::stopping::{StopPlan, remove_handles};
 use guid_handles::Handles;
 use open_agents::Opens;
 use protocol_notify::Notify;
 use std::alloc::{AllocError, Allocator};
 use uuid::Uuid;
 
-/// Gives an interface another value and a new stamp, and connects its handle with all below it, with no
-/// driver named. It returns the events given, then those of the connect. On an `Err` memory ran out, and
-/// nothing changes. No driver is shown a stamp, so the interface keeps its own until no more memory is
-/// taken.
-pub fn replace_and_connect<D: Driver, A: Allocator + Copy>(
+/// Removes some handles, gives an interface of another one another value and a new stamp, and connects
+/// its handle with all below it, with no driver named. It returns the events given, then those of the
+/// connect. On an `Err` nothing changes. No driver is shown a stamp, so the interface keeps its own until
+/// no more memory is taken, and the handles go then.
+fn replace_beside<D: Driver, A: Allocator + Copy>(
     alloc: A,
+    leaving: &[u64],
     handles: &mut Handles<A>,
     opens: &mut Opens<A>,
     notify: &Notify<A>,
@@ -24,13 +32,15 @@ pub fn replace_and_connect<D: Driver, A: Allocator + Copy>(
     handle: u64,
     guid: Uuid,
     value: u64,
-    given: Vec<u64, A>,
-) -> Result<Vec<u64, A>, AllocError>
-    requires there { carries handles.old guid handle ≡ true }
+    given: &[u64],
+) -> Result<Vec<u64, A>, Unfinished>
+    requires leaving { MayLeave leaving.now handles.old }
+    requires there { carries (without_handles leaving.now handles.old) guid handle ≡ true }
     requires numbers { handles.old.last_number < 2 ^ 61 }
     requires stamps { handles.old.last_stamp + 1 < 2 ^ 61 }
     ensures ok { IfOk result (λ e. Reconnects D.meaning drivers.now notify.now
-        handle guid value handles.old opens.old given.items e.items handles.new opens.new) }
+        handle guid value (without_handles leaving.now handles.old) opens.old given.now e.items
+        handles.new opens.new) }
     ensures err { OnErr result ((handles.new ≡ handles.old) × (opens.new ≡ opens.old)) }
     ensures numbers { handles.new.last_number ≤ handles.old.last_number + 4096 }
     ensures stamps { handles.new.last_stamp ≤ handles.old.last_stamp + 16385 }
@@ -44,8 +54,11 @@ pub fn replace_and_connect<D: Driver, A: Allocator + Copy>(
     let last_stamp = handles.last_stamp();
     handles.put(handle, guid, value, own.stamp);
     let stamp = handles.give_stamp();
-    match connect_below(alloc, handles, opens, notify, drivers, handle, given) {
+    match connect_below(
+        alloc, handles, opens, leaving, notify, drivers, handle, given,
+    ) {
         Ok(events) => {
+            remove_handles(handles, leaving);
             handles.put(handle, guid, value, stamp);
             Ok(events)
         }
@@ -54,5 +67,104 @@ pub fn replace_and_connect<D: Driver, A: Allocator + Copy>(
             handles.take_back_to(last_number, last_stamp);
             Err(error)
         }
+    }
+}
+
+/// The same, with the handles removed first, and a copy of all handles to be put back.
+fn replace_over_copy<D: Driver, A: Allocator + Copy>(
+    alloc: A,
+    leaving: &[u64],
+    handles: &mut Handles<A>,
+    opens: &mut Opens<A>,
+    notify: &Notify<A>,
+    drivers: &[D],
+    handle: u64,
+    guid: Uuid,
+    value: u64,
+    given: &[u64],
+) -> Result<Vec<u64, A>, AllocError>
+    requires there { carries (without_handles leaving.now handles.old) guid handle ≡ true }
+    requires numbers { handles.old.last_number < 2 ^ 61 }
+    requires stamps { handles.old.last_stamp + 1 < 2 ^ 61 }
+    ensures ok { IfOk result (λ e. Reconnects D.meaning drivers.now notify.now
+        handle guid value (without_handles leaving.now handles.old) opens.old given.now e.items
+        handles.new opens.new) }
+    ensures err { OnErr result ((handles.new ≡ handles.old) × (opens.new ≡ opens.old)) }
+    ensures numbers { handles.new.last_number ≤ handles.old.last_number + 4096 }
+    ensures stamps { handles.new.last_stamp ≤ handles.old.last_stamp + 16385 }
+{
+    let copy = handles.try_copy()?;
+    remove_handles(handles, leaving);
+    match replace_beside(
+        alloc,
+        &[],
+        handles,
+        opens,
+        notify,
+        drivers,
+        handle,
+        guid,
+        value,
+        given,
+    ) {
+        Ok(events) => Ok(events),
+        Err(_) => {
+            *handles = copy;
+            Err(AllocError)
+        }
+    }
+}
+
+/// Whether one of some handles is a driver's.
+fn has_driver_handle<A: Allocator + Copy>(handles: &Handles<A>, among: &[u64]) -> bool
+    ensures { result ≡ list_any (λ n. carries handles.now binding n) among.now }
+{
+    among
+        .iter()
+        .any(|n| handles.interface(*n, driver_binding()).is_some())
+}
+
+/// Removes the handles of a stop, gives an interface of a handle that stays another value and a new
+/// stamp, and connects its handle with all below it, with no driver named. It returns the events given,
+/// then those of the connect. On an `Err` memory ran out, and nothing changes.
+pub fn replace_and_connect<D: Driver, A: Allocator + Copy>(
+    alloc: A,
+    plan: &StopPlan<A>,
+    handles: &mut Handles<A>,
+    opens: &mut Opens<A>,
+    notify: &Notify<A>,
+    drivers: &[D],
+    handle: u64,
+    guid: Uuid,
+    value: u64,
+    given: &[u64],
+) -> Result<Vec<u64, A>, AllocError>
+    requires plan { plan.now.handles ≡ made_by handles.old plan.now.pairs }
+    requires there { carries (without_handles plan.now.handles handles.old) guid handle ≡ true }
+    requires numbers { handles.old.last_number < 2 ^ 61 }
+    requires stamps { handles.old.last_stamp + 1 < 2 ^ 61 }
+    ensures ok { IfOk result (λ e. Reconnects D.meaning drivers.now notify.now
+        handle guid value (without_handles plan.now.handles handles.old) opens.old given.now e.items
+        handles.new opens.new) }
+    ensures err { OnErr result ((handles.new ≡ handles.old) × (opens.new ≡ opens.old)) }
+    ensures numbers { handles.new.last_number ≤ handles.old.last_number + 4096 }
+    ensures stamps { handles.new.last_stamp ≤ handles.old.last_stamp + 16385 }
+{
+    // The contract of this look-up says that the handles are in order.
+    let _numbers = handles.all();
+    let leaving = plan.handles();
+    if has_driver_handle(handles, leaving) {
+        return replace_over_copy(
+            alloc, leaving, handles, opens, notify, drivers, handle, guid, value, given,
+        );
+    }
+    match replace_beside(
+        alloc, leaving, handles, opens, notify, drivers, handle, guid, value, given,
+    ) {
+        Ok(events) => Ok(events),
+        Err(Unfinished::OutOfMemory) => Err(AllocError),
+        Err(Unfinished::NoRoom) => replace_over_copy(
+            alloc, leaving, handles, opens, notify, drivers, handle, guid, value, given,
+        ),
     }
 }

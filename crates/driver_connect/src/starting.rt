@@ -1,11 +1,13 @@
 //! Starting drivers on one handle.
-ghost use Rattle.std.specs.Prelude.{◌≡◌, ◌≤◌, ◌++◌, [], true, false, length, take, IfOk, OnOk};
+ghost use Rattle.std.specs.Prelude.{◌≡◌, ◌≤◌, ◌++◌, true, false, length, map, take, IfOk, OnOk};
 ghost use Rattle.guid_handles.specs.HandleChanges.{max_handles};
 ghost use Rattle.guid_handles.specs.TableSteps.{AreOlder, taken_back_to};
+ghost use Rattle.driver_connect.specs.Beside.{MayLeave, first_draft, reached};
 ghost use Rattle.driver_connect.specs.GoingOn.{GoesOn};
 ghost use Rattle.driver_connect.specs.Room.{HasRoom, Grows};
 ghost use Rattle.driver_connect.specs.Starting as spec;
 ghost use Rattle.driver_connect.specs.Starting.{protocols_at, site_of};
+ghost use Rattle.driver_connect.specs.Stopping.{is_one_of};
 
 use crate::agents::{Agent, plan_at, supports_at};
 use crate::candidates::agents_for;
@@ -13,7 +15,7 @@ use crate::driver::Driver;
 use crate::progress::{can_start, make_children, open_for_driver, signal_children};
 use crate::protocols::protocols_on;
 use crate::view::{ProtocolView, StartPlan, View};
-use guid_handles::Handles;
+use guid_handles::{Handles, MAX_HANDLES};
 use open_agents::Opens;
 use protocol_notify::Notify;
 use std::alloc::{AllocError, Allocator};
@@ -28,20 +30,39 @@ pub struct Start {
     pub is_carried_out: bool,
 }
 
+/// Why a connect did not come to its end.
+#[derive(Clone, Copy)]
+pub(crate) enum Unfinished {
+    OutOfMemory,
+    /// There was no room for a plan beside the handles that go.
+    NoRoom,
+}
+
 /// How far a connect has come: the handles, the open items, and the events signaled.
 #[derive(Drop)]
-pub(crate) struct Connecting<A: Allocator> {
+pub(crate) struct Connecting<'a, A: Allocator> {
     pub(crate) handles: Handles<A>,
     pub(crate) opens: Opens<A>,
     pub(crate) events: Vec<u64, A>,
+    /// Handles that go once the connect is done. Drivers are started as if they had gone.
+    leaving: &'a [u64],
+    /// Whether there was no room for a plan only since these have not gone yet.
+    is_short: bool,
 }
 
-impl<A: Allocator> Model for Connecting<A> {
-    ghost use Rattle.driver_connect.specs.Starting.{Progress};
+impl<'a, A: Allocator> Model for Connecting<'a, A> {
+    ghost use Rattle.driver_connect.specs.Beside.{Draft, MayLeave};
 
-    ghost Value = { Progress };
+    ghost Value = { Draft };
 
-    ghost view = { λ c. record { handles = c.handles; opens = c.opens; events = c.events.items } };
+    ghost view = { λ c. record {
+      handles = c.handles;
+      opens = c.opens;
+      events = c.events.items;
+      leaving = c.leaving.now;
+    } };
+
+    ghost invariant = { λ c. MayLeave c.leaving.now c.handles };
 }
 
 /// What a pass over drivers has done: the starts made, and the drivers that are left.
@@ -51,43 +72,81 @@ pub(crate) struct Pass<A: Allocator> {
     left: Vec<Agent, A>,
 }
 
-impl<A: Allocator + Copy> Connecting<A> {
-    /// The handles and the open items themselves, to be changed. Until they are put in place there are
-    /// none. This takes no memory.
-    pub(crate) fn take(alloc: A, handles: &mut Handles<A>, opens: &mut Opens<A>) -> Connecting<A>
-        ensures { result
-            ≡ record { handles = handles.old; opens = opens.old; events = [] } }
+/// Whether a handle is among some.
+fn is_among(handles: &[u64], handle: u64) -> bool
+    ensures { result ≡ is_one_of handles.now handle }
+{
+    handles.iter().any(|n| handle == *n)
+}
+
+impl<'a, A: Allocator + Copy> Connecting<'a, A> {
+    /// The handles and the open items themselves, to be changed beside handles that go once this is done.
+    /// Until they are put in place there are none. This takes no memory.
+    pub(crate) fn take(
+        alloc: A,
+        handles: &mut Handles<A>,
+        opens: &mut Opens<A>,
+        leaving: &'a [u64],
+    ) -> Connecting<'a, A>
+        requires { MayLeave leaving.now handles.old }
+        ensures { result ≡ first_draft leaving.now handles.old opens.old }
     {
         Connecting {
             handles: mem::replace(handles, Handles::new(alloc)),
             opens: mem::replace(opens, Opens::new(alloc)),
             events: Vec::new(alloc),
+            leaving,
+            is_short: false,
         }
     }
 
     /// Takes back what was done since this number and this stamp were the last that were given and there
-    /// were this number of items. This takes no memory.
-    pub(crate) fn take_back(&mut self, number: u64, stamp: u64, items: usize)
-        requires stamp { stamp ≤ self.old.handles.last_stamp }
-        requires older { AreOlder number stamp self.old.handles }
-        ensures handles { self.new.handles ≡ taken_back_to number stamp self.old.handles }
-        ensures opens { self.new.opens ≡ take items self.old.opens }
+    /// were this number of items, and puts the handles and open items back in place. It returns why that
+    /// was not done to its end. This takes no memory.
+    pub(crate) fn take_back(
+        self,
+        handles: &mut Handles<A>,
+        opens: &mut Opens<A>,
+        number: u64,
+        stamp: u64,
+        items: usize,
+    ) -> Unfinished
+        requires stamp { stamp ≤ self.handles.last_stamp }
+        requires older { AreOlder number stamp self.handles }
+        ensures handles { handles.new ≡ taken_back_to number stamp self.entry.handles }
+        ensures opens { opens.new ≡ take items self.entry.opens }
     {
-        self.handles.take_back_to(number, stamp);
-        self.opens.truncate(items);
+        let Connecting {
+            handles: new_handles,
+            opens: new_opens,
+            events: _,
+            leaving: _,
+            is_short,
+        } = self;
+        *handles = new_handles;
+        *opens = new_opens;
+        handles.take_back_to(number, stamp);
+        opens.truncate(items);
+        if is_short {
+            Unfinished::NoRoom
+        } else {
+            Unfinished::OutOfMemory
+        }
     }
 
     /// Puts the changed handles and open items into the place of the others, and returns the events.
     pub(crate) fn put_in_place(self, handles: &mut Handles<A>, opens: &mut Opens<A>) -> Vec<u64, A>
-        ensures handles { handles.new ≡ self.handles }
-        ensures opens { opens.new ≡ self.opens }
-        ensures events { result.items ≡ self.events }
+        ensures handles { handles.new ≡ self.entry.handles }
+        ensures opens { opens.new ≡ self.entry.opens }
+        ensures events { result.items ≡ self.entry.events }
         ensures limit { length handles.new.handles ≤ max_handles }
     {
         let Connecting {
             handles: new_handles,
             opens: new_opens,
             events,
+            leaving: _,
+            is_short: _,
         } = self;
         let _count = new_handles.all().len();
         *handles = new_handles;
@@ -95,7 +154,40 @@ impl<A: Allocator + Copy> Connecting<A> {
         events
     }
 
-    /// Carries out a plan that can be.
+    /// How many handles there are that stay.
+    fn count(&self) -> usize
+        ensures count { result ≡ length (reached self.now).handles.handles }
+        ensures limit { result ≤ max_handles }
+    {
+        self.handles.all().len() - self.leaving.len()
+    }
+
+    /// The protocols on a handle. One that goes has none any more.
+    fn protocols_on(&self, alloc: A, handle: u64) -> Result<Vec<ProtocolView, A>, AllocError>
+        ensures { IfOk result (λ v. v.items ≡ protocols_at (reached self.now) handle) }
+    {
+        if is_among(self.leaving, handle) {
+            return Ok(Vec::new(alloc));
+        }
+        protocols_on(alloc, &self.handles, &self.opens, handle)
+    }
+
+    /// The drivers to be tried on a handle: those named, and then all others by version.
+    fn agents<D: Driver>(
+        &self,
+        alloc: A,
+        drivers: &[D],
+        named: &[u64],
+    ) -> Result<Vec<Agent, A>, AllocError>
+        ensures { IfOk result
+            (λ v. v.items
+            ≡ spec.agents_for (map D.meaning drivers.now) (reached self.now).handles named.now) }
+    {
+        agents_for(alloc, drivers, &self.handles, named)
+    }
+
+    /// Carries out a plan that can be. On an `Err` memory ran out, or there was no room for its children
+    /// beside the handles that go.
     fn carry_out(
         &mut self,
         notify: &Notify<A>,
@@ -104,13 +196,18 @@ impl<A: Allocator + Copy> Connecting<A> {
         plan: &StartPlan,
     ) -> Result<(), AllocError>
         requires room { HasRoom self.old.handles }
-        requires can { spec.can_start self.old.handles
-            (protocols_at self.old controller) plan.now ≡ true }
+        requires can { spec.can_start (reached self.old).handles
+            (protocols_at (reached self.old) controller) plan.now ≡ true }
         ensures progress { OnOk result
-            (self.new ≡ spec.carried_out notify.now controller agent plan.now self.old) }
+            (reached self.new
+            ≡ spec.carried_out notify.now controller agent plan.now (reached self.old)) }
         ensures grows { OnOk result (Grows self.old.handles self.new.handles) }
         ensures goes_on { GoesOn self.old self.new }
     {
+        if self.handles.all().len() + plan.children.len() > MAX_HANDLES {
+            self.is_short = true;
+            return Err(AllocError);
+        }
         open_for_driver(&mut self.opens, controller, agent, plan.opens.as_slice())?;
         make_children(
             &mut self.handles,
@@ -125,7 +222,7 @@ impl<A: Allocator + Copy> Connecting<A> {
 /// Starts an agent's driver if it is supported on the controller, whose protocols are given, and
 /// returns whether the start was carried out. It returns none where the driver is not supported.
 fn take_turn<D: Driver, A: Allocator + Copy>(
-    connecting: &mut Connecting<A>,
+    connecting: &mut Connecting<'_, A>,
     drivers: &[D],
     notify: &Notify<A>,
     controller: u64,
@@ -133,15 +230,15 @@ fn take_turn<D: Driver, A: Allocator + Copy>(
     protocols: &[ProtocolView],
 ) -> Result<Option<bool>, AllocError>
     requires room { HasRoom connecting.old.handles }
-    requires protocols { protocols.now ≡ protocols_at connecting.old controller }
+    requires protocols { protocols.now ≡ protocols_at (reached connecting.old) controller }
     ensures turn { IfOk result
         (λ t. t
-        ≡ spec.turn (site_of D.meaning drivers.now notify.now controller) connecting.old
+        ≡ spec.turn (site_of D.meaning drivers.now notify.now controller) (reached connecting.old)
         agent.now) }
     ensures progress { OnOk result
-        (connecting.new
+        (reached connecting.new
         ≡ spec.after_turn
-        (site_of D.meaning drivers.now notify.now controller) connecting.old agent.now) }
+        (site_of D.meaning drivers.now notify.now controller) (reached connecting.old) agent.now) }
     ensures stays { IfOk result (λ t. spec.is_change t ≡ false → connecting.new ≡ connecting.old) }
     ensures grows { OnOk result (Grows connecting.old.handles connecting.new.handles) }
     ensures goes_on { GoesOn connecting.old connecting.new }
@@ -155,7 +252,7 @@ fn take_turn<D: Driver, A: Allocator + Copy>(
         return Ok(None);
     }
     let plan = plan_at(drivers, agent.driver, &view);
-    if !can_start(&connecting.handles, protocols, &plan) {
+    if !can_start(connecting.count(), protocols, &plan) {
         return Ok(Some(false));
     }
     connecting.carry_out(notify, controller, agent.handle, &plan)?;
@@ -165,17 +262,17 @@ fn take_turn<D: Driver, A: Allocator + Copy>(
 /// The protocols on a controller after a turn, where those before it are given.
 fn refreshed<A: Allocator + Copy>(
     alloc: A,
-    connecting: &Connecting<A>,
+    connecting: &Connecting<'_, A>,
     controller: u64,
     protocols: Vec<ProtocolView, A>,
     turn: Option<bool>,
 ) -> Result<Vec<ProtocolView, A>, AllocError>
     requires { spec.is_change turn ≡ false
-        → protocols.items ≡ protocols_at connecting.now controller }
-    ensures { IfOk result (λ v. v.items ≡ protocols_at connecting.now controller) }
+        → protocols.items ≡ protocols_at (reached connecting.now) controller }
+    ensures { IfOk result (λ v. v.items ≡ protocols_at (reached connecting.now) controller) }
 {
     match turn {
-        Some(true) => protocols_on(alloc, &connecting.handles, &connecting.opens, controller),
+        Some(true) => connecting.protocols_on(alloc, controller),
         _ => Ok(protocols),
     }
 }
@@ -202,7 +299,7 @@ impl<A: Allocator + Copy> Pass<A> {
 /// Starts each of some drivers in turn that is supported on a controller.
 fn run_pass<D: Driver, A: Allocator + Copy>(
     alloc: A,
-    connecting: &mut Connecting<A>,
+    connecting: &mut Connecting<'_, A>,
     drivers: &[D],
     notify: &Notify<A>,
     controller: u64,
@@ -213,17 +310,17 @@ fn run_pass<D: Driver, A: Allocator + Copy>(
         (λ p. p.starts.items
         ≡ (spec.pass
         (site_of D.meaning drivers.now notify.now controller) agents.now
-        connecting.old).starts) }
+        (reached connecting.old)).starts) }
     ensures left { IfOk result
         (λ p. p.left.items
         ≡ (spec.pass
         (site_of D.meaning drivers.now notify.now controller) agents.now
-        connecting.old).left) }
+        (reached connecting.old)).left) }
     ensures progress { OnOk result
-        (connecting.new
+        (reached connecting.new
         ≡ (spec.pass
         (site_of D.meaning drivers.now notify.now controller) agents.now
-        connecting.old).progress) }
+        (reached connecting.old)).progress) }
     ensures grows { OnOk result (Grows connecting.old.handles connecting.new.handles) }
     ensures goes_on { GoesOn connecting.old connecting.new }
 {
@@ -231,7 +328,7 @@ fn run_pass<D: Driver, A: Allocator + Copy>(
         starts: Vec::new(alloc),
         left: Vec::new(alloc),
     };
-    let mut protocols = protocols_on(alloc, &connecting.handles, &connecting.opens, controller)?;
+    let mut protocols = connecting.protocols_on(alloc, controller)?;
     for agent in agents {
         let turn = take_turn(
             connecting,
@@ -253,7 +350,7 @@ fn run_pass<D: Driver, A: Allocator + Copy>(
 #[inline(never)]
 pub(crate) fn run_passes<D: Driver, A: Allocator + Copy>(
     alloc: A,
-    connecting: &mut Connecting<A>,
+    connecting: &mut Connecting<'_, A>,
     drivers: &[D],
     notify: &Notify<A>,
     controller: u64,
@@ -264,16 +361,16 @@ pub(crate) fn run_passes<D: Driver, A: Allocator + Copy>(
         (λ v. v.items
         ≡ (spec.starts_on
         (site_of D.meaning drivers.now notify.now controller) named.now
-        connecting.old).starts) }
+        (reached connecting.old)).starts) }
     ensures progress { OnOk result
-        (connecting.new
+        (reached connecting.new
         ≡ (spec.starts_on
         (site_of D.meaning drivers.now notify.now controller) named.now
-        connecting.old).progress) }
+        (reached connecting.old)).progress) }
     ensures grows { OnOk result (Grows connecting.old.handles connecting.new.handles) }
     ensures goes_on { GoesOn connecting.old connecting.new }
 {
-    let agents = agents_for(alloc, drivers, &connecting.handles, named)?;
+    let agents = connecting.agents(alloc, drivers, named)?;
     run_passes_over(alloc, connecting, drivers, notify, controller, agents)
 }
 
@@ -281,7 +378,7 @@ pub(crate) fn run_passes<D: Driver, A: Allocator + Copy>(
 /// none.
 fn run_passes_over<D: Driver, A: Allocator + Copy>(
     alloc: A,
-    connecting: &mut Connecting<A>,
+    connecting: &mut Connecting<'_, A>,
     drivers: &[D],
     notify: &Notify<A>,
     controller: u64,
@@ -292,12 +389,12 @@ fn run_passes_over<D: Driver, A: Allocator + Copy>(
         (λ v. v.items
         ≡ (spec.all_passes
         (site_of D.meaning drivers.now notify.now controller) agents.items
-        connecting.old).starts) }
+        (reached connecting.old)).starts) }
     ensures progress { OnOk result
-        (connecting.new
+        (reached connecting.new
         ≡ (spec.all_passes
         (site_of D.meaning drivers.now notify.now controller) agents.items
-        connecting.old).progress) }
+        (reached connecting.old)).progress) }
     ensures grows { OnOk result (Grows connecting.old.handles connecting.new.handles) }
     ensures goes_on { GoesOn connecting.old connecting.new }
 {

@@ -171,15 +171,22 @@ fn can_be_stopped<D: Driver, A: Allocator + Copy>(
     )
 }
 
-/// Removes handles with their interfaces, and the items that name them. Of ascending handles the
-/// last goes first, so that few are left behind one that goes.
-fn take_handles<A: Allocator + Copy>(handles: &mut Handles<A>, opens: &mut Opens<A>, made: &[u64])
-    ensures handles { handles.new ≡ spec.without_handles made.now handles.old }
-    ensures opens { opens.new ≡ without_items (spec.names_any made.now) opens.old }
+/// Removes handles with their interfaces. Of ascending handles the last goes first, so that few are
+/// left behind one that goes.
+pub(crate) fn remove_handles<A: Allocator + Copy>(handles: &mut Handles<A>, leaving: &[u64])
+    ensures { handles.new ≡ spec.without_handles leaving.now handles.old }
 {
-    for at in (0..made.len()).rev() {
-        handles.remove_handle(made[at]);
-        opens.drop_handle(made[at]);
+    for at in (0..leaving.len()).rev() {
+        handles.remove_handle(leaving[at]);
+    }
+}
+
+/// Removes the items that name one of some handles.
+fn take_naming<A: Allocator + Copy>(opens: &mut Opens<A>, leaving: &[u64])
+    ensures { opens.new ≡ without_items (spec.names_any leaving.now) opens.old }
+{
+    for at in (0..leaving.len()).rev() {
+        opens.drop_handle(leaving[at]);
     }
 }
 
@@ -246,6 +253,13 @@ impl<A: Allocator + Copy> StopPlan<A> {
         self.pairs.as_slice()
     }
 
+    /// The handles that the stop removes.
+    pub(crate) fn handles(&self) -> &[u64]
+        ensures { result.now ≡ self.now.handles }
+    {
+        self.handles.as_slice()
+    }
+
     /// Whether the stop removes a handle.
     pub fn takes_handles(&self) -> bool
         ensures { result ≡ false → self.now.handles ≡ [] }
@@ -283,14 +297,29 @@ impl<A: Allocator + Copy> StopPlan<A> {
         can_be_stopped(alloc, drivers, handles, opens, &self.pairs, handle, opener)
     }
 
+    /// Removes the handles with their interfaces. This takes no memory.
+    pub fn take_handles(&self, handles: &mut Handles<A>)
+        ensures { handles.new ≡ spec.without_handles self.now.handles handles.old }
+    {
+        remove_handles(handles, self.handles.as_slice());
+    }
+
+    /// Removes the items that name the handles, and those of the pairs. This takes no memory.
+    pub fn take_items(&self, opens: &mut Opens<A>)
+        ensures { opens.new ≡ spec.without_opens self.now.handles self.now.pairs opens.old }
+    {
+        take_naming(opens, self.handles.as_slice());
+        take_pairs(opens, self.pairs.as_slice());
+    }
+
     /// Removes the handles with their interfaces, the items that name them, and those of the pairs. This takes no
     /// memory.
     pub fn carry_out(&self, handles: &mut Handles<A>, opens: &mut Opens<A>)
         ensures handles { handles.new ≡ spec.without_handles self.now.handles handles.old }
         ensures opens { opens.new ≡ spec.without_opens self.now.handles self.now.pairs opens.old }
     {
-        take_handles(handles, opens, self.handles.as_slice());
-        take_pairs(opens, self.pairs.as_slice());
+        self.take_handles(handles);
+        self.take_items(opens);
     }
 }
 

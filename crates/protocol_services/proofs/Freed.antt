@@ -21,13 +21,11 @@ use Rattle.driver_connect.specs.Stopping.{PlannedStop, planned_stop, takes_item,
 use Rattle.driver_connect.specs.Connecting.{ConnectsBelow, first_progress, levels_below}
 use Rattle.driver_connect.specs.Readiness.{is_any_ready}
 use Rattle.driver_connect.proofs.Counts.{connect_counts}
-use Rattle.driver_connect.proofs.Filters.{handles_none}
 use Rattle.driver_connect.proofs.Idle.{idle_connect}
 use Rattle.driver_connect.proofs.PlannedStops.{added_first, kept_left, opener_spared}
 use Rattle.driver_connect.proofs.Ready.{ready_start}
 use Rattle.protocol_services.specs.Lists.{Lists, IsRaised}
 use Rattle.protocol_services.specs.Opening.{OpensAs, opened_value}
-use Rattle.protocol_services.specs.Saved.{Saved, put_back, saved_of}
 use Rattle.protocol_services.specs.Stopping.{can_stop}
 use Rattle.protocol_services.specs.Removing.{Reinstalls, Replaces, can_be_freed, drivers_on, freed, is_value, once_freed, reconnected, removal_refusal, replaced, uninstalled, with_progress, without_dead}
 use Rattle.protocol_services.proofs.OpenCounts.{CountUpTo, one_higher, opened_counts}
@@ -321,20 +319,18 @@ pub freed_raised_or_not : {A : Type 0} {E : Type 0} (ds : List Meaning) (l new :
 freed_raised_or_not ds l new plan handle guid value given (Ok events) t opens p h o c r numbers stamps = connected_freed_raised ds l new plan handle guid value given events.items t opens p h o c r numbers stamps
 freed_raised_or_not ds l new plan handle guid value given (Err error) t opens p h o c r numbers stamps = tt
 
-pub handles_left : {R : Type 0} {E : Type 0} (result : Result R E) (t left new : HandleTable) (opens old : List OpenRecord) → t ≡ left → OnErr result ((new ≡ t) × (opens ≡ old)) → OnErr result (new ≡ left)
-handles_left (Ok returned) t left new opens old e h = tt
-handles_left (Err error) t left new opens old e h = h.0 ∙ e
+pub handles_left : {R : Type 0} {E : Type 0} (result : Result R E) (t new : HandleTable) (opens old : List OpenRecord) → OnErr result ((new ≡ t) × (opens ≡ old)) → OnErr result (new ≡ t)
+handles_left (Ok returned) t new opens old h = tt
+handles_left (Err error) t new opens old h = h.0
+
+-- the handles of a stop are those that its pairs made
+pub planned_made : (t : HandleTable) (opens : List OpenRecord) (pairs : List (ℕ × ℕ)) (plan : PlannedStop) → plan ≡ planned_stop t opens pairs → plan.handles ≡ made_by t plan.pairs
+planned_made t opens pairs plan p = rw p refl
 
 -- ---- what is put back
 
-pub opens_back : (l left : Lists) (plan : PlannedStop) (opens : List OpenRecord) → plan.handles ≡ [] → left.handles ≡ without_handles plan.handles l.handles → left.registrations ≡ l.registrations → opens ≡ l.opens
-    → record left { opens = opens } ≡ l
-opens_back l left plan opens none h r o =
-    let handles : left.handles ≡ l.handles = h ∙ ap (λ (ns : List ℕ). without_handles ns l.handles) none ∙ sym (handles_none l.handles) in
-    rw (handles, r, o) refl
-
-pub copies_back : (l left : Lists) (saved : Saved) → saved ≡ saved_of l → left.registrations ≡ l.registrations → put_back saved left ≡ l
-copies_back l left saved e r = rw (e, r) refl
+pub opens_back : (l left : Lists) (opens : List OpenRecord) → left.handles ≡ l.handles → left.registrations ≡ l.registrations → opens ≡ l.opens → record left { opens = opens } ≡ l
+opens_back l left opens h r o = rw (h, r, o) refl
 
 pub reinstalls : {A : Type 0} (ds : List Meaning) (l new : Lists) (handle : ℕ) (guid : List ℕ) (old value : ℕ) (events : Vec ℕ A) → removal_refusal l.handles handle guid old ≡ None → can_be_freed ds l handle guid ≡ true
     → Replaces ds handle guid value (freed handle guid l) events new → Reinstalls ds l handle guid old value (Ok events) new

@@ -1,5 +1,5 @@
 //! Uninstalling and reinstalling interfaces.
-ghost use Rattle.std.specs.Prelude.{◌≡◌, ◌<◌, ◌^◌, [], true, map, IfOk, OnOk, OnErr};
+ghost use Rattle.std.specs.Prelude.{◌≡◌, ◌<◌, ◌^◌, true, map, IfOk, OnOk, OnErr};
 ghost use Rattle.std.specs.List.{list_any};
 ghost use Rattle.guid_handles.specs.HandleTables.{carries, value_at};
 ghost use Rattle.guid_handles.specs.HandleChanges.{IsHandleTable};
@@ -82,6 +82,20 @@ fn keeps(attributes: u32) -> bool
     attributes == BY_CHILD_CONTROLLER || attributes == EXCLUSIVE
 }
 
+/// Removes the items that go with the stop that frees an interface, and those that are left on it. This
+/// takes no memory.
+fn free_items<A: Allocator + Copy>(
+    plan: &StopPlan<A>,
+    opens: &mut Opens<A>,
+    handle: u64,
+    guid: Uuid,
+)
+    ensures { opens.new ≡ without_items (is_open_on handle guid) (opens_left plan.now opens.old) }
+{
+    plan.take_items(opens);
+    opens.drop_interface(handle, guid);
+}
+
 /// Carries out the stop that frees an interface, and removes the items that are left on it. This
 /// takes no memory.
 fn free<A: Allocator + Copy>(
@@ -95,8 +109,8 @@ fn free<A: Allocator + Copy>(
     ensures opens { opens.new
         ≡ without_items (is_open_on handle guid) (opens_left plan.now opens.old) }
 {
-    plan.carry_out(handles, opens);
-    opens.drop_interface(handle, guid);
+    plan.take_handles(handles);
+    free_items(plan, opens, handle, guid);
 }
 
 /// Removes the items of an interface, which are not looked for where there are none.
@@ -299,8 +313,8 @@ impl<A: Allocator + Copy> Protocols<A> {
     }
 
     /// Frees an interface, gives it another value and connects its handle with all below it. It returns
-    /// the events given, then those of the connect. On an `Err` memory ran out, and what the stop removed
-    /// is gone.
+    /// the events given, then those of the connect. On an `Err` memory ran out, and the open items that the
+    /// stop removed are gone.
     fn free_and_connect<D: Driver>(
         &mut self,
         plan: &StopPlan<A>,
@@ -317,13 +331,13 @@ impl<A: Allocator + Copy> Protocols<A> {
         ensures ok { FreesAndReplaces
             D.meaning drivers.now self.old handle guid value result self.new }
         ensures raised { OnOk result (IsRaised self.old self.new) }
-        ensures handles { OnErr result
-            (self.new.handles ≡ without_handles plan.now.handles self.old.handles) }
+        ensures handles { OnErr result (self.new.handles ≡ self.old.handles) }
         ensures registrations { self.new.registrations ≡ self.old.registrations }
     {
-        free(plan, &mut self.handles, &mut self.opens, handle, guid);
+        free_items(plan, &mut self.opens, handle, guid);
         replace_and_connect(
             self.alloc,
+            plan,
             &mut self.handles,
             &mut self.opens,
             &self.registrations,
@@ -331,73 +345,13 @@ impl<A: Allocator + Copy> Protocols<A> {
             handle,
             guid,
             value,
-            given,
+            given.as_slice(),
         )
     }
 
-    /// Frees an interface by a stop that no handle goes with, gives it another value and connects its
-    /// handle with all below it. It returns the events of the GUID, then those of the connect. On an `Err`
-    /// nothing changes: a copy of the open items is put back.
-    fn connect_with_opens<D: Driver>(
-        &mut self,
-        plan: &StopPlan<A>,
-        drivers: &[D],
-        handle: u64,
-        guid: Uuid,
-        value: u64,
-    ) -> Result<Vec<u64, A>, AllocError>
-        requires plan { plan.now ≡ stop_to_free self.old handle guid }
-        requires there { carries (spec.freed handle guid self.old).handles guid handle ≡ true }
-        requires room { spec.HasRoomToReinstall self.old }
-        requires none { plan.now.handles ≡ [] }
-        ensures ok { FreesAndReplaces
-            D.meaning drivers.now self.old handle guid value result self.new }
-        ensures err { OnErr result (self.new ≡ self.old) }
-        ensures raised { IsRaised self.old self.new }
-    {
-        let events = self.registrations.signaled(guid)?;
-        let opens = self.opens.try_copy()?;
-        match self.free_and_connect(plan, drivers, handle, guid, value, events) {
-            Ok(events) => Ok(events),
-            Err(error) => {
-                self.put_opens_back(opens);
-                Err(error)
-            }
-        }
-    }
-
     /// Frees an interface, gives it another value and connects its handle with all below it. It returns
-    /// the events of the GUID, then those of the connect. On an `Err` nothing changes: copies of the handles
-    /// and the open items are put back.
-    fn connect_with_copies<D: Driver>(
-        &mut self,
-        plan: &StopPlan<A>,
-        drivers: &[D],
-        handle: u64,
-        guid: Uuid,
-        value: u64,
-    ) -> Result<Vec<u64, A>, AllocError>
-        requires plan { plan.now ≡ stop_to_free self.old handle guid }
-        requires there { carries (spec.freed handle guid self.old).handles guid handle ≡ true }
-        requires room { spec.HasRoomToReinstall self.old }
-        ensures ok { FreesAndReplaces
-            D.meaning drivers.now self.old handle guid value result self.new }
-        ensures err { OnErr result (self.new ≡ self.old) }
-        ensures raised { IsRaised self.old self.new }
-    {
-        let events = self.registrations.signaled(guid)?;
-        let saved = self.saved()?;
-        match self.free_and_connect(plan, drivers, handle, guid, value, events) {
-            Ok(events) => Ok(events),
-            Err(error) => {
-                self.put_back(saved);
-                Err(error)
-            }
-        }
-    }
-
-    /// Frees an interface, gives it another value and connects its handle with all below it. It returns
-    /// the events of the GUID, then those of the connect. On an `Err` nothing changes.
+    /// the events of the GUID, then those of the connect. On an `Err` nothing changes: a copy of the open
+    /// items is put back.
     fn replace_and_connect<D: Driver>(
         &mut self,
         plan: &StopPlan<A>,
@@ -414,10 +368,14 @@ impl<A: Allocator + Copy> Protocols<A> {
         ensures err { OnErr result (self.new ≡ self.old) }
         ensures raised { IsRaised self.old self.new }
     {
-        if plan.takes_handles() {
-            self.connect_with_copies(plan, drivers, handle, guid, value)
-        } else {
-            self.connect_with_opens(plan, drivers, handle, guid, value)
+        let given = self.registrations.signaled(guid)?;
+        let opens = self.opens.try_copy()?;
+        match self.free_and_connect(plan, drivers, handle, guid, value, given) {
+            Ok(events) => Ok(events),
+            Err(error) => {
+                self.put_opens_back(opens);
+                Err(error)
+            }
         }
     }
 }
