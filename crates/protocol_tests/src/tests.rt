@@ -68,12 +68,14 @@ fn status_of<A: Allocator>(rt: &impl Abort, reply: &Reply<A>) -> Status {
         | Reply::RegisterProtocolNotify(Ok(_))
         | Reply::ConnectController(Ok(_))
         | Reply::DisconnectController(Ok(()))
+        | Reply::ReinstallProtocolInterface(Ok(_))
         | Reply::UninstallProtocolInterface(Ok(())) => Status::Success,
         Reply::InstallProtocolInterface(Err(status))
         | Reply::OpenProtocol(Err(status))
         | Reply::RegisterProtocolNotify(Err(status))
         | Reply::ConnectController(Err(status))
         | Reply::DisconnectController(Err(status))
+        | Reply::ReinstallProtocolInterface(Err(status))
         | Reply::UninstallProtocolInterface(Err(status)) => *status,
         _ => panic!(rt; "a reply of another call"),
     }

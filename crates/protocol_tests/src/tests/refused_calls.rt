@@ -1,8 +1,8 @@
 //! Calls on handles over memory that is refused, each allocation in turn, as the lists grow.
-use super::drivers::{BINDING, guid, opening, table};
+use super::drivers::{BINDING, add_children, guid, opening, table};
 use super::{small_machine, status_of};
 use boot_core::{Call, CallHandles, Core, Machine};
-use driver_connect::TableDriver;
+use driver_connect::{StartPlan, TableDriver};
 use page_ranges::Status;
 use refusing_memory::Refusing;
 use std::alloc::{Allocator, Global};
@@ -18,16 +18,23 @@ const ROUNDS: u64 = 70;
 /// The GUID that the driver opens.
 const DRIVEN: u8 = 1;
 
-/// A core with a driver that opens a GUID.
-fn core_on<'a>(rt: &(impl AllocGlobal + Abort), heap: &'a Refusing<Global>) -> RefusedCore<'a> {
+/// A core with a driver that needs a GUID and has a plan.
+fn core_with<'a>(
+    rt: &(impl AllocGlobal + Abort),
+    heap: &'a Refusing<Global>,
+    plan: StartPlan,
+) -> RefusedCore<'a> {
     let machine = small_machine(rt);
     let runs = Vec::from_slice(heap, machine.runs()).expect(rt, "memory");
     let machine = Machine::new(runs, 1).expect(rt, "a machine");
     let mut drivers = Vec::new(heap);
-    drivers
-        .push(table(1, DRIVEN, opening(DRIVEN)))
-        .expect(rt, "memory");
+    drivers.push(table(1, DRIVEN, plan)).expect(rt, "memory");
     Core::new(heap, machine, drivers).expect(rt, "memory")
+}
+
+/// A core with a driver that opens a GUID.
+fn core_on<'a>(rt: &(impl AllocGlobal + Abort), heap: &'a Refusing<Global>) -> RefusedCore<'a> {
+    core_with(rt, heap, opening(DRIVEN))
 }
 
 /// A number behind another one.
@@ -202,4 +209,52 @@ fn refused_uninstallations(rt: HostRuntime) {
         let count = refusals_of(&rt, &heap, &mut core, &uninstall_of(handle));
         assert!(rt; (count > 0) == (handle % 2 == 0), "{count}");
     }
+}
+
+/// A reinstallation of the interface of a handle, with another value.
+fn reinstall_of<A: Allocator>(handle: u64) -> Call<A> {
+    Call::ReinstallProtocolInterface {
+        handle,
+        guid: guid(DRIVEN),
+        old_value: 0,
+        new_value: handle,
+    }
+}
+
+/// Reinstallations that stop a driver with a plan and start it again, on a number of handles one after the other.
+fn refuse_reinstallations(rt: &(impl AllocGlobal + Abort), plan: StartPlan, handles: u64) {
+    let heap = Refusing::new(rt.alloc());
+    let mut core = core_with(rt, &heap, plan);
+    install(rt, &mut core, BINDING);
+    for _ in 0..handles {
+        install(rt, &mut core, DRIVEN);
+    }
+    for handle in 2..handles.saturating_add(2) {
+        connect(rt, &heap, &mut core, handle);
+    }
+    for handle in 2..handles.saturating_add(2) {
+        let count = refusals_of(rt, &heap, &mut core, &reinstall_of(handle));
+        assert!(rt; count > 0, "{handle}");
+    }
+}
+
+#[test]
+fn refused_reinstallations(rt: HostRuntime) {
+    refuse_reinstallations(&rt, opening(DRIVEN), ROUNDS);
+}
+
+/// The child of the driver goes with its stop, and another one is made.
+#[test]
+fn refused_reinstallations_with_children(rt: HostRuntime) {
+    let mut plan = opening(DRIVEN);
+    add_children(&mut plan, 3, &[7]);
+    refuse_reinstallations(&rt, plan, ROUNDS);
+}
+
+/// The child carries the driver binding protocol, so all handles are copied.
+#[test]
+fn refused_reinstallations_with_drivers(rt: HostRuntime) {
+    let mut plan = opening(DRIVEN);
+    add_children(&mut plan, BINDING, &[0]);
+    refuse_reinstallations(&rt, plan, 10);
 }
