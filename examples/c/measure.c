@@ -7,6 +7,7 @@
  * allocations, of mixed types and sizes), crowded-65536 (of descriptors, where a request finds no
  * place), pool-10000 (of blocks), handles-64, handles-1024 or handles-4096 (of handles),
  * drivers-64, drivers-1024 or drivers-4096 (of handles, on which a driver is started and stopped),
+ * children-64 or children-4096 (of handles, where that driver makes a child),
  * questions-64, questions-1024 or questions-4096 (of handles and blocks, which are asked for one by
  * one), keys-10000 (of registrations), paths-4000 or vain-paths-4000 (of handles with device paths
  * of nearly as many nodes as the one of 60,000 that is looked for, which take 1 GB), or chain-4096
@@ -484,6 +485,19 @@ static void run_drivers(struct load *load, size_t handles)
     time_calls(load, "stop", "UninstallProtocolInterface", driven, take_driven_out);
 }
 
+/* The same drivers with a child each, which goes as its driver is stopped. One handle more can be made. */
+static void run_children(struct load *load, size_t handles)
+{
+    size_t driven = least_of(handles / 4, MAX_DRIVEN);
+
+    install_driver(load);
+    time_calls(load, "install", "InstallMultipleProtocolInterfaces", handles - 2 - driven,
+               install_controller);
+    time_calls(load, "start", "ConnectController", driven, start_driver);
+    time_calls(load, "restart", "ReinstallProtocolInterface", driven, reinstall_driven);
+    time_calls(load, "stop", "DisconnectController", driven, stop_driver);
+}
+
 /* Registers for a kind. Keys count up from 1. */
 static bool register_kind(struct load *load, size_t number)
 {
@@ -521,8 +535,9 @@ static void run_keys(struct load *load, size_t keys)
 }
 
 /* The machine's driver: it needs an interface of a kind, and opens it. Where it makes a child, that
- * has such an interface too. */
-static void add_driver(struct machine *machine, const struct rafkudin_guid *kind, bool makes_child)
+ * has an interface of a kind too. */
+static void add_driver(struct machine *machine, const struct rafkudin_guid *kind,
+                       const struct rafkudin_guid *child)
 {
     struct rafkudin_driver driver = {0};
 
@@ -530,9 +545,11 @@ static void add_driver(struct machine *machine, const struct rafkudin_guid *kind
     driver.stops = true;
     driver.needs[0] = driver.opens[0] = *kind;
     driver.needs_count = driver.opens_count = 1;
-    driver.children[0].interfaces[0].guid = *kind;
-    driver.children[0].count = 1;
-    driver.children_count = makes_child;
+    if (child != NULL) {
+        driver.children[0].interfaces[0].guid = *child;
+        driver.children[0].count = 1;
+        driver.children_count = 1;
+    }
     machine->drivers[0] = driver;
     machine->driver_count = 1;
 }
@@ -617,6 +634,8 @@ static const struct {
     {"drivers-64", run_drivers, make_machine, 64, 15},
     {"drivers-1024", run_drivers, make_machine, 1024, 9},
     {"drivers-4096", run_drivers, make_machine, 4096, 5},
+    {"children-64", run_children, make_machine, 64, 15},
+    {"children-4096", run_children, make_machine, 4096, 5},
     {"questions-64", run_questions, make_machine, 64, 15},
     {"questions-1024", run_questions, make_machine, 1024, 9},
     {"questions-4096", run_questions, make_machine, 4096, 5},
@@ -625,6 +644,15 @@ static const struct {
     {"vain-paths-4000", run_vain_paths, make_large_machine, 4000, 1},
     {"chain-4096", run_chain, make_machine, 4096, 3},
 };
+
+/* The kind of the child that the driver of a load makes, if it makes one. In a chain the driver is
+ * started on it. */
+static const struct rafkudin_guid *child_kind(const struct load *load, size_t index)
+{
+    if (loads[index].run == run_chain)
+        return &load->kinds[KINDS];
+    return loads[index].run == run_children ? &load->kinds[0] : NULL;
+}
 
 /* Runs a load the given number of times, or as often as it says, each time on a new core. */
 static void repeat(struct meter *meter, size_t index, int repetitions, bool certify)
@@ -643,7 +671,7 @@ static void repeat(struct meter *meter, size_t index, int repetitions, bool cert
     for (size_t kind = 0; kind <= KINDS; kind++)
         put_number(load.kinds[kind].bytes, sizeof load.kinds[kind].bytes,
                    0x6b66615200000000 + kind);
-    add_driver(&machine, &load.kinds[KINDS], loads[index].run == run_chain);
+    add_driver(&machine, &load.kinds[KINDS], child_kind(&load, index));
     for (int done = 0; done < repetitions; done++) {
         load.drawn = 0x9e3779b97f4a7c15;
         load.count = 0;
