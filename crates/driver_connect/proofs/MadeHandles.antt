@@ -1,6 +1,6 @@
 -- The handles that some pairs made, by the controllers of these, and the managers of such handles.
 use Rattle.std.proofs.Common.{◌≡◌, ℕ, zero, suc, length, drop, ◌<◌, ◌≤◌, ◌==◌, ◌&&◌, ◌||◌, Bool, true, false, List, [], ◌∷◌, map, Option, Some, None, inl, inr, refl, sym, ap, ◌∙◌, arith}
-use Rattle.std.specs.List.{filter, find, list_any, AllByRecursion}
+use Rattle.std.specs.List.{find, AllByRecursion}
 use Rattle.std.specs.Option.{option_and_then}
 use Rattle.std.proofs.lemmas.Bool.{cases_Bool, ne_eqb}
 use Rattle.guid_handles.specs.declared.records.LiveHandle.{LiveHandle}
@@ -13,7 +13,7 @@ use Rattle.guid_handles.proofs.SortedLists.{all_filter, all_map, all_of, ascendi
 use Rattle.guid_handles.proofs.PlaceLists.{any_kept, same_places}
 use Rattle.open_agents.specs.declared.items.OpenRecord.{OpenRecord}
 use Rattle.open_agents.specs.OpenItems.{is_for_driver, manages_any, managers_of_any}
-use Rattle.driver_connect.specs.Stopping.{has_pair, is_made_by, is_maker, is_one_of, made_by, manages_made, managers_of_made, pair_of, same_pair}
+use Rattle.driver_connect.specs.Stopping.{is_made_by, is_maker, is_one_of, made_by, manages_made, managers_of_made, pair_of, same_pair}
 use Rattle.driver_connect.proofs.PairMembers.{equal_round}
 
 -- ---- one pair

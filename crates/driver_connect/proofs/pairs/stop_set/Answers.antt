@@ -1,6 +1,4 @@
-use Rattle.std.proofs.Common.{length, ap, ◌∙◌, ◌≤◌, ◌+◌, arith}
-use Rattle.open_agents.specs.Blocks.{items_in}
-use Rattle.driver_connect.specs.Stopping.{rounds}
+use Rattle.std.proofs.Common.{length, ◌∙◌, ◌≤◌, ◌+◌, arith}
 use Rattle.driver_connect.proofs.StopSets.{fewer_items, more_rounds}
 use Rattle.driver_connect.proofs.pairs.stop_set.Goals as goal
 

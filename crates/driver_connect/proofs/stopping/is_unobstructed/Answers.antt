@@ -1,4 +1,4 @@
-use Rattle.std.proofs.Common.{false, true, get_or, sym, ◌∙◌}
+use Rattle.std.proofs.Common.{false, true, get_or, sym}
 use Rattle.std.specs.List.{list_all}
 use Rattle.driver_connect.specs.Stopping.{is_no_obstacle}
 use Rattle.driver_connect.proofs.Unobstructed.{all_near, handle_by_handle, next_on, on_only}

@@ -1,5 +1,4 @@
-use Rattle.std.proofs.Common.{◌∙◌, map, subst, sym, Err}
-use Rattle.protocol_services.specs.RemovingMany.{UninstallsEach}
+use Rattle.std.proofs.Common.{◌∙◌, map}
 use Rattle.protocol_services.proofs.RemovedMany.{all_gone, gone_on, refused_on, uninstalls_keep}
 use Rattle.protocol_services.proofs.protocols.Protocols.uninstall_each.Goals as goal
 
