@@ -12,4 +12,5 @@ pub mod DriverTurns
 pub mod StopOrder
 pub mod AfterStop
 pub mod Beside
+pub mod BesideSteps
 pub mod GoingOn

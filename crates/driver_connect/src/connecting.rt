@@ -1,12 +1,12 @@
 //! Connecting a handle, and the handles that are made.
 ghost use Rattle.std.specs.Prelude.{◌≡◌, ◌+◌, ◌<◌, ◌≤◌, ◌^◌, ◌++◌, true, false, [], map, IfOk, OnOk, OnErr};
 ghost use Rattle.driver_connect.specs.Connecting as spec;
-ghost use Rattle.driver_connect.specs.Connecting.{ConnectsAll, ConnectsBy};
+ghost use Rattle.driver_connect.specs.Connecting.{ConnectsBy};
 ghost use Rattle.driver_connect.specs.Beside.{MayLeave, reached};
+ghost use Rattle.driver_connect.specs.BesideSteps.{ConnectsBeside, ConnectsTo};
 ghost use Rattle.driver_connect.specs.GoingOn.{GoesOn};
 ghost use Rattle.driver_connect.specs.Room.{HasRoom, Grows};
-ghost use Rattle.driver_connect.specs.Starting.{site_of, starts_on, is_any_carried_out as is_any};
-ghost use Rattle.driver_connect.specs.Stopping.{without_handles};
+ghost use Rattle.driver_connect.specs.Starting.{site_of, starts_on, is_any_carried_out as any};
 
 use crate::driver::Driver;
 use crate::readiness::is_any_ready;
@@ -56,14 +56,13 @@ fn connect_levels<D: Driver, A: Allocator + Copy>(
     requires { HasRoom connecting.old.handles }
     ensures carried_out { IfOk result
         (λ b. b
-        ≡ is_any
+        ≡ any
         (starts_on
         (site_of D.meaning drivers.now notify.now controller) named.now
         (reached connecting.old)).starts) }
     ensures progress { OnOk result
-        (reached connecting.new
-        ≡ spec.connected levels
-        (site_of D.meaning drivers.now notify.now controller) named.now (reached connecting.old)) }
+        (ConnectsTo levels (site_of D.meaning drivers.now notify.now controller) named.now
+        connecting.old connecting.new) }
     ensures grows { OnOk result (Grows connecting.old.handles connecting.new.handles) }
     ensures goes_on { GoesOn connecting.old connecting.new }
 {
@@ -247,9 +246,8 @@ pub(crate) fn connect_below<D: Driver, A: Allocator + Copy>(
     requires leaving { MayLeave leaving.now handles.old }
     requires numbers { handles.old.last_number < 2 ^ 61 }
     requires stamps { handles.old.last_stamp < 2 ^ 61 }
-    ensures ok { IfOk result (λ events. ConnectsAll D.meaning drivers.now notify.now
-        handle (without_handles leaving.now handles.old) opens.old given.now events.items
-        (without_handles leaving.now handles.new) opens.new) }
+    ensures ok { ConnectsBeside leaving.now D.meaning drivers.now notify.now
+        handle handles.old opens.old given.now result handles.new opens.new }
     ensures err { OnErr result ((handles.new ≡ handles.old) × (opens.new ≡ opens.old)) }
     ensures numbers { handles.new.last_number ≤ handles.old.last_number + 4096 }
     ensures stamps { handles.new.last_stamp ≤ handles.old.last_stamp + 16384 }

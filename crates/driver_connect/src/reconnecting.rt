@@ -1,9 +1,9 @@
 //! Putting another value in place of an interface's, and connecting its handle.
-ghost use Rattle.std.specs.Prelude.{◌≡◌, ◌+◌, ◌<◌, ◌≤◌, ◌^◌, true, false, IfOk, OnErr};
+ghost use Rattle.std.specs.Prelude.{◌≡◌, ◌+◌, ◌<◌, ◌≤◌, ◌^◌, true, false, OnErr};
 ghost use Rattle.std.specs.List.{AllByRecursion, list_any};
 ghost use Rattle.guid_handles.specs.HandleTables.{carries};
 ghost use Rattle.driver_connect.specs.Beside.{MayLeave};
-ghost use Rattle.driver_connect.specs.Connecting.{Reconnects};
+ghost use Rattle.driver_connect.specs.BesideSteps.{ReconnectsBeside};
 ghost use Rattle.driver_connect.specs.Drivers.{driver_binding as binding};
 ghost use Rattle.driver_connect.specs.Stopping.{made_by, without_handles};
 
@@ -38,9 +38,8 @@ fn replace_beside<D: Driver, A: Allocator + Copy>(
     requires there { carries (without_handles leaving.now handles.old) guid handle ≡ true }
     requires numbers { handles.old.last_number < 2 ^ 61 }
     requires stamps { handles.old.last_stamp + 1 < 2 ^ 61 }
-    ensures ok { IfOk result (λ e. Reconnects D.meaning drivers.now notify.now
-        handle guid value (without_handles leaving.now handles.old) opens.old given.now e.items
-        handles.new opens.new) }
+    ensures ok { ReconnectsBeside leaving.now D.meaning drivers.now notify.now
+        handle guid value handles.old opens.old given.now result handles.new opens.new }
     ensures err { OnErr result ((handles.new ≡ handles.old) × (opens.new ≡ opens.old)) }
     ensures numbers { handles.new.last_number ≤ handles.old.last_number + 4096 }
     ensures stamps { handles.new.last_stamp ≤ handles.old.last_stamp + 16385 }
@@ -86,9 +85,8 @@ fn replace_over_copy<D: Driver, A: Allocator + Copy>(
     requires there { carries (without_handles leaving.now handles.old) guid handle ≡ true }
     requires numbers { handles.old.last_number < 2 ^ 61 }
     requires stamps { handles.old.last_stamp + 1 < 2 ^ 61 }
-    ensures ok { IfOk result (λ e. Reconnects D.meaning drivers.now notify.now
-        handle guid value (without_handles leaving.now handles.old) opens.old given.now e.items
-        handles.new opens.new) }
+    ensures ok { ReconnectsBeside leaving.now D.meaning drivers.now notify.now
+        handle guid value handles.old opens.old given.now result handles.new opens.new }
     ensures err { OnErr result ((handles.new ≡ handles.old) × (opens.new ≡ opens.old)) }
     ensures numbers { handles.new.last_number ≤ handles.old.last_number + 4096 }
     ensures stamps { handles.new.last_stamp ≤ handles.old.last_stamp + 16385 }
@@ -143,9 +141,8 @@ pub fn replace_and_connect<D: Driver, A: Allocator + Copy>(
     requires there { carries (without_handles plan.now.handles handles.old) guid handle ≡ true }
     requires numbers { handles.old.last_number < 2 ^ 61 }
     requires stamps { handles.old.last_stamp + 1 < 2 ^ 61 }
-    ensures ok { IfOk result (λ e. Reconnects D.meaning drivers.now notify.now
-        handle guid value (without_handles plan.now.handles handles.old) opens.old given.now e.items
-        handles.new opens.new) }
+    ensures ok { ReconnectsBeside plan.now.handles D.meaning drivers.now notify.now
+        handle guid value handles.old opens.old given.now result handles.new opens.new }
     ensures err { OnErr result ((handles.new ≡ handles.old) × (opens.new ≡ opens.old)) }
     ensures numbers { handles.new.last_number ≤ handles.old.last_number + 4096 }
     ensures stamps { handles.new.last_stamp ≤ handles.old.last_stamp + 16385 }

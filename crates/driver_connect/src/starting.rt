@@ -3,10 +3,11 @@ ghost use Rattle.std.specs.Prelude.{◌≡◌, ◌≤◌, ◌++◌, true, false,
 ghost use Rattle.guid_handles.specs.HandleChanges.{max_handles};
 ghost use Rattle.guid_handles.specs.TableSteps.{AreOlder, taken_back_to};
 ghost use Rattle.driver_connect.specs.Beside.{MayLeave, first_draft, reached};
+ghost use Rattle.driver_connect.specs.BesideSteps.{Passes, PassesAll, StartsOn, TakesTurn};
 ghost use Rattle.driver_connect.specs.GoingOn.{GoesOn};
 ghost use Rattle.driver_connect.specs.Room.{HasRoom, Grows};
 ghost use Rattle.driver_connect.specs.Starting as spec;
-ghost use Rattle.driver_connect.specs.Starting.{protocols_at, site_of};
+ghost use Rattle.driver_connect.specs.Starting.{all_passes, pass, protocols_at, site_of};
 ghost use Rattle.driver_connect.specs.Stopping.{is_one_of};
 
 use crate::agents::{Agent, plan_at, supports_at};
@@ -236,9 +237,8 @@ fn take_turn<D: Driver, A: Allocator + Copy>(
         ≡ spec.turn (site_of D.meaning drivers.now notify.now controller) (reached connecting.old)
         agent.now) }
     ensures progress { OnOk result
-        (reached connecting.new
-        ≡ spec.after_turn
-        (site_of D.meaning drivers.now notify.now controller) (reached connecting.old) agent.now) }
+        (TakesTurn (site_of D.meaning drivers.now notify.now controller) agent.now
+        connecting.old connecting.new) }
     ensures stays { IfOk result (λ t. spec.is_change t ≡ false → connecting.new ≡ connecting.old) }
     ensures grows { OnOk result (Grows connecting.old.handles connecting.new.handles) }
     ensures goes_on { GoesOn connecting.old connecting.new }
@@ -308,19 +308,17 @@ fn run_pass<D: Driver, A: Allocator + Copy>(
     requires { HasRoom connecting.old.handles }
     ensures starts { IfOk result
         (λ p. p.starts.items
-        ≡ (spec.pass
+        ≡ (pass
         (site_of D.meaning drivers.now notify.now controller) agents.now
         (reached connecting.old)).starts) }
     ensures left { IfOk result
         (λ p. p.left.items
-        ≡ (spec.pass
+        ≡ (pass
         (site_of D.meaning drivers.now notify.now controller) agents.now
         (reached connecting.old)).left) }
     ensures progress { OnOk result
-        (reached connecting.new
-        ≡ (spec.pass
-        (site_of D.meaning drivers.now notify.now controller) agents.now
-        (reached connecting.old)).progress) }
+        (Passes (site_of D.meaning drivers.now notify.now controller) agents.now
+        connecting.old connecting.new) }
     ensures grows { OnOk result (Grows connecting.old.handles connecting.new.handles) }
     ensures goes_on { GoesOn connecting.old connecting.new }
 {
@@ -363,10 +361,8 @@ pub(crate) fn run_passes<D: Driver, A: Allocator + Copy>(
         (site_of D.meaning drivers.now notify.now controller) named.now
         (reached connecting.old)).starts) }
     ensures progress { OnOk result
-        (reached connecting.new
-        ≡ (spec.starts_on
-        (site_of D.meaning drivers.now notify.now controller) named.now
-        (reached connecting.old)).progress) }
+        (StartsOn (site_of D.meaning drivers.now notify.now controller) named.now
+        connecting.old connecting.new) }
     ensures grows { OnOk result (Grows connecting.old.handles connecting.new.handles) }
     ensures goes_on { GoesOn connecting.old connecting.new }
 {
@@ -387,14 +383,12 @@ fn run_passes_over<D: Driver, A: Allocator + Copy>(
     requires { HasRoom connecting.old.handles }
     ensures starts { IfOk result
         (λ v. v.items
-        ≡ (spec.all_passes
+        ≡ (all_passes
         (site_of D.meaning drivers.now notify.now controller) agents.items
         (reached connecting.old)).starts) }
     ensures progress { OnOk result
-        (reached connecting.new
-        ≡ (spec.all_passes
-        (site_of D.meaning drivers.now notify.now controller) agents.items
-        (reached connecting.old)).progress) }
+        (PassesAll (site_of D.meaning drivers.now notify.now controller) agents.items
+        connecting.old connecting.new) }
     ensures grows { OnOk result (Grows connecting.old.handles connecting.new.handles) }
     ensures goes_on { GoesOn connecting.old connecting.new }
 {
