@@ -117,15 +117,19 @@ fn refusals_of<'a>(
     panic!(rt; "a call is refused for ever");
 }
 
-/// Installs an interface on a new handle.
-fn install(rt: &impl Abort, core: &mut RefusedCore<'_>, byte: u8) {
-    let call = Call::InstallProtocolInterface {
+/// Makes a call that succeeds.
+fn succeed<'a>(rt: &impl Abort, core: &mut RefusedCore<'a>, call: &Call<&'a Refusing<Global>>) {
+    assert!(rt; status_after(rt, core, call) == Status::Success);
+}
+
+/// An installation of an interface on a new handle.
+fn install_of<A: Allocator>(byte: u8) -> Call<A> {
+    Call::InstallProtocolInterface {
         handle: 0,
         guid: guid(byte),
         kind: 0,
         value: 0,
-    };
-    assert!(rt; status_after(rt, core, &call) == Status::Success);
+    }
 }
 
 /// An open of the interface of the first handle by an agent, with GET_PROTOCOL.
@@ -144,7 +148,7 @@ fn refused_opens(rt: HostRuntime) {
     let heap = Refusing::new(rt.alloc());
     let mut core = core_on(&rt, &heap);
     for _ in 0..ROUNDS {
-        install(&rt, &mut core, DRIVEN);
+        succeed(&rt, &mut core, &install_of(DRIVEN));
     }
     let mut count = 0u64;
     for agent in 1..ROUNDS + 1 {
@@ -181,7 +185,7 @@ fn connect<'a>(
         drivers: CallHandles::new(Vec::new(heap)),
         recursive: false,
     };
-    assert!(rt; status_after(rt, core, &call) == Status::Success);
+    succeed(rt, core, &call);
 }
 
 /// An uninstallation of the interface of a handle.
@@ -198,9 +202,9 @@ fn uninstall_of<A: Allocator>(handle: u64) -> Call<A> {
 fn refused_uninstallations(rt: HostRuntime) {
     let heap = Refusing::new(rt.alloc());
     let mut core = core_on(&rt, &heap);
-    install(&rt, &mut core, BINDING);
+    succeed(&rt, &mut core, &install_of(BINDING));
     for handle in 2..ROUNDS + 2 {
-        install(&rt, &mut core, DRIVEN);
+        succeed(&rt, &mut core, &install_of(DRIVEN));
         if handle % 2 == 0 {
             connect(&rt, &heap, &mut core, handle);
         }
@@ -225,9 +229,9 @@ fn reinstall_of<A: Allocator>(handle: u64) -> Call<A> {
 fn refuse_reinstallations(rt: &(impl AllocGlobal + Abort), plan: StartPlan, handles: u64) {
     let heap = Refusing::new(rt.alloc());
     let mut core = core_with(rt, &heap, plan);
-    install(rt, &mut core, BINDING);
+    succeed(rt, &mut core, &install_of(BINDING));
     for _ in 0..handles {
-        install(rt, &mut core, DRIVEN);
+        succeed(rt, &mut core, &install_of(DRIVEN));
     }
     for handle in 2..handles.saturating_add(2) {
         connect(rt, &heap, &mut core, handle);
