@@ -173,19 +173,13 @@ fn refused_registrations(rt: HostRuntime) {
     assert!(rt; count >= 5, "{count}");
 }
 
-/// Connects a handle to the driver.
-fn connect<'a>(
-    rt: &impl Abort,
-    heap: &'a Refusing<Global>,
-    core: &mut RefusedCore<'a>,
-    handle: u64,
-) {
-    let call = Call::ConnectController {
+/// A call that connects a handle to the driver.
+fn connect_of<'a>(heap: &'a Refusing<Global>, handle: u64) -> Call<&'a Refusing<Global>> {
+    Call::ConnectController {
         handle,
         drivers: CallHandles::new(Vec::new(heap)),
         recursive: false,
-    };
-    succeed(rt, core, &call);
+    }
 }
 
 /// An uninstallation of the interface of a handle.
@@ -200,17 +194,18 @@ fn uninstall_of<A: Allocator>(handle: u64) -> Call<A> {
 /// An uninstallation stops the driver of one handle in two, for which it takes memory; for the others it takes none.
 #[test]
 fn refused_uninstallations(rt: HostRuntime) {
-    let heap = Refusing::new(rt.alloc());
-    let mut core = core_on(&rt, &heap);
+    let memory = Refusing::new(rt.alloc());
+    let heap = &memory;
+    let mut core = core_on(&rt, heap);
     succeed(&rt, &mut core, &install_of(BINDING));
     for handle in 2..ROUNDS + 2 {
         succeed(&rt, &mut core, &install_of(DRIVEN));
         if handle % 2 == 0 {
-            connect(&rt, &heap, &mut core, handle);
+            succeed(&rt, &mut core, &connect_of(heap, handle));
         }
     }
     for handle in 2..ROUNDS + 2 {
-        let count = refusals_of(&rt, &heap, &mut core, &uninstall_of(handle));
+        let count = refusals_of(&rt, heap, &mut core, &uninstall_of(handle));
         assert!(rt; (count > 0) == (handle % 2 == 0), "{count}");
     }
 }
@@ -227,17 +222,18 @@ fn reinstall_of<A: Allocator>(handle: u64) -> Call<A> {
 
 /// Reinstallations that stop a driver with a plan and start it again, on a number of handles one after the other.
 fn refuse_reinstallations(rt: &(impl AllocGlobal + Abort), plan: StartPlan, handles: u64) {
-    let heap = Refusing::new(rt.alloc());
-    let mut core = core_with(rt, &heap, plan);
+    let memory = Refusing::new(rt.alloc());
+    let heap = &memory;
+    let mut core = core_with(rt, heap, plan);
     succeed(rt, &mut core, &install_of(BINDING));
     for _ in 0..handles {
         succeed(rt, &mut core, &install_of(DRIVEN));
     }
     for handle in 2..handles.saturating_add(2) {
-        connect(rt, &heap, &mut core, handle);
+        succeed(rt, &mut core, &connect_of(heap, handle));
     }
     for handle in 2..handles.saturating_add(2) {
-        let count = refusals_of(rt, &heap, &mut core, &reinstall_of(handle));
+        let count = refusals_of(rt, heap, &mut core, &reinstall_of(handle));
         assert!(rt; count > 0, "{handle}");
     }
 }
