@@ -33,13 +33,9 @@ fn core_is_refused_memory(rt: HostRuntime) {
 }
 
 /// Whether the boot services are ended by a list of one call, if memory was there for its reply.
-fn is_ended<'a>(
-    rt: &impl Abort,
-    core: &mut Core<TableDriver, &'a Refusing<Global>>,
-    call: &[Call<&'a Refusing<Global>>],
-) -> Option<bool> {
-    assert!(rt; call.len() as u64 <= core.calls_left());
-    match core.run(call) {
+fn is_ended(rt: &impl Abort, core: &mut Core<TableDriver, &Refusing<Global>>) -> Option<bool> {
+    assert!(rt; core.calls_left() > 0);
+    match core.run(&[Call::ExitBootServices { key: 1 }]) {
         Ok(replies) => Some(matches!(replies.as_slice(), [Reply::ExitBootServices(Ok(()))],)),
         Err(_) => None,
     }
@@ -51,11 +47,10 @@ fn replies_are_refused_memory(rt: HostRuntime) {
     let heap = Refusing::new(rt.alloc());
     let mut core = core_on(&rt, &heap);
     let left = core.calls_left();
-    let call = [Call::ExitBootServices { key: 1 }];
     heap.refuse(1);
-    assert!(rt; is_ended(&rt, &mut core, &call).is_none());
+    assert!(rt; is_ended(&rt, &mut core).is_none());
     assert!(rt; core.calls_left() == left);
-    assert!(rt; is_ended(&rt, &mut core, &call) == Some(true));
+    assert!(rt; is_ended(&rt, &mut core) == Some(true));
 }
 
 /// How many descriptors are read, if memory is there for them.
