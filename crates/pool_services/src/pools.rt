@@ -75,7 +75,7 @@ impl<A: Allocator + Copy> Pools<A> {
     }
 
     /// The same, whose extents lie in memory that the machine's pages are: the bytes of a block are those at
-    /// its address. An extent of other pages than these is refused for want of memory.
+    /// its address. Other pages are refused with OUT_OF_RESOURCES.
     pub fn over(alloc: A, memory: PoolMemory) -> Pools<A>
         ensures { result ≡ [] }
     {
