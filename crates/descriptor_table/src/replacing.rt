@@ -39,16 +39,14 @@ fn insert_rest<T: Drop, A: Allocator>(
     }
 }
 
-/// Moves the items of a list over those from a place on.
-fn put_over<T: Drop, A: Allocator>(items: &mut Vec<T, A>, at: usize, new: &mut Vec<T, A>)
+/// Puts the items of a list in place of those from a place on, which the list then has.
+fn swap_over<T: Drop, A: Allocator>(items: &mut Vec<T, A>, at: usize, new: &mut Vec<T, A>)
     requires { at + length new.old.items ≤ length items.old.items }
     ensures { items.new.items ≡ take at items.old.items
         ++ (new.old.items ++ drop (at + length new.old.items) items.old.items) }
 {
-    while let Some(item) = new.pop() {
-        let place = at + new.len();
-        items[place] = item;
-    }
+    let end = at + new.len();
+    items.as_mut_slice()[at..end].swap_with_slice(new.as_mut_slice());
 }
 
 /// Removes a number of items from a place on.
@@ -62,27 +60,28 @@ fn cut_out<T: Drop, A: Allocator>(items: &mut Vec<T, A>, at: usize, count: usize
 }
 
 /// Replaces the items between two indices by those of a list. Where these are no more, it takes no memory.
-/// On an `Err` the items are as they were.
+/// The list is left with items that are to be dropped, which its owner does: to drop one here takes
+/// as much of the stack as it has in its box. On an `Err` the items are as they were.
 pub(crate) fn replace_between<T: Drop, A: Allocator>(
     items: &mut Vec<T, A>,
     from: usize,
     to: usize,
-    mut new: Vec<T, A>,
+    new: &mut Vec<T, A>,
 ) -> Result<(), AllocError>
     requires order { from ≤ to }
     requires bound { to ≤ length items.old.items }
     ensures ok { OnOk result (items.new.items
-        ≡ take from items.old.items ++ (new.items ++ drop to items.old.items)) }
+        ≡ take from items.old.items ++ (new.old.items ++ drop to items.old.items)) }
     ensures err { OnErr result (items.new.items ≡ items.old.items) }
 {
     let (gone, count) = (to - from, new.len());
     if count <= gone {
-        put_over(items, from, &mut new);
+        swap_over(items, from, new);
         cut_out(items, from + count, gone - count);
         return Ok(());
     }
     items.reserve(count - gone)?;
-    insert_rest(items, to, &mut new, gone);
-    put_over(items, from, &mut new);
+    insert_rest(items, to, new, gone);
+    swap_over(items, from, new);
     Ok(())
 }

@@ -106,7 +106,7 @@ fn put_in_new_leaves<A: Allocator + Copy>(
     near: (usize, usize),
     mut runs: Vec<Run, A>,
     window: (usize, usize),
-    parts: Vec<Run, A>,
+    mut parts: Vec<Run, A>,
     entries: (usize, usize),
 ) -> Result<(), AllocError>
     requires leaves { AreLeaves leaves.old.items }
@@ -133,8 +133,8 @@ fn put_in_new_leaves<A: Allocator + Copy>(
     let (from, to) = near;
     let (low, high) = window;
     let alloc = *leaves.allocator();
-    replace_between(&mut runs, low, high, parts)?;
-    let new_leaves = leaves_of(alloc, runs.as_slice())?;
+    replace_between(&mut runs, low, high, &mut parts)?;
+    let mut new_leaves = leaves_of(alloc, runs.as_slice())?;
     let part = begun_in(
         alloc,
         runs_before(leaves.as_slice(), from),
@@ -143,7 +143,7 @@ fn put_in_new_leaves<A: Allocator + Copy>(
     let new_begun = begun.with_part(alloc, from, to, part.as_slice())?;
     let part = sizes_of(alloc, new_leaves.as_slice())?;
     let new_sizes = sizes.with_part(alloc, from, to, part.as_slice())?;
-    replace_between(leaves, from, to, new_leaves)?;
+    replace_between(leaves, from, to, &mut new_leaves)?;
     *begun = new_begun;
     *sizes = new_sizes;
     Ok(())

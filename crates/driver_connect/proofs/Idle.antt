@@ -57,7 +57,7 @@ none_above last n h = elim (cases_Bool (nat_lt last n)) [
   | inr f ↦ f
 ]
 
-none_made : (t : HandleTable) → IsHandleTable t → made_after t.last_number t ≡ []
+pub none_made : (t : HandleTable) → IsHandleTable t → made_after t.last_number t ≡ []
 none_made t h = filter_none (λ n. nat_lt t.last_number n) (numbers t) (all_map (λ n. (0 < n) × (n ≤ t.last_number)) (λ n. nat_lt t.last_number n ≡ false) (none_above t.last_number) (numbers t) h.given)
 
 pub idle_connect : (levels : ℕ) (c : Site) (named : List ℕ) (p : Progress) → IsHandleTable p.handles → is_any_carried_out (starts_on c named p).starts ≡ false → connected levels c named p ≡ p

@@ -4,6 +4,7 @@ pub mod VersionOrder
 pub mod Opened
 pub mod Passes
 pub mod Levels
+pub mod Pending
 pub mod InTurn
 pub mod StartPasses
 pub mod TriedOnce

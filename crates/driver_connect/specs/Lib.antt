@@ -14,3 +14,4 @@ pub mod AfterStop
 pub mod Beside
 pub mod BesideSteps
 pub mod GoingOn
+pub mod Pending

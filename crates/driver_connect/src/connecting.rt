@@ -1,9 +1,11 @@
 //! Connecting a handle, and the handles that are made.
-ghost use Rattle.std.specs.Prelude.{◌≡◌, ◌+◌, ◌<◌, ◌≤◌, ◌^◌, ◌++◌, true, false, [], map, IfOk, OnOk, OnErr};
+ghost use Rattle.std.specs.Prelude.{◌≡◌, ◌+◌, ◌<◌, ◌≤◌, ◌^◌, ◌++◌, true, false, [], length, map, IfOk, OnOk, OnErr};
 ghost use Rattle.driver_connect.specs.Connecting as spec;
 ghost use Rattle.driver_connect.specs.Connecting.{ConnectsBy};
 ghost use Rattle.driver_connect.specs.Beside.{MayLeave, reached};
 ghost use Rattle.driver_connect.specs.BesideSteps.{ConnectsBeside, ConnectsTo};
+ghost use Rattle.driver_connect.specs.Pending.{ConnectsOne, first_last};
+ghost use Rattle.guid_handles.specs.HandleChanges.{max_handles};
 ghost use Rattle.driver_connect.specs.GoingOn.{GoesOn};
 ghost use Rattle.driver_connect.specs.Room.{HasRoom, Grows};
 ghost use Rattle.driver_connect.specs.Starting.{site_of, starts_on, is_any_carried_out as any};
@@ -41,9 +43,71 @@ fn made_after<A: Allocator + Copy>(
     Ok(made)
 }
 
+/// A handle that is still to be connected, and how many levels of handles below it.
+#[derive(Clone, Copy)]
+struct Pending {
+    handle: u64,
+    levels: u8,
+}
+
+/// Notes that each of some handles is still to be connected, the first of them next. On an `Err` some
+/// may be missing.
+fn note_pending<A: Allocator + Copy>(
+    pending: &mut Vec<Pending, A>,
+    mut made: Vec<u64, A>,
+    levels: u8,
+) -> Result<(), AllocError>
+    ensures { OnOk result
+        (pending.new.items ≡ pending.old.items ++ first_last levels made.items) }
+{
+    while let Some(handle) = made.pop() {
+        pending.push(Pending { handle, levels })?;
+    }
+    Ok(())
+}
+
+/// Starts drivers on a handle, and notes that the handles which this makes are still to be connected,
+/// if there are levels below it. It returns whether a start on the handle was carried out.
+fn connect_one<D: Driver, A: Allocator + Copy>(
+    alloc: A,
+    connecting: &mut Connecting<'_, A>,
+    drivers: &[D],
+    notify: &Notify<A>,
+    next: Pending,
+    named: &[u64],
+    pending: &mut Vec<Pending, A>,
+) -> Result<bool, AllocError>
+    requires { HasRoom connecting.old.handles }
+    ensures carried_out { IfOk result
+        (λ b. b
+        ≡ any
+        (starts_on
+        (site_of D.meaning drivers.now notify.now next.handle) named.now
+        (reached connecting.old)).starts) }
+    ensures progress { OnOk result
+        (ConnectsOne (map D.meaning drivers.now) notify.now next named.now
+        pending.old.items connecting.old pending.new.items connecting.new) }
+    ensures fewer { OnOk result (length pending.new.items + length connecting.old.handles.handles
+        ≤ length pending.old.items + length connecting.new.handles.handles) }
+    ensures limit { OnOk result (length connecting.new.handles.handles ≤ max_handles) }
+    ensures grows { OnOk result (Grows connecting.old.handles connecting.new.handles) }
+    ensures goes_on { GoesOn connecting.old connecting.new }
+{
+    // The contract of this look-up says that the handles are in order.
+    let _before = connecting.handles.all();
+    let last = connecting.handles.last_number();
+    let starts = run_passes(alloc, connecting, drivers, notify, next.handle, named)?;
+    if next.levels > 0 {
+        let made = made_after(alloc, &connecting.handles, last)?;
+        note_pending(pending, made, next.levels - 1)?;
+    }
+    let _after = connecting.handles.all();
+    Ok(is_any_carried_out(starts.as_slice()))
+}
+
 /// Connects a controller, and a number of levels of the handles that are made below it. It returns
-/// whether a start on the controller was carried out.
-#[cycle(levels)]
+/// whether a start on the controller was carried out. A list of what is still to be connected keeps
+/// the stack as small as for one level.
 fn connect_levels<D: Driver, A: Allocator + Copy>(
     alloc: A,
     connecting: &mut Connecting<'_, A>,
@@ -66,43 +130,24 @@ fn connect_levels<D: Driver, A: Allocator + Copy>(
     ensures grows { OnOk result (Grows connecting.old.handles connecting.new.handles) }
     ensures goes_on { GoesOn connecting.old connecting.new }
 {
-    let last = connecting.handles.last_number();
-    let starts = run_passes(alloc, connecting, drivers, notify, controller, named)?;
-    if levels > 0 {
-        let made = made_after(alloc, &connecting.handles, last)?;
-        connect_each(
-            alloc,
-            connecting,
-            drivers,
-            notify,
-            made.as_slice(),
-            levels - 1,
-        )?;
+    let mut pending = Vec::new(alloc);
+    let first = Pending {
+        handle: controller,
+        levels,
+    };
+    let is_carried_out = connect_one(
+        alloc,
+        connecting,
+        drivers,
+        notify,
+        first,
+        named,
+        &mut pending,
+    )?;
+    while let Some(next) = pending.pop() {
+        connect_one(alloc, connecting, drivers, notify, next, &[], &mut pending)?;
     }
-    Ok(is_any_carried_out(starts.as_slice()))
-}
-
-/// Connects each of some handles, with a number of levels of the handles that are made below it.
-#[cycle(levels)]
-fn connect_each<D: Driver, A: Allocator + Copy>(
-    alloc: A,
-    connecting: &mut Connecting<'_, A>,
-    drivers: &[D],
-    notify: &Notify<A>,
-    made: &[u64],
-    levels: u8,
-) -> Result<(), AllocError>
-    requires { HasRoom connecting.old.handles }
-    ensures progress { OnOk result
-        (reached connecting.new ≡ spec.each_connected levels
-        (map D.meaning drivers.now) notify.now made.now (reached connecting.old)) }
-    ensures grows { OnOk result (Grows connecting.old.handles connecting.new.handles) }
-    ensures goes_on { GoesOn connecting.old connecting.new }
-{
-    for n in made {
-        connect_levels(alloc, connecting, drivers, notify, *n, &[], levels)?;
-    }
-    Ok(())
+    Ok(is_carried_out)
 }
 
 /// Whether a call of ConnectController names a handle that is not live, or too many drivers.

@@ -1,0 +1,34 @@
+use Rattle.std.proofs.Common.{◌≡◌, ◌-◌, ◌≤◌, ◌∙◌, ap, map, arith}
+use Rattle.std.specs.List.{AllByRecursion}
+use Rattle.driver_connect.specs.Beside.{reached}
+use Rattle.driver_connect.specs.Connecting.{made_after}
+use Rattle.driver_connect.proofs.Beside.{made_after_beside}
+use Rattle.driver_connect.proofs.Pending.{few_noted, one_alone, one_and_made}
+use Rattle.driver_connect.proofs.connecting.connect_one.Goals as goal
+use Rattle.driver_connect.proofs.connecting.connect_one.Goals.{then-next-gt0+in_ok-made+in_ok-note_pending, else-next-gt0}
+
+pub returns-clause-progress : goal.returns-clause-progress
+returns-clause-progress g c =
+    let drivers = map g.D.Driver.meaning c.args.drivers.now in
+    elim c.if-next-gt0.branch [
+      | then-next-gt0+in_ok-made+in_ok-note_pending w ↦
+          let last : c.last_number-last.result ≡ c.args.connecting.now.handles.last_number = rw (← c.connecting.view_is) c.last_number-last.ensures in
+          let given : AllByRecursion (λ n. n ≤ c.last_number-last.result) c.args.connecting.now.leaving = rw (← c.connecting.view_is, c.last_number-last.ensures) c.connecting.invariant.given in
+          let made : w.in_ok-made.made.items ≡ made_after c.last_number-last.result (reached c.run_passes.new.connecting).handles
+          = rw (← c.connecting-2.view_is) w.in_ok-made.ensures ∙ made_after_beside c.last_number-last.result c.run_passes.new.connecting.leaving c.run_passes.new.connecting.handles (rw c.run_passes.ensures.goes_on.leaving given) in
+          rw w.pending-is (one_and_made drivers c.args.notify.now c.args.pending.now.items c.args.next c.args.named.now (reached c.args.connecting.now) (reached c.run_passes.new.connecting)
+          c.last_number-last.result _ _ w.if-next-gt0.true c.in_ok-starts.ensures.progress last made w.in_ok-note_pending.ensures)
+      | else-next-gt0 w ↦
+          rw w.pending-is (one_alone drivers c.args.notify.now c.args.pending.now.items c.args.next c.args.named.now (reached c.args.connecting.now) (reached c.run_passes.new.connecting)
+          w.if-next-gt0.false c.in_ok-starts.ensures.progress)
+    ]
+
+pub returns-clause-fewer : goal.returns-clause-fewer
+returns-clause-fewer g c = elim c.if-next-gt0.branch [
+  | then-next-gt0+in_ok-made+in_ok-note_pending w ↦
+      let last : c.last_number-last.result ≡ c.args.connecting.now.handles.last_number = rw (← c.connecting.view_is) c.last_number-last.ensures in
+      rw w.pending-is (few_noted (c.args.next.levels - 1) c.last_number-last.result c.args.pending.now.items w.note_pending.new.pending.items w.in_ok-made.made.items
+      c.args.connecting.now.handles c.run_passes.new.connecting.handles (rw (← c.connecting.view_is) c.all-before.ensures.proper) c.run_passes.ensures.goes_on.handles
+      last (rw (← c.connecting-2.view_is) w.in_ok-made.ensures) w.in_ok-note_pending.ensures)
+  | else-next-gt0 w ↦ rw w.pending-is (omega (arith, c.in_ok-starts.ensures.grows.handles))
+]
