@@ -14,9 +14,10 @@ use std::marker::Model;
 /// The most runs of a leaf.
 pub(crate) const LEAF_SIZE: usize = 32;
 
-/// Some runs that lie next to each other in a table, and the first page of the first of them.
+/// Some runs that lie next to each other in a table, at least one.
 #[derive(Drop)]
-pub(crate) struct Leaf<A: Allocator = Global> {
+pub struct Leaf<A: Allocator = Global> {
+    // The first page of the first run.
     first: u64,
     // Whether the first run is free, and whether the last one is.
     begins_free: bool,
@@ -70,7 +71,7 @@ impl<A: Allocator + Copy> Leaf<A> {
 
     /// The runs.
     #[inline(always)]
-    pub(crate) fn runs(&self) -> &[Run]
+    pub fn runs(&self) -> &[Run]
         ensures { result.now ≡ self.now }
     {
         self.runs.as_slice()

@@ -24,5 +24,6 @@ pub use cursors::RunCursor;
 pub use entries::MapEntries;
 pub use entries_down::EntriesDown;
 pub use free_entries::{FreeEntries, FreeEntry};
+pub use leaves::Leaf;
 pub use table::RunTable;
 pub use wanted::Wanted;

@@ -2,11 +2,12 @@
 ghost use Rattle.std.specs.Prelude.{◌≡◌, ◌≢◌, ◌↔◌, ◌<◌, ◌-◌, ◌==◌, [], filter, length, IsTrue, IfOk, OnOk, OnErr, slice_get};
 ghost use Rattle.std.specs.Option.{option_map};
 ghost use Rattle.page_ranges.specs.declared.ranges.Owner.TheVariants.{Given};
-ghost use Rattle.page_ranges.specs.MemoryTypes.{conventional};
+ghost use Rattle.page_ranges.specs.MemoryTypes.{conventional, page_count};
 ghost use Rattle.page_ranges.specs.Memory.{page_at, page_below, IsProperMemory, IsPresent, IsConventional, IsOwnedBy, AllInRange, retyped};
 ghost use Rattle.page_ranges.specs.MemoryMap.{memory_map};
 ghost use Rattle.page_ranges.specs.Runs.{page_in, pages_of, runs_of, AreRuns};
-ghost use Rattle.descriptor_table.specs.Tables.{HoldsPage};
+ghost use Rattle.descriptor_table.specs.Leaves.{runs_in, AreLeaves};
+ghost use Rattle.descriptor_table.specs.Tables.{EndBy, HoldsPage};
 
 use crate::cursors::RunCursor;
 use crate::cuts::RunList;
@@ -188,6 +189,16 @@ impl<A: Allocator + Copy> RunTable<A> {
         ensures proper { IsProperMemory self.now }
     {
         self.entries
+    }
+
+    /// The runs in leaves, by ascending page.
+    pub fn leaves(&self) -> &[Leaf<A>]
+        ensures memory { pages_of (runs_in result.now) ≡ self.now }
+        ensures leaves { AreLeaves result.now }
+        ensures runs { AreRuns (runs_in result.now) }
+        ensures ends { EndBy page_count (runs_in result.now) }
+    {
+        self.leaves.as_slice()
     }
 
     /// The entry of the memory map at an index.

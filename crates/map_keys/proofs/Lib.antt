@@ -1,4 +1,5 @@
 pub mod Bounds
 pub mod Fields
+pub mod Making
 pub mod RecordLists
 pub mod Spelling

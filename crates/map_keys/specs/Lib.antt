@@ -1,2 +1,3 @@
+pub mod Making
 pub mod Records
 pub mod MapReplies

@@ -1,6 +1,7 @@
 //! The memory map as bytes: GetMemoryMap, and the reader of what it wrote.
 #![tactic(auto)]
 
+mod map_records;
 mod memory_maps;
 mod records;
 

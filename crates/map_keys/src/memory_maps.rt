@@ -2,7 +2,8 @@
 ghost use Rattle.std.specs.Prelude.{◌≡◌, length};
 ghost use Rattle.map_keys.specs.MapReplies.{map_reply, buffer_with_map};
 
-use crate::records::{RECORD_SIZE, write_record};
+use crate::map_records::write_map;
+use crate::records::RECORD_SIZE;
 use page_ranges::Status;
 use page_services::PageBook;
 use std::alloc::Allocator;
@@ -45,11 +46,7 @@ pub fn get_memory_map<A: Allocator + Copy>(book: &PageBook<A>, buffer: &mut [u8]
             version: 0,
         };
     }
-    let mut used = 0;
-    for entry in table.map_entries() {
-        write_record(&mut buffer[used..], &entry);
-        used += RECORD_SIZE;
-    }
+    write_map(buffer, table.leaves());
     MapReply {
         status: Status::Success,
         size: size as u64,

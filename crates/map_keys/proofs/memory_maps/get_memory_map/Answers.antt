@@ -2,7 +2,7 @@ use Rattle.std.proofs.Common.{◌≡◌, ◌+◌, ◌*◌, ◌<◌, ◌≤◌, �
 use Rattle.page_ranges.specs.declared.statuses.Status.TheVariants.{Success, BufferTooSmall}
 use Rattle.page_ranges.specs.MemoryMap.{memory_map}
 use Rattle.page_services.specs.PageRules.{Book}
-use Rattle.map_keys.specs.MapReplies.{map_reply}
+use Rattle.map_keys.specs.MapReplies.{map_reply, buffer_with_map}
 use Rattle.page_ranges.specs.declared.ranges.Descriptor.{Descriptor}
 use Rattle.page_ranges.specs.Memory.{Page, IsProperMemory}
 use Rattle.map_keys.specs.Records.{record_of, records}
@@ -21,28 +21,22 @@ reply_too_small : (b : Book) (m : List Page) (n room : ℕ) → m ≡ b.memory �
     → record { status = BufferTooSmall; size = n * 48; key = 0; descriptor_size = 0; version = 0 } ≡ map_reply b room
 reply_too_small b m n room e f h = search rules
 
+-- the buffer where the map fits
+written : (b : Book) (old new : List ℕ) → 48 * length (memory_map b.memory) ≤ length old
+    → new ≡ records (memory_map b.memory) ++ drop (48 * length (memory_map b.memory)) old → new ≡ buffer_with_map b old
+written b old new h e = search rules
+
 pub overflow_mul-size : goal.overflow_mul-size
 overflow_mul-size g c = omega (arith, c.descriptors-size.ensures.count, few_entries_of c.table-table.result.now c.descriptors-size.ensures.proper)
 
-pub write_record-requires-clause-within : goal.write_record-requires-clause-within
-write_record-requires-clause-within g c =
-    entry_within c.args.book.now.memory (subst IsProperMemory c.table-table.ensures c.descriptors-size.ensures.proper) c.loop-entry.yielded c.in-Some.entry c.next.new.self
-    (ap (λ (ds : List Descriptor). c.loop-entry.yielded ++ ds) (sym c.in-Some.ensures.steps) ∙ c.loop-entry.invariant.left)
+pub write_map-requires-clause-room : goal.write_map-requires-clause-room
+write_map-requires-clause-room g c = omega (arith, c.descriptors-size.ensures.count, c.if-buffer-size.false, ap (λ (m : List Page). length (memory_map m)) c.leaves.ensures.memory)
 
-pub loop-entry-preserved : goal.loop-entry-preserved
-loop-entry-preserved g c =
-    let i = c.loop-entry.invariant in
-    let ds = c.loop-entry.yielded in
-    let d = c.in-Some.entry in
-    let used = c.loop-entry.used in
-    record {
-      left = append_assoc ds (d ∷ []) c.next.new.self ∙ ap (λ (es : List Descriptor). ds ++ es) (sym c.in-Some.ensures.steps) ∙ i.left;
-      used = omega (arith, i.used, length-append ds (d ∷ []));
-      written =
-          put_from c.loop-entry.buffer (record_of d) c.write_record.new.bytes used 48 c.write_record.ensures
-          ∙ field_behind c.args.buffer.now c.loop-entry.buffer (records ds) (record_of d) used 48 i.written (length_records ds ∙ sym i.used)
-          ∙ ap (λ (ys : List ℕ). ys ++ drop (used + 48) c.args.buffer.now) (sym (records-more ds d));
-    }
+pub returns-clause-buffer : goal.returns-clause-buffer
+returns-clause-buffer g c =
+    let same = c.leaves.ensures.memory ∙ c.table-table.ensures in
+    let size : 48 * length (memory_map c.args.book.now.memory) ≤ length c.args.buffer.now = omega (arith, c.descriptors-size.ensures.count, c.if-buffer-size.false, ap (λ (m : List Page). length (memory_map m)) c.table-table.ensures) in
+    written c.args.book.now c.args.buffer.now c.write_map.new.buffer size (rw same at c.write_map.ensures)
 
 pub returns-clause-reply : goal.returns-clause-reply
 returns-clause-reply g c = reply c.args.book.now c.table-table.result.now c.descriptors-size.result c.key.result (length c.args.buffer.now) c.table-table.ensures c.descriptors-size.ensures.count c.if-buffer-size.false c.key.ensures
