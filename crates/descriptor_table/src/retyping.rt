@@ -27,17 +27,17 @@ use std::alloc::{AllocError, Allocator};
 const JOINED_SIZE: usize = 24;
 
 /// At most this many runs replace others within a leaf; more come in new leaves.
-const MAX_PARTS: usize = 8;
+pub(crate) const MAX_PARTS: usize = 8;
 
 /// How often a leaf's summary is joined with that of changed runs before it is made anew, by the number
-/// of leaves. A summary that is only joined allows more than the runs: with few leaves a search
-/// opens most of them anyway, with many it opens some in vain.
-fn most_joins(leaves: usize) -> u8 {
-    match leaves {
-        0..=8 => 8,
-        9..=64 => 2,
-        _ => 0,
+/// of leaves and the type that pages get. A summary that is only joined allows more than the runs: with
+/// few leaves a search opens most of them anyway, with many it opens some in vain. Pages that become
+/// free leave little of the runs before them that is not allowed anyway.
+fn most_joins(leaves: usize, mtype: MemoryType) -> u8 {
+    if leaves <= 8 || mtype == MemoryType::conventional() {
+        return 8;
     }
+    if leaves <= 64 { 2 } else { 0 }
 }
 
 /// The indices between which runs share a page with a range or touch it.
@@ -159,6 +159,7 @@ fn put_in_leaf<A: Allocator + Copy>(
     window: (usize, usize),
     parts: &[Run],
     entries: (usize, usize),
+    joins: u8,
 )
     requires leaves { AreLeaves leaves.old.items }
     requires index { index < length leaves.old.items }
@@ -180,7 +181,6 @@ fn put_in_leaf<A: Allocator + Copy>(
 {
     let (low, high) = window;
     let count = leaves[index].runs().len() - (high - low) + parts.len();
-    let joins = most_joins(leaves.len());
     leaves[index].replace(low, high, parts, joins);
     begun.change(index, entries.0, entries.1);
     sizes.set(index, count as u8);
@@ -188,7 +188,7 @@ fn put_in_leaf<A: Allocator + Copy>(
 
 /// Gives the pages of a range a type and an owner within the leaf that has all runs near it, and
 /// returns how many entries the map then has; `None`, and nothing changes, where the leaf has no room
-/// for the runs that come. It takes no memory.
+/// for the runs that come. It takes no memory; what `parts` held is lost.
 fn retype_in_leaf<A: Allocator + Copy>(
     leaves: &mut Vec<Leaf<A>, A>,
     begun: &mut Tally<A>,
@@ -198,6 +198,7 @@ fn retype_in_leaf<A: Allocator + Copy>(
     range: PageRange,
     mtype: MemoryType,
     owner: Owner,
+    parts: &mut ArrayVec<Run, MAX_PARTS>,
 ) -> Option<usize>
     requires table { IsLeafTable leaves.old.items entries begun.old sizes.old }
     requires near { AreLeavesNear leaves.old.items range index (index + 1) }
@@ -216,14 +217,15 @@ fn retype_in_leaf<A: Allocator + Copy>(
     let room = LEAF_SIZE + (window.1 - window.0) - runs.len();
     let gone = &runs[window.0..window.1];
     let old_entries = count_entries(gone);
-    let mut parts = ArrayVec::<Run, MAX_PARTS>::new();
-    let Ok(()) = push_retyped(&mut parts, gone, range, mtype, owner) else {
+    parts.clear();
+    let Ok(()) = push_retyped(parts, gone, range, mtype, owner) else {
         return None;
     };
     if parts.is_empty() || parts.len() > room {
         return None;
     }
     let new_entries = count_entries(parts.as_slice());
+    let joins = most_joins(leaves.len(), mtype);
     put_in_leaf(
         leaves,
         begun,
@@ -232,6 +234,7 @@ fn retype_in_leaf<A: Allocator + Copy>(
         window,
         parts.as_slice(),
         (old_entries, new_entries),
+        joins,
     );
     Some(entries + new_entries - old_entries)
 }
@@ -259,6 +262,7 @@ fn replace_two<A: Allocator + Copy>(
     window: (usize, usize),
     front: &[Run],
     back: &[Run],
+    joins: u8,
 )
     requires index { index + 1 < length leaves.old.items }
     requires low { window.0 ≤ length (leaf_at leaves.old.items index) }
@@ -269,7 +273,6 @@ fn replace_two<A: Allocator + Copy>(
 {
     let (low, high) = window;
     let count = leaves[index].runs().len();
-    let joins = most_joins(leaves.len());
     leaves[index].replace(low, count, front, joins);
     leaves[index + 1].replace(0, high, back, joins);
 }
@@ -313,6 +316,7 @@ fn put_across<A: Allocator + Copy>(
     window: (usize, usize),
     parts: &[Run],
     entries: (usize, usize),
+    joins: u8,
 )
     requires leaves { AreLeaves leaves.old.items }
     requires old { AreRuns (runs_in leaves.old.items)
@@ -338,7 +342,14 @@ fn put_across<A: Allocator + Copy>(
 {
     let behind = leaves[index + 1].runs().len() - window.1;
     let share = share_of_first(window.0, parts.len(), behind);
-    replace_two(leaves, index, window, &parts[..share], &parts[share..]);
+    replace_two(
+        leaves,
+        index,
+        window,
+        &parts[..share],
+        &parts[share..],
+        joins,
+    );
     recount(leaves.as_slice(), begun, sizes, index);
 }
 
@@ -375,6 +386,7 @@ fn retype_across<A: Allocator + Copy>(
     range: PageRange,
     mtype: MemoryType,
     owner: Owner,
+    parts: &mut ArrayVec<Run, MAX_PARTS>,
 ) -> Option<usize>
     requires table { IsLeafTable leaves.old.items entries begun.old sizes.old }
     requires near { AreLeavesNear leaves.old.items range index (index + 2) }
@@ -394,8 +406,8 @@ fn retype_across<A: Allocator + Copy>(
     let high = count_beginning_by(second, range.first + range.pages);
     let near_runs = runs_across(first, low, second, high)?;
     let gone = near_runs.as_slice();
-    let mut parts = ArrayVec::<Run, MAX_PARTS>::new();
-    let Ok(()) = push_retyped(&mut parts, gone, range, mtype, owner) else {
+    parts.clear();
+    let Ok(()) = push_retyped(parts, gone, range, mtype, owner) else {
         return None;
     };
     let come = parts.as_slice();
@@ -406,7 +418,17 @@ fn retype_across<A: Allocator + Copy>(
     let old_entries = count_entries(gone);
     let new_entries = count_entries(come);
     let entries_of = (old_entries, new_entries);
-    put_across(leaves, begun, sizes, index, (low, high), come, entries_of);
+    let joins = most_joins(leaves.len(), mtype);
+    put_across(
+        leaves,
+        begun,
+        sizes,
+        index,
+        (low, high),
+        come,
+        entries_of,
+        joins,
+    );
     Some(entries + new_entries - old_entries)
 }
 
@@ -455,7 +477,8 @@ fn retype_in_new_leaves<A: Allocator + Copy>(
 }
 
 /// Gives the pages of a range a type and an owner, and returns how many entries the map then has: in
-/// the leaf or the two leaves of the range where these have room, and else in new leaves.
+/// the leaf or the two leaves of the range where these have room, and else in new leaves. `parts` is room
+/// for the runs that come, an array that is not made anew for each change.
 pub(crate) fn retype_runs<A: Allocator + Copy>(
     leaves: &mut Vec<Leaf<A>, A>,
     begun: &mut Tally<A>,
@@ -465,6 +488,7 @@ pub(crate) fn retype_runs<A: Allocator + Copy>(
     range: PageRange,
     mtype: MemoryType,
     owner: Owner,
+    parts: &mut ArrayVec<Run, MAX_PARTS>,
 ) -> Result<usize, AllocError>
     requires table { IsLeafTable leaves.old.items entries begun.old sizes.old }
     requires near { AreLeavesNear leaves.old.items range near.0 near.1 }
@@ -478,8 +502,12 @@ pub(crate) fn retype_runs<A: Allocator + Copy>(
         × (sizes.new ≡ sizes.old)) }
 {
     let changed = match near.1 - near.0 {
-        1 => retype_in_leaf(leaves, begun, sizes, entries, near.0, range, mtype, owner),
-        2 => retype_across(leaves, begun, sizes, entries, near.0, range, mtype, owner),
+        1 => retype_in_leaf(
+            leaves, begun, sizes, entries, near.0, range, mtype, owner, parts,
+        ),
+        2 => retype_across(
+            leaves, begun, sizes, entries, near.0, range, mtype, owner, parts,
+        ),
         _ => None,
     };
     if let Some(entries) = changed {

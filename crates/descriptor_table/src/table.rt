@@ -18,9 +18,10 @@ use crate::free_entries::FreeEntries;
 use crate::groups::{Group, make_groups, renew_groups};
 use crate::leaf_searches::{all_in_range, run_at_index, run_in_leaves};
 use crate::leaves::{Leaf, leaves_of, sizes_of};
-use crate::retyping::{leaves_near, retype_runs};
+use crate::retyping::{MAX_PARTS, leaves_near, retype_runs};
 use crate::searches::PageTest;
 use crate::tallies::Tally;
+use arrayvec::ArrayVec;
 use page_ranges::{Descriptor, MemoryType, Owner, PageRange, Run};
 use std::alloc::{AllocError, Allocator, Global};
 use std::marker::Model;
@@ -37,6 +38,8 @@ pub struct RunTable<A: Allocator = Global> {
     sizes: Tally<A>,
     // What the free runs of groups of leaves may be.
     groups: Vec<Group, A>,
+    // Room for the runs that replace others in a change.
+    parts: Box<ArrayVec<Run, MAX_PARTS>, A>,
 }
 
 impl<A: Allocator> Model for RunTable<A> {
@@ -71,12 +74,14 @@ impl<A: Allocator + Copy> RunTable<A> {
         let sizes = Tally::new(alloc, sizes_of(alloc, leaves.as_slice())?)?;
         let mut groups = Vec::new(alloc);
         make_groups(leaves.as_slice(), &mut groups);
+        let parts = Box::new(alloc, ArrayVec::new())?;
         Ok(RunTable {
             leaves,
             begun,
             entries,
             sizes,
             groups,
+            parts,
         })
     }
 
@@ -112,6 +117,7 @@ impl<A: Allocator + Copy> RunTable<A> {
             range,
             mtype,
             owner,
+            &mut self.parts,
         )?;
         renew_groups(self.leaves.as_slice(), &mut self.groups, count, near);
         Ok(())
