@@ -13,7 +13,7 @@ use Rattle.descriptor_table.proofs.LeafLists.{runs_in-append, runs_in-last}
 use Rattle.descriptor_table.proofs.EntryRuns.{stretched, entry_to, stretched_first, goes_on_in, ends_before_next, ends_at_last}
 use Rattle.page_ranges.specs.MemoryTypes.{page_count}
 use Rattle.page_ranges.proofs.RunLists.{run_at, some_pages_at}
-use Rattle.map_keys.specs.Making.{with_run, whole_entries, last_entry, IsAmongPages}
+use Rattle.map_keys.specs.Making.{entry_with_run, whole_entries, last_entry, IsAmongPages}
 use Rattle.map_keys.specs.Records.{record_size, record_of, records}
 use Rattle.map_keys.proofs.RecordLists.{records-more, length_records}
 
@@ -22,19 +22,19 @@ use Rattle.map_keys.proofs.RecordLists.{records-more, length_records}
 pub whole-append : (d : Descriptor) (xs ys : List Run) → whole_entries d (xs ++ ys) ≡ whole_entries d xs ++ whole_entries (last_entry d xs) ys
 whole-append d [] ys = refl
 whole-append d (x ∷ xs) ys =
-    elim (should_be_one d (entry_of x)) as (λ c. (if c then whole_entries (with_run d x) (xs ++ ys) else d ∷ whole_entries (entry_of x) (xs ++ ys))
-    ≡ (if c then whole_entries (with_run d x) xs else d ∷ whole_entries (entry_of x) xs)
-    ++ whole_entries (if c then last_entry (with_run d x) xs else last_entry (entry_of x) xs) ys) [
-      | true ↦ whole-append (with_run d x) xs ys
+    elim (should_be_one d (entry_of x)) as (λ c. (if c then whole_entries (entry_with_run d x) (xs ++ ys) else d ∷ whole_entries (entry_of x) (xs ++ ys))
+    ≡ (if c then whole_entries (entry_with_run d x) xs else d ∷ whole_entries (entry_of x) xs)
+    ++ whole_entries (if c then last_entry (entry_with_run d x) xs else last_entry (entry_of x) xs) ys) [
+      | true ↦ whole-append (entry_with_run d x) xs ys
       | false ↦ ap (λ es. d ∷ es) (whole-append (entry_of x) xs ys)
     ]
 
 pub last-append : (d : Descriptor) (xs ys : List Run) → last_entry d (xs ++ ys) ≡ last_entry (last_entry d xs) ys
 last-append d [] ys = refl
 last-append d (x ∷ xs) ys =
-    elim (should_be_one d (entry_of x)) as (λ c. (if c then last_entry (with_run d x) (xs ++ ys) else last_entry (entry_of x) (xs ++ ys))
-    ≡ last_entry (if c then last_entry (with_run d x) xs else last_entry (entry_of x) xs) ys) [
-      | true ↦ last-append (with_run d x) xs ys
+    elim (should_be_one d (entry_of x)) as (λ c. (if c then last_entry (entry_with_run d x) (xs ++ ys) else last_entry (entry_of x) (xs ++ ys))
+    ≡ last_entry (if c then last_entry (entry_with_run d x) xs else last_entry (entry_of x) xs) ys) [
+      | true ↦ last-append (entry_with_run d x) xs ys
       | false ↦ last-append (entry_of x) xs ys
     ]
 
@@ -42,18 +42,18 @@ last-append d (x ∷ xs) ys =
 
 module _ (d : Descriptor) (r : Run) (rs : List Run) where
   -- that goes on in the entry
-  pub whole-on : should_be_one d (entry_of r) ≡ true → whole_entries d (r ∷ rs) ≡ whole_entries (with_run d r) rs
-  whole-on t = ap (λ c. if c then whole_entries (with_run d r) rs else d ∷ whole_entries (entry_of r) rs) t
+  pub whole-on : should_be_one d (entry_of r) ≡ true → whole_entries d (r ∷ rs) ≡ whole_entries (entry_with_run d r) rs
+  whole-on t = ap (λ c. if c then whole_entries (entry_with_run d r) rs else d ∷ whole_entries (entry_of r) rs) t
 
-  pub last-on : should_be_one d (entry_of r) ≡ true → last_entry d (r ∷ rs) ≡ last_entry (with_run d r) rs
-  last-on t = ap (λ c. if c then last_entry (with_run d r) rs else last_entry (entry_of r) rs) t
+  pub last-on : should_be_one d (entry_of r) ≡ true → last_entry d (r ∷ rs) ≡ last_entry (entry_with_run d r) rs
+  last-on t = ap (λ c. if c then last_entry (entry_with_run d r) rs else last_entry (entry_of r) rs) t
 
   -- or does not
   pub whole-apart : should_be_one d (entry_of r) ≡ false → whole_entries d (r ∷ rs) ≡ d ∷ whole_entries (entry_of r) rs
-  whole-apart f = ap (λ c. if c then whole_entries (with_run d r) rs else d ∷ whole_entries (entry_of r) rs) f
+  whole-apart f = ap (λ c. if c then whole_entries (entry_with_run d r) rs else d ∷ whole_entries (entry_of r) rs) f
 
   pub last-apart : should_be_one d (entry_of r) ≡ false → last_entry d (r ∷ rs) ≡ last_entry (entry_of r) rs
-  last-apart f = ap (λ c. if c then last_entry (with_run d r) rs else last_entry (entry_of r) rs) f
+  last-apart f = ap (λ c. if c then last_entry (entry_with_run d r) rs else last_entry (entry_of r) rs) f
 
 -- ---- all entries
 
@@ -61,8 +61,8 @@ module _ (d : Descriptor) (r : Run) (rs : List Run) where
 abbrev pub made : Descriptor → List Run → List Descriptor
 made d rs = whole_entries d rs ++ last_entry d rs ∷ []
 
-made-on : (d : Descriptor) (r : Run) (rs : List Run) → should_be_one d (entry_of r) ≡ true → made d (r ∷ rs) ≡ made (with_run d r) rs
-made-on d r rs t = ap (λ es. es ++ last_entry d (r ∷ rs) ∷ []) (whole-on d r rs t) ∙ ap (λ e. whole_entries (with_run d r) rs ++ e ∷ []) (last-on d r rs t)
+made-on : (d : Descriptor) (r : Run) (rs : List Run) → should_be_one d (entry_of r) ≡ true → made d (r ∷ rs) ≡ made (entry_with_run d r) rs
+made-on d r rs t = ap (λ es. es ++ last_entry d (r ∷ rs) ∷ []) (whole-on d r rs t) ∙ ap (λ e. whole_entries (entry_with_run d r) rs ++ e ∷ []) (last-on d r rs t)
 
 made-apart : (d : Descriptor) (r : Run) (rs : List Run) → should_be_one d (entry_of r) ≡ false → made d (r ∷ rs) ≡ d ∷ made (entry_of r) rs
 made-apart d r rs f = ap (λ es. es ++ last_entry d (r ∷ rs) ∷ []) (whole-apart d r rs f) ∙ ap (λ e. d ∷ whole_entries (entry_of r) rs ++ e ∷ []) (last-apart d r rs f)
@@ -119,7 +119,7 @@ module _ (d : Descriptor) (rs : List Run) (i : ℕ) (r : Run) (h : i < length rs
   pub whole_more_on : should_be_one (last_entry d (take i rs)) (entry_of r) ≡ true → whole_entries d (take (i + 1) rs) ≡ whole_entries d (take i rs)
   whole_more_on t = whole_more ∙ ap (λ (es : List Descriptor). whole_entries d (take i rs) ++ es) (whole-on (last_entry d (take i rs)) r [] t) ∙ append-nil (whole_entries d (take i rs))
 
-  pub last_more_on : should_be_one (last_entry d (take i rs)) (entry_of r) ≡ true → last_entry d (take (i + 1) rs) ≡ with_run (last_entry d (take i rs)) r
+  pub last_more_on : should_be_one (last_entry d (take i rs)) (entry_of r) ≡ true → last_entry d (take (i + 1) rs) ≡ entry_with_run (last_entry d (take i rs)) r
   last_more_on t = last_more ∙ last-on (last_entry d (take i rs)) r [] t
 
   -- or begins another one
@@ -157,7 +157,7 @@ fits_next old new d rs i r n used h e f written u room =
 
 -- ---- among all pages
 
-pub among_on : (d : Descriptor) (rs : List Run) (i : ℕ) (r : Run) → i < length rs → r ≡ get_or rs i r → EndBy page_count rs → IsAmongPages d → should_be_one d (entry_of r) ≡ true → IsAmongPages (with_run d r)
+pub among_on : (d : Descriptor) (rs : List Run) (i : ℕ) (r : Run) → i < length rs → r ≡ get_or rs i r → EndBy page_count rs → IsAmongPages d → should_be_one d (entry_of r) ≡ true → IsAmongPages (entry_with_run d r)
 among_on d rs i r h e ends a t =
     let next : d.first + d.pages ≡ r.range.first = eqb-true _ _ (and_parts _ _ (and_parts _ _ t).0).0 in
     let last : r.range.first + r.range.pages ≤ page_count = subst (λ (s : Run). s.range.first + s.range.pages ≤ page_count) (sym e) (run_at (λ s. s.range.first + s.range.pages ≤ page_count) rs i r ends h) in

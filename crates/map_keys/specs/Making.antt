@@ -7,22 +7,22 @@ use Rattle.page_ranges.specs.MemoryMap.{should_be_one}
 use Rattle.descriptor_table.specs.Tables.{entry_of}
 
 -- an entry with the pages of a run that goes on in it
-abbrev pub with_run : Descriptor → Run → Descriptor
-with_run d r = record d { pages = d.pages + r.range.pages }
+abbrev pub entry_with_run : Descriptor → Run → Descriptor
+entry_with_run d r = record d { pages = d.pages + r.range.pages }
 
 -- the entries that are whole once runs have come behind an entry
 abbrev pub whole_entries : Descriptor → List Run → List Descriptor
 whole_entries d [] = []
 whole_entries d (r ∷ rs) =
     if should_be_one d (entry_of r)
-    then whole_entries (with_run d r) rs
+    then whole_entries (entry_with_run d r) rs
     else d ∷ whole_entries (entry_of r) rs
 
 -- the entry that is not whole yet
 abbrev pub last_entry : Descriptor → List Run → Descriptor
 last_entry d [] = d
 last_entry d (r ∷ rs) =
-    if should_be_one d (entry_of r) then last_entry (with_run d r) rs else last_entry (entry_of r) rs
+    if should_be_one d (entry_of r) then last_entry (entry_with_run d r) rs else last_entry (entry_of r) rs
 
 -- an entry that begins among all pages, and ends there
 abbrev pub IsAmongPages : Descriptor → Type 0

@@ -3,7 +3,7 @@ use Rattle.std.proofs.lemmas.List.{take_all, take-append-drop, length-drop, leng
 use Rattle.page_ranges.specs.declared.ranges.Descriptor.{Descriptor}
 use Rattle.page_ranges.specs.MemoryMap.{should_be_one}
 use Rattle.descriptor_table.specs.Tables.{entry_of}
-use Rattle.map_keys.specs.Making.{with_run, whole_entries, last_entry, IsAmongPages}
+use Rattle.map_keys.specs.Making.{entry_with_run, whole_entries, last_entry, IsAmongPages}
 use Rattle.map_keys.specs.Records.{record_of, records}
 use Rattle.map_keys.proofs.Fields.{put_from, field_behind}
 use Rattle.map_keys.proofs.RecordLists.{records-more}
@@ -35,7 +35,7 @@ loop-run-preserved-then-goes_on c =
     let whole = whole_more_on begun rs k r (omega arith) c.run-item.is one in
     record {
       used = i.used ∙ ap (λ (ds : List Descriptor). c.args.place + 48 * length ds) (sym whole);
-      entry = ap (λ (d : Descriptor). with_run d r) i.entry ∙ sym (last_more_on begun rs k r (omega arith) c.run-item.is one);
+      entry = ap (λ (d : Descriptor). entry_with_run d r) i.entry ∙ sym (last_more_on begun rs k r (omega arith) c.run-item.is one);
       among = among_on c.loop-run.entry rs k r (omega arith) c.run-item.is c.requires.ends i.among (sym c.goes_on.ensures ∙ c.if-goes_on.true);
       written = i.written ∙ ap (λ (ds : List Descriptor). take c.args.place c.args.buffer.now ++ records ds ++ drop c.loop-run.used c.args.buffer.now) (sym whole);
     }
