@@ -9,6 +9,7 @@ use Rattle.page_ranges.specs.declared.ranges.Run.{Run}
 use Rattle.descriptor_table.specs.declared.groups.Group.{Group}
 use Rattle.descriptor_table.specs.declared.summaries.Summary.{Summary}
 use Rattle.descriptor_table.specs.Leaves.{leaf_at}
+use Rattle.descriptor_table.specs.LeafSummaries.{AllowBelow, IsFirstConcerned}
 use Rattle.descriptor_table.specs.Summaries.{Allows, AllowsAll, AllowsLeaf, AreGroups, AreGroupsBut, IsFreeRun, KeepsLeaves, joined}
 use Rattle.descriptor_table.proofs.FreeBounds.{all_joined, all_joined_left, joined_left, joined_right}
 
@@ -150,3 +151,22 @@ put_keeps ls fresh new from to order bound put =
           ∙ get_or-append_right fresh (drop to ls) (length fresh) (j - from) [] refl (omega (arith, size, high)) ∙ ap (λ k. get_or (drop to ls) k []) past
           ∙ get_or-drop to ls (j - to) [] ∙ ap (λ k. get_or ls k []) whole;
     }
+
+-- ---- the leaf below those that changed
+
+pub kept_runs : (old new : List (List Run)) (gs : List Group) (low high : ℕ) → AreGroups old gs → KeepsLeaves old new low high → AllowBelow new low gs
+kept_runs old new gs low high a keeps g group at j from to next =
+    subst (Allows group.summary) (sym (keeps.before j (omega (arith, next)))) ((a g group at j from to (inr (omega arith))).runs)
+
+pub but_concerned : (ls : List (List Run)) (gs : List Group) (leaf high first : ℕ) → AreGroupsBut ls gs (leaf - 1) high → AllowBelow ls leaf gs → IsFirstConcerned ls leaf first → AreGroupsBut ls gs first high
+but_concerned ls gs leaf high first a below (inl same) g group at j from to side = a g group at j from to (elim side [
+  | inl l ↦ inl (omega (arith, l, same))
+  | inr m ↦ inr m
+])
+but_concerned ls gs leaf high first a below (inr p) g group at j from to (inr m) = a g group at j from to (inr m)
+but_concerned ls gs leaf high first a below (inr p) g group at j from to (inl l) = elim (cases_lt j (leaf - 1)) [
+  | inl k ↦ a g group at j from to (inl k)
+  | inr m ↦
+      let next : j + 1 ≡ leaf = omega (arith, m, l, p.0) in
+      record { runs = below g group at j from to next; joins = λ i last free begins. absurd (p.1 j next (i, last, free, begins)) }
+]

@@ -2,7 +2,7 @@
 ghost use Rattle.std.specs.Prelude.{◌≡◌, ℕ, ◌+◌, ◌-◌, ◌*◌, ◌^◌, ◌<◌, ◌≤◌, ◌⊎◌, length, slice_get};
 ghost use Rattle.std.specs.Option.{option_map};
 ghost use Rattle.descriptor_table.specs.Leaves.{leaf_at};
-ghost use Rattle.descriptor_table.specs.LeafSummaries.{AllowNext, AllowsAlso};
+ghost use Rattle.descriptor_table.specs.LeafSummaries.{AllowBelow, AllowNext, AllowsAlso, IsFirstConcerned};
 ghost use Rattle.descriptor_table.specs.Summaries.{AllowsLeaf, AreGroups, AreGroupsBut, BeginsFree, may_hold};
 
 use crate::leaves::Leaf;
@@ -143,6 +143,24 @@ pub(crate) fn make_groups<A: Allocator + Copy>(leaves: &[Leaf<A>], groups: &mut 
     }
 }
 
+/// The first leaf that a group is to be changed for, once leaves from an index on have changed: the leaf
+/// below these too, where a free run goes on from it into the first of them.
+#[inline(always)]
+fn first_concerned<A: Allocator + Copy>(leaves: &[Leaf<A>], leaf: usize) -> usize
+    ensures { IsFirstConcerned leaves.now leaf result }
+{
+    if leaf == 0 || leaf >= leaves.len() {
+        return leaf.saturating_sub(1);
+    }
+    if !leaves[leaf - 1].ends_free() {
+        return leaf;
+    }
+    if leaf_begins_free(leaves, leaf) {
+        return leaf - 1;
+    }
+    leaf
+}
+
 /// Makes groups anew once leaves between two indices have changed, of which there were a number before.
 pub(crate) fn renew_groups<A: Allocator + Copy>(
     leaves: &[Leaf<A>],
@@ -152,15 +170,16 @@ pub(crate) fn renew_groups<A: Allocator + Copy>(
 )
     requires as_many { count ≡ length leaves.now
         → AreGroupsBut leaves.now groups.old.items (near.0 - 1) near.1 }
+    requires below { AllowBelow leaves.now near.0 groups.old.items }
     requires others { AreGroupsBut leaves.now groups.old.items (near.0 - 1)
         (8 * length groups.old.items) }
     ensures { AreGroups leaves.now groups.new.items }
 {
-    let low = near.0.saturating_sub(1);
     if leaves.len() == count {
+        let low = first_concerned(leaves, near.0);
         change_groups(leaves, groups, low, near.1);
         return;
     }
-    groups.truncate(low / GROUP_SIZE);
+    groups.truncate(near.0.saturating_sub(1) / GROUP_SIZE);
     make_groups(leaves, groups);
 }

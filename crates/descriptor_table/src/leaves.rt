@@ -108,6 +108,14 @@ impl<A: Allocator + Copy> Leaf<A> {
         self.begins_free
     }
 
+    /// Whether the last run is free.
+    #[inline(always)]
+    pub(crate) fn ends_free(&self) -> bool
+        ensures { EndsFree result self.now }
+    {
+        self.ends_free
+    }
+
     /// What the free runs may be; all that may be, if the last run is free and a free run follows the leaf.
     #[inline(always)]
     pub(crate) fn summary(&self, goes_on: bool) -> Summary

@@ -1,7 +1,7 @@
 use Rattle.std.proofs.Common.{ap, length, arith}
 use Rattle.descriptor_table.specs.Leaves.{runs_in}
 use Rattle.descriptor_table.proofs.Splices.{present_within, retyped-empty}
-use Rattle.descriptor_table.proofs.Grouped.{kept_below, kept_groups}
+use Rattle.descriptor_table.proofs.Grouped.{kept_below, kept_groups, kept_runs}
 use Rattle.descriptor_table.proofs.TableFacts.{table_runs}
 use Rattle.descriptor_table.proofs.table.RunTable.retype.Goals as goal
 
@@ -33,6 +33,10 @@ pub renew_groups-requires-clause-as_many : goal.renew_groups-requires-clause-as_
 renew_groups-requires-clause-as_many g c = λ same.
     let now = c.as_slice-2.ensures.value in
     rw now (kept_groups c.self.inside.leaves.items c.retype_runs.new.leaves.items c.self.inside.groups.items c.leaves_near-near.result.0 c.leaves_near-near.result.1 c.self.invariant.groups c.in_ok-self-inside.ensures.kept (omega (arith, same, c.len-count.ensures, ap length now)))
+
+pub renew_groups-requires-clause-below : goal.renew_groups-requires-clause-below
+renew_groups-requires-clause-below g c =
+    rw c.as_slice-2.ensures.value (kept_runs c.self.inside.leaves.items c.retype_runs.new.leaves.items c.self.inside.groups.items c.leaves_near-near.result.0 c.leaves_near-near.result.1 c.self.invariant.groups c.in_ok-self-inside.ensures.kept)
 
 pub renew_groups-requires-clause-others : goal.renew_groups-requires-clause-others
 renew_groups-requires-clause-others g c =
