@@ -1,11 +1,12 @@
 //! The records of the memory map of runs in leaves.
 ghost use Rattle.std.specs.Prelude.{◌≡◌, ◌+◌, ◌*◌, ◌≤◌, ◌<◌, ◌^◌, ◌++◌, length, take, drop};
 ghost use Rattle.page_ranges.specs.MemoryTypes.{page_count};
-ghost use Rattle.page_ranges.specs.MemoryMap.{memory_map, should_be_one};
-ghost use Rattle.page_ranges.specs.Runs.{pages_of, AreRuns};
+ghost use Rattle.page_ranges.specs.MemoryMap.{should_be_one};
+ghost use Rattle.page_ranges.specs.Runs.{AreRuns};
 ghost use Rattle.descriptor_table.specs.Leaves.{runs_in, AreLeaves};
+ghost use Rattle.descriptor_table.specs.LeafWalks.{map_of_runs};
 ghost use Rattle.descriptor_table.specs.Tables.{entry_of, EndBy};
-ghost use Rattle.map_keys.specs.Making.{last_entry, whole_entries, IsAmongPages};
+ghost use Rattle.map_keys.specs.Making.{last_entry, whole_entries, with_records, IsAmongPages};
 ghost use Rattle.map_keys.specs.Records.{record_size, records};
 
 use crate::records::{RECORD_SIZE, write_record};
@@ -76,10 +77,8 @@ pub(crate) fn write_map<A: Allocator + Copy>(buffer: &mut [u8], leaves: &[Leaf<A
     requires leaves { AreLeaves leaves.now }
     requires runs { AreRuns (runs_in leaves.now) }
     requires ends { EndBy page_count (runs_in leaves.now) }
-    requires room { record_size * length (memory_map (pages_of (runs_in leaves.now)))
-        ≤ length buffer.old }
-    ensures { buffer.new ≡ records (memory_map (pages_of (runs_in leaves.now)))
-        ++ drop (record_size * length (memory_map (pages_of (runs_in leaves.now)))) buffer.old }
+    requires room { record_size * length (map_of_runs (runs_in leaves.now)) ≤ length buffer.old }
+    ensures { buffer.new ≡ with_records (map_of_runs (runs_in leaves.now)) buffer.old }
 {
     let Some(leaf) = leaves.first() else {
         return;
