@@ -1,5 +1,5 @@
 -- What the calls so far can have brought, one call more.
-use Rattle.std.proofs.Common.{◌≡◌, ℕ, ◌+◌, ◌-◌, ◌<◌, ◌≤◌, ◌^◌, Bool, List, [], ◌∷◌, sym, subst, arith}
+use Rattle.std.proofs.Common.{◌≡◌, ℕ, ◌+◌, ◌≤◌, Bool, List, [], ◌∷◌, sym, subst, arith}
 use Rattle.std.specs.List.{AllByRecursion}
 use Rattle.open_agents.specs.declared.items.OpenRecord.{OpenRecord}
 use Rattle.protocol_services.specs.Lists.{Lists, HasRoom, IsRaised}
@@ -7,7 +7,7 @@ use Rattle.protocol_services.specs.Driving.{HasRoomToConnect}
 use Rattle.protocol_services.specs.Removing.{HasRoomToReinstall}
 use Rattle.page_services.specs.PageRules.{certifying}
 use Rattle.boot_machines.specs.Machines.{MachineValue}
-use Rattle.boot_core.specs.Machines.{Parts, CoreValue, FollowsCalls, all_calls, first_state}
+use Rattle.boot_core.specs.Machines.{Parts, CoreValue, FollowsCalls, IsUnused, all_calls, first_state}
 
 weaken : (P Q : OpenRecord → Type 0) → ((o : OpenRecord) → P o → Q o) → (opens : List OpenRecord) → AllByRecursion P opens → AllByRecursion Q opens
 weaken P Q f [] a = tt
@@ -29,14 +29,11 @@ follows_now {D = D} p exited n ds v is follows = subst (λ (w : CoreValue D). Fo
 
 pub follows_on : (old new : Parts) (n : ℕ) → FollowsCalls old (n + 1) → new.book.key ≤ old.book.key + 1 → IsRaised old.lists new.lists → FollowsCalls new n
 follows_on old new n follows key raised =
-    let few : n + 1 ≤ all_calls = omega (arith, follows.registrations) in
-    let before = weaken (λ o. o.count + (n + 1) ≤ all_calls) (λ o. o.count ≤ all_calls - (n + 1)) (λ o h. omega (arith, h)) old.lists.opens follows.counts in
     record {
       key = omega (arith, follows.key, key);
       numbers = omega (arith, follows.numbers, raised.numbers);
       stamps = omega (arith, follows.stamps, raised.stamps);
       registrations = omega (arith, follows.registrations, raised.keys);
-      counts = weaken (λ o. o.count ≤ all_calls - (n + 1) + 1) (λ o. o.count + n ≤ all_calls) (λ o h. omega (arith, h, few)) new.lists.opens (raised.counts (all_calls - (n + 1)) before);
     }
 
 -- there is room for a call that may still be made
@@ -45,7 +42,6 @@ has_room p n follows = record {
   numbers = omega (arith, follows.numbers);
   stamps = omega (arith, follows.stamps);
   keys = omega (arith, follows.registrations);
-  counts = weaken (λ o. o.count + (n + 1) ≤ all_calls) (λ o. o.count < 2 ^ 32 - 1) (λ o h. omega (arith, h)) p.lists.opens follows.counts;
 }
 
 pub has_room_to_connect : (p : Parts) (n : ℕ) → FollowsCalls p (n + 1) → HasRoomToConnect p.lists
@@ -61,9 +57,11 @@ certifying_follows certifies p n is = record {
   numbers = is.numbers;
   stamps = is.stamps;
   registrations = is.registrations;
-  counts = is.counts;
 }
 
 -- before any call
 pub first_follows : (machine : MachineValue) → FollowsCalls (first_state machine).parts all_calls
-first_follows machine = record { key = omega arith; numbers = omega arith; stamps = omega arith; registrations = omega arith; counts = tt }
+first_follows machine = record { key = omega arith; numbers = omega arith; stamps = omega arith; registrations = omega arith }
+
+pub first_unused : (machine : MachineValue) → IsUnused (first_state machine).parts
+first_unused machine = record { key = omega arith; numbers = omega arith; stamps = omega arith; registrations = omega arith }

@@ -7,6 +7,7 @@ pub mod Follows
 pub mod Outcomes
 pub mod Soundness
 pub mod ProperRuns
+pub mod CountRuns
 pub mod ReadReplies
 pub mod PoolBytes
 pub mod LastBytes

@@ -12,7 +12,7 @@ use Rattle.map_keys.specs.Records.{IsRecordEntry}
 use Rattle.page_services.specs.PageRules.{fixed_address}
 use Rattle.pool_services.specs.Extents.{Extent, tail_at}
 use Rattle.pool_services.specs.Laws.{byte_at, first_of, is_among, laid}
-use Rattle.open_agents.specs.OpenItems.{items_on}
+use Rattle.open_agents.specs.OpenItems.{items_on, once_more}
 use Rattle.driver_connect.specs.Drivers.{Meaning}
 use Rattle.protocol_services.specs.ListBytes.{handle_bytes, item_bytes}
 use Rattle.protocol_services.specs.ProperLists.{AreProperLists}
@@ -24,7 +24,7 @@ use Rattle.boot_replies.specs.declared.replies.Reply.TheVariants as reply
 use Rattle.boot_calls.specs.CallNumbers.{NamesTypes}
 use Rattle.boot_machines.specs.MachineRuns.{HasRecordNumbers}
 use Rattle.boot_machines.specs.Machines.{IsMachine, MachineValue}
-use Rattle.boot_core.specs.Machines.{Parts, State, AreSound, first_state_with}
+use Rattle.boot_core.specs.Machines.{Parts, State, AreSound, all_calls, first_state_with}
 use Rattle.boot_replies.specs.Certified.{certificate_in, certified}
 use Rattle.boot_core.specs.Steps.{Setting, any_starts, MapStep, ReadStep, Step, StepAny, StepBy, CallRun, CallRunBy}
 
@@ -58,6 +58,16 @@ ProperListsLaw S A =
     (new : State)
     → CallRunBy S (first_state_with certifies machine) calls replies new
     → AreProperLists new.parts.lists
+
+-- After calls no open item's count is above their number. So where they are no more than a machine
+-- serves, no count has come to its end, and each rises by exactly 1 where its item is opened again.
+abbrev pub CountLaw : Setting → Type 0 → Type 0
+CountLaw S A =
+    (certifies : Bool) (machine : MachineValue) (calls : List (Call A)) (replies : List (Reply A))
+    (new : State)
+    → CallRunBy S (first_state_with certifies machine) calls replies new →
+    AllByRecursion (λ o. (o.count ≤ length calls)
+    × (length calls ≤ all_calls → once_more o.count ≡ o.count + 1)) new.parts.lists.opens
 
 -- ---- keys
 

@@ -1,6 +1,5 @@
 -- The state of the machine that serves the calls.
 use Rattle.std.specs.Prelude.{ℕ, ◌+◌, ◌*◌, ◌≤◌, Bool, false, List, [], length, Option}
-use Rattle.std.specs.List.{AllByRecursion}
 use Rattle.page_ranges.specs.declared.ranges.Descriptor.{Descriptor}
 use Rattle.page_ranges.specs.Memory.{IsProperMemory}
 use Rattle.page_ranges.specs.MemoryMap.{memory_map}
@@ -42,6 +41,10 @@ kept_map certify s c = map_before certify s.parts.book.granule (map_of s) c
 abbrev pub all_calls : ℕ
 all_calls = 0x80000000
 
+-- the most calls that a core can be left
+abbrev pub most_calls : ℕ
+most_calls = 0x200000000000
+
 -- the state of a machine before any call, where certificates are returned
 abbrev pub first_state : MachineValue → State
 first_state machine = record {
@@ -70,14 +73,21 @@ certifying_state certifies s = record {
 abbrev pub first_state_with : Bool → MachineValue → State
 first_state_with certifies machine = certifying_state certifies (first_state machine)
 
--- What the calls so far can have brought: the key is one more than these at most, and numbers,
--- stamps, registrations and the counts of open items follow them too.
+-- a state with another number of calls left
+abbrev pub leaving : ℕ → State → State
+leaving calls s = record { parts = s.parts; exited = s.exited; calls_left = calls }
+
+-- What the calls so far can have brought, out of the most that there can be: the key is one more
+-- than these at most, and numbers, stamps and registrations follow them too.
 pub record FollowsCalls (p : Parts) (calls_left : ℕ) : Type 0 where
-  pub key : p.book.key + calls_left ≤ all_calls + 1
-  pub numbers : p.lists.handles.last_number + most_given * calls_left ≤ most_given * all_calls
-  pub stamps : p.lists.handles.last_stamp + most_given * calls_left ≤ most_given * all_calls
-  pub registrations : length p.lists.registrations + calls_left ≤ all_calls
-  pub counts : AllByRecursion (λ o. o.count + calls_left ≤ all_calls) p.lists.opens
+  pub key : p.book.key + calls_left ≤ most_calls + 1
+  pub numbers : p.lists.handles.last_number + most_given * calls_left ≤ most_given * most_calls
+  pub stamps : p.lists.handles.last_stamp + most_given * calls_left ≤ most_given * most_calls
+  pub registrations : length p.lists.registrations + calls_left ≤ most_calls
+
+-- no call has brought anything yet, so the most calls may still be made
+abbrev pub IsUnused : Parts → Type 0
+IsUnused p = FollowsCalls p most_calls
 
 -- The memory is proper, what AllocatePages placed in it fills whole granules, the extents do
 -- not overlap, and the pages of the pool are theirs.

@@ -8,7 +8,7 @@ use Rattle.boot_replies.specs.declared.replies.Reply.{Reply}
 use Rattle.boot_replies.specs.declared.replies.Reply.TheVariants as reply
 use Rattle.driver_connect.specs.Drivers.{Meaning}
 use Rattle.protocol_services.specs.RemovingMany.{UninstallsMany}
-use Rattle.boot_core.specs.Machines.{State}
+use Rattle.boot_core.specs.Machines.{State, leaving}
 use Rattle.boot_core.specs.Steps.{CallRun, IsCounted, OnLists, WhileOpen}
 
 -- What it returns, and the machine after it, which changes in the lists alone, with one call less.
@@ -19,10 +19,6 @@ pub record UninstallStep (ds : List Meaning) (old : State) (handle : ℕ)
       (result ≡ Err Unsupported)
   pub exited : new.exited ≡ old.exited
   pub calls_left : IsCounted old new
-
--- a state with another number of calls left
-abbrev pub leaving : ℕ → State → State
-leaving calls s = record { parts = s.parts; exited = s.exited; calls_left = calls }
 
 -- the calls of UninstallProtocolInterface for some pairs on a handle, and their replies
 abbrev pub uninstalls : (A : Type 0) → ℕ → List (List ℕ × ℕ) → List (Call A)

@@ -5,7 +5,7 @@ ghost use Rattle.page_ranges.specs.MemoryMap.{memory_map};
 ghost use Rattle.protocol_services.specs.Driving.{HasRoomToConnect};
 ghost use Rattle.protocol_services.specs.Lists.{HasRoom};
 ghost use Rattle.protocol_services.specs.Removing.{HasRoomToReinstall};
-ghost use Rattle.boot_core.specs.Machines.{all_calls, certifying_state, first_state, FollowsCalls};
+ghost use Rattle.boot_core.specs.Machines.{certifying_state, first_state, leaving, most_calls, FollowsCalls, IsUnused};
 ghost use Rattle.boot_core.specs.PathSteps.{LocateStep};
 ghost use Rattle.boot_core.specs.Steps.{IsCounted, MapStep, ReadStep, CoreStep, CallRun};
 
@@ -27,8 +27,11 @@ use std::alloc::{AllocError, Allocator, Global};
 use std::marker::Model;
 use uuid::Uuid;
 
-/// How many calls a core serves.
+/// How many calls a new core serves.
 const MAX_CALLS: u64 = 0x8000_0000;
+
+/// The most calls that a core can be left.
+const MOST_CALLS: u64 = 0x2000_0000_0000;
 
 /// The boot services of a machine, with its drivers.
 #[derive(Drop)]
@@ -122,6 +125,16 @@ impl<D: Driver, A: Allocator + Copy> Core<D, A> {
         self.calls_left = calls;
     }
 
+    /// Leaves the most calls that a core can be left, where no call has brought anything yet, as before the
+    /// first call.
+    pub fn leave_most_calls(&mut self)
+        requires { IsUnused self.old.state.parts }
+        ensures { self.new
+            ≡ record { state = leaving most_calls self.old.state; drivers = self.old.drivers } }
+    {
+        self.calls_left = MOST_CALLS;
+    }
+
     // Counts a call; an `Err` is the refusal of all services once the boot services have ended.
     pub(crate) fn begin(&mut self) -> Result<(), Status>
         requires { 0 < self.old.state.calls_left }
@@ -130,7 +143,7 @@ impl<D: Driver, A: Allocator + Copy> Core<D, A> {
         ensures parts { self.new.state.parts ≡ self.old.state.parts }
         ensures exited { self.new.state.exited ≡ self.old.state.exited }
         ensures counted { IsCounted self.old.state self.new.state }
-        ensures room { self.new.state.parts.book.key + self.new.state.calls_left ≤ all_calls }
+        ensures room { self.new.state.parts.book.key + self.new.state.calls_left ≤ most_calls }
         ensures follows { FollowsCalls self.new.state.parts (self.new.state.calls_left + 1) }
         ensures lists { HasRoom self.new.state.parts.lists }
         ensures connects { HasRoomToConnect self.new.state.parts.lists }
@@ -696,7 +709,7 @@ impl<D: Driver, A: Allocator + Copy> Core<D, A> {
         Ok(replies)
     }
 
-    /// How many calls may still be made: 2^31 at first, one less after each.
+    /// How many calls may still be made: 2^31 at first, one less after each call.
     pub fn calls_left(&self) -> u64
         ensures { result ≡ self.now.state.calls_left }
     {

@@ -1,7 +1,7 @@
 //! The laws of the machine, each the contract of a function that does nothing.
 ghost use Rattle.std.specs.Prelude.{List};
 ghost use Rattle.driver_connect.specs.Drivers.{Meaning};
-ghost use Rattle.boot_core.specs.Laws.{AcceptanceLaw, AnyRunLaw, AnyStepLaw, CertificateLaw, KeyCountLaw, KeyLaw, LastBytesLaw, MapGrowthLaw, MapStepLaw, PoolBytesLaw, ProperListsLaw, ReadBytesLaw, ReadStepLaw, RecordEntriesLaw, SoundLaw};
+ghost use Rattle.boot_core.specs.Laws.{AcceptanceLaw, AnyRunLaw, AnyStepLaw, CertificateLaw, CountLaw, KeyCountLaw, KeyLaw, LastBytesLaw, MapGrowthLaw, MapStepLaw, PoolBytesLaw, ProperListsLaw, ReadBytesLaw, ReadStepLaw, RecordEntriesLaw, SoundLaw};
 ghost use Rattle.boot_core.specs.PathSteps.{LocateStepLaw};
 ghost use Rattle.boot_core.specs.Removals.{UninstallRunLaw};
 ghost use Rattle.boot_core.specs.Steps.{any_starts, best_starts};
@@ -55,6 +55,13 @@ pub fn sound_law<A: Allocator>()
 pub fn proper_lists_law<A: Allocator>()
     ensures best { (ds : List Meaning) → ProperListsLaw (best_starts ds) A }
     ensures any { (ds : List Meaning) → ProperListsLaw (any_starts ds) A }
+{}
+
+/// After calls no open item's count is above their number. So within the 2^31 calls of a machine no count comes to
+/// its end, and each rises by exactly 1 where its item is opened again.
+pub fn count_law<A: Allocator>()
+    ensures best { (ds : List Meaning) → CountLaw (best_starts ds) A }
+    ensures any { (ds : List Meaning) → CountLaw (any_starts ds) A }
 {}
 
 /// A new block's bytes are 0, a write puts its bytes at its addresses, a block that is given back has no bytes, and no

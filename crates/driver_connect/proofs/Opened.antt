@@ -1,12 +1,12 @@
 -- Items of BY_DRIVER on interfaces that are not held.
-use Rattle.std.proofs.Common.{◌≡◌, ℕ, ◌+◌, ◌<◌, ◌-◌, ◌^◌, ◌==◌, ◌&&◌, ◌||◌, Bool, true, false, List, [], ◌∷◌, length, drop, get_or, inl, inr, refl, sym, ◌∙◌}
+use Rattle.std.proofs.Common.{◌≡◌, ℕ, ◌+◌, ◌<◌, ◌==◌, ◌&&◌, ◌||◌, Bool, false, List, [], ◌∷◌, length, drop, get_or, inl, inr, refl, ◌∙◌}
 use Rattle.std.specs.List.{list_any, AllByRecursion}
 use Rattle.std.proofs.lemmas.Bool.{cases_Bool}
 use Rattle.guid_handles.specs.HandleTables.{same_guid}
 use Rattle.guid_handles.proofs.GuidOrder.{and_false}
 use Rattle.guid_handles.proofs.SortedLists.{all_map, all_both, any_none, drop_next}
 use Rattle.open_agents.specs.declared.items.OpenRecord.{OpenRecord}
-use Rattle.open_agents.specs.OpenItems.{is_open_on, is_equal_item, is_for_driver, is_exclusive, with_item, CanCount}
+use Rattle.open_agents.specs.OpenItems.{is_open_on, is_equal_item, is_for_driver, is_exclusive, with_item}
 use Rattle.open_agents.specs.OpenRule.{has_holder}
 use Rattle.driver_connect.specs.Starting.{has_guid, has_twice, with_driver_items}
 use Rattle.driver_connect.proofs.Filters.{any_more}
@@ -36,11 +36,6 @@ not_equal n guid agent o h = elim (cases_Bool (is_open_on n guid o)) [
 
 pub none_equal : (n : ℕ) (guid : List ℕ) (agent : ℕ) (opens : List OpenRecord) → has_holder opens n guid ≡ false → AllByRecursion (λ o. is_equal_item n guid agent n 0x10 o ≡ false) opens
 none_equal n guid agent opens h = all_map (λ o. is_holder n guid o ≡ false) (λ o. is_equal_item n guid agent n 0x10 o ≡ false) (not_equal n guid agent) opens (none_any (is_holder n guid) opens h)
-
-pub can_count : (n : ℕ) (guid : List ℕ) (agent : ℕ) (opens : List OpenRecord) → has_holder opens n guid ≡ false → CanCount n guid agent n 0x10 opens
-can_count n guid agent opens h =
-    all_map (λ o. is_equal_item n guid agent n 0x10 o ≡ false) (λ o. is_equal_item n guid agent n 0x10 o ≡ true → o.count < 2 ^ 32 - 1) (λ o f t. absurd (let e : false ≡ true = sym f ∙ t in cc)) opens
-    (none_equal n guid agent opens h)
 
 -- an item on one interface holds no other
 other_held : (n : ℕ) (guid other : List ℕ) (agent : ℕ) (opens : List OpenRecord) → has_holder opens n guid ≡ false → same_guid guid other ≡ false → has_holder opens n other ≡ false

@@ -6,7 +6,7 @@ use Rattle.std.proofs.lemmas.Bool.Decides.{eqb_tells}
 use Rattle.guid_handles.specs.HandleTables.{HandleTable, numbers, same_guid}
 use Rattle.guid_handles.proofs.GuidOrder.{and_false}
 use Rattle.open_agents.specs.declared.items.OpenRecord.{OpenRecord}
-use Rattle.open_agents.specs.OpenItems.{counted, is_equal_item, is_exclusive, is_for_driver, is_kept, is_of_pair, is_open_on, items_on, keeps, with_item, without_items}
+use Rattle.open_agents.specs.OpenItems.{counted, is_equal_item, is_exclusive, is_for_driver, is_kept, is_of_pair, is_open_on, items_on, keeps, once_more, with_item, without_items}
 use Rattle.open_agents.specs.OpenRule.{has_holder}
 use Rattle.driver_connect.specs.Drivers.{Meaning}
 use Rattle.driver_connect.specs.Stopping.{PlannedStop, takes_item, can_be_stopped, has_agent, has_pair, is_made_by, is_unobstructed, made_by, may_stop, names_any, pair_of, spares_opener, without_opens}
@@ -105,7 +105,7 @@ counted_stays plan is_equal [] = refl
 counted_stays plan is_equal (o ∷ os) = elim (cases_Bool (is_equal o)) [
   | inl e ↦ elim (cases_Bool (takes plan o)) [
     | inl k ↦ rw e (rw k (counted_stays plan is_equal os))
-    | inr k ↦ rw e (rw k (rw e (ap (λ r. record o { count = o.count + 1 } ∷ r) (counted_stays plan is_equal os))))
+    | inr k ↦ rw e (rw k (rw e (ap (λ r. record o { count = once_more o.count } ∷ r) (counted_stays plan is_equal os))))
   ]
   | inr e ↦ elim (cases_Bool (takes plan o)) [
     | inl k ↦ rw e (rw k (counted_stays plan is_equal os))

@@ -4,3 +4,4 @@ pub mod ListedItems
 pub mod Managing
 pub mod Used
 pub mod LastItems
+pub mod Samples

@@ -11,7 +11,7 @@ use Rattle.guid_handles.proofs.SortedLists.{all_map, all_push, all_mapped, ascen
 use Rattle.guid_handles.proofs.GuidOrder.{same_guid-true, and_false}
 use Rattle.guid_handles.proofs.Grouped.{is_same}
 use Rattle.open_agents.specs.declared.items.OpenRecord.{OpenRecord}
-use Rattle.open_agents.specs.OpenItems.{is_equal_item, counted}
+use Rattle.open_agents.specs.OpenItems.{is_equal_item, counted, once_more}
 use Rattle.guid_handles.specs.Blocks.{Block, ChangesBlocks, IsFree, block_at, with_last, without_place}
 use Rattle.open_agents.specs.Blocks.{HoldsAt, IsOpenStore, IsNoted, Notes, are_equal, block_of, block_size, second_block, is_in, is_near, item_at, items_at, items_in, passes, places_from}
 
@@ -298,7 +298,7 @@ none_counted q (o ∷ os) h = rw h.0 (ap (λ r. o ∷ r) (none_counted q os h.1)
 
 -- there is one equal item, so it alone is counted
 pub one_counted : (n : ℕ) (guid : List ℕ) (agent controller a : ℕ) (slots : List (Option OpenRecord)) (k : ℕ) (x : OpenRecord) → Ascending (λ o p. are_equal p o ≡ false) (items_in slots) → item_at slots k ≡ Some x
-    → is_equal_item n guid agent controller a x ≡ true → map (counted (is_equal_item n guid agent controller a)) (items_in slots) ≡ items_in (set slots k (Some (record x { count = x.count + 1 })))
+    → is_equal_item n guid agent controller a x ≡ true → map (counted (is_equal_item n guid agent controller a)) (items_in slots) ≡ items_in (set slots k (Some (record x { count = once_more x.count })))
 one_counted n guid agent controller a [] k x d e t = absurd cc
 one_counted n guid agent controller a (None ∷ ss) zero x d e t = absurd cc
 one_counted n guid agent controller a (Some o ∷ ss) zero x d e t =
@@ -309,7 +309,7 @@ one_counted n guid agent controller a (Some o ∷ ss) zero x d e t =
       | inl y ↦ let w = sym (equal_as n guid agent controller a p o y ∙ own) ∙ f in absurd cc
       | inr y ↦ y
     ]) (items_in ss) d.0 in
-    rw own (rw (none_counted q (items_in ss) others) (ap (λ (p : OpenRecord). record p { count = p.count + 1 } ∷ items_in ss) s))
+    rw own (rw (none_counted q (items_in ss) others) (ap (λ (p : OpenRecord). record p { count = once_more p.count } ∷ items_in ss) s))
 one_counted n guid agent controller a (None ∷ ss) (suc k) x d e t = one_counted n guid agent controller a ss k x d e t
 one_counted n guid agent controller a (Some o ∷ ss) (suc k) x d e t =
     let q : OpenRecord → Bool = is_equal_item n guid agent controller a in
@@ -342,10 +342,10 @@ places_set q (Some o ∷ ss) i zero x y e s = let n : q y ≡ q o = s ∙ sym (a
 places_set q (z ∷ ss) i (suc k) x y e s = ap (λ r. cond (passes q z) (i ∷ r) r) (places_set q ss (i + 1) k x y e s)
 
 pub store_counted : (n : ℕ) (guid : List ℕ) (agent controller a : ℕ) (slots : List (Option OpenRecord)) (k : ℕ) (x : OpenRecord) (blocks agents : List Block) → IsOpenStore slots blocks agents → item_at slots k ≡ Some x
-    → is_equal_item n guid agent controller a x ≡ true → IsOpenStore (set slots k (Some (record x { count = x.count + 1 }))) blocks agents
+    → is_equal_item n guid agent controller a x ≡ true → IsOpenStore (set slots k (Some (record x { count = once_more x.count }))) blocks agents
 store_counted n guid agent controller a slots k x blocks agents h e t =
     let q : OpenRecord → Bool = is_equal_item n guid agent controller a in
-    let y : OpenRecord = record x { count = x.count + 1 } in
+    let y : OpenRecord = record x { count = once_more x.count } in
     let one : map (counted q) (items_in slots) ≡ items_in (set slots k (Some y)) = one_counted n guid agent controller a slots k x h.distinct e t in
     record {
       in_step = λ b. h.in_step b ∙ ap (λ r. record { number = b; places = r }) (sym (places_set (is_in b) slots 0 k x y e refl));

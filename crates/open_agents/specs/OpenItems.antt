@@ -1,6 +1,6 @@
 -- The open items, in the order in which they were made, and what changes them.
-use Rattle.std.specs.Prelude.{◌≡◌, ℕ, ◌+◌, ◌-◌, ◌<◌, ◌^◌, ◌==◌, ◌&&◌, ◌||◌, not, Bool, true, cond, List, [], ◌∷◌, ◌++◌, map}
-use Rattle.std.specs.List.{filter, list_any, AllByRecursion}
+use Rattle.std.specs.Prelude.{ℕ, ◌+◌, ◌-◌, ◌^◌, min, ◌==◌, ◌&&◌, ◌||◌, not, Bool, cond, List, [], ◌∷◌, ◌++◌, map}
+use Rattle.std.specs.List.{filter, list_any}
 use Rattle.guid_handles.specs.HandleTables.{same_guid}
 use Rattle.open_agents.specs.declared.items.OpenRecord.{OpenRecord}
 use Rattle.open_agents.specs.declared.items.OpenItem.{OpenItem}
@@ -97,8 +97,16 @@ managers_of_any opens ns = map manager_of (filter (manages_any ns) opens)
 
 -- ---- what changes
 
+-- the end of counts: an EFI_OPEN_PROTOCOL_INFORMATION_ENTRY has 32 bits for one
+abbrev pub last_count : ℕ
+last_count = 2 ^ 32 - 1
+
+-- a count that rises by 1, but stays at its end
+abbrev pub once_more : ℕ → ℕ
+once_more count = min (count + 1) last_count
+
 abbrev pub counted : (OpenRecord → Bool) → OpenRecord → OpenRecord
-counted is_equal o = cond (is_equal o) (record o { count = o.count + 1 }) o
+counted is_equal o = cond (is_equal o) (record o { count = once_more o.count }) o
 
 -- an equal item's count rises
 abbrev pub with_count : ℕ → List ℕ → ℕ → ℕ → ℕ → List OpenRecord → List OpenRecord
@@ -120,12 +128,6 @@ with_item n guid agent controller a opens =
       attributes = a;
       count = 1;
     } ∷ []))
-
--- the count of an equal item can rise
-abbrev pub CanCount : ℕ → List ℕ → ℕ → ℕ → ℕ → List OpenRecord → Type 0
-CanCount n guid agent controller a opens =
-    AllByRecursion (λ o. is_equal_item n guid agent controller a o ≡ true
-    → o.count < 2 ^ 32 - 1) opens
 
 -- the items of a pair on an interface, whatever their attributes
 abbrev pub is_closed_by : ℕ → List ℕ → ℕ → ℕ → OpenRecord → Bool

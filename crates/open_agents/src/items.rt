@@ -80,6 +80,13 @@ pub(crate) fn is_equal_item(
     is_of_pair(o, controller, agent) && o.attributes == attributes && is_open_on(o, handle, guid)
 }
 
+/// A count that rises by 1, but stays at its end.
+pub(crate) fn once_more(count: u32) -> u32
+    ensures { result ≡ spec.once_more count }
+{
+    count.saturating_add(1)
+}
+
 /// An item as OpenProtocolInformation lists it.
 pub(crate) fn item_of(o: &OpenRecord) -> OpenItem
     ensures { result ≡ spec.item_of o.now }

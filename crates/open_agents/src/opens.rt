@@ -4,7 +4,7 @@ ghost use Rattle.std.specs.List.{AllByRecursion, filter, list_any};
 ghost use Rattle.guid_handles.specs.HandleTables.{carries, is_live};
 ghost use Rattle.guid_handles.specs.HandleChanges.{is_dead as dead};
 ghost use Rattle.open_agents.specs.OpenItems as spec;
-ghost use Rattle.open_agents.specs.OpenItems.{is_closed_by, names, items_on, managers_of, managers_of_any, with_item, CanCount, without_items};
+ghost use Rattle.open_agents.specs.OpenItems.{is_closed_by, names, items_on, managers_of, managers_of_any, with_item, without_items};
 ghost use Rattle.open_agents.specs.OpenRule as rule;
 ghost use Rattle.open_agents.specs.OpenRule.{has_equal};
 ghost use Rattle.open_agents.specs.Blocks.{is_near, items_in, items_near};
@@ -272,8 +272,8 @@ impl<A: Allocator + Copy> Opens<A> {
         self.items.truncate(count);
     }
 
-    /// Counts an equal item once more, or makes a new one where there is none and the agent is not
-    /// 0. Only a new item takes memory. On an `Err` the items are as they were.
+    /// Counts an equal item once more, whose count stays at its end of 2^32 - 1, or makes a new one where there
+    /// is none and the agent is not 0. Only a new item takes memory. On an `Err` the items are as they were.
     pub fn add(
         &mut self,
         handle: u64,
@@ -282,7 +282,6 @@ impl<A: Allocator + Copy> Opens<A> {
         controller: u64,
         attributes: u32,
     ) -> Result<(), AllocError>
-        requires { CanCount handle guid agent controller attributes self.old }
         ensures ok { OnOk result
             (self.new ≡ with_item handle guid agent controller attributes self.old) }
         ensures err { OnErr result (self.new ≡ self.old) }

@@ -2,11 +2,11 @@
 ghost use Rattle.std.specs.Prelude.{◌≡◌, ◌-◌, ◌<◌, ◌≤◌, ◌/◌, ◌^◌, ◌==◌, ◌++◌, ◌∷◌, [], None, true, false, drop, length, map, take, is_some, slice_set, vec_len, vec_capacity, IfOk, OnOk, OnErr};
 ghost use Rattle.std.specs.List.{filter, list_any, AllByRecursion};
 ghost use Rattle.open_agents.specs.OpenItems as spec;
-ghost use Rattle.open_agents.specs.OpenItems.{CanCount, is_equal_item, with_count};
+ghost use Rattle.open_agents.specs.OpenItems.{is_equal_item, with_count};
 ghost use Rattle.open_agents.specs.Blocks as other;
 ghost use Rattle.open_agents.specs.Blocks.{HoldsAt, Notes, are_equal, block_size, is_near, item_at as there, items_in, items_near, places_from};
 
-use crate::items::OpenRecord;
+use crate::items::{OpenRecord, once_more};
 use crate::near::Near;
 use crate::questions::find_last;
 use guid_handles::Blocks;
@@ -117,15 +117,13 @@ impl<A: Allocator + Copy> ItemStore<A> {
         controller: u64,
         attributes: u32,
     )
-        requires there { HoldsAt
-            (is_equal_item handle guid agent controller attributes) self.old place }
-        requires counts { CanCount handle guid agent controller attributes (items_in self.old) }
+        requires { HoldsAt (is_equal_item handle guid agent controller attributes) self.old place }
         ensures { items_in self.new
             ≡ with_count handle guid agent controller attributes (items_in self.old) }
     {
         if let Some(item) = self.slots[place] {
             let mut counted = item;
-            counted.count += 1;
+            counted.count = once_more(item.count);
             self.slots[place] = Some(counted);
         }
     }

@@ -4,6 +4,7 @@ pub mod WrittenOver
 pub mod ListSizes
 pub mod Raised
 pub mod Freed
+pub mod CountRules
 pub mod NewInterfaces
 pub mod ProperTables
 pub mod ProperItems

@@ -1,14 +1,10 @@
 -- The counts of the open items, before and after an open or a close.
-use Rattle.std.proofs.Common.{◌≡◌, ℕ, ◌+◌, ◌-◌, ◌<◌, ◌≤◌, ◌^◌, Bool, true, false, List, [], ◌∷◌, not, nat_eq, inl, inr, refl, ap, arith}
+use Rattle.std.proofs.Common.{◌≡◌, ℕ, ◌+◌, ◌≤◌, Bool, false, List, [], ◌∷◌, not, nat_eq, inl, inr, refl, ap, arith}
 use Rattle.std.specs.List.{list_any, AllByRecursion}
 use Rattle.std.proofs.lemmas.Bool.{cases_Bool}
 use Rattle.guid_handles.proofs.SortedLists.{all_map, all_filter, all_mapped, all_push}
 use Rattle.open_agents.specs.declared.items.OpenRecord.{OpenRecord}
-use Rattle.open_agents.specs.OpenItems.{counted, is_equal_item, with_item, without_items, CanCount}
-
--- far from their ends, all counts can rise
-pub can_count : (n : ℕ) (guid : List ℕ) (agent controller a : ℕ) (opens : List OpenRecord) → AllByRecursion (λ o. o.count < 2 ^ 32 - 1) opens → CanCount n guid agent controller a opens
-can_count n guid agent controller a opens h = all_map (λ o. o.count < 2 ^ 32 - 1) (λ o. is_equal_item n guid agent controller a o ≡ true → o.count < 2 ^ 32 - 1) (λ o l e. l) opens h
+use Rattle.open_agents.specs.OpenItems.{counted, is_equal_item, with_item, without_items}
 
 -- counts that are so high at most
 abbrev pub CountUpTo : ℕ → List OpenRecord → Type 0

@@ -1,5 +1,5 @@
 -- The lists that the protocol services work on, and how far a call may bring their counts.
-use Rattle.std.specs.Prelude.{ℕ, ◌+◌, ◌-◌, ◌<◌, ◌≤◌, ◌^◌, ◌≡◌, List, [], length}
+use Rattle.std.specs.Prelude.{ℕ, ◌+◌, ◌<◌, ◌≤◌, ◌^◌, ◌≡◌, List, [], length}
 use Rattle.std.specs.List.{AllByRecursion}
 use Rattle.guid_handles.specs.HandleTables.{HandleTable}
 use Rattle.open_agents.specs.declared.items.OpenRecord.{OpenRecord}
@@ -25,12 +25,11 @@ abbrev pub OnHandles : (HandleTable → Type 0) → Lists → Lists → Type 0
 OnHandles Rule old new =
     Rule new.handles × (new.opens ≡ old.opens) × (new.registrations ≡ old.registrations)
 
--- Numbers, stamps, keys and counts are far from their ends.
+-- Numbers, stamps and keys are far from their ends.
 pub record HasRoom (l : Lists) : Type 0 where
   pub numbers : l.handles.last_number < 2 ^ 62
   pub stamps : l.handles.last_stamp < 2 ^ 62
   pub keys : length l.registrations < 2 ^ 62
-  pub counts : AllByRecursion (λ o. o.count < 2 ^ 32 - 1) l.opens
 
 -- a call gives no more numbers, and no more stamps
 abbrev pub most_given : ℕ

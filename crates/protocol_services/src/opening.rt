@@ -1,7 +1,7 @@
 //! Opening and closing interfaces.
 ghost use Rattle.std.specs.Prelude.{◌≡◌, ◌==◌, [], ◌∷◌, true, false, cond, is_some, None, Some, IfOk, map};
 ghost use Rattle.guid_handles.specs.HandleTables.{carries, value_at};
-ghost use Rattle.protocol_services.specs.Lists.{HasRoom, IsRaised};
+ghost use Rattle.protocol_services.specs.Lists.{IsRaised};
 ghost use Rattle.open_agents.specs.OpenRule.{has_equal};
 ghost use Rattle.protocol_services.specs.Opening.{Closes, HandlesProtocol, OpensAs, OpensProtocol, ReturnsItems, names_none, test_protocol};
 ghost use Rattle.protocol_services.specs.OpeningSteps.{OpensAgain, OpensAnew, decision};
@@ -29,7 +29,6 @@ impl<A: Allocator + Copy> Protocols<A> {
         controller: u64,
         attributes: u32,
     ) -> Result<Option<u64>, Status>
-        requires { HasRoom self.old }
         ensures opens { OpensProtocol
             (map D.meaning drivers.now) self.old handle guid agent controller attributes result
             self.new }
@@ -81,8 +80,7 @@ impl<A: Allocator + Copy> Protocols<A> {
         controller: u64,
         attributes: u32,
     ) -> Result<Option<u64>, Status>
-        requires room { HasRoom self.old }
-        requires value { value ≡ value_at self.old.handles handle guid }
+        requires { value ≡ value_at self.old.handles handle guid }
         ensures adds { OpensAnew self.old handle guid agent controller attributes result self.new }
         ensures counts { OpensAgain
             self.old handle guid agent controller attributes result self.new }
@@ -131,7 +129,6 @@ impl<A: Allocator + Copy> Protocols<A> {
         opener: (u64, u64),
         attributes: u32,
     ) -> Result<Option<u64>, Status>
-        requires { HasRoom self.old }
         ensures opens { OpensAs (map D.meaning drivers.now)
             (Decision.StopFirst pair) self.old handle guid opener.0 opener.1 attributes result
             self.new }
@@ -167,7 +164,6 @@ impl<A: Allocator + Copy> Protocols<A> {
     ///
     /// INVALID_PARAMETER: the handle is not live. UNSUPPORTED: it does not carry the GUID.
     pub fn handle_protocol(&mut self, handle: u64, guid: Uuid) -> Result<u64, Status>
-        requires { HasRoom self.old }
         ensures opens { HandlesProtocol self.old handle guid result self.new }
         ensures raised { IsRaised self.old self.new }
     {

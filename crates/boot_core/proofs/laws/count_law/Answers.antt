@@ -1,0 +1,9 @@
+use Rattle.boot_core.specs.Steps.{any_starts, best_starts}
+use Rattle.boot_core.proofs.CountRuns.{counts_after}
+use Rattle.boot_core.proofs.laws.count_law.Goals as goal
+
+pub returns-clause-best : goal.returns-clause-best
+returns-clause-best g c = λ ds certifies machine calls replies new run. counts_after (best_starts ds) certifies machine calls replies new run
+
+pub returns-clause-any : goal.returns-clause-any
+returns-clause-any g c = λ ds certifies machine calls replies new run. counts_after (any_starts ds) certifies machine calls replies new run
