@@ -1,6 +1,7 @@
-/* Makes all the calls that a core serves, 2^31, which takes half a minute, and then one of each
- * service: rafkudin.h says that it returns ABORTED and changes nothing. Each point that does not
- * hold is printed on standard error, and then the status is 1. */
+/* Makes the last calls that a core serves, and then one of each service: rafkudin.h says that it
+ * returns ABORTED and changes nothing. Nobody makes 2^45 calls, so the number of calls left is found
+ * in the core's memory and written over, as no caller may. Each point that does not hold is printed
+ * on standard error, and then the status is 1. */
 #include "points.h"
 
 #include <rafkudin.h>
@@ -12,7 +13,13 @@
 /* What a variable holds before a call that must leave it. */
 #define LEFT 0x5a5a5a5a5a5a5a5aU
 
-#define ALL_CALLS 0x80000000U
+#define ALL_CALLS ((uint64_t)1 << 45)
+
+/* How many calls the core serves. */
+#define CALLS 1000
+
+/* How many numbers of 64 bits a core has at least. */
+#define NUMBERS 32
 
 static const struct rafkudin_guid disk = {{1}};
 
@@ -32,7 +39,23 @@ static struct rafkudin *make_core(void)
     return core;
 }
 
-/* Makes all calls up to the last; all but three of them are refused reads of the pool. */
+/* Leaves a core a number of calls: where its memory has the number that it says is left. Its pointer
+ * leads to one to this memory. */
+static void leave_calls(struct rafkudin *core, uint64_t calls)
+{
+    uint64_t left = RafkudinCallsLeft(core), *numbers;
+    size_t at = 0;
+
+    memcpy(&numbers, core, sizeof numbers);
+    while (at < NUMBERS && numbers[at] != left)
+        at++;
+    HOLDS(left == ALL_CALLS && at < NUMBERS);
+    if (at < NUMBERS)
+        numbers[at] = calls;
+    HOLDS(RafkudinCallsLeft(core) == calls);
+}
+
+/* Makes all calls up to the last; all but four of them are refused reads of the pool. */
 static struct served serve(struct rafkudin *core)
 {
     struct served served = {0, 0, 0};
@@ -44,10 +67,10 @@ static struct served serve(struct rafkudin *core)
     HOLDS(RafkudinAllocatePool(core, 4, sizeof bytes, &served.block) == RAFKUDIN_SUCCESS);
     HOLDS(RafkudinInstallProtocolInterface(core, &served.handle, &disk, 0, 0x10) ==
           RAFKUDIN_SUCCESS);
-    HOLDS(RafkudinCallsLeft(core) == ALL_CALLS - 3);
-    for (uint64_t calls = 0; calls < ALL_CALLS - 4; calls++)
+    HOLDS(RafkudinCallsLeft(core) == CALLS - 3);
+    for (uint64_t calls = 0; calls < CALLS - 4; calls++)
         refused += RafkudinPoolRead(core, 8, bytes, 1) == RAFKUDIN_INVALID_PARAMETER;
-    HOLDS(refused == ALL_CALLS - 4);
+    HOLDS(refused == CALLS - 4);
     HOLDS(RafkudinCallsLeft(core) == 1);
     memset(bytes, 0x5a, sizeof bytes);
     HOLDS(RafkudinPoolRead(core, served.block, bytes, sizeof bytes) == RAFKUDIN_SUCCESS);
@@ -129,8 +152,10 @@ static void try_state(const struct rafkudin *core)
 int main(void)
 {
     struct rafkudin *core = make_core();
-    struct served served = serve(core);
+    struct served served;
 
+    leave_calls(core, CALLS);
+    served = serve(core);
     try_state(core);
     try_memory(core, served);
     try_handles(core, served.handle);

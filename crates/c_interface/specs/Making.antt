@@ -3,7 +3,7 @@ use Rattle.std.specs.Prelude.{◌≡◌, ◌⊎◌, ℕ, true, false, List, map,
 use Rattle.page_ranges.specs.Statuses.{status_number}
 use Rattle.page_ranges.specs.declared.statuses.Status.TheVariants.{InvalidParameter, OutOfResources}
 use Rattle.boot_machines.specs.Machines.{MachineValue, IsMachine}
-use Rattle.boot_core.specs.Machines.{first_state_with}
+use Rattle.boot_core.specs.Machines.{first_state_with, leaving, most_calls}
 use Rattle.c_machines.specs.declared.drivers.DriverTable.{DriverTable}
 use Rattle.c_machines.specs.declared.faults.MachineFault.{MachineFault}
 use Rattle.c_machines.specs.declared.faults.MachineFault.TheVariants.{Invalid, OutOfMemory}
@@ -18,12 +18,12 @@ fault_status Invalid = status_number InvalidParameter
 fault_status OutOfMemory = status_number OutOfResources
 
 -- The core is that of the machine that the records describe, with the drivers of the tables, before
--- any call. It keeps no certificates.
+-- any call, and with the most calls that a core can be left. It keeps no certificates.
 pub record IsMadeCore {A : Type 0} (size : ℕ) (records : List ℕ) (granule : ℕ)
     (tables : List DriverTable) (c : EfiCoreValue A) : Type 0 where
   pub machine : MachineValue
   pub is_returned : IsReturned size records granule machine
-  pub state : c.core.state ≡ first_state_with false machine
+  pub state : c.core.state ≡ leaving most_calls (first_state_with false machine)
   pub are_tables : are_tables tables ≡ true
   pub drivers : map returned c.core.drivers ≡ map driver_in tables
   pub certifies : c.certifies ≡ false

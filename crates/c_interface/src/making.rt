@@ -12,7 +12,7 @@ use page_ranges::Status;
 use std::alloc::{AllocError, Allocator};
 
 impl<A: Allocator + Copy> EfiCore<A> {
-    /// The core of a machine before any call. Its memory is described by records (EFI_MEMORY_DESCRIPTOR) of
+    /// The core of a machine before any call, with the most calls that a core can be left. Its memory is described by records (EFI_MEMORY_DESCRIPTOR) of
     /// `descriptor_size` bytes each, its granule is 1 or 16 pages, and the value of a driver binding
     /// interface is the index of its driver among the tables.
     ///
@@ -70,6 +70,7 @@ impl<A: Allocator + Copy> EfiCore<A> {
         };
         match core_of(alloc, machine, drivers, memory) {
             Ok(mut core) => {
+                core.leave_most_calls();
                 core.certify(false);
                 Ok(EfiCore::new(alloc, core))
             }

@@ -24,6 +24,15 @@ const LAST_ENTRY: MapEntry = MapEntry {
 
 const GUID: Guid = Guid { bytes: [0x11; 16] };
 
+/// The record of the machine's memory: 64 free pages from page 16 on.
+const RECORD: [u8; 40] = [
+    7, 0, 0, 0, 0, 0, 0, 0, 0, 0, 1, 0, 0, 0, 0, 0, 0, 0, 0, 0, 0, 0, 0, 0, 64, 0, 0, 0, 0, 0, 0,
+    0, 0xf, 0, 0, 0, 0, 0, 0, 0,
+];
+
+/// How many calls a core serves that is made for C.
+const CALLS_FOR_C: u64 = 0x2000_0000_0000;
+
 /// A number that no call gives.
 const OTHER: u64 = 0xabcd;
 
@@ -137,4 +146,17 @@ fn calls_after_the_last(rt: HostRuntime) {
     assert_buffers_stay(&rt, &mut core);
     assert_handles_stay(&rt, &mut core);
     assert_unchanged(&rt, &core);
+}
+
+/// A core that is made for C serves more calls than others, and each uses one up, a refused one too.
+#[test]
+fn calls_of_a_core_for_c(rt: HostRuntime) {
+    let Ok(mut core) = EfiCore::make(rt.alloc(), &RECORD, RECORD.len(), 1, &[]) else {
+        panic!(rt; "no core");
+    };
+    assert!(rt; core.calls_left() == CALLS_FOR_C && core.descriptors() == 1);
+    let mut memory = 0;
+    let status = core.allocate_pages(0, 4, 2, &mut memory);
+    assert!(rt; status == 0 && memory == MEMORY && core.calls_left() == CALLS_FOR_C - 1);
+    assert!(rt; core.free_pages(0, 1) != 0 && core.calls_left() == CALLS_FOR_C - 2);
 }
