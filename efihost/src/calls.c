@@ -43,8 +43,8 @@ static void print_call(FILE *file, uint64_t slot)
         fprintf(file, " has not returned\n");
 }
 
-/* Begins a call of a service. False where boot services have ended, and the caller must not. */
-bool enter(struct call *call, const char *name, uint64_t caller, const uint64_t *arguments)
+/* Begins a call of a service. */
+void begin(struct call *call, const char *name, uint64_t caller, const uint64_t *arguments)
 {
     struct image *image = image_at(caller);
 
@@ -61,8 +61,14 @@ bool enter(struct call *call, const char *name, uint64_t caller, const uint64_t 
     memcpy(last[call->slot].arguments, arguments, sizeof last[0].arguments);
     if (image != NULL)
         image->calls++;
-    if (host.wants_pictures)
-        save_pictures();
+    if (host.signalled)
+        heed_signals();
+}
+
+/* The same for a boot service. False where they have ended, and the caller must not. */
+bool enter(struct call *call, const char *name, uint64_t caller, const uint64_t *arguments)
+{
+    begin(call, name, caller, arguments);
     if (host.exited) {
         struct origin origin = origin_at(caller);
 

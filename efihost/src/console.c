@@ -30,12 +30,6 @@ static void put_text(const char *text)
     put(text, strlen(text));
 }
 
-static EFI_STATUS EFIAPI reset_out(EFI_SIMPLE_TEXT_OUTPUT_PROTOCOL *this, BOOLEAN extended)
-{
-    (void)extended;
-    return this->ClearScreen(this);
-}
-
 static void new_row(void)
 {
     if (mode.CursorRow == ROWS - 1)
@@ -45,12 +39,30 @@ static void new_row(void)
     row_of_text = mode.CursorRow;
 }
 
+/* A letter that is seen. One above U+FFFF comes in two halves, and the picture of the screen has
+ * none such. False for the first half, which waits. */
+static bool put_visible(CHAR16 letter)
+{
+    static uint32_t first_half;
+    uint32_t whole = letter;
+    char bytes[4];
+
+    if ((letter & 0xfc00) == 0xd800) {
+        first_half = letter;
+        return false;
+    }
+    if ((letter & 0xfc00) == 0xdc00)
+        whole = 0x10000 + ((first_half & 0x3ff) << 10 | (letter & 0x3ffU));
+    put(bytes, utf8_of(whole, bytes));
+    screen_put(mode.CursorRow, mode.CursorColumn, whole == letter ? letter : 0xfffd,
+               mode.Attribute);
+    return true;
+}
+
 /* Puts a letter and moves the cursor; behind the last column the next row begins, which a terminal
  * does by itself only where it is as wide. */
 static void put_letter(CHAR16 letter, CHAR16 next)
 {
-    char bytes[4];
-
     if (letter == '\r') {
         mode.CursorColumn = 0;
         if (terminal_out())
@@ -61,28 +73,25 @@ static void put_letter(CHAR16 letter, CHAR16 next)
     } else if (letter == 8) {
         mode.CursorColumn -= mode.CursorColumn > 0;
         put_text("\b");
-    } else if (letter >= 32) {
-        put(bytes, utf8_of(letter, bytes));
-        screen_put(mode.CursorRow, mode.CursorColumn, letter, mode.Attribute);
-        if (++mode.CursorColumn == COLUMNS) {
-            mode.CursorColumn = 0;
-            new_row();
-            if (next != '\r' && next != '\n')
-                put_text(terminal_out() ? "\r\n" : "\n");
-        }
+    } else if (letter >= 32 && put_visible(letter) && ++mode.CursorColumn == COLUMNS) {
+        mode.CursorColumn = 0;
+        new_row();
+        if (next != '\r' && next != '\n')
+            put_text(terminal_out() ? "\r\n" : "\n");
     }
 }
 
 static EFI_STATUS EFIAPI output_string(EFI_SIMPLE_TEXT_OUTPUT_PROTOCOL *this, const CHAR16 *text)
 {
-    (void)this;
+    SERVICE("OutputString", NUMBER(this), NUMBER(text));
+
     if (text == NULL)
-        return EFI_INVALID_PARAMETER;
+        ANSWER(EFI_INVALID_PARAMETER);
     for (; *text != 0; text++)
         put_letter(text[0], text[1]);
     if (terminal_out())
         fflush(stdout);
-    return EFI_SUCCESS;
+    ANSWER(EFI_SUCCESS);
 }
 
 static EFI_STATUS EFIAPI test_string(EFI_SIMPLE_TEXT_OUTPUT_PROTOCOL *this, const CHAR16 *text)
@@ -95,17 +104,13 @@ static EFI_STATUS EFIAPI test_string(EFI_SIMPLE_TEXT_OUTPUT_PROTOCOL *this, cons
 static EFI_STATUS EFIAPI query_mode(EFI_SIMPLE_TEXT_OUTPUT_PROTOCOL *this, UINTN number,
                                     UINTN *columns, UINTN *rows)
 {
-    (void)this;
+    SERVICE("QueryMode", NUMBER(this), number, NUMBER(columns), NUMBER(rows));
+
     if (number != 0)
-        return EFI_UNSUPPORTED;
+        ANSWER(EFI_UNSUPPORTED);
     *columns = COLUMNS;
     *rows = ROWS;
-    return EFI_SUCCESS;
-}
-
-static EFI_STATUS EFIAPI set_mode(EFI_SIMPLE_TEXT_OUTPUT_PROTOCOL *this, UINTN number)
-{
-    return number != 0 ? EFI_UNSUPPORTED : this->ClearScreen(this);
+    ANSWER(EFI_SUCCESS);
 }
 
 /* The standard's colours are numbered blue first, a terminal's red first. */
@@ -136,6 +141,17 @@ static EFI_STATUS EFIAPI clear_screen(EFI_SIMPLE_TEXT_OUTPUT_PROTOCOL *this)
         put_text("\n");
     mode.CursorColumn = mode.CursorRow = row_of_text = 0;
     return EFI_SUCCESS;
+}
+
+static EFI_STATUS EFIAPI reset_out(EFI_SIMPLE_TEXT_OUTPUT_PROTOCOL *this, BOOLEAN extended)
+{
+    (void)extended;
+    return clear_screen(this);
+}
+
+static EFI_STATUS EFIAPI set_mode(EFI_SIMPLE_TEXT_OUTPUT_PROTOCOL *this, UINTN number)
+{
+    return number != 0 ? EFI_UNSUPPORTED : clear_screen(this);
 }
 
 static EFI_STATUS EFIAPI set_cursor(EFI_SIMPLE_TEXT_OUTPUT_PROTOCOL *this, UINTN column, UINTN row)

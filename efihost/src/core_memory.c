@@ -50,13 +50,16 @@ uint64_t core_map(uint64_t *size, void *map, uint64_t *key, uint64_t *step, uint
     return status;
 }
 
+/* While the pool is called the caller's own memory is left alone: it may be what is wrong. */
 uint64_t core_pool(uint32_t type, uint64_t size, uint64_t *address)
 {
-    uint64_t status;
+    uint64_t status, made = 0;
 
     host.in_pool = true;
-    status = RafkudinAllocatePool(host.core, type, size, address);
+    status = RafkudinAllocatePool(host.core, type, size, &made);
     host.in_pool = false;
+    if (status == RAFKUDIN_SUCCESS)
+        *address = made;
     TRACE(.service = RAFKUDIN_CALL_ALLOCATE_POOL, .memory_type = type, .size = size);
     check_certificate();
     return status;

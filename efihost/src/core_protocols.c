@@ -109,8 +109,11 @@ uint64_t core_locate_buffer(uint32_t search, const void *guid, uint64_t key, uin
                             uint64_t *address)
 {
     struct rafkudin_guid copy = core_guid(guid);
-    uint64_t status =
-        RafkudinLocateHandleBuffer(host.core, search, &copy, key, count, address);
+    uint64_t status;
+
+    host.in_pool = true;
+    status = RafkudinLocateHandleBuffer(host.core, search, &copy, key, count, address);
+    host.in_pool = false;
 
     TRACE(.service = RAFKUDIN_CALL_LOCATE_HANDLE_BUFFER, .search_type = search, .protocol = copy,
           .key = key);
@@ -160,8 +163,11 @@ uint64_t core_close(uint64_t handle, const void *guid, uint64_t agent, uint64_t 
 uint64_t core_information(uint64_t handle, const void *guid, uint64_t *address, uint64_t *count)
 {
     struct rafkudin_guid copy = core_guid(guid);
-    uint64_t status =
-        RafkudinOpenProtocolInformation(host.core, handle, &copy, address, count);
+    uint64_t status;
+
+    host.in_pool = true;
+    status = RafkudinOpenProtocolInformation(host.core, handle, &copy, address, count);
+    host.in_pool = false;
 
     TRACE(.service = RAFKUDIN_CALL_OPEN_PROTOCOL_INFORMATION, .handle = handle, .protocol = copy);
     check_certificate();

@@ -46,61 +46,80 @@ static EFI_STATUS judge(const struct disk *disk, uint32_t media, uint64_t block,
 static EFI_STATUS EFIAPI read_blocks(EFI_BLOCK_IO_PROTOCOL *this, uint32_t media, uint64_t block,
                                      UINTN size, void *bytes)
 {
+    SERVICE("BlockIo.ReadBlocks", NUMBER(this), block, size, NUMBER(bytes));
     struct disk *disk = (struct disk *)this;
     EFI_STATUS status = judge(disk, media, block, size);
     char *to = bytes;
 
     if (status != EFI_SUCCESS || size == 0)
-        return status;
+        ANSWER(status);
     if (bytes == NULL)
-        return EFI_INVALID_PARAMETER;
+        ANSWER(EFI_INVALID_PARAMETER);
+    touch(bytes, size, true);
     for (UINTN done = 0; done < size;) {
         ssize_t count = pread(disk->file, to + done, size - done, (off_t)(block * SECTOR + done));
 
         if (count <= 0)
-            return EFI_DEVICE_ERROR;
+            ANSWER(EFI_DEVICE_ERROR);
         done += (UINTN)count;
     }
-    return EFI_SUCCESS;
+    ANSWER(EFI_SUCCESS);
 }
 
 static EFI_STATUS EFIAPI write_blocks(EFI_BLOCK_IO_PROTOCOL *this, uint32_t media, uint64_t block,
                                       UINTN size, const void *bytes)
 {
+    SERVICE("BlockIo.WriteBlocks", NUMBER(this), block, size, NUMBER(bytes));
     struct disk *disk = (struct disk *)this;
     EFI_STATUS status = judge(disk, media, block, size);
 
-    if (status != EFI_SUCCESS)
-        return status;
+    if (status != EFI_SUCCESS || size == 0)
+        ANSWER(status);
+    if (bytes == NULL)
+        ANSWER(EFI_INVALID_PARAMETER);
     if (disk->media.ReadOnly)
-        return EFI_WRITE_PROTECTED;
+        ANSWER(EFI_WRITE_PROTECTED);
+    touch(bytes, size, false);
     if (pwrite(disk->file, bytes, size, (off_t)(block * SECTOR)) != (ssize_t)size)
-        return EFI_DEVICE_ERROR;
-    return EFI_SUCCESS;
+        ANSWER(EFI_DEVICE_ERROR);
+    ANSWER(EFI_SUCCESS);
 }
 
 static EFI_STATUS EFIAPI flush_blocks(EFI_BLOCK_IO_PROTOCOL *this)
 {
-    return fsync(((struct disk *)this)->file) == 0 ? EFI_SUCCESS : EFI_DEVICE_ERROR;
+    SERVICE("BlockIo.FlushBlocks", NUMBER(this));
+
+    ANSWER(fsync(((struct disk *)this)->file) == 0 ? EFI_SUCCESS : EFI_DEVICE_ERROR);
 }
 
-static void make_disk(const char *name, uint64_t size, unsigned number)
+/* Opens an image, or a block device of the host's, which has its size at its end. */
+static void open_disk(struct disk *disk, const char *name)
+{
+    off_t size;
+
+    disk->file = open(name, O_RDWR | O_CLOEXEC);
+    disk->media.ReadOnly = disk->file < 0;
+    if (disk->file < 0)
+        disk->file = open(name, O_RDONLY | O_CLOEXEC);
+    if (disk->file < 0)
+        refuse("cannot read disk %s: %s", name, strerror(errno));
+    size = lseek(disk->file, 0, SEEK_END);
+    if (size < (off_t)SECTOR)
+        refuse("disk %s: it has less than a block of %u bytes", name, SECTOR);
+    disk->media.LastBlock = (uint64_t)size / SECTOR - 1;
+}
+
+static void make_disk(const char *name, unsigned number)
 {
     static const uint8_t path[] = {2, 1, 12, 0, 0xd0, 0x41, 3, 0x0a, 0,    0,    0, 0,
                                    1, 5, 8,  0, 0,    0,    0, 0,    0x7f, 0xff, 4, 0};
     struct disk *disk = must(calloc(1, sizeof *disk));
     uint64_t handle = 0;
 
-    disk->file = open(name, O_RDWR | O_CLOEXEC);
-    disk->media.ReadOnly = disk->file < 0;
-    if (disk->file < 0)
-        disk->file = open(name, O_RDONLY | O_CLOEXEC);
-    if (disk->file < 0 || size < SECTOR)
-        refuse("cannot read disk %s", name);
+    open_disk(disk, name);
     disk->media.MediaId = 1;
     disk->media.MediaPresent = true;
     disk->media.BlockSize = SECTOR;
-    disk->media.LastBlock = size / SECTOR - 1;
     disk->protocol = (EFI_BLOCK_IO_PROTOCOL){0x10000,     &disk->media, reset_disk,
                                              read_blocks, write_blocks, flush_blocks};
     memcpy(disk->path, path, sizeof path);
@@ -118,7 +137,7 @@ void make_disks(void)
         if (stat(name, &about) != 0)
             refuse("cannot read disk %s: %s", name, strerror(errno));
         if (!S_ISDIR(about.st_mode)) {
-            make_disk(name, (uint64_t)about.st_size, (unsigned)i);
+            make_disk(name, (unsigned)i);
             continue;
         }
         folders[folder_count].path = must(realpath(name, NULL));

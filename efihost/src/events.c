@@ -119,10 +119,12 @@ void idle(bool wants_key)
     uint64_t first = 0, now = now_100ns();
     int milliseconds = SLEEP_MS;
 
+    if (host.signalled)
+        heed_signals();
     for (struct event *it = events; it != NULL; it = it->next)
         if (it->due != 0 && (first == 0 || it->due < first))
             first = it->due;
-    if (!keys_from_terminal()) {
+    if (!keys_may_come()) {
         in_vain = wants_key && keys_are_over() ? in_vain + 1 : 0;
         if (in_vain > (first == 0 ? 0 : IN_VAIN))
             finish(ENDED_BY_LIMIT, "waits for a key, and the input is over");

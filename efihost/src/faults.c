@@ -149,46 +149,64 @@ static void on_fault(int number, siginfo_t *info, void *context)
     end_by_fault(number, info, context);
 }
 
-/* The time is over. In the host's own code it is waited for a moment at which its tables and
- * streams are whole. */
-static void on_alarm(int number, siginfo_t *info, void *context)
+/* ---- Signals from outside ---- */
+
+static volatile sig_atomic_t ends_by, wants_pictures; /* which signal ends the run; since a SIGUSR1 */
+
+NO_RETURN static void end_by_signal(uint64_t instruction)
+{
+    const char *why = ends_by == SIGALRM   ? "the time is over"
+                      : ends_by == SIGPIPE ? "nobody reads what it writes"
+                                           : "it is interrupted";
+    const char *at = in_image(instruction) || host.call == NULL ? where(instruction)
+                                                                : host.call->name;
+
+    if (host.exited)
+        finish(ENDED_WELL, "behind ExitBootServices, at %s: %s", at, why);
+    finish(ENDED_BY_LIMIT, "%s, at %s", why, at);
+}
+
+/* Does what signals ask for that came while the host's own code ran. */
+void heed_signals(void)
+{
+    host.signalled = false;
+    if (ends_by != 0)
+        end_by_signal(host.call == NULL ? 0 : host.call->caller);
+    if (wants_pictures != 0)
+        save_pictures();
+    wants_pictures = 0;
+}
+
+/* Where an image's own code runs the run ends at once. In the host's own code its tables and streams
+ * may be in use: it ends before the next service, or, if none comes, after a second. */
+static void on_end(int number, siginfo_t *info, void *context)
 {
     static unsigned tries;
     uint64_t instruction = (uint64_t)((ucontext_t *)context)->uc_mcontext.gregs[REG_RIP];
 
-    (void)number;
     (void)info;
-    if (!in_image(instruction) && host.call == NULL && tries++ < 20) {
-        ualarm(50000, 0);
-        return;
-    }
-    if (host.exited)
-        finish(ENDED_WELL, "behind ExitBootServices, at %s: the time is over", where(instruction));
-    finish(ENDED_BY_LIMIT, "the time is over, at %s",
-           in_image(instruction) || host.call == NULL ? where(instruction) : host.call->name);
+    if (ends_by == 0)
+        ends_by = number;
+    if (in_image(instruction) || tries++ > 20)
+        end_by_signal(instruction);
+    host.signalled = true;
+    ualarm(50000, 0);
 }
 
-static void on_end(int number)
-{
-    (void)number;
-    restore_terminal();
-    _exit(ENDED_BY_LIMIT);
-}
-
-/* Pictures are saved at once where an image's own code runs, and else by the next service, since
- * the host's streams may be in use. */
+/* Pictures are saved at once where an image's own code runs, and else by the next service. */
 static void on_picture(int number, siginfo_t *info, void *context)
 {
     (void)number;
     (void)info;
-    host.wants_pictures = true;
+    wants_pictures = host.signalled = true;
     if (in_image((uint64_t)((ucontext_t *)context)->uc_mcontext.gregs[REG_RIP]))
-        save_pictures();
+        heed_signals();
 }
 
 void catch_faults(void)
 {
     static const int faults[] = {SIGSEGV, SIGBUS, SIGILL, SIGFPE, SIGTRAP};
+    static const int ends[] = {SIGALRM, SIGINT, SIGTERM, SIGHUP, SIGQUIT, SIGPIPE};
     stack_t stack = {0};
     struct sigaction action = {0};
 
@@ -199,16 +217,11 @@ void catch_faults(void)
     action.sa_flags = SA_SIGINFO | SA_ONSTACK | SA_NODEFER;
     for (size_t i = 0; i < LENGTH(faults); i++)
         sigaction(faults[i], &action, NULL);
-    action.sa_sigaction = on_alarm;
+    action.sa_sigaction = on_end;
     action.sa_flags = SA_SIGINFO | SA_ONSTACK | SA_RESTART;
-    sigaction(SIGALRM, &action, NULL);
-    memset(&action, 0, sizeof action);
-    action.sa_handler = on_end;
-    action.sa_flags = SA_ONSTACK;
-    sigaction(SIGINT, &action, NULL);
-    sigaction(SIGTERM, &action, NULL);
+    for (size_t i = 0; i < LENGTH(ends); i++)
+        sigaction(ends[i], &action, NULL);
     action.sa_sigaction = on_picture;
-    action.sa_flags = SA_SIGINFO | SA_ONSTACK;
     sigaction(SIGUSR1, &action, NULL);
     if (host.options.seconds > 0)
         alarm(host.options.seconds);

@@ -66,11 +66,16 @@ void found(enum finding kind, const struct origin *origin, const char *format, .
     print_finding(one);
 }
 
-/* With --guard the run ends at an access that should not be. */
+/* With --guard the run ends at an access that should not be, of an image or of a service that it
+ * called. */
 void stop_at_access(uint64_t instruction)
 {
-    if (host.options.guard)
-        finish(ENDED_WITH_FINDINGS, "stopped at %s", where(instruction));
+    if (!host.options.guard)
+        return;
+    if (image_at(instruction) == NULL && host.call != NULL)
+        finish(ENDED_WITH_FINDINGS, "stopped in %s called by %s", host.call->name,
+               where(host.call->caller));
+    finish(ENDED_WITH_FINDINGS, "stopped at %s", where(instruction));
 }
 
 /* An access to memory of the machine that is shut: whose it is, or was. */
@@ -107,11 +112,11 @@ void found_access(uint64_t address, uint64_t instruction, bool write)
 struct leaks {
     struct image *image;
     const char *when;
-    struct {
+    struct group {
         struct origin origin;
         uint64_t count, bytes;
-    } groups[64];
-    size_t group_count;
+    } *groups;
+    size_t group_count, room;
 };
 
 static bool same_trail(const struct origin *one, const struct origin *other)
@@ -128,13 +133,12 @@ static void add_leak(struct leaks *leaks, const struct origin *origin, uint64_t 
         return;
     while (i < leaks->group_count && !same_trail(&leaks->groups[i].origin, origin))
         i++;
-    if (i == LENGTH(leaks->groups))
-        return;
-    if (i == leaks->group_count) {
-        leaks->groups[i].origin = *origin;
-        leaks->groups[i].count = leaks->groups[i].bytes = 0;
-        leaks->group_count++;
+    if (i == leaks->room) {
+        leaks->room = leaks->room == 0 ? 16 : 2 * leaks->room;
+        leaks->groups = must(realloc(leaks->groups, leaks->room * sizeof *leaks->groups));
     }
+    if (i == leaks->group_count)
+        leaks->groups[leaks->group_count++] = (struct group){*origin, 0, 0};
     leaks->groups[i].count++;
     leaks->groups[i].bytes += bytes;
 }
@@ -201,16 +205,34 @@ void look_for_leaks(struct image *image, const char *when)
 
 /* ---- The report for programs ---- */
 
+/* The bytes of the letter of UTF-8 that begins here, or 0 where none does. */
+static size_t letter_size(const char *text)
+{
+    unsigned char first = (unsigned char)*text;
+    size_t size = first < 0x80 ? 1 : first < 0xc2 ? 0 : first < 0xe0 ? 2 : first < 0xf0 ? 3 : 4;
+
+    for (size_t i = 1; i < size; i++)
+        if ((text[i] & 0xc0) != 0x80)
+            return 0;
+    return first < 0xf5 ? size : 0;
+}
+
+/* A text of JSON. Names of files may have any bytes: those that are no letters are question marks. */
 void write_text(FILE *file, const char *text)
 {
     fputc('"', file);
-    for (; *text != 0; text++) {
+    while (*text != 0) {
+        size_t size = letter_size(text);
+
         if (*text == '"' || *text == '\\')
             fputc('\\', file);
-        if ((unsigned char)*text < ' ')
+        if (size == 0)
+            fputc('?', file);
+        else if ((unsigned char)*text < ' ')
             fprintf(file, "\\u%04x", (unsigned)*text);
         else
-            fputc(*text, file);
+            fwrite(text, 1, size, file);
+        text += size == 0 ? 1 : size;
     }
     fputc('"', file);
 }

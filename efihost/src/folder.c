@@ -94,9 +94,12 @@ static EFI_STATUS add_part(int root, char *path, const char *part, size_t length
 /* The path below the root of a name that is asked for in a folder; the last part need not be. */
 EFI_STATUS folder_resolve(int root, const char *folder, const CHAR16 *name, char *path)
 {
-    const char *text = narrow(name), *end;
+    char whole[FOLDER_PATH];
+    const char *text = whole, *end;
     EFI_STATUS status = EFI_SUCCESS;
 
+    if (!narrow_into(whole, sizeof whole, name))
+        return EFI_NOT_FOUND;
     *path = 0;
     if (*text != '\\')
         strcpy(path, folder);

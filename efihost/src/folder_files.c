@@ -4,6 +4,7 @@
 #include <dirent.h>
 #include <errno.h>
 #include <fcntl.h>
+#include <limits.h>
 #include <stdlib.h>
 #include <string.h>
 #include <sys/stat.h>
@@ -87,8 +88,11 @@ static EFI_STATUS write_info(int root, const char *path, const char *name, UINTN
 {
     struct stat about;
     EFI_FILE_INFO *info = to;
-    UINTN needed = sizeof *info + 2 * (strlen(name) + 1), room = *size;
+    CHAR16 wide[NAME_MAX + 1];
+    UINTN needed, room = *size;
 
+    widen(wide, name);
+    needed = sizeof *info + 2 * (wide_length(wide) + 1);
     if (fstatat(root, *path == 0 ? "." : path, &about, AT_SYMLINK_NOFOLLOW) != 0)
         return folder_status();
     *size = needed;
@@ -104,7 +108,7 @@ static EFI_STATUS write_info(int root, const char *path, const char *name, UINTN
     info->Attribute = S_ISDIR(about.st_mode) ? EFI_FILE_DIRECTORY : 0x20;
     if ((about.st_mode & 0222) == 0)
         info->Attribute |= EFI_FILE_READ_ONLY;
-    widen(info->FileName, name);
+    memcpy(info->FileName, wide, needed - sizeof *info);
     return EFI_SUCCESS;
 }
 
@@ -132,16 +136,28 @@ static EFI_STATUS read_entry(struct open_file *it, UINTN *size, void *to)
     return status;
 }
 
+/* How many bytes of a file lie behind the position. */
+static uint64_t bytes_left(const struct open_file *it)
+{
+    struct stat about;
+
+    if (fstat(it->file, &about) != 0 || (uint64_t)about.st_size <= it->position)
+        return 0;
+    return (uint64_t)about.st_size - it->position;
+}
+
 static EFI_STATUS EFIAPI read_this(EFI_FILE_PROTOCOL *this, UINTN *size, void *bytes)
 {
     SERVICE("File.Read", NUMBER(this), size == NULL ? 0 : *size, NUMBER(bytes));
     struct open_file *it = (struct open_file *)this;
-    UINTN done = 0;
+    UINTN done = 0, left;
 
     if (size == NULL || (bytes == NULL && *size != 0))
         ANSWER(EFI_INVALID_PARAMETER);
     if (it->list != NULL)
         ANSWER(read_entry(it, size, bytes));
+    left = bytes_left(it);
+    touch(bytes, *size < left ? *size : left, true);
     while (done < *size) {
         ssize_t count = pread(it->file, (char *)bytes + done, *size - done,
                               (off_t)(it->position + done));
@@ -169,6 +185,7 @@ static EFI_STATUS EFIAPI write_this(EFI_FILE_PROTOCOL *this, UINTN *size, const 
         ANSWER(EFI_UNSUPPORTED);
     if (!it->writes)
         ANSWER(EFI_ACCESS_DENIED);
+    touch(bytes, *size, false);
     count = pwrite(it->file, bytes, *size, (off_t)it->position);
     if (count < 0)
         ANSWER(folder_status());
@@ -178,32 +195,34 @@ static EFI_STATUS EFIAPI write_this(EFI_FILE_PROTOCOL *this, UINTN *size, const 
 
 static EFI_STATUS EFIAPI get_position(EFI_FILE_PROTOCOL *this, uint64_t *position)
 {
+    SERVICE("File.GetPosition", NUMBER(this), NUMBER(position));
     struct open_file *it = (struct open_file *)this;
 
     if (position == NULL)
-        return EFI_INVALID_PARAMETER;
+        ANSWER(EFI_INVALID_PARAMETER);
     if (it->list != NULL)
-        return EFI_UNSUPPORTED;
+        ANSWER(EFI_UNSUPPORTED);
     *position = it->position;
-    return EFI_SUCCESS;
+    ANSWER(EFI_SUCCESS);
 }
 
 /* The highest position is the end of the file; of a folder only its start can be set. */
 static EFI_STATUS EFIAPI set_position(EFI_FILE_PROTOCOL *this, uint64_t position)
 {
+    SERVICE("File.SetPosition", NUMBER(this), position);
     struct open_file *it = (struct open_file *)this;
     struct stat about;
 
     if (it->list != NULL) {
         if (position != 0)
-            return EFI_UNSUPPORTED;
+            ANSWER(EFI_UNSUPPORTED);
         rewinddir(it->list);
-        return EFI_SUCCESS;
+        ANSWER(EFI_SUCCESS);
     }
     it->position = position;
     if (position == UINT64_MAX)
         it->position = fstat(it->file, &about) == 0 ? (uint64_t)about.st_size : 0;
-    return EFI_SUCCESS;
+    ANSWER(EFI_SUCCESS);
 }
 
 static EFI_STATUS system_info(struct open_file *it, UINTN *size, void *to)
@@ -274,6 +293,8 @@ static EFI_STATUS EFIAPI set_info(EFI_FILE_PROTOCOL *this, const EFI_GUID *kind,
     if (*it->path == 0 || folder_resolve(it->root, folder, info->FileName, path) != EFI_SUCCESS ||
         strcmp(path, it->path) == 0)
         ANSWER(EFI_SUCCESS);
+    if (fstatat(it->root, path, &about, AT_SYMLINK_NOFOLLOW) == 0)
+        ANSWER(EFI_ACCESS_DENIED);
     if (renameat(it->root, it->path, it->root, path) != 0)
         ANSWER(folder_status());
     strcpy(it->path, path);
@@ -282,24 +303,26 @@ static EFI_STATUS EFIAPI set_info(EFI_FILE_PROTOCOL *this, const EFI_GUID *kind,
 
 static EFI_STATUS EFIAPI flush_this(EFI_FILE_PROTOCOL *this)
 {
+    SERVICE("File.Flush", NUMBER(this));
     struct open_file *it = (struct open_file *)this;
 
-    return it->list != NULL || fsync(it->file) == 0 ? EFI_SUCCESS : EFI_DEVICE_ERROR;
+    ANSWER(it->list != NULL || fsync(it->file) == 0 ? EFI_SUCCESS : EFI_DEVICE_ERROR);
 }
 
 static const EFI_FILE_PROTOCOL functions = {
     0x10000,      open_below,   close_this, delete_this, read_this, write_this,
     get_position, set_position, get_info,   set_info,    flush_this};
 
-/* Opens what is at a path below the root. */
+/* Opens what is at a path below the root; a pipe, which is no file, is not waited for. */
 EFI_STATUS folder_open(int root, const char *path, int flags, EFI_FILE_PROTOCOL **made)
 {
+    const int careful = O_NOFOLLOW | O_NONBLOCK | O_CLOEXEC;
     struct open_file *it;
     struct stat about;
-    int file = openat(root, *path == 0 ? "." : path, flags | O_NOFOLLOW | O_CLOEXEC, 0666);
+    int file = openat(root, *path == 0 ? "." : path, flags | careful, 0666);
 
     if (file < 0 && errno == EISDIR)
-        file = openat(root, *path == 0 ? "." : path, O_RDONLY | O_NOFOLLOW | O_CLOEXEC);
+        file = openat(root, *path == 0 ? "." : path, O_RDONLY | careful);
     if (file < 0 || fstat(file, &about) != 0)
         return folder_status();
     if (!S_ISDIR(about.st_mode) && !S_ISREG(about.st_mode)) {

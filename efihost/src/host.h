@@ -64,7 +64,7 @@ struct host {
     bool over_memory; /* a block of the core's pool is at its address */
     bool in_pool;     /* the core's pool is being called */
     uint64_t calls;
-    volatile bool wants_pictures; /* since a SIGUSR1 */
+    volatile bool signalled; /* a signal waits for the host's own code */
     uint64_t images_start, images_end; /* all images that there ever were lie between */
     uint64_t stack, stack_end; /* that of the machine, on which all images run */
 };
@@ -96,6 +96,7 @@ size_t wide_length(const CHAR16 *text);
 void widen(CHAR16 *to, const char *text);
 bool wide_equal(const CHAR16 *one, const CHAR16 *other);
 size_t utf8_of(uint32_t letter, char *to);
+bool narrow_into(char *to, size_t room, const CHAR16 *text);
 const char *narrow(const CHAR16 *text);
 const char *status_text(EFI_STATUS status);
 const char *guid_text(const void *guid);
@@ -156,6 +157,11 @@ uint64_t core_locate_path(const void *guid, const uint8_t *path, size_t length, 
     if (!enter(&this_call, name, where, (const uint64_t[4]){__VA_ARGS__}))                        \
     return leave(&this_call, EFI_UNSUPPORTED)
 #define ANSWER(status) return leave(&this_call, (status))
+/* A service that stays after boot services have ended. */
+#define RUNTIME_SERVICE(name, ...)                                                                \
+    struct call this_call = {.frame = FRAME};                                                     \
+    begin(&this_call, name, HERE, (const uint64_t[4]){__VA_ARGS__})
+void begin(struct call *call, const char *name, uint64_t caller, const uint64_t *arguments);
 bool enter(struct call *call, const char *name, uint64_t caller, const uint64_t *arguments);
 EFI_STATUS leave(struct call *call, EFI_STATUS status);
 struct origin origin_at(uint64_t caller);
@@ -194,11 +200,13 @@ bool json_next(struct json *json, char bracket, char *key, size_t room);
 bool json_number(struct json *json, uint64_t *number);
 bool json_string(struct json *json, char *text, size_t room);
 bool json_skip(struct json *json);
+bool json_ends(struct json *json);
 
 /* ---- ledger.c: what is live, and who made it ---- */
 struct block {
     uint64_t at, size, core_at, core_size;
     uint32_t type;
+    bool paged; /* it has pages of its own, behind which is one that is shut */
     struct origin origin;
     struct block *next;
 };
@@ -237,9 +245,10 @@ EFI_STATUS host_pool(uint32_t type, uint64_t size, void **block);
 EFI_STATUS host_free_pool(void *block);
 EFI_STATUS host_adopt_block(uint64_t core_at, uint64_t size, void **block);
 void *machine_block(uint64_t size);
+void touch(const void *bytes, size_t count, bool write);
 void fill_memory_services(EFI_BOOT_SERVICES *boot);
 struct origin last_map_change(void);
-uint64_t zone_request(uint64_t size);
+uint64_t zone_request(const struct block *block);
 void zone_lay(struct block *block);
 void zone_look(const struct block *block, const char *when);
 void zone_free(const struct block *block);
@@ -274,6 +283,7 @@ void look_for_leaks(struct image *image, const char *when);
 
 /* ---- report.c, left.c ---- */
 void open_report(const char *file);
+void write_report(enum ending ending, const char *why);
 void save_pictures(void);
 void count_left(void);
 void print_left(FILE *file);
@@ -318,6 +328,7 @@ const char *place_text(struct image *image, uint64_t address);
 const char *where(uint64_t address);
 const char *origin_text(const struct origin *origin);
 EFI_STATUS load_pe(const uint8_t *file, uint64_t length, struct image *image);
+const char *image_fault(void);
 void apply_rights(struct image *image);
 EFI_STATUS load_image(EFI_HANDLE parent, const void *path, const uint8_t *data, uint64_t length,
                       const char *file, struct image **image);
@@ -405,6 +416,7 @@ bool key_comes(EFI_INPUT_KEY *key);
 bool next_key(EFI_INPUT_KEY *key);
 bool keys_are_over(void);
 bool keys_from_terminal(void);
+bool keys_may_come(void);
 int keys_descriptor(void);
 void open_keys(const char *file);
 
@@ -429,6 +441,7 @@ void make_serial(const char *to, const char *from);
 
 /* ---- faults.c, instructions.c, sandbox.c ---- */
 void catch_faults(void);
+void heed_signals(void);
 const char *pass_over(void *context, bool only_name);
 void print_passed_over(FILE *file);
 void drop_rights(void);

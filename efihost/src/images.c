@@ -158,6 +158,7 @@ EFI_STATUS start_image(struct image *image)
     image->below = host.running;
     host.running = image;
     image->started = true;
+    host.call = NULL;
     if (sigsetjmp(image->back, 0) == 0)
         image->status =
             ((EFI_IMAGE_ENTRY_POINT)(uintptr_t)image->entry)(image->handle, host.table);

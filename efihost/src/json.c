@@ -32,22 +32,39 @@ bool json_enter(struct json *json, char bracket)
     return take(json, bracket);
 }
 
+/* Whether the bracket in which this is has nothing before it. */
+static bool is_first(const struct json *json)
+{
+    const char *at = json->at;
+
+    while (memchr(" \t\r\n", at[-1], 4) != NULL)
+        at--;
+    return at[-1] == '{' || at[-1] == '[';
+}
+
 /* Goes to the next member of a list or an object, `bracket` being its end; of an object `key` gets
  * the member's key. False where there is none, and then it is behind the bracket, or where the text
  * is wrong, and then `at` is null. */
 bool json_next(struct json *json, char bracket, char *key, size_t room)
 {
+    bool first;
+
     if (json->at == NULL)
         return false;
+    first = is_first(json);
     if (take(json, bracket))
         return false;
-    take(json, ',');
-    if (key == NULL)
-        return look(json) != 0 || (json->at = NULL);
-    if (json_string(json, key, room) && take(json, ':'))
+    if ((first || take(json, ',')) && look(json) != 0 &&
+        (key == NULL || (json_string(json, key, room) && take(json, ':'))))
         return true;
     json->at = NULL;
     return false;
+}
+
+/* Whether nothing is behind what was read. */
+bool json_ends(struct json *json)
+{
+    return json->at != NULL && look(json) == 0 && json->at == json->end;
 }
 
 bool json_number(struct json *json, uint64_t *number)

@@ -1,7 +1,10 @@
 /* Where keys come from: a terminal, which is put into raw mode, or a text, of --input or standard
- * input. In a text a line's end is Enter, and a word in << >> is a key that has no letter. */
+ * input. In a text a line's end is Enter, and a word in << >> is a key that has no letter. What a
+ * pipe has not yet is waited for as on a terminal. */
 #include "host.h"
 
+#include <errno.h>
+#include <fcntl.h>
 #include <poll.h>
 #include <stdlib.h>
 #include <string.h>
@@ -20,10 +23,22 @@ static const struct {
     {"f6", "\033[17~", 16},   {"f7", "\033[18~", 17},   {"f8", "\033[19~", 18},
     {"f9", "\033[20~", 19},   {"f10", "\033[21~", 20},  {"f11", "\033[23~", 21},
     {"f12", "\033[24~", 22},  {"esc", "\033", 23},
+    /* What other terminals send. */
+    {"up", "\033OA", 1},      {"down", "\033OB", 2},    {"right", "\033OC", 3},
+    {"left", "\033OD", 4},    {"home", "\033OH", 5},    {"end", "\033OF", 6},
+    {"home", "\033[1~", 5},   {"end", "\033[4~", 6},    {"home", "\033[7~", 5},
+    {"end", "\033[8~", 6},    {"f1", "\033[11~", 11},   {"f2", "\033[12~", 12},
+    {"f3", "\033[13~", 13},   {"f4", "\033[14~", 14},   {"f1", "\033[[A", 11},
+    {"f2", "\033[[B", 12},    {"f3", "\033[[C", 13},    {"f4", "\033[[D", 14},
+    {"f5", "\033[[E", 15},
 };
 
-static FILE *script;
+static int source = STDIN_FILENO;
 static bool terminal, over;
+static struct {
+    char letters[4096];
+    size_t used, count;
+} text; /* what is read of a text */
 static struct termios saved;
 static uint64_t wait_until;
 static uint16_t special_key; /* that of the last word, or 0 */
@@ -47,16 +62,14 @@ void open_keys(const char *file)
     struct termios raw;
 
     if (file != NULL) {
-        script = fopen(file, "r");
-        if (script == NULL)
-            refuse("cannot read %s", file);
+        source = open(file, O_RDONLY | O_CLOEXEC);
+        if (source < 0)
+            refuse("cannot read %s: %s", file, strerror(errno));
         return;
     }
     terminal = isatty(STDIN_FILENO) && tcgetattr(STDIN_FILENO, &saved) == 0;
-    if (!terminal) {
-        script = stdin;
+    if (!terminal)
         return;
-    }
     raw = saved;
     raw.c_lflag &= ~(tcflag_t)(ICANON | ECHO);
     raw.c_iflag &= ~(tcflag_t)(ICRNL | INLCR);
@@ -72,29 +85,59 @@ bool keys_from_terminal(void)
 
 int keys_descriptor(void)
 {
-    return terminal ? STDIN_FILENO : -1;
+    return source;
 }
 
-/* Reads on until there are as many letters as asked for, or none comes any more. */
+/* Reads on of a text, if something is there; what is printed so far is shown before. */
+static bool read_text(void)
+{
+    struct pollfd ready = {source, POLLIN, 0};
+    ssize_t count;
+
+    fflush(stdout);
+    if (poll(&ready, 1, 0) == 0)
+        return false;
+    count = read(source, text.letters, sizeof text.letters);
+    if (count < 0 && (errno == EINTR || errno == EAGAIN))
+        return false;
+    over = count <= 0;
+    text.used = 0;
+    text.count = over ? 0 : (size_t)count;
+    return !over;
+}
+
+/* The next letter, if one is there. */
+static bool read_letter(char *letter)
+{
+    if (terminal)
+        return read(STDIN_FILENO, letter, 1) == 1;
+    if (over || (text.used == text.count && !read_text()))
+        return false;
+    *letter = text.letters[text.used++];
+    return true;
+}
+
+/* Reads on until there are as many letters as asked for, or none is there. */
 static bool letters(size_t count)
 {
-    while (waiting_count < count && !over) {
-        int letter;
+    while (waiting_count < count && read_letter(&waiting[waiting_count]))
+        waiting_count++;
+    return waiting_count >= count;
+}
 
-        if (terminal) {
-            char one;
+/* Whether a key may come that is not there yet, of a terminal or a pipe. */
+bool keys_may_come(void)
+{
+    return terminal || (!letters(1) && !over);
+}
 
-            if (read(STDIN_FILENO, &one, 1) != 1)
-                return false;
-            letter = (unsigned char)one;
-        } else {
-            letter = fgetc(script);
-        }
-        if (letter == EOF)
-            over = true;
-        else
-            waiting[waiting_count++] = (char)letter;
-    }
+/* The same, where what is not there yet is waited for. */
+static bool all_letters(size_t count)
+{
+    struct pollfd more = {source, POLLIN, 0};
+
+    while (!letters(count) && !over && !terminal && !host.signalled)
+        poll(&more, 1, 100);
     return waiting_count >= count;
 }
 
@@ -109,15 +152,15 @@ static bool read_word(char *word, size_t room)
 {
     size_t length = 0;
 
-    if (terminal || !letters(2) || waiting[0] != '<' || waiting[1] != '<')
+    if (terminal || !letters(1) || waiting[0] != '<' || !all_letters(2) || waiting[1] != '<')
         return false;
     use(2);
-    while (letters(1) && waiting[0] != '>' && length < room - 1) {
+    while (all_letters(1) && waiting[0] != '>' && length < room - 1) {
         word[length++] = waiting[0];
         use(1);
     }
     word[length] = 0;
-    if (!letters(2) || waiting[0] != '>' || waiting[1] != '>')
+    if (!all_letters(2) || waiting[0] != '>' || waiting[1] != '>')
         refuse("input: a word in << >> has no end: %s", word);
     use(2);
     return true;
@@ -168,7 +211,7 @@ static void letter(EFI_INPUT_KEY *key)
     CHAR16 wide[4] = {0};
     char bytes[4] = {0};
 
-    if (!letters(size))
+    if (!all_letters(size))
         size = 1;
     memcpy(bytes, waiting, size);
     use(size);
@@ -197,7 +240,7 @@ bool key_is_ready(void)
 /* Whether no key comes any more. */
 bool keys_are_over(void)
 {
-    return !terminal && !has_come && wait_until == 0 && special_key == 0 && !letters(1);
+    return !terminal && !has_come && wait_until == 0 && special_key == 0 && !letters(1) && over;
 }
 
 /* The next key; false where there is none yet. */

@@ -14,6 +14,7 @@
 static struct machine_range *ranges;
 static size_t range_count;
 static uint64_t granule = 1;
+static bool all_open; /* for good */
 
 /* Whether a type of memory has bytes behind it that a program may use. */
 static bool has_bytes(const struct machine_range *range)
@@ -132,7 +133,7 @@ static void read_machine(const char *name)
             refuse("machine: not JSON");
         }
     }
-    if (json.at == NULL)
+    if (!json_ends(&json))
         refuse("machine: not JSON");
     if (!memory)
         refuse("machine: no memory list");
@@ -308,6 +309,22 @@ bool conventional_range(uint64_t address, uint64_t *start, uint64_t *size)
     return false;
 }
 
+/* A process may have only so many pieces of memory that differ in their rights. Behind the last of
+ * them all memory but that below the stack is opened for good, since what an image may use must be
+ * open: harm is then seen where bytes are looked at, and no longer where it is done. */
+static void open_for_good(void)
+{
+    fprintf(stderr, "efihost: this process can have no more pieces of memory (vm.max_map_count): "
+                    "accesses are no longer seen\n");
+    all_open = true;
+    for (size_t i = 0; i < range_count; i++)
+        if (ranges[i].mapped &&
+            mprotect(POINTER(ranges[i].start), ranges[i].pages * PAGE, ALL) != 0)
+            refuse("cannot open the memory at 0x%lx", ranges[i].start);
+    if (host.stack != 0)
+        mprotect(POINTER(host.stack - RED_PAGES * PAGE), RED_PAGES * PAGE, PROT_NONE);
+}
+
 /* Sets what every page with one of these bytes may be used for; the system is not asked where it is
  * so already. */
 void protect_memory(uint64_t address, uint64_t size, int rights)
@@ -315,7 +332,7 @@ void protect_memory(uint64_t address, uint64_t size, int rights)
     uint64_t first = address & ~(PAGE - 1), end = (address + size + PAGE - 1) & ~(PAGE - 1);
     const struct machine_range *range = machine_range_at(first);
 
-    if (end <= first)
+    if (end <= first || all_open)
         return;
     if (range != NULL && range->open != NULL && end <= range->start + range->pages * PAGE) {
         uint64_t from = (first - range->start) / PAGE, to = (end - range->start) / PAGE;
@@ -325,7 +342,7 @@ void protect_memory(uint64_t address, uint64_t size, int rights)
         note_open(range, from, to, rights == ALL);
     }
     if (mprotect(POINTER(first), end - first, rights) != 0)
-        refuse("cannot protect 0x%lx: too many pieces of memory for one process", first);
+        open_for_good();
 }
 
 void open_memory(uint64_t address, uint64_t size)

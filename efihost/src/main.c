@@ -5,9 +5,11 @@
 #include "host.h"
 
 #include <errno.h>
+#include <fcntl.h>
 #include <stdlib.h>
 #include <string.h>
 #include <ucontext.h>
+#include <unistd.h>
 
 #define STACK_PAGES 128U
 
@@ -77,9 +79,12 @@ static void start_drivers(void)
         name = name == NULL ? drivers[i].name : name + 1;
         status = load_image(NULL, file_path(name, NULL), drivers[i].bytes, drivers[i].length,
                             drivers[i].of_host ? drivers[i].name : NULL, &image);
+        if (image == NULL)
+            fprintf(stderr, "efihost: driver %s can't be loaded: %s, %s\n", name,
+                    status_text(status), image_fault());
         if (status == EFI_SUCCESS)
             status = start_image(image);
-        if (status != EFI_SUCCESS)
+        if (image != NULL && status != EFI_SUCCESS)
             fprintf(stderr, "efihost: driver %s: %s\n", name, status_text(status));
         if (image != NULL && EFI_ERROR(status))
             unload_image(image);
@@ -125,7 +130,8 @@ static void run_application(void)
                                    &host.application);
 
     if (status != EFI_SUCCESS)
-        finish(ENDED_NEVER_RAN, "%s can't be loaded: %s", application.name, status_text(status));
+        finish(ENDED_NEVER_RAN, "%s can't be loaded: %s, %s", application.name,
+               status_text(status), image_fault());
     if (host.application->loaded->DeviceHandle == NULL)
         host.application->loaded->DeviceHandle = device;
     give_arguments(host.application);
@@ -165,10 +171,23 @@ static void run_on_stack(void)
     swapcontext(&home, &machine_context);
 }
 
+/* Standard streams that are closed go nowhere, so that no file gets the number of one. */
+static void open_streams(void)
+{
+    int file;
+
+    do
+        file = open("/dev/null", O_RDWR);
+    while (file >= 0 && file <= STDERR_FILENO);
+    if (file >= 0)
+        close(file);
+}
+
 int main(int count, char **words)
 {
     static char output[65536];
 
+    open_streams();
     read_options(count, words, &host.options);
     host.checks = host.options.check || host.options.guard;
     host.tpl = TPL_APPLICATION;

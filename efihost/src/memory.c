@@ -84,9 +84,15 @@ EFI_STATUS host_pool(uint32_t type, uint64_t size, void **block)
     if (!host.checks)
         return core_pool(type, size, (uint64_t *)block);
     made.size = size;
-    made.core_size = zone_request(size);
     made.type = type;
+    made.paged = host.options.guard;
+    made.core_size = zone_request(&made);
     status = core_pool(type, made.core_size, &made.core_at);
+    if (status == EFI_OUT_OF_RESOURCES && made.paged) {
+        made.paged = false;
+        made.core_size = zone_request(&made);
+        status = core_pool(type, made.core_size, &made.core_at);
+    }
     if (status != EFI_SUCCESS)
         return status;
     made.origin = map_change = origin_now();
@@ -146,6 +152,20 @@ void *machine_block(uint64_t size)
         refuse("the machine has no memory for the host's own tables");
     host.call = call;
     return memset(block, 0, size);
+}
+
+/* Reads, and writes with what it has, a byte of each page of a buffer before the system of the host
+ * is handed it: an access to what is not the caller's is seen so, which the system only refuses. */
+void touch(const void *bytes, size_t count, bool write)
+{
+    volatile uint8_t *at = POINTER(NUMBER(bytes));
+
+    for (size_t i = 0; i < count; i += PAGE - NUMBER(at + i) % PAGE) {
+        uint8_t byte = at[i];
+
+        if (write)
+            at[i] = byte;
+    }
 }
 
 static EFI_STATUS EFIAPI AllocatePages(uint32_t kind, uint32_t type, UINTN pages, uint64_t *memory)

@@ -49,18 +49,21 @@ static const char usage[] =
     "3 --check or --guard found something; 4 it crashed; 5 its time or its input ran out.\n";
 
 #define UNSET UINT32_MAX
+#define MAX_SECONDS 1000000000UL
 
+/* Ends a run that can't begin, or not go on for want of the host. */
 void refuse(const char *format, ...)
 {
+    char why[1024];
     va_list words;
 
+    va_start(words, format);
+    vsnprintf(why, sizeof why, format, words);
+    va_end(words);
     restore_terminal();
     fflush(stdout);
-    fprintf(stderr, "efihost: ");
-    va_start(words, format);
-    vfprintf(stderr, format, words);
-    va_end(words);
-    fputc('\n', stderr);
+    fprintf(stderr, "efihost: %s\n", why);
+    write_report(ENDED_NEVER_RAN, why);
     exit(ENDED_NEVER_RAN);
 }
 
@@ -118,6 +121,7 @@ static bool read_value(const char *word, const char *value, struct options *opti
         {"--screen", &options->screen},       {"--firmware", &options->firmware},
         {"--serial-input", &options->serial_input},
     };
+    unsigned long seconds;
     char *end;
 
     for (size_t i = 0; i < LENGTH(values); i++)
@@ -130,13 +134,31 @@ static bool read_value(const char *word, const char *value, struct options *opti
     else if (strcmp(word, "--driver") == 0)
         add_to(options->drivers, &options->driver_count, MAX_DRIVERS, value);
     else if (strcmp(word, "--time") == 0) {
-        options->seconds = (unsigned)strtoul(value, &end, 10);
-        if (end == value || *end != 0)
+        seconds = strtoul(value, &end, 10);
+        if (end == value || *end != 0 || *value == '-' || seconds > MAX_SECONDS)
             refuse("--time: %s is no number of seconds", value);
+        options->seconds = (unsigned)seconds;
     } else {
         return false;
     }
     return true;
+}
+
+/* Reads an option that has a value, which is the next word or follows a `=`. The number of words. */
+static int read_valued(char **words, struct options *options)
+{
+    char *value = strchr(words[0], '='), *next = words[1];
+
+    if (value != NULL) {
+        *value = 0;
+        if (read_value(words[0], value + 1, options))
+            return 1;
+    } else if (next != NULL && read_value(words[0], next, options)) {
+        return 2;
+    } else if (next == NULL && read_value(words[0], "0", options)) {
+        refuse("%s needs a value; efihost --help lists the options", words[0]);
+    }
+    refuse("%s is no option; efihost --help lists them", words[0]);
 }
 
 /* Reads the options up to the application; all behind it are its own arguments. */
@@ -145,15 +167,10 @@ void read_options(int count, char **words, struct options *options)
     int i = 1;
 
     options->seconds = UNSET;
-    for (; i < count && strncmp(words[i], "--", 2) == 0; i++) {
-        if (read_flag(words[i], options))
-            continue;
-        if (i + 1 == count || !read_value(words[i], words[i + 1], options)) {
-            fprintf(stderr, "efihost: %s\n%s", words[i], usage);
-            exit(ENDED_NEVER_RAN);
-        }
+    while (i < count && words[i][0] == '-' && strcmp(words[i], "--") != 0)
+        i += read_flag(words[i], options) ? 1 : read_valued(words + i, options);
+    if (i < count && strcmp(words[i], "--") == 0)
         i++;
-    }
     if (i == count) {
         fputs(usage, stderr);
         exit(ENDED_NEVER_RAN);

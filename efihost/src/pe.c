@@ -8,6 +8,7 @@
 #define RESOURCES 2U
 #define RELOCATIONS 5U
 #define DEBUG 6U
+#define DEBUG_ENTRY 28U
 #define CODEVIEW 2U
 #define STRIPPED 1U
 #define MAX_IMAGE_SIZE (1ULL << 30)
@@ -18,6 +19,20 @@ struct headers {
     uint32_t alignment, header_size, directories;
     uint16_t section_count, flags;
 };
+
+static char fault[96];
+
+/* Why the last image was not loaded. */
+const char *image_fault(void)
+{
+    return fault;
+}
+
+static bool say(const char *why)
+{
+    snprintf(fault, sizeof fault, "%s", why);
+    return false;
+}
 
 static uint16_t get16(const uint8_t *at)
 {
@@ -34,20 +49,46 @@ static uint64_t get64(const uint8_t *at)
     return get32(at) | (uint64_t)get32(at + 4) << 32;
 }
 
-static bool read_headers(const uint8_t *file, uint64_t length, struct headers *to)
+/* Whether an image is for this processor. */
+static bool is_for_x64(uint16_t machine)
+{
+    static const struct {
+        uint16_t number;
+        const char *name;
+    } others[] = {{0x14c, "IA32"},    {0x1c2, "ARM"},      {0xaa64, "AArch64"},
+                  {0xebc, "EBC"},     {0x5064, "RISC-V"},  {0x6264, "LoongArch"}};
+
+    if (machine == 0x8664)
+        return true;
+    snprintf(fault, sizeof fault, "it is for another processor, 0x%x", machine);
+    for (size_t i = 0; i < LENGTH(others); i++)
+        if (others[i].number == machine)
+            snprintf(fault, sizeof fault, "it is for %s", others[i].name);
+    return false;
+}
+
+/* Finds the parts of the headers; false where there are none, or they are for another processor. */
+static bool find_headers(const uint8_t *file, uint64_t length, struct headers *to)
 {
     uint32_t start;
 
     if (length < 64 || file[0] != 'M' || file[1] != 'Z')
-        return false;
+        return say("it is no PE image");
     start = get32(file + 60);
     if (start > length || length - start < 24 + 112 || memcmp(file + start, "PE\0\0", 4) != 0)
-        return false;
+        return say("it is no PE image, or cut off in its headers");
     to->file = file;
     to->length = length;
     to->header = file + start;
     to->optional = to->header + 24;
-    if (get16(to->header + 4) != 0x8664 || get16(to->optional) != 0x20b)
+    if (!is_for_x64(get16(to->header + 4)))
+        return false;
+    return get16(to->optional) == 0x20b || say("it is no PE32+ image");
+}
+
+static bool read_headers(const uint8_t *file, uint64_t length, struct headers *to)
+{
+    if (!find_headers(file, length, to))
         return false;
     to->section_count = get16(to->header + 6);
     to->flags = get16(to->header + 22);
@@ -57,9 +98,13 @@ static bool read_headers(const uint8_t *file, uint64_t length, struct headers *t
     to->size = get32(to->optional + 56);
     to->header_size = get32(to->optional + 60);
     to->directories = get32(to->optional + 108);
-    return (uint64_t)(to->sections - file) + 40ULL * to->section_count <= length &&
-           to->header_size <= length && to->header_size <= to->size && to->size <= MAX_IMAGE_SIZE &&
-           to->size != 0 && get32(to->optional + 16) < to->size;
+    if ((uint64_t)(to->sections - file) + 40ULL * to->section_count > length ||
+        to->header_size > length || to->header_size > to->size)
+        return say("its headers go past its end");
+    if (to->size == 0 || to->size > MAX_IMAGE_SIZE || get32(to->optional + 16) >= to->size)
+        return say("its size or its entry point is out of range");
+    return (to->alignment & (to->alignment - 1)) == 0 ||
+           say("its alignment is no power of two");
 }
 
 /* A directory of the image, its place and its size; false where it has none or it lies outside. */
@@ -93,11 +138,16 @@ static EFI_STATUS place(const struct headers *from, struct image *image)
     image->pages = (from->size + PAGE - 1) / PAGE;
     if ((from->flags & STRIPPED) != 0) {
         status = host_plain_pages(RAFKUDIN_AT_ADDRESS, type, image->pages, &at);
+        if (status != EFI_SUCCESS)
+            snprintf(fault, sizeof fault, "it has no relocations, and no memory is free at 0x%lx",
+                     at);
         image->placed = image->base = at;
         return status;
     }
     image->pages += (alignment - PAGE) / PAGE;
     status = host_plain_pages(RAFKUDIN_ANY_PAGES, type, image->pages, &at);
+    if (status != EFI_SUCCESS)
+        snprintf(fault, sizeof fault, "the machine has no %lu free pages in a row", image->pages);
     image->placed = at;
     image->base = (at + alignment - 1) / alignment * alignment;
     return status;
@@ -119,9 +169,9 @@ static bool copy_sections(const struct headers *from, struct image *image)
         if (virtual_size != 0 && size > virtual_size)
             size = virtual_size;
         if (at > from->size || size > from->size - at || virtual_size > from->size - at)
-            return false;
+            return say("a section lies outside of it");
         if (size != 0 && (start > from->length || size > from->length - start))
-            return false;
+            return say("it is cut off in a section");
         memcpy(to + at, from->file + start, size);
         if (image->section_count < LENGTH(image->sections))
             image->sections[image->section_count++] =
@@ -176,7 +226,7 @@ static bool relocate(const struct headers *from, struct image *image)
             return true;
         if (block_size < 8 || block_size > size - done ||
             !relocate_page(image, block, block_size, delta))
-            return false;
+            return say("its relocations are damaged");
         done += block_size;
     }
     return true;
@@ -227,18 +277,24 @@ static void *find_packages(const struct headers *from, const struct image *image
     return POINTER(image->base + get32(start + place));
 }
 
-/* The file that the debug entry names, which is empty where there is none. */
+/* The file that the first debug entry with a name names, which is empty where there is none. */
 static void find_debug_file(const struct headers *from, struct image *image)
 {
     const uint8_t *entry, *text;
     uint32_t at, size, start, length, front;
 
-    if (!directory(from, DEBUG, &at, &size) || size < 28)
+    if (!directory(from, DEBUG, &at, &size))
         return;
     entry = (const uint8_t *)POINTER(image->base) + at;
+    while (size >= DEBUG_ENTRY && get32(entry + 12) != CODEVIEW) {
+        entry += DEBUG_ENTRY;
+        size -= DEBUG_ENTRY;
+    }
+    if (size < DEBUG_ENTRY)
+        return;
     length = get32(entry + 16);
     start = get32(entry + 20);
-    if (get32(entry + 12) != CODEVIEW || start > image->size || length > image->size - start)
+    if (start > image->size || length > image->size - start)
         return;
     text = (const uint8_t *)POINTER(image->base) + start;
     front = length > 24 && memcmp(text, "RSDS", 4) == 0 ? 24 : 16;
@@ -273,8 +329,11 @@ EFI_STATUS load_pe(const uint8_t *file, uint64_t length, struct image *image)
     if (!read_headers(file, length, &headers))
         return EFI_UNSUPPORTED;
     image->subsystem = get16(headers.optional + 68);
-    if (image->subsystem < 10 || image->subsystem > 12)
+    if (image->subsystem < 10 || image->subsystem > 12) {
+        snprintf(fault, sizeof fault, "its subsystem is %u, which is none of UEFI's",
+                 image->subsystem);
         return EFI_UNSUPPORTED;
+    }
     status = place(&headers, image);
     if (status != EFI_SUCCESS)
         return status;

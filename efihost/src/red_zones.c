@@ -3,7 +3,8 @@
  * With --check the core's block is 64 bytes larger than the caller's, which lies in its middle; the
  * bytes on both sides hold patterns, which are looked at when the block is freed and at ends. With
  * --guard the caller's block ends at the end of a page, behind which is one that is shut; the pages
- * of a freed block are shut until the core places them again. */
+ * of a freed block are shut until the core places them again. Where the machine has no pages for
+ * that, a block is as with --check. */
 #include "host.h"
 
 #include <string.h>
@@ -21,12 +22,12 @@ static uint64_t up(uint64_t number, uint64_t multiple)
     return (number + multiple - 1) / multiple * multiple;
 }
 
-/* The size of the core's block for a caller's block of this size. */
-uint64_t zone_request(uint64_t size)
+/* The size of the core's block for a caller's block. */
+uint64_t zone_request(const struct block *block)
 {
-    if (!host.checks || size > RAFKUDIN_MAX_BLOCK)
-        return size;
-    return host.options.guard ? up(size, PAGE) + 2 * PAGE : size + 2 * MARGIN;
+    if (!host.checks || block->size > RAFKUDIN_MAX_BLOCK)
+        return block->size;
+    return block->paged ? up(block->size, PAGE) + 2 * PAGE : block->size + 2 * MARGIN;
 }
 
 static uint64_t first_page(const struct block *block)
@@ -42,12 +43,12 @@ static uint64_t shut_page(const struct block *block)
 
 static uint64_t before_start(const struct block *block)
 {
-    return host.options.guard ? first_page(block) : block->core_at - 8;
+    return block->paged ? first_page(block) : block->core_at - 8;
 }
 
 static uint64_t behind_end(const struct block *block)
 {
-    if (host.options.guard)
+    if (block->paged)
         return shut_page(block);
     return block->core_at - 8 + up(block->core_size + 8, CELL);
 }
@@ -60,12 +61,11 @@ void zone_lay(struct block *block)
         return;
     zone_look_at_reuse(block->core_at - 8, up(block->core_size + 8, CELL));
     open_memory(block->core_at - 8, block->core_size + 8);
-    block->at = host.options.guard ? shut_page(block) - up(block->size, 8)
-                                   : block->core_at + MARGIN;
+    block->at = block->paged ? shut_page(block) - up(block->size, 8) : block->core_at + MARGIN;
     memset(POINTER(before_start(block)), BEFORE, block->at - before_start(block));
     memset(POINTER(block->at), FRESH, block->size < MAX_FRESH ? block->size : MAX_FRESH);
     memset(POINTER(block->at + block->size), BEHIND, behind_end(block) - block->at - block->size);
-    if (host.options.guard)
+    if (block->paged)
         shut_memory(shut_page(block), PAGE);
 }
 
@@ -123,11 +123,11 @@ void zone_free(const struct block *block)
 {
     if (!host.checks)
         return;
-    if (host.options.guard)
+    if (block->paged)
         shut_memory(first_page(block), shut_page(block) + PAGE - first_page(block));
     else
         memset(POINTER(block->at), GONE, block->size);
-    ledger_add_freed(block->at, block->size, !host.options.guard, block->origin);
+    ledger_add_freed(block->at, block->size, !block->paged, block->origin);
     zone_shut_free(block->core_at - 8, up(block->core_size + 8, CELL));
 }
 

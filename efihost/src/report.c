@@ -19,7 +19,6 @@ void open_report(const char *file)
 
 void save_pictures(void)
 {
-    host.wants_pictures = false;
     save_picture();
     save_screen();
 }
@@ -32,7 +31,7 @@ static const char *ending_name(enum ending ending)
     return names[ending];
 }
 
-static void write_report(enum ending ending, const char *why)
+void write_report(enum ending ending, const char *why)
 {
     if (json == NULL)
         return;
@@ -44,6 +43,7 @@ static void write_report(enum ending ending, const char *why)
     write_findings(json);
     fprintf(json, "}\n");
     fclose(json);
+    json = NULL;
 }
 
 static void print_report(enum ending ending, const char *why)

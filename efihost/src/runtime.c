@@ -36,10 +36,11 @@ void write_time(EFI_TIME *to, int64_t seconds)
 
 static EFI_STATUS EFIAPI GetTime(EFI_TIME *to, EFI_TIME_CAPABILITIES *capabilities)
 {
+    RUNTIME_SERVICE("GetTime", NUMBER(to), NUMBER(capabilities));
     int64_t now = clock_now();
 
     if (to == NULL)
-        return EFI_INVALID_PARAMETER;
+        ANSWER(EFI_INVALID_PARAMETER);
     write_time(to, now / 1000000000);
     to->Nanosecond = (uint32_t)(now % 1000000000);
     if (capabilities != NULL) {
@@ -47,18 +48,19 @@ static EFI_STATUS EFIAPI GetTime(EFI_TIME *to, EFI_TIME_CAPABILITIES *capabiliti
         capabilities->Accuracy = 50000000;
         capabilities->SetsToZero = 0;
     }
-    return EFI_SUCCESS;
+    ANSWER(EFI_SUCCESS);
 }
 
 /* Sets the machine's clock, which is in UTC, and leaves the host's. */
 static EFI_STATUS EFIAPI SetTime(EFI_TIME *time)
 {
+    RUNTIME_SERVICE("SetTime", NUMBER(time));
     struct tm parts = {0};
     EFI_TIME again;
     int64_t seconds;
 
     if (time == NULL || time->Year < 1970 || time->Nanosecond > 999999999)
-        return EFI_INVALID_PARAMETER;
+        ANSWER(EFI_INVALID_PARAMETER);
     parts.tm_year = time->Year - 1900;
     parts.tm_mon = time->Month - 1;
     parts.tm_mday = time->Day;
@@ -68,9 +70,9 @@ static EFI_STATUS EFIAPI SetTime(EFI_TIME *time)
     seconds = (int64_t)timegm(&parts);
     write_time(&again, seconds);
     if (again.Day != time->Day || again.Hour != time->Hour || again.Second != time->Second)
-        return EFI_INVALID_PARAMETER;
+        ANSWER(EFI_INVALID_PARAMETER);
     clock_offset += seconds * 1000000000 + time->Nanosecond - clock_now();
-    return EFI_SUCCESS;
+    ANSWER(EFI_SUCCESS);
 }
 
 static EFI_STATUS EFIAPI GetWakeupTime(BOOLEAN *enabled, BOOLEAN *pending, EFI_TIME *time)
@@ -111,12 +113,13 @@ static EFI_STATUS EFIAPI ConvertPointer(UINTN debug, void **pointer)
 
 static EFI_STATUS EFIAPI GetNextHighMonotonicCount(uint32_t *count)
 {
+    RUNTIME_SERVICE("GetNextHighMonotonicCount", NUMBER(count));
     static uint32_t last;
 
     if (count == NULL)
-        return EFI_INVALID_PARAMETER;
+        ANSWER(EFI_INVALID_PARAMETER);
     *count = ++last;
-    return EFI_SUCCESS;
+    ANSWER(EFI_SUCCESS);
 }
 
 static void EFIAPI ResetSystem(uint32_t kind, EFI_STATUS status, UINTN size, const void *data)

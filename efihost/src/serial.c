@@ -49,11 +49,12 @@ static bool has_input(void)
 /* All that was written is gone. */
 static EFI_STATUS EFIAPI get_control(EFI_SERIAL_IO_PROTOCOL *this, uint32_t *control)
 {
-    (void)this;
+    SERVICE("SerialIo.GetControl", NUMBER(this), NUMBER(control));
+
     if (control == NULL)
-        return EFI_INVALID_PARAMETER;
+        ANSWER(EFI_INVALID_PARAMETER);
     *control = OUTPUT_EMPTY | (has_input() ? 0 : INPUT_EMPTY);
-    return EFI_SUCCESS;
+    ANSWER(EFI_SUCCESS);
 }
 
 static EFI_STATUS EFIAPI write_bytes(EFI_SERIAL_IO_PROTOCOL *this, UINTN *size, const void *bytes)
@@ -62,6 +63,7 @@ static EFI_STATUS EFIAPI write_bytes(EFI_SERIAL_IO_PROTOCOL *this, UINTN *size, 
 
     if (size == NULL || bytes == NULL)
         ANSWER(EFI_INVALID_PARAMETER);
+    touch(bytes, *size, false);
     fwrite(bytes, 1, *size, output);
     fflush(output);
     ANSWER(EFI_SUCCESS);
@@ -70,12 +72,14 @@ static EFI_STATUS EFIAPI write_bytes(EFI_SERIAL_IO_PROTOCOL *this, UINTN *size, 
 static EFI_STATUS EFIAPI read_bytes(EFI_SERIAL_IO_PROTOCOL *this, UINTN *size, void *bytes)
 {
     SERVICE("SerialIo.Read", NUMBER(this), size == NULL ? 0 : *size, NUMBER(bytes));
+    uint8_t *to = bytes;
     UINTN asked;
 
     if (size == NULL || bytes == NULL)
         ANSWER(EFI_INVALID_PARAMETER);
     asked = *size;
-    *size = input == NULL ? 0 : fread(bytes, 1, asked, input);
+    for (*size = 0; *size < asked && has_input(); ++*size)
+        to[*size] = (uint8_t)fgetc(input);
     ANSWER(*size == asked ? EFI_SUCCESS : EFI_TIMEOUT);
 }
 

@@ -169,16 +169,23 @@ const char *where(uint64_t address)
     return place_text(image, image == NULL ? address : address - image->base);
 }
 
-/* Where something was asked for, and the callers before; it stays until the fourth call. */
+/* Where something was asked for, and the callers before, of which those are left out that have no
+ * room; it stays until the fourth call. */
 const char *origin_text(const struct origin *origin)
 {
     static char turns[4][1600];
     static unsigned turn;
     char *text = turns[turn++ % 4];
-    int used = snprintf(text, sizeof turns[0], "%s", place_text(origin->image, origin->address));
+    size_t used = 0;
 
-    for (size_t i = 0; i < TRAIL && origin->trail[i].image != NULL; i++)
-        used += snprintf(text + used, sizeof turns[0] - (size_t)used, " < %s",
-                         place_text(origin->trail[i].image, origin->trail[i].address));
+    snprintf(text, sizeof turns[0], "%s", place_text(origin->image, origin->address));
+    for (size_t i = 0; i < TRAIL && origin->trail[i].image != NULL; i++) {
+        const char *place = place_text(origin->trail[i].image, origin->trail[i].address);
+
+        used += strlen(text + used);
+        if (used + strlen(place) + 4 > sizeof turns[0])
+            break;
+        snprintf(text + used, sizeof turns[0] - used, " < %s", place);
+    }
     return text;
 }

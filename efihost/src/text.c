@@ -39,7 +39,15 @@ size_t wide_length(const CHAR16 *text)
     return length;
 }
 
-/* Of a text in UTF-8 its letters up to U+FFFF; others become question marks. */
+/* Whether a letter of four bytes begins here, which UTF-16 has as two halves. */
+static bool is_long(const uint8_t *at)
+{
+    return (at[0] & 0xf8) == 0xf0 && (at[1] & 0xc0) == 0x80 && (at[2] & 0xc0) == 0x80 &&
+           (at[3] & 0xc0) == 0x80;
+}
+
+/* The letters of a text in UTF-8; bytes that are none become question marks. It has at most as many
+ * letters as the text has bytes. */
 void widen(CHAR16 *to, const char *text)
 {
     const uint8_t *from = (const uint8_t *)text;
@@ -53,6 +61,13 @@ void widen(CHAR16 *to, const char *text)
         } else if (*from < 0xf0 && from[1] != 0 && from[2] != 0) {
             *to++ = (CHAR16)((from[0] & 0xf) << 12 | (from[1] & 0x3f) << 6 | (from[2] & 0x3f));
             from += 3;
+        } else if (is_long(from)) {
+            uint32_t letter = (uint32_t)(from[0] & 7) << 18 | (uint32_t)(from[1] & 0x3f) << 12 |
+                              (uint32_t)(from[2] & 0x3f) << 6 | (from[3] & 0x3f);
+
+            *to++ = (CHAR16)(0xd7c0 + (letter >> 10));
+            *to++ = (CHAR16)(0xdc00 | (letter & 0x3ff));
+            from += 4;
         } else {
             *to++ = '?';
             from++;
@@ -81,10 +96,45 @@ size_t utf8_of(uint32_t letter, char *to)
         to[1] = (char)(0x80 | (letter & 0x3f));
         return 2;
     }
-    to[0] = (char)(0xe0 | letter >> 12);
-    to[1] = (char)(0x80 | (letter >> 6 & 0x3f));
-    to[2] = (char)(0x80 | (letter & 0x3f));
-    return 3;
+    if (letter < 0x10000) {
+        to[0] = (char)(0xe0 | letter >> 12);
+        to[1] = (char)(0x80 | (letter >> 6 & 0x3f));
+        to[2] = (char)(0x80 | (letter & 0x3f));
+        return 3;
+    }
+    to[0] = (char)(0xf0 | letter >> 18);
+    to[1] = (char)(0x80 | (letter >> 12 & 0x3f));
+    to[2] = (char)(0x80 | (letter >> 6 & 0x3f));
+    to[3] = (char)(0x80 | (letter & 0x3f));
+    return 4;
+}
+
+/* A letter of a text, which goes on behind it: two halves are one letter. */
+static uint32_t next_letter(const CHAR16 **text)
+{
+    uint32_t first = *(*text)++;
+
+    if (first < 0xd800 || first > 0xdbff || (**text & 0xfc00) != 0xdc00)
+        return first;
+    return 0x10000 + ((first & 0x3ff) << 10 | (*(*text)++ & 0x3ff));
+}
+
+/* Writes a text in UTF-8; false where there is no room for all of it. */
+bool narrow_into(char *to, size_t room, const CHAR16 *text)
+{
+    char letter[4];
+    size_t used = 0;
+
+    while (text != NULL && *text != 0) {
+        size_t size = utf8_of(next_letter(&text), letter);
+
+        if (used + size >= room)
+            break;
+        memcpy(to + used, letter, size);
+        used += size;
+    }
+    to[used] = 0;
+    return text == NULL || *text == 0;
 }
 
 /* The text in UTF-8, cut after some 1,000 bytes. It stays until the fourth call after this. */
@@ -92,12 +142,10 @@ const char *narrow(const CHAR16 *text)
 {
     static char turns[4][1024];
     static unsigned turn;
-    char *start = turns[turn++ % 4], *to = start;
+    char *to = turns[turn++ % 4];
 
-    while (text != NULL && *text != 0 && to < start + 1000)
-        to += utf8_of(*text++, to);
-    *to = 0;
-    return start;
+    narrow_into(to, sizeof turns[0], text);
+    return to;
 }
 
 const char *status_text(EFI_STATUS status)

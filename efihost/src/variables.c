@@ -2,8 +2,10 @@
  * attributes, the name's letters and the value's bytes, both in hexadecimal. */
 #include "host.h"
 
+#include <errno.h>
 #include <stdlib.h>
 #include <string.h>
+#include <sys/file.h>
 #include <unistd.h>
 
 #define MAX_NAME_LENGTH 512U
@@ -102,10 +104,12 @@ void open_variables(const char *file)
     if (file == NULL)
         return;
     store = fopen(file, "r+");
-    if (store == NULL)
+    if (store == NULL && errno == ENOENT)
         store = fopen(file, "w+");
     if (store == NULL)
-        refuse("cannot read %s", file);
+        refuse("cannot open %s: %s", file, strerror(errno));
+    if (flock(fileno(store), LOCK_EX | LOCK_NB) != 0 && errno == EWOULDBLOCK)
+        refuse("another efihost has the variables of %s", file);
     while (getline(&line, &room, store) > 0)
         if (number++, !read_line(line))
             refuse("variables: line %zu", number);
@@ -115,25 +119,26 @@ void open_variables(const char *file)
 static EFI_STATUS EFIAPI GetVariable(const CHAR16 *name, const EFI_GUID *guid,
                                      uint32_t *attributes, UINTN *size, void *value)
 {
+    RUNTIME_SERVICE("GetVariable", NUMBER(name), NUMBER(guid), NUMBER(value));
     struct variable *it;
 
     if (name == NULL || guid == NULL || size == NULL)
-        return EFI_INVALID_PARAMETER;
+        ANSWER(EFI_INVALID_PARAMETER);
     it = *link_of(name, guid);
     if (it == NULL || (host.exited && (it->attributes & EFI_VARIABLE_RUNTIME_ACCESS) == 0))
-        return EFI_NOT_FOUND;
+        ANSWER(EFI_NOT_FOUND);
     if (attributes != NULL)
         *attributes = it->attributes;
     if (*size < it->size) {
         *size = it->size;
-        return EFI_BUFFER_TOO_SMALL;
+        ANSWER(EFI_BUFFER_TOO_SMALL);
     }
     if (value == NULL && it->size != 0)
-        return EFI_INVALID_PARAMETER;
+        ANSWER(EFI_INVALID_PARAMETER);
     *size = it->size;
     if (it->size != 0)
         memcpy(value, it->value, it->size);
-    return EFI_SUCCESS;
+    ANSWER(EFI_SUCCESS);
 }
 
 static void remove_variable(struct variable **link)
@@ -189,57 +194,59 @@ static EFI_STATUS set_variable(const CHAR16 *name, const EFI_GUID *guid, uint32_
 static EFI_STATUS EFIAPI SetVariable(const CHAR16 *name, const EFI_GUID *guid, uint32_t attributes,
                                      UINTN size, const void *value)
 {
+    RUNTIME_SERVICE("SetVariable", NUMBER(name), NUMBER(guid), attributes, size);
     EFI_STATUS status;
 
     if (name == NULL || *name == 0 || guid == NULL || (value == NULL && size != 0) ||
         wide_length(name) >= MAX_NAME_LENGTH ||
         (attributes & (EFI_VARIABLE_BOOTSERVICE_ACCESS | EFI_VARIABLE_RUNTIME_ACCESS)) ==
             EFI_VARIABLE_RUNTIME_ACCESS)
-        return EFI_INVALID_PARAMETER;
+        ANSWER(EFI_INVALID_PARAMETER);
     status = set_variable(name, guid, attributes, size, value);
     if (status == EFI_SUCCESS)
         write_store();
-    return status;
+    ANSWER(status);
 }
 
 static EFI_STATUS EFIAPI GetNextVariableName(UINTN *size, CHAR16 *name, EFI_GUID *guid)
 {
+    RUNTIME_SERVICE("GetNextVariableName", NUMBER(size), NUMBER(name), NUMBER(guid));
     struct variable *it = first;
     size_t needed;
 
     if (size == NULL || name == NULL || guid == NULL)
-        return EFI_INVALID_PARAMETER;
+        ANSWER(EFI_INVALID_PARAMETER);
     if (*name != 0) {
         it = *link_of(name, guid);
         if (it == NULL)
-            return EFI_INVALID_PARAMETER;
+            ANSWER(EFI_INVALID_PARAMETER);
         it = it->next;
     }
     if (it == NULL)
-        return EFI_NOT_FOUND;
+        ANSWER(EFI_NOT_FOUND);
     needed = 2 * (wide_length(it->name) + 1);
     if (*size < needed) {
         *size = needed;
-        return EFI_BUFFER_TOO_SMALL;
+        ANSWER(EFI_BUFFER_TOO_SMALL);
     }
     *size = needed;
     memcpy(name, it->name, needed);
     *guid = it->guid;
-    return EFI_SUCCESS;
+    ANSWER(EFI_SUCCESS);
 }
 
 static EFI_STATUS EFIAPI QueryVariableInfo(uint32_t attributes, uint64_t *most, uint64_t *left,
                                            uint64_t *largest)
 {
-    (void)attributes;
+    RUNTIME_SERVICE("QueryVariableInfo", attributes);
     if (most == NULL || left == NULL || largest == NULL)
-        return EFI_INVALID_PARAMETER;
+        ANSWER(EFI_INVALID_PARAMETER);
     *most = ROOM;
     *left = ROOM;
     for (struct variable *it = first; it != NULL; it = it->next)
         *left -= it->size < *left ? it->size : *left;
     *largest = MAX_VALUE_SIZE;
-    return EFI_SUCCESS;
+    ANSWER(EFI_SUCCESS);
 }
 
 void fill_variable_services(EFI_RUNTIME_SERVICES *runtime)
