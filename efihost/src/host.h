@@ -234,6 +234,7 @@ void ledger_cut_runs(uint64_t at, uint64_t pages);
 void ledger_each_run(void (*visit)(struct run *run, void *context), void *context);
 void ledger_add_freed(uint64_t at, uint64_t size, bool filled, struct origin made);
 struct freed *ledger_freed_with(uint64_t address);
+struct freed *ledger_any_freed_among(uint64_t at, uint64_t size);
 struct freed *ledger_freed_among(uint64_t at, uint64_t size, size_t *passed);
 void ledger_drop_freed(struct freed *entry);
 

@@ -7,9 +7,9 @@
 #define SLOTS 65536U
 #define FREED 256U
 #define PAGES_COUNTED 65536U
-#define PART 256U /* bytes */
-#define PARTS_COUNTED 65536U
 #define LARGE 65536U /* bytes */
+#define LISTS 17U    /* the pages that a block of so many bytes touches at most */
+#define PAGE_LISTS 4096U
 
 static struct block *slots[SLOTS];
 static struct run *runs;
@@ -21,9 +21,13 @@ static size_t freed_next;
 /* How many live blocks have a byte in a page, of all pages with the same remainder. */
 static uint32_t blocks_in_page[PAGES_COUNTED];
 
-/* How many remembered freed blocks have a byte in a part of memory, of all parts with the same
- * remainder; and how many are so large that they are in no such number. */
-static uint16_t freed_in_part[PARTS_COUNTED];
+/* The remembered freed blocks of each page, of all pages with the same remainder together: a block is
+ * in the lists of all pages that it touches, but for large ones, which are only counted. The nodes of
+ * a block come one behind the other; number 0 is none. */
+static struct node {
+    uint16_t next, before;
+} nodes[FREED * LISTS + 1];
+static uint16_t lists[PAGE_LISTS];
 static size_t large_freed;
 
 static void count_pages(const struct block *block, int by)
@@ -161,26 +165,47 @@ void ledger_each_run(void (*visit)(struct run *run, void *context), void *contex
         visit(&runs[i], context);
 }
 
-static void count_freed(size_t place, int by)
+/* The pages in whose lists a freed block is. */
+static uint64_t listed_pages(size_t place)
 {
     uint64_t start = freed_start[place], end = freed_end[place];
 
-    if (end - start > LARGE)
-        large_freed += (size_t)by;
-    else
-        for (uint64_t part = start / PART; part * PART < end; part++)
-            freed_in_part[part % PARTS_COUNTED] += (uint16_t)by;
+    return start == end || end - start > LARGE ? 0 : (end - 1) / PAGE - start / PAGE + 1;
 }
 
-/* Whether a freed block that is remembered may lie among these bytes. */
-static bool may_be_freed(uint64_t at, uint64_t end)
+static bool is_large(size_t place)
 {
-    if (large_freed != 0 || end - at > LARGE)
-        return true;
-    for (uint64_t part = at / PART; part * PART < end; part++)
-        if (freed_in_part[part % PARTS_COUNTED] != 0)
-            return true;
-    return false;
+    return freed_end[place] - freed_start[place] > LARGE;
+}
+
+static void list_freed(size_t place)
+{
+    uint64_t page = freed_start[place] / PAGE, pages = listed_pages(place);
+
+    large_freed += is_large(place);
+    for (uint64_t i = 0; i < pages; i++) {
+        uint16_t node = (uint16_t)(place * LISTS + i + 1), *first = &lists[(page + i) % PAGE_LISTS];
+
+        nodes[node] = (struct node){*first, 0};
+        nodes[*first].before = node;
+        *first = node;
+    }
+}
+
+static void unlist_freed(size_t place)
+{
+    uint64_t page = freed_start[place] / PAGE, pages = listed_pages(place);
+
+    large_freed -= is_large(place);
+    for (uint64_t i = 0; i < pages; i++) {
+        const struct node *node = &nodes[place * LISTS + i + 1];
+
+        if (node->before == 0)
+            lists[(page + i) % PAGE_LISTS] = node->next;
+        else
+            nodes[node->before].next = node->next;
+        nodes[node->next].before = node->before;
+    }
 }
 
 void ledger_add_freed(uint64_t at, uint64_t size, bool filled, struct origin made)
@@ -189,10 +214,10 @@ void ledger_add_freed(uint64_t at, uint64_t size, bool filled, struct origin mad
     struct freed *entry = &freed[place];
 
     zone_look_at_freed(entry);
-    count_freed(place, -1);
+    unlist_freed(place);
     freed_start[place] = at;
     freed_end[place] = at + (size == 0 ? 1 : size);
-    count_freed(place, 1);
+    list_freed(place);
     entry->at = at;
     entry->size = size;
     entry->filled = filled;
@@ -206,14 +231,29 @@ struct freed *ledger_freed_among(uint64_t at, uint64_t size, size_t *passed)
 {
     uint64_t end = at + size;
 
-    if (!may_be_freed(at, end))
-        return NULL;
     for (; *passed < FREED; ++*passed) {
         size_t place = (freed_next + FREED - 1 - *passed) % FREED;
 
         if (freed_start[place] < end && at < freed_end[place])
             return &freed[place];
     }
+    return NULL;
+}
+
+/* Any freed block that lies among these bytes, or NULL. */
+struct freed *ledger_any_freed_among(uint64_t at, uint64_t size)
+{
+    size_t passed = 0;
+
+    if (large_freed != 0 || size > LARGE)
+        return ledger_freed_among(at, size, &passed);
+    for (uint64_t page = at / PAGE; page * PAGE < at + size; page++)
+        for (uint16_t node = lists[page % PAGE_LISTS]; node != 0; node = nodes[node].next) {
+            size_t place = (node - 1U) / LISTS;
+
+            if (freed_start[place] < at + size && at < freed_end[place])
+                return &freed[place];
+        }
     return NULL;
 }
 
@@ -237,6 +277,6 @@ void ledger_drop_freed(struct freed *entry)
 
     entry->filled = false;
     entry->at = UINT64_MAX;
-    count_freed(place, -1);
+    unlist_freed(place);
     freed_start[place] = freed_end[place] = 0;
 }

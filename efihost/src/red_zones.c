@@ -154,7 +154,7 @@ void zone_look_at_reuse(uint64_t at, uint64_t size)
 
     if (!host.checks)
         return;
-    for (size_t i = 0; (entry = ledger_freed_among(at, size, &i)) != NULL; i++) {
+    while ((entry = ledger_any_freed_among(at, size)) != NULL) {
         zone_look_at_freed(entry);
         ledger_drop_freed(entry);
     }
