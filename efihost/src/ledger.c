@@ -8,7 +8,7 @@
 #define FREED 256U
 #define PAGES_COUNTED 65536U
 #define LARGE 65536U /* bytes */
-#define LISTS 17U    /* the pages that a block of so many bytes touches at most */
+#define LISTS 17U    /* the pages that a block of that size touches at most */
 #define PAGE_LISTS 4096U
 
 static struct block *slots[SLOTS];

@@ -309,7 +309,7 @@ bool conventional_range(uint64_t address, uint64_t *start, uint64_t *size)
     return false;
 }
 
-/* A process may have only so many pieces of memory that differ in their rights. Behind the last of
+/* Linux limits how many pieces of memory with rights of their own a process has. Behind the last of
  * them all memory but that below the stack is opened for good, since what an image may use must be
  * open: harm is then seen where bytes are looked at, and no longer where it is done. */
 static void open_for_good(void)
