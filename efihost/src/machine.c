@@ -8,7 +8,7 @@
 
 #define MAX_RANGES 65536U
 #define LOWEST 0x10000ULL /* what a process may have lies at or above this */
-#define MAX_PAGES 0xc0000 /* of memory that the core is handed: it keeps a byte for each page */
+#define MAX_PAGES 0x800000 /* of memory that the core is handed, of which it keeps a byte each */
 #define ALL (PROT_READ | PROT_WRITE | PROT_EXEC)
 
 static struct machine_range *ranges;
@@ -170,7 +170,7 @@ static bool one_run(struct rafkudin_memory *memory)
     if (first == behind)
         return false;
     start = end = ranges[first].start;
-    if (ranges[behind - 1].start / PAGE + ranges[behind - 1].pages > MAX_PAGES)
+    if ((ranges[behind - 1].start - start) / PAGE + ranges[behind - 1].pages > MAX_PAGES)
         return false;
     for (size_t i = first; i < behind; i++) {
         if (!take_hole(end, ranges[i].start))
