@@ -4,7 +4,7 @@ ghost use Rattle.driver_connect.specs.Connecting as spec;
 ghost use Rattle.driver_connect.specs.Connecting.{ConnectsBy};
 ghost use Rattle.driver_connect.specs.Beside.{MayLeave, reached};
 ghost use Rattle.driver_connect.specs.BesideSteps.{ConnectsBeside, ConnectsTo};
-ghost use Rattle.driver_connect.specs.Pending.{ConnectsOne, first_last};
+ghost use Rattle.driver_connect.specs.Pending.{ConnectsOne, GrowsWith, first_last};
 ghost use Rattle.guid_handles.specs.HandleChanges.{max_handles};
 ghost use Rattle.driver_connect.specs.GoingOn.{GoesOn};
 ghost use Rattle.driver_connect.specs.Room.{HasRoom, Grows};
@@ -85,10 +85,10 @@ fn connect_one<D: Driver, A: Allocator + Copy>(
         (site_of D.meaning drivers.now notify.now next.handle) named.now
         (reached connecting.old)).starts) }
     ensures progress { OnOk result
-        (ConnectsOne (map D.meaning drivers.now) notify.now next named.now
-        pending.old.items connecting.old pending.new.items connecting.new) }
-    ensures fewer { OnOk result (length pending.new.items + length connecting.old.handles.handles
-        ≤ length pending.old.items + length connecting.new.handles.handles) }
+        (ConnectsOne D.meaning drivers.now notify.now next named.now
+        pending.old connecting.old pending.new connecting.new) }
+    ensures fewer { OnOk result
+        (GrowsWith pending.old connecting.old pending.new connecting.new) }
     ensures limit { OnOk result (length connecting.new.handles.handles ≤ max_handles) }
     ensures grows { OnOk result (Grows connecting.old.handles connecting.new.handles) }
     ensures goes_on { GoesOn connecting.old connecting.new }
