@@ -24,7 +24,7 @@ abbrev pub last_entry : Descriptor → List Run → Descriptor
 last_entry d [] = d
 last_entry d (r ∷ rs) =
     if should_be_one d (entry_of r) then last_entry (entry_with_run d r) rs
-        else last_entry (entry_of r) rs
+    else last_entry (entry_of r) rs
 
 -- an entry that begins among all pages, and ends there
 abbrev pub IsAmongPages : Descriptor → Type 0

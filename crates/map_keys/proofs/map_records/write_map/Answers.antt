@@ -5,15 +5,14 @@ use Rattle.page_ranges.specs.declared.ranges.Descriptor.{Descriptor}
 use Rattle.page_ranges.specs.declared.ranges.Run.{Run}
 use Rattle.page_ranges.specs.MemoryTypes.{page_count}
 use Rattle.page_ranges.specs.MemoryMap.{memory_map}
-use Rattle.page_ranges.specs.Runs.{pages_of, AreRuns}
+use Rattle.page_ranges.specs.Runs.{pages_of}
 use Rattle.descriptor_table.specs.Leaves.{runs_in}
-use Rattle.descriptor_table.specs.Tables.{EndBy}
 use Rattle.descriptor_table.proofs.LeafLists.{leaf_runs, leaf_all}
 use Rattle.map_keys.specs.Making.{whole_entries, last_entry, IsAmongPages}
 use Rattle.map_keys.specs.Records.{record_of, records}
 use Rattle.map_keys.proofs.Fields.{put_from, field_behind}
 use Rattle.map_keys.proofs.RecordLists.{length_records}
-use Rattle.map_keys.proofs.Making.{made, begun, leaves_made, leaves_among, whole_leaf, last_leaf, leaf_within, made_length, written_length, last_fits, all_written}
+use Rattle.map_keys.proofs.Making.{made, leaves_made, leaves_among, whole_leaf, last_leaf, leaf_within, made_length, written_length, last_fits, all_written}
 use Rattle.map_keys.proofs.map_records.write_map.Goals as goal
 
 -- an entry of no pages that begins as another one

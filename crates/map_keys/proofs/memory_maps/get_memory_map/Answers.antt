@@ -1,15 +1,11 @@
-use Rattle.std.proofs.Common.{◌≡◌, ◌+◌, ◌*◌, ◌<◌, ◌≤◌, ◌++◌, [], ◌∷◌, ℕ, List, length, drop, sym, ap, subst, ◌∙◌, append_assoc, length-append, arith, rules}
+use Rattle.std.proofs.Common.{◌≡◌, ◌*◌, ◌<◌, ◌≤◌, ◌++◌, ℕ, List, length, drop, ap, ◌∙◌, arith, rules}
 use Rattle.page_ranges.specs.declared.statuses.Status.TheVariants.{Success, BufferTooSmall}
 use Rattle.page_ranges.specs.MemoryMap.{memory_map}
 use Rattle.page_services.specs.PageRules.{Book}
 use Rattle.map_keys.specs.MapReplies.{map_reply, buffer_with_map}
-use Rattle.page_ranges.specs.declared.ranges.Descriptor.{Descriptor}
-use Rattle.page_ranges.specs.Memory.{Page, IsProperMemory}
-use Rattle.map_keys.specs.Records.{record_of, records}
-use Rattle.page_ranges.proofs.Blocks.{entry_within}
+use Rattle.page_ranges.specs.Memory.{Page}
+use Rattle.map_keys.specs.Records.{records}
 use Rattle.map_keys.proofs.Bounds.{few_entries_of}
-use Rattle.map_keys.proofs.Fields.{put_from, field_behind}
-use Rattle.map_keys.proofs.RecordLists.{records-more, length_records}
 use Rattle.map_keys.proofs.memory_maps.get_memory_map.Goals as goal
 
 -- the reply where the map fits, and where it does not
