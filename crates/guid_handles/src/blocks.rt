@@ -171,6 +171,29 @@ impl<A: Allocator + Copy> Blocks<A> {
         }
     }
 
+    /// Removes a place from the block at `at`, whose places ascend, and with its last one the block.
+    fn remove_ascending_at(&mut self, at: usize, number: u64, place: usize)
+        requires there { IsPlaceOf number self.old at }
+        requires order { Ascending (λ a b. a < b) (block_at self.old number).places }
+        ensures { ChangesBlock number (without_place place) self.old self.new }
+    {
+        let block = &mut self.blocks[at];
+        block.remove_ascending(place);
+        if block.is_empty() {
+            self.blocks.remove(at);
+        }
+    }
+
+    /// Removes a place from a block whose places ascend, among which it is found by halving.
+    pub fn remove_ascending(&mut self, number: u64, place: usize)
+        requires { Ascending (λ a b. a < b) (block_at self.old number).places }
+        ensures { ChangesBlock number (without_place place) self.old self.new }
+    {
+        if let Some(at) = place_of(self.blocks.as_slice(), number) {
+            self.remove_ascending_at(at, number, place);
+        }
+    }
+
     /// Appends a place to the blocks of two numbers, which may be one. On an `Err` each
     /// block is as it was.
     pub fn push_in_both(&mut self, first: u64, second: u64, place: usize) -> Result<(), AllocError>

@@ -1,8 +1,10 @@
 //! One block of places.
-ghost use Rattle.std.specs.Prelude.{◌≡◌, ◌==◌, not, length, IfOk, OnOk, OnErr};
-ghost use Rattle.std.specs.List.{filter};
+ghost use Rattle.std.specs.Prelude.{◌≡◌, ◌<◌, ◌==◌, length, IfOk, OnOk, OnErr};
+ghost use Rattle.guid_handles.specs.Sorting.{Ascending};
 ghost use Rattle.guid_handles.specs.Blocks.{empty_block, with_last, without_place};
 
+use crate::places::{drop_ascending, drop_place};
+use crate::sliding_row::SlidingRow;
 use std::alloc::{AllocError, Allocator};
 use std::marker::Model;
 
@@ -10,7 +12,7 @@ use std::marker::Model;
 #[derive(Drop)]
 pub(crate) struct PlaceBlock<A: Allocator> {
     number: u64,
-    places: Vec<usize, A>,
+    places: SlidingRow<usize, A>,
 }
 
 impl<A: Allocator> Model for PlaceBlock<A> {
@@ -21,24 +23,14 @@ impl<A: Allocator> Model for PlaceBlock<A> {
     ghost view = { λ b. record { number = b.number; places = b.places.items } };
 }
 
-/// Removes a place from others.
-fn drop_place<A: Allocator>(places: &mut Vec<usize, A>, place: usize)
-    ensures { places.new.items ≡ filter (λ x. not (x == place)) places.old.items }
-{
-    places.retain(
-        |x: &usize| -> bool
-            ensures { result ≡ not (x.now == place) }
-        { *x != place },
-    );
-}
-
 impl<A: Allocator + Copy> PlaceBlock<A> {
     /// A block of one place.
     pub(crate) fn new(alloc: A, number: u64, place: usize) -> Result<PlaceBlock<A>, AllocError>
         ensures { IfOk result (λ b. b ≡ with_last place (empty_block number)) }
     {
-        let mut places = Vec::new(alloc);
-        places.push(place)?;
+        let mut places = SlidingRow::new(alloc);
+        places.reserve()?;
+        places.push(place);
         Ok(PlaceBlock { number, places })
     }
 
@@ -46,10 +38,9 @@ impl<A: Allocator + Copy> PlaceBlock<A> {
     pub(crate) fn try_copy(&self) -> Result<PlaceBlock<A>, AllocError>
         ensures { IfOk result (λ copy. copy ≡ self.now) }
     {
-        let places = Vec::from_slice(*self.places.allocator(), self.places.as_slice())?;
         Ok(PlaceBlock {
             number: self.number,
-            places,
+            places: self.places.try_copy()?,
         })
     }
 
@@ -71,7 +62,7 @@ impl<A: Allocator + Copy> PlaceBlock<A> {
     pub(crate) fn is_empty(&self) -> bool
         ensures { result ≡ (length self.now.places == 0) }
     {
-        self.places.is_empty()
+        self.places.as_slice().is_empty()
     }
 
     /// Appends a place. On an `Err` the block is as it was.
@@ -80,7 +71,8 @@ impl<A: Allocator + Copy> PlaceBlock<A> {
         ensures ok { OnOk result (self.new ≡ with_last place self.old) }
         ensures err { OnErr result (self.new ≡ self.old) }
     {
-        self.places.push(place)?;
+        self.places.reserve()?;
+        self.places.push(place);
         Ok(())
     }
 
@@ -89,5 +81,13 @@ impl<A: Allocator + Copy> PlaceBlock<A> {
         ensures { self.new ≡ without_place place self.old }
     {
         drop_place(&mut self.places, place);
+    }
+
+    /// Removes a place from ascending ones.
+    pub(crate) fn remove_ascending(&mut self, place: usize)
+        requires { Ascending (λ a b. a < b) self.old.places }
+        ensures { self.new ≡ without_place place self.old }
+    {
+        drop_ascending(&mut self.places, place);
     }
 }
