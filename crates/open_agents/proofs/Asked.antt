@@ -11,6 +11,7 @@ use Rattle.open_agents.specs.declared.items.Decision.TheVariants.{Add}
 use Rattle.open_agents.specs.OpenRule.{add_or_stop, has_equal, has_of_agent, has_holder, has_exclusive, is_driver_item, driver_item, names_badly, needs_agent, open_rule}
 use Rattle.open_agents.proofs.Placed.{none_of_agent_0}
 use Rattle.open_agents.specs.Blocks.{block_size, is_near}
+use Rattle.open_agents.specs.Listed.{is_of_agent, items_of}
 
 pub first_part : (a b : Bool) → (a && b) ≡ true → a ≡ true
 first_part a b h = elim (cases_Bool a) [
@@ -47,6 +48,30 @@ pair_near controller agent opens z =
     sym (any_found (is_of_pair controller agent) (filter (is_near controller) opens))
     ∙ ap is_some (find_filter (is_of_pair controller agent) (is_near controller) true (λ o h. controller_near controller o z (second_part (o.agent == agent) (o.controller == controller) h)) opens)
     ∙ any_found (is_of_pair controller agent) opens
+
+-- the items of a pair are its agent's
+pub pair_of_agent : (controller agent : ℕ) (opens : List OpenRecord) → list_any (is_of_pair controller agent) (items_of opens agent) ≡ list_any (is_of_pair controller agent) opens
+pair_of_agent controller agent opens =
+    sym (any_found (is_of_pair controller agent) (items_of opens agent))
+    ∙ ap is_some (find_filter (is_of_pair controller agent) (is_of_agent agent) true (λ o h. first_part (o.agent == agent) (o.controller == controller) h) opens)
+    ∙ any_found (is_of_pair controller agent) opens
+
+any_kept : {X : Type 0} (p : X → Bool) (xs : List X) → list_any p (filter p xs) ≡ list_any p xs
+any_kept p xs = sym (any_found p (filter p xs)) ∙ ap is_some (find_filter p p true (λ x h. h) xs) ∙ any_found p xs
+
+pub of_agent_kept : (agent : ℕ) (opens : List OpenRecord) → list_any (is_of_agent agent) (items_of opens agent) ≡ list_any (is_of_agent agent) opens
+of_agent_kept agent opens = any_kept (is_of_agent agent) opens
+
+-- once the items of an agent are gone, none is of it
+pub none_of_agent : (agent : ℕ) (opens left : List OpenRecord) → left ≡ filter (λ o. not (is_of_agent agent o)) opens → AllByRecursion (λ o. (o.agent == agent) ≡ false) left
+none_of_agent agent opens left e = rw e (all_left agent opens)
+  where
+    all_left : (a : ℕ) (os : List OpenRecord) → AllByRecursion (λ o. (o.agent == a) ≡ false) (filter (λ o. not (is_of_agent a o)) os)
+    all_left a [] = tt
+    all_left a (o ∷ os) = elim (cases_Bool (o.agent == a)) [
+      | inl t ↦ rw t (all_left a os)
+      | inr f ↦ rw f (f, all_left a os)
+    ]
 
 filter_narrow : {X : Type 0} (q p : X → Bool) → ((x : X) → q x ≡ true → p x ≡ true) → (xs : List X) → filter q (filter p xs) ≡ filter q xs
 filter_narrow q p h [] = refl
@@ -86,6 +111,16 @@ naming_near n (o ∷ os) z a h = elim (cases_Bool (is_near n o)) [
   | inl e ↦ let p = no_part (names n o) (list_any (names n) (filter (is_near n) os)) (rw e at h) in rw p.0 (naming_near n os z a.1 p.1)
   | inr e ↦ rw (far_unnamed n o z a.0 e) (naming_near n os z a.1 (rw e at h))
 ]
+
+-- the items that name a handle, among them those of it as their agent
+pub agent_first : (n : ℕ) (opens : List OpenRecord) → filter (λ o. not (names n o)) (filter (λ o. not (is_of_agent n o)) opens) ≡ filter (λ o. not (names n o)) opens
+agent_first n opens = filter_narrow (λ o. not (names n o)) (λ o. not (is_of_agent n o)) (λ o h. ap not (unnamed n o h)) opens
+  where
+    unnamed : (n : ℕ) (o : OpenRecord) → not (names n o) ≡ true → (o.agent == n) ≡ false
+    unnamed n o h = elim (cases_Bool (o.agent == n)) [
+      | inl e ↦ let t : names n o ≡ true = rw e (or_true (o.handle == n)) in let f : false ≡ true = sym (ap not t) ∙ h in absurd cc
+      | inr e ↦ e
+    ]
 
 -- a test that passes just items of an interface
 any_near : (n : ℕ) (guid : List ℕ) (q : OpenRecord → Bool) (opens : List OpenRecord)

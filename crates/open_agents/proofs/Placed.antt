@@ -1,7 +1,7 @@
 -- The items at their places, and what keeps the places in blocks in step with them.
 use Rattle.std.proofs.Math.ListN.{set}
-use Rattle.std.proofs.Common.{get_or, ◌≡◌, ℕ, zero, suc, ◌+◌, ◌<◌, ◌≤◌, ◌/◌, ◌==◌, ◌&&◌, not, Bool, true, false, cond, List, [], ◌∷◌, ◌++◌, map, length, Option, Some, None, is_some, inl, inr, refl, sym, ap, ◌∙◌, arith, subst}
-use Rattle.std.specs.List.{filter, list_any, AllByRecursion}
+use Rattle.std.proofs.Common.{get_or, ◌≡◌, ℕ, zero, suc, ◌+◌, ◌<◌, ◌≤◌, ◌/◌, ◌==◌, ◌&&◌, ◌||◌, not, Bool, true, false, cond, List, [], ◌∷◌, ◌++◌, map, length, Option, Some, None, is_some, inl, inr, refl, sym, ap, ◌∙◌, arith, subst}
+use Rattle.std.specs.List.{filter, list_any, slice_get, AllByRecursion}
 use Rattle.std.proofs.lemmas.List.{append-nil}
 use Rattle.std.proofs.lemmas.Bool.{cases_Bool, eq-eqb, ne_eqb}
 use Rattle.std.proofs.lemmas.Option.{same_Some}
@@ -12,8 +12,9 @@ use Rattle.guid_handles.proofs.GuidOrder.{same_guid-true, and_false}
 use Rattle.guid_handles.proofs.Grouped.{is_same}
 use Rattle.open_agents.specs.declared.items.OpenRecord.{OpenRecord}
 use Rattle.open_agents.specs.OpenItems.{is_equal_item, counted, once_more}
-use Rattle.guid_handles.specs.Blocks.{Block, ChangesBlocks, IsFree, block_at, with_last, without_place}
-use Rattle.open_agents.specs.Blocks.{HoldsAt, IsOpenStore, IsNoted, Notes, are_equal, block_of, block_size, second_block, is_in, is_near, item_at, items_at, items_in, passes, places_from}
+use Rattle.guid_handles.specs.Blocks.{Block, ChangesBlock, ChangesBlocks, IsFree, block_at, with_last, without_place}
+use Rattle.open_agents.specs.Blocks.{HoldsAt, IsOpenStore, agent_block, are_equal, block_of, block_size, second_block, is_in, is_near, item_at, item_at_place, items_at, items_in, passes, places_from}
+use Rattle.open_agents.specs.Listed.{is_of_agent, items_of}
 
 -- ---- items by places
 
@@ -33,6 +34,32 @@ placed_items q all (Some o ∷ ss) i h =
 pub store_near : (slots : List (Option OpenRecord)) (blocks agents : List Block) → IsOpenStore slots blocks agents → (n : ℕ) → items_at slots (block_at blocks (n / block_size)).places ≡ filter (is_near n) (items_in slots)
 store_near slots blocks agents h n =
     ap (λ b. items_at slots b.places) (h.in_step (n / block_size)) ∙ placed_items (is_near n) slots slots 0 (λ k. ap (item_at slots) (omega arith))
+
+pub store_of_agent : (slots : List (Option OpenRecord)) (blocks agents : List Block) → IsOpenStore slots blocks agents → (a : ℕ) → items_at slots (block_at agents a).places ≡ items_of (items_in slots) a
+store_of_agent slots blocks agents h a =
+    ap (λ b. items_at slots b.places) (h.by_agent a) ∙ placed_items (is_of_agent a) slots slots 0 (λ k. ap (item_at slots) (omega arith))
+
+next_or_later : (all : List (Option OpenRecord)) (i : ℕ) (o : OpenRecord) (places : List ℕ) (os : List OpenRecord) → item_at all i ≡ Some o → ((m : ℕ) → item_at_place all (slice_get places m) ≡ slice_get os m)
+    → (n : ℕ) → item_at_place all (slice_get (i ∷ places) n) ≡ slice_get (o ∷ os) n
+next_or_later all i o places os first rest zero = first
+next_or_later all i o places os first rest (suc n) = rest n
+
+-- at the place of each index is the item of that index
+placed_item : (q : OpenRecord → Bool) (all slots : List (Option OpenRecord)) (i : ℕ) → ((k : ℕ) → item_at all (i + k) ≡ item_at slots k) → (n : ℕ) → item_at_place all (slice_get (places_from i q slots) n) ≡ slice_get (filter q (items_in slots)) n
+placed_item q all [] i h zero = refl
+placed_item q all [] i h (suc n) = refl
+placed_item q all (None ∷ ss) i h n =
+    placed_item q all ss (i + 1) (λ k. ap (item_at all) (omega arith) ∙ h (suc k)) n
+placed_item q all (Some o ∷ ss) i h n =
+    let first : item_at all i ≡ Some o = ap (item_at all) (omega arith) ∙ h 0 in
+    let rest : (m : ℕ) → item_at_place all (slice_get (places_from (i + 1) q ss) m) ≡ slice_get (filter q (items_in ss)) m = placed_item q all ss (i + 1) (λ k. ap (item_at all) (omega arith) ∙ h (suc k)) in
+    elim (cases_Bool (q o)) [
+      | inl e ↦ rw e (next_or_later all i o (places_from (i + 1) q ss) (filter q (items_in ss)) first rest n)
+      | inr e ↦ rw e (rest n)
+    ]
+
+pub item_of_agent : (slots : List (Option OpenRecord)) (a n : ℕ) (places : List ℕ) → places ≡ places_from 0 (is_of_agent a) slots → item_at_place slots (slice_get places n) ≡ slice_get (items_of (items_in slots) a) n
+item_of_agent slots a n places e = ap (λ (ks : List ℕ). item_at_place slots (slice_get ks n)) e ∙ placed_item (is_of_agent a) slots slots 0 (λ k. ap (item_at slots) (omega arith)) n
 
 held_one : (p : OpenRecord → Bool) (s : Option OpenRecord) → passes p s ≡ true → (x : OpenRecord) × (s ≡ Some x) × (p x ≡ true)
 held_one p None h = absurd cc
@@ -162,14 +189,34 @@ blocks_removed slots k x old new e h c b = elim (cases_Bool (is_in b x)) [
   | inr f ↦ c b ∙ rw f (h b ∙ ap (λ r. record { number = b; places = r }) (sym (places_other (is_in b) slots 0 k x e f)))
 ]
 
-pub store_removed : (slots : List (Option OpenRecord)) (k : ℕ) (x : OpenRecord) (old new agents : List Block) → IsOpenStore slots old agents → item_at slots k ≡ Some x
-    → ChangesBlocks (x.handle / block_size) (second_block x) (without_place k) old new → IsOpenStore (set slots k None) new agents
-store_removed slots k x old new agents h e c = record {
+agents_removed : (slots : List (Option OpenRecord)) (k : ℕ) (x : OpenRecord) (old new : List Block) → item_at slots k ≡ Some x → ((a : ℕ) → block_at old a ≡ agent_block slots a)
+    → ChangesBlock x.agent (without_place k) old new → (a : ℕ) → block_at new a ≡ agent_block (set slots k None) a
+agents_removed slots k x old new e h c a = elim (cases_Bool (is_of_agent a x)) [
+  | inl t ↦ c a ∙ rw t (ap (without_place k) (h a) ∙ ap (λ r. record { number = a; places = r }) (emptied (is_of_agent a) slots k))
+  | inr f ↦ c a ∙ rw f (h a ∙ ap (λ r. record { number = a; places = r }) (sym (places_other (is_of_agent a) slots 0 k x e f)))
+]
+
+pub store_removed : (slots : List (Option OpenRecord)) (k : ℕ) (x : OpenRecord) (old new old_agents agents : List Block) → IsOpenStore slots old old_agents → item_at slots k ≡ Some x
+    → ChangesBlocks (x.handle / block_size) (second_block x) (without_place k) old new → ChangesBlock x.agent (without_place k) old_agents agents → IsOpenStore (set slots k None) new agents
+store_removed slots k x old new old_agents agents h e c d = record {
   in_step = blocks_removed slots k x old new e h.in_step c;
+  by_agent = agents_removed slots k x old_agents agents e h.by_agent d;
   distinct = ascending_vacated (λ o p. are_equal p o ≡ false) slots k h.distinct;
   agents = all_vacated (λ o. (o.agent == 0) ≡ false) slots k h.agents;
-  all_noted = all_vacated (λ o. IsNoted agents o.agent) slots k h.all_noted;
 }
+
+pub from_ascends : (q : OpenRecord → Bool) (slots : List (Option OpenRecord)) (i : ℕ) → Ascending (λ a b. a < b) (places_from i q slots)
+from_ascends q [] i = tt
+from_ascends q (s ∷ ss) i =
+    let rest = from_ascends q ss (i + 1) in
+    elim (cases_Bool (passes q s)) [
+      | inl e ↦ rw e (all_map (λ x. i + 1 ≤ x) (λ x. i < x) (λ x l. omega (arith, l)) (places_from (i + 1) q ss) (places_above q ss (i + 1)), rest)
+      | inr e ↦ rw e rest
+    ]
+
+-- the places in the block of an agent ascend
+pub agents_ascend : (slots : List (Option OpenRecord)) (blocks agents : List Block) → IsOpenStore slots blocks agents → (a : ℕ) → Ascending (λ x y. x < y) (block_at agents a).places
+agents_ascend slots blocks agents h a = rw (h.by_agent a) (from_ascends (is_of_agent a) slots 0)
 
 -- ---- an item comes
 
@@ -205,30 +252,42 @@ none_any p (x ∷ xs) h = elim (cases_Bool (p x)) [
   | inr e ↦ (e, none_any p xs (rw e at h))
 ]
 
-still_noted : (old new : List Block) (a : ℕ) (os : List OpenRecord) → Notes a old new → AllByRecursion (λ o. IsNoted old o.agent) os → AllByRecursion (λ o. IsNoted new o.agent) os
-still_noted old new a os k h = all_map (λ o. IsNoted old o.agent) (λ o. IsNoted new o.agent) (λ o. k.others o.agent) os h
+agents_pushed : (slots : List (Option OpenRecord)) (o : OpenRecord) (old new : List Block) → ((a : ℕ) → block_at old a ≡ agent_block slots a)
+    → ChangesBlock o.agent (with_last (length slots)) old new → (a : ℕ) → block_at new a ≡ agent_block (slots ++ Some o ∷ []) a
+agents_pushed slots o old new h c a = elim (cases_Bool (is_of_agent a o)) [
+  | inl t ↦ c a ∙ rw t (rw (h a) (sym (rw (filled (is_of_agent a) slots o, t) refl)))
+  | inr f ↦ c a ∙ rw f (h a ∙ sym (rw (filled (is_of_agent a) slots o, f, append-nil) refl))
+]
 
--- an agent that is not noted has no items
-pub none_of_agent : (slots : List (Option OpenRecord)) (blocks agents : List Block) (a : ℕ) → IsOpenStore slots blocks agents → (block_at agents a).places ≡ [] → AllByRecursion (λ o. (o.agent == a) ≡ false) (items_in slots)
-none_of_agent slots blocks agents a h e = all_map (λ o. IsNoted agents o.agent) (λ o. (o.agent == a) ≡ false) (λ o n. ne_eqb o.agent a (λ s. n (ap (λ m. (block_at agents m).places) s ∙ e))) (items_in slots) h.all_noted
-
-pub store_pushed : (slots : List (Option OpenRecord)) (o : OpenRecord) (old new old_agents agents : List Block) → IsOpenStore slots old old_agents → Notes o.agent old_agents agents → list_any (are_equal o) (items_in slots) ≡ false → (o.agent == 0) ≡ false
-    → ChangesBlocks (o.handle / block_size) (second_block o) (with_last (length slots)) old new → IsOpenStore (slots ++ Some o ∷ []) new agents
-store_pushed slots o old new old_agents agents h k n a c = record {
+pub store_pushed : (slots : List (Option OpenRecord)) (o : OpenRecord) (old new old_agents agents : List Block) → IsOpenStore slots old old_agents → list_any (are_equal o) (items_in slots) ≡ false → (o.agent == 0) ≡ false
+    → ChangesBlocks (o.handle / block_size) (second_block o) (with_last (length slots)) old new → ChangesBlock o.agent (with_last (length slots)) old_agents agents → IsOpenStore (slots ++ Some o ∷ []) new agents
+store_pushed slots o old new old_agents agents h n a c d = record {
   in_step = blocks_pushed slots o old new h.in_step c;
+  by_agent = agents_pushed slots o old_agents agents h.by_agent d;
   distinct = rw (items_pushed slots o) (ascending_push (λ p q. are_equal q p ≡ false) (items_in slots) o h.distinct (none_any (are_equal o) (items_in slots) n));
   agents = rw (items_pushed slots o) (all_push (λ p. (p.agent == 0) ≡ false) (items_in slots) o h.agents a);
-  all_noted = rw (items_pushed slots o) (all_push (λ p. IsNoted agents p.agent) (items_in slots) o (still_noted old_agents agents o.agent (items_in slots) k h.all_noted) k.noted);
 }
 
--- where no block changed, and agents were noted at most
-pub store_stays : (slots : List (Option OpenRecord)) (old new old_agents agents : List Block) (a : ℕ) → IsOpenStore slots old old_agents → Notes a old_agents agents
-    → ((m : ℕ) → block_at new m ≡ block_at old m) → IsOpenStore slots new agents
-store_stays slots old new old_agents agents a h k s = record {
+with_last_out : (place : ℕ) (xs : List ℕ) → filter (λ x. not (x == place)) (xs ++ place ∷ []) ≡ filter (λ x. not (x == place)) xs
+with_last_out place [] = rw (eq-eqb place place refl) refl
+with_last_out place (x ∷ xs) = ap (λ r. cond (not (x == place)) (x ∷ r) r) (with_last_out place xs)
+
+-- a place that no block had is taken out of two blocks again
+pub both_back : (b d place : ℕ) (old mid new : List Block) → IsFree place old → ChangesBlocks b d (with_last place) old mid → ChangesBlocks b d (without_place place) mid new → (m : ℕ) → block_at new m ≡ block_at old m
+both_back b d place old mid new free h k m = elim (cases_Bool ((b == m) || (d == m))) [
+  | inl t ↦
+      let last : block_at mid m ≡ with_last place (block_at old m) = h m ∙ rw t refl in
+      k m ∙ rw t (rw last (ap (λ r. record { number = (block_at old m).number; places = r }) (with_last_out place (block_at old m).places) ∙ free m))
+  | inr n ↦ k m ∙ rw n (h m ∙ rw n refl)
+]
+
+-- where no block changed
+pub store_stays : (slots : List (Option OpenRecord)) (old new agents : List Block) → IsOpenStore slots old agents → ((m : ℕ) → block_at new m ≡ block_at old m) → IsOpenStore slots new agents
+store_stays slots old new agents h s = record {
   in_step = λ b. s b ∙ h.in_step b;
+  by_agent = h.by_agent;
   distinct = h.distinct;
   agents = h.agents;
-  all_noted = still_noted old_agents agents a (items_in slots) k h.all_noted;
 }
 
 set_end : (slots : List (Option OpenRecord)) → set slots (length slots) None ≡ slots
@@ -349,9 +408,9 @@ store_counted n guid agent controller a slots k x blocks agents h e t =
     let one : map (counted q) (items_in slots) ≡ items_in (set slots k (Some y)) = one_counted n guid agent controller a slots k x h.distinct e t in
     record {
       in_step = λ b. h.in_step b ∙ ap (λ r. record { number = b; places = r }) (sym (places_set (is_in b) slots 0 k x y e refl));
+      by_agent = λ b. h.by_agent b ∙ ap (λ r. record { number = b; places = r }) (sym (places_set (is_of_agent b) slots 0 k x y e refl));
       distinct = subst (Ascending (λ o p. are_equal p o ≡ false)) one (ascending_map (λ o p. are_equal p o ≡ false) (λ o p. are_equal p o ≡ false) (counted q) (λ o p f. counted_equal q p o ∙ f) (items_in slots) h.distinct);
       agents = subst (AllByRecursion (λ o. (o.agent == 0) ≡ false)) one (all_mapped (λ o. (o.agent == 0) ≡ false) (λ o. (o.agent == 0) ≡ false) (counted q) (λ o f. ap (λ m. m == 0) (counted_agent q o) ∙ f) (items_in slots) h.agents);
-      all_noted = subst (AllByRecursion (λ o. IsNoted agents o.agent)) one (all_mapped (λ o. IsNoted agents o.agent) (λ o. IsNoted agents o.agent) (counted q) (λ o f. rw (counted_agent q o) f) (items_in slots) h.all_noted);
     }
 
 -- ---- agent 0

@@ -8,6 +8,7 @@ use Rattle.guid_handles.specs.Places.{has_place}
 use Rattle.open_agents.specs.declared.items.OpenRecord.{OpenRecord}
 use Rattle.open_agents.specs.declared.near.Near.{Near}
 use Rattle.open_agents.specs.OpenItems.{is_equal_item}
+use Rattle.open_agents.specs.Listed.{is_of_agent}
 
 -- ---- items at places
 
@@ -28,6 +29,11 @@ item_at slots at = slice_index_or slots at None
 abbrev pub items_at : List (Option OpenRecord) → List ℕ → List OpenRecord
 items_at slots [] = []
 items_at slots (k ∷ ks) = with_first (item_at slots k) (items_at slots ks)
+
+-- the item at a place, if there is such a place
+abbrev pub item_at_place : List (Option OpenRecord) → Option ℕ → Option OpenRecord
+item_at_place slots None = None
+item_at_place slots (Some k) = item_at slots k
 
 -- the items near a handle
 abbrev pub items_near : Near → List OpenRecord
@@ -86,31 +92,24 @@ is_in b o = ((o.handle / block_size) == b) || (second_block o == b)
 abbrev pub is_near : ℕ → OpenRecord → Bool
 is_near n o = is_in (n / block_size) o
 
--- ---- agents
-
--- an agent is noted: the block with its number is not empty
-abbrev pub IsNoted : List Block → ℕ → Type 0
-IsNoted agents a = (block_at agents a).places ≡ [] → ⊥
-
--- an agent is noted, and those that were stay so
-pub record Notes (a : ℕ) (old new : List Block) : Type 0 where
-  pub noted : IsNoted new a
-  pub others : (m : ℕ) → IsNoted old m → IsNoted new m
-
 -- ---- in step with the items
 
 -- the block of a number, of items at their places
 abbrev pub block_of : List (Option OpenRecord) → ℕ → Block
 block_of slots b = record { number = b; places = places_from 0 (is_in b) slots }
 
+-- the block of an agent, of its items at their places
+abbrev pub agent_block : List (Option OpenRecord) → ℕ → Block
+agent_block slots a = record { number = a; places = places_from 0 (is_of_agent a) slots }
+
 -- two items have the same interface, agent, controller and attributes
 abbrev pub are_equal : OpenRecord → OpenRecord → Bool
 are_equal o p = is_equal_item o.handle o.guid o.agent o.controller o.attributes p
 
 -- Items, no two of which are equal and each of which has an agent, at their places; these places in
--- blocks; and the agents noted.
-pub record IsOpenStore (slots : List (Option OpenRecord)) (blocks noted : List Block) : Type 0 where
+-- blocks, and by agents.
+pub record IsOpenStore (slots : List (Option OpenRecord)) (blocks agent_blocks : List Block) : Type 0 where
   pub in_step : (b : ℕ) → block_at blocks b ≡ block_of slots b
+  pub by_agent : (a : ℕ) → block_at agent_blocks a ≡ agent_block slots a
   pub distinct : Ascending (λ o p. are_equal p o ≡ false) (items_in slots)
   pub agents : AllByRecursion (λ o. (o.agent == 0) ≡ false) (items_in slots)
-  pub all_noted : AllByRecursion (λ o. IsNoted noted o.agent) (items_in slots)

@@ -1,11 +1,10 @@
 //! Open items, one after the other.
 ghost use Rattle.std.specs.Prelude.{◌≡◌, length, slice_get, slice_set};
 ghost use Rattle.guid_handles.specs.HandleTables.{written_over};
-ghost use Rattle.open_agents.specs.Blocks.{items_in, items_near};
-ghost use Rattle.open_agents.specs.Listed.{items_of};
+ghost use Rattle.open_agents.specs.Blocks.{items_near};
 ghost use Rattle.open_agents.specs.OpenItems.{items_on};
 
-use crate::items::{OpenItem, OpenRecord, is_open_on, item_of};
+use crate::items::{OpenItem, is_open_on, item_of};
 use crate::near::{Near, item_at};
 use crate::opens::Opens;
 use std::alloc::Allocator;
@@ -26,13 +25,6 @@ impl<A: Allocator + Copy> Opens<A> {
         ensures written { out.new ≡ written_over (items_on self.now handle guid) out.old }
     {
         write_near(self.near(handle), handle, guid, out)
-    }
-
-    /// The item at an index among those of an agent, in the order in which they were made.
-    pub fn nth_of(&self, agent: u64, index: usize) -> Option<OpenRecord>
-        ensures { result ≡ slice_get (items_of self.now agent) index }
-    {
-        nth_among(self.slots(), agent, index)
     }
 }
 
@@ -79,22 +71,4 @@ fn put_item(out: &mut [OpenItem], at: usize, item: OpenItem)
     if at < out.len() {
         out[at] = item;
     }
-}
-
-/// The item at an index among those of an agent.
-fn nth_among(slots: &[Option<OpenRecord>], agent: u64, index: usize) -> Option<OpenRecord>
-    ensures { result ≡ slice_get (items_of (items_in slots.now) agent) index }
-{
-    let mut left = index;
-    for slot in slots {
-        if let Some(o) = slot {
-            if o.agent == agent {
-                if left == 0 {
-                    return Some(*o);
-                }
-                left -= 1;
-            }
-        }
-    }
-    None
 }

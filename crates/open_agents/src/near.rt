@@ -1,10 +1,10 @@
-//! The items on the handles of a block, at their places among all.
-ghost use Rattle.std.specs.Prelude.{◌≡◌, option_map};
-ghost use Rattle.open_agents.specs.Blocks.{item_at};
+//! Some items at their places among all.
+ghost use Rattle.std.specs.Prelude.{◌≡◌, option_map, slice_get};
+ghost use Rattle.open_agents.specs.Blocks.{item_at, item_at_place};
 
 use crate::items::OpenRecord;
 
-/// The items on the handles of a block: all items, and the places of those.
+/// The items on the handles of a block, or of an agent: all items, and the places of those.
 #[derive(Clone, Copy)]
 pub struct Near<'a> {
     pub slots: &'a [Option<OpenRecord>],
@@ -18,5 +18,15 @@ pub fn item_at(slots: &[Option<OpenRecord>], place: usize) -> Option<&OpenRecord
     match slots.get(place) {
         Some(Some(item)) => Some(item),
         _ => None,
+    }
+}
+
+/// The item at the place of an index, if there is one.
+pub(crate) fn nth_item(near: Near<'_>, index: usize) -> Option<OpenRecord>
+    ensures { result ≡ item_at_place near.entry.slots.now (slice_get near.entry.places.now index) }
+{
+    match near.places.get(index) {
+        Some(place) => item_at(near.slots, *place).copied(),
+        None => None,
     }
 }

@@ -1,5 +1,5 @@
 //! The open items of all interfaces.
-ghost use Rattle.std.specs.Prelude.{◌≡◌, ◌<◌, ◌^◌, ◌==◌, true, false, [], length, take, IfOk, IsOk, OnOk, OnErr};
+ghost use Rattle.std.specs.Prelude.{◌≡◌, ◌<◌, ◌^◌, ◌==◌, true, false, [], length, slice_get, take, IfOk, IsOk, OnOk, OnErr};
 ghost use Rattle.std.specs.List.{AllByRecursion, filter, list_any};
 ghost use Rattle.guid_handles.specs.HandleTables.{carries, is_live};
 ghost use Rattle.guid_handles.specs.HandleChanges.{is_dead as dead};
@@ -8,6 +8,7 @@ ghost use Rattle.open_agents.specs.OpenItems.{is_closed_by, names, items_on, man
 ghost use Rattle.open_agents.specs.OpenRule as rule;
 ghost use Rattle.open_agents.specs.OpenRule.{has_equal};
 ghost use Rattle.open_agents.specs.Blocks.{is_near, items_in, items_near};
+ghost use Rattle.open_agents.specs.Listed.{is_of_agent, items_of};
 
 use crate::attributes::{
     BY_CHILD_CONTROLLER, BY_DRIVER, EXCLUSIVE, is_exclusive, is_for_driver, is_known, needs_agent,
@@ -17,8 +18,9 @@ use crate::items::{Decision, OpenItem, OpenRecord, Usage, is_open_on, item_of, m
 use crate::managers;
 use crate::near::{Near, item_at};
 use crate::questions::{
-    find_closed, find_equal, find_last_naming, find_last_of_pair, find_naming, find_of_pair,
-    find_open_on, first_driver_item, has_equal, has_exclusive, has_of_agent, is_held, usage_near,
+    find_closed, find_equal, find_last_naming, find_last_of_agent, find_last_of_pair, find_naming,
+    find_of_pair, find_open_on, first_driver_item, has_equal, has_exclusive, has_of_agent, is_held,
+    usage_near,
 };
 use crate::store::{ItemStore, count_items};
 use guid_handles::Handles;
@@ -199,7 +201,7 @@ impl<A: Allocator + Copy> Opens<A> {
         ensures { self.new ≡ without_items (spec.is_of_pair controller agent) self.old }
     {
         if controller == 0 {
-            self.drop_pair_among_all(controller, agent);
+            self.drop_pair_of_agent(controller, agent);
         } else {
             self.drop_pair_near(controller, agent);
         }
@@ -215,24 +217,33 @@ impl<A: Allocator + Copy> Opens<A> {
         }
     }
 
-    /// Removes all items of a controller and an agent, looked for among all.
-    fn drop_pair_among_all(&mut self, controller: u64, agent: u64)
+    /// Removes all items of a controller and an agent, looked for among those of the agent.
+    fn drop_pair_of_agent(&mut self, controller: u64, agent: u64)
         ensures { self.new ≡ without_items (spec.is_of_pair controller agent) self.old }
     {
-        while let Some(place) = find_last_of_pair(self.items.slots(), controller, agent) {
+        while let Some(place) = find_last_of_pair(self.items.of_agent(agent), controller, agent) {
             self.items.remove(place);
         }
     }
 
-    /// Removes all items that name a handle, as their handle, agent or controller. All items are
-    /// looked at only where the handle may be an agent.
+    /// Removes all items that name a handle, as their handle, agent or controller.
     pub fn drop_handle(&mut self, handle: u64)
         ensures { self.new ≡ without_items (names handle) self.old }
     {
-        if handle == 0 || self.items.may_have_agent(handle) {
+        if handle == 0 {
             self.drop_naming_among_all(handle);
         } else {
+            self.drop_agent(handle);
             self.drop_naming_near(handle);
+        }
+    }
+
+    /// Removes all items of an agent, from the last one down.
+    fn drop_agent(&mut self, agent: u64)
+        ensures { self.new ≡ without_items (is_of_agent agent) self.old }
+    {
+        while let Some(place) = find_last_of_agent(self.items.of_agent(agent), agent) {
+            self.items.remove(place);
         }
     }
 
@@ -339,6 +350,13 @@ impl<A: Allocator + Copy> Opens<A> {
         ensures none { items_on self.now handle guid ≡ [] → IsOk result }
     {
         items_among(self.items.allocator(), self.near(handle), handle, guid)
+    }
+
+    /// The item at an index among those of an agent, in the order in which they were made.
+    pub fn nth_of(&self, agent: u64, index: usize) -> Option<OpenRecord>
+        ensures { result ≡ slice_get (items_of self.now agent) index }
+    {
+        self.items.nth_of(agent, index)
     }
 
     /// The pairs of controller and agent that manage a handle: one for each item for a driver with

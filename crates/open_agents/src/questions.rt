@@ -2,7 +2,8 @@
 ghost use Rattle.std.specs.Prelude.{◌≡◌, ◌+◌, ◌≤◌, ◌==◌, ◌&&◌, ◌||◌, [], true, false, drop, length, is_some, IfSome, IfNone};
 ghost use Rattle.std.specs.List.{list_any};
 ghost use Rattle.open_agents.specs.OpenItems as spec;
-ghost use Rattle.open_agents.specs.OpenItems.{is_closed_by, is_equal_item, is_of_pair};
+ghost use Rattle.open_agents.specs.OpenItems.{is_closed_by, is_equal_item};
+ghost use Rattle.open_agents.specs.Listed as listed;
 ghost use Rattle.open_agents.specs.Blocks.{Finds, HoldsAt, MissesNone, item_at as there, items_in, items_near, passes};
 ghost use Rattle.open_agents.specs.OpenRule as rule;
 
@@ -292,20 +293,30 @@ pub(crate) fn find_naming(near: Near<'_>, handle: u64) -> Option<usize>
     None
 }
 
-/// The place of the last item of a controller and an agent.
-pub(crate) fn find_last_of_pair(
-    slots: &[Option<OpenRecord>],
-    controller: u64,
-    agent: u64,
-) -> Option<usize>
-    ensures there { IfSome result (HoldsAt (spec.is_of_pair controller agent) slots.now) }
-    ensures none { IfNone result
-        (list_any (is_of_pair controller agent) (items_in slots.now) ≡ false) }
+/// The place of the last item of a controller and an agent, among some.
+pub(crate) fn find_last_of_pair(near: Near<'_>, controller: u64, agent: u64) -> Option<usize>
+    ensures there { Finds (spec.is_of_pair controller agent) near.entry result }
+    ensures none { MissesNone (spec.is_of_pair controller agent) near.entry result }
 {
-    for place in (0..slots.len()).rev() {
-        if let Some(o) = &slots[place] {
+    for at in (0..near.places.len()).rev() {
+        if let Some(o) = item_at(near.slots, near.places[at]) {
             if is_of_pair(o, controller, agent) {
-                return Some(place);
+                return Some(near.places[at]);
+            }
+        }
+    }
+    None
+}
+
+/// The place of the last item of an agent, among some.
+pub(crate) fn find_last_of_agent(near: Near<'_>, agent: u64) -> Option<usize>
+    ensures there { Finds (listed.is_of_agent agent) near.entry result }
+    ensures none { MissesNone (listed.is_of_agent agent) near.entry result }
+{
+    for at in (0..near.places.len()).rev() {
+        if let Some(o) = item_at(near.slots, near.places[at]) {
+            if o.agent == agent {
+                return Some(near.places[at]);
             }
         }
     }

@@ -1,13 +1,15 @@
 //! The open items at their places, and where those on each handle and of each controller are.
-ghost use Rattle.std.specs.Prelude.{◌≡◌, ◌-◌, ◌<◌, ◌≤◌, ◌/◌, ◌^◌, ◌==◌, ◌++◌, ◌∷◌, [], None, true, false, drop, length, map, take, is_some, slice_set, vec_len, vec_capacity, IfOk, OnOk, OnErr};
+ghost use Rattle.std.specs.Prelude.{◌≡◌, ◌-◌, ◌<◌, ◌≤◌, ◌/◌, ◌^◌, ◌==◌, ◌++◌, ◌∷◌, ℕ, [], None, true, false, drop, length, map, take, is_some, slice_get, slice_set, vec_len, vec_capacity, IfOk, OnOk, OnErr};
 ghost use Rattle.std.specs.List.{filter, list_any, AllByRecursion};
+ghost use Rattle.guid_handles.specs.Blocks.{ChangesBlock, ChangesBlocks, IsFree, block_at, with_last};
 ghost use Rattle.open_agents.specs.OpenItems as spec;
 ghost use Rattle.open_agents.specs.OpenItems.{is_equal_item, with_count};
 ghost use Rattle.open_agents.specs.Blocks as other;
-ghost use Rattle.open_agents.specs.Blocks.{HoldsAt, Notes, are_equal, block_size, is_near, item_at as there, items_in, items_near, places_from};
+ghost use Rattle.open_agents.specs.Blocks.{HoldsAt, are_equal, block_size, is_near, item_at as there, items_in, items_near, places_from};
+ghost use Rattle.open_agents.specs.Listed.{is_of_agent, items_of};
 
 use crate::items::{OpenRecord, once_more};
-use crate::near::Near;
+use crate::near::{Near, nth_item};
 use crate::questions::find_last;
 use guid_handles::Blocks;
 use std::alloc::{AllocError, Allocator};
@@ -31,8 +33,7 @@ pub(crate) struct ItemStore<A: Allocator> {
     slots: Vec<Option<OpenRecord>, A>,
     // Their places, by handle and by controller.
     blocks: Blocks<A>,
-    // The agents that have items, each as a number of a block that is not empty. An agent stays until
-    // the places are compacted.
+    // Their places, by agent.
     agents: Blocks<A>,
 }
 
@@ -99,12 +100,23 @@ impl<A: Allocator + Copy> ItemStore<A> {
         }
     }
 
-    /// Whether an agent may have items.
-    pub(crate) fn may_have_agent(&self, agent: u64) -> bool
-        ensures { result ≡ false
-            → AllByRecursion (λ o. (o.agent == agent) ≡ false) (items_in self.now) }
+    /// The items of an agent.
+    pub(crate) fn of_agent(&self, agent: u64) -> Near<'_>
+        ensures slots { result.slots.now ≡ self.now }
+        ensures places { result.places.now ≡ places_from 0 (is_of_agent agent) self.now }
+        ensures items { items_near result ≡ items_of (items_in self.now) agent }
     {
-        !self.agents.places(agent).is_empty()
+        Near {
+            slots: self.slots.as_slice(),
+            places: self.agents.places(agent),
+        }
+    }
+
+    /// The item at an index among those of an agent, in the order in which they were made.
+    pub(crate) fn nth_of(&self, agent: u64, index: usize) -> Option<OpenRecord>
+        ensures { result ≡ slice_get (items_of (items_in self.now) agent) index }
+    {
+        nth_item(self.of_agent(agent), index)
     }
 
     /// Counts the item at a place once more, which is equal to what a call asks for.
@@ -137,6 +149,7 @@ impl<A: Allocator + Copy> ItemStore<A> {
             self.slots[place] = None;
             self.blocks
                 .remove_from_both(block_of(item.handle), second_block(&item), place);
+            self.agents.remove_ascending(item.agent, place);
         }
     }
 
@@ -179,10 +192,8 @@ impl<A: Allocator + Copy> ItemStore<A> {
         ensures err { OnErr result (self.new ≡ self.old) }
     {
         self.slots.reserve(1)?;
-        note_agent(&mut self.agents, item.agent)?;
         let place = self.slots.as_slice().len();
-        self.blocks
-            .push_in_both(block_of(item.handle), second_block(item), place)?;
+        file_place(&mut self.blocks, &mut self.agents, item, place)?;
         push_with_room(&mut self.slots, Some(*item));
         Ok(())
     }
@@ -238,13 +249,28 @@ fn second_block(item: &OpenRecord) -> u64
     }
 }
 
-/// Notes that an agent has items. On an `Err` nothing changes.
-fn note_agent<A: Allocator + Copy>(agents: &mut Blocks<A>, agent: u64) -> Result<(), AllocError>
-    ensures ok { OnOk result (Notes agent agents.old agents.new) }
-    ensures err { OnErr result (agents.new ≡ agents.old) }
+/// Appends the place of an item to the blocks of its handle and of its controller, and to that of its agent. On
+/// an `Err` each block is as it was.
+fn file_place<A: Allocator + Copy>(
+    blocks: &mut Blocks<A>,
+    agents: &mut Blocks<A>,
+    item: &OpenRecord,
+    place: usize,
+) -> Result<(), AllocError>
+    requires { IsFree place blocks.old }
+    ensures blocks { OnOk result (ChangesBlocks (item.now.handle / block_size)
+        (other.second_block item.now) (with_last place) blocks.old blocks.new) }
+    ensures agents { OnOk result
+        (ChangesBlock item.now.agent (with_last place) agents.old agents.new) }
+    ensures err { OnErr result ((m : ℕ) → block_at blocks.new m ≡ block_at blocks.old m) }
+    ensures no_agent { OnErr result (agents.new ≡ agents.old) }
 {
-    if agents.places(agent).is_empty() {
-        agents.push(agent, 0)?;
+    let first = block_of(item.handle);
+    let second = second_block(item);
+    blocks.push_in_both(first, second, place)?;
+    if let Err(fault) = agents.push(item.agent, place) {
+        blocks.remove_from_both(first, second, place);
+        return Err(fault);
     }
     Ok(())
 }

@@ -1,5 +1,4 @@
-use Rattle.std.proofs.Common.{◌≡◌, ◌∙◌, length, sym, ap, arith}
-use Rattle.open_agents.specs.declared.items.OpenItem.{OpenItem}
+use Rattle.std.proofs.Common.{◌∙◌, length, sym, ap, arith}
 use Rattle.open_agents.proofs.ListedItems.{one_more, other, vacant, written_next}
 use Rattle.open_agents.proofs.listed.write_near.Goals.{in-Some+then-is_open_on, in-Some+else-is_open_on, in_default}
 use Rattle.open_agents.proofs.listed.write_near.Goals as goal
