@@ -1,4 +1,5 @@
 mod Blocks
+mod BufferLaws
 mod BufferTexts
 mod FoundEntries
 mod FoundRuns

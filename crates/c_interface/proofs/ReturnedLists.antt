@@ -1,5 +1,5 @@
 -- Values that are front_filled into a buffer one after another, and what is returned of handles.
-use Rattle.std.proofs.Common.{◌≡◌, ℕ, zero, suc, ◌<◌, ◌+◌, List, [], ◌∷◌, ◌++◌, length, take, drop, map, get_or, slice_index_or, slice_set, Some, None, refl, sym, ap, subst, ◌∙◌, arith, inl, inr, Bool, true, false, nat_le, leb-true, leb-false, min}
+use Rattle.std.proofs.Common.{◌≡◌, ℕ, zero, suc, ◌<◌, ◌+◌, ◌==◌, nat_lt, List, [], ◌∷◌, ◌++◌, length, take, drop, map, get_or, slice_index_or, slice_set, Some, None, refl, sym, ap, subst, ◌∙◌, arith, inl, inr, Bool, true, false, nat_le, leb-true, leb-false, min}
 use Rattle.std.proofs.Math.Nat.{min-eq_left, min-eq_right}
 use Rattle.std.proofs.Math.ListN.{drop_of_length-le}
 use Rattle.boot_calls.specs.declared.calls.Call.{Call}
@@ -11,6 +11,7 @@ use Rattle.c_interface.specs.EfiCores.{EfiCoreValue}
 use Rattle.c_interface.specs.Replies.{returned_or}
 use Rattle.c_machines.specs.declared.guids.Guid.{Guid}
 use Rattle.c_machines.specs.declared.guids.Interface.{Interface}
+use Rattle.std.proofs.lemmas.Bool.{eqb-true, lt-ltb}
 use Rattle.std.proofs.lemmas.List.{get_or-map, length-map, map-append, take_all}
 use Rattle.std.proofs.Math.Seq.{take-suc}
 use Rattle.c_machines.specs.Guids.{standard_guid, interface_in}
@@ -43,6 +44,14 @@ guid_laid i gs old buffer g v a b is e k =
     let next : i + 1 ≡ suc i = omega arith in
     let there : get_or (map standard_guid gs) i (standard_guid g) ≡ standard_guid g = get_or-map standard_guid gs i g (standard_guid g) a ∙ ap standard_guid (sym is) in
     rw (k, e, next) (laid_more i (map standard_guid gs) old (standard_guid g) (subst (λ n. i < n) (sym (length-map gs standard_guid)) a) b there)
+
+pub no_pairs : (is : List Interface) → (length is == 0) ≡ true → [] ≡ map interface_in is
+no_pairs [] h = refl
+no_pairs (i ∷ is) h = absurd (let e : suc (length is) ≡ 0 = eqb-true (suc (length is)) 0 h in omega (arith, e))
+
+pub some_pairs : (is : List Interface) → (length is == 0) ≡ false → nat_lt 0 (length (map interface_in is)) ≡ true
+some_pairs [] h = absurd (let e : true ≡ false = h in cc)
+some_pairs (i ∷ is) h = lt-ltb 0 (length (map interface_in (i ∷ is))) (omega arith)
 
 pub pairs_more : (i : ℕ) (xs : List Interface) (d : Interface) → i < length xs → map interface_in (take i xs) ++ interface_in (get_or xs i d) ∷ [] ≡ map interface_in (take (i + 1) xs)
 pairs_more i xs d a =

@@ -17,4 +17,4 @@ made_returns (Some c) made line buffer size status new_buffer new_size e h r = (
 -- no line of a call that is not made
 pub refused_returns : {A : Type 0} (wanted : Option (Call A)) (refusal : Status) (buffer : List ℕ) (size status : ℕ) → MakesCall wanted (Err refusal) → status ≡ status_number refusal → ReturnsCall wanted buffer size status buffer size
 refused_returns None refusal buffer size status e n = (n ∙ ap status_number e, refl, refl)
-refused_returns (Some c) refusal buffer size status e n = (block.OutOfMemory, tt, (n ∙ ap status_number e, refl, refl))
+refused_returns (Some c) refusal buffer size status e n = (block.OutOfMemory, e.1, (n ∙ ap status_number e.0, refl, refl))

@@ -39,12 +39,9 @@ ReturnsTextOf {A = A} (Some s) bytes answer number buffer size status new_buffer
     × ReturnsText number (answer s copied) buffer size status new_buffer new_size)
     ⊎ ((status ≡ status_number OutOfResources) × (new_buffer ≡ buffer) × (new_size ≡ size))
 
--- of a GetMemoryMap that returned these fields
-abbrev pub PrintsMap : {A : Type 0} → EfiCoreValue A → MapFields → List ℕ → ℕ → ℕ → List ℕ → ℕ
-    → Type 0
-PrintsMap {A = A} core f buffer size status new_buffer new_size =
-    ReturnsTextOf {A = A} (status_with f.status) f.bytes.now
-    (λ s bytes.
+-- the reply of a GetMemoryMap that returned these fields, with a status and bytes
+abbrev pub map_answer : {A : Type 0} → MapFields → Status → Vec ℕ A → Reply A
+map_answer f s bytes =
     reply.GetMemoryMap
     (record {
       status = s;
@@ -53,7 +50,13 @@ PrintsMap {A = A} core f buffer size status new_buffer new_size =
       descriptor_size = f.descriptor_size;
       version = f.version;
     })
-    bytes)
+    bytes
+
+-- of a GetMemoryMap that returned these fields
+abbrev pub PrintsMap : {A : Type 0} → EfiCoreValue A → MapFields → List ℕ → ℕ → ℕ → List ℕ → ℕ
+    → Type 0
+PrintsMap {A = A} core f buffer size status new_buffer new_size =
+    ReturnsTextOf {A = A} (status_with f.status) f.bytes.now (λ s bytes. map_answer f s bytes)
     f.number buffer size status new_buffer new_size
 
 -- of a read of the pool that returned these fields

@@ -1,5 +1,5 @@
 -- A call as a caller in C describes it.
-use Rattle.std.specs.Prelude.{◌≡◌, List, [], ◌∷◌, map, Option, Some, None, option_and_then, Result, Ok, Err}
+use Rattle.std.specs.Prelude.{◌≡◌, true, List, [], ◌∷◌, map, Option, Some, None, option_and_then, Result, Ok, Err}
 use Rattle.std.specs.List.{slice_get}
 use Rattle.page_ranges.specs.declared.statuses.Status.{Status}
 use Rattle.page_ranges.specs.declared.statuses.Status.TheVariants.{InvalidParameter, OutOfResources}
@@ -7,6 +7,7 @@ use Rattle.trace_verbs.specs.declared.verbs.Verb.{Verb}
 use Rattle.trace_verbs.specs.declared.verbs.Verb.TheVariants as verb
 use Rattle.boot_calls.specs.declared.calls.Call.{Call}
 use Rattle.boot_calls.specs.declared.calls.Call.TheVariants as call
+use Rattle.call_texts.specs.CallLines.{may_ask}
 use Rattle.c_machines.specs.Guids.{guid_in, interface_in}
 use Rattle.c_interface.specs.declared.call_fields.CallFields.{CallFields}
 
@@ -56,9 +57,10 @@ call_by verb.List f = None
 abbrev pub call_of : {A : Type 0} → CallFields → Option (Call A)
 call_of f = option_and_then (λ v. call_by v f) (slice_get services f.service)
 
--- The call is made, for which memory may run out; INVALID_PARAMETER where there is none.
+-- The call is made, for which memory may run out where a line may ask for it; INVALID_PARAMETER
+-- where there is none.
 abbrev pub MakesCall : {A : Type 0} → Option (Call A) → Result (Call A) Status → Type 0
 MakesCall (Some c) (Ok made) = made ≡ c
-MakesCall (Some c) (Err status) = status ≡ OutOfResources
+MakesCall (Some c) (Err status) = (status ≡ OutOfResources) × (may_ask c ≡ true)
 MakesCall None (Ok made) = ⊥
 MakesCall None (Err status) = status ≡ InvalidParameter

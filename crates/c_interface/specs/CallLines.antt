@@ -3,7 +3,7 @@ use Rattle.std.specs.Prelude.{◌≡◌, ℕ, List, Option, Some, None, true, fa
 use Rattle.page_ranges.specs.Statuses.{status_number}
 use Rattle.page_ranges.specs.declared.statuses.Status.TheVariants.{InvalidParameter}
 use Rattle.boot_calls.specs.declared.calls.Call.{Call}
-use Rattle.call_texts.specs.CallLines.{has_line}
+use Rattle.call_texts.specs.CallLines.{has_line, may_ask}
 use Rattle.call_texts.specs.CallText.{call_text}
 use Rattle.c_interface.specs.declared.call_fields.CallFields.{CallFields}
 use Rattle.c_interface.specs.declared.efi_core.LastBlock.{LastBlock}
@@ -13,11 +13,11 @@ use Rattle.c_interface.specs.EfiCores.{EfiCoreValue}
 use Rattle.c_interface.specs.Served.{ReturnsBlock}
 
 -- The line of a call with its line feed; nothing where no line can ask for the call. Memory may run
--- out.
+-- out where a line may ask for it, however long it is.
 abbrev pub HasLine : {A : Type 0} → Call A → LastBlock A → Type 0
 HasLine c (block.Text text) = (has_line c ≡ true) × (text.items ≡ call_text c)
 HasLine c block.Nothing = has_line c ≡ false
-HasLine c block.OutOfMemory = Unit {0}
+HasLine c block.OutOfMemory = may_ask c ≡ true
 
 -- The line of a call is put in the caller's buffer as a block is, its bytes in the caller's
 -- variable. INVALID_PARAMETER: there is no call.

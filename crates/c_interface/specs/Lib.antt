@@ -1,4 +1,5 @@
 pub mod BufferReplies
+pub mod BufferLaws
 pub mod Buffers
 pub mod CallFields
 pub mod CallLines

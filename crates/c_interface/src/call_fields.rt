@@ -1,5 +1,5 @@
 //! Calls as a caller in C describes them.
-ghost use Rattle.std.specs.Prelude.{◌≡◌, IfOk, Some, map};
+ghost use Rattle.std.specs.Prelude.{◌≡◌, IfOk, OnErr, Some, length, map, nat_lt, true};
 ghost use Rattle.std.specs.List.{slice_get};
 ghost use Rattle.boot_calls.specs.declared.calls.Call.TheVariants as call;
 ghost use Rattle.c_machines.specs.Guids.{interface_in};
@@ -259,13 +259,17 @@ fn connect_call<A: Allocator + Copy>(
     }
 }
 
-/// Interfaces as pairs of GUID and value.
+/// Interfaces as pairs of GUID and value. No pairs take no memory.
 fn pairs_of<A: Allocator + Copy>(
     alloc: A,
     interfaces: &[Interface],
 ) -> Result<Vec<(Uuid, u64), A>, AllocError>
-    ensures { IfOk result (λ pairs. pairs.items ≡ map interface_in interfaces.now) }
+    ensures pairs { IfOk result (λ pairs. pairs.items ≡ map interface_in interfaces.now) }
+    ensures some { OnErr result (nat_lt 0 (length (map interface_in interfaces.now)) ≡ true) }
 {
+    if interfaces.is_empty() {
+        return Ok(Vec::new(alloc));
+    }
     let mut pairs = Vec::with_capacity(alloc, interfaces.len())?;
     for interface in interfaces {
         pairs.push((interface.guid.uuid(), interface.value))?;

@@ -31,6 +31,6 @@ pub use call_fields::CallFields;
 pub use checks::{MapEntry, check_block};
 pub use efi_core::{ABORTED, EfiCore, LastBlock};
 pub use entries::{BlockEntry, OpenEntry, RunEntry, StopEntry};
-pub use laws::printed_reply_law;
+pub use laws::{printed_map_law, printed_read_law, printed_reply_law};
 pub use turns::{connect_next, connect_record};
 pub use versions::VERSION;

@@ -27,7 +27,7 @@ pub fn line_for<A: Allocator + Copy>(
 }
 
 /// Whether a line may ask for a call, however long it is.
-fn may_ask<A: Allocator>(call: &Call<A>) -> bool
+pub fn may_ask<A: Allocator>(call: &Call<A>) -> bool
     ensures { result ≡ may_ask call.now }
 {
     match call {
