@@ -212,6 +212,17 @@ impl<A: Allocator + Copy> Blocks<A> {
         Ok(())
     }
 
+    /// Removes a place from the blocks of two numbers, which may be one, where the places of each block ascend.
+    pub fn remove_ascending_from_both(&mut self, first: u64, second: u64, place: usize)
+        requires { (m : ℕ) → Ascending (λ a b. a < b) (block_at self.old m).places }
+        ensures { ChangesBlocks first second (without_place place) self.old self.new }
+    {
+        self.remove_ascending(first, place);
+        if second != first {
+            self.remove_ascending(second, place);
+        }
+    }
+
     /// Removes a place from the blocks of two numbers, which may be one.
     pub fn remove_from_both(&mut self, first: u64, second: u64, place: usize)
         ensures { ChangesBlocks first second (without_place place) self.old self.new }

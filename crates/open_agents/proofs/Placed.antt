@@ -214,6 +214,10 @@ from_ascends q (s ∷ ss) i =
       | inr e ↦ rw e rest
     ]
 
+-- the places in a block ascend
+pub blocks_ascend : (slots : List (Option OpenRecord)) (blocks agents : List Block) → IsOpenStore slots blocks agents → (m : ℕ) → Ascending (λ x y. x < y) (block_at blocks m).places
+blocks_ascend slots blocks agents h m = rw (h.in_step m) (from_ascends (is_in m) slots 0)
+
 -- the places in the block of an agent ascend
 pub agents_ascend : (slots : List (Option OpenRecord)) (blocks agents : List Block) → IsOpenStore slots blocks agents → (a : ℕ) → Ascending (λ x y. x < y) (block_at agents a).places
 agents_ascend slots blocks agents h a = rw (h.by_agent a) (from_ascends (is_of_agent a) slots 0)

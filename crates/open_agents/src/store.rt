@@ -147,8 +147,9 @@ impl<A: Allocator + Copy> ItemStore<A> {
     {
         if let Some(item) = self.slots[place] {
             self.slots[place] = None;
-            self.blocks
-                .remove_from_both(block_of(item.handle), second_block(&item), place);
+            let first = block_of(item.handle);
+            let second = second_block(&item);
+            self.blocks.remove_ascending_from_both(first, second, place);
             self.agents.remove_ascending(item.agent, place);
         }
     }
