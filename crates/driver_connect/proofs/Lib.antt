@@ -31,3 +31,4 @@ pub mod StopsInOrder
 pub mod GoingOn
 pub mod Beside
 pub mod Restamped
+pub mod OnePair

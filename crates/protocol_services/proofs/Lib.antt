@@ -15,3 +15,4 @@ pub mod ProperRemovals
 pub mod Unopened
 pub mod Signals
 pub mod RemovedMany
+pub mod DriversNear

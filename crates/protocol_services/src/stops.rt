@@ -1,13 +1,44 @@
 //! What to stop, for a caller that stops drivers itself, before a service is called that needs it.
 ghost use Rattle.std.specs.Prelude.{◌≡◌, IfOk};
+ghost use Rattle.open_agents.specs.Blocks.{items_near};
+ghost use Rattle.open_agents.specs.OpenItems.{is_driving};
 ghost use Rattle.driver_connect.specs.StopOrder.{children_of as children, stop_order};
 ghost use Rattle.driver_connect.specs.Stopping.{managers_meant, planned_stop};
 ghost use Rattle.protocol_services.specs.Removing.{drivers_on};
 
 use crate::protocols::Protocols;
-use driver_connect::{children_of, managers_to_stop};
+use driver_connect::{children_of, managers_to_stop, pairs_to_stop};
+use guid_handles::is_same_guid;
+use open_agents::{Near, OpenRecord, is_for_driver, item_at};
 use std::alloc::{AllocError, Allocator};
 use uuid::Uuid;
+
+/// Whether an item is for a driver, on an interface.
+fn is_driving(o: &OpenRecord, handle: u64, guid: Uuid) -> bool
+    ensures { result ≡ is_driving handle guid o.now }
+{
+    o.handle == handle && is_same_guid(&o.guid, &guid) && is_for_driver(o.attributes)
+}
+
+/// The pairs of controller and agent that have an interface open for a driver, by the items near it.
+fn drivers_near<A: Allocator>(
+    alloc: A,
+    near: Near<'_>,
+    handle: u64,
+    guid: Uuid,
+) -> Result<Vec<(u64, u64), A>, AllocError>
+    ensures { IfOk result (λ v. v.items ≡ drivers_on (items_near near.entry) handle guid) }
+{
+    let mut pairs = Vec::new(alloc);
+    for place in near.places {
+        if let Some(o) = item_at(near.slots, *place) {
+            if is_driving(o, handle, guid) {
+                pairs.push((o.controller, o.agent))?;
+            }
+        }
+    }
+    Ok(pairs)
+}
 
 impl<A: Allocator + Copy> Protocols<A> {
     /// The pairs of controller and agent to be stopped, in order, before an interface that drivers have open can be
@@ -22,8 +53,8 @@ impl<A: Allocator + Copy> Protocols<A> {
             (planned_stop self.now.handles self.now.opens
             (drivers_on self.now.opens handle guid))) }
     {
-        let items = self.opens.items(handle, guid)?;
-        self.plan_among(items.as_slice())?.order(self.alloc)
+        let pairs = drivers_near(self.alloc, self.opens.near(handle), handle, guid)?;
+        pairs_to_stop(self.alloc, &self.handles, &self.opens, pairs)
     }
 
     /// The pairs to be stopped, in order, before a handle can be disconnected from the drivers that manage
