@@ -11,6 +11,10 @@
 
 #define ROUNDS 400U
 #define MAX_ITEMS 64U
+#define MAX_OPENS 512U
+
+/* The rounds after which it is mostly closed, and then again mostly opened. */
+#define PHASE 50U
 
 static const struct rafkudin_guid guids[4] = {{{1}}, {{2}}, {{3}}, {{4}}};
 
@@ -33,7 +37,7 @@ struct open {
 static struct rafkudin *core;
 static struct block blocks[MAX_ITEMS];
 static struct interface interfaces[MAX_ITEMS];
-static struct open opens[MAX_ITEMS];
+static struct open opens[MAX_OPENS];
 static size_t block_count, interface_count, open_count;
 
 static uint32_t drawn(uint32_t below)
@@ -92,14 +96,20 @@ static void install(void)
         interfaces[interface_count++] = made;
 }
 
+/* The agent of every second open is one of three. */
+static uint64_t any_agent(void)
+{
+    return drawn(2) == 0 ? any_handle() : interfaces[drawn(3) % interface_count].handle;
+}
+
 /* An open that asks for nothing else than that it is noted. */
 static void note_open(void)
 {
     const struct interface *it = &interfaces[drawn((uint32_t)interface_count)];
-    struct open made = {it->handle, any_handle(), any_handle(), it->guid, RAFKUDIN_GET_PROTOCOL, 1};
+    struct open made = {it->handle, any_agent(), any_handle(), it->guid, RAFKUDIN_GET_PROTOCOL, 1};
     uint64_t value = 0;
 
-    if (open_count == MAX_ITEMS ||
+    if (open_count == MAX_OPENS ||
         RafkudinOpenProtocol(core, made.handle, &guids[made.guid], &value, made.agent,
                              made.controller, made.attributes) != RAFKUDIN_SUCCESS)
         return;
@@ -121,6 +131,16 @@ static void close_one(void)
     HOLDS(RafkudinCloseProtocol(core, gone.handle, &guids[gone.guid], gone.agent,
                                 gone.controller) == RAFKUDIN_SUCCESS);
     memmove(opens + at, opens + at + 1, (--open_count - at) * sizeof *opens);
+}
+
+/* Some opens and closes, mostly closes or mostly opens. */
+static void change_opens(bool closing)
+{
+    for (uint32_t left = 1 + drawn(6); left > 0; left--)
+        if (open_count > 0 && drawn(5) < (closing ? 4U : 1U))
+            close_one();
+        else
+            note_open();
 }
 
 /* The interfaces that are left, and what is open: all that names a handle without any goes too. */
@@ -314,11 +334,11 @@ static bool same_item(const struct rafkudin_item *item, const struct open *open)
 /* The items of one interface: one after the other, all at once, and into a buffer too small. */
 static void ask_items(uint64_t handle, unsigned guid)
 {
-    struct rafkudin_item item, items[MAX_ITEMS];
-    uint64_t count = MAX_ITEMS + 1;
+    struct rafkudin_item item, items[MAX_OPENS];
+    uint64_t count = MAX_OPENS + 1;
     size_t at = 0;
 
-    HOLDS(RafkudinOpenProtocolInformationInto(core, handle, &guids[guid], items, MAX_ITEMS,
+    HOLDS(RafkudinOpenProtocolInformationInto(core, handle, &guids[guid], items, MAX_OPENS,
                                               &count) == RAFKUDIN_SUCCESS);
     for (size_t i = 0; i < open_count; i++)
         if (opens[i].handle == handle && opens[i].guid == guid) {
@@ -400,10 +420,8 @@ int main(void)
             install();
         else if (drawn(8) == 0)
             uninstall_many();
-        else if (open_count > 0 && drawn(4) == 0)
-            close_one();
         else
-            note_open();
+            change_opens(round / PHASE % 2 == 1);
         if (drawn(16) == 0)
             HOLDS(RafkudinAllocatePages(core, RAFKUDIN_ANY_PAGES, RAFKUDIN_LOADER_DATA, drawn(4) + 1,
                                         &address) == RAFKUDIN_SUCCESS);

@@ -6,7 +6,7 @@ use super::plain_drivers::{self, CHILD_VALUE, PlainDriver};
 use super::plain_lists::{self, Hindrance, Item, Lists, MAX_HANDLES, Made, empty_lists};
 use super::tallies::{Service, Tally, assert_least, count};
 use super::{assert_returns, plain_opens, small_machine};
-use boot_core::{Call, CallHandles, Core};
+use boot_core::{Call, CallHandles, Core, OpenRecord};
 use driver_connect::TableDriver;
 use page_ranges::Status;
 use std::process::Abort;
@@ -386,12 +386,41 @@ fn assert_items(rt: &(impl AllocGlobal + Abort), both: &mut Both, handle: u64, b
     );
 }
 
-/// Asserts that all handles, their interfaces and the items on these are those of the plain lists.
+/// Whether an item is one of the plain lists.
+fn is_item(found: Option<OpenRecord>, item: &Item) -> bool {
+    match found {
+        Some(o) => {
+            o.handle == item.handle
+                && o.guid == drivers::guid(item.guid)
+                && o.agent == item.agent
+                && o.controller == item.controller
+                && o.attributes == item.attributes
+                && o.count == item.count
+        }
+        None => false,
+    }
+}
+
+/// Asserts that the items of an agent, one after the other, are those of the plain lists.
+fn assert_items_of(rt: &impl Abort, both: &Both, agent: u64) {
+    let mut index = 0usize;
+    for item in &both.lists.items {
+        if item.agent == agent {
+            assert!(rt; is_item(both.core.agent_item(agent, index), item));
+            index = index.saturating_add(1);
+        }
+    }
+    assert!(rt; both.core.agent_item(agent, index).is_none());
+}
+
+/// Asserts that all handles, their interfaces, the items on these and those of each handle as an agent are those of
+/// the plain lists.
 fn assert_whole(rt: &(impl AllocGlobal + Abort), both: &mut Both) {
     assert_handles(rt, both);
     for at in 0..both.lists.handles.len() {
         if let Some(handle) = both.lists.handles.get(at).copied() {
             assert_protocols(rt, both, handle);
+            assert_items_of(rt, both, handle);
         }
     }
     for at in 0..both.lists.items.len() {

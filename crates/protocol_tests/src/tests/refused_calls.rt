@@ -69,11 +69,24 @@ fn handle_behind(core: &RefusedCore<'_>, before: u64, handle: u64) -> u64 {
     number
 }
 
+/// The open items of an agent, as a number.
+fn agent_behind(core: &RefusedCore<'_>, before: u64, agent: u64) -> u64 {
+    let mut number = before;
+    for at in 0..200 {
+        if let Some(item) = core.agent_item(agent, at) {
+            number = behind(number, item.handle);
+            number = behind(number, item.controller);
+        }
+    }
+    number
+}
+
 /// All handles, interfaces and open items, as a number: two states have the same by a chance of 1 in 2^64.
 fn digest(core: &RefusedCore<'_>) -> u64 {
     let mut number = 0xcbf2_9ce4_8422_2325;
     for handle in core.handle_list() {
         number = handle_behind(core, number, *handle);
+        number = agent_behind(core, number, *handle);
     }
     number
 }
