@@ -427,8 +427,7 @@ RAFKUDIN_API rafkudin_uint64 RafkudinOpenItem(const struct rafkudin *core, rafku
                                               const struct rafkudin_guid *Protocol, size_t index,
                                               struct rafkudin_item *item);
 
-/* The item at an index, from 0 on, among those that an agent has open, oldest first. Each such
- * question goes along all open items. */
+/* The item at an index, from 0 on, among those that an agent has open, oldest first. */
 RAFKUDIN_API rafkudin_uint64 RafkudinAgentItem(const struct rafkudin *core, rafkudin_uint64 agent,
                                                size_t index, struct rafkudin_open *item);
 
