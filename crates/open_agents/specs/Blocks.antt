@@ -108,7 +108,8 @@ are_equal o p = is_equal_item o.handle o.guid o.agent o.controller o.attributes 
 
 -- Items, no two of which are equal and each of which has an agent, at their places; these places in
 -- blocks, and by agents.
-pub record IsOpenStore (slots : List (Option OpenRecord)) (blocks agent_blocks : List Block) : Type 0 where
+pub record IsOpenStore (slots : List (Option OpenRecord))
+    (blocks agent_blocks : List Block) : Type 0 where
   pub in_step : (b : ℕ) → block_at blocks b ≡ block_of slots b
   pub by_agent : (a : ℕ) → block_at agent_blocks a ≡ agent_block slots a
   pub distinct : Ascending (λ o p. are_equal p o ≡ false) (items_in slots)
