@@ -19,7 +19,7 @@
 #define CALLS 1000
 
 /* How many numbers of 64 bits a core has at least. */
-#define NUMBERS 32
+#define NUMBERS 80
 
 static const struct rafkudin_guid disk = {{1}};
 
