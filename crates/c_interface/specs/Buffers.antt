@@ -1,4 +1,4 @@
--- What is in a caller's buffer after values are front_filled into it.
+-- What is in a caller's buffer after values are written to its front.
 use Rattle.std.specs.Prelude.{List, ◌++◌, length, take, drop}
 
 -- the values from the front of a buffer on, as many as it has room for; the rest of the buffer is

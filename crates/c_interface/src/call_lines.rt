@@ -4,7 +4,7 @@ ghost use Rattle.c_interface.specs.CallLines.{HasLine, ReturnsLine};
 use crate::call_fields::{CallFields, call_in};
 use crate::efi_core::{EfiCore, LastBlock};
 use boot_core::Call;
-use call_texts::{line_for, may_ask};
+use call_texts::line_for;
 use std::alloc::Allocator;
 
 impl<A: Allocator + Copy> EfiCore<A> {
@@ -28,9 +28,6 @@ impl<A: Allocator + Copy> EfiCore<A> {
 fn line_of<A: Allocator + Copy>(alloc: A, call: &Call<A>) -> LastBlock<A>
     ensures { HasLine call.now result }
 {
-    if !may_ask(call) {
-        return LastBlock::Nothing;
-    }
     match line_for(alloc, call) {
         Ok(Some(line)) => LastBlock::Text(line.into_bytes()),
         Ok(None) => LastBlock::Nothing,

@@ -12,9 +12,9 @@ use page_ranges::Status;
 use std::alloc::{AllocError, Allocator};
 
 impl<A: Allocator + Copy> EfiCore<A> {
-    /// The core of a machine before any call, with the most calls that a core can be left. Its memory is described by records (EFI_MEMORY_DESCRIPTOR) of
-    /// `descriptor_size` bytes each, its granule is 1 or 16 pages, and the value of a driver binding
-    /// interface is the index of its driver among the tables.
+    /// The core of a machine before any call, with the most calls that a core can be left. Its memory is described by
+    /// records (EFI_MEMORY_DESCRIPTOR) of `descriptor_size` bytes each, its granule is 1 or 16 pages, and the value of
+    /// a driver binding interface is the index of its driver among the tables.
     ///
     /// The error is a number of EFI_STATUS. INVALID_PARAMETER: the records describe no machine, or the tables describe
     /// no drivers, which is found before memory is taken. OUT_OF_RESOURCES: memory ran out.

@@ -9,5 +9,5 @@ mod words;
 
 pub use calls::print_call;
 pub use laws::{printed_call_law, printed_lines_law};
-pub use lines::{line_for, may_ask};
+pub use lines::line_for;
 pub use traces::CallTrace;

@@ -1,5 +1,5 @@
 //! The line of a call, where a line can ask for it.
-ghost use Rattle.std.specs.Prelude.{◌≡◌, IfOk};
+ghost use Rattle.std.specs.Prelude.{◌≡◌, true, IfOk, OnErr};
 ghost use Rattle.call_texts.specs.CallLines.{IsLineFor, may_ask};
 
 use crate::calls::print_call;
@@ -8,12 +8,14 @@ use std::alloc::{AllocError, Allocator};
 use text_lines::MAX_LINE_LENGTH;
 use trace_lines::{MAX_BUFFER_SIZE, MAX_READ_SIZE};
 
-/// The line of a call, with its line feed; None where no line can ask for it.
+/// The line of a call, with its line feed; None where no line can ask for it. Memory runs out only for a call that a
+/// line may ask for.
 pub fn line_for<A: Allocator + Copy>(
     alloc: A,
     call: &Call<A>,
 ) -> Result<Option<String<A>>, AllocError>
-    ensures { IfOk result (λ line. IsLineFor call.now line) }
+    ensures line { IfOk result (λ line. IsLineFor call.now line) }
+    ensures asks { OnErr result (may_ask call.now ≡ true) }
 {
     if !may_ask(call) {
         return Ok(None);
@@ -27,7 +29,7 @@ pub fn line_for<A: Allocator + Copy>(
 }
 
 /// Whether a line may ask for a call, however long it is.
-pub fn may_ask<A: Allocator>(call: &Call<A>) -> bool
+fn may_ask<A: Allocator>(call: &Call<A>) -> bool
     ensures { result ≡ may_ask call.now }
 {
     match call {

@@ -1,6 +1,6 @@
 -- The open items at their places, and where those on each handle and of each controller are, in
 -- blocks.
-use Rattle.std.specs.Prelude.{◌≡◌, ℕ, ◌+◌, ◌/◌, ◌==◌, ◌||◌, ◌&&◌, Bool, true, false, cond, List, [], ◌∷◌, Option, Some, None, slice_index_or, IfSome, IfNone}
+use Rattle.std.specs.Prelude.{◌≡◌, ℕ, ◌+◌, ◌/◌, ◌==◌, ◌||◌, ◌&&◌, Bool, true, false, cond, List, [], ◌∷◌, Option, Some, None, slice_get, slice_index_or, IfSome, IfNone}
 use Rattle.std.specs.List.{list_any, AllByRecursion}
 use Rattle.guid_handles.specs.Sorting.{Ascending}
 use Rattle.guid_handles.specs.Blocks.{Block, block_at}
@@ -34,6 +34,10 @@ items_at slots (k ∷ ks) = with_first (item_at slots k) (items_at slots ks)
 abbrev pub item_at_place : List (Option OpenRecord) → Option ℕ → Option OpenRecord
 item_at_place slots None = None
 item_at_place slots (Some k) = item_at slots k
+
+-- the item at the place of an index
+abbrev pub nth_near : Near → ℕ → Option OpenRecord
+nth_near near index = item_at_place near.slots.now (slice_get near.places.now index)
 
 -- the items near a handle
 abbrev pub items_near : Near → List OpenRecord

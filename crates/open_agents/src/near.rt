@@ -1,6 +1,6 @@
 //! Some items at their places among all.
-ghost use Rattle.std.specs.Prelude.{◌≡◌, option_map, slice_get};
-ghost use Rattle.open_agents.specs.Blocks.{item_at, item_at_place};
+ghost use Rattle.std.specs.Prelude.{◌≡◌, option_map};
+ghost use Rattle.open_agents.specs.Blocks.{item_at, nth_near};
 
 use crate::items::OpenRecord;
 
@@ -23,7 +23,7 @@ pub fn item_at(slots: &[Option<OpenRecord>], place: usize) -> Option<&OpenRecord
 
 /// The item at the place of an index, if there is one.
 pub(crate) fn nth_item(near: Near<'_>, index: usize) -> Option<OpenRecord>
-    ensures { result ≡ item_at_place near.entry.slots.now (slice_get near.entry.places.now index) }
+    ensures { result ≡ nth_near near.entry index }
 {
     match near.places.get(index) {
         Some(place) => item_at(near.slots, *place).copied(),
