@@ -1,5 +1,5 @@
--- What is left of a call, whether blocks are kept or not.
-use Rattle.std.proofs.Common.{◌≡◌, ℕ, Bool, true, false, List, Option, None, Result, Ok, Err, Vec, refl, sym, subst, MatchResult, IfOk}
+-- What is left of a call, where blocks are kept and where not.
+use Rattle.std.proofs.Common.{◌≡◌, ℕ, Bool, true, false, List, Option, None, Result, Ok, Err, Vec, inl, inr, refl, sym, subst, MatchResult, IfOk}
 use Rattle.std.specs.Option.{option_map}
 use Rattle.page_ranges.specs.declared.ranges.Descriptor.{Descriptor}
 use Rattle.placement_certificate.specs.declared.certificates.Request.{Request}
@@ -8,19 +8,24 @@ use Rattle.boot_calls.specs.declared.calls.Call.{Call}
 use Rattle.boot_replies.specs.Certified.{map_before}
 use Rattle.c_interface.specs.declared.efi_core.LastBlock.{LastBlock}
 use Rattle.c_interface.specs.declared.efi_core.LastBlock.TheVariants as block
-use Rattle.c_interface.specs.EfiCores.{LeavesBlock}
+use Rattle.c_interface.specs.EfiCores.{EfiCoreValue, LeavesBlock, forgotten}
+use Rattle.c_interface.specs.Served.{AnswersStatus}
 
 -- the entries of a map that was kept
 abbrev pub entries_of : {A : Type 0} → Option (Vec Descriptor A) → Option (List Descriptor)
 entries_of kept = option_map (λ entries. entries.items) kept
 
-kept_block : {E A : Type 0} (granule : ℕ) (entries : List Descriptor) (c : Call A) (returned : Option (Request × CertificateValue)) (before : Result (Option (Vec Descriptor A)) E) (b : LastBlock A) →
+pub kept_block : {E A : Type 0} (granule : ℕ) (entries : List Descriptor) (c : Call A) (returned : Option (Request × CertificateValue)) (before : Result (Option (Vec Descriptor A)) E) (b : LastBlock A) →
     MatchResult before (λ kept. LeavesBlock true (entries_of kept) returned b) (λ e. b ≡ block.OutOfMemory) → IfOk before (λ kept. entries_of kept ≡ map_before true granule entries c) → LeavesBlock true (map_before true granule entries c) returned b
 kept_block granule entries c returned (Ok kept) b h e = subst (λ k. LeavesBlock true k returned b) e h
 kept_block granule entries c returned (Err x) b h e = subst (λ k. LeavesBlock true (map_before true granule entries c) returned k) (sym h) refl
 
-pub block_left : {E A : Type 0} (certifies : Bool) (granule : ℕ) (entries : List Descriptor) (c : Call A) (returned : Option (Request × CertificateValue)) (before : Result (Option (Vec Descriptor A)) E) (b : LastBlock A) →
-    (certifies ≡ true → MatchResult before (λ kept. LeavesBlock true (entries_of kept) returned b) (λ e. b ≡ block.OutOfMemory)) → (certifies ≡ false → b ≡ block.Nothing) →
-    IfOk before (λ kept. entries_of kept ≡ map_before certifies granule entries c) → LeavesBlock certifies (map_before certifies granule entries c) returned b
-block_left true granule entries c returned before b h n e = kept_block granule entries c returned before b (h refl) e
-block_left false granule entries c returned before b h n e = subst (λ k. LeavesBlock false None returned k) (sym (n refl)) tt
+-- where none are kept
+pub no_block : {A : Type 0} (granule : ℕ) (entries : List Descriptor) (c : Call A) (returned : Option (Request × CertificateValue)) → LeavesBlock {A = A} false (map_before false granule entries c) returned block.Nothing
+no_block granule entries c returned = tt
+
+-- A call of a core that keeps nothing of the call before.
+pub forgotten_answers : {A : Type 0} (old new : EfiCoreValue A) (c : Call A) (status : ℕ) → AnswersStatus (forgotten old) c status new → AnswersStatus old c status new
+forgotten_answers old new c status (inl (answer, s, is, nothing)) =
+    inl (answer, record { step = s.step; drivers = s.drivers; certifies = s.certifies; block = s.block; last = s.last }, is, nothing)
+forgotten_answers old new c status (inr (s, is, nothing)) = inr (record { spent = s.spent; core = s.core }, is, nothing)

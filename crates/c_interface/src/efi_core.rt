@@ -1,11 +1,10 @@
 //! A core that a caller in C has.
-ghost use Rattle.std.specs.Prelude.{◌≡◌, false, length, None, Some, true, option_map, IfOk};
+ghost use Rattle.std.specs.Prelude.{◌≡◌, ◌<◌, false, length, None, Some, true, option_map};
 ghost use Rattle.c_interface.specs.EfiCores.{KeepsBlock, with_last};
 ghost use Rattle.page_ranges.specs.Statuses.{status_number};
 ghost use Rattle.boot_replies.specs.Certified.{certified};
-ghost use Rattle.boot_core.specs.Machines.{kept_map};
 ghost use Rattle.c_interface.specs.Buffers.{front_filled};
-ghost use Rattle.c_interface.specs.EfiCores.{LeavesBlock, certifying_core, forgotten, last_events};
+ghost use Rattle.c_interface.specs.EfiCores.{certifying_core, forgotten, last_events};
 ghost use Rattle.c_interface.specs.Paths.{with_reply};
 ghost use Rattle.c_interface.specs.Replies.{number_in, returned_or, status_in};
 ghost use Rattle.c_interface.specs.Served.{AnswersStatus, AnswersNumber, AnswersNumbers, ReturnsBlock};
@@ -101,33 +100,6 @@ impl<A: Allocator + Copy> EfiCore<A> {
         self.block = LastBlock::Nothing;
     }
 
-    // The memory map before a call, where the block of its certificate is kept.
-    fn map_before(&self, call: &Call<A>) -> Result<Option<Vec<Descriptor, A>>, AllocError>
-        ensures { IfOk result (λ kept. option_map (λ entries. entries.items) kept
-            ≡ kept_map self.now.certifies self.now.core.state call.now) }
-    {
-        map_before(self.alloc, &self.core, call, self.certifies)
-    }
-
-    // What is left of a call, where blocks are kept.
-    fn block_after(
-        &self,
-        granule: u64,
-        before: &Result<Option<Vec<Descriptor, A>>, AllocError>,
-        call: &Call<A>,
-        reply: &Reply<A>,
-    ) -> LastBlock<A>
-        ensures kept { self.now.certifies ≡ true
-            → KeepsBlock before.now (certified granule call.now reply.now) result }
-        ensures none { self.now.certifies ≡ false → result ≡ LastBlock.Nothing }
-    {
-        if self.certifies {
-            block_of(self.alloc, granule, before, call, reply)
-        } else {
-            LastBlock::Nothing
-        }
-    }
-
     // Keeps what is left of a call.
     fn keep(&mut self, reply: Reply<A>, block: LastBlock<A>)
         ensures { self.new ≡ with_last self.old reply block }
@@ -189,11 +161,24 @@ impl<A: Allocator + Copy> EfiCore<A> {
         if self.core.calls_left() == 0 {
             return ABORTED;
         }
+        if self.certifies {
+            return self.answer_with_block(call);
+        }
+        let reply = self.core.call(call);
+        self.return_status(reply)
+    }
+
+    // The same where blocks are kept, of which there is none of the call before.
+    fn answer_with_block(&mut self, call: &Call<A>) -> u64
+        requires certifies { self.old.certifies ≡ true }
+        requires left { 0 < self.old.core.state.calls_left }
+        ensures { AnswersStatus self.old call.now result self.new }
+    {
         let granule = self.core.granule();
-        let before = self.map_before(call);
+        let before = map_before(self.alloc, &self.core, call, true);
         let reply = self.core.call(call);
         let status = status_in(&reply).number();
-        let block = self.block_after(granule, &before, call, &reply);
+        let block = block_of(self.alloc, granule, &before, call, &reply);
         self.keep(reply, block);
         status
     }

@@ -122,7 +122,12 @@ impl<A: Allocator + Copy> EfiCore<A> {
     pub fn free_pool(&mut self, address: u64) -> u64
         ensures { AnswersStatus self.old (call.FreePool address) result self.new }
     {
-        self.answer(&Call::FreePool { address })
+        self.forget();
+        if self.core.calls_left() == 0 {
+            return ABORTED;
+        }
+        let reply = self.core.free_pool(address);
+        self.return_status(reply)
     }
 
     /// ExitBootServices.

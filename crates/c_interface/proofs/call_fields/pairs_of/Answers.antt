@@ -1,5 +1,5 @@
 use Rattle.std.proofs.Common.{sym, ◌∙◌}
-use Rattle.c_interface.proofs.ReturnedLists.{no_pairs, pairs_more, some_pairs}
+use Rattle.c_interface.proofs.ReturnedLists.{no_pairs, pairs_more}
 use Rattle.c_interface.proofs.call_fields.pairs_of.Goals as goal
 
 pub returns-then-is_empty-clause-pairs : goal.returns-then-is_empty-clause-pairs

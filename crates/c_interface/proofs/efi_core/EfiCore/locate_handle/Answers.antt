@@ -1,9 +1,9 @@
-use Rattle.std.proofs.Common.{Some, length, sym, ap, subst, ◌∙◌}
+use Rattle.std.proofs.Common.{Some, sym, ap, subst, ◌∙◌}
 use Rattle.std.specs.Option.{option_map}
 use Rattle.boot_calls.specs.declared.calls.Call.TheVariants as call
 use Rattle.c_interface.specs.Buffers.{front_filled}
 use Rattle.c_interface.specs.Replies.{returned_or}
-use Rattle.c_interface.specs.Served.{AnswersHandles, handle_bytes}
+use Rattle.c_interface.specs.Served.{AnswersHandles}
 use Rattle.c_machines.specs.Guids.{guid_in}
 use Rattle.c_interface.proofs.ReturnedLists.{handles_returned}
 use Rattle.c_interface.proofs.efi_core.EfiCore.locate_handle.Goals as goal

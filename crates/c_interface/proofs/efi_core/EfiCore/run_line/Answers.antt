@@ -1,7 +1,6 @@
 use Rattle.std.proofs.Common.{rules, inl, sym, ap, ◌∙◌}
 use Rattle.std.specs.String.{string_bytes}
 use Rattle.c_interface.specs.EfiCores.{EfiCoreValue}
-use Rattle.c_interface.specs.Lines.{KeepsCore}
 use Rattle.c_interface.proofs.efi_core.EfiCore.run_line.Goals as goal
 
 pub returns-in-Ok : goal.returns-in-Ok
