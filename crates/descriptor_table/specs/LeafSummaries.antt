@@ -7,11 +7,11 @@ use Rattle.descriptor_table.specs.declared.summaries.Summary.{Summary}
 use Rattle.descriptor_table.specs.Leaves.{first_page, leaf_at, run_before}
 use Rattle.descriptor_table.specs.Summaries.{Allows, AllowsLeaf, AllowsRun, AreGroupsBut, BeginsFree, EndsFree, IsFreeRun}
 
--- the first page of a leaf, marks that are set if its first run or its last one is free, and a
--- summary that allows each free run
-abbrev pub IsKeptOf : List Run → ℕ → Bool → Bool → Summary → Type 0
-IsKeptOf rs first begins_free ends_free summary = (first ≡ first_page rs)
-    × BeginsFree begins_free rs × EndsFree ends_free rs × Allows summary rs
+-- the first page of a leaf, marks that are set if its first run or its last one is free, a summary
+-- that allows each free run, and how many runs there are
+abbrev pub IsKeptOf : List Run → ℕ → Bool → Bool → Summary → ℕ → Type 0
+IsKeptOf rs first begins_free ends_free summary count = (first ≡ first_page rs)
+    × BeginsFree begins_free rs × EndsFree ends_free rs × Allows summary rs × (count ≡ length rs)
 
 -- A new summary of runs allows each free run between two indices or beside these, and each that the old
 -- one allows.

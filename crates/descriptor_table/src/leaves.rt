@@ -25,6 +25,8 @@ pub struct Leaf<A: Allocator = Global> {
     summary: Summary,
     // How often the summary was joined with that of changed runs since it was made.
     changes: u8,
+    // How many runs there are. The array has that too, but behind them, in another line of the cache.
+    count: u8,
     runs: Box<ArrayVec<Run, LEAF_SIZE>, A>,
 }
 
@@ -38,7 +40,7 @@ impl<A: Allocator> Model for Leaf<A> {
     ghost view = { λ l. l.runs.value.items };
 
     ghost invariant = { λ l.
-        IsKeptOf l.runs.value.items l.first l.begins_free l.ends_free l.summary };
+        IsKeptOf l.runs.value.items l.first l.begins_free l.ends_free l.summary l.count };
 }
 
 impl<A: Allocator + Copy> Leaf<A> {
@@ -57,6 +59,7 @@ impl<A: Allocator + Copy> Leaf<A> {
             ends_free: ends_free(runs),
             summary: summary_of(runs),
             changes: 0,
+            count: runs.len() as u8,
             runs: leaf,
         })
     }
@@ -74,7 +77,7 @@ impl<A: Allocator + Copy> Leaf<A> {
     pub fn runs(&self) -> &[Run]
         ensures { result.now ≡ self.now }
     {
-        self.runs.as_slice()
+        &self.runs.as_slice()[..usize::from(self.count)]
     }
 
     /// Replaces some of the leaf's runs by others, and does not leave it empty. Its summary is joined with that
@@ -89,6 +92,7 @@ impl<A: Allocator + Copy> Leaf<A> {
         replace_runs(&mut self.runs, low, high, parts);
         self.first = self.runs[0].range.first;
         let runs = self.runs.as_slice();
+        self.count = runs.len() as u8;
         self.begins_free = begins_free(runs);
         self.ends_free = ends_free(runs);
         if self.changes >= most_joins {

@@ -1,10 +1,11 @@
 -- What GetMemoryMap returns, and what it leaves in the buffer.
-use Rattle.std.specs.Prelude.{ℕ, ◌*◌, nat_le, List, ◌++◌, length, drop, if◌then◌else◌}
+use Rattle.std.specs.Prelude.{ℕ, ◌*◌, nat_le, List, length, if◌then◌else◌}
 use Rattle.page_ranges.specs.declared.statuses.Status.TheVariants.{Success, BufferTooSmall}
 use Rattle.page_ranges.specs.MemoryMap.{memory_map}
 use Rattle.page_services.specs.PageRules.{Book}
 use Rattle.map_keys.specs.declared.memory_maps.MapReply.{MapReply}
-use Rattle.map_keys.specs.Records.{record_size, records}
+use Rattle.map_keys.specs.Making.{with_records}
+use Rattle.map_keys.specs.Records.{record_size}
 
 -- the version of the memory descriptors
 abbrev pub descriptor_version : ℕ
@@ -39,5 +40,5 @@ map_reply b room =
 abbrev pub buffer_with_map : Book → List ℕ → List ℕ
 buffer_with_map b buffer =
     if nat_le (map_size b) (length buffer)
-    then records (memory_map b.memory) ++ drop (map_size b) buffer
+    then with_records (memory_map b.memory) buffer
     else buffer

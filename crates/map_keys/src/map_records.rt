@@ -27,15 +27,16 @@ fn entry_of(run: &Run) -> Descriptor
     }
 }
 
-/// The run begins where the entry ends, and has its type and attributes.
+/// The run begins where the entry ends, and has its type and attributes. The types are compared first, since
+/// they differ where most entries end.
 #[inline(always)]
 fn goes_on(entry: &Descriptor, run: &Run) -> bool
     requires { entry.now.first + entry.now.pages < 2 ^ 64 }
     ensures { result ≡ should_be_one entry.now (entry_of run.now) }
 {
-    entry.first + entry.pages == run.range.first
-        && entry.mtype == run.mtype
+    entry.mtype == run.mtype
         && entry.attributes == run.attributes
+        && entry.first + entry.pages == run.range.first
 }
 
 /// Writes the records of the entries that are whole once some runs have come behind an entry, into the

@@ -13,6 +13,7 @@ use Rattle.map_keys.specs.Records.{record_of, records}
 use Rattle.map_keys.proofs.Fields.{put_from, field_behind}
 use Rattle.map_keys.proofs.RecordLists.{length_records}
 use Rattle.map_keys.proofs.Making.{made, leaves_made, leaves_among, whole_leaf, last_leaf, leaf_within, made_length, written_length, last_fits, all_written}
+use Rattle.map_keys.proofs.map_records.write_map.Given.{Over}
 use Rattle.map_keys.proofs.map_records.write_map.Goals as goal
 
 -- an entry of no pages that begins as another one
@@ -108,13 +109,13 @@ returns g c =
     let ws = whole_entries d0 (runs_in (take k ls)) in
     let every : take k ls ≡ ls = take_all k ls (omega arith) in
     let entries = ap (λ (ms : List (List Run)). whole_entries d0 (runs_in ms)) every in
-    let fits = last_fits old buffer d0 all (memory_map (pages_of all)) ws used total entries i.used i.written c.requires.room in
     let d = c.loop-leaf.entry in
     let wrote = put_from buffer (record_of d) c.write_record.new.bytes used 48 c.write_record.ensures ∙ field_behind old buffer (records ws) (record_of d) used 48 i.written (length_records ws ∙ sym i.used) in
     all_written old _ d0 d all (memory_map (pages_of all)) ws used total entries (i.entry ∙ ap (λ (ms : List (List Run)). last_entry d0 (runs_in ms)) every) i.used wrote
 
-pub slice_bounds-write_record-count : goal.slice_bounds-write_record-count
-slice_bounds-write_record-count g c =
+-- there is room for the last record
+fits_here : (g : Over) (c : goal.After-loop-leaf g) → c.loop-leaf.used + 48 ≤ length c.loop-leaf.buffer
+fits_here g c =
     let old = c.args.buffer.now in
     let ls = c.args.leaves.now in
     let all = runs_in ls in
@@ -129,44 +130,17 @@ slice_bounds-write_record-count g c =
     let ws = whole_entries d0 (runs_in (take k ls)) in
     let every : take k ls ≡ ls = take_all k ls (omega arith) in
     let entries = ap (λ (ms : List (List Run)). whole_entries d0 (runs_in ms)) every in
-    let fits = last_fits old buffer d0 all (memory_map (pages_of all)) ws used total entries i.used i.written c.requires.room in
-    omega (arith, fits)
+    last_fits old buffer d0 all (memory_map (pages_of all)) ws used total entries i.used i.written c.requires.room
+
+pub slice_bounds-write_record-count : goal.slice_bounds-write_record-count
+slice_bounds-write_record-count g c = omega (arith, fits_here g c)
 
 pub slice_bounds-write_record-start : goal.slice_bounds-write_record-start
-slice_bounds-write_record-start g c =
-    let old = c.args.buffer.now in
-    let ls = c.args.leaves.now in
-    let all = runs_in ls in
-    let first = c.index-runs-0.result in
-    let at = c.index-runs-0.is ∙ ap (λ rs. get_or rs 0 first) c.runs.ensures in
-    let d0 = empty c.entry_of.result in
-    let total : memory_map (pages_of all) ≡ made d0 all = leaves_made ls c.in-Some.leaf.now first (sym c.in-Some.ensures.value) c.requires.leaves at c.requires.runs ∙ ap (λ (d : Descriptor). made d all) (sym (ap empty c.entry_of.ensures)) in
-    let i = c.loop-leaf.invariant in
-    let k = c.loop-leaf.leaf-index in
-    let buffer = c.loop-leaf.buffer in
-    let used = c.loop-leaf.used in
-    let ws = whole_entries d0 (runs_in (take k ls)) in
-    let every : take k ls ≡ ls = take_all k ls (omega arith) in
-    let entries = ap (λ (ms : List (List Run)). whole_entries d0 (runs_in ms)) every in
-    let fits = last_fits old buffer d0 all (memory_map (pages_of all)) ws used total entries i.used i.written c.requires.room in
-    omega (arith, fits)
+slice_bounds-write_record-start g c = omega (arith, fits_here g c)
 
 pub write_record-requires-clause-room : goal.write_record-requires-clause-room
 write_record-requires-clause-room g c =
-    let old = c.args.buffer.now in
-    let ls = c.args.leaves.now in
-    let all = runs_in ls in
-    let first = c.index-runs-0.result in
-    let at = c.index-runs-0.is ∙ ap (λ rs. get_or rs 0 first) c.runs.ensures in
-    let d0 = empty c.entry_of.result in
-    let total : memory_map (pages_of all) ≡ made d0 all = leaves_made ls c.in-Some.leaf.now first (sym c.in-Some.ensures.value) c.requires.leaves at c.requires.runs ∙ ap (λ (d : Descriptor). made d all) (sym (ap empty c.entry_of.ensures)) in
-    let i = c.loop-leaf.invariant in
-    let k = c.loop-leaf.leaf-index in
     let buffer = c.loop-leaf.buffer in
     let used = c.loop-leaf.used in
-    let ws = whole_entries d0 (runs_in (take k ls)) in
-    let every : take k ls ≡ ls = take_all k ls (omega arith) in
-    let entries = ap (λ (ms : List (List Run)). whole_entries d0 (runs_in ms)) every in
-    let fits = last_fits old buffer d0 all (memory_map (pages_of all)) ws used total entries i.used i.written c.requires.room in
     let rest = length-drop used buffer in
-    omega (arith, fits, rest, length-take-le (length buffer - used) (drop used buffer) (omega (arith, rest)))
+    omega (arith, fits_here g c.before.before, rest, length-take-le (length buffer - used) (drop used buffer) (omega (arith, rest)))

@@ -1,4 +1,4 @@
-use Rattle.std.proofs.Common.{◌≡◌, ℕ, ◌+◌, ◌-◌, ◌*◌, true, false, List, [], ◌∷◌, ◌++◌, length, take, drop, refl, sym, subst, ap, ◌∙◌, append_assoc, append-nil, length-append, arith}
+use Rattle.std.proofs.Common.{◌≡◌, ℕ, ◌+◌, ◌-◌, ◌*◌, ◌≤◌, true, false, List, [], ◌∷◌, ◌++◌, length, take, drop, refl, sym, subst, ap, ◌∙◌, append_assoc, append-nil, length-append, arith}
 use Rattle.std.proofs.lemmas.List.{take_all, take-append-drop, length-drop, length-take-le}
 use Rattle.page_ranges.specs.declared.ranges.Descriptor.{Descriptor}
 use Rattle.page_ranges.specs.MemoryMap.{should_be_one}
@@ -79,38 +79,26 @@ returns-clause-among c = c.loop-run.invariant.among
 pub returns-clause-buffer : goal.returns-clause-buffer
 returns-clause-buffer c = c.loop-run.invariant.written ∙ ap (λ rs. take c.args.place c.args.buffer.now ++ records (whole_entries c.args.begun rs) ++ drop c.loop-run.used c.args.buffer.now) (take_all c.loop-run.run-index c.args.runs.now (omega arith))
 
-pub slice_bounds-write_record-count : goal.slice_bounds-write_record-count
-slice_bounds-write_record-count c =
+-- there is room for the record of the entry that is whole
+fits_here : (c : goal.Else-goes_on) → c.loop-run.used + 48 ≤ length c.loop-run.buffer
+fits_here c =
     let i = c.loop-run.invariant in
     let rs = c.args.runs.now in
     let k = c.loop-run.run-index in
     let r = c.run-item.result in
     let begun = c.args.begun in
     let apart : should_be_one (last_entry begun (take k rs)) (entry_of r) ≡ false = ap (λ (d : Descriptor). should_be_one d (entry_of r)) (sym i.entry) ∙ sym c.goes_on.ensures ∙ c.if-goes_on.false in
-    let fits = fits_next c.args.buffer.now c.loop-run.buffer begun rs k r c.args.place c.loop-run.used (omega arith) c.run-item.is apart i.written i.used c.requires.room in
-    omega (arith, fits)
+    fits_next c.args.buffer.now c.loop-run.buffer begun rs k r c.args.place c.loop-run.used (omega arith) c.run-item.is apart i.written i.used c.requires.room
+
+pub slice_bounds-write_record-count : goal.slice_bounds-write_record-count
+slice_bounds-write_record-count c = omega (arith, fits_here c)
 
 pub slice_bounds-write_record-start : goal.slice_bounds-write_record-start
-slice_bounds-write_record-start c =
-    let i = c.loop-run.invariant in
-    let rs = c.args.runs.now in
-    let k = c.loop-run.run-index in
-    let r = c.run-item.result in
-    let begun = c.args.begun in
-    let apart : should_be_one (last_entry begun (take k rs)) (entry_of r) ≡ false = ap (λ (d : Descriptor). should_be_one d (entry_of r)) (sym i.entry) ∙ sym c.goes_on.ensures ∙ c.if-goes_on.false in
-    let fits = fits_next c.args.buffer.now c.loop-run.buffer begun rs k r c.args.place c.loop-run.used (omega arith) c.run-item.is apart i.written i.used c.requires.room in
-    omega (arith, fits)
+slice_bounds-write_record-start c = omega (arith, fits_here c)
 
 pub write_record-requires-clause-room : goal.write_record-requires-clause-room
 write_record-requires-clause-room c =
-    let i = c.loop-run.invariant in
-    let rs = c.args.runs.now in
-    let k = c.loop-run.run-index in
-    let r = c.run-item.result in
-    let begun = c.args.begun in
-    let apart : should_be_one (last_entry begun (take k rs)) (entry_of r) ≡ false = ap (λ (d : Descriptor). should_be_one d (entry_of r)) (sym i.entry) ∙ sym c.goes_on.ensures ∙ c.if-goes_on.false in
-    let fits = fits_next c.args.buffer.now c.loop-run.buffer begun rs k r c.args.place c.loop-run.used (omega arith) c.run-item.is apart i.written i.used c.requires.room in
     let xs = c.loop-run.buffer in
     let n = c.loop-run.used in
     let rest = length-drop n xs in
-    omega (arith, fits, rest, length-take-le (length xs - n) (drop n xs) (omega (arith, rest)))
+    omega (arith, fits_here c.before.before, rest, length-take-le (length xs - n) (drop n xs) (omega (arith, rest)))

@@ -16,4 +16,5 @@ invariant_of-self-2 g c =
       search rules,
       search rules,
       rw put (allows_changed old c.args.parts.now c.args.low c.args.high c.requires.order (omega (arith, was)) c.self.inside.summary c.joined_near-self-inside.result c.self.invariant.3 near),
+      ap length same,
     )
