@@ -32,10 +32,11 @@
  * write to the caller's variables and buffers, except as said of BUFFER_TOO_SMALL, OpenProtocol and
  * HandleProtocol. Where several refusals apply, the call returns the one that is named first. These
  * hold for every service, and are not repeated below:
- * - First of all, ABORTED: the core has served its 2^45 calls, which at 50 ns each take 20 days.
- *   Refused ones count too.
+ * - First of all, ABORTED: the core has served its 2^62 - 1 calls, which at 50 ns each take 7,300
+ *   years. Refused ones count too.
  * - Then UNSUPPORTED: boot services have ended. Every service returns it from then on.
- * - Last of all, OUT_OF_RESOURCES: the heap refused the core memory for its own tables.
+ * - Last of all, OUT_OF_RESOURCES: the heap refused the core memory for its own tables; or 2^61
+ *   numbers were given to handles, or as often an interface was installed or reinstalled.
  *   GetMemoryMap, ExitBootServices, PoolRead, PoolWrite, CloseProtocol, HandleProtocol,
  *   LocateDevicePath and LocateProtocol never ask for any.
  * OUT_OF_RESOURCES may be returned instead of six refusals that are named before it, as the core
@@ -372,7 +373,7 @@ RAFKUDIN_API size_t RafkudinDescriptors(const struct rafkudin *core);
 RAFKUDIN_API rafkudin_uint64 RafkudinDescriptor(const struct rafkudin *core, size_t index,
                                                 struct rafkudin_descriptor *entry);
 
-/* How many calls of services the core will still serve: 2^45 at first. */
+/* How many calls of services the core will still serve: 2^62 - 1 at first. */
 RAFKUDIN_API rafkudin_uint64 RafkudinCallsLeft(const struct rafkudin *core);
 
 /* The version of the library, as RAFKUDIN_VERSION: it equals that of the header that fits it. */

@@ -11,7 +11,7 @@
 /* What a variable holds before a call that must leave it. */
 #define LEFT 0x5a5a5a5a5a5a5a5aU
 
-#define ALL_CALLS ((uint64_t)1 << 45)
+#define ALL_CALLS (((uint64_t)1 << 62) - 1)
 
 static const struct rafkudin_guid disk = {{1, 2, 3, 4, 5, 6, 7, 8, 9, 10, 11, 12, 13, 14, 15, 16}};
 static const struct rafkudin_guid files = {{2}};

@@ -8,7 +8,7 @@ use Rattle.page_ranges.specs.declared.statuses.Status.{Status}
 use Rattle.page_ranges.specs.declared.statuses.Status.TheVariants.{Unsupported}
 use Rattle.page_ranges.specs.MemoryTypes.{page_count, is_bad_type, is_machine_type}
 use Rattle.page_ranges.specs.Granules.{IsGranule}
-use Rattle.page_ranges.specs.Memory.{Page, IsProperMemory, HasMachineTypes}
+use Rattle.page_ranges.specs.Memory.{IsProperMemory, HasMachineTypes}
 use Rattle.page_ranges.specs.MemoryMap.{memory_map}
 use Rattle.page_ranges.specs.Runs.{page_in, pages_of}
 use Rattle.page_ranges.proofs.Rows.{all-row}

@@ -1,10 +1,8 @@
 -- What the calls so far can have brought, one call more.
-use Rattle.std.proofs.Common.{◌≡◌, ℕ, ◌+◌, ◌≤◌, Bool, List, [], ◌∷◌, sym, subst, arith}
+use Rattle.std.proofs.Common.{◌≡◌, ℕ, ◌+◌, ◌<◌, ◌≤◌, ◌^◌, Bool, List, [], ◌∷◌, length, sym, subst, arith}
 use Rattle.std.specs.List.{AllByRecursion}
 use Rattle.open_agents.specs.declared.items.OpenRecord.{OpenRecord}
-use Rattle.protocol_services.specs.Lists.{Lists, HasRoom, IsRaised}
-use Rattle.protocol_services.specs.Driving.{HasRoomToConnect}
-use Rattle.protocol_services.specs.Removing.{HasRoomToReinstall}
+use Rattle.protocol_services.specs.Lists.{Lists, IsRaised}
 use Rattle.page_services.specs.PageRules.{certifying}
 use Rattle.boot_machines.specs.Machines.{MachineValue}
 use Rattle.boot_core.specs.Machines.{Parts, CoreValue, FollowsCalls, IsUnused, all_calls, first_state}
@@ -31,37 +29,23 @@ pub follows_on : (old new : Parts) (n : ℕ) → FollowsCalls old (n + 1) → ne
 follows_on old new n follows key raised =
     record {
       key = omega (arith, follows.key, key);
-      numbers = omega (arith, follows.numbers, raised.numbers);
-      stamps = omega (arith, follows.stamps, raised.stamps);
       registrations = omega (arith, follows.registrations, raised.keys);
     }
 
--- there is room for a call that may still be made
-pub has_room : (p : Parts) (n : ℕ) → FollowsCalls p (n + 1) → HasRoom p.lists
-has_room p n follows = record {
-  numbers = omega (arith, follows.numbers);
-  stamps = omega (arith, follows.stamps);
-  keys = omega (arith, follows.registrations);
-}
-
-pub has_room_to_connect : (p : Parts) (n : ℕ) → FollowsCalls p (n + 1) → HasRoomToConnect p.lists
-has_room_to_connect p n follows = record { numbers = omega (arith, follows.numbers); stamps = omega (arith, follows.stamps) }
-
-pub has_room_to_reinstall : (p : Parts) (n : ℕ) → FollowsCalls p (n + 1) → HasRoomToReinstall p.lists
-has_room_to_reinstall p n follows = record { numbers = omega (arith, follows.numbers); stamps = omega (arith, follows.stamps) }
+-- there is a key for a registration by a call that may still be made
+pub has_room_to_register : (p : Parts) (n : ℕ) → FollowsCalls p (n + 1) → length p.lists.registrations < 2 ^ 62
+has_room_to_register p n follows = omega (arith, follows.registrations)
 
 -- whether certificates are returned or not
 pub certifying_follows : (certifies : Bool) (p : Parts) (n : ℕ) → FollowsCalls p n → FollowsCalls (record { book = certifying certifies p.book; pools = p.pools; lists = p.lists }) n
 certifying_follows certifies p n is = record {
   key = is.key;
-  numbers = is.numbers;
-  stamps = is.stamps;
   registrations = is.registrations;
 }
 
 -- before any call
 pub first_follows : (machine : MachineValue) → FollowsCalls (first_state machine).parts all_calls
-first_follows machine = record { key = omega arith; numbers = omega arith; stamps = omega arith; registrations = omega arith }
+first_follows machine = record { key = omega arith; registrations = omega arith }
 
 pub first_unused : (machine : MachineValue) → IsUnused (first_state machine).parts
-first_unused machine = record { key = omega arith; numbers = omega arith; stamps = omega arith; registrations = omega arith }
+first_unused machine = record { key = omega arith; registrations = omega arith }

@@ -1,5 +1,5 @@
 -- LocateDevicePath with a path in the caller's memory.
-use Rattle.std.proofs.Common.{◌≡◌, ℕ, Bool, true, false, List, Option, Some, Result, Err, refl, sym, ap, ◌∙◌}
+use Rattle.std.proofs.Common.{◌≡◌, ℕ, Bool, true, false, List, Some, Result, Err, refl, sym, ap, ◌∙◌}
 use Rattle.page_ranges.specs.declared.statuses.Status.{Status}
 use Rattle.page_ranges.specs.declared.statuses.Status.TheVariants.{Unsupported}
 use Rattle.pool_services.specs.Extents.{tail_at}

@@ -1,5 +1,5 @@
 -- Open items that are put into a pool block.
-use Rattle.std.proofs.Common.{◌≡◌, ℕ, ◌<◌, ◌==◌, true, false, true≢false, List, [], ◌∷◌, Ok, length, sym, subst, ◌∙◌, inl, inr, arith}
+use Rattle.std.proofs.Common.{◌≡◌, ℕ, ◌<◌, ◌==◌, false, true≢false, List, [], ◌∷◌, Ok, length, sym, subst, ◌∙◌, inl, inr, arith}
 use Rattle.std.proofs.lemmas.Bool.{cases_eq, eq-eqb}
 use Rattle.page_services.specs.PageRules.{Choice}
 use Rattle.pool_services.specs.PoolRules.{FillsPool}

@@ -1,5 +1,5 @@
 -- The state of the machine that serves the calls.
-use Rattle.std.specs.Prelude.{ℕ, ◌+◌, ◌*◌, ◌≤◌, Bool, false, List, [], length, Option}
+use Rattle.std.specs.Prelude.{ℕ, ◌+◌, ◌≤◌, Bool, false, List, [], length, Option}
 use Rattle.page_ranges.specs.declared.ranges.Descriptor.{Descriptor}
 use Rattle.page_ranges.specs.Memory.{IsProperMemory}
 use Rattle.page_ranges.specs.MemoryMap.{memory_map}
@@ -10,7 +10,7 @@ use Rattle.boot_machines.specs.Machines.{MachineValue}
 use Rattle.page_services.specs.PageRules.{Book, IsInGranules, certifying, new_book}
 use Rattle.pool_services.specs.Extents.{Extent, AreExtents}
 use Rattle.pool_services.specs.PoolRules.{OwnsExtents}
-use Rattle.protocol_services.specs.Lists.{Lists, most_given, no_lists}
+use Rattle.protocol_services.specs.Lists.{Lists, no_lists}
 
 -- what the services work on: the memory with its key, the extents of the pool, and the lists of the
 -- protocol services
@@ -43,7 +43,7 @@ all_calls = 0x80000000
 
 -- the most calls that a core can be left
 abbrev pub most_calls : ℕ
-most_calls = 0x200000000000
+most_calls = 0x3fffffffffffffff
 
 -- the state of a machine before any call, where certificates are returned
 abbrev pub first_state : MachineValue → State
@@ -78,14 +78,13 @@ abbrev pub leaving : ℕ → State → State
 leaving calls s = record { parts = s.parts; exited = s.exited; calls_left = calls }
 
 -- What the calls so far can have brought, out of the most that there can be: the key is one more
--- than these at most, and numbers, stamps and registrations follow them too.
+-- than these at most, and there are no more registrations.
 pub record FollowsCalls (p : Parts) (calls_left : ℕ) : Type 0 where
   pub key : p.book.key + calls_left ≤ most_calls + 1
-  pub numbers : p.lists.handles.last_number + most_given * calls_left ≤ most_given * most_calls
-  pub stamps : p.lists.handles.last_stamp + most_given * calls_left ≤ most_given * most_calls
   pub registrations : length p.lists.registrations + calls_left ≤ most_calls
 
--- no call has brought anything yet, so the most calls may still be made
+-- the key is that of a new machine and there are no registrations, so the most calls may still be
+-- made
 abbrev pub IsUnused : Parts → Type 0
 IsUnused p = FollowsCalls p most_calls
 

@@ -1,5 +1,5 @@
 -- LocateDevicePath with a path in the caller's memory.
-use Rattle.std.specs.Prelude.{◌≡◌, ℕ, List, Option, Some, Result, Err}
+use Rattle.std.specs.Prelude.{◌≡◌, ℕ, List, Some, Result, Err}
 use Rattle.page_ranges.specs.declared.statuses.Status.{Status}
 use Rattle.page_ranges.specs.declared.statuses.Status.TheVariants.{Unsupported}
 use Rattle.pool_services.specs.Extents.{tail_at}

@@ -1,5 +1,5 @@
 -- UninstallMultipleProtocolInterfaces, which no call of a trace names.
-use Rattle.std.specs.Prelude.{◌≡◌, ℕ, ◌+◌, false, List, length, map, Result, Ok, Err}
+use Rattle.std.specs.Prelude.{◌≡◌, ℕ, ◌+◌, List, length, map, Result, Ok, Err}
 use Rattle.page_ranges.specs.declared.statuses.Status.{Status}
 use Rattle.page_ranges.specs.declared.statuses.Status.TheVariants.{Unsupported}
 use Rattle.boot_calls.specs.declared.calls.Call.{Call}

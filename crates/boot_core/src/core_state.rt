@@ -1,10 +1,7 @@
 //! The core: the state of the boot services.
-ghost use Rattle.std.specs.Prelude.{◌≡◌, ◌+◌, ◌<◌, ◌≤◌, [], length, map, IfOk, OnErr, slice_get, if◌then◌else◌};
+ghost use Rattle.std.specs.Prelude.{◌≡◌, ◌+◌, ◌<◌, ◌≤◌, ◌^◌, [], length, map, IfOk, OnErr, slice_get, if◌then◌else◌};
 ghost use Rattle.page_ranges.specs.Memory.{IsProperMemory};
 ghost use Rattle.page_ranges.specs.MemoryMap.{memory_map};
-ghost use Rattle.protocol_services.specs.Driving.{HasRoomToConnect};
-ghost use Rattle.protocol_services.specs.Lists.{HasRoom};
-ghost use Rattle.protocol_services.specs.Removing.{HasRoomToReinstall};
 ghost use Rattle.boot_core.specs.Machines.{certifying_state, first_state, leaving, most_calls, FollowsCalls, IsUnused};
 ghost use Rattle.boot_core.specs.PathSteps.{LocateStep};
 ghost use Rattle.boot_core.specs.Steps.{IsCounted, MapStep, ReadStep, CoreStep, CallRun};
@@ -31,7 +28,7 @@ use uuid::Uuid;
 const MAX_CALLS: u64 = 0x8000_0000;
 
 /// The most calls that a core can be left.
-const MOST_CALLS: u64 = 0x2000_0000_0000;
+const MOST_CALLS: u64 = 0x3fff_ffff_ffff_ffff;
 
 /// The boot services of a machine, with its drivers.
 #[derive(Drop)]
@@ -125,8 +122,8 @@ impl<D: Driver, A: Allocator + Copy> Core<D, A> {
         self.calls_left = calls;
     }
 
-    /// Leaves the most calls that a core can be left, where no call has brought anything yet, as before the
-    /// first call.
+    /// Leaves the most calls that a core can be left, where the map key is 1 and nothing is registered, as
+    /// before the first call.
     pub fn leave_most_calls(&mut self)
         requires { IsUnused self.old.state.parts }
         ensures { self.new
@@ -145,9 +142,7 @@ impl<D: Driver, A: Allocator + Copy> Core<D, A> {
         ensures counted { IsCounted self.old.state self.new.state }
         ensures room { self.new.state.parts.book.key + self.new.state.calls_left ≤ most_calls }
         ensures follows { FollowsCalls self.new.state.parts (self.new.state.calls_left + 1) }
-        ensures lists { HasRoom self.new.state.parts.lists }
-        ensures connects { HasRoomToConnect self.new.state.parts.lists }
-        ensures reinstalls { HasRoomToReinstall self.new.state.parts.lists }
+        ensures registrations { length self.new.state.parts.lists.registrations < 2 ^ 62 }
         ensures drivers { self.new.drivers ≡ self.old.drivers }
     {
         self.calls_left -= 1;

@@ -1,6 +1,6 @@
 //! The memory services, and the exit (UEFI Specification 2.10, sections 7.2 and 7.4).
 //!
-//! Of each service: ABORTED, after 2^45 calls, UNSUPPORTED, once the boot services have exited, and
+//! Of each service: ABORTED, after 2^62 - 1 calls, UNSUPPORTED, once the boot services have exited, and
 //! OUT_OF_RESOURCES, where memory runs out, are not named again. A refusal leaves the caller's variables.
 ghost use Rattle.std.specs.Prelude.{◌≡◌};
 ghost use Rattle.boot_calls.specs.declared.calls.Call.TheVariants as call;

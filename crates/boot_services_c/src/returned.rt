@@ -94,7 +94,7 @@ pub extern "C" fn RafkudinDescriptor(core: &mut Rafkudin, index: usize, entry: &
     core.held().descriptor(index, entry)
 }
 
-/// How many calls of services may still be made: 2^45 at first.
+/// How many calls of services may still be made: 2^62 - 1 at first.
 #[unsafe(no_mangle)]
 pub extern "C" fn RafkudinCallsLeft(core: &mut Rafkudin) -> u64
     ensures count { result ≡ core.old.core.core.state.calls_left }

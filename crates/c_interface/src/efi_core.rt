@@ -243,7 +243,7 @@ impl<A: Allocator + Copy> EfiCore<A> {
         self.block.returned(buffer, size)
     }
 
-    /// How many calls may still be made: 2^45 at first, of a core that is made for a caller in C.
+    /// How many calls may still be made: 2^62 - 1 at first, of a core that is made for a caller in C.
     pub fn calls_left(&self) -> u64
         ensures { result ≡ self.now.core.state.calls_left }
     {

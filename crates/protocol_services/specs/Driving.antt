@@ -1,11 +1,13 @@
 -- The rules of ConnectController and DisconnectController.
-use Rattle.std.specs.Prelude.{◌≡◌, ℕ, ◌<◌, ◌^◌, Bool, List, Result, Vec}
+use Rattle.std.specs.Prelude.{◌≡◌, ℕ, Bool, cond, List, Result, Vec}
 use Rattle.std.specs.Result.{result_map_both}
 use Rattle.page_ranges.specs.declared.statuses.Status.{Status}
+use Rattle.page_ranges.specs.declared.statuses.Status.TheVariants.{InvalidParameter, OutOfResources}
+use Rattle.guid_handles.specs.HandleTables.{HandleTable}
 use Rattle.driver_connect.specs.Drivers.{Meaning}
 use Rattle.driver_connect.specs.Starting.{site}
 use Rattle.driver_connect.specs.Stopping.{Disconnects}
-use Rattle.driver_connect.specs.Connecting.{Connects}
+use Rattle.driver_connect.specs.Connecting.{Connects, connect_refused}
 use Rattle.protocol_services.specs.Lists.{Lists}
 
 -- what ConnectController returns, and the lists after it
@@ -16,14 +18,14 @@ ConnectsController ds l handle named recursive result new =
     (result_map_both (λ v. v.items) (λ e. e) result) new.handles new.opens
     × (new.registrations ≡ l.registrations)
 
+-- what ConnectController returns where numbers ran out
+abbrev pub refusal_without_numbers : HandleTable → ℕ → List ℕ → Status
+refusal_without_numbers t handle named =
+    cond (connect_refused t handle named) InvalidParameter OutOfResources
+
 -- what DisconnectController returns, and the lists after it
 abbrev pub DisconnectsController : List Meaning → Lists → ℕ → ℕ → Result (Unit {0}) Status → Lists
     → Type 0
 DisconnectsController ds l handle driver result new =
     Disconnects ds l.handles l.opens handle driver result new.handles new.opens
     × (new.registrations ≡ l.registrations)
-
--- numbers and stamps are far enough from their ends for a connect
-pub record HasRoomToConnect (l : Lists) : Type 0 where
-  pub numbers : l.handles.last_number < 2 ^ 61
-  pub stamps : l.handles.last_stamp < 2 ^ 61

@@ -15,7 +15,7 @@ signaled rs pairs = flat_map (λ p. events_for rs p.0) pairs
 
 -- What an installation returns, given its refusal, and the lists after it: the handle with its
 -- interfaces and the events, or a refusal that leaves the lists. Where nothing is refused,
--- OUT_OF_RESOURCES means out of memory.
+-- OUT_OF_RESOURCES means out of memory or of numbers.
 abbrev pub InstallsPairs : {A : Type 0} → Lists → ℕ → List (List ℕ × ℕ) → Option Status
     → Result (Installed A) Status → Lists → Type 0
 InstallsPairs l handle pairs refusal (Ok done) new =

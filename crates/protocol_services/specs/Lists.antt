@@ -25,11 +25,14 @@ abbrev pub OnHandles : (HandleTable → Type 0) → Lists → Lists → Type 0
 OnHandles Rule old new =
     Rule new.handles × (new.opens ≡ old.opens) × (new.registrations ≡ old.registrations)
 
--- Numbers, stamps and keys are far from their ends.
-pub record HasRoom (l : Lists) : Type 0 where
-  pub numbers : l.handles.last_number < 2 ^ 62
-  pub stamps : l.handles.last_stamp < 2 ^ 62
-  pub keys : length l.registrations < 2 ^ 62
+-- The last number and the last stamp that were given are far enough from their ends for any call.
+pub record HasRoomAfter (last_number last_stamp : ℕ) : Type 0 where
+  pub numbers : last_number < 2 ^ 61
+  pub stamps : last_stamp + 1 < 2 ^ 61
+
+-- so are those of the lists
+abbrev pub HasRoom : Lists → Type 0
+HasRoom l = HasRoomAfter l.handles.last_number l.handles.last_stamp
 
 -- a call gives no more numbers, and no more stamps
 abbrev pub most_given : ℕ

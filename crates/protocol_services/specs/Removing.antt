@@ -1,5 +1,5 @@
 -- The rules of UninstallProtocolInterface and ReinstallProtocolInterface.
-use Rattle.std.specs.Prelude.{◌≡◌, ℕ, ◌+◌, ◌<◌, ◌^◌, ◌==◌, ◌&&◌, not, Bool, true, false, cond, List, [], ◌++◌, map, Option, Some, None, Result, Ok, Err, Vec}
+use Rattle.std.specs.Prelude.{◌≡◌, ℕ, ◌==◌, ◌&&◌, not, Bool, true, false, cond, List, [], ◌++◌, map, Option, Some, None, Result, Ok, Err, Vec}
 use Rattle.std.specs.List.{filter}
 use Rattle.page_ranges.specs.declared.statuses.Status.{Status}
 use Rattle.page_ranges.specs.declared.statuses.Status.TheVariants.{InvalidParameter, NotFound, AccessDenied, OutOfResources}
@@ -59,7 +59,7 @@ freed handle guid l = without_opens_on handle guid (once_freed handle guid l)
 
 -- What a service returns that frees an interface and then does what it is for: a refusal,
 -- ACCESS_DENIED where the interface can't be freed, or what it returns. Where the call is valid,
--- OUT_OF_RESOURCES means out of memory.
+-- OUT_OF_RESOURCES means out of memory or of numbers.
 abbrev pub Frees : {R : Type 0} → Option Status → Bool → (R → Type 0) → Result R Status → Lists
     → Lists → Type 0
 Frees (Some refusal) can Does (Ok returned) l new = ⊥
@@ -89,11 +89,6 @@ Uninstalls ds l handle guid value result new =
     (λ done. new ≡ uninstalled handle guid (freed handle guid l)) result l new
 
 -- ---- ReinstallProtocolInterface
-
--- numbers and stamps are far enough from their ends for one more stamp and then a connect
-pub record HasRoomToReinstall (l : Lists) : Type 0 where
-  pub numbers : l.handles.last_number < 2 ^ 61
-  pub stamps : l.handles.last_stamp + 1 < 2 ^ 61
 
 -- an interface stays in its place, with another value and a new stamp
 abbrev pub replaced : ℕ → List ℕ → ℕ → Lists → Lists

@@ -1,10 +1,11 @@
 //! Connecting and disconnecting drivers.
 ghost use Rattle.std.specs.Prelude.{◌≡◌, map};
-ghost use Rattle.protocol_services.specs.Driving.{ConnectsController, DisconnectsController, HasRoomToConnect};
+ghost use Rattle.protocol_services.specs.Driving.{ConnectsController, DisconnectsController, refusal_without_numbers};
 ghost use Rattle.protocol_services.specs.Lists.{IsRaised};
 
 use crate::protocols::Protocols;
-use driver_connect::{Driver, connect, disconnect};
+use driver_connect::{Driver, MAX_NAMED, connect, disconnect};
+use guid_handles::Handles;
 use page_ranges::Status;
 use std::alloc::Allocator;
 
@@ -13,7 +14,7 @@ impl<A: Allocator + Copy> Protocols<A> {
     /// set on the handles that this makes, eight levels deep. It returns the events that are signaled.
     ///
     /// INVALID_PARAMETER: the handle is not live, or more than 16 drivers are named. NOT_FOUND: no start on
-    /// the handle was carried out. OUT_OF_RESOURCES: memory ran out.
+    /// the handle was carried out. OUT_OF_RESOURCES: memory or numbers ran out.
     pub fn connect<D: Driver>(
         &mut self,
         drivers: &[D],
@@ -21,11 +22,13 @@ impl<A: Allocator + Copy> Protocols<A> {
         named: &[u64],
         recursive: bool,
     ) -> Result<Vec<u64, A>, Status>
-        requires { HasRoomToConnect self.old }
         ensures connects { ConnectsController
             (map D.meaning drivers.now) self.old handle named.now recursive result self.new }
         ensures raised { IsRaised self.old self.new }
     {
+        if !self.has_room() {
+            return Err(refusal_without_numbers(&self.handles, handle, named));
+        }
         connect(
             self.alloc,
             &mut self.handles,
@@ -61,5 +64,20 @@ impl<A: Allocator + Copy> Protocols<A> {
             handle,
             driver,
         )
+    }
+}
+
+/// Why a connect is refused where numbers ran out.
+fn refusal_without_numbers<A: Allocator + Copy>(
+    handles: &Handles<A>,
+    handle: u64,
+    named: &[u64],
+) -> Status
+    ensures { result ≡ refusal_without_numbers handles.now handle named.now }
+{
+    if handles.is_live(handle) && named.len() <= MAX_NAMED {
+        Status::OutOfResources
+    } else {
+        Status::InvalidParameter
     }
 }

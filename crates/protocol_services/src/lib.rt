@@ -12,4 +12,4 @@ mod searches;
 mod stops;
 
 pub use list_bytes::{handle_bytes, item_bytes};
-pub use protocols::Protocols;
+pub use protocols::{Protocols, has_room_after};

@@ -1,7 +1,7 @@
 //! The lists of the protocol services, and what installs interfaces.
-ghost use Rattle.std.specs.Prelude.{◌≡◌, IfOk};
+ghost use Rattle.std.specs.Prelude.{◌≡◌, ◌↔◌, ◌<◌, ◌^◌, length, IfOk, IsTrue, OnOk};
 ghost use Rattle.protocol_services.specs.Installing.{InstallsInterface, InstallsInterfaces, Registers, or_out_of_memory, signaled, unless_path};
-ghost use Rattle.protocol_services.specs.Lists.{HasRoom, IsRaised, no_lists};
+ghost use Rattle.protocol_services.specs.Lists.{HasRoom, HasRoomAfter, IsRaised, no_lists};
 
 use boot_calls::Installed;
 use guid_handles::Handles;
@@ -11,6 +11,9 @@ use protocol_notify::Notify;
 use std::alloc::{AllocError, Allocator, Global};
 use std::marker::Model;
 use uuid::Uuid;
+
+/// The first number, and the first stamp, after which a call gives none.
+const NUMBERS_END: u64 = 0x2000_0000_0000_0000;
 
 /// The handles with their interfaces, the open items and the registrations.
 #[derive(Drop)]
@@ -60,7 +63,7 @@ impl<A: Allocator + Copy> Protocols<A> {
     /// InstallProtocolInterface: installs an interface on a handle, on a new one for handle 0.
     ///
     /// INVALID_PARAMETER: the kind is not 0 (EFI_NATIVE_INTERFACE), the handle is neither 0 nor live,
-    /// or it carries the GUID. OUT_OF_RESOURCES: 4,096 handles are live, or memory ran out.
+    /// or it carries the GUID. OUT_OF_RESOURCES: 4,096 handles are live, or memory or numbers ran out.
     pub fn install(
         &mut self,
         handle: u64,
@@ -68,7 +71,6 @@ impl<A: Allocator + Copy> Protocols<A> {
         kind: u32,
         value: u64,
     ) -> Result<Installed<A>, Status>
-        requires { HasRoom self.old }
         ensures installs { InstallsInterface self.old handle guid kind value result self.new }
         ensures raised { IsRaised self.old self.new }
     {
@@ -86,14 +88,13 @@ impl<A: Allocator + Copy> Protocols<A> {
     ///
     /// INVALID_PARAMETER: there are none, or more than 16; the handle is neither 0 nor live; a GUID is
     /// there twice, or the handle carries it. ALREADY_STARTED: such a device path. OUT_OF_RESOURCES:
-    /// 4,096 handles are live, or memory ran out.
+    /// 4,096 handles are live, or memory or numbers ran out.
     pub fn install_many(
         &mut self,
         handle: u64,
         pairs: &[(Uuid, u64)],
         has_path: bool,
     ) -> Result<Installed<A>, Status>
-        requires { HasRoom self.old }
         ensures installs { InstallsInterfaces self.old handle pairs.now has_path result self.new }
         ensures raised { IsRaised self.old self.new }
     {
@@ -108,10 +109,21 @@ impl<A: Allocator + Copy> Protocols<A> {
         Ok(Installed { handle, events })
     }
 
-    /// The events that are signaled when the pairs are installed.
-    fn signaled(&self, pairs: &[(Uuid, u64)]) -> Result<Vec<u64, A>, AllocError>
-        ensures { IfOk result (λ events. events.items ≡ signaled self.now.registrations pairs.now) }
+    /// Whether there is room for the numbers and stamps that a call gives.
+    pub(crate) fn has_room(&self) -> bool
+        ensures { IsTrue result ↔ HasRoom self.now }
     {
+        has_room_after(self.handles.last_number(), self.handles.last_stamp())
+    }
+
+    /// The events that are signaled when the pairs are installed. On an `Err` memory or numbers ran out.
+    fn signaled(&self, pairs: &[(Uuid, u64)]) -> Result<Vec<u64, A>, AllocError>
+        ensures events { IfOk result (λ v. v.items ≡ signaled self.now.registrations pairs.now) }
+        ensures room { OnOk result (HasRoom self.now) }
+    {
+        if !self.has_room() {
+            return Err(AllocError);
+        }
         match pairs {
             [pair] => self.registrations.signaled(pair.0),
             _ => self.signaled_in_turn(pairs),
@@ -133,12 +145,20 @@ impl<A: Allocator + Copy> Protocols<A> {
     /// RegisterProtocolNotify: registers an event for the interfaces of a GUID that are installed from
     /// now on, and returns its key. OUT_OF_RESOURCES: memory ran out.
     pub fn register(&mut self, guid: Uuid, event: u64) -> Result<u64, Status>
-        requires { HasRoom self.old }
+        requires { length self.old.registrations < 2 ^ 62 }
         ensures registers { Registers self.old guid event result self.new }
         ensures raised { IsRaised self.old self.new }
     {
         self.registrations.register(&self.handles, guid, event)
     }
+}
+
+/// Whether handles may get numbers and interfaces stamps once these were the last that were given. A call gives
+/// some thousands, so no core comes to where they may not.
+pub fn has_room_after(last_number: u64, last_stamp: u64) -> bool
+    ensures { IsTrue result ↔ HasRoomAfter last_number last_stamp }
+{
+    last_number < NUMBERS_END && last_stamp < NUMBERS_END - 1
 }
 
 /// A refusal, or OUT_OF_RESOURCES where there is none.

@@ -7,7 +7,7 @@ ghost use Rattle.open_agents.specs.OpenItems.{is_open_on, keeps, without_items};
 ghost use Rattle.driver_connect.specs.AfterStop.{opens_left};
 ghost use Rattle.driver_connect.specs.Stopping.{without_handles};
 ghost use Rattle.protocol_notify.specs.Registrations.{events_for};
-ghost use Rattle.protocol_services.specs.Lists.{IsRaised};
+ghost use Rattle.protocol_services.specs.Lists.{HasRoom, IsRaised};
 ghost use Rattle.protocol_services.specs.Removing as spec;
 ghost use Rattle.protocol_services.specs.RemovalSteps.{FreesAndReplaces, PlansToFree, TakesOut, freed_and_replaced, leaves_keeper, stop_among, stop_to_free};
 
@@ -228,7 +228,7 @@ impl<A: Allocator + Copy> Protocols<A> {
     /// stopped first, the other items on it go. It returns the events that are signaled: those of the GUID,
     /// then those of the connect.
     ///
-    /// Refused as [`Protocols::uninstall`], with the old value.
+    /// Refused as [`Protocols::uninstall`], with the old value. OUT_OF_RESOURCES: memory or numbers ran out.
     pub fn reinstall<D: Driver>(
         &mut self,
         drivers: &[D],
@@ -237,7 +237,6 @@ impl<A: Allocator + Copy> Protocols<A> {
         old_value: u64,
         new_value: u64,
     ) -> Result<Vec<u64, A>, Status>
-        requires { spec.HasRoomToReinstall self.old }
         ensures reinstalls { spec.Reinstalls
             (map D.meaning drivers.now) self.old handle guid old_value new_value result self.new }
         ensures raised { IsRaised self.old self.new }
@@ -246,6 +245,9 @@ impl<A: Allocator + Copy> Protocols<A> {
             return Err(status);
         }
         let plan = self.plan_to_free(drivers, handle, guid)?;
+        if !self.has_room() {
+            return Err(Status::OutOfResources);
+        }
         match self.replace_freed(&plan, drivers, handle, guid, new_value) {
             Ok(events) => Ok(events),
             Err(_) => Err(Status::OutOfResources),
@@ -264,7 +266,7 @@ impl<A: Allocator + Copy> Protocols<A> {
     ) -> Result<Vec<u64, A>, AllocError>
         requires plan { plan.now ≡ stop_to_free self.old handle guid }
         requires there { carries (spec.freed handle guid self.old).handles guid handle ≡ true }
-        requires room { spec.HasRoomToReinstall self.old }
+        requires room { HasRoom self.old }
         ensures ok { FreesAndReplaces
             D.meaning drivers.now self.old handle guid value result self.new }
         ensures err { OnErr result (self.new ≡ self.old) }
@@ -326,7 +328,7 @@ impl<A: Allocator + Copy> Protocols<A> {
     ) -> Result<Vec<u64, A>, AllocError>
         requires plan { plan.now ≡ stop_to_free self.old handle guid }
         requires there { carries (spec.freed handle guid self.old).handles guid handle ≡ true }
-        requires room { spec.HasRoomToReinstall self.old }
+        requires room { HasRoom self.old }
         requires given { given.items ≡ events_for self.old.registrations guid }
         ensures ok { FreesAndReplaces
             D.meaning drivers.now self.old handle guid value result self.new }
@@ -362,7 +364,7 @@ impl<A: Allocator + Copy> Protocols<A> {
     ) -> Result<Vec<u64, A>, AllocError>
         requires plan { plan.now ≡ stop_to_free self.old handle guid }
         requires there { carries (spec.freed handle guid self.old).handles guid handle ≡ true }
-        requires room { spec.HasRoomToReinstall self.old }
+        requires room { HasRoom self.old }
         ensures ok { FreesAndReplaces
             D.meaning drivers.now self.old handle guid value result self.new }
         ensures err { OnErr result (self.new ≡ self.old) }

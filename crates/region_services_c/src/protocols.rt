@@ -1,6 +1,6 @@
 //! The protocol services (UEFI Specification 2.10, section 7.3).
 //!
-//! Of each: ABORTED, after 2^45 calls, UNSUPPORTED, once the boot services have exited, and OUT_OF_RESOURCES,
+//! Of each: ABORTED, after 2^62 - 1 calls, UNSUPPORTED, once the boot services have exited, and OUT_OF_RESOURCES,
 //! where memory runs out, are not named again. A refusal leaves the caller's variables.
 ghost use Rattle.std.specs.Prelude.{◌≡◌};
 ghost use Rattle.c_interface.specs.Opening.{HandlesGiving, OpensGiving};

@@ -31,7 +31,7 @@ const RECORD: [u8; 40] = [
 ];
 
 /// How many calls a core serves that is made for C.
-const CALLS_FOR_C: u64 = 0x2000_0000_0000;
+const CALLS_FOR_C: u64 = 0x3fff_ffff_ffff_ffff;
 
 /// A number that no call gives.
 const OTHER: u64 = 0xabcd;

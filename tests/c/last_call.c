@@ -1,7 +1,7 @@
 /* Makes the last calls that a core serves, and then one of each service: rafkudin.h says that it
- * returns ABORTED and changes nothing. Nobody makes 2^45 calls, so the number of calls left is found
- * in the core's memory and written over, as no caller may. Each point that does not hold is printed
- * on standard error, and then the status is 1. */
+ * returns ABORTED and changes nothing. Nobody makes 2^62 - 1 calls, so the number of calls left is
+ * found in the core's memory and written over, as no caller may. Each point that does not hold is
+ * printed on standard error, and then the status is 1. */
 #include "points.h"
 
 #include <rafkudin.h>
@@ -13,7 +13,7 @@
 /* What a variable holds before a call that must leave it. */
 #define LEFT 0x5a5a5a5a5a5a5a5aU
 
-#define ALL_CALLS ((uint64_t)1 << 45)
+#define ALL_CALLS (((uint64_t)1 << 62) - 1)
 
 /* How many calls the core serves. */
 #define CALLS 1000
