@@ -4,7 +4,7 @@ ghost use Rattle.page_ranges.specs.declared.ranges.Run.{Run};
 ghost use Rattle.page_ranges.specs.MemoryTypes.{page_count};
 ghost use Rattle.page_ranges.specs.Memory.{row, retyped};
 ghost use Rattle.page_ranges.specs.Runs.{page_in, pages_of, should_be_one_run, AreRuns, AreMaximalRuns};
-ghost use Rattle.descriptor_table.specs.LeafChanges.{AppendsPart, RetypesRuns};
+ghost use Rattle.descriptor_table.specs.LeafChanges.{AppendsPart, AppendsRetyped, BeginBehind, EndsWith, RetypesRuns};
 ghost use Rattle.descriptor_table.specs.Tables.{EndBy, AreMaximalUpTo, PutsBehind};
 
 use arrayvec::{ArrayVec, CapacityError};
@@ -107,20 +107,24 @@ fn push_part<L: RunList>(runs: &mut L, run: &Run, first: u64, end: u64) -> Resul
     runs.push_joined(Run { range, ..*run })
 }
 
-/// Puts into an empty list the runs in which the pages of a range have a type and an owner.
-pub(crate) fn push_retyped<L: RunList>(
+/// Puts the runs in which the pages of a range have a type and an owner behind others, which end where
+/// these begin or below.
+pub(crate) fn push_behind<L: RunList>(
     parts: &mut L,
     runs: &[Run],
     range: PageRange,
     mtype: MemoryType,
     owner: Owner,
 ) -> Result<(), L::Full>
-    requires empty { L.items parts.old ≡ [] }
+    requires order { AreMaximalRuns (L.items parts.old) }
+    requires behind { BeginBehind (L.items parts.old) runs.now }
     requires runs { AreRuns runs.now }
     requires ends { EndBy page_count runs.now }
     requires within { range.first + range.pages ≤ page_count }
-    ensures pages { OnOk result (RetypesRuns range mtype owner runs.now (L.items parts.new)) }
+    ensures pages { OnOk result
+        (AppendsRetyped range mtype owner runs.now (L.items parts.old) (L.items parts.new)) }
     ensures order { OnOk result (AreMaximalRuns (L.items parts.new)) }
+    ensures ends { OnOk result (EndsWith runs.now (L.items parts.old) (L.items parts.new)) }
 {
     for run in runs {
         let first = run.range.first;
@@ -138,4 +142,22 @@ pub(crate) fn push_retyped<L: RunList>(
         push_part(parts, run, high, end)?;
     }
     Ok(())
+}
+
+/// Puts into an empty list the runs in which the pages of a range have a type and an owner.
+pub(crate) fn push_retyped<L: RunList>(
+    parts: &mut L,
+    runs: &[Run],
+    range: PageRange,
+    mtype: MemoryType,
+    owner: Owner,
+) -> Result<(), L::Full>
+    requires empty { L.items parts.old ≡ [] }
+    requires runs { AreRuns runs.now }
+    requires ends { EndBy page_count runs.now }
+    requires within { range.first + range.pages ≤ page_count }
+    ensures pages { OnOk result (RetypesRuns range mtype owner runs.now (L.items parts.new)) }
+    ensures order { OnOk result (AreMaximalRuns (L.items parts.new)) }
+{
+    push_behind(parts, runs, range, mtype, owner)
 }
