@@ -12,7 +12,7 @@ use Rattle.page_ranges.specs.Runs.{pages_of, AreRuns}
 use Rattle.page_ranges.proofs.Members.{all_append}
 use Rattle.page_ranges.proofs.Retyped.{retyped-append}
 use Rattle.page_ranges.proofs.RunLists.{pages_of-append}
-use Rattle.descriptor_table.specs.Leaves.{leaf_at, runs_in, entry_count, IsLeaf, AreLeaves, AreLeavesNear, BeginIn, GrowsBy}
+use Rattle.descriptor_table.specs.Leaves.{leaf_at, runs_in, entry_count, IsLeaf, AreLeavesNear, BeginIn}
 use Rattle.descriptor_table.specs.LeafChanges.{leaves_without, put_across, runs_between, runs_instead, with_two, AreOtherSizes, BeginInOthers, BeginInRest, GrowsSome}
 use Rattle.descriptor_table.proofs.LeafLists.{runs_in-append, runs_in-last}
 use Rattle.descriptor_table.proofs.Splices.{AreCut}

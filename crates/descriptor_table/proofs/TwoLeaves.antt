@@ -1,21 +1,16 @@
 -- Two leaves next to each other that change, and the numbers of both.
-use Rattle.std.proofs.Common.{◌≡◌, ℕ, zero, suc, ◌+◌, ◌-◌, ◌<◌, ◌≤◌, List, [], ◌∷◌, ◌++◌, length, length-append, length-drop, map, get_or, take, drop, append-nil, append_assoc, refl, sym, ap, ap₂, subst, ◌∙◌, arith}
+use Rattle.std.proofs.Common.{◌≡◌, ℕ, zero, suc, ◌+◌, ◌<◌, ◌≤◌, List, [], ◌∷◌, ◌++◌, length, map, get_or, take, drop, append-nil, append_assoc, refl, sym, ap, subst, ◌∙◌, arith}
 use native.Mathlib.Numerals.{unary_clauses}
 use Rattle.std.proofs.Math.ListN.{set}
-use Rattle.std.proofs.lemmas.List.{length-take-le, map-set, take-append-drop}
-use Rattle.std.specs.List.{AllByRecursion}
-use Rattle.page_ranges.specs.declared.ranges.PageRange.{PageRange}
+use Rattle.std.proofs.lemmas.List.{map-set}
 use Rattle.page_ranges.specs.declared.ranges.Run.{Run}
 use Rattle.page_ranges.specs.MemoryTypes.{page_count}
 use Rattle.page_ranges.specs.Runs.{AreRuns}
-use Rattle.page_ranges.proofs.Members.{all_append}
 use Rattle.page_ranges.proofs.RunLists.{runs-left, runs-right}
 use Rattle.descriptor_table.specs.Tables.{EndBy}
 use Rattle.descriptor_table.specs.Tallies.{total}
 use Rattle.descriptor_table.specs.Leaves.{leaf_at, runs_in, entry_count, AreLast, BeginIn}
-use Rattle.descriptor_table.proofs.LeafLists.{runs_in-append}
 use Rattle.descriptor_table.proofs.LeafSizes.{total_sizes}
-use Rattle.descriptor_table.proofs.Splices.{AreCut}
 use Rattle.descriptor_table.proofs.TableFacts.{few_entries, few_runs}
 use Rattle.descriptor_table.proofs.Begun.{all_with_leaf, begin_all, behind_all, last_leaf}
 

@@ -19,15 +19,14 @@ use crate::leaves::{LEAF_SIZE, Leaf, leaves_of, runs_of_leaves, sizes_of};
 use crate::replacing::{cut_out, replace_between};
 use crate::searches::{count_beginning_by, count_beginning_by_from, count_ending_below};
 use crate::tallies::Tally;
-use arrayvec::{ArrayVec, CapacityError};
 use page_ranges::{MemoryType, Owner, PageRange, Run};
 use std::alloc::{AllocError, Allocator};
 
 /// Neighbours that have this many runs together, or fewer, are joined when one of them changes.
 const JOINED_SIZE: usize = 24;
 
-/// At most this many runs replace others in the leaves that are there: as many as two leaves have, and
-/// one more at each end of a range. More come in new leaves.
+/// For how many runs that replace others there is room: as many as two leaves hold, and one more at each
+/// end of a range. More take memory.
 pub(crate) const MAX_PARTS: usize = 66;
 
 /// How often a leaf's summary is joined with that of changed runs before it is made anew, by the number
@@ -199,7 +198,7 @@ fn retype_in_leaf<A: Allocator + Copy>(
     range: PageRange,
     mtype: MemoryType,
     owner: Owner,
-    parts: &mut ArrayVec<Run, MAX_PARTS>,
+    parts: &mut Vec<Run, A>,
 ) -> Option<usize>
     requires table { IsLeafTable leaves.old.items entries begun.old sizes.old }
     requires near { AreLeavesNear leaves.old.items range index (index + 1) }
@@ -456,7 +455,7 @@ fn put_between<A: Allocator + Copy>(
     sizes: &mut Tally<A>,
     ends: (usize, usize),
     window: (usize, usize),
-    parts: &mut ArrayVec<Run, MAX_PARTS>,
+    parts: &mut Vec<Run, A>,
     joins: u8,
 ) -> bool
     requires leaves { AreLeaves leaves.old.items }
@@ -493,7 +492,7 @@ fn put_between<A: Allocator + Copy>(
         put_across(leaves, begun, sizes, ends, window, parts.as_slice(), joins);
         return true;
     }
-    let Ok(()) = parts.try_extend_from_slice(behind) else {
+    let Ok(()) = parts.extend_from_slice(behind) else {
         return false;
     };
     put_in_first(
@@ -511,14 +510,14 @@ fn put_between<A: Allocator + Copy>(
 /// Puts into an empty list the runs from an index of one leaf up to an index of a later one, in which the
 /// pages of a range have a type and an owner.
 fn push_across<A: Allocator + Copy>(
-    parts: &mut ArrayVec<Run, MAX_PARTS>,
+    parts: &mut Vec<Run, A>,
     leaves: &[Leaf<A>],
     ends: (usize, usize),
     window: (usize, usize),
     range: PageRange,
     mtype: MemoryType,
     owner: Owner,
-) -> Result<(), CapacityError>
+) -> Result<(), AllocError>
     requires empty { parts.old.items ≡ [] }
     requires order { ends.0 < ends.1 }
     requires bound { ends.1 < length leaves.now }
@@ -553,7 +552,7 @@ fn retype_across<A: Allocator + Copy>(
     range: PageRange,
     mtype: MemoryType,
     owner: Owner,
-    parts: &mut ArrayVec<Run, MAX_PARTS>,
+    parts: &mut Vec<Run, A>,
 ) -> Option<usize>
     requires table { IsLeafTable leaves.old.items entries begun.old sizes.old }
     requires near { AreLeavesNear leaves.old.items range ends.0 (ends.1 + 1) }
@@ -639,7 +638,7 @@ pub(crate) fn retype_runs<A: Allocator + Copy>(
     range: PageRange,
     mtype: MemoryType,
     owner: Owner,
-    parts: &mut ArrayVec<Run, MAX_PARTS>,
+    parts: &mut Vec<Run, A>,
 ) -> Result<usize, AllocError>
     requires table { IsLeafTable leaves.old.items entries begun.old sizes.old }
     requires near { AreLeavesNear leaves.old.items range near.0 near.1 }

@@ -128,8 +128,8 @@ impl<A: Allocator + Copy> Tally<A> {
         ensures { self.new ≡ take from self.old ++ drop to self.old }
     {
         cut_out(&mut self.numbers, from, to - from);
-        let kept = (from / GROUP_SIZE).min(self.sums.len());
-        self.sums.truncate(kept);
+        let known = (from / GROUP_SIZE).min(self.sums.len());
+        self.sums.truncate(known);
         add_sums(self.numbers.as_slice(), &mut self.sums);
     }
 

@@ -12,7 +12,6 @@ use Rattle.descriptor_table.proofs.cuts.push_behind.Goals as goal
 pub loop-run-preserved : goal.loop-run-preserved
 loop-run-preserved g c =
     let i = c.loop-run.invariant in
-    let items = g.L.RunList.items in
     let r = c.run-item.result in
     let end = r.range.first + r.range.pages in
     let low = c.clamp-low.result in
@@ -23,22 +22,22 @@ loop-run-preserved g c =
     let d = row (end - high) (page_in high r) in
     let same = ap (λ n. row (high - low) (record { number = low; mtype = c.args.mtype; attributes = n; owner = c.args.owner })) c.attributes_as.ensures in
     let parts = three_parts c.args.range c.args.mtype c.args.owner r low high (omega arith) (omega arith) (omega arith) (λ h. omega arith) (λ h. (omega arith, omega arith)) (λ h. omega arith) in
-    let put = put_behind (pages_of (items c.loop-run.parts)) (pages_of (items c.push_part.new.runs)) (pages_of (items c.push_part-in-loop-run.new.runs)) (pages_of (items c.push_part-in-loop-run-2.new.runs)) a b b' d
+    let put = put_behind (pages_of c.loop-run.parts.items) (pages_of c.push_part.new.runs.items) (pages_of c.push_part-in-loop-run.new.runs.items) (pages_of c.push_part-in-loop-run-2.new.runs.items) a b b' d
     c.in_ok-push_part.ensures.pages c.in_ok-push_part-2.ensures.pages same c.in_ok-push_part-3.ensures.pages in
-    let p = pages_of (items c.args.parts.now) in
+    let p = pages_of c.args.parts.now.items in
     let m = retyped c.args.range c.args.mtype c.args.owner (pages_of (take c.loop-run.run-index c.args.runs.now)) in
     record {
       pages =
           put ∙ ap (λ ms. ms ++ a ++ b ++ d) i.pages ∙ put_all p m a b d
           ∙ ap (λ ms. p ++ ms) (one_more c.args.range c.args.mtype c.args.owner c.args.runs.now c.loop-run.run-index r (omega arith) c.run-item.is m a b d refl parts);
       order = c.in_ok-push_part-3.ensures.order.0;
-      next = λ s h e. up_to_next c.args.runs.now (items c.push_part-in-loop-run-2.new.runs) c.loop-run.run-index r s c.requires.runs c.run-item.is h e c.in_ok-push_part-3.ensures.order;
-      ends = λ last h was. EndBy-higher end last (items c.push_part-in-loop-run-2.new.runs) (last_taken c.args.runs.now c.loop-run.run-index last r (omega arith) c.run-item.is h) c.in_ok-push_part-3.ensures.order.1;
+      next = λ s h e. up_to_next c.args.runs.now c.push_part-in-loop-run-2.new.runs.items c.loop-run.run-index r s c.requires.runs c.run-item.is h e c.in_ok-push_part-3.ensures.order;
+      ends = λ last h was. EndBy-higher end last c.push_part-in-loop-run-2.new.runs.items (last_taken c.args.runs.now c.loop-run.run-index last r (omega arith) c.run-item.is h) c.in_ok-push_part-3.ensures.order.1;
     }
 
 pub loop-run-init : goal.loop-run-init
 loop-run-init g c =
-    let old = g.L.RunList.items c.args.parts.now in
+    let old = c.args.parts.now.items in
     record {
       pages = sym (append-nil (pages_of old));
       order = c.requires.order;
@@ -52,10 +51,10 @@ push_part-requires-clause-order g c = c.loop-run.invariant.next c.run-item.resul
 pub returns : goal.returns
 returns g c =
     let i = c.loop-run.invariant in
-    let old = g.L.RunList.items c.args.parts.now in
+    let old = c.args.parts.now.items in
     let all = take_all c.loop-run.run-index c.args.runs.now (omega arith) in
     record {
       pages = i.pages ∙ ap (λ rs. pages_of old ++ retyped c.args.range c.args.mtype c.args.owner (pages_of rs)) all;
       order = i.order;
-      ends = subst (λ rs. EndsWith rs old (g.L.RunList.items c.loop-run.parts)) all i.ends;
+      ends = subst (λ rs. EndsWith rs old c.loop-run.parts.items) all i.ends;
     }

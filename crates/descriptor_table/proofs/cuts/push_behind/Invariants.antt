@@ -9,8 +9,8 @@ use Rattle.descriptor_table.proofs.cuts.push_behind.Given as goal
 -- the runs so far, retyped, behind those that were there, and what is to come begins where they end or above
 abbrev pub invariant-loop-run : goal.invariant-loop-run
 invariant-loop-run g l = record {
-  pages : pages_of (g.L.RunList.items l.parts) ≡ pages_of (g.L.RunList.items l.initial.parts) ++ retyped l.range l.mtype l.owner (pages_of (take l.run-index l.runs));
-  order : AreMaximalRuns (g.L.RunList.items l.parts);
-  next : (r : Run) → l.run-index < length l.runs → r ≡ get_or l.runs l.run-index r → AreMaximalUpTo r.range.first (g.L.RunList.items l.parts);
-  ends : EndsWith (take l.run-index l.runs) (g.L.RunList.items l.initial.parts) (g.L.RunList.items l.parts);
+  pages : pages_of l.parts.items ≡ pages_of l.initial.parts.items ++ retyped l.range l.mtype l.owner (pages_of (take l.run-index l.runs));
+  order : AreMaximalRuns l.parts.items;
+  next : (r : Run) → l.run-index < length l.runs → r ≡ get_or l.runs l.run-index r → AreMaximalUpTo r.range.first l.parts.items;
+  ends : EndsWith (take l.run-index l.runs) l.initial.parts.items l.parts.items;
 }

@@ -1,7 +1,3 @@
-use Rattle.std.proofs.Common.{◌++◌, ap, ◌∙◌}
-use Rattle.page_ranges.specs.Memory.{retyped}
-use Rattle.page_ranges.specs.Runs.{pages_of, AreMaximalRuns}
-use Rattle.descriptor_table.specs.LeafChanges.{BeginBehind}
 use Rattle.descriptor_table.proofs.CutRuns.{behind_none}
 use Rattle.descriptor_table.proofs.cuts.push_retyped.Goals as goal
 

@@ -5,7 +5,7 @@ use Rattle.page_ranges.specs.MemoryTypes.{page_count}
 use Rattle.page_ranges.specs.Runs.{AreRuns}
 use Rattle.page_ranges.proofs.Members.{all_append_left, all_append_right}
 use Rattle.page_ranges.proofs.RunLists.{runs-left, runs-right}
-use Rattle.descriptor_table.specs.Leaves.{leaf_at, runs_in, entry_count}
+use Rattle.descriptor_table.specs.Leaves.{entry_count}
 use Rattle.descriptor_table.specs.Tables.{EndBy}
 use Rattle.descriptor_table.proofs.LeafLists.{leaf_at as leaf_of}
 use Rattle.descriptor_table.proofs.Begun.{last_and_leaf}
