@@ -1,5 +1,5 @@
 -- A run that a range cuts in up to three parts, of which the one inside gets a type and an owner.
-use Rattle.std.proofs.Common.{◌≡◌, ℕ, ◌+◌, ◌-◌, ◌<◌, ◌≤◌, List, [], ◌∷◌, ◌++◌, length, get_or, take, sym, ap, ap₂, ◌∙◌, append_assoc, append-nil, arith}
+use Rattle.std.proofs.Common.{◌≡◌, ℕ, ◌+◌, ◌-◌, ◌<◌, ◌≤◌, List, [], ◌∷◌, ◌++◌, length, get_or, take, sym, ap, ap₂, subst, ◌∙◌, append_assoc, append-nil, arith}
 use Rattle.std.proofs.lemmas.List.{take_more}
 use Rattle.page_ranges.specs.declared.ranges.Owner.{Owner}
 use Rattle.page_ranges.specs.declared.ranges.PageRange.{PageRange}
@@ -8,7 +8,10 @@ use Rattle.page_ranges.specs.Memory.{Page, row, retyped}
 use Rattle.page_ranges.specs.Runs.{page_in, pages_of, AreRuns}
 use Rattle.page_ranges.proofs.Retyped.{retyped-append}
 use Rattle.page_ranges.proofs.RunLists.{pages_of_run, retyped_run, retyped-cut, pages_of-append, pages_of-last, ends_before, EndBy-higher}
-use Rattle.descriptor_table.specs.Tables.{AreMaximalUpTo}
+use Rattle.page_ranges.proofs.Members.{all_append_left, all_append_right}
+use Rattle.descriptor_table.specs.LeafChanges.{BeginBehind, EndsWith}
+use Rattle.descriptor_table.specs.Tables.{AreMaximalUpTo, EndBy}
+use Rattle.descriptor_table.proofs.LeafLists.{end_by_next}
 
 pub row_none : (ms : List Page) (n : ℕ) (x : Page) → n ≡ 0 → ms ≡ ms ++ row n x
 unfolding row
@@ -48,3 +51,24 @@ up_to_next rs ss i r s runs e h f a =
 pub run_put_behind : (rs : List Run) (i : ℕ) (r : Run) → i < length rs → r ≡ get_or rs i r → (ms ns : List Page) → ns ≡ ms ++ pages_of (r ∷ []) → ms ≡ pages_of (take i rs) → ns ≡ pages_of (take (i + 1) rs)
 run_put_behind rs i r h e ms ns put before =
     put ∙ ap₂ ◌++◌ before (ap (λ s. pages_of (s ∷ [])) e) ∙ sym (ap pages_of (take_more rs i r h) ∙ pages_of-append (take i rs) (get_or rs i r ∷ []))
+
+-- ---- runs behind others
+
+pub put_all : (p m a b c : List Page) → p ++ m ++ a ++ b ++ c ≡ p ++ (m ++ a ++ b ++ c)
+put_all p m a b c = simp append_assoc
+
+-- the last of the runs so far ends by a page by which all of them end
+pub last_taken : (rs : List Run) (i end : ℕ) (r : Run) → i < length rs → r ≡ get_or rs i r → EndBy end (take (i + 1) rs) → r.range.first + r.range.pages ≤ end
+last_taken rs i end r h e a = omega (arith, (all_append_right (λ q. q.range.first + q.range.pages ≤ end) (take i rs) (get_or rs i r ∷ []) (subst (EndBy end) (take_more rs i r h) a)).0, ap (λ q. q.range.first + q.range.pages) e)
+
+pub behind_none : (rs : List Run) → BeginBehind [] rs
+behind_none [] = tt
+behind_none (r ∷ rs) = (tt, behind_none rs)
+
+-- what comes behind some runs begins behind the new ones that end with these
+pub behind_more : (rs rest old new : List Run) → AreRuns (rs ++ rest) → EndsWith rs old new → BeginBehind old rest → BeginBehind new rest
+behind_more rs [] old new a e b = tt
+behind_more rs (r ∷ rest) old new a e b = (
+  e r.range.first (end_by_next rs (r ∷ rest) a (omega arith)) b.0,
+  behind_more (rs ++ r ∷ []) rest old new (subst AreRuns (sym (append_assoc rs (r ∷ []) rest)) a) (λ end h. e end (all_append_left (λ q. q.range.first + q.range.pages ≤ end) rs (r ∷ []) h)) b.1,
+)

@@ -16,6 +16,7 @@ pub mod LeafSizes
 pub mod Places
 pub mod LeafSplices
 pub mod TwoLeaves
+pub mod LeavesAcross
 pub mod RunArrays
 pub mod Tallied
 pub mod Begun

@@ -42,6 +42,17 @@ total_part ns k m = omega (arith, total_between ns k m, total_taken ns (k + m))
 pub at_most_total : (ns : List ℕ) (i d : ℕ) → i < length ns → get_or ns i d ≤ total ns
 at_most_total ns i d h = omega (arith, total_next ns i d h, total_taken ns (i + 1))
 
+-- what is left without some of them
+pub total_of_cut : (ns : List ℕ) (from to : ℕ) → from ≤ to → total (take from ns ++ drop to ns) ≤ total ns
+total_of_cut [] zero zero h = omega arith
+total_of_cut [] zero (suc to) h = omega arith
+total_of_cut [] (suc from) zero h = absurd (omega arith)
+total_of_cut [] (suc from) (suc to) h = omega arith
+total_of_cut (n ∷ ns) zero zero h = omega arith
+total_of_cut (n ∷ ns) zero (suc to) h = omega (arith, total_of_cut ns zero to (omega arith))
+total_of_cut (n ∷ ns) (suc from) zero h = absurd (omega arith)
+total_of_cut (n ∷ ns) (suc from) (suc to) h = omega (arith, total_of_cut ns from to (omega arith))
+
 -- ---- one number changes
 
 pub total_set_before : (ns : List ℕ) (i k x : ℕ) → k ≤ i → total (take k (set ns i x)) ≡ total (take k ns)

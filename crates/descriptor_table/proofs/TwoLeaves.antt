@@ -1,23 +1,18 @@
 -- Two leaves next to each other that change, and the numbers of both.
-use Rattle.std.proofs.Common.{◌≡◌, ℕ, zero, suc, ◌+◌, ◌-◌, ◌<◌, ◌≤◌, List, [], ◌∷◌, ◌++◌, length, length-append, length-drop, map, get_or, take, drop, append-nil, append_assoc, refl, sym, ap, ap₂, subst, ◌∙◌, arith}
+use Rattle.std.proofs.Common.{◌≡◌, ℕ, zero, suc, ◌+◌, ◌<◌, ◌≤◌, List, [], ◌∷◌, ◌++◌, length, map, get_or, take, drop, append-nil, append_assoc, refl, sym, ap, subst, ◌∙◌, arith}
 use native.Mathlib.Numerals.{unary_clauses}
 use Rattle.std.proofs.Math.ListN.{set}
-use Rattle.std.proofs.lemmas.List.{length-take-le, map-set, take-append-drop}
-use Rattle.std.specs.List.{AllByRecursion}
-use Rattle.page_ranges.specs.declared.ranges.PageRange.{PageRange}
+use Rattle.std.proofs.lemmas.List.{map-set}
 use Rattle.page_ranges.specs.declared.ranges.Run.{Run}
 use Rattle.page_ranges.specs.MemoryTypes.{page_count}
 use Rattle.page_ranges.specs.Runs.{AreRuns}
-use Rattle.page_ranges.proofs.Members.{all_append}
 use Rattle.page_ranges.proofs.RunLists.{runs-left, runs-right}
 use Rattle.descriptor_table.specs.Tables.{EndBy}
 use Rattle.descriptor_table.specs.Tallies.{total}
-use Rattle.descriptor_table.specs.Leaves.{leaf_at, put_across, runs_in, entry_count, AreLast, IsLeaf, AreLeavesNear, BeginIn, GrowsBy}
-use Rattle.descriptor_table.proofs.LeafLists.{runs_in-append}
+use Rattle.descriptor_table.specs.Leaves.{leaf_at, runs_in, entry_count, AreLast, BeginIn}
 use Rattle.descriptor_table.proofs.LeafSizes.{total_sizes}
-use Rattle.descriptor_table.proofs.Splices.{AreCut}
 use Rattle.descriptor_table.proofs.TableFacts.{few_entries, few_runs}
-use Rattle.descriptor_table.proofs.Begun.{begin_all, behind_all, last_leaf, last_of_all, put_begun}
+use Rattle.descriptor_table.proofs.Begun.{all_with_leaf, begin_all, behind_all, last_leaf}
 
 -- ---- the runs of two leaves among all
 
@@ -115,6 +110,11 @@ begin_two ls i n m before h a some t e f =
       (behind_all (rs ++ first) first second m (last_leaf rs first some) front f, tt),
     )
 
+pub begin_one : (ls : List (List Run)) (i n : ℕ) (before : List Run) → i < length ls → AreRuns (runs_in ls) → AreLast (runs_in (take i ls)) before → entry_count (before ++ leaf_at ls i) ≡ entry_count before + n → BeginIn (runs_in (take i ls)) (leaf_at ls i ∷ []) (n ∷ [])
+begin_one ls i n before h a t e =
+    let rs = runs_in (take i ls) in
+    (behind_all rs before (leaf_at ls i) n t (runs-left (rs ++ leaf_at ls i) (runs_in (drop (suc i) ls)) (subst AreRuns (all_with_leaf [] ls i [] h) a)) e, tt)
+
 -- ---- totals that leave room
 
 pub few_begun : (ls : List (List Run)) (ns : List ℕ) → AreRuns (runs_in ls) → EndBy page_count (runs_in ls) → BeginIn [] ls ns → total ns ≤ page_count
@@ -122,104 +122,3 @@ few_begun ls ns a e b = omega (arith, begin_all [] ls ns b, few_entries (runs_in
 
 pub few_sizes : (ls : List (List Run)) → AreRuns (runs_in ls) → EndBy page_count (runs_in ls) → total (map length ls) ≤ page_count
 few_sizes ls a e = omega (arith, total_sizes ls, few_runs (runs_in ls) a e)
-
--- ---- parts shared between two leaves
-
-pub shared : (first second parts : List Run) (low high share : ℕ) → runs_in ((take low first ++ take share parts) ∷ (drop share parts ++ drop high second) ∷ []) ≡ take low first ++ (parts ++ drop high second)
-shared first second parts low high share =
-    let a = take low first in
-    let b = take share parts in
-    let c = drop share parts in
-    let d = drop high second in
-    let same : (a ++ b) ++ (c ++ d) ≡ a ++ ((b ++ c) ++ d) = simp append_assoc in
-    ap (λ xs. (a ++ b) ++ xs) (append-nil (c ++ d)) ∙ same ∙ ap (λ ps. a ++ (ps ++ d)) (take-append-drop share parts)
-
-module _ (ls : List (List Run)) (i low high share : ℕ) (parts : List Run) (h : i + 1 < length ls) where
-  abbrev pub new_first : List Run
-  new_first = take low (leaf_at ls i) ++ take share parts
-
-  abbrev pub new_second : List Run
-  new_second = drop share parts ++ drop high (leaf_at ls (i + 1))
-
-  abbrev pub new_leaves : List (List Run)
-  new_leaves = set (set ls i new_first) (i + 1) new_second
-
-  pub new_are : new_leaves ≡ take i ls ++ (new_first ∷ new_second ∷ [] ++ drop (i + 2) ls)
-  new_are = set_two ls i new_first new_second h
-
-  pub first_is_leaf : low ≤ length (leaf_at ls i) → share ≤ length parts → 0 < low + share → low + share ≤ 32 → IsLeaf new_first
-  first_is_leaf a b some few =
-      let size = length-append (take low (leaf_at ls i)) (take share parts) in
-      let front = length-take-le low (leaf_at ls i) a in
-      let part = length-take-le share parts b in
-      (omega (arith, size, front, part), omega (arith, size, front, part))
-
-  pub second_is_leaf : share ≤ length parts → share < length parts + (length (leaf_at ls (i + 1)) - high) → length parts + (length (leaf_at ls (i + 1)) - high) ≤ share + 32 → IsLeaf new_second
-  second_is_leaf b some few =
-      let size = length-append (drop share parts) (drop high (leaf_at ls (i + 1))) in
-      let part = length-drop share parts in
-      let behind = length-drop high (leaf_at ls (i + 1)) in
-      (omega (arith, size, part, behind), omega (arith, size, part, behind))
-
-  pub new_runs_two : runs_in new_leaves ≡ runs_in (take i ls) ++ (put_across ls i low high parts ++ runs_in (drop (i + 2) ls))
-  new_runs_two =
-      ap runs_in new_are ∙ runs_in-append (take i ls) (new_first ∷ new_second ∷ [] ++ drop (i + 2) ls)
-      ∙ ap (λ rs. runs_in (take i ls) ++ rs) (runs_in-append (new_first ∷ new_second ∷ []) (drop (i + 2) ls) ∙ ap (λ rs. rs ++ runs_in (drop (i + 2) ls)) (shared (leaf_at ls i) (leaf_at ls (i + 1)) parts low high share))
-
-  pub new_begun_two : (ns : List ℕ) (less more n m : ℕ) → length ns ≡ length ls → BeginIn [] ls ns → AreRuns (runs_in (take i ls) ++ (put_across ls i low high parts ++ runs_in (drop (i + 2) ls)))
-      → GrowsBy (runs_in (take (i + 2) ls)) (runs_in (take i ls) ++ put_across ls i low high parts) (runs_in (drop (i + 2) ls)) less more
-      → BeginIn (runs_in (take i new_leaves)) (leaf_at new_leaves i ∷ leaf_at new_leaves (i + 1) ∷ []) (n ∷ m ∷ []) → BeginIn [] new_leaves (set (set ns i n) (i + 1) m)
-  new_begun_two ns less more n m same b a g c =
-      let k : BeginIn (runs_in (take i ls)) (new_first ∷ new_second ∷ []) (n ∷ m ∷ []) = rw (before_two ls i new_first new_second h, first_of_two ls i new_first new_second [] h, second_of_two ls i new_first new_second [] h) at c in
-      rw (new_are, set_two ns i n m (omega arith)) (put_begun ls (new_first ∷ new_second ∷ []) ns (n ∷ m ∷ []) i (i + 2) less more (runs_in (take i ls)) (put_across ls i low high parts) b (last_of_all (runs_in (take i ls))) (shared (leaf_at ls i) (leaf_at ls (i + 1)) parts low high share) a g k)
-
--- ---- a window across two leaves
-
-regroup : (p a b c s : List Run) → p ++ ((a ++ (b ++ c)) ++ s) ≡ (p ++ a) ++ (b ++ (c ++ s))
-regroup p a b c s = simp append_assoc
-
-regroup_more : (p a b c s : List Run) → (p ++ (a ++ (b ++ c))) ++ s ≡ (p ++ a) ++ (b ++ (c ++ s))
-regroup_more p a b c s = simp append_assoc
-
-two_parts : (first second : List Run) (low high : ℕ) → first ++ second ≡ take low first ++ ((drop low first ++ take high second) ++ drop high second)
-two_parts first second low high =
-    let same : (take low first ++ drop low first) ++ (take high second ++ drop high second) ≡ take low first ++ ((drop low first ++ take high second) ++ drop high second) = simp append_assoc in
-    ap₂ ◌++◌ (sym (take-append-drop low first)) (sym (take-append-drop high second)) ∙ same
-
-module _ (ls : List (List Run)) (i low high : ℕ) (h : i + 1 < length ls) where
-  abbrev pub before_window : List Run
-  before_window = runs_in (take i ls) ++ take low (leaf_at ls i)
-
-  abbrev pub in_window : List Run
-  in_window = drop low (leaf_at ls i) ++ take high (leaf_at ls (i + 1))
-
-  abbrev pub behind_window : List Run
-  behind_window = drop high (leaf_at ls (i + 1)) ++ runs_in (drop (i + 2) ls)
-
-  all_parts : runs_in ls ≡ before_window ++ (in_window ++ behind_window)
-  all_parts =
-      runs_two ls i h ∙ ap (λ rs. runs_in (take i ls) ++ rs) (sym (append_assoc (leaf_at ls i) (leaf_at ls (i + 1)) (runs_in (drop (i + 2) ls))) ∙ ap (λ rs. rs ++ runs_in (drop (i + 2) ls)) (two_parts (leaf_at ls i) (leaf_at ls (i + 1)) low high))
-      ∙ regroup (runs_in (take i ls)) (take low (leaf_at ls i)) in_window (drop high (leaf_at ls (i + 1))) (runs_in (drop (i + 2) ls))
-
-  pub cut_across : (range : PageRange) → AreLeavesNear ls range i (i + 2) → AllByRecursion (λ r. r.range.first + r.range.pages < range.first) (take low (leaf_at ls i)) → AllByRecursion (λ r. range.first + range.pages < r.range.first) (drop high (leaf_at ls (i + 1)))
-      → AreCut (runs_in ls) range before_window in_window behind_window
-  cut_across range near below above = record {
-    parts = all_parts;
-    below = all_append (λ r. r.range.first + r.range.pages < range.first) (runs_in (take i ls)) (take low (leaf_at ls i)) near.below below;
-    above = all_append (λ r. range.first + range.pages < r.range.first) (drop high (leaf_at ls (i + 1))) (runs_in (drop (i + 2) ls)) above near.above;
-  }
-
-  pub across_is : (parts : List Run) → runs_in (take i ls) ++ (put_across ls i low high parts ++ runs_in (drop (i + 2) ls)) ≡ before_window ++ (parts ++ behind_window)
-  across_is parts = regroup (runs_in (take i ls)) (take low (leaf_at ls i)) parts (drop high (leaf_at ls (i + 1))) (runs_in (drop (i + 2) ls))
-
-  -- the map up to any run behind the leaves grows as it does with the window
-  pub across_grows : (parts : List Run) (less more : ℕ) → ((m k : List Run) → behind_window ≡ m ++ k → entry_count (before_window ++ (parts ++ m)) + less ≡ entry_count (before_window ++ (in_window ++ m)) + more)
-      → GrowsBy (runs_in (take (i + 2) ls)) (runs_in (take i ls) ++ put_across ls i low high parts) (runs_in (drop (i + 2) ls)) less more
-  across_grows parts less more g m n e =
-      let rs = runs_in (take i ls) in
-      let first = leaf_at ls i in
-      let second = leaf_at ls (i + 1) in
-      let here = runs_to_two ls i h ∙ ap (λ xs. rs ++ xs) (two_parts first second low high) in
-      ap (λ xs. entry_count xs + less) (regroup_more rs (take low first) parts (drop high second) m)
-      ∙ g (drop high second ++ m) n (ap (λ xs. drop high second ++ xs) e ∙ sym (append_assoc (drop high second) m n))
-      ∙ ap (λ xs. entry_count xs + more) (sym (ap (λ xs. xs ++ m) here ∙ regroup_more rs (take low first) in_window (drop high second) m))

@@ -1,12 +1,13 @@
 -- What leaves hold once some of their runs gave way to others.
 use Rattle.std.specs.Prelude.{◌≡◌, ℕ, ◌+◌, ◌-◌, List, [], ◌∷◌, ◌++◌, length, map, set, take, drop}
-use Rattle.std.specs.List.{splice}
+use Rattle.std.specs.List.{AllByRecursion, splice}
 use Rattle.page_ranges.specs.declared.ranges.Owner.{Owner}
 use Rattle.page_ranges.specs.declared.ranges.PageRange.{PageRange}
 use Rattle.page_ranges.specs.declared.ranges.Run.{Run}
 use Rattle.page_ranges.specs.Memory.{retyped, row}
 use Rattle.page_ranges.specs.Runs.{page_in, pages_of}
-use Rattle.descriptor_table.specs.Leaves.{leaf_at, put_across, runs_in, BeginIn, GrowsBy}
+use Rattle.descriptor_table.specs.Leaves.{leaf_at, runs_in, BeginIn, GrowsBy}
+use Rattle.descriptor_table.specs.Tables.{EndBy}
 
 -- ---- the runs of all leaves
 
@@ -24,18 +25,32 @@ runs_with_in ls index window parts =
     runs_in (take index ls)
     ++ (splice (leaf_at ls index) window.0 window.1 parts ++ runs_in (drop (index + 1) ls))
 
--- the runs of all leaves, with parts instead of those from an index of one leaf up to an index
--- of the next one
-abbrev pub runs_with_across : List (List Run) → ℕ → ℕ × ℕ → List Run → List Run
-runs_with_across ls index window parts =
-    runs_in (take index ls)
-    ++ (put_across ls index window.0 window.1 parts ++ runs_in (drop (index + 2) ls))
+-- the runs from an index of one leaf up to an index of a later one; `ends` are the indices of the two
+-- leaves
+abbrev pub runs_between : List (List Run) → ℕ × ℕ → ℕ × ℕ → List Run
+runs_between ls ends window =
+    drop window.0 (leaf_at ls ends.0)
+    ++ (runs_in (take (ends.1 - (ends.0 + 1)) (drop (ends.0 + 1) ls))
+    ++ take window.1 (leaf_at ls ends.1))
 
--- how many runs two leaves have, with parts instead of those from an index of the first up to
--- an index of the second
-abbrev pub count_across : List (List Run) → ℕ → ℕ × ℕ → List Run → ℕ
-count_across ls index window parts =
-    window.0 + length parts + (length (leaf_at ls (index + 1)) - window.1)
+-- parts instead of those, between the first runs of the one leaf and the last ones of the other
+abbrev pub put_across : List (List Run) → ℕ × ℕ → ℕ × ℕ → List Run → List Run
+put_across ls ends window parts =
+    take window.0 (leaf_at ls ends.0) ++ (parts ++ drop window.1 (leaf_at ls ends.1))
+
+-- how many runs that are
+abbrev pub count_across : List (List Run) → ℕ × ℕ → ℕ × ℕ → List Run → ℕ
+count_across ls ends window parts =
+    window.0 + length parts + (length (leaf_at ls ends.1) - window.1)
+
+-- the runs of all leaves, with others instead of those of the leaves from one index to another
+abbrev pub runs_instead : List (List Run) → ℕ × ℕ → List Run → List Run
+runs_instead ls ends runs =
+    runs_in (take ends.0 ls) ++ (runs ++ runs_in (drop (ends.1 + 1) ls))
+
+-- the leaves without those between two indices
+abbrev pub leaves_without : List (List Run) → ℕ → ℕ → List (List Run)
+leaves_without ls from to = take from ls ++ drop to ls
 
 -- two leaves have new runs behind the first ones of the one, and before the last ones of the other
 abbrev pub with_two : List (List Run) → ℕ → ℕ × ℕ → List Run → List Run → List (List Run)
@@ -59,12 +74,12 @@ GrowsIn ls index window parts entries =
     (runs_in (take index ls) ++ splice (leaf_at ls index) window.0 window.1 parts)
     (runs_in (drop (index + 1) ls)) entries.0 entries.1
 
--- the same of the runs from an index of one leaf up to an index of the next one
-abbrev pub GrowsAcross : List (List Run) → ℕ → ℕ × ℕ → List Run → ℕ × ℕ → Type 0
-GrowsAcross ls index window parts entries =
-    GrowsBy (runs_in (take (index + 2) ls))
-    (runs_in (take index ls) ++ put_across ls index window.0 window.1 parts)
-    (runs_in (drop (index + 2) ls)) entries.0 entries.1
+-- Others come instead of the runs of the leaves from one index to another: the map has some number
+-- of entries less and some number more.
+abbrev pub GrowsSome : List (List Run) → ℕ × ℕ → List Run → Type 0
+GrowsSome ls ends runs = (less : ℕ) × (more : ℕ)
+    × GrowsBy (runs_in (take (ends.1 + 1) ls)) (runs_in (take ends.0 ls) ++ runs)
+    (runs_in (drop (ends.1 + 1) ls)) less more
 
 -- ---- numbers of two leaves
 
@@ -74,6 +89,12 @@ BeginInOthers ls index ns = (n m : ℕ)
     → BeginIn (runs_in (take index ls))
     (leaf_at ls index ∷ leaf_at ls (index + 1) ∷ []) (n ∷ m ∷ [])
     → BeginIn [] ls (set (set ns index n) (index + 1) m)
+
+-- How many entries begin in each leaf is right, but for the leaf at an index.
+abbrev pub BeginInRest : List (List Run) → ℕ → List ℕ → Type 0
+BeginInRest ls index ns = (n : ℕ)
+    → BeginIn (runs_in (take index ls)) (leaf_at ls index ∷ []) (n ∷ [])
+    → BeginIn [] ls (set ns index n)
 
 -- How many runs each leaf has is right, but for the leaf at an index and the next one.
 abbrev pub AreOtherSizes : List (List Run) → ℕ → List ℕ → Type 0
@@ -87,6 +108,19 @@ AreOtherSizes ls index ns =
 abbrev pub AppendsPart : ℕ → ℕ → Run → List Run → List Run → Type 0
 AppendsPart first end run old new =
     pages_of new ≡ pages_of old ++ row (end - first) (page_in first run)
+
+-- the pages of runs become those of others with a range retyped, behind those that were there
+abbrev pub AppendsRetyped : PageRange → ℕ → Owner → List Run → List Run → List Run → Type 0
+AppendsRetyped range mtype owner runs old new =
+    pages_of new ≡ pages_of old ++ retyped range mtype owner (pages_of runs)
+
+-- each of some runs begins where others end, or above
+abbrev pub BeginBehind : List Run → List Run → Type 0
+BeginBehind others runs = AllByRecursion (λ r. EndBy r.range.first others) runs
+
+-- new runs end by any page number by which the old ones and some others end
+abbrev pub EndsWith : List Run → List Run → List Run → Type 0
+EndsWith runs old new = (end : ℕ) → EndBy end runs → EndBy end old → EndBy end new
 
 -- the pages of a range have a type and an owner in the new runs, and the others are as in the old
 abbrev pub RetypesRuns : PageRange → ℕ → Owner → List Run → List Run → Type 0

@@ -20,11 +20,6 @@ runs_in ls = flat_map (λ l. l) ls
 abbrev pub leaf_at : List (List Run) → ℕ → List Run
 leaf_at ls i = slice_index_or ls i []
 
--- parts between the first runs of a leaf, up to an index, and those of the next leaf from an index on
-abbrev pub put_across : List (List Run) → ℕ → ℕ → ℕ → List Run → List Run
-put_across ls i low high parts =
-    take low (leaf_at ls i) ++ (parts ++ drop high (leaf_at ls (i + 1)))
-
 -- a leaf has at least one run, and at most 32
 abbrev pub IsLeaf : List Run → Type 0
 IsLeaf l = (0 < length l) × (length l ≤ 32)

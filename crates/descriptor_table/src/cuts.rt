@@ -4,10 +4,9 @@ ghost use Rattle.page_ranges.specs.declared.ranges.Run.{Run};
 ghost use Rattle.page_ranges.specs.MemoryTypes.{page_count};
 ghost use Rattle.page_ranges.specs.Memory.{row, retyped};
 ghost use Rattle.page_ranges.specs.Runs.{page_in, pages_of, should_be_one_run, AreRuns, AreMaximalRuns};
-ghost use Rattle.descriptor_table.specs.LeafChanges.{AppendsPart, RetypesRuns};
+ghost use Rattle.descriptor_table.specs.LeafChanges.{AppendsPart, AppendsRetyped, BeginBehind, EndsWith, RetypesRuns};
 ghost use Rattle.descriptor_table.specs.Tables.{EndBy, AreMaximalUpTo, PutsBehind};
 
-use arrayvec::{ArrayVec, CapacityError};
 use page_ranges::{MemoryType, Owner, PageRange, Run};
 use std::alloc::{AllocError, Allocator};
 
@@ -42,60 +41,36 @@ fn grow_last(runs: &mut [Run], run: &Run) -> bool
     false
 }
 
-/// A list that runs are put into, one behind the other.
-pub(crate) trait RunList {
-    /// The error of a list that has no room for one more run.
-    type Full;
-
-    ghost items: { Self → List Run };
-
-    /// Puts a run behind others that end at its first page or below it: as a part of the last one
-    /// where the two should be one.
-    fn push_joined(&mut self, run: Run) -> Result<(), Self::Full>
-        requires order { AreMaximalUpTo run.range.first (items self.old) }
-        requires some { 0 < run.range.pages }
-        requires within { run.range.first + run.range.pages ≤ page_count }
-        ensures { OnOk result (PutsBehind (items self.old) run (items self.new)) };
-}
-
-impl<A: Allocator> RunList for Vec<Run, A> {
-    type Full = AllocError;
-
-    ghost items = { λ v. v.items };
-
-    #[inline(always)]
-    fn push_joined(&mut self, run: Run) -> Result<(), AllocError> {
-        if grow_last(self.as_mut_slice(), &run) {
-            return Ok(());
-        }
-        self.push(run)?;
-        Ok(())
+/// Puts a run behind others that end at its first page or below it: as a part of the last one where the
+/// two should be one.
+#[inline(always)]
+pub(crate) fn push_joined<A: Allocator>(runs: &mut Vec<Run, A>, run: Run) -> Result<(), AllocError>
+    requires order { AreMaximalUpTo run.range.first runs.old.items }
+    requires some { 0 < run.range.pages }
+    requires within { run.range.first + run.range.pages ≤ page_count }
+    ensures { OnOk result (PutsBehind runs.old.items run runs.new.items) }
+{
+    if grow_last(runs.as_mut_slice(), &run) {
+        return Ok(());
     }
-}
-
-impl<const N: usize> RunList for ArrayVec<Run, N> {
-    type Full = CapacityError;
-
-    ghost items = { λ v. v.items };
-
-    #[inline(always)]
-    fn push_joined(&mut self, run: Run) -> Result<(), CapacityError> {
-        if grow_last(self.as_mut_slice(), &run) {
-            return Ok(());
-        }
-        self.try_extend_from_slice(&[run])
-    }
+    runs.push(run)?;
+    Ok(())
 }
 
 /// Puts the part of a run from one page up to another behind others; an empty part leaves them.
 #[inline(always)]
-fn push_part<L: RunList>(runs: &mut L, run: &Run, first: u64, end: u64) -> Result<(), L::Full>
-    requires order { AreMaximalUpTo first (L.items runs.old) }
+fn push_part<A: Allocator>(
+    runs: &mut Vec<Run, A>,
+    run: &Run,
+    first: u64,
+    end: u64,
+) -> Result<(), AllocError>
+    requires order { AreMaximalUpTo first runs.old.items }
     requires up { first ≤ end }
     requires within { end ≤ page_count }
     ensures pages { OnOk result
-        (AppendsPart first end run.now (L.items runs.old) (L.items runs.new)) }
-    ensures order { OnOk result (AreMaximalUpTo end (L.items runs.new)) }
+        (AppendsPart first end run.now runs.old.items runs.new.items) }
+    ensures order { OnOk result (AreMaximalUpTo end runs.new.items) }
 {
     if first == end {
         return Ok(());
@@ -104,23 +79,27 @@ fn push_part<L: RunList>(runs: &mut L, run: &Run, first: u64, end: u64) -> Resul
         first,
         pages: end - first,
     };
-    runs.push_joined(Run { range, ..*run })
+    push_joined(runs, Run { range, ..*run })
 }
 
-/// Puts into an empty list the runs in which the pages of a range have a type and an owner.
-pub(crate) fn push_retyped<L: RunList>(
-    parts: &mut L,
+/// Puts the runs in which the pages of a range have a type and an owner behind others, which end where
+/// these begin or below.
+pub(crate) fn push_behind<A: Allocator>(
+    parts: &mut Vec<Run, A>,
     runs: &[Run],
     range: PageRange,
     mtype: MemoryType,
     owner: Owner,
-) -> Result<(), L::Full>
-    requires empty { L.items parts.old ≡ [] }
+) -> Result<(), AllocError>
+    requires order { AreMaximalRuns parts.old.items }
+    requires behind { BeginBehind parts.old.items runs.now }
     requires runs { AreRuns runs.now }
     requires ends { EndBy page_count runs.now }
     requires within { range.first + range.pages ≤ page_count }
-    ensures pages { OnOk result (RetypesRuns range mtype owner runs.now (L.items parts.new)) }
-    ensures order { OnOk result (AreMaximalRuns (L.items parts.new)) }
+    ensures pages { OnOk result
+        (AppendsRetyped range mtype owner runs.now parts.old.items parts.new.items) }
+    ensures order { OnOk result (AreMaximalRuns parts.new.items) }
+    ensures ends { OnOk result (EndsWith runs.now parts.old.items parts.new.items) }
 {
     for run in runs {
         let first = run.range.first;
@@ -138,4 +117,22 @@ pub(crate) fn push_retyped<L: RunList>(
         push_part(parts, run, high, end)?;
     }
     Ok(())
+}
+
+/// Puts into an empty list the runs in which the pages of a range have a type and an owner.
+pub(crate) fn push_retyped<A: Allocator>(
+    parts: &mut Vec<Run, A>,
+    runs: &[Run],
+    range: PageRange,
+    mtype: MemoryType,
+    owner: Owner,
+) -> Result<(), AllocError>
+    requires empty { parts.old.items ≡ [] }
+    requires runs { AreRuns runs.now }
+    requires ends { EndBy page_count runs.now }
+    requires within { range.first + range.pages ≤ page_count }
+    ensures pages { OnOk result (RetypesRuns range mtype owner runs.now parts.new.items) }
+    ensures order { OnOk result (AreMaximalRuns parts.new.items) }
+{
+    push_behind(parts, runs, range, mtype, owner)
 }

@@ -50,7 +50,7 @@ fn swap_over<T: Drop, A: Allocator>(items: &mut Vec<T, A>, at: usize, new: &mut 
 }
 
 /// Removes a number of items from a place on.
-fn cut_out<T: Drop, A: Allocator>(items: &mut Vec<T, A>, at: usize, count: usize)
+pub(crate) fn cut_out<T: Drop, A: Allocator>(items: &mut Vec<T, A>, at: usize, count: usize)
     requires { at + count ≤ length items.old.items }
     ensures { items.new.items ≡ take at items.old.items ++ drop (at + count) items.old.items }
 {

@@ -1,33 +1,33 @@
 //! A range of a table that gets a type and an owner.
-ghost use Rattle.std.specs.Prelude.{◌≡◌, ℕ, ◌+◌, ◌-◌, ◌<◌, ◌≤◌, ◌^◌, ◌++◌, ◌∷◌, [], length, map, set, take, drop, IfOk, OnErr, IfSome, OnSome, IfNone};
+ghost use Rattle.std.specs.Prelude.{◌≡◌, ℕ, ◌+◌, ◌-◌, ◌<◌, ◌≤◌, ◌^◌, ◌++◌, ◌∷◌, [], length, map, set, take, drop, false, IsTrue, IfOk, OnOk, OnErr, IfSome, OnSome, IfNone};
 ghost use Rattle.page_ranges.specs.declared.ranges.Owner.TheVariants.{Given};
 ghost use Rattle.page_ranges.specs.MemoryTypes.{conventional, page_count};
 ghost use Rattle.page_ranges.specs.Memory.{IsPresent, AllInRange, retyped};
-ghost use Rattle.page_ranges.specs.Runs.{pages_of, AreRuns};
-ghost use Rattle.descriptor_table.specs.Leaves.{leaf_at, put_across, runs_in, IsLeaf, AreLeaves, AreLeavesNear, BeginIn, GrowsBy, IsLeafTable};
-ghost use Rattle.descriptor_table.specs.LeafChanges.{AreOtherSizes, BeginInOthers, GrowsAcross, GrowsBetween, GrowsIn, Retypes, count_across, runs_with, runs_with_across, runs_with_in, with_parts, with_two};
+ghost use Rattle.page_ranges.specs.Runs.{pages_of, AreMaximalRuns, AreRuns};
+ghost use Rattle.descriptor_table.specs.Leaves.{leaf_at, runs_in, IsLeaf, AreLeaves, AreLeavesNear, BeginIn, GrowsBy, IsLeafTable};
+ghost use Rattle.descriptor_table.specs.LeafChanges.{AreOtherSizes, BeginInOthers, BeginInRest, GrowsBetween, GrowsIn, GrowsSome, Retypes, RetypesRuns, count_across, leaves_without, put_across, runs_between, runs_instead, runs_with, runs_with_in, with_parts, with_two};
 ghost use Rattle.descriptor_table.specs.Summaries.{KeepsLeaves};
 ghost use Rattle.descriptor_table.specs.Tables.{EndBy, IsWindow};
 ghost use Rattle.descriptor_table.specs.Tallies.{total};
 
 use crate::cursors::count_leaves_by_from;
-use crate::cuts::push_retyped;
+use crate::cuts::{push_behind, push_retyped};
 use crate::entries::count_entries;
 use crate::entry_starts::{begun_in, count_begun, runs_before};
 use crate::leaf_searches::count_leaves_below;
 use crate::leaves::{LEAF_SIZE, Leaf, leaves_of, runs_of_leaves, sizes_of};
-use crate::replacing::replace_between;
+use crate::replacing::{cut_out, replace_between};
 use crate::searches::{count_beginning_by, count_beginning_by_from, count_ending_below};
 use crate::tallies::Tally;
-use arrayvec::ArrayVec;
 use page_ranges::{MemoryType, Owner, PageRange, Run};
 use std::alloc::{AllocError, Allocator};
 
 /// Neighbours that have this many runs together, or fewer, are joined when one of them changes.
 const JOINED_SIZE: usize = 24;
 
-/// At most this many runs replace others within a leaf; more come in new leaves.
-pub(crate) const MAX_PARTS: usize = 8;
+/// For how many runs that replace others there is room: as many as two leaves hold, and one more at each
+/// end of a range. More take memory.
+pub(crate) const MAX_PARTS: usize = 66;
 
 /// How often a leaf's summary is joined with that of changed runs before it is made anew, by the number
 /// of leaves and the type that pages get. A summary that is only joined allows more than the runs: with
@@ -198,7 +198,7 @@ fn retype_in_leaf<A: Allocator + Copy>(
     range: PageRange,
     mtype: MemoryType,
     owner: Owner,
-    parts: &mut ArrayVec<Run, MAX_PARTS>,
+    parts: &mut Vec<Run, A>,
 ) -> Option<usize>
     requires table { IsLeafTable leaves.old.items entries begun.old sizes.old }
     requires near { AreLeavesNear leaves.old.items range index (index + 1) }
@@ -277,6 +277,32 @@ fn replace_two<A: Allocator + Copy>(
     leaves[index + 1].replace(0, high, back, joins);
 }
 
+/// Counts anew how many entries begin in a leaf, and how many runs it has.
+fn recount_one<A: Allocator + Copy>(
+    leaves: &[Leaf<A>],
+    begun: &mut Tally<A>,
+    sizes: &mut Tally<A>,
+    index: usize,
+)
+    requires leaves { AreLeaves leaves.now }
+    requires runs { AreRuns (runs_in leaves.now) }
+    requires ends { EndBy page_count (runs_in leaves.now) }
+    requires index { index < length leaves.now }
+    requires begun_length { length begun.old ≡ length leaves.now }
+    requires few { total begun.old ≤ page_count }
+    requires begun { BeginInRest leaves.now index begun.old }
+    requires sizes_length { length sizes.old ≡ length leaves.now }
+    requires few_runs { total sizes.old ≤ page_count }
+    requires sizes { set sizes.old index (length (leaf_at leaves.now index))
+        ≡ map length leaves.now }
+    ensures begun { BeginIn [] leaves.now begun.new }
+    ensures sizes { sizes.new ≡ map length leaves.now }
+{
+    let runs = leaves[index].runs();
+    begun.set(index, count_begun(runs_before(leaves, index), runs) as u8);
+    sizes.set(index, runs.len() as u8);
+}
+
 /// Counts anew how many entries begin in each of two leaves, and how many runs they have.
 fn recount<A: Allocator + Copy>(
     leaves: &[Leaf<A>],
@@ -305,43 +331,70 @@ fn recount<A: Allocator + Copy>(
     sizes.set(index + 1, second.len() as u8);
 }
 
-/// Replaces the runs from an index of one leaf up to an index of the next one by parts; the two have
-/// room for them. `entries` are how many entries the map of those runs has, and that of the
-/// parts.
+/// Takes out the leaves between two indices, with what is kept of each.
+fn cut_leaves<A: Allocator + Copy>(
+    leaves: &mut Vec<Leaf<A>, A>,
+    begun: &mut Tally<A>,
+    sizes: &mut Tally<A>,
+    from: usize,
+    to: usize,
+)
+    requires order { from ≤ to }
+    requires bound { to ≤ length leaves.old.items }
+    requires begun { length begun.old ≡ length leaves.old.items }
+    requires sizes { length sizes.old ≡ length leaves.old.items }
+    ensures leaves { leaves.new.items ≡ leaves_without leaves.old.items from to }
+    ensures begun { begun.new ≡ take from begun.old ++ drop to begun.old }
+    ensures sizes { sizes.new ≡ take from sizes.old ++ drop to sizes.old }
+{
+    if from == to {
+        return;
+    }
+    cut_out(leaves, from, to - from);
+    begun.cut_out(from, to);
+    sizes.cut_out(from, to);
+}
+
+/// Replaces the runs from an index of one leaf up to an index of a later one by parts, for which these
+/// two have room; the leaves between them go.
 fn put_across<A: Allocator + Copy>(
     leaves: &mut Vec<Leaf<A>, A>,
     begun: &mut Tally<A>,
     sizes: &mut Tally<A>,
-    index: usize,
+    ends: (usize, usize),
     window: (usize, usize),
     parts: &[Run],
-    entries: (usize, usize),
     joins: u8,
 )
     requires leaves { AreLeaves leaves.old.items }
     requires old { AreRuns (runs_in leaves.old.items)
         × EndBy page_count (runs_in leaves.old.items) }
-    requires index { index + 1 < length leaves.old.items }
-    requires low { window.0 ≤ length (leaf_at leaves.old.items index) }
-    requires high { window.1 ≤ length (leaf_at leaves.old.items (index + 1)) }
+    requires order { ends.0 < ends.1 }
+    requires bound { ends.1 < length leaves.old.items }
+    requires low { window.0 ≤ length (leaf_at leaves.old.items ends.0) }
+    requires high { window.1 ≤ length (leaf_at leaves.old.items ends.1) }
     requires some { 0 < length parts.now }
-    requires enough { 2 ≤ count_across leaves.old.items index window parts.now }
-    requires fits { count_across leaves.old.items index window parts.now ≤ 64 }
+    requires enough { 2 ≤ count_across leaves.old.items ends window parts.now }
+    requires fits { count_across leaves.old.items ends window parts.now ≤ 64 }
     requires begun { BeginIn [] leaves.old.items begun.old }
     requires sizes { sizes.old ≡ map length leaves.old.items }
-    requires grows { GrowsAcross leaves.old.items index window parts.now entries }
-    requires order { AreRuns (runs_with_across leaves.old.items index window parts.now) }
-    requires ends { EndBy page_count
-        (runs_with_across leaves.old.items index window parts.now) }
+    requires grows { GrowsSome leaves.old.items ends
+        (put_across leaves.old.items ends window parts.now) }
+    requires new { AreRuns (runs_instead leaves.old.items ends
+        (put_across leaves.old.items ends window parts.now)) }
+    requires ends { EndBy page_count (runs_instead leaves.old.items ends
+        (put_across leaves.old.items ends window parts.now)) }
     ensures leaves { AreLeaves leaves.new.items }
-    ensures runs { runs_in leaves.new.items
-        ≡ runs_with_across leaves.old.items index window parts.now }
+    ensures runs { runs_in leaves.new.items ≡ runs_instead leaves.old.items ends
+        (put_across leaves.old.items ends window parts.now) }
     ensures begun { BeginIn [] leaves.new.items begun.new }
     ensures sizes { sizes.new ≡ map length leaves.new.items }
-    ensures kept { KeepsLeaves leaves.old.items leaves.new.items index (index + 2) }
+    ensures kept { KeepsLeaves leaves.old.items leaves.new.items ends.0 (ends.1 + 1) }
 {
-    let behind = leaves[index + 1].runs().len() - window.1;
+    let (index, last) = ends;
+    let behind = leaves[last].runs().len() - window.1;
     let share = share_of_first(window.0, parts.len(), behind);
+    cut_leaves(leaves, begun, sizes, index + 1, last);
     replace_two(
         leaves,
         index,
@@ -353,83 +406,180 @@ fn put_across<A: Allocator + Copy>(
     recount(leaves.as_slice(), begun, sizes, index);
 }
 
-/// The runs from an index of one leaf up to an index of the next one; `None` where they are many.
-fn runs_across(
-    first: &[Run],
+/// Puts runs behind those before an index of a leaf, instead of all that come behind these up to the end
+/// of a later leaf; the leaves behind the first one go.
+fn put_in_first<A: Allocator + Copy>(
+    leaves: &mut Vec<Leaf<A>, A>,
+    begun: &mut Tally<A>,
+    sizes: &mut Tally<A>,
+    ends: (usize, usize),
     low: usize,
-    second: &[Run],
-    high: usize,
-) -> Option<ArrayVec<Run, MAX_PARTS>>
-    requires low { low ≤ length first.now }
-    requires high { high ≤ length second.now }
-    ensures { IfSome result (λ runs. runs.items ≡ drop low first.now ++ take high second.now) }
+    runs: &[Run],
+    joins: u8,
+)
+    requires leaves { AreLeaves leaves.old.items }
+    requires old { AreRuns (runs_in leaves.old.items)
+        × EndBy page_count (runs_in leaves.old.items) }
+    requires order { ends.0 < ends.1 }
+    requires bound { ends.1 < length leaves.old.items }
+    requires low { low ≤ length (leaf_at leaves.old.items ends.0) }
+    requires leaf { IsLeaf (take low (leaf_at leaves.old.items ends.0) ++ runs.now) }
+    requires begun { BeginIn [] leaves.old.items begun.old }
+    requires sizes { sizes.old ≡ map length leaves.old.items }
+    requires grows { GrowsSome leaves.old.items ends
+        (take low (leaf_at leaves.old.items ends.0) ++ runs.now) }
+    requires new { AreRuns (runs_instead leaves.old.items ends
+        (take low (leaf_at leaves.old.items ends.0) ++ runs.now)) }
+    requires ends { EndBy page_count (runs_instead leaves.old.items ends
+        (take low (leaf_at leaves.old.items ends.0) ++ runs.now)) }
+    ensures leaves { AreLeaves leaves.new.items }
+    ensures runs { runs_in leaves.new.items ≡ runs_instead leaves.old.items ends
+        (take low (leaf_at leaves.old.items ends.0) ++ runs.now) }
+    ensures begun { BeginIn [] leaves.new.items begun.new }
+    ensures sizes { sizes.new ≡ map length leaves.new.items }
+    ensures kept { KeepsLeaves leaves.old.items leaves.new.items ends.0 (ends.1 + 1) }
 {
-    let mut runs = ArrayVec::new();
-    let Ok(()) = runs.try_extend_from_slice(&first[low..]) else {
-        return None;
-    };
-    let Ok(()) = runs.try_extend_from_slice(&second[..high]) else {
-        return None;
-    };
-    Some(runs)
+    let (index, last) = ends;
+    cut_leaves(leaves, begun, sizes, index + 1, last + 1);
+    let count = leaves[index].runs().len();
+    leaves[index].replace(low, count, runs, joins);
+    recount_one(leaves.as_slice(), begun, sizes, index);
 }
 
-/// Gives the pages of a range a type and an owner within the two leaves that have all runs near it, and
-/// returns how many entries the map then has; `None`, and nothing changes, where many runs are near it,
-/// the leaves have no room for the runs that come, or few runs are left in them. It takes no memory.
+/// Replaces the runs from an index of one leaf up to an index of a later one by parts, and returns whether
+/// it does: the first and the last of these leaves may have no room for them. Few runs come
+/// in the first one alone. It takes no memory; what comes into `parts` is lost.
+fn put_between<A: Allocator + Copy>(
+    leaves: &mut Vec<Leaf<A>, A>,
+    begun: &mut Tally<A>,
+    sizes: &mut Tally<A>,
+    ends: (usize, usize),
+    window: (usize, usize),
+    parts: &mut Vec<Run, A>,
+    joins: u8,
+) -> bool
+    requires leaves { AreLeaves leaves.old.items }
+    requires old { AreRuns (runs_in leaves.old.items)
+        × EndBy page_count (runs_in leaves.old.items) }
+    requires order { ends.0 < ends.1 }
+    requires bound { ends.1 < length leaves.old.items }
+    requires low { window.0 ≤ length (leaf_at leaves.old.items ends.0) }
+    requires high { window.1 ≤ length (leaf_at leaves.old.items ends.1) }
+    requires begun { BeginIn [] leaves.old.items begun.old }
+    requires sizes { sizes.old ≡ map length leaves.old.items }
+    requires grows { GrowsSome leaves.old.items ends
+        (put_across leaves.old.items ends window parts.old.items) }
+    requires new { AreRuns (runs_instead leaves.old.items ends
+        (put_across leaves.old.items ends window parts.old.items)) }
+    requires ends { EndBy page_count (runs_instead leaves.old.items ends
+        (put_across leaves.old.items ends window parts.old.items)) }
+    ensures leaves { IsTrue result → AreLeaves leaves.new.items }
+    ensures runs { IsTrue result → runs_in leaves.new.items ≡ runs_instead leaves.old.items ends
+        (put_across leaves.old.items ends window parts.old.items) }
+    ensures begun { IsTrue result → BeginIn [] leaves.new.items begun.new }
+    ensures sizes { IsTrue result → sizes.new ≡ map length leaves.new.items }
+    ensures kept { IsTrue result
+        → KeepsLeaves leaves.old.items leaves.new.items ends.0 (ends.1 + 1) }
+    ensures none { result ≡ false → (leaves.new.items ≡ leaves.old.items)
+        × (begun.new ≡ begun.old) × (sizes.new ≡ sizes.old) }
+{
+    let behind = &leaves[ends.1].runs()[window.1..];
+    let count = window.0 + parts.len() + behind.len();
+    if parts.is_empty() || count > 2 * LEAF_SIZE {
+        return false;
+    }
+    if count > JOINED_SIZE + 2 {
+        put_across(leaves, begun, sizes, ends, window, parts.as_slice(), joins);
+        return true;
+    }
+    let Ok(()) = parts.extend_from_slice(behind) else {
+        return false;
+    };
+    put_in_first(
+        leaves,
+        begun,
+        sizes,
+        ends,
+        window.0,
+        parts.as_slice(),
+        joins,
+    );
+    true
+}
+
+/// Puts into an empty list the runs from an index of one leaf up to an index of a later one, in which the
+/// pages of a range have a type and an owner.
+fn push_across<A: Allocator + Copy>(
+    parts: &mut Vec<Run, A>,
+    leaves: &[Leaf<A>],
+    ends: (usize, usize),
+    window: (usize, usize),
+    range: PageRange,
+    mtype: MemoryType,
+    owner: Owner,
+) -> Result<(), AllocError>
+    requires empty { parts.old.items ≡ [] }
+    requires order { ends.0 < ends.1 }
+    requires bound { ends.1 < length leaves.now }
+    requires low { window.0 ≤ length (leaf_at leaves.now ends.0) }
+    requires high { window.1 ≤ length (leaf_at leaves.now ends.1) }
+    requires runs { AreRuns (runs_between leaves.now ends window) }
+    requires ends { EndBy page_count (runs_between leaves.now ends window) }
+    requires within { range.first + range.pages ≤ page_count }
+    ensures pages { OnOk result (RetypesRuns range mtype owner
+        (runs_between leaves.now ends window) parts.new.items) }
+    ensures order { OnOk result (AreMaximalRuns parts.new.items) }
+{
+    let (first, last) = ends;
+    let (low, high) = window;
+    push_behind(parts, &leaves[first].runs()[low..], range, mtype, owner)?;
+    let between = &leaves[first + 1..last];
+    for leaf in between {
+        push_behind(parts, leaf.runs(), range, mtype, owner)?;
+    }
+    push_behind(parts, &leaves[last].runs()[..high], range, mtype, owner)
+}
+
+/// Gives the pages of a range a type and an owner within leaves that have all runs near it, the first and
+/// the last of which have two indices, and returns how many entries the map then has; `None`, and
+/// nothing changes, where these two have no room for the runs that come. It takes no memory.
 fn retype_across<A: Allocator + Copy>(
     leaves: &mut Vec<Leaf<A>, A>,
     begun: &mut Tally<A>,
     sizes: &mut Tally<A>,
     entries: usize,
-    index: usize,
+    ends: (usize, usize),
     range: PageRange,
     mtype: MemoryType,
     owner: Owner,
-    parts: &mut ArrayVec<Run, MAX_PARTS>,
+    parts: &mut Vec<Run, A>,
 ) -> Option<usize>
     requires table { IsLeafTable leaves.old.items entries begun.old sizes.old }
-    requires near { AreLeavesNear leaves.old.items range index (index + 2) }
+    requires near { AreLeavesNear leaves.old.items range ends.0 (ends.1 + 1) }
+    requires several { ends.0 < ends.1 }
     requires some { 0 < range.pages }
     requires present { AllInRange (pages_of (runs_in leaves.old.items)) range IsPresent }
     requires owner { mtype ≡ conventional → owner ≡ Given }
     ensures table { IfSome result (λ n. IsLeafTable leaves.new.items n begun.new sizes.new) }
     ensures pages { OnSome result (Retypes range mtype owner leaves.old.items leaves.new.items) }
     ensures kept { OnSome result
-        (KeepsLeaves leaves.old.items leaves.new.items index (index + 2)) }
+        (KeepsLeaves leaves.old.items leaves.new.items ends.0 (ends.1 + 1)) }
     ensures none { IfNone result ((leaves.new.items ≡ leaves.old.items) × (begun.new ≡ begun.old)
         × (sizes.new ≡ sizes.old)) }
 {
-    let first = leaves[index].runs();
-    let second = leaves[index + 1].runs();
-    let low = count_ending_below(first, range.first);
-    let high = count_beginning_by(second, range.first + range.pages);
-    let near_runs = runs_across(first, low, second, high)?;
-    let gone = near_runs.as_slice();
+    let low = count_ending_below(leaves[ends.0].runs(), range.first);
+    let high = count_beginning_by(leaves[ends.1].runs(), range.first + range.pages);
+    let window = (low, high);
     parts.clear();
-    let Ok(()) = push_retyped(parts, gone, range, mtype, owner) else {
+    let all = leaves.as_slice();
+    let Ok(()) = push_across(parts, all, ends, window, range, mtype, owner) else {
         return None;
     };
-    let come = parts.as_slice();
-    let count = low + come.len() + (second.len() - high);
-    if come.is_empty() || count <= JOINED_SIZE || count > 2 * LEAF_SIZE {
+    let joins = most_joins(leaves.len(), mtype);
+    if !put_between(leaves, begun, sizes, ends, window, parts, joins) {
         return None;
     }
-    let old_entries = count_entries(gone);
-    let new_entries = count_entries(come);
-    let entries_of = (old_entries, new_entries);
-    let joins = most_joins(leaves.len(), mtype);
-    put_across(
-        leaves,
-        begun,
-        sizes,
-        index,
-        (low, high),
-        come,
-        entries_of,
-        joins,
-    );
-    Some(entries + new_entries - old_entries)
+    Some(begun.sum())
 }
 
 /// Gives the pages of a range a type and an owner by new leaves instead of those that have all runs near it, and returns how many entries the map then has. All memory is taken before the leaves
@@ -477,8 +627,8 @@ fn retype_in_new_leaves<A: Allocator + Copy>(
 }
 
 /// Gives the pages of a range a type and an owner, and returns how many entries the map then has: in
-/// the leaf or the two leaves of the range where these have room, and else in new leaves. `parts` is room
-/// for the runs that come, an array that is not made anew for each change.
+/// the leaves of the range where these have room, and else in new leaves. `parts` is room for the runs
+/// that come, an array that is not made anew for each change.
 pub(crate) fn retype_runs<A: Allocator + Copy>(
     leaves: &mut Vec<Leaf<A>, A>,
     begun: &mut Tally<A>,
@@ -488,7 +638,7 @@ pub(crate) fn retype_runs<A: Allocator + Copy>(
     range: PageRange,
     mtype: MemoryType,
     owner: Owner,
-    parts: &mut ArrayVec<Run, MAX_PARTS>,
+    parts: &mut Vec<Run, A>,
 ) -> Result<usize, AllocError>
     requires table { IsLeafTable leaves.old.items entries begun.old sizes.old }
     requires near { AreLeavesNear leaves.old.items range near.0 near.1 }
@@ -502,13 +652,16 @@ pub(crate) fn retype_runs<A: Allocator + Copy>(
         × (sizes.new ≡ sizes.old)) }
 {
     let changed = match near.1 - near.0 {
+        0 => None,
         1 => retype_in_leaf(
             leaves, begun, sizes, entries, near.0, range, mtype, owner, parts,
         ),
-        2 => retype_across(
-            leaves, begun, sizes, entries, near.0, range, mtype, owner, parts,
-        ),
-        _ => None,
+        _ => {
+            let ends = (near.0, near.1 - 1);
+            retype_across(
+                leaves, begun, sizes, entries, ends, range, mtype, owner, parts,
+            )
+        }
     };
     if let Some(entries) = changed {
         return Ok(entries);

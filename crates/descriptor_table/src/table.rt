@@ -10,7 +10,7 @@ ghost use Rattle.descriptor_table.specs.Leaves.{runs_in, AreLeaves};
 ghost use Rattle.descriptor_table.specs.Tables.{EndBy, HoldsPage};
 
 use crate::cursors::RunCursor;
-use crate::cuts::RunList;
+use crate::cuts::push_joined;
 use crate::entries::{MapEntries, count_entries};
 use crate::entries_down::EntriesDown;
 use crate::entry_starts::begun_in;
@@ -21,7 +21,6 @@ use crate::leaves::{Leaf, leaves_of, sizes_of};
 use crate::retyping::{MAX_PARTS, leaves_near, retype_runs};
 use crate::searches::PageTest;
 use crate::tallies::Tally;
-use arrayvec::ArrayVec;
 use page_ranges::{Descriptor, MemoryType, Owner, PageRange, Run};
 use std::alloc::{AllocError, Allocator, Global};
 use std::marker::Model;
@@ -39,7 +38,7 @@ pub struct RunTable<A: Allocator = Global> {
     // What the free runs of groups of leaves may be.
     groups: Vec<Group, A>,
     // Room for the runs that replace others in a change.
-    parts: Box<ArrayVec<Run, MAX_PARTS>, A>,
+    parts: Vec<Run, A>,
 }
 
 impl<A: Allocator> Model for RunTable<A> {
@@ -66,7 +65,7 @@ impl<A: Allocator + Copy> RunTable<A> {
     {
         let mut joined = Vec::new(alloc);
         for run in runs {
-            joined.push_joined(*run)?;
+            push_joined(&mut joined, *run)?;
         }
         let entries = count_entries(joined.as_slice());
         let leaves = leaves_of(alloc, joined.as_slice())?;
@@ -74,7 +73,7 @@ impl<A: Allocator + Copy> RunTable<A> {
         let sizes = Tally::new(alloc, sizes_of(alloc, leaves.as_slice())?)?;
         let mut groups = Vec::new(alloc);
         make_groups(leaves.as_slice(), &mut groups);
-        let parts = Box::new(alloc, ArrayVec::new())?;
+        let parts = Vec::with_capacity(alloc, MAX_PARTS)?;
         Ok(RunTable {
             leaves,
             begun,

@@ -2,6 +2,7 @@
 ghost use Rattle.std.specs.Prelude.{◌≡◌, ◌+◌, ◌-◌, ◌<◌, ◌≤◌, ◌^◌, ◌++◌, length, set, take, drop, slice_index_or, IfOk};
 ghost use Rattle.descriptor_table.specs.Tallies.{total, AreGroupSums};
 
+use crate::replacing::cut_out;
 use std::alloc::{AllocError, Allocator, Global};
 use std::marker::Model;
 
@@ -54,6 +55,21 @@ fn group_sums<A: Allocator + Copy>(
     Ok(sums)
 }
 
+/// Adds the sums of the groups that have none. Where memory for them is refused, the last groups have
+/// none.
+fn add_sums<A: Allocator + Copy>(numbers: &[u8], sums: &mut Vec<usize, A>)
+    requires { AreGroupSums numbers.now sums.old.items }
+    ensures { AreGroupSums numbers.now sums.new.items }
+{
+    for group in sums.len()..numbers.len() / GROUP_SIZE {
+        let first = group * GROUP_SIZE;
+        let sum = sum_of(&numbers[first..first + GROUP_SIZE]);
+        let Ok(()) = sums.push(sum) else {
+            return;
+        };
+    }
+}
+
 /// Small numbers in a row, with the sums of groups of them.
 #[derive(Drop)]
 pub(crate) struct Tally<A: Allocator = Global> {
@@ -103,6 +119,18 @@ impl<A: Allocator + Copy> Tally<A> {
         let kept = (from / GROUP_SIZE).min(self.sums.len());
         let sums = group_sums(alloc, all.as_slice(), &self.sums[..kept])?;
         Ok(Tally { numbers: all, sums })
+    }
+
+    /// Takes out the numbers between two indices. It takes no memory that it could not do without.
+    pub(crate) fn cut_out(&mut self, from: usize, to: usize)
+        requires order { from ≤ to }
+        requires bound { to ≤ length self.old }
+        ensures { self.new ≡ take from self.old ++ drop to self.old }
+    {
+        cut_out(&mut self.numbers, from, to - from);
+        let known = (from / GROUP_SIZE).min(self.sums.len());
+        self.sums.truncate(known);
+        add_sums(self.numbers.as_slice(), &mut self.sums);
     }
 
     /// The number at an index.

@@ -3,11 +3,12 @@ ghost use Rattle.std.specs.Prelude.{◌≢◌};
 ghost use Rattle.page_ranges.specs.MemoryTypes.{conventional};
 
 use super::table_changes::{
-    assert_table, change_list, change_table, large_machine, listed, made_anew, stripe,
+    assert_table, change_list, change_table, large_machine, listed, made_anew, next_draw, stripe,
 };
 use descriptor_table::RunTable;
 use page_ranges::{Owner, PageRange, Run};
 use refusing_memory::Refusing;
+use std::alloc::Allocator;
 use std::process::Abort;
 
 // Changes a range of a table made anew, with its first allocation refused, then the second one and so on, until none
@@ -70,4 +71,87 @@ fn a_change_that_fits_takes_no_memory(rt: HostRuntime) {
 #[test]
 fn refused_changes_leave_the_table(rt: HostRuntime) {
     assert!(rt; most_taken(&rt, 192, 72) > 5);
+}
+
+// How many leaves have runs that share a page with a range or touch it, and whether one of them has no room for two
+// runs more.
+fn leaves_near<A: Allocator + Copy>(table: &RunTable<A>, range: PageRange) -> (usize, bool) {
+    let mut near = 0_usize;
+    let mut is_full = false;
+    for leaf in table.leaves() {
+        let runs = leaf.runs();
+        let (Some(first), Some(last)) = (runs.first(), runs.last()) else {
+            continue;
+        };
+        let end = last.range.first.saturating_add(last.range.pages);
+        if first.range.first <= range.first.saturating_add(range.pages) && range.first <= end {
+            near = near.saturating_add(1);
+            is_full = is_full || runs.len() > 30;
+        }
+    }
+    (near, is_full)
+}
+
+// Changes a range while all memory is refused, and with memory where that fails, which it does only where a leaf near
+// the range is full. Returns how many leaves were near the range, or 0 where it failed.
+fn change_without_memory<B: Allocator>(
+    rt: &(impl AllocGlobal + Abort),
+    heap: &Refusing<B>,
+    table: &mut RunTable<&Refusing<B>>,
+    list: &mut [Run],
+    range: PageRange,
+    number: u32,
+) -> usize
+    requires { number ≢ conventional }
+{
+    let (near, is_full) = leaves_near(table, range);
+    heap.refuse_from(1);
+    let answer = change_table(table, range, number);
+    heap.refuse(0);
+    if answer.is_err() {
+        assert!(rt; is_full);
+        assert_table(rt, table, list);
+        change_table(table, range, number).expect(rt, "memory");
+    }
+    change_list(list, range, number, Owner::Pages);
+    assert_table(rt, table, list);
+    if answer.is_err() { 0 } else { near }
+}
+
+// Ranges over up to five leaves. Leaves come to have few runs, and are joined.
+#[test]
+fn changes_over_leaves_take_no_memory(rt: HostRuntime) {
+    let heap = Refusing::new(rt.alloc());
+    let mut list = listed(&rt, &large_machine());
+    let mut striped = RunTable::from_runs(rt.alloc(), &large_machine()).expect(&rt, "memory");
+    stripe(&rt, &mut striped, list.as_mut_slice(), 0, 2_048);
+    let mut table = made_anew(&rt, &heap, &striped);
+    let mut most = 0;
+    let mut served = 0_usize;
+    let mut draw = 5;
+    for _change in 0..600 {
+        draw = next_draw(draw);
+        let range = PageRange {
+            first: draw >> 30 & 2_047,
+            pages: match draw >> 44 & 15 {
+                0 => 150,
+                pages => pages & 3,
+            },
+        };
+        let number = if draw >> 50 & 1 == 0 { 4 } else { 5 };
+        let near = change_without_memory(
+            &rt,
+            &heap,
+            &mut table,
+            list.as_mut_slice(),
+            range,
+            number,
+        );
+        most = near.max(most);
+        if near > 1 {
+            served = served.saturating_add(1);
+        }
+    }
+    assert!(rt; most > 3);
+    assert!(rt; served > 20);
 }

@@ -4,4 +4,4 @@ use Rattle.descriptor_table.proofs.CutRuns.{row_none}
 use Rattle.descriptor_table.proofs.cuts.push_part.Goals as goal
 
 pub returns-then-first-end-clause-pages : goal.returns-then-first-end-clause-pages
-returns-then-first-end-clause-pages g c = row_none (pages_of (g.L.RunList.items c.args.runs.now)) (c.args.end - c.args.first) (page_in c.args.first c.args.run.now) (omega arith)
+returns-then-first-end-clause-pages g c = row_none (pages_of c.args.runs.now.items) (c.args.end - c.args.first) (page_in c.args.first c.args.run.now) (omega arith)

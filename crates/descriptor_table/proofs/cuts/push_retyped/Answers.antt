@@ -1,38 +1,8 @@
-use Rattle.std.proofs.Common.{◌+◌, ◌-◌, ap, ◌∙◌, arith}
-use Rattle.std.proofs.lemmas.List.{take_all}
-use Rattle.page_ranges.specs.Memory.{row, retyped}
-use Rattle.page_ranges.specs.Runs.{page_in, pages_of}
-use Rattle.page_ranges.proofs.RunLists.{retyped_run}
-use Rattle.descriptor_table.proofs.CutRuns.{three_parts, one_more, put_behind, up_to_next}
+use Rattle.descriptor_table.proofs.CutRuns.{behind_none}
 use Rattle.descriptor_table.proofs.cuts.push_retyped.Goals as goal
 
-pub loop-run-preserved : goal.loop-run-preserved
-loop-run-preserved g c =
-    let i = c.loop-run.invariant in
-    let items = g.L.RunList.items in
-    let r = c.run-item.result in
-    let end = r.range.first + r.range.pages in
-    let low = c.clamp-low.result in
-    let high = c.clamp-high.result in
-    let a = row (low - r.range.first) (page_in r.range.first r) in
-    let b = row (high - low) (page_in low (retyped_run c.args.mtype c.args.owner r)) in
-    let b' = row (high - low) (record { number = low; mtype = c.args.mtype; attributes = c.attributes_as.result; owner = c.args.owner }) in
-    let d = row (end - high) (page_in high r) in
-    let same = ap (λ n. row (high - low) (record { number = low; mtype = c.args.mtype; attributes = n; owner = c.args.owner })) c.attributes_as.ensures in
-    let parts = three_parts c.args.range c.args.mtype c.args.owner r low high (omega arith) (omega arith) (omega arith) (λ h. omega arith) (λ h. (omega arith, omega arith)) (λ h. omega arith) in
-    let put = put_behind (pages_of (items c.loop-run.parts)) (pages_of (items c.push_part.new.runs)) (pages_of (items c.push_part-in-loop-run.new.runs)) (pages_of (items c.push_part-in-loop-run-2.new.runs)) a b b' d
-    c.in_ok-push_part.ensures.pages c.in_ok-push_part-2.ensures.pages same c.in_ok-push_part-3.ensures.pages in
-    record {
-      pages = put ∙ one_more c.args.range c.args.mtype c.args.owner c.args.runs.now c.loop-run.run-index r (omega arith) c.run-item.is (pages_of (items c.loop-run.parts)) a b d i.pages parts;
-      order = c.in_ok-push_part-3.ensures.order.0;
-      next = λ s h e. up_to_next c.args.runs.now (items c.push_part-in-loop-run-2.new.runs) c.loop-run.run-index r s c.requires.runs c.run-item.is h e c.in_ok-push_part-3.ensures.order;
-    }
+pub push_behind-requires-clause-order : goal.push_behind-requires-clause-order
+push_behind-requires-clause-order g c = rw c.requires.empty tt
 
-pub push_part-requires-clause-order : goal.push_part-requires-clause-order
-push_part-requires-clause-order g c = c.loop-run.invariant.next c.run-item.result (omega arith) c.run-item.is
-
-pub returns : goal.returns
-returns g c = record {
-  pages = c.loop-run.invariant.pages ∙ ap (λ rs. retyped c.args.range c.args.mtype c.args.owner (pages_of rs)) (take_all c.loop-run.run-index c.args.runs.now (omega arith));
-  order = c.loop-run.invariant.order;
-}
+pub push_behind-requires-clause-behind : goal.push_behind-requires-clause-behind
+push_behind-requires-clause-behind g c = rw c.requires.empty (behind_none c.args.runs.now)

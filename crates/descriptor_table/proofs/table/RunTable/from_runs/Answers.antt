@@ -22,9 +22,9 @@ push_joined-requires-clause-within g c = proper_end_at c.args.runs.now c.loop-ru
 pub loop-run-preserved : goal.loop-run-preserved
 loop-run-preserved g c =
     record {
-      pages = run_put_behind c.args.runs.now c.loop-run.run-index c.run-item.result (omega arith) c.run-item.is (pages_of c.loop-run.joined.items) (pages_of c.push_joined.new.self.items) c.in_ok-push_joined.ensures.pages c.loop-run.invariant.pages;
+      pages = run_put_behind c.args.runs.now c.loop-run.run-index c.run-item.result (omega arith) c.run-item.is (pages_of c.loop-run.joined.items) (pages_of c.push_joined.new.runs.items) c.in_ok-push_joined.ensures.pages c.loop-run.invariant.pages;
       order = c.in_ok-push_joined.ensures.order.0;
-      next = λ s h e. up_to_next c.args.runs.now c.push_joined.new.self.items c.loop-run.run-index c.run-item.result s c.requires.runs c.run-item.is h e c.in_ok-push_joined.ensures.order;
+      next = λ s h e. up_to_next c.args.runs.now c.push_joined.new.runs.items c.loop-run.run-index c.run-item.result s c.requires.runs c.run-item.is h e c.in_ok-push_joined.ensures.order;
     }
 
 pub count_entries-entries-requires-clause-runs : goal.count_entries-entries-requires-clause-runs
