@@ -132,13 +132,7 @@ impl<A: Allocator + Copy> EfiCore<A> {
     pub(crate) fn return_number(&mut self, reply: Reply<A>, place: &mut u64) -> u64
         ensures status { result ≡ status_number (status_in reply) }
         ensures number { place.new ≡ returned_or place.old (number_in reply) }
-        ensures core { self.new
-            ≡ record {
-              core = self.old.core;
-              certifies = self.old.certifies;
-              last = Some reply;
-              block = LastBlock.Nothing;
-            } }
+        ensures core { self.new ≡ with_last self.old reply LastBlock.Nothing }
     {
         if let Some(number) = number_in(&reply) {
             *place = number;

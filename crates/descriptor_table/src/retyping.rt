@@ -5,7 +5,7 @@ ghost use Rattle.page_ranges.specs.MemoryTypes.{conventional, page_count};
 ghost use Rattle.page_ranges.specs.Memory.{IsPresent, AllInRange, retyped};
 ghost use Rattle.page_ranges.specs.Runs.{pages_of, AreMaximalRuns, AreRuns};
 ghost use Rattle.descriptor_table.specs.Leaves.{leaf_at, runs_in, IsLeaf, AreLeaves, AreLeavesNear, BeginIn, GrowsBy, IsLeafTable};
-ghost use Rattle.descriptor_table.specs.LeafChanges.{AreOtherSizes, BeginInOthers, BeginInRest, GrowsBetween, GrowsIn, GrowsSome, Retypes, RetypesRuns, count_across, leaves_without, put_across, runs_between, runs_instead, runs_with, runs_with_in, with_parts, with_two};
+ghost use Rattle.descriptor_table.specs.LeafChanges.{AreOtherSizes, BeginInOthers, BeginInRest, GrowsAcross, GrowsBehind, GrowsBetween, GrowsIn, Retypes, RetypesRuns, count_across, leaves_without, runs_between, runs_with, runs_with_across, runs_with_behind, runs_with_in, with_parts, with_two};
 ghost use Rattle.descriptor_table.specs.Summaries.{KeepsLeaves};
 ghost use Rattle.descriptor_table.specs.Tables.{EndBy, IsWindow};
 ghost use Rattle.descriptor_table.specs.Tallies.{total};
@@ -378,15 +378,11 @@ fn put_across<A: Allocator + Copy>(
     requires fits { count_across leaves.old.items ends window parts.now ≤ 64 }
     requires begun { BeginIn [] leaves.old.items begun.old }
     requires sizes { sizes.old ≡ map length leaves.old.items }
-    requires grows { GrowsSome leaves.old.items ends
-        (put_across leaves.old.items ends window parts.now) }
-    requires new { AreRuns (runs_instead leaves.old.items ends
-        (put_across leaves.old.items ends window parts.now)) }
-    requires ends { EndBy page_count (runs_instead leaves.old.items ends
-        (put_across leaves.old.items ends window parts.now)) }
+    requires grows { GrowsAcross leaves.old.items ends window parts.now }
+    requires new { AreRuns (runs_with_across leaves.old.items ends window parts.now) }
+    requires ends { EndBy page_count (runs_with_across leaves.old.items ends window parts.now) }
     ensures leaves { AreLeaves leaves.new.items }
-    ensures runs { runs_in leaves.new.items ≡ runs_instead leaves.old.items ends
-        (put_across leaves.old.items ends window parts.now) }
+    ensures runs { runs_in leaves.new.items ≡ runs_with_across leaves.old.items ends window parts.now }
     ensures begun { BeginIn [] leaves.new.items begun.new }
     ensures sizes { sizes.new ≡ map length leaves.new.items }
     ensures kept { KeepsLeaves leaves.old.items leaves.new.items ends.0 (ends.1 + 1) }
@@ -426,15 +422,11 @@ fn put_in_first<A: Allocator + Copy>(
     requires leaf { IsLeaf (take low (leaf_at leaves.old.items ends.0) ++ runs.now) }
     requires begun { BeginIn [] leaves.old.items begun.old }
     requires sizes { sizes.old ≡ map length leaves.old.items }
-    requires grows { GrowsSome leaves.old.items ends
-        (take low (leaf_at leaves.old.items ends.0) ++ runs.now) }
-    requires new { AreRuns (runs_instead leaves.old.items ends
-        (take low (leaf_at leaves.old.items ends.0) ++ runs.now)) }
-    requires ends { EndBy page_count (runs_instead leaves.old.items ends
-        (take low (leaf_at leaves.old.items ends.0) ++ runs.now)) }
+    requires grows { GrowsBehind leaves.old.items ends low runs.now }
+    requires new { AreRuns (runs_with_behind leaves.old.items ends low runs.now) }
+    requires ends { EndBy page_count (runs_with_behind leaves.old.items ends low runs.now) }
     ensures leaves { AreLeaves leaves.new.items }
-    ensures runs { runs_in leaves.new.items ≡ runs_instead leaves.old.items ends
-        (take low (leaf_at leaves.old.items ends.0) ++ runs.now) }
+    ensures runs { runs_in leaves.new.items ≡ runs_with_behind leaves.old.items ends low runs.now }
     ensures begun { BeginIn [] leaves.new.items begun.new }
     ensures sizes { sizes.new ≡ map length leaves.new.items }
     ensures kept { KeepsLeaves leaves.old.items leaves.new.items ends.0 (ends.1 + 1) }
@@ -467,15 +459,11 @@ fn put_between<A: Allocator + Copy>(
     requires high { window.1 ≤ length (leaf_at leaves.old.items ends.1) }
     requires begun { BeginIn [] leaves.old.items begun.old }
     requires sizes { sizes.old ≡ map length leaves.old.items }
-    requires grows { GrowsSome leaves.old.items ends
-        (put_across leaves.old.items ends window parts.old.items) }
-    requires new { AreRuns (runs_instead leaves.old.items ends
-        (put_across leaves.old.items ends window parts.old.items)) }
-    requires ends { EndBy page_count (runs_instead leaves.old.items ends
-        (put_across leaves.old.items ends window parts.old.items)) }
+    requires grows { GrowsAcross leaves.old.items ends window parts.old.items }
+    requires new { AreRuns (runs_with_across leaves.old.items ends window parts.old.items) }
+    requires ends { EndBy page_count (runs_with_across leaves.old.items ends window parts.old.items) }
     ensures leaves { IsTrue result → AreLeaves leaves.new.items }
-    ensures runs { IsTrue result → runs_in leaves.new.items ≡ runs_instead leaves.old.items ends
-        (put_across leaves.old.items ends window parts.old.items) }
+    ensures runs { IsTrue result → runs_in leaves.new.items ≡ runs_with_across leaves.old.items ends window parts.old.items }
     ensures begun { IsTrue result → BeginIn [] leaves.new.items begun.new }
     ensures sizes { IsTrue result → sizes.new ≡ map length leaves.new.items }
     ensures kept { IsTrue result
