@@ -382,7 +382,8 @@ fn put_across<A: Allocator + Copy>(
     requires new { AreRuns (runs_with_across leaves.old.items ends window parts.now) }
     requires ends { EndBy page_count (runs_with_across leaves.old.items ends window parts.now) }
     ensures leaves { AreLeaves leaves.new.items }
-    ensures runs { runs_in leaves.new.items ≡ runs_with_across leaves.old.items ends window parts.now }
+    ensures runs { runs_in leaves.new.items
+        ≡ runs_with_across leaves.old.items ends window parts.now }
     ensures begun { BeginIn [] leaves.new.items begun.new }
     ensures sizes { sizes.new ≡ map length leaves.new.items }
     ensures kept { KeepsLeaves leaves.old.items leaves.new.items ends.0 (ends.1 + 1) }
@@ -461,9 +462,11 @@ fn put_between<A: Allocator + Copy>(
     requires sizes { sizes.old ≡ map length leaves.old.items }
     requires grows { GrowsAcross leaves.old.items ends window parts.old.items }
     requires new { AreRuns (runs_with_across leaves.old.items ends window parts.old.items) }
-    requires ends { EndBy page_count (runs_with_across leaves.old.items ends window parts.old.items) }
+    requires ends { EndBy page_count
+        (runs_with_across leaves.old.items ends window parts.old.items) }
     ensures leaves { IsTrue result → AreLeaves leaves.new.items }
-    ensures runs { IsTrue result → runs_in leaves.new.items ≡ runs_with_across leaves.old.items ends window parts.old.items }
+    ensures runs { IsTrue result
+        → runs_in leaves.new.items ≡ runs_with_across leaves.old.items ends window parts.old.items }
     ensures begun { IsTrue result → BeginIn [] leaves.new.items begun.new }
     ensures sizes { IsTrue result → sizes.new ≡ map length leaves.new.items }
     ensures kept { IsTrue result
