@@ -1,5 +1,5 @@
 -- How large a memory map can be.
-use Rattle.std.proofs.Common.{◌≡◌, ◌≤◌, List, length, sym, subst}
+use Rattle.std.proofs.Common.{◌≤◌, List, length, sym, subst}
 use Rattle.page_ranges.specs.MemoryTypes.{page_count}
 use Rattle.page_ranges.specs.Memory.{Page, IsProperMemory}
 use Rattle.page_ranges.specs.MemoryMap.{memory_map}
