@@ -48,13 +48,17 @@ abbrev pub runs_instead : List (List Run) → ℕ × ℕ → List Run → List R
 runs_instead ls ends runs =
     runs_in (take ends.0 ls) ++ (runs ++ runs_in (drop (ends.1 + 1) ls))
 
--- the same with what `put_across` has
-abbrev pub runs_with_across : List (List Run) → ℕ × ℕ → ℕ × ℕ → List Run → List Run
-runs_with_across ls ends window parts = runs_instead ls ends (put_across ls ends window parts)
+-- the same with parts instead of the runs between an index of the one leaf and one of the other
+abbrev pub with_across : List (List Run) → ℕ × ℕ → ℕ × ℕ → List Run → List Run
+with_across ls ends window parts = runs_instead ls ends (put_across ls ends window parts)
 
--- the same with runs behind those before an index of the first of these leaves
-abbrev pub runs_with_behind : List (List Run) → ℕ × ℕ → ℕ → List Run → List Run
-runs_with_behind ls ends low runs = runs_instead ls ends (take low (leaf_at ls ends.0) ++ runs)
+-- the first runs of a leaf, up to an index, and others behind them
+abbrev pub put_first : List (List Run) → ℕ × ℕ → ℕ → List Run → List Run
+put_first ls ends low runs = take low (leaf_at ls ends.0) ++ runs
+
+-- the runs of all leaves, with those instead of the runs of the leaves from one index to another
+abbrev pub with_first : List (List Run) → ℕ × ℕ → ℕ → List Run → List Run
+with_first ls ends low runs = runs_instead ls ends (put_first ls ends low runs)
 
 -- the leaves without those between two indices
 abbrev pub leaves_without : List (List Run) → ℕ → ℕ → List (List Run)
@@ -89,15 +93,11 @@ GrowsSome ls ends runs = (less : ℕ) × (more : ℕ)
     × GrowsBy (runs_in (take (ends.1 + 1) ls)) (runs_in (take ends.0 ls) ++ runs)
     (runs_in (drop (ends.1 + 1) ls)) less more
 
--- with what `put_across` has
+-- the same of parts instead of the runs between an index of the one leaf and one of the other
 abbrev pub GrowsAcross : List (List Run) → ℕ × ℕ → ℕ × ℕ → List Run → Type 0
 GrowsAcross ls ends window parts = GrowsSome ls ends (put_across ls ends window parts)
 
--- with runs behind those before an index of the first of these leaves
-abbrev pub GrowsBehind : List (List Run) → ℕ × ℕ → ℕ → List Run → Type 0
-GrowsBehind ls ends low runs = GrowsSome ls ends (take low (leaf_at ls ends.0) ++ runs)
-
--- ---- numbers of two leaves
+-- ---- numbers of leaves
 
 -- How many entries begin in each leaf is right, but for the leaf at an index and the next one.
 abbrev pub BeginInOthers : List (List Run) → ℕ → List ℕ → Type 0

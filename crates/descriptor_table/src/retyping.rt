@@ -5,7 +5,7 @@ ghost use Rattle.page_ranges.specs.MemoryTypes.{conventional, page_count};
 ghost use Rattle.page_ranges.specs.Memory.{IsPresent, AllInRange, retyped};
 ghost use Rattle.page_ranges.specs.Runs.{pages_of, AreMaximalRuns, AreRuns};
 ghost use Rattle.descriptor_table.specs.Leaves.{leaf_at, runs_in, IsLeaf, AreLeaves, AreLeavesNear, BeginIn, GrowsBy, IsLeafTable};
-ghost use Rattle.descriptor_table.specs.LeafChanges.{AreOtherSizes, BeginInOthers, BeginInRest, GrowsAcross, GrowsBehind, GrowsBetween, GrowsIn, Retypes, RetypesRuns, count_across, leaves_without, runs_between, runs_with, runs_with_across, runs_with_behind, runs_with_in, with_parts, with_two};
+ghost use Rattle.descriptor_table.specs.LeafChanges.{AreOtherSizes, BeginInOthers, BeginInRest, GrowsAcross, GrowsBetween, GrowsIn, GrowsSome, Retypes, RetypesRuns, count_across, leaves_without, put_first, runs_between, runs_with, runs_with_in, with_across, with_first, with_parts, with_two};
 ghost use Rattle.descriptor_table.specs.Summaries.{KeepsLeaves};
 ghost use Rattle.descriptor_table.specs.Tables.{EndBy, IsWindow};
 ghost use Rattle.descriptor_table.specs.Tallies.{total};
@@ -22,7 +22,8 @@ use crate::tallies::Tally;
 use page_ranges::{MemoryType, Owner, PageRange, Run};
 use std::alloc::{AllocError, Allocator};
 
-/// Neighbours that have this many runs together, or fewer, are joined when one of them changes.
+/// Neighbours that have this many runs together, or fewer, are joined when one of them changes, by which
+/// they have two more at most.
 const JOINED_SIZE: usize = 24;
 
 /// For how many runs that replace others there is room: as many as two leaves hold, and one more at each
@@ -379,11 +380,10 @@ fn put_across<A: Allocator + Copy>(
     requires begun { BeginIn [] leaves.old.items begun.old }
     requires sizes { sizes.old ≡ map length leaves.old.items }
     requires grows { GrowsAcross leaves.old.items ends window parts.now }
-    requires new { AreRuns (runs_with_across leaves.old.items ends window parts.now) }
-    requires ends { EndBy page_count (runs_with_across leaves.old.items ends window parts.now) }
+    requires new { AreRuns (with_across leaves.old.items ends window parts.now) }
+    requires ends { EndBy page_count (with_across leaves.old.items ends window parts.now) }
     ensures leaves { AreLeaves leaves.new.items }
-    ensures runs { runs_in leaves.new.items
-        ≡ runs_with_across leaves.old.items ends window parts.now }
+    ensures runs { runs_in leaves.new.items ≡ with_across leaves.old.items ends window parts.now }
     ensures begun { BeginIn [] leaves.new.items begun.new }
     ensures sizes { sizes.new ≡ map length leaves.new.items }
     ensures kept { KeepsLeaves leaves.old.items leaves.new.items ends.0 (ends.1 + 1) }
@@ -420,14 +420,15 @@ fn put_in_first<A: Allocator + Copy>(
     requires order { ends.0 < ends.1 }
     requires bound { ends.1 < length leaves.old.items }
     requires low { low ≤ length (leaf_at leaves.old.items ends.0) }
-    requires leaf { IsLeaf (take low (leaf_at leaves.old.items ends.0) ++ runs.now) }
+    requires leaf { IsLeaf (put_first leaves.old.items ends low runs.now) }
     requires begun { BeginIn [] leaves.old.items begun.old }
     requires sizes { sizes.old ≡ map length leaves.old.items }
-    requires grows { GrowsBehind leaves.old.items ends low runs.now }
-    requires new { AreRuns (runs_with_behind leaves.old.items ends low runs.now) }
-    requires ends { EndBy page_count (runs_with_behind leaves.old.items ends low runs.now) }
+    requires grows { GrowsSome leaves.old.items ends
+        (put_first leaves.old.items ends low runs.now) }
+    requires new { AreRuns (with_first leaves.old.items ends low runs.now) }
+    requires ends { EndBy page_count (with_first leaves.old.items ends low runs.now) }
     ensures leaves { AreLeaves leaves.new.items }
-    ensures runs { runs_in leaves.new.items ≡ runs_with_behind leaves.old.items ends low runs.now }
+    ensures runs { runs_in leaves.new.items ≡ with_first leaves.old.items ends low runs.now }
     ensures begun { BeginIn [] leaves.new.items begun.new }
     ensures sizes { sizes.new ≡ map length leaves.new.items }
     ensures kept { KeepsLeaves leaves.old.items leaves.new.items ends.0 (ends.1 + 1) }
@@ -440,8 +441,8 @@ fn put_in_first<A: Allocator + Copy>(
 }
 
 /// Replaces the runs from an index of one leaf up to an index of a later one by parts, and returns whether
-/// it does: the first and the last of these leaves may have no room for them. Few runs come
-/// in the first one alone. It takes no memory; what comes into `parts` is lost.
+/// it does: the first and the last of these leaves may have no room for them. Few runs come in the first
+/// one alone. It takes no memory; what comes into `parts` is lost.
 fn put_between<A: Allocator + Copy>(
     leaves: &mut Vec<Leaf<A>, A>,
     begun: &mut Tally<A>,
@@ -461,12 +462,11 @@ fn put_between<A: Allocator + Copy>(
     requires begun { BeginIn [] leaves.old.items begun.old }
     requires sizes { sizes.old ≡ map length leaves.old.items }
     requires grows { GrowsAcross leaves.old.items ends window parts.old.items }
-    requires new { AreRuns (runs_with_across leaves.old.items ends window parts.old.items) }
-    requires ends { EndBy page_count
-        (runs_with_across leaves.old.items ends window parts.old.items) }
+    requires new { AreRuns (with_across leaves.old.items ends window parts.old.items) }
+    requires ends { EndBy page_count (with_across leaves.old.items ends window parts.old.items) }
     ensures leaves { IsTrue result → AreLeaves leaves.new.items }
     ensures runs { IsTrue result
-        → runs_in leaves.new.items ≡ runs_with_across leaves.old.items ends window parts.old.items }
+        → runs_in leaves.new.items ≡ with_across leaves.old.items ends window parts.old.items }
     ensures begun { IsTrue result → BeginIn [] leaves.new.items begun.new }
     ensures sizes { IsTrue result → sizes.new ≡ map length leaves.new.items }
     ensures kept { IsTrue result
@@ -533,7 +533,8 @@ fn push_across<A: Allocator + Copy>(
 
 /// Gives the pages of a range a type and an owner within leaves that have all runs near it, the first and
 /// the last of which have two indices, and returns how many entries the map then has; `None`, and
-/// nothing changes, where these two have no room for the runs that come. It takes no memory.
+/// nothing changes, where these two have no room for the runs that come. It takes no memory for up to
+/// `MAX_PARTS` of these.
 fn retype_across<A: Allocator + Copy>(
     leaves: &mut Vec<Leaf<A>, A>,
     begun: &mut Tally<A>,
