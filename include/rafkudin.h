@@ -70,7 +70,7 @@
  * docs/C.md says what these must do, how to link, and how a firmware builds the library. On x86-64
  * it runs on every processor and may be interrupted anywhere, as it uses no byte below the stack
  * pointer. ReinstallProtocolInterface and ConnectController take up to 8 KB of stack, what changes
- * pages 18 KB, RafkudinMake 20 KB; docs/C.md says what was measured of others. */
+ * pages 16 KB, RafkudinMake 20 KB; docs/C.md says what was measured of others. */
 #ifndef RAFKUDIN_H
 #define RAFKUDIN_H
 
