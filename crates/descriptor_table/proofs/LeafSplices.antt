@@ -115,6 +115,17 @@ near_before ls range low high near h =
       above = near.above;
     }
 
+-- a leaf and the one behind it, or the one before it
+pub pair_next : (ls : List (List Run)) (range : PageRange) (i : ℕ) → AreLeavesNear ls range i (i + 1) → i + 1 < length ls → AreLeavesNear ls range i (i + 2)
+pair_next ls range i near h =
+    let k : i + 1 + 1 ≡ i + 2 = omega arith in
+    subst (AreLeavesNear ls range i) k (near_next ls range i (i + 1) near h)
+
+pub pair_before : (ls : List (List Run)) (range : PageRange) (i : ℕ) → AreLeavesNear ls range i (i + 1) → 0 < i → AreLeavesNear ls range (i - 1) (i - 1 + 2)
+pair_before ls range i near h =
+    let k : i + 1 ≡ i - 1 + 2 = omega (arith, h) in
+    subst (AreLeavesNear ls range (i - 1)) k (near_before ls range i (i + 1) near h)
+
 -- ---- one leaf that changes
 
 pub set_runs : (ls : List (List Run)) (i : ℕ) (x : List Run) → i < length ls → runs_in (set ls i x) ≡ runs_in (take i ls) ++ (x ++ runs_in (drop (suc i) ls))

@@ -26,6 +26,22 @@ use std::alloc::{AllocError, Allocator};
 /// they have two more at most.
 const JOINED_SIZE: usize = 24;
 
+/// A leaf that has no room for more runs shares them with a neighbour, where the two have this many
+/// together, or fewer.
+const SHARED_SIZE: usize = 60;
+
+/// A table with this many leaves, or fewer, shares no runs: full leaves take longer to change, and few
+/// leaves are soon passed.
+const FEW_LEAVES: usize = 64;
+
+/// What a change of leaves comes to: how many entries the map then has, and between which indices are the
+/// leaves that changed.
+#[derive(Clone, Copy)]
+pub(crate) struct Change {
+    pub(crate) entries: usize,
+    pub(crate) near: (usize, usize),
+}
+
 /// For how many runs that replace others there is room: as many as two leaves hold, and one more at each
 /// end of a range. More take memory.
 pub(crate) const MAX_PARTS: usize = 66;
@@ -52,29 +68,27 @@ fn window_of(runs: &[Run], range: PageRange) -> (usize, usize)
     (low, high)
 }
 
-/// Takes a leaf beside another with it, where the two have few runs: they are joined then.
-fn with_neighbour<A: Allocator + Copy>(
+/// The first of two leaves next to each other: a leaf that has all runs near a range, and one beside it,
+/// where the two have at most a number of runs together.
+fn first_of_pair<A: Allocator + Copy>(
     leaves: &[Leaf<A>],
     sizes: &Tally<A>,
     range: PageRange,
-    low: usize,
-    high: usize,
-) -> (usize, usize)
-    requires near { AreLeavesNear leaves.now range low high }
+    index: usize,
+    most: usize,
+) -> Option<usize>
+    requires near { AreLeavesNear leaves.now range index (index + 1) }
     requires sizes { sizes.now ≡ map length leaves.now }
-    ensures { AreLeavesNear leaves.now range result.0 result.1 }
+    ensures { IfSome result (λ first. AreLeavesNear leaves.now range first (first + 2)) }
 {
-    if high - low != 1 {
-        return (low, high);
+    let count = sizes.number(index);
+    if index + 1 < leaves.len() && count + sizes.number(index + 1) <= most {
+        return Some(index);
     }
-    let count = sizes.number(low);
-    if high < leaves.len() && count + sizes.number(high) <= JOINED_SIZE {
-        return (low, high + 1);
+    if index > 0 && count + sizes.number(index - 1) <= most {
+        return Some(index - 1);
     }
-    if low > 0 && count + sizes.number(low - 1) <= JOINED_SIZE {
-        return (low - 1, high);
-    }
-    (low, high)
+    None
 }
 
 /// The indices between which leaves have all runs that share a page with a range or touch it.
@@ -94,7 +108,13 @@ pub(crate) fn leaves_near<A: Allocator + Copy>(
     }
     let low = count_leaves_below(leaves, range.first).saturating_sub(1);
     let high = count_leaves_by_from(leaves, range.first + range.pages, low);
-    with_neighbour(leaves, sizes, range, low, high)
+    if high - low != 1 {
+        return (low, high);
+    }
+    match first_of_pair(leaves, sizes, range, low, JOINED_SIZE) {
+        Some(first) => (first, first + 2),
+        None => (low, high),
+    }
 }
 
 /// Replaces a window of `runs`, which are the runs of leaves next to each other, by parts, and puts all of
@@ -618,8 +638,51 @@ fn retype_in_new_leaves<A: Allocator + Copy>(
     Ok(entries + new_entries - old_entries)
 }
 
-/// Gives the pages of a range a type and an owner, and returns how many entries the map then has: in
-/// the leaves of the range where these have room, and else in new leaves. `parts` is room for the runs
+/// Gives the pages of a range a type and an owner within two leaves, where the one that has all runs near it
+/// has no room for those that come, but shares its runs with a neighbour; `None`, and nothing changes,
+/// where several leaves have the runs near it, or no neighbour has room, or the table has few leaves. It
+/// takes no memory.
+#[inline(never)]
+fn retype_in_pair<A: Allocator + Copy>(
+    leaves: &mut Vec<Leaf<A>, A>,
+    begun: &mut Tally<A>,
+    sizes: &mut Tally<A>,
+    entries: usize,
+    near: (usize, usize),
+    range: PageRange,
+    mtype: MemoryType,
+    owner: Owner,
+    parts: &mut Vec<Run, A>,
+) -> Option<Change>
+    requires table { IsLeafTable leaves.old.items entries begun.old sizes.old }
+    requires near { AreLeavesNear leaves.old.items range near.0 near.1 }
+    requires some { 0 < range.pages }
+    requires present { AllInRange (pages_of (runs_in leaves.old.items)) range IsPresent }
+    requires owner { mtype ≡ conventional → owner ≡ Given }
+    ensures table { IfSome result
+        (λ it. IsLeafTable leaves.new.items it.entries begun.new sizes.new) }
+    ensures pages { OnSome result (Retypes range mtype owner leaves.old.items leaves.new.items) }
+    ensures kept { IfSome result
+        (λ it. KeepsLeaves leaves.old.items leaves.new.items it.near.0 it.near.1) }
+    ensures none { IfNone result ((leaves.new.items ≡ leaves.old.items) × (begun.new ≡ begun.old)
+        × (sizes.new ≡ sizes.old)) }
+{
+    if near.1 - near.0 != 1 || leaves.len() <= FEW_LEAVES {
+        return None;
+    }
+    let first = first_of_pair(leaves.as_slice(), sizes, range, near.0, SHARED_SIZE)?;
+    let ends = (first, first + 1);
+    let entries = retype_across(
+        leaves, begun, sizes, entries, ends, range, mtype, owner, parts,
+    )?;
+    Some(Change {
+        entries,
+        near: (first, first + 2),
+    })
+}
+
+/// Gives the pages of a range a type and an owner: in the leaves that have the runs near it where these
+/// have room, or in one of them and a neighbour, and else in new leaves. `parts` is room for the runs
 /// that come, an array that is not made anew for each change.
 pub(crate) fn retype_runs<A: Allocator + Copy>(
     leaves: &mut Vec<Leaf<A>, A>,
@@ -631,15 +694,17 @@ pub(crate) fn retype_runs<A: Allocator + Copy>(
     mtype: MemoryType,
     owner: Owner,
     parts: &mut Vec<Run, A>,
-) -> Result<usize, AllocError>
+) -> Result<Change, AllocError>
     requires table { IsLeafTable leaves.old.items entries begun.old sizes.old }
     requires near { AreLeavesNear leaves.old.items range near.0 near.1 }
     requires some { 0 < range.pages }
     requires present { AllInRange (pages_of (runs_in leaves.old.items)) range IsPresent }
     requires owner { mtype ≡ conventional → owner ≡ Given }
-    ensures table { IfOk result (λ n. IsLeafTable leaves.new.items n begun.new sizes.new) }
-    ensures pages { IfOk result (λ n. Retypes range mtype owner leaves.old.items leaves.new.items) }
-    ensures kept { IfOk result (λ _. KeepsLeaves leaves.old.items leaves.new.items near.0 near.1) }
+    ensures table { IfOk result
+        (λ it. IsLeafTable leaves.new.items it.entries begun.new sizes.new) }
+    ensures pages { OnOk result (Retypes range mtype owner leaves.old.items leaves.new.items) }
+    ensures kept { IfOk result
+        (λ it. KeepsLeaves leaves.old.items leaves.new.items it.near.0 it.near.1) }
     ensures err { OnErr result ((leaves.new.items ≡ leaves.old.items) × (begun.new ≡ begun.old)
         × (sizes.new ≡ sizes.old)) }
 {
@@ -656,7 +721,14 @@ pub(crate) fn retype_runs<A: Allocator + Copy>(
         }
     };
     if let Some(entries) = changed {
-        return Ok(entries);
+        return Ok(Change { entries, near });
     }
-    retype_in_new_leaves(leaves, begun, sizes, entries, near, range, mtype, owner)
+    let changed = retype_in_pair(
+        leaves, begun, sizes, entries, near, range, mtype, owner, parts,
+    );
+    if let Some(change) = changed {
+        return Ok(change);
+    }
+    let entries = retype_in_new_leaves(leaves, begun, sizes, entries, near, range, mtype, owner)?;
+    Ok(Change { entries, near })
 }

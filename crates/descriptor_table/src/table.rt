@@ -107,7 +107,7 @@ impl<A: Allocator + Copy> RunTable<A> {
         }
         let count = self.leaves.len();
         let near = leaves_near(self.leaves.as_slice(), &self.sizes, range);
-        self.entries = retype_runs(
+        let change = retype_runs(
             &mut self.leaves,
             &mut self.begun,
             &mut self.sizes,
@@ -118,6 +118,8 @@ impl<A: Allocator + Copy> RunTable<A> {
             owner,
             &mut self.parts,
         )?;
+        self.entries = change.entries;
+        let near = change.near;
         renew_groups(self.leaves.as_slice(), &mut self.groups, count, near);
         Ok(())
     }

@@ -5,7 +5,7 @@ ghost use Rattle.page_ranges.specs.MemoryTypes.{conventional};
 use super::table_changes::{
     assert_table, change_list, change_table, large_machine, listed, made_anew, next_draw, stripe,
 };
-use descriptor_table::RunTable;
+use descriptor_table::{Leaf, RunTable};
 use page_ranges::{Owner, PageRange, Run};
 use refusing_memory::Refusing;
 use std::alloc::Allocator;
@@ -73,27 +73,63 @@ fn refused_changes_leave_the_table(rt: HostRuntime) {
     assert!(rt; most_taken(&rt, 192, 72) > 5);
 }
 
-// How many leaves have runs that share a page with a range or touch it, and whether one of them has no room for two
-// runs more.
-fn leaves_near<A: Allocator + Copy>(table: &RunTable<A>, range: PageRange) -> (usize, bool) {
+// Whether a leaf has runs that share a page with a range or touch it, or lie on both sides of it.
+fn is_near<A: Allocator + Copy>(leaf: &Leaf<A>, range: PageRange) -> bool {
+    let runs = leaf.runs();
+    let (Some(first), Some(last)) = (runs.first(), runs.last()) else {
+        return false;
+    };
+    let end = last.range.first.saturating_add(last.range.pages);
+    first.range.first <= range.first.saturating_add(range.pages) && range.first <= end
+}
+
+// How many runs the leaf at an index has; 32 where there is none, as a leaf that has no room.
+fn size_at<A: Allocator + Copy>(table: &RunTable<A>, index: usize) -> usize {
+    match table.leaves().get(index) {
+        Some(leaf) => leaf.runs().len(),
+        None => 32,
+    }
+}
+
+// Whether a leaf that has no room for two runs more has no neighbour to share with either: the two have more than 60
+// runs, or the table has at most 64 leaves.
+fn shares_nothing<A: Allocator + Copy>(table: &RunTable<A>, index: usize) -> bool {
+    let size = size_at(table, index);
+    let before = match index {
+        0 => 32,
+        index => size_at(table, index - 1),
+    };
+    let least = before.min(size_at(table, index.saturating_add(1)));
+    table.leaves().len() <= 64 || size.saturating_add(least) > 60
+}
+
+// How many leaves are near a range, whether one of them has no room for two runs more, and whether it has no neighbour
+// to share with either.
+fn leaves_near<A: Allocator + Copy>(table: &RunTable<A>, range: PageRange) -> (usize, bool, bool) {
     let mut near = 0_usize;
     let mut is_full = false;
-    for leaf in table.leaves() {
-        let runs = leaf.runs();
-        let (Some(first), Some(last)) = (runs.first(), runs.last()) else {
-            continue;
-        };
-        let end = last.range.first.saturating_add(last.range.pages);
-        if first.range.first <= range.first.saturating_add(range.pages) && range.first <= end {
+    let mut is_alone = false;
+    let leaves = table.leaves();
+    for index in 0..leaves.len() {
+        if is_near(&leaves[index], range) {
             near = near.saturating_add(1);
-            is_full = is_full || runs.len() > 30;
+            is_full = is_full || size_at(table, index) > 30;
+            is_alone = is_alone || shares_nothing(table, index);
         }
     }
-    (near, is_full)
+    (near, is_full, is_alone)
+}
+
+// What became of a change while all memory is refused.
+struct Served {
+    // How many leaves were near the range; 0 where the change failed.
+    near: usize,
+    // Whether a leaf took more runs than it had room for.
+    is_shared: bool,
 }
 
 // Changes a range while all memory is refused, and with memory where that fails, which it does only where a leaf near
-// the range is full. Returns how many leaves were near the range, or 0 where it failed.
+// the range is full, and no neighbour shares with it.
 fn change_without_memory<B: Allocator>(
     rt: &(impl AllocGlobal + Abort),
     heap: &Refusing<B>,
@@ -101,21 +137,31 @@ fn change_without_memory<B: Allocator>(
     list: &mut [Run],
     range: PageRange,
     number: u32,
-) -> usize
+) -> Served
     requires { number ≢ conventional }
 {
-    let (near, is_full) = leaves_near(table, range);
+    let (near, is_full, is_alone) = leaves_near(table, range);
+    let runs = table.len();
     heap.refuse_from(1);
     let answer = change_table(table, range, number);
     heap.refuse(0);
     if answer.is_err() {
-        assert!(rt; is_full);
+        assert!(rt; is_full && (is_alone || near > 1));
         assert_table(rt, table, list);
         change_table(table, range, number).expect(rt, "memory");
     }
     change_list(list, range, number, Owner::Pages);
     assert_table(rt, table, list);
-    if answer.is_err() { 0 } else { near }
+    if answer.is_err() {
+        return Served {
+            near: 0,
+            is_shared: false,
+        };
+    }
+    Served {
+        near,
+        is_shared: near == 1 && is_full && table.len() > runs.saturating_add(1),
+    }
 }
 
 // Ranges over up to five leaves. Leaves come to have few runs, and are joined.
@@ -146,7 +192,7 @@ fn changes_over_leaves_take_no_memory(rt: HostRuntime) {
             list.as_mut_slice(),
             range,
             number,
-        );
+        ).near;
         most = near.max(most);
         if near > 1 {
             served = served.saturating_add(1);
@@ -154,4 +200,37 @@ fn changes_over_leaves_take_no_memory(rt: HostRuntime) {
     }
     assert!(rt; most > 3);
     assert!(rt; served > 20);
+}
+
+// Pages in a table of more than 64 leaves, which are full at first. A full leaf beside one that has room takes no
+// memory.
+#[test]
+fn full_leaves_share_with_a_neighbour(rt: HostRuntime) {
+    let heap = Refusing::new(rt.alloc());
+    let mut list = listed(&rt, &large_machine());
+    let mut striped = RunTable::from_runs(rt.alloc(), &large_machine()).expect(&rt, "memory");
+    stripe(&rt, &mut striped, list.as_mut_slice(), 0, 8_192);
+    let mut table = made_anew(&rt, &heap, &striped);
+    let mut shared = 0_usize;
+    let mut draw = 7;
+    for _change in 0..400 {
+        draw = next_draw(draw);
+        let range = PageRange {
+            first: draw >> 30 & 511,
+            pages: 1,
+        };
+        let number = if draw >> 50 & 1 == 0 { 5 } else { 6 };
+        let served = change_without_memory(
+            &rt,
+            &heap,
+            &mut table,
+            list.as_mut_slice(),
+            range,
+            number,
+        );
+        if served.is_shared {
+            shared = shared.saturating_add(1);
+        }
+    }
+    assert!(rt; shared > 5);
 }

@@ -23,6 +23,18 @@ in_order ls low high first end h up below above = elim (cases_lt high low) [
   | inr m ↦ m
 ]
 
+-- the last of the leaves that begin below a range, and those up to the last one that begins by its end
+all_near : (ls : List (List Run)) (range : PageRange) (n k high : ℕ) → AreLeaves ls → AreRuns (runs_in ls) → n ≤ length ls → high ≤ length ls → (n ≡ 0 → k ≡ 0) → (0 < n → k + 1 ≡ n)
+    → AllWithin (λ l. first_page l < range.first) ls 0 n → AllWithin (λ l. range.first + range.pages < first_page l) ls high (length ls) → AreLeavesNear ls range k high
+all_near ls range n k high a b h g none some below above =
+    let order = in_order ls n high range.first (range.first + range.pages) h (omega arith) below above in
+    record {
+      order = elim (cases_lt 0 n) [ inl l ↦ omega (arith, order, some l) | inr m ↦ omega (arith, none (omega arith)) ];
+      bound = g;
+      below = but_last ls n k range.first a b h below none some;
+      above = leaves_begin_above ls high (range.first + range.pages) b (λ j d m u. above j d m u);
+    }
+
 -- in a table of one leaf that leaf has all runs
 one_near : (ls : List (List Run)) (range : PageRange) → length ls ≡ 1 → AreLeavesNear ls range 0 1
 one_near [] range e = absurd (omega arith)
@@ -32,14 +44,17 @@ one_near (l ∷ m ∷ ls) range e = absurd (omega arith)
 pub returns-then-leaves-eq1 : goal.returns-then-leaves-eq1
 returns-then-leaves-eq1 g c = one_near c.args.leaves.now c.args.range (omega arith)
 
-pub with_neighbour-requires-clause-near : goal.with_neighbour-requires-clause-near
-with_neighbour-requires-clause-near g c =
-    let low = c.count_leaves_below in
-    let high = c.count_leaves_by_from-high in
-    let order = in_order c.args.leaves.now low.result high.result c.args.range.first (c.args.range.first + c.args.range.pages) low.ensures.bound (omega arith) low.ensures.below high.ensures.above in
-    record {
-      order = omega arith;
-      bound = omega arith;
-      below = but_last c.args.leaves.now low.result c.saturating_sub-low.result c.args.range.first c.requires.leaves c.requires.runs (omega arith) low.ensures.below (λ e. omega arith) (λ l. omega arith);
-      above = leaves_begin_above c.args.leaves.now high.result (c.args.range.first + c.args.range.pages) c.requires.runs (λ k d m u. high.ensures.above k d m u);
-    }
+pub returns-then-high-low-ne1 : goal.returns-then-high-low-ne1
+returns-then-high-low-ne1 g c =
+    all_near c.args.leaves.now c.args.range c.count_leaves_below.result c.saturating_sub-low.result c.count_leaves_by_from-high.result c.requires.leaves c.requires.runs c.count_leaves_below.ensures.bound (omega arith) (λ e. omega arith) (λ l. omega arith) c.count_leaves_below.ensures.below c.count_leaves_by_from-high.ensures.above
+
+pub first_of_pair-requires-clause-near : goal.first_of_pair-requires-clause-near
+first_of_pair-requires-clause-near g c =
+    let near =
+    all_near c.args.leaves.now c.args.range c.count_leaves_below.result c.saturating_sub-low.result c.count_leaves_by_from-high.result c.requires.leaves c.requires.runs c.count_leaves_below.ensures.bound (omega arith) (λ e. omega arith) (λ l. omega arith) c.count_leaves_below.ensures.below c.count_leaves_by_from-high.ensures.above in
+    let e : c.count_leaves_by_from-high.result ≡ c.saturating_sub-low.result + 1 = omega arith in
+    subst (AreLeavesNear c.args.leaves.now c.args.range c.saturating_sub-low.result) e near
+
+pub returns-in-None : goal.returns-in-None
+returns-in-None g c =
+    all_near c.args.leaves.now c.args.range c.count_leaves_below.result c.saturating_sub-low.result c.count_leaves_by_from-high.result c.requires.leaves c.requires.runs c.count_leaves_below.ensures.bound (omega arith) (λ e. omega arith) (λ l. omega arith) c.count_leaves_below.ensures.below c.count_leaves_by_from-high.ensures.above

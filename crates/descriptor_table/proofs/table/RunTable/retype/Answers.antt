@@ -32,17 +32,17 @@ retype_runs-requires-clause-present g c = rw c.self.view_is c.requires.present
 pub renew_groups-requires-clause-as_many : goal.renew_groups-requires-clause-as_many
 renew_groups-requires-clause-as_many g c = λ same.
     let now = c.as_slice-2.ensures.value in
-    rw now (kept_groups c.self.inside.leaves.items c.retype_runs.new.leaves.items c.self.inside.groups.items c.leaves_near-near.result.0 c.leaves_near-near.result.1 c.self.invariant.groups c.in_ok-self-inside.ensures.kept (omega (arith, same, c.len-count.ensures, ap length now)))
+    rw now (kept_groups c.self.inside.leaves.items c.retype_runs.new.leaves.items c.self.inside.groups.items _ _ c.self.invariant.groups c.in_ok-change.ensures.kept (omega (arith, same, c.len-count.ensures, ap length now)))
 
 pub renew_groups-requires-clause-below : goal.renew_groups-requires-clause-below
 renew_groups-requires-clause-below g c =
-    rw c.as_slice-2.ensures.value (kept_runs c.self.inside.leaves.items c.retype_runs.new.leaves.items c.self.inside.groups.items c.leaves_near-near.result.0 c.leaves_near-near.result.1 c.self.invariant.groups c.in_ok-self-inside.ensures.kept)
+    rw c.as_slice-2.ensures.value (kept_runs c.self.inside.leaves.items c.retype_runs.new.leaves.items c.self.inside.groups.items _ _ c.self.invariant.groups c.in_ok-change.ensures.kept)
 
 pub renew_groups-requires-clause-others : goal.renew_groups-requires-clause-others
 renew_groups-requires-clause-others g c =
-    rw c.as_slice-2.ensures.value (kept_below c.self.inside.leaves.items c.retype_runs.new.leaves.items c.self.inside.groups.items c.leaves_near-near.result.0 c.leaves_near-near.result.1 c.self.invariant.groups c.in_ok-self-inside.ensures.kept)
+    rw c.as_slice-2.ensures.value (kept_below c.self.inside.leaves.items c.retype_runs.new.leaves.items c.self.inside.groups.items _ _ c.self.invariant.groups c.in_ok-change.ensures.kept)
 
 pub invariant_of-self-2 : goal.invariant_of-self-2
 invariant_of-self-2 g c =
-    let table = c.in_ok-self-inside.ensures.table in
+    let table = c.in_ok-change.ensures.table in
     record { table = table.table; leaves = table.leaves; begun = table.begun; sizes = table.sizes; groups = rw c.as_slice-2.ensures.value at c.renew_groups.ensures }
