@@ -30,6 +30,10 @@ const JOINED_SIZE: usize = 24;
 /// together, or fewer.
 const SHARED_SIZE: usize = 60;
 
+/// Three leaves in a row that have this many runs together, or fewer, become two when the middle one
+/// changes.
+const SPREAD_SIZE: usize = 56;
+
 /// A table with this many leaves, or fewer, shares no runs: full leaves take longer to change, and few
 /// leaves are soon passed.
 const FEW_LEAVES: usize = 64;
@@ -91,6 +95,22 @@ fn first_of_pair<A: Allocator + Copy>(
     None
 }
 
+/// Whether a leaf and those on both sides of it have few runs, in a table of many leaves.
+fn fits_in_neighbours<A: Allocator + Copy>(
+    leaves: &[Leaf<A>],
+    sizes: &Tally<A>,
+    index: usize,
+) -> bool
+    requires sizes { sizes.now ≡ map length leaves.now }
+    requires index { index < length leaves.now }
+    ensures { IsTrue result → (0 < index) × (index + 1 < length leaves.now) }
+{
+    if leaves.len() <= FEW_LEAVES || index == 0 || index + 1 >= leaves.len() {
+        return false;
+    }
+    sizes.number(index - 1) + sizes.number(index) + sizes.number(index + 1) <= SPREAD_SIZE
+}
+
 /// The indices between which leaves have all runs that share a page with a range or touch it.
 pub(crate) fn leaves_near<A: Allocator + Copy>(
     leaves: &[Leaf<A>],
@@ -111,10 +131,13 @@ pub(crate) fn leaves_near<A: Allocator + Copy>(
     if high - low != 1 {
         return (low, high);
     }
-    match first_of_pair(leaves, sizes, range, low, JOINED_SIZE) {
-        Some(first) => (first, first + 2),
-        None => (low, high),
+    if let Some(first) = first_of_pair(leaves, sizes, range, low, JOINED_SIZE) {
+        return (first, first + 2);
     }
+    if fits_in_neighbours(leaves, sizes, low) {
+        return (low - 1, high + 1);
+    }
+    (low, high)
 }
 
 /// Replaces a window of `runs`, which are the runs of leaves next to each other, by parts, and puts all of

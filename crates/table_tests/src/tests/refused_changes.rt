@@ -121,6 +121,7 @@ fn leaves_near<A: Allocator + Copy>(table: &RunTable<A>, range: PageRange) -> (u
 }
 
 // What became of a change while all memory is refused.
+#[derive(Clone, Copy)]
 struct Served {
     // How many leaves were near the range; 0 where the change failed.
     near: usize,

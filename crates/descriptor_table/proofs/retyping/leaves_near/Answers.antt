@@ -6,6 +6,7 @@ use Rattle.page_ranges.specs.declared.ranges.Run.{Run}
 use Rattle.page_ranges.specs.Runs.{AreRuns}
 use Rattle.descriptor_table.specs.Leaves.{first_page, runs_in, AreLeaves, AreLeavesNear}
 use Rattle.descriptor_table.proofs.LeafLists.{leaves_end_below, leaves_begin_above}
+use Rattle.descriptor_table.proofs.LeafSplices.{near_next, near_before}
 use Rattle.descriptor_table.proofs.retyping.leaves_near.Goals as goal
 
 -- the runs of all leaves but the last of those that begin below a page end below it
@@ -55,6 +56,20 @@ first_of_pair-requires-clause-near g c =
     let e : c.count_leaves_by_from-high.result ≡ c.saturating_sub-low.result + 1 = omega arith in
     subst (AreLeavesNear c.args.leaves.now c.args.range c.saturating_sub-low.result) e near
 
-pub returns-in-None : goal.returns-in-None
-returns-in-None g c =
+pub fits_in_neighbours-requires-clause-index : goal.fits_in_neighbours-requires-clause-index
+fits_in_neighbours-requires-clause-index g c =
+    let near =
+    all_near c.args.leaves.now c.args.range c.count_leaves_below.result c.saturating_sub-low.result c.count_leaves_by_from-high.result c.requires.leaves c.requires.runs c.count_leaves_below.ensures.bound (omega arith) (λ e. omega arith) (λ l. omega arith) c.count_leaves_below.ensures.below c.count_leaves_by_from-high.ensures.above in
+    omega (arith, near.order, near.bound)
+
+pub returns-then-fits_in_neighbours : goal.returns-then-fits_in_neighbours
+returns-then-fits_in_neighbours g c =
+    let near =
+    all_near c.args.leaves.now c.args.range c.count_leaves_below.result c.saturating_sub-low.result c.count_leaves_by_from-high.result c.requires.leaves c.requires.runs c.count_leaves_below.ensures.bound (omega arith) (λ e. omega arith) (λ l. omega arith) c.count_leaves_below.ensures.below c.count_leaves_by_from-high.ensures.above in
+    let low = c.saturating_sub-low.result in
+    let high = c.count_leaves_by_from-high.result in
+    near_before c.args.leaves.now c.args.range low (high + 1) (near_next c.args.leaves.now c.args.range low high near (omega arith)) (omega arith)
+
+pub returns : goal.returns
+returns g c =
     all_near c.args.leaves.now c.args.range c.count_leaves_below.result c.saturating_sub-low.result c.count_leaves_by_from-high.result c.requires.leaves c.requires.runs c.count_leaves_below.ensures.bound (omega arith) (λ e. omega arith) (λ l. omega arith) c.count_leaves_below.ensures.below c.count_leaves_by_from-high.ensures.above
