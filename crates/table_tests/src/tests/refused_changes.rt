@@ -103,21 +103,31 @@ fn shares_nothing<A: Allocator + Copy>(table: &RunTable<A>, index: usize) -> boo
     table.leaves().len() <= 64 || size.saturating_add(least) > 60
 }
 
-// How many leaves are near a range, whether one of them has no room for two runs more, and whether it has no neighbour
-// to share with either.
-fn leaves_near<A: Allocator + Copy>(table: &RunTable<A>, range: PageRange) -> (usize, bool, bool) {
-    let mut near = 0_usize;
-    let mut is_full = false;
-    let mut is_alone = false;
+// The leaves near a range.
+#[derive(Clone, Copy)]
+struct Near {
+    count: usize,
+    // The most runs of one of them.
+    most: usize,
+    // Whether one of them shares nothing.
+    is_alone: bool,
+}
+
+fn leaves_near<A: Allocator + Copy>(table: &RunTable<A>, range: PageRange) -> Near {
+    let mut near = Near {
+        count: 0,
+        most: 0,
+        is_alone: false,
+    };
     let leaves = table.leaves();
     for index in 0..leaves.len() {
         if is_near(&leaves[index], range) {
-            near = near.saturating_add(1);
-            is_full = is_full || size_at(table, index) > 30;
-            is_alone = is_alone || shares_nothing(table, index);
+            near.count = near.count.saturating_add(1);
+            near.most = near.most.max(size_at(table, index));
+            near.is_alone = near.is_alone || shares_nothing(table, index);
         }
     }
-    (near, is_full, is_alone)
+    near
 }
 
 // What became of a change while all memory is refused.
@@ -141,13 +151,13 @@ fn change_without_memory<B: Allocator>(
 ) -> Served
     requires { number ≢ conventional }
 {
-    let (near, is_full, is_alone) = leaves_near(table, range);
+    let near = leaves_near(table, range);
     let runs = table.len();
     heap.refuse_from(1);
     let answer = change_table(table, range, number);
     heap.refuse(0);
     if answer.is_err() {
-        assert!(rt; is_full && (is_alone || near > 1));
+        assert!(rt; near.most > 30 && (near.is_alone || near.count > 1));
         assert_table(rt, table, list);
         change_table(table, range, number).expect(rt, "memory");
     }
@@ -160,8 +170,9 @@ fn change_without_memory<B: Allocator>(
         };
     }
     Served {
-        near,
-        is_shared: near == 1 && is_full && table.len() > runs.saturating_add(1),
+        near: near.count,
+        is_shared: near.count == 1
+            && near.most.saturating_add(table.len()) > runs.saturating_add(32),
     }
 }
 
