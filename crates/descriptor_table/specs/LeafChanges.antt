@@ -56,7 +56,8 @@ with_across ls ends window parts = runs_instead ls ends (put_across ls ends wind
 abbrev pub put_first : List (List Run) → ℕ × ℕ → ℕ → List Run → List Run
 put_first ls ends low runs = take low (leaf_at ls ends.0) ++ runs
 
--- the runs of all leaves, with those instead of the runs of the leaves from one index to another
+-- the runs of all leaves, where the leaves from one index to another become the first runs of the
+-- first of them, up to an index, and others behind these
 abbrev pub with_first : List (List Run) → ℕ × ℕ → ℕ → List Run → List Run
 with_first ls ends low runs = runs_instead ls ends (put_first ls ends low runs)
 

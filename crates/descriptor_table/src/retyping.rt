@@ -617,8 +617,8 @@ fn retype_across<A: Allocator + Copy>(
     Some(begun.sum())
 }
 
-/// Gives the pages of a range a type and an owner by new leaves instead of those that have all runs near it, and returns how many entries the map then has. All memory is taken before the leaves
-/// change.
+/// Gives the pages of a range a type and an owner by new leaves instead of those that have all runs near it, and
+/// returns how many entries the map then has. All memory is taken before the leaves change.
 fn retype_in_new_leaves<A: Allocator + Copy>(
     leaves: &mut Vec<Leaf<A>, A>,
     begun: &mut Tally<A>,

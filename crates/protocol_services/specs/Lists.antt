@@ -30,7 +30,7 @@ pub record HasRoomAfter (last_number last_stamp : ℕ) : Type 0 where
   pub numbers : last_number < 2 ^ 61
   pub stamps : last_stamp + 1 < 2 ^ 61
 
--- so are those of the lists
+-- the last number and the last stamp of the lists are far enough from their ends for any call
 abbrev pub HasRoom : Lists → Type 0
 HasRoom l = HasRoomAfter l.handles.last_number l.handles.last_stamp
 
