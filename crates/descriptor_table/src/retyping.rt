@@ -32,7 +32,7 @@ const SHARED_SIZE: usize = 60;
 
 /// Three leaves in a row that have this many runs together, or fewer, become two when the middle one
 /// changes.
-const SPREAD_SIZE: usize = 56;
+const SPREAD_SIZE: usize = 60;
 
 /// A table with this many leaves, or fewer, shares no runs: full leaves take longer to change, and few
 /// leaves are soon passed.
