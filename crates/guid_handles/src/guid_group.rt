@@ -123,7 +123,7 @@ impl<A: Allocator + Copy> GuidGroup<A> {
         let at = count_less_than_new(self.holders.as_slice(), handle);
         self.keys.reserve()?;
         self.holders.reserve()?;
-        self.turns.push(handle, stamp)?;
+        self.turns.push(handle, stamp, self.holders.len())?;
         self.holders.insert(at, handle);
         self.keys.insert(at, short);
         Ok(())
@@ -135,7 +135,7 @@ impl<A: Allocator + Copy> GuidGroup<A> {
         ensures keys { SetsKeyIn handle None self.old self.new }
         ensures turns { self.new.turns ≡ without_turn stamp self.old.turns }
     {
-        self.turns.remove_stamp(stamp);
+        self.turns.remove_stamp(stamp, self.holders.len());
         let at = count_less(self.holders.as_slice(), handle);
         if is_number_at(self.holders.as_slice(), at, handle) {
             self.holders.remove(at);
@@ -171,6 +171,6 @@ impl<A: Allocator + Copy> GuidGroup<A> {
           turns = moved_turn handle own stamp self.old.turns;
         } }
     {
-        self.turns.restamp(handle, own, stamp);
+        self.turns.restamp(handle, own, stamp, self.holders.len());
     }
 }

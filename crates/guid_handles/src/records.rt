@@ -33,3 +33,10 @@ pub(crate) struct Turn {
     pub(crate) stamp: u64,
     pub(crate) handle: u64,
 }
+
+/// A turn as it is kept, which may be that of an interface that is gone.
+#[derive(Clone, Copy)]
+pub(crate) struct FiledTurn {
+    pub(crate) turn: Turn,
+    pub(crate) gone: bool,
+}
