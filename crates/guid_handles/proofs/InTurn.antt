@@ -1,23 +1,23 @@
 -- The interfaces of a GUID by their stamps: in turn, and in step with all interfaces.
-use Rattle.std.proofs.Common.{◌≡◌, ℕ, zero, suc, ◌+◌, ◌<◌, ◌≤◌, ◌==◌, ◌||◌, nat_lt, not, Bool, true, false, List, [], ◌∷◌, ◌++◌, map, Some, is_some, inl, inr, refl, sym, ap, ◌∙◌, arith, append-nil}
-use Rattle.std.specs.List.{filter, find, list_any, slice_get, insert, remove, AllByRecursion}
-use Rattle.std.proofs.lemmas.Bool.{cases_Bool, and_parts, eq-eqb, ne_eqb, ltb-true, lt-ltb}
+use Rattle.std.proofs.Common.{◌≡◌, ℕ, zero, suc, ◌+◌, ◌<◌, ◌≤◌, ◌==◌, ◌||◌, nat_lt, not, Bool, true, false, List, [], ◌∷◌, ◌++◌, map, Some, inl, inr, refl, sym, ap, ◌∙◌, arith, append-nil}
+use Rattle.std.specs.List.{filter, find, list_any, insert, AllByRecursion}
+use Rattle.std.proofs.lemmas.Bool.{cases_Bool, and_parts, eq-eqb, ne_eqb}
 use Rattle.std.proofs.lemmas.Bool.Decides.{eqb_tells}
 use Rattle.std.proofs.lemmas.Option.{same_Some}
 use Rattle.guid_handles.specs.declared.records.Interface.{Interface}
 use Rattle.guid_handles.specs.declared.records.Turn.{Turn}
 use Rattle.guid_handles.specs.HandleTables.{same_guid, is_of, is_at}
 use Rattle.guid_handles.specs.HandleChanges.{restamped}
-use Rattle.guid_handles.specs.Sorting.{Ascending, place, kept_if}
-use Rattle.guid_handles.specs.Indexes.{Group, AreInTurn, ChangesTurns, HaveSameTurns, is_turn, turns_of, with_turn, without_turn}
+use Rattle.guid_handles.specs.Sorting.{Ascending, place}
+use Rattle.guid_handles.specs.Indexes.{Group, ChangesTurns, HaveSameTurns, is_turn, turns_of, with_turn, without_turn}
 use Rattle.guid_handles.specs.TableSteps.{IsAlone, MayHave}
 use Rattle.guid_handles.specs.TurnSteps.{moved_turn, turn_in}
 use Rattle.guid_handles.specs.Stores.{AreApart, HaveTurns, has_turn}
-use Rattle.guid_handles.proofs.SortedLists.{Falls, all_map, all_both, all_filtered, all_mapped, all_numbered, all_of, any_found, ascending_insert, ascending_push, ascending_remove, filter_at, filter_not_at, filter_whole, find_split, map_append, map_insert, map_remove, numbers_split, place_map}
+use Rattle.guid_handles.proofs.SortedLists.{all_map, all_both, all_filtered, all_of, filter_whole}
 use Rattle.guid_handles.proofs.Filters.{filter_append}
 use Rattle.guid_handles.proofs.GuidOrder.{and_false, and_true, same_guid-true}
 use Rattle.guid_handles.proofs.Indexed.{at_handle, at_guid, turned}
-use Rattle.guid_handles.proofs.Grouped.{above, is_same}
+use Rattle.guid_handles.proofs.Grouped.{is_same}
 use Rattle.guid_handles.proofs.Filed.{at_other}
 
 -- ---- one comes and goes again

@@ -1,7 +1,7 @@
 use Rattle.std.proofs.Common.{true, refl}
 use Rattle.guid_handles.specs.declared.records.FiledTurn.{FiledTurn}
 use Rattle.guid_handles.proofs.Grouped.{got}
-use Rattle.guid_handles.proofs.FiledTurns.{IsMarked, left_there, marked}
+use Rattle.guid_handles.proofs.FiledTurns.{left_there, marked}
 use Rattle.guid_handles.proofs.turns.mark_gone.Goals as goal
 
 pub returns-clause-filed : goal.returns-clause-filed
