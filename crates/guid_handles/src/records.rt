@@ -25,6 +25,8 @@ pub(crate) struct Record {
     pub(crate) interface: Interface,
     /// The stamp of its installation. Interfaces are in the order of these.
     pub(crate) installed: u64,
+    /// Where its turn was put, and is unless turns went.
+    pub(crate) turn_place: usize,
 }
 
 /// An interface of a GUID, by its stamp.

@@ -1,5 +1,5 @@
 //! The interfaces of one GUID by their stamps.
-ghost use Rattle.std.specs.Prelude.{◌≡◌, ◌<◌, ◌≤◌, ◌==◌, [], true, false, not, length, nat_lt, option_map, vec_len, vec_capacity, IfOk, OnOk, OnErr};
+ghost use Rattle.std.specs.Prelude.{◌≡◌, ◌<◌, ◌≤◌, ◌==◌, [], true, false, not, length, nat_lt, option_map, vec_len, vec_capacity, IfOk, OnOk, OnErr, IfSome, IfNone};
 ghost use Rattle.std.specs.List.{filter, find, list_any, AllByRecursion};
 ghost use Rattle.guid_handles.specs.Sorting.{place};
 ghost use Rattle.guid_handles.specs.Indexes.{AreInTurn, with_turn, without_turn};
@@ -71,6 +71,33 @@ fn is_turn_at(turns: &[FiledTurn], at: usize, stamp: u64) -> bool
     match turns.get(at) {
         Some(filed) => filed.turn.stamp == stamp && !filed.gone,
         None => false,
+    }
+}
+
+/// The place of the turn of a stamp that is not gone, found by halving.
+fn halved_place(turns: &[FiledTurn], stamp: u64) -> Option<usize>
+    requires { AreFiledInTurn turns.now }
+    ensures there { IfSome result (λ at. is_left_at stamp turns.now at ≡ true) }
+    ensures none { IfNone result (turns_left turns.now ≡ without_turn stamp (turns_left turns.now)) }
+{
+    let at = count_lower(turns, stamp);
+    if is_turn_at(turns, at, stamp) {
+        Some(at)
+    } else {
+        None
+    }
+}
+
+/// The place of the turn of a stamp that is not gone. It is likely where it was put.
+fn place_of(turns: &[FiledTurn], stamp: u64, likely: usize) -> Option<usize>
+    requires { AreFiledInTurn turns.now }
+    ensures there { IfSome result (λ at. is_left_at stamp turns.now at ≡ true) }
+    ensures none { IfNone result (turns_left turns.now ≡ without_turn stamp (turns_left turns.now)) }
+{
+    if is_turn_at(turns, likely, stamp) {
+        Some(likely)
+    } else {
+        halved_place(turns, stamp)
     }
 }
 
@@ -225,26 +252,26 @@ impl<A: Allocator + Copy> Turns<A> {
         first_left(&turns[count_up_to(turns, mark)..])
     }
 
-    /// Adds the turn of a handle, whose stamp is above all others. Of the interfaces that have a turn some
-    /// are left, about as many as `left` says. On an `Err` the turns are as they were.
-    pub(crate) fn push(&mut self, handle: u64, stamp: u64, left: usize) -> Result<(), AllocError>
+    /// Adds the turn of a handle, whose stamp is above all others, and returns where it is. About `left`
+    /// interfaces are not gone. On an `Err` the turns are as they were.
+    pub(crate) fn push(&mut self, handle: u64, stamp: u64, left: usize) -> Result<usize, AllocError>
         requires { AllByRecursion (λ t. t.stamp < stamp) self.old }
         ensures ok { OnOk result (self.new ≡ with_turn handle stamp self.old) }
         ensures err { OnErr result (self.new ≡ self.old) }
     {
         make_room(&mut self.turns, left)?;
         clear_above(&mut self.turns, stamp);
+        let place = self.turns.len();
         let turn = Turn { stamp, handle };
         push_with_room(&mut self.turns, FiledTurn { turn, gone: false });
-        Ok(())
+        Ok(place)
     }
 
-    /// Removes the turn of a stamp, where about `left` interfaces are left.
-    pub(crate) fn remove_stamp(&mut self, stamp: u64, left: usize)
+    /// Removes the turn of a stamp, which is likely at a place, where about `left` interfaces are left.
+    pub(crate) fn remove_stamp(&mut self, stamp: u64, likely: usize, left: usize)
         ensures { self.new ≡ without_turn stamp self.old }
     {
-        let at = count_lower(self.turns.as_slice(), stamp);
-        if is_turn_at(self.turns.as_slice(), at, stamp) {
+        if let Some(at) = place_of(self.turns.as_slice(), stamp, likely) {
             mark_gone(&mut self.turns, at, stamp);
             tidy(&mut self.turns, most_turns(left));
         }
