@@ -78,7 +78,8 @@ fn is_turn_at(turns: &[FiledTurn], at: usize, stamp: u64) -> bool
 fn halved_place(turns: &[FiledTurn], stamp: u64) -> Option<usize>
     requires { AreFiledInTurn turns.now }
     ensures there { IfSome result (λ at. is_left_at stamp turns.now at ≡ true) }
-    ensures none { IfNone result (turns_left turns.now ≡ without_turn stamp (turns_left turns.now)) }
+    ensures none { IfNone result
+        (turns_left turns.now ≡ without_turn stamp (turns_left turns.now)) }
 {
     let at = count_lower(turns, stamp);
     if is_turn_at(turns, at, stamp) {
@@ -92,7 +93,8 @@ fn halved_place(turns: &[FiledTurn], stamp: u64) -> Option<usize>
 fn place_of(turns: &[FiledTurn], stamp: u64, likely: usize) -> Option<usize>
     requires { AreFiledInTurn turns.now }
     ensures there { IfSome result (λ at. is_left_at stamp turns.now at ≡ true) }
-    ensures none { IfNone result (turns_left turns.now ≡ without_turn stamp (turns_left turns.now)) }
+    ensures none { IfNone result
+        (turns_left turns.now ≡ without_turn stamp (turns_left turns.now)) }
 {
     if is_turn_at(turns, likely, stamp) {
         Some(likely)
