@@ -1,6 +1,6 @@
 -- Rows of handles, some of which are gone: which row is found, and what is left once one has changed.
 use Rattle.std.proofs.Math.ListN.{set}
-use Rattle.std.proofs.Common.{◌≡◌, ℕ, zero, suc, ◌-◌, ◌<◌, ◌==◌, nat_lt, not, Bool, true, false, cond, List, [], ◌∷◌, ◌++◌, map, length, Option, Some, None, is_some, inl, inr, refl, sym, ap, ◌∙◌, arith, subst}
+use Rattle.std.proofs.Common.{◌≡◌, ℕ, zero, suc, ◌<◌, ◌==◌, nat_lt, not, Bool, true, false, cond, List, [], ◌∷◌, ◌++◌, map, length, Option, Some, None, is_some, inl, inr, refl, sym, ap, ◌∙◌, arith, subst}
 use Rattle.std.specs.List.{filter, find, slice_get, AllByRecursion}
 use Rattle.std.specs.Option.{option_map}
 use Rattle.std.proofs.lemmas.Bool.{cases_Bool, eq-eqb, ne_eqb, ltb-true, ltb-false}
@@ -220,26 +220,6 @@ staying_below P (f ∷ fs) a = elim (cases_Bool f.gone) [
   | inl w ↦ rw w (staying_below P fs (rw w at a))
   | inr w ↦ let b = rw w at a in rw w (b.0, staying_below P fs b.1)
 ]
-
--- the last row has the highest number
-pub last_below : (n : ℕ) (fs : List FiledRow) (l : FiledRow) → Ascending (λ a b. a < b) (filed_numbers fs) → slice_get fs (length fs - 1) ≡ Some l → filed_number l < n → AllByRecursion (λ k. k < n) (filed_numbers fs)
-last_below n [] l a e b = tt
-last_below n (x ∷ []) l a e b =
-    let same : x ≡ l = same_Some x l e in
-    (subst (λ (y : FiledRow). filed_number y < n) (sym same) b, tt)
-last_below n (x ∷ y ∷ ys) l a e b =
-    let i : length (x ∷ y ∷ ys) - 1 ≡ suc (length (y ∷ ys) - 1) = omega arith in
-    let rest = last_below n (y ∷ ys) l a.1 (rw i at e) b in
-    (omega (arith, a.0.0, rest.0), rest)
-
-pub none_last : (n : ℕ) (fs : List FiledRow) → slice_get fs (length fs - 1) ≡ None → AllByRecursion (λ k. k < n) (filed_numbers fs)
-none_last n [] e = tt
-none_last n (x ∷ xs) e = absurd (short (x ∷ xs) (length (x ∷ xs) - 1) (omega arith) e)
-  where
-    short : (ys : List FiledRow) (k : ℕ) → k < length ys → slice_get ys k ≡ None → ⊥
-    short [] k l w = omega (arith, l)
-    short (y ∷ ys) zero l w = cc
-    short (y ∷ ys) (suc k) l w = short ys k (omega (arith, l)) w
 
 -- ---- a handle comes or goes
 

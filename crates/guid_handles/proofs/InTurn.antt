@@ -1,77 +1,26 @@
 -- The interfaces of a GUID by their stamps: in turn, and in step with all interfaces.
-use Rattle.std.proofs.Common.{◌≡◌, ℕ, zero, suc, ◌+◌, ◌<◌, ◌≤◌, ◌==◌, ◌||◌, nat_lt, not, Bool, true, false, List, [], ◌∷◌, ◌++◌, map, Some, is_some, inl, inr, refl, sym, ap, ◌∙◌, arith, append-nil}
-use Rattle.std.specs.List.{filter, find, list_any, slice_get, insert, remove, AllByRecursion}
-use Rattle.std.proofs.lemmas.Bool.{cases_Bool, and_parts, eq-eqb, ne_eqb, ltb-true, lt-ltb}
+use Rattle.std.proofs.Common.{◌≡◌, ℕ, zero, suc, ◌+◌, ◌<◌, ◌≤◌, ◌==◌, ◌||◌, nat_lt, not, Bool, true, false, List, [], ◌∷◌, ◌++◌, map, Some, inl, inr, refl, sym, ap, ◌∙◌, arith, append-nil}
+use Rattle.std.specs.List.{filter, find, list_any, insert, AllByRecursion}
+use Rattle.std.proofs.lemmas.Bool.{cases_Bool, and_parts, eq-eqb, ne_eqb}
 use Rattle.std.proofs.lemmas.Bool.Decides.{eqb_tells}
 use Rattle.std.proofs.lemmas.Option.{same_Some}
 use Rattle.guid_handles.specs.declared.records.Interface.{Interface}
 use Rattle.guid_handles.specs.declared.records.Turn.{Turn}
 use Rattle.guid_handles.specs.HandleTables.{same_guid, is_of, is_at}
 use Rattle.guid_handles.specs.HandleChanges.{restamped}
-use Rattle.guid_handles.specs.Sorting.{Ascending, place, kept_if}
-use Rattle.guid_handles.specs.Indexes.{Group, AreInTurn, ChangesTurns, HaveSameTurns, is_turn, turns_of, with_turn, without_turn}
+use Rattle.guid_handles.specs.Sorting.{Ascending, place}
+use Rattle.guid_handles.specs.Indexes.{Group, ChangesTurns, HaveSameTurns, is_turn, turns_of, with_turn, without_turn}
 use Rattle.guid_handles.specs.TableSteps.{IsAlone, MayHave}
 use Rattle.guid_handles.specs.TurnSteps.{moved_turn, turn_in}
 use Rattle.guid_handles.specs.Stores.{AreApart, HaveTurns, has_turn}
-use Rattle.guid_handles.proofs.SortedLists.{Falls, all_map, all_both, all_filtered, all_mapped, all_numbered, all_of, any_found, ascending_insert, ascending_push, ascending_remove, filter_at, filter_not_at, filter_whole, find_split, map_append, map_insert, map_remove, numbers_split, place_map}
+use Rattle.guid_handles.proofs.SortedLists.{all_map, all_both, all_filtered, all_of, filter_whole}
 use Rattle.guid_handles.proofs.Filters.{filter_append}
 use Rattle.guid_handles.proofs.GuidOrder.{and_false, and_true, same_guid-true}
 use Rattle.guid_handles.proofs.Indexed.{at_handle, at_guid, turned}
-use Rattle.guid_handles.proofs.Grouped.{above, is_same}
+use Rattle.guid_handles.proofs.Grouped.{is_same}
 use Rattle.guid_handles.proofs.Filed.{at_other}
 
--- ---- in turn
-
-pub first_passing : {X : Type 0} (p : X → Bool) (xs : List X) → slice_get xs (place (λ x. not (p x)) xs) ≡ find p xs
-first_passing p [] = refl
-first_passing p (x ∷ xs) = elim (cases_Bool (p x)) [
-  | inl t ↦ rw t refl
-  | inr f ↦ rw f (first_passing p xs)
-]
-
-late : (mark m n : ℕ) → m < n → not (nat_lt mark m) ≡ false → not (nat_lt mark n) ≡ false
-late mark m n l h = elim (cases_Bool (nat_lt mark m)) [
-  | inl t ↦ let k : nat_lt mark n ≡ true = lt-ltb mark n (omega (arith, l, ltb-true mark m t)) in rw k refl
-  | inr f ↦ let w : true ≡ false = rw f at h in cc
-]
-
-pub turns_fall : (mark : ℕ) (ts : List Turn) → AreInTurn ts → Falls (λ t. not (nat_lt mark t.stamp)) ts
-turns_fall mark [] a = tt
-turns_fall mark (t ∷ ts) a = (
-  λ h. all_numbered (λ (u : Turn). u.stamp) (λ m. t.stamp < m) (λ m. not (nat_lt mark m) ≡ false) (λ m l. late mark t.stamp m l h) ts a.0,
-  turns_fall mark ts a.1,
-)
-
-pub in_turn_push : (n stamp : ℕ) (ts : List Turn) → AreInTurn ts → AllByRecursion (λ t. t.stamp < stamp) ts → AreInTurn (with_turn n stamp ts)
-in_turn_push n stamp ts a last =
-    rw (map_append (λ (t : Turn). t.stamp) ts (record { stamp = stamp; handle = n } ∷ []))
-    (ascending_push (λ a b. a < b) (map (λ t. t.stamp) ts) stamp a (all_mapped (λ m. m < stamp) (λ t. t.stamp < stamp) (λ (t : Turn). t.stamp) (λ t l. l) ts last))
-
-pub in_turn_remove : (ts : List Turn) (at : ℕ) → AreInTurn ts → AreInTurn (remove ts at)
-in_turn_remove ts at a = rw (map_remove (λ (t : Turn). t.stamp) ts at) (ascending_remove (λ a b. a < b) (map (λ t. t.stamp) ts) at a)
-
-pub in_turn_insert : (n stamp : ℕ) (ts : List Turn) → AreInTurn ts → AllByRecursion (λ t. (t.stamp == stamp) ≡ false) ts → AreInTurn (turn_in n stamp ts)
-in_turn_insert n stamp ts a free =
-    rw (map_insert (λ (t : Turn). t.stamp) ts (place (λ t. nat_lt t.stamp stamp) ts) (record { stamp = stamp; handle = n }), sym (place_map (λ (t : Turn). t.stamp) (λ m. nat_lt m stamp) ts))
-    (ascending_insert (λ x y. x < y) (λ x y z l m. omega (arith, l, m)) (λ m. nat_lt m stamp) (map (λ t. t.stamp) ts) stamp
-    (all_mapped (λ m. (nat_lt m stamp ≡ true → m < stamp) × (nat_lt m stamp ≡ false → stamp < m)) (λ t. (t.stamp == stamp) ≡ false) (λ (t : Turn). t.stamp)
-    (λ t f. (λ e. ltb-true t.stamp stamp e, λ l. above t.stamp stamp f l)) ts free)
-    a)
-
-pub turn_gone : (stamp : ℕ) (ts : List Turn) (at : ℕ) → AreInTurn ts → at ≡ place (λ t. nat_lt t.stamp stamp) ts → is_some (kept_if (λ t. t.stamp == stamp) (slice_get ts at)) ≡ true
-    → remove ts at ≡ without_turn stamp ts
-turn_gone stamp ts at a e s = rw e (sym (filter_at (λ (t : Turn). t.stamp) stamp ts a (rw e at s)))
-
-pub turn_absent : (stamp : ℕ) (ts : List Turn) (at : ℕ) → AreInTurn ts → at ≡ place (λ t. nat_lt t.stamp stamp) ts → is_some (kept_if (λ t. t.stamp == stamp) (slice_get ts at)) ≡ false
-    → ts ≡ without_turn stamp ts
-turn_absent stamp ts at a e s = sym (filter_not_at (λ (t : Turn). t.stamp) stamp ts a (rw e at s))
-
-pub turn_missed : (stamp : ℕ) (ts : List Turn) (at : ℕ) → AreInTurn ts → at ≡ place (λ t. nat_lt t.stamp stamp) ts → is_some (kept_if (λ t. t.stamp == stamp) (slice_get ts at)) ≡ false
-    → list_any (λ t. t.stamp == stamp) ts ≡ true → ⊥
-turn_missed stamp ts at a e s h =
-    let split = numbers_split (λ (t : Turn). t.stamp) stamp ts a in
-    let found = find_split (λ (t : Turn). nat_lt t.stamp stamp) (λ t. t.stamp == stamp) ts split in
-    let w : true ≡ false = sym h ∙ sym (any_found (λ (t : Turn). t.stamp == stamp) ts) ∙ ap is_some found ∙ rw e at s in cc
+-- ---- one comes and goes again
 
 -- a turn that came last and goes again
 pub taken_again : (n stamp : ℕ) (ts : List Turn) → AllByRecursion (λ t. t.stamp < stamp) ts → without_turn stamp (with_turn n stamp ts) ≡ ts

@@ -13,6 +13,7 @@ pub mod SlidRows
 pub mod Slotted
 pub mod Filed
 pub mod InTurn
+pub mod FiledTurns
 pub mod Apart
 pub mod Found
 pub mod Stored

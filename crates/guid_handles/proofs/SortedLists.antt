@@ -483,3 +483,23 @@ last_least n (x ∷ y ∷ ys) l a e b =
 pub all_less : (n : ℕ) (ns : List ℕ) → AllByRecursion (λ m. m < n) ns → length ns ≡ place (λ m. nat_lt m n) ns
 all_less n [] a = refl
 all_less n (m ∷ ms) a = let t : nat_lt m n ≡ true = lt-ltb m n a.0 in rw t (ap suc (all_less n ms a.1))
+
+-- the last of items by ascending numbers has the highest
+pub last_numbered : {X : Type 0} (number : X → ℕ) (n : ℕ) (xs : List X) (l : X) → Ascending (λ a b. a < b) (map number xs) → slice_get xs (length xs - 1) ≡ Some l → number l < n → AllByRecursion (λ k. k < n) (map number xs)
+last_numbered number n [] l a e b = tt
+last_numbered number n (x ∷ []) l a e b =
+    let same : x ≡ l = same_Some x l e in
+    (subst (λ y. number y < n) (sym same) b, tt)
+last_numbered number n (x ∷ y ∷ ys) l a e b =
+    let i : length (x ∷ y ∷ ys) - 1 ≡ suc (length (y ∷ ys) - 1) = omega arith in
+    let rest = last_numbered number n (y ∷ ys) l a.1 (rw i at e) b in
+    (omega (arith, a.0.0, rest.0), rest)
+
+pub none_numbered : {X : Type 0} (number : X → ℕ) (n : ℕ) (xs : List X) → slice_get xs (length xs - 1) ≡ None → AllByRecursion (λ k. k < n) (map number xs)
+none_numbered {X = X} number n [] e = tt
+none_numbered {X = X} number n (x ∷ xs) e = absurd (short (x ∷ xs) (length (x ∷ xs) - 1) (omega arith) e)
+  where
+    short : (ys : List X) (k : ℕ) → k < length ys → slice_get ys k ≡ None → ⊥
+    short [] k l w = omega (arith, l)
+    short (y ∷ ys) zero l w = cc
+    short (y ∷ ys) (suc k) l w = short ys k (omega (arith, l)) w

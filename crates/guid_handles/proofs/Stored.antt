@@ -391,19 +391,19 @@ module _ (rows : List Row) (slots : List (Option Record)) (groups : List Group) 
   at_others new key others j d = ap (option_map (λ r. r.interface)) (others j d)
 
   -- an interface comes
-  pub stored_more : (rs : List Row) (new : List (Option Record)) (gs : List Group) (n : ℕ) (guid : List ℕ) (value key : ℕ)
+  pub stored_more : (rs : List Row) (new : List (Option Record)) (gs : List Group) (n : ℕ) (guid : List ℕ) (value key at : ℕ)
       → is_live (table_of rows slots number stamp) n ≡ true → find (is_at n guid) (installed_until stamp slots) ≡ None
       → record_at slots key ≡ None
-      → record_at new key ≡ Some (record { interface = record { handle = n; guid = guid; value = value; stamp = stamp + 1 }; installed = stamp + 1 })
+      → record_at new key ≡ Some (record { interface = record { handle = n; guid = guid; value = value; stamp = stamp + 1 }; installed = stamp + 1; turn_place = at })
       → ((j : ℕ) → j ≢ key → record_at new j ≡ record_at slots j)
       → ChangesKeys n (λ ks. ks ++ key ∷ []) rows rs
       → ((k : List ℕ) (m : ℕ) → key_at gs k m ≡ cond ((n == m) && same_guid guid k) (Some key) (key_at groups k m))
       → ChangesTurns guid (with_turn n (stamp + 1)) groups gs
       → (table_of rs new number (stamp + 1) ≡ with_interfaces n ((guid, value) ∷ []) (table_of rows slots number stamp)) × IsStore rs new gs number (stamp + 1)
-  stored_more rs new gs n guid value key live absent none there others c g t =
+  stored_more rs new gs n guid value key at live absent none there others c g t =
       let i : Interface = record { handle = n; guid = guid; value = value; stamp = stamp + 1 } in
       let more : installed_until (stamp + 1) new ≡ installed_until stamp slots ++ i ∷ [] =
-      until_more stamp key slots new (record { interface = i; installed = stamp + 1 }) slots_below refl none there others in
+      until_more stamp key slots new (record { interface = i; installed = stamp + 1; turn_place = at }) slots_below refl none there others in
       let same : table_of rs new number (stamp + 1) ≡ with_interfaces n ((guid, value) ∷ []) (table_of rows slots number stamp) = rw (c.lives, more) refl in (
         same,
         record {
@@ -412,7 +412,7 @@ module _ (rows : List Row) (slots : List (Option Record)) (groups : List Group) 
               (at_others new key others) c (unkeyed n guid absent) g s.filed);
           turns = rw more (turns_more (installed_until stamp slots) groups gs i t s.turns);
           stamped = λ j r e. elim (cases_eq j key) [
-            | inl w ↦ subst IsStamped (same_Some (record { interface = i; installed = stamp + 1 }) r (sym there ∙ ap (record_at new) (sym w) ∙ e)) (omega arith, omega arith)
+            | inl w ↦ subst IsStamped (same_Some (record { interface = i; installed = stamp + 1; turn_place = at }) r (sym there ∙ ap (record_at new) (sym w) ∙ e)) (omega arith, omega arith)
             | inr d ↦ s.stamped j r (sym (others j d) ∙ e)
           ];
         },

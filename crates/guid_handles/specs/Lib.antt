@@ -11,3 +11,4 @@ pub mod Places
 pub mod MadeOn
 pub mod TableSteps
 pub mod TurnSteps
+pub mod FiledTurns

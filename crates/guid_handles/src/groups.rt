@@ -154,7 +154,7 @@ impl<A: Allocator + Copy> Groups<A> {
         handle: u64,
         key: usize,
         stamp: u64,
-    ) -> Result<(), AllocError>
+    ) -> Result<usize, AllocError>
         requires none { find (is_group_of guid) self.old ≡ None }
         requires place { at ≡ place (is_before guid) self.old }
         requires bound { at ≤ length self.old }
@@ -163,9 +163,9 @@ impl<A: Allocator + Copy> Groups<A> {
         ensures err { OnErr result (self.new ≡ self.old) }
     {
         let mut group = GuidGroup::new(*self.groups.allocator(), guid);
-        group.add(handle, key, stamp)?;
+        let place = group.add(handle, key, stamp)?;
         self.groups.insert(at, group)?;
-        Ok(())
+        Ok(place)
     }
 
     /// Gives up the groups that are bare.
@@ -180,7 +180,7 @@ impl<A: Allocator + Copy> Groups<A> {
 
     /// Makes a group of a GUID that has none, with one holder, once bare groups are given up. On an `Err`
     /// the keys and the turns are as they were.
-    fn make(&mut self, guid: Uuid, handle: u64, key: usize, stamp: u64) -> Result<(), AllocError>
+    fn make(&mut self, guid: Uuid, handle: u64, key: usize, stamp: u64) -> Result<usize, AllocError>
         requires { find (is_group_of guid) self.old ≡ None }
         ensures ok { OnOk result (SetsKey guid handle (Some key) self.old self.new) }
         ensures turns { OnOk result (ChangesTurns guid (with_turn handle stamp) self.old self.new) }
@@ -189,8 +189,8 @@ impl<A: Allocator + Copy> Groups<A> {
     {
         self.tidy();
         let at = count_before(self.groups.as_slice(), guid);
-        self.make_at(at, guid, handle, key, stamp)?;
-        Ok(())
+        let place = self.make_at(at, guid, handle, key, stamp)?;
+        Ok(place)
     }
 
     /// Adds a holder that is not there to the group at a place. On an `Err` the groups are as they
@@ -202,7 +202,7 @@ impl<A: Allocator + Copy> Groups<A> {
         handle: u64,
         key: usize,
         stamp: u64,
-    ) -> Result<(), AllocError>
+    ) -> Result<usize, AllocError>
         requires place { IsPlaceOf guid self.old at }
         requires absent { key_at self.old guid handle ≡ None }
         requires last { AllByRecursion (λ t. t.stamp < stamp) (turns_of self.old guid) }
@@ -210,19 +210,19 @@ impl<A: Allocator + Copy> Groups<A> {
         ensures turns { OnOk result (ChangesTurns guid (with_turn handle stamp) self.old self.new) }
         ensures err { OnErr result (self.new ≡ self.old) }
     {
-        self.groups[at].add(handle, key, stamp)?;
-        Ok(())
+        let place = self.groups[at].add(handle, key, stamp)?;
+        Ok(place)
     }
 
     /// Adds the key of an interface that is not there, and its stamp, which is above all others of
-    /// its GUID. On an `Err` the keys and the turns are as they were.
+    /// its GUID, and returns where its turn is. On an `Err` the keys and the turns are as they were.
     pub(crate) fn add(
         &mut self,
         guid: Uuid,
         handle: u64,
         key: usize,
         stamp: u64,
-    ) -> Result<(), AllocError>
+    ) -> Result<usize, AllocError>
         requires absent { key_at self.old guid handle ≡ None }
         requires last { AllByRecursion (λ t. t.stamp < stamp) (turns_of self.old guid) }
         ensures ok { OnOk result (SetsKey guid handle (Some key) self.old self.new) }
@@ -240,22 +240,23 @@ impl<A: Allocator + Copy> Groups<A> {
         self.make(guid, handle, key, stamp)
     }
 
-    /// Removes a handle from the group at a place, and the turn of its stamp.
-    fn remove_at(&mut self, at: usize, guid: Uuid, handle: u64, stamp: u64)
+    /// Removes a handle from the group at a place, and the turn of its stamp, which is likely at another.
+    fn remove_at(&mut self, at: usize, guid: Uuid, handle: u64, stamp: u64, likely: usize)
         requires { IsPlaceOf guid self.old at }
         ensures keys { SetsKey guid handle None self.old self.new }
         ensures turns { ChangesTurns guid (without_turn stamp) self.old self.new }
     {
-        self.groups[at].remove(handle, stamp);
+        self.groups[at].remove(handle, stamp, likely);
     }
 
-    /// Removes the key of the interface of a GUID on a handle, and the turn of its stamp.
-    pub(crate) fn remove(&mut self, guid: Uuid, handle: u64, stamp: u64)
+    /// Removes the key of the interface of a GUID on a handle, and the turn of its stamp, which is likely
+    /// at a place.
+    pub(crate) fn remove(&mut self, guid: Uuid, handle: u64, stamp: u64, likely: usize)
         ensures keys { SetsKey guid handle None self.old self.new }
         ensures turns { ChangesTurns guid (without_turn stamp) self.old self.new }
     {
         if let Some(at) = place_of(self.groups.as_slice(), guid) {
-            self.remove_at(at, guid, handle, stamp);
+            self.remove_at(at, guid, handle, stamp, likely);
         }
     }
 

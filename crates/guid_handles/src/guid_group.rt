@@ -109,9 +109,9 @@ impl<A: Allocator + Copy> GuidGroup<A> {
         }
     }
 
-    /// Adds a handle that is not a holder, its key, and its stamp, which is above all others. On an
-    /// `Err` the group is as it was.
-    pub(crate) fn add(&mut self, handle: u64, key: usize, stamp: u64) -> Result<(), AllocError>
+    /// Adds a handle that is not a holder, its key, and its stamp, which is above all others, and returns
+    /// where its turn is. On an `Err` the group is as it was.
+    pub(crate) fn add(&mut self, handle: u64, key: usize, stamp: u64) -> Result<usize, AllocError>
         requires absent { key_in self.old handle ≡ None }
         requires last { AllByRecursion (λ t. t.stamp < stamp) self.old.turns }
         ensures guid { self.new.guid ≡ self.old.guid }
@@ -123,19 +123,19 @@ impl<A: Allocator + Copy> GuidGroup<A> {
         let at = count_less_than_new(self.holders.as_slice(), handle);
         self.keys.reserve()?;
         self.holders.reserve()?;
-        self.turns.push(handle, stamp)?;
+        let place = self.turns.push(handle, stamp, self.holders.len())?;
         self.holders.insert(at, handle);
         self.keys.insert(at, short);
-        Ok(())
+        Ok(place)
     }
 
-    /// Removes a handle, and the turn of its stamp, and keeps all memory.
-    fn take_out(&mut self, handle: u64, stamp: u64)
+    /// Removes a handle, and the turn of its stamp, which is likely at a place, and keeps all memory.
+    fn take_out(&mut self, handle: u64, stamp: u64, likely: usize)
         ensures guid { self.new.guid ≡ self.old.guid }
         ensures keys { SetsKeyIn handle None self.old self.new }
         ensures turns { self.new.turns ≡ without_turn stamp self.old.turns }
     {
-        self.turns.remove_stamp(stamp);
+        self.turns.remove_stamp(stamp, likely, self.holders.len());
         let at = count_less(self.holders.as_slice(), handle);
         if is_number_at(self.holders.as_slice(), at, handle) {
             self.holders.remove(at);
@@ -152,13 +152,14 @@ impl<A: Allocator + Copy> GuidGroup<A> {
         }
     }
 
-    /// Removes a handle, and the turn of its stamp. A group that is left bare keeps little memory.
-    pub(crate) fn remove(&mut self, handle: u64, stamp: u64)
+    /// Removes a handle, and the turn of its stamp, which is likely at a place. A group that is left bare
+    /// keeps little memory.
+    pub(crate) fn remove(&mut self, handle: u64, stamp: u64, likely: usize)
         ensures guid { self.new.guid ≡ self.old.guid }
         ensures keys { SetsKeyIn handle None self.old self.new }
         ensures turns { self.new.turns ≡ without_turn stamp self.old.turns }
     {
-        self.take_out(handle, stamp);
+        self.take_out(handle, stamp, likely);
         self.tidy();
     }
 
@@ -171,6 +172,6 @@ impl<A: Allocator + Copy> GuidGroup<A> {
           turns = moved_turn handle own stamp self.old.turns;
         } }
     {
-        self.turns.restamp(handle, own, stamp);
+        self.turns.restamp(handle, own, stamp, self.holders.len());
     }
 }

@@ -53,8 +53,8 @@ impl<A: Allocator> Model for Handles<A> {
 }
 
 /// Puts the key of an interface on a live handle into its row, and into the group of its GUID with
-/// its stamp, which is above all others there. On an `Err` the rows are as they were, and the groups
-/// have the same keys and turns.
+/// its stamp, which is above all others there, and returns where its turn is. On an `Err` the rows are
+/// as they were, and the groups have the same keys and turns.
 fn file_key<A: Allocator + Copy>(
     rows: &mut Rows<A>,
     groups: &mut Groups<A>,
@@ -62,7 +62,7 @@ fn file_key<A: Allocator + Copy>(
     guid: Uuid,
     key: usize,
     stamp: u64,
-) -> Result<(), AllocError>
+) -> Result<usize, AllocError>
     requires live { is_some (find (is_row_of handle) rows.old) ≡ true }
     requires absent { key_at groups.old guid handle ≡ None }
     requires last { AllByRecursion (λ t. t.stamp < stamp) (turns_of groups.old guid) }
@@ -74,12 +74,12 @@ fn file_key<A: Allocator + Copy>(
     ensures groups_stay { OnErr result (HaveSameKeys groups.old groups.new) }
     ensures turns_stay { OnErr result (HaveSameTurns groups.old groups.new) }
 {
-    groups.add(guid, handle, key, stamp)?;
+    let place = groups.add(guid, handle, key, stamp)?;
     if let Err(error) = rows.push_key(handle, key) {
-        groups.remove(guid, handle, stamp);
+        groups.remove(guid, handle, stamp, place);
         return Err(error);
     }
-    Ok(())
+    Ok(place)
 }
 
 /// The key of the interface of a GUID on a handle. It is looked for among the keys of the handle where
@@ -123,17 +123,17 @@ fn restamp<A: Allocator>(records: &mut Slab<Record, A>, key: usize, value: u64, 
     }
 }
 
-/// Removes the interface at a key, and returns its stamp.
-fn take_record<A: Allocator>(records: &mut Slab<Record, A>, key: usize) -> u64
+/// Removes the interface at a key, and returns it.
+fn take_record<A: Allocator>(records: &mut Slab<Record, A>, key: usize) -> Record
     requires there { is_some (record_at records.old.slots key) ≡ true }
     ensures own { option_map (λ r. r.interface.stamp) (record_at records.old.slots key)
-        ≡ Some result }
+        ≡ Some result.interface.stamp }
     ensures gone { record_at records.new.slots key ≡ None }
     ensures others { (j : ℕ) → j ≢ key
         → record_at records.new.slots j ≡ record_at records.old.slots j }
 {
     match records.try_remove(key) {
-        Some(record) => record.interface.stamp,
+        Some(record) => record,
         None => unreachable!(),
     }
 }
@@ -389,7 +389,7 @@ impl<A: Allocator + Copy> Handles<A> {
         make_slot(&mut self.records)?;
         let key = self.records.vacant_key();
         let stamp = self.last_stamp + 1;
-        file_key(&mut self.rows, &mut self.groups, handle, guid, key, stamp)?;
+        let turn_place = file_key(&mut self.rows, &mut self.groups, handle, guid, key, stamp)?;
         let interface = Interface {
             handle,
             guid,
@@ -399,6 +399,7 @@ impl<A: Allocator + Copy> Handles<A> {
         self.records.insert_reserved(Record {
             interface,
             installed: stamp,
+            turn_place,
         });
         self.last_stamp = stamp;
         Ok(())
@@ -564,8 +565,9 @@ impl<A: Allocator + Copy> Handles<A> {
     {
         match key_of(&self.rows, &self.records, &self.groups, handle, guid) {
             Some(key) => {
-                let stamp = take_record(&mut self.records, key);
-                self.groups.remove(guid, handle, stamp);
+                let record = take_record(&mut self.records, key);
+                let stamp = record.interface.stamp;
+                self.groups.remove(guid, handle, stamp, record.turn_place);
                 self.rows.remove_key(handle, key)
             }
             None => self.has_any(handle),

@@ -25,6 +25,8 @@ pub(crate) struct Record {
     pub(crate) interface: Interface,
     /// The stamp of its installation. Interfaces are in the order of these.
     pub(crate) installed: u64,
+    /// Where its turn was put, and is unless turns went.
+    pub(crate) turn_place: usize,
 }
 
 /// An interface of a GUID, by its stamp.
@@ -32,4 +34,11 @@ pub(crate) struct Record {
 pub(crate) struct Turn {
     pub(crate) stamp: u64,
     pub(crate) handle: u64,
+}
+
+/// A turn as it is kept, which may be that of an interface that is gone.
+#[derive(Clone, Copy)]
+pub(crate) struct FiledTurn {
+    pub(crate) turn: Turn,
+    pub(crate) gone: bool,
 }

@@ -84,6 +84,13 @@ impl<T: Copy, A: Allocator> SlidingRow<T, A> {
         &self.values.as_slice()[self.gone..]
     }
 
+    /// How many values there are.
+    pub(crate) fn len(&self) -> usize
+        ensures { result ≡ length self.now.items }
+    {
+        self.values.len() - self.gone
+    }
+
     /// Whether the row has memory for many values.
     pub(crate) fn is_roomy(&self) -> bool {
         self.values.capacity() > FEW_VALUES

@@ -25,21 +25,21 @@ pub returns-clause-ok : goal.returns-clause-ok
 returns-clause-ok g c =
     let place = rw (← c.self.view_is) at c.requires.place in
     rw (← c.self.view_is)
-    (key_changed _ c.args.guid _ _ _ c.args.handle (Some c.args.key) place (got _ _ _ place.0 c.index_mut.ensures.value) c.add.ensures.guid c.in_ok-add.ensures.ok)
+    (key_changed _ c.args.guid _ _ _ c.args.handle (Some c.args.key) place (got _ _ _ place.0 c.index_mut.ensures.value) c.add.ensures.guid c.in_ok-place.ensures.ok)
 
 pub returns-clause-turns : goal.returns-clause-turns
 returns-clause-turns g c =
     let place = rw (← c.self.view_is) at c.requires.place in
     rw (← c.self.view_is)
-    (turns_set _ c.args.guid _ _ _ (with_turn c.args.handle c.args.stamp) place (got _ _ _ place.0 c.index_mut.ensures.value) c.add.ensures.guid c.in_ok-add.ensures.turns)
+    (turns_set _ c.args.guid _ _ _ (with_turn c.args.handle c.args.stamp) place (got _ _ _ place.0 c.index_mut.ensures.value) c.add.ensures.guid c.in_ok-place.ensures.turns)
 
-pub returns-in_err-add-clause-err : goal.returns-in_err-add-clause-err
-returns-in_err-add-clause-err g c =
+pub returns-in_err-place-clause-err : goal.returns-in_err-place-clause-err
+returns-in_err-place-clause-err g c =
     on_err c.from_residual.result _
-    (rw (← c.self.view_is) (put_back c.self.inside.groups.items c.args.at _ _ c.in_err-add.ensures.err c.index_mut.ensures.value))
+    (rw (← c.self.view_is) (put_back c.self.inside.groups.items c.args.at _ _ c.in_err-place.ensures.err c.index_mut.ensures.value))
 
 pub index_mut-requires : goal.index_mut-requires
 index_mut-requires g c = let place = rw (← c.self.view_is) at c.requires.place in rw c.self.inside.groups.ok.0 place.0
 
 pub invariant_of-self : goal.invariant_of-self
-invariant_of-self g c = subst AscendByGuid (sym (put_back c.self.inside.groups.items c.args.at _ _ c.in_err-add.ensures.err c.index_mut.ensures.value)) c.self.invariant
+invariant_of-self g c = subst AscendByGuid (sym (put_back c.self.inside.groups.items c.args.at _ _ c.in_err-place.ensures.err c.index_mut.ensures.value)) c.self.invariant

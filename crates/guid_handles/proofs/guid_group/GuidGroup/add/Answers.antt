@@ -34,8 +34,8 @@ invariant_of-self g c = rw c.reserve.ensures.items c.self.invariant
 pub invariant_of-self-in_err-reserve-2 : goal.invariant_of-self-in_err-reserve-2
 invariant_of-self-in_err-reserve-2 g c = rw (c.reserve.ensures.items, c.reserve-2.ensures.items) c.self.invariant
 
-pub invariant_of-self-in_err-push : goal.invariant_of-self-in_err-push
-invariant_of-self-in_err-push g c = rw (c.reserve.ensures.items, c.reserve-2.ensures.items) c.self.invariant
+pub invariant_of-self-in_err-place : goal.invariant_of-self-in_err-place
+invariant_of-self-in_err-place g c = rw (c.reserve.ensures.items, c.reserve-2.ensures.items) c.self.invariant
 
 pub returns-in_err-short-clause-err : goal.returns-in_err-short-clause-err
 returns-in_err-short-clause-err g c = on_err c.from_residual.result _ refl
@@ -46,11 +46,11 @@ returns-in_err-reserve-clause-err g c = on_err c.from_residual-in_err-reserve.re
 pub returns-in_err-reserve-2-clause-err : goal.returns-in_err-reserve-2-clause-err
 returns-in_err-reserve-2-clause-err g c = on_err c.from_residual-in_err-reserve-2.result _ (rw (← c.self.view_is, c.reserve.ensures.items, c.reserve-2.ensures.items) refl)
 
-pub returns-in_err-push-clause-err : goal.returns-in_err-push-clause-err
-returns-in_err-push-clause-err g c = on_err c.from_residual-in_err-push.result _ (rw (← c.self.view_is, c.reserve.ensures.items, c.reserve-2.ensures.items, c.in_err-push.ensures.err) refl)
+pub returns-in_err-place-clause-err : goal.returns-in_err-place-clause-err
+returns-in_err-place-clause-err g c = on_err c.from_residual-in_err-place.result _ (rw (← c.self.view_is, c.reserve.ensures.items, c.reserve-2.ensures.items, c.in_err-place.ensures.err) refl)
 
 pub returns-clause-guid : goal.returns-clause-guid
 returns-clause-guid g c = rw (← c.self.view_is) refl
 
 pub returns-clause-turns : goal.returns-clause-turns
-returns-clause-turns g c = rw (← c.self.view_is) c.in_ok-push.ensures.ok
+returns-clause-turns g c = rw (← c.self.view_is) c.in_ok-place.ensures.ok

@@ -1,12 +1,11 @@
-use Rattle.std.proofs.Common.{nat_lt}
-use Rattle.guid_handles.specs.declared.records.Turn.{Turn}
-use Rattle.guid_handles.proofs.InTurn.{first_passing}
+use Rattle.std.proofs.Common.{◌∙◌}
+use Rattle.guid_handles.proofs.FiledTurns.{left_behind, left_ascend}
 use Rattle.guid_handles.proofs.turns.Turns.after.Goals as goal
 
 pub returns-clause-after : goal.returns-clause-after
 returns-clause-after g c =
     rw (← c.self.view_is)
-    (rw (c.count_up_to.ensures, c.as_slice-turns.ensures.value, first_passing (λ (t : Turn). nat_lt c.args.mark t.stamp) c.self.inside.turns.items) at c.nth_turn.ensures)
+    ((rw (c.count_up_to.ensures.place, c.as_slice-turns.ensures.value) at c.first_left.ensures) ∙ left_behind c.args.mark c.self.inside.turns.items c.self.invariant)
 
 pub returns-clause-ascending : goal.returns-clause-ascending
-returns-clause-ascending g c = rw (← c.self.view_is) c.self.invariant
+returns-clause-ascending g c = rw (← c.self.view_is) (left_ascend _ c.self.invariant)

@@ -1,18 +1,4 @@
-use Rattle.std.proofs.Common.{sym, ◌∙◌}
-use Rattle.guid_handles.proofs.InTurn.{in_turn_remove, turn_gone, turn_absent}
 use Rattle.guid_handles.proofs.turns.Turns.remove_stamp.Goals as goal
 
-pub invariant_of-self : goal.invariant_of-self
-invariant_of-self g c = rw c.remove.ensures.items (in_turn_remove _ _ c.self.invariant)
-
-pub returns-then-is_turn_at : goal.returns-then-is_turn_at
-returns-then-is_turn_at g c =
-    let place = rw c.as_slice.ensures.value at c.count_lower-at.ensures.place in
-    let there = rw c.as_slice-2.ensures.value at (sym c.is_turn_at.ensures ∙ c.if-is_turn_at.true) in
-    rw (← c.self.view_is) (c.remove.ensures.items ∙ turn_gone c.args.stamp _ _ c.self.invariant place there)
-
-pub returns-else-is_turn_at : goal.returns-else-is_turn_at
-returns-else-is_turn_at g c =
-    let place = rw c.as_slice.ensures.value at c.count_lower-at.ensures.place in
-    let there = rw c.as_slice-2.ensures.value at (sym c.is_turn_at.ensures ∙ c.if-is_turn_at.false) in
-    rw (← c.self.view_is) (turn_absent c.args.stamp _ _ c.self.invariant place there)
+pub returns-in_default : goal.returns-in_default
+returns-in_default g c = rw (← c.self.view_is) (rw c.as_slice.ensures.value at c.in_default.ensures.none)

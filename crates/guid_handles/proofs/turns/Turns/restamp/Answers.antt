@@ -1,23 +1,17 @@
-use Rattle.std.proofs.Common.{refl, sym, ◌∙◌}
-use Rattle.guid_handles.proofs.InTurn.{in_turn_insert, in_turn_remove, turn_gone, turn_missed}
+use Rattle.std.proofs.Common.{sym, ap, ◌∙◌}
+use Rattle.guid_handles.specs.TurnSteps.{turn_in}
+use Rattle.guid_handles.proofs.FiledTurns.{filed_insert, turn_inserted, turn_missed}
 use Rattle.guid_handles.proofs.turns.Turns.restamp.Goals as goal
-
-pub count_lower-place-requires : goal.count_lower-place-requires
-count_lower-place-requires g c = rw (c.as_slice-then-is_turn_at.ensures.value, c.remove.ensures.items) (in_turn_remove _ _ c.self.invariant)
 
 pub invariant_of-self : goal.invariant_of-self
 invariant_of-self g c =
-    let place = rw c.as_slice.ensures.value at c.count_lower-at.ensures.place in
-    let there = rw c.as_slice-2.ensures.value at (sym c.is_turn_at.ensures ∙ c.if-is_turn_at.true) in
-    let left = turn_gone c.args.own _ _ c.self.invariant place there in
-    rw (c.insert.ensures, rw c.as_slice-then-is_turn_at.ensures.value at c.count_lower-place.ensures.place, c.remove.ensures.items)
-    (in_turn_insert c.args.handle c.args.stamp _ (in_turn_remove _ _ c.self.invariant) (rw left (rw (← c.self.view_is) at c.requires.free)))
+    rw (c.insert_with_room.ensures, rw c.as_slice-then-is_turn_at.ensures.value at c.count_lower-place.ensures.place)
+    (filed_insert c.args.handle c.args.stamp _ c.clear_for.ensures.filed c.clear_for.ensures.free)
 
 pub returns-then-is_turn_at : goal.returns-then-is_turn_at
 returns-then-is_turn_at g c =
-    let place = rw c.as_slice.ensures.value at c.count_lower-at.ensures.place in
-    let there = rw c.as_slice-2.ensures.value at (sym c.is_turn_at.ensures ∙ c.if-is_turn_at.true) in
-    rw (← c.self.view_is, c.insert.ensures, rw c.as_slice-then-is_turn_at.ensures.value at c.count_lower-place.ensures.place, c.remove.ensures.items, turn_gone c.args.own _ _ c.self.invariant place there) refl
+    rw (← c.self.view_is, c.insert_with_room.ensures, rw c.as_slice-then-is_turn_at.ensures.value at c.count_lower-place.ensures.place)
+    (turn_inserted c.args.handle c.args.stamp _ c.clear_for.ensures.filed ∙ ap (turn_in c.args.handle c.args.stamp) (c.clear_for.ensures.left ∙ c.mark_gone.ensures.left))
 
 pub returns-else-is_turn_at : goal.returns-else-is_turn_at
 returns-else-is_turn_at g c =
