@@ -13,8 +13,8 @@ use Rattle.guid_handles.proofs.SortedLists.{all_filter, all_map, all_of, ascendi
 use Rattle.guid_handles.proofs.PlaceLists.{any_kept, same_places}
 use Rattle.open_agents.specs.declared.items.Manager.{Manager}
 use Rattle.open_agents.specs.declared.items.OpenRecord.{OpenRecord}
-use Rattle.open_agents.specs.OpenItems.{is_for_driver, manages_any, managers_of_any}
-use Rattle.driver_connect.specs.Stopping.{is_made_by, is_maker, is_one_of, made_by, manages_made, managers_of_made, pair_of, same_pair}
+use Rattle.open_agents.specs.OpenItems.{is_for_driver, manager_of, manages_any, managers_of_any}
+use Rattle.driver_connect.specs.Stopping.{is_made_by, is_maker, is_one_of, made_by, manages_made, managers_of_made, same_pair}
 use Rattle.driver_connect.proofs.PairMembers.{equal_round}
 
 -- ---- one pair
@@ -120,7 +120,7 @@ is_one_made t pairs n = one_as_place (made_by t pairs) n ∙ made_place t pairs 
 
 pub managers_of_made_handles : (t : HandleTable) (opens : List OpenRecord) (pairs : List Manager) → managers_of_any opens (made_by t pairs) ≡ managers_of_made t opens pairs
 managers_of_made_handles t opens pairs =
-    ap (map pair_of)
+    ap (map manager_of)
     (filter_same (manages_any (made_by t pairs)) (manages_made t pairs) opens
     (all_of (λ o. manages_any (made_by t pairs) o ≡ manages_made t pairs o) (λ o. ap (λ b. is_for_driver o.attributes && b) (is_one_made t pairs o.controller)) opens))
 

@@ -6,8 +6,8 @@ use Rattle.std.proofs.lemmas.List.Folds.{list_any-append}
 use Rattle.guid_handles.specs.HandleTables.{HandleTable, maker_of}
 use Rattle.open_agents.specs.declared.items.Manager.{Manager}
 use Rattle.open_agents.specs.declared.items.OpenRecord.{OpenRecord}
-use Rattle.open_agents.specs.OpenItems.{is_for_driver}
-use Rattle.driver_connect.specs.Stopping.{same_pair, has_pair, pair_of, with_pair, with_pairs, is_maker, manages_made, managers_of_made, round}
+use Rattle.open_agents.specs.OpenItems.{is_for_driver, manager_of}
+use Rattle.driver_connect.specs.Stopping.{same_pair, has_pair, with_pair, with_pairs, is_maker, manages_made, managers_of_made, round}
 use Rattle.driver_connect.proofs.Rounds.{with_pairs-longer}
 use Rattle.driver_connect.proofs.StopSets.{IsWithin, same_pair-refl, keeps_all, adds_all}
 
@@ -45,15 +45,15 @@ no_managers t (o ∷ os) = rw (nobody_manages t o) (no_managers t os)
 
 later_within : (t : HandleTable) (a : List Manager) (o : OpenRecord) (os : List OpenRecord) (u : List Manager) → IsWithin (managers_of_made t (o ∷ os) a) u → IsWithin (managers_of_made t os a) u
 later_within t a o os u w q h = elim (cases_Bool (manages_made t a o)) [
-  | inl e ↦ w q (rw e (elim (cases_Bool (same_pair q (pair_of o))) [
+  | inl e ↦ w q (rw e (elim (cases_Bool (same_pair q (manager_of o))) [
     | inl f ↦ rw f refl
     | inr f ↦ rw f h
   ]))
   | inr e ↦ w q (rw e h)
 ]
 
-first_within : (t : HandleTable) (a : List Manager) (o : OpenRecord) (os : List OpenRecord) (u : List Manager) → IsWithin (managers_of_made t (o ∷ os) a) u → manages_made t a o ≡ true → has_pair u (pair_of o) ≡ true
-first_within t a o os u w e = w (pair_of o) (rw e (rw (same_pair-refl (pair_of o)) refl))
+first_within : (t : HandleTable) (a : List Manager) (o : OpenRecord) (os : List OpenRecord) (u : List Manager) → IsWithin (managers_of_made t (o ∷ os) a) u → manages_made t a o ≡ true → has_pair u (manager_of o) ≡ true
+first_within t a o os u w e = w (manager_of o) (rw e (rw (same_pair-refl (manager_of o)) refl))
 
 -- managers of what `a` made add nothing to what has them
 pub older_add_none : (t : HandleTable) (a b : List Manager) (os : List OpenRecord) (u : List Manager) → IsWithin (managers_of_made t os a) u
@@ -66,16 +66,16 @@ older_add_none t a b (o ∷ os) u w =
       | inl e ↦ elim (cases_Bool (manages_made t b o)) [
         | inl f ↦
             let s : manages_made t (a ++ b) o ≡ true = both ∙ rw e refl in
-            rw f (rw s (older_add_none t a b os (with_pair u (pair_of o)) (λ q h. keeps_all u (pair_of o ∷ []) q (rest q h))))
+            rw f (rw s (older_add_none t a b os (with_pair u (manager_of o)) (λ q h. keeps_all u (manager_of o ∷ []) q (rest q h))))
         | inr f ↦
             let s : manages_made t (a ++ b) o ≡ true = both ∙ rw e refl in
-            let same : with_pair u (pair_of o) ≡ u = rw (first_within t a o os u w e) refl in
+            let same : with_pair u (manager_of o) ≡ u = rw (first_within t a o os u w e) refl in
             rw f (rw s (older_add_none t a b os u rest ∙ ap (λ v. with_pairs v (managers_of_made t os (a ++ b))) (sym same)))
       ]
       | inr e ↦ elim (cases_Bool (manages_made t b o)) [
         | inl f ↦
             let s : manages_made t (a ++ b) o ≡ true = both ∙ rw e f in
-            rw f (rw s (older_add_none t a b os (with_pair u (pair_of o)) (λ q h. keeps_all u (pair_of o ∷ []) q (rest q h))))
+            rw f (rw s (older_add_none t a b os (with_pair u (manager_of o)) (λ q h. keeps_all u (manager_of o ∷ []) q (rest q h))))
         | inr f ↦
             let s : manages_made t (a ++ b) o ≡ false = both ∙ rw e f in
             rw f (rw s (older_add_none t a b os u rest))

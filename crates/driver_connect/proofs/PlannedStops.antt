@@ -7,11 +7,11 @@ use Rattle.guid_handles.specs.HandleTables.{HandleTable, numbers, same_guid}
 use Rattle.guid_handles.proofs.GuidOrder.{and_false}
 use Rattle.open_agents.specs.declared.items.Manager.{Manager}
 use Rattle.open_agents.specs.declared.items.OpenRecord.{OpenRecord}
-use Rattle.open_agents.specs.OpenItems.{counted, is_equal_item, is_exclusive, is_for_driver, is_kept, is_of_pair, is_open_on, items_on, keeps, once_more, with_item, without_items}
+use Rattle.open_agents.specs.OpenItems.{counted, is_equal_item, is_exclusive, is_for_driver, is_kept, is_of_pair, is_open_on, items_on, keeps, manager_of, once_more, with_item, without_items}
 use Rattle.open_agents.specs.OpenRule.{has_holder}
 use Rattle.driver_connect.specs.declared.stopping.Opener.{Opener}
 use Rattle.driver_connect.specs.Drivers.{Meaning}
-use Rattle.driver_connect.specs.Stopping.{PlannedStop, takes_item, can_be_stopped, has_agent, has_pair, is_made_by, is_unobstructed, made_by, may_stop, names_any, pair_of, spares_opener, without_opens}
+use Rattle.driver_connect.specs.Stopping.{PlannedStop, takes_item, can_be_stopped, has_agent, has_pair, is_made_by, is_unobstructed, made_by, may_stop, names_any, spares_opener, without_opens}
 
 -- a stop takes out an item
 abbrev pub takes : PlannedStop → OpenRecord → Bool
@@ -35,7 +35,7 @@ filter_twice p q (x ∷ xs) = elim (cases_Bool (p x)) [
 
 -- the handles and the pairs of a stop take out the same items one after the other as at once
 pub taken_at_once : (plan : PlannedStop) (opens : List OpenRecord) → without_opens plan.handles plan.pairs opens ≡ without_items (takes plan) opens
-taken_at_once plan opens = filter_twice (names_any plan.handles) (λ o. has_pair plan.pairs (pair_of o)) opens
+taken_at_once plan opens = filter_twice (names_any plan.handles) (λ o. has_pair plan.pairs (manager_of o)) opens
 
 -- ---- what is left on an interface
 

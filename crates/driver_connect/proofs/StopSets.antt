@@ -8,8 +8,8 @@ use Rattle.guid_handles.proofs.SortedLists.{filter_shorter}
 use Rattle.open_agents.specs.declared.items.Manager.{Manager}
 use Rattle.open_agents.specs.declared.items.OpenRecord.{OpenRecord}
 use Rattle.open_agents.specs.Blocks.{items_in}
-use Rattle.open_agents.specs.OpenItems.{is_for_driver}
-use Rattle.driver_connect.specs.Stopping.{same_pair, has_pair, pair_of, with_pair, with_pairs, is_maker, manages_made, managers_of_made, round, rounds, stop_set}
+use Rattle.open_agents.specs.OpenItems.{is_for_driver, manager_of}
+use Rattle.driver_connect.specs.Stopping.{same_pair, has_pair, with_pair, with_pairs, is_maker, manages_made, managers_of_made, round, rounds, stop_set}
 use Rattle.driver_connect.specs.Laws.{IsClosed}
 use Rattle.driver_connect.proofs.Filters.{any_more}
 use Rattle.driver_connect.proofs.Rounds.{rounds_end}
@@ -100,14 +100,14 @@ manages_within t s u w o h = elim (cases_Bool (is_for_driver o.attributes)) [
 pub managers_within : (t : HandleTable) (opens : List OpenRecord) (s u : List Manager) → IsWithin s u → IsWithin (managers_of_made t opens s) (managers_of_made t opens u)
 managers_within t [] s u w q h = h
 managers_within t (o ∷ os) s u w q h = elim (cases_Bool (manages_made t s o)) [
-  | inl e ↦ rw (manages_within t s u w o e) (elim (cases_Bool (same_pair q (pair_of o))) [
+  | inl e ↦ rw (manages_within t s u w o e) (elim (cases_Bool (same_pair q (manager_of o))) [
     | inl f ↦ rw f refl
     | inr f ↦ rw f (managers_within t os s u w q (rw f at (rw e at h)))
   ])
   | inr e ↦
       let k = managers_within t os s u w q (rw e at h) in
       elim (cases_Bool (manages_made t u o)) [
-        | inl f ↦ rw f (elim (cases_Bool (same_pair q (pair_of o))) [
+        | inl f ↦ rw f (elim (cases_Bool (same_pair q (manager_of o))) [
           | inl g ↦ rw g refl
           | inr g ↦ rw g k
         ])
@@ -123,32 +123,32 @@ rounds_within (suc k) t opens s u w c =
 -- ---- items whose pairs are missing
 
 abbrev pub missing : List Manager → List OpenRecord → ℕ
-missing s opens = length (filter (λ o. not (has_pair s (pair_of o))) opens)
+missing s opens = length (filter (λ o. not (has_pair s (manager_of o))) opens)
 
 missing_within : (s u : List Manager) → IsWithin s u → (opens : List OpenRecord) → missing u opens ≤ missing s opens
 missing_within s u w [] = omega arith
-missing_within s u w (o ∷ os) = elim (cases_Bool (has_pair s (pair_of o))) [
-  | inl e ↦ rw e (rw (w (pair_of o) e) (missing_within s u w os))
-  | inr e ↦ elim (cases_Bool (has_pair u (pair_of o))) [
+missing_within s u w (o ∷ os) = elim (cases_Bool (has_pair s (manager_of o))) [
+  | inl e ↦ rw e (rw (w (manager_of o) e) (missing_within s u w os))
+  | inr e ↦ elim (cases_Bool (has_pair u (manager_of o))) [
     | inl f ↦ rw e (rw f (omega (arith, missing_within s u w os)))
     | inr f ↦ rw e (rw f (omega (arith, missing_within s u w os)))
   ]
 ]
 
 -- a pair of an item that joins is missing no more
-fewer_missing : (s : List Manager) (p : Manager) (opens : List OpenRecord) → has_pair s p ≡ false → has_pair (map pair_of opens) p ≡ true → missing (with_pair s p) opens < missing s opens
+fewer_missing : (s : List Manager) (p : Manager) (opens : List OpenRecord) → has_pair s p ≡ false → has_pair (map manager_of opens) p ≡ true → missing (with_pair s p) opens < missing s opens
 fewer_missing s p [] a h = cc
-fewer_missing s p (o ∷ os) a h = elim (cases_Bool (same_pair p (pair_of o))) [
+fewer_missing s p (o ∷ os) a h = elim (cases_Bool (same_pair p (manager_of o))) [
   | inl e ↦
-      let same : p ≡ pair_of o = same_pair-true p (pair_of o) e in
-      let old : has_pair s (pair_of o) ≡ false = rw (← same) a in
-      let new : has_pair (with_pair s p) (pair_of o) ≡ true = rw (← same) (adds s p) in
+      let same : p ≡ manager_of o = same_pair-true p (manager_of o) e in
+      let old : has_pair s (manager_of o) ≡ false = rw (← same) a in
+      let new : has_pair (with_pair s p) (manager_of o) ≡ true = rw (← same) (adds s p) in
       rw old (rw new (omega (arith, missing_within s (with_pair s p) (keeps s p) os)))
   | inr e ↦
       let less = fewer_missing s p os a (rw e at h) in
-      elim (cases_Bool (has_pair s (pair_of o))) [
-        | inl f ↦ rw f (rw (keeps s p (pair_of o) f) less)
-        | inr f ↦ elim (cases_Bool (has_pair (with_pair s p) (pair_of o))) [
+      elim (cases_Bool (has_pair s (manager_of o))) [
+        | inl f ↦ rw f (rw (keeps s p (manager_of o) f) less)
+        | inr f ↦ elim (cases_Bool (has_pair (with_pair s p) (manager_of o))) [
           | inl k ↦ rw f (rw k (omega (arith, less)))
           | inr k ↦ rw f (rw k (omega (arith, less)))
         ]
@@ -156,10 +156,10 @@ fewer_missing s p (o ∷ os) a h = elim (cases_Bool (same_pair p (pair_of o))) [
 ]
 
 -- pairs of items either join nothing, or fewer are missing
-join_or_none : (s ps : List Manager) (opens : List OpenRecord) → IsWithin ps (map pair_of opens) → (with_pairs s ps ≡ s) ⊎ (missing (with_pairs s ps) opens < missing s opens)
+join_or_none : (s ps : List Manager) (opens : List OpenRecord) → IsWithin ps (map manager_of opens) → (with_pairs s ps ≡ s) ⊎ (missing (with_pairs s ps) opens < missing s opens)
 join_or_none s [] opens w = inl refl
 join_or_none s (p ∷ ps) opens w =
-    let rest : IsWithin ps (map pair_of opens) = λ q h. w q (elim (cases_Bool (same_pair q p)) [ inl e ↦ rw e refl | inr e ↦ rw e h ]) in
+    let rest : IsWithin ps (map manager_of opens) = λ q h. w q (elim (cases_Bool (same_pair q p)) [ inl e ↦ rw e refl | inr e ↦ rw e h ]) in
     elim (cases_Bool (has_pair s p)) [
       | inl e ↦ rw e (join_or_none s ps opens rest)
       | inr e ↦
@@ -168,9 +168,9 @@ join_or_none s (p ∷ ps) opens w =
           inr (omega (arith, a, b))
     ]
 
-managers_are_items : (t : HandleTable) (opens : List OpenRecord) (s : List Manager) → IsWithin (managers_of_made t opens s) (map pair_of opens)
+managers_are_items : (t : HandleTable) (opens : List OpenRecord) (s : List Manager) → IsWithin (managers_of_made t opens s) (map manager_of opens)
 managers_are_items t [] s q h = h
-managers_are_items t (o ∷ os) s q h = elim (cases_Bool (same_pair q (pair_of o))) [
+managers_are_items t (o ∷ os) s q h = elim (cases_Bool (same_pair q (manager_of o))) [
   | inl e ↦ rw e refl
   | inr e ↦ rw e (elim (cases_Bool (manages_made t s o)) [
     | inl f ↦ managers_are_items t os s q (rw e at (rw f at h))
@@ -193,7 +193,7 @@ enough (suc k) t opens s l = elim (join_or_none s (managers_of_made t opens s) o
 
 pub is_settled : (t : HandleTable) (opens : List OpenRecord) (pairs : List Manager) → round t opens (stop_set t opens pairs) ≡ stop_set t opens pairs
 is_settled t opens pairs =
-    enough (length t.handles + length opens) t opens (with_pairs [] pairs) (omega (arith, filter_shorter (λ o. not (has_pair (with_pairs [] pairs) (pair_of o))) opens))
+    enough (length t.handles + length opens) t opens (with_pairs [] pairs) (omega (arith, filter_shorter (λ o. not (has_pair (with_pairs [] pairs) (manager_of o))) opens))
 
 rounds_keep : (k : ℕ) (t : HandleTable) (opens : List OpenRecord) (s : List Manager) → IsWithin s (rounds k t opens s)
 rounds_keep zero t opens s p h = h

@@ -6,7 +6,7 @@ use Rattle.page_ranges.specs.declared.statuses.Status.TheVariants.{InvalidParame
 use Rattle.guid_handles.specs.HandleTables.{HandleTable, numbers, maker_of, is_live, carries}
 use Rattle.open_agents.specs.declared.items.Manager.{Manager}
 use Rattle.open_agents.specs.declared.items.OpenRecord.{OpenRecord}
-use Rattle.open_agents.specs.OpenItems.{is_for_driver, names, managers_of, without_items}
+use Rattle.open_agents.specs.OpenItems.{is_for_driver, manager_of, names, managers_of, without_items}
 use Rattle.driver_connect.specs.declared.stopping.Opener.{Opener}
 use Rattle.driver_connect.specs.Drivers.{Meaning, ViewValue, view_of, driver_binding, driver_of, may_stop_at}
 
@@ -17,10 +17,6 @@ same_pair p q = (p.controller == q.controller) && (p.agent == q.agent)
 
 abbrev pub has_pair : List Manager → Manager → Bool
 has_pair pairs p = list_any (same_pair p) pairs
-
--- the controller and the agent of an open item
-abbrev pub pair_of : OpenRecord → Manager
-pair_of o = record { controller = o.controller; agent = o.agent }
 
 -- each of some pairs joins others, unless it is there
 abbrev pub with_pair : List Manager → Manager → List Manager
@@ -54,7 +50,7 @@ manages_made t pairs o = is_for_driver o.attributes && is_made_by t pairs o.cont
 
 -- the pairs that manage a handle that some pairs made, by items on any handle
 abbrev pub managers_of_made : HandleTable → List OpenRecord → List Manager → List Manager
-managers_of_made t opens pairs = map pair_of (filter (manages_made t pairs) opens)
+managers_of_made t opens pairs = map manager_of (filter (manages_made t pairs) opens)
 
 -- a round adds the managers of the handles that the pairs of the set made
 abbrev pub round : HandleTable → List OpenRecord → List Manager → List Manager
@@ -90,7 +86,7 @@ is_passing a = (a == 0x1) || ((a == 0x2) || (a == 0x4))
 abbrev pub is_no_obstacle : HandleTable → List Manager → OpenRecord → Bool
 is_no_obstacle t set o =
     is_passing o.attributes
-    || (has_pair set (pair_of o) || ((o.attributes == 0x8) && is_made_by t set o.controller))
+    || (has_pair set (manager_of o) || ((o.attributes == 0x8) && is_made_by t set o.controller))
 
 -- the items on the handles of a set are no obstacles
 abbrev pub is_unobstructed : HandleTable → List OpenRecord → List Manager → Bool
@@ -136,7 +132,7 @@ names_any ns o = list_any (λ n. names n o) ns
 
 -- the items of some pairs go, whatever their attributes
 abbrev pub without_pairs : List Manager → List OpenRecord → List OpenRecord
-without_pairs pairs opens = without_items (λ o. has_pair pairs (pair_of o)) opens
+without_pairs pairs opens = without_items (λ o. has_pair pairs (manager_of o)) opens
 
 -- the items that name one of some handles, and those of some pairs, go
 abbrev pub without_opens : List ℕ → List Manager → List OpenRecord → List OpenRecord
