@@ -14,7 +14,7 @@ use Rattle.guid_handles.proofs.PlaceLists.{any_kept, same_places}
 use Rattle.open_agents.specs.declared.items.Manager.{Manager}
 use Rattle.open_agents.specs.declared.items.OpenRecord.{OpenRecord}
 use Rattle.open_agents.specs.OpenItems.{is_for_driver, manager_of, manages_any, managers_of_any}
-use Rattle.driver_connect.specs.Stopping.{is_made_by, is_maker, is_one_of, made_by, manages_made, managers_of_made, same_pair}
+use Rattle.driver_connect.specs.Stopping.{is_made_by, is_maker, maker_pair, is_one_of, made_by, manages_made, managers_of_made, same_pair}
 use Rattle.driver_connect.proofs.PairMembers.{equal_round}
 
 -- ---- one pair
@@ -53,7 +53,7 @@ made_there t p on k e = elim (cases_Bool (is_made_by t (p ∷ []) k)) [
 
 one_or_others : (p : Manager) (ps : List Manager) (m : Option (ℕ × ℕ)) → (is_maker (p ∷ []) m || is_maker ps m) ≡ is_maker (p ∷ ps) m
 one_or_others p ps None = refl
-one_or_others p ps (Some m) = elim (cases_Bool (same_pair m p)) [
+one_or_others p ps (Some m) = elim (cases_Bool (same_pair (maker_pair m) p)) [
   | inl e ↦ rw e refl
   | inr e ↦ rw e refl
 ]

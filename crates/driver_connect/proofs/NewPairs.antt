@@ -7,7 +7,7 @@ use Rattle.guid_handles.specs.HandleTables.{HandleTable, maker_of}
 use Rattle.open_agents.specs.declared.items.Manager.{Manager}
 use Rattle.open_agents.specs.declared.items.OpenRecord.{OpenRecord}
 use Rattle.open_agents.specs.OpenItems.{is_for_driver, manager_of}
-use Rattle.driver_connect.specs.Stopping.{same_pair, has_pair, with_pair, with_pairs, is_maker, manages_made, managers_of_made, round}
+use Rattle.driver_connect.specs.Stopping.{same_pair, has_pair, with_pair, with_pairs, is_maker, maker_pair, manages_made, managers_of_made, round}
 use Rattle.driver_connect.proofs.Rounds.{with_pairs-longer}
 use Rattle.driver_connect.proofs.StopSets.{IsWithin, same_pair-refl, keeps_all, adds_all}
 
@@ -19,7 +19,7 @@ AreAsked t opens set n = (n ≤ length set) × IsWithin (managers_of_made t open
 
 maker-append : (a b : List Manager) (m : Option (ℕ × ℕ)) → is_maker (a ++ b) m ≡ (is_maker a m || is_maker b m)
 maker-append a b None = refl
-maker-append a b (Some p) = list_any-append (same_pair p) a b
+maker-append a b (Some p) = list_any-append (same_pair (maker_pair p)) a b
 
 manages-append : (t : HandleTable) (a b : List Manager) (o : OpenRecord) → manages_made t (a ++ b) o ≡ (manages_made t a o || manages_made t b o)
 manages-append t a b o = elim (cases_Bool (is_for_driver o.attributes)) [

@@ -9,7 +9,7 @@ use Rattle.open_agents.specs.declared.items.Manager.{Manager}
 use Rattle.open_agents.specs.declared.items.OpenRecord.{OpenRecord}
 use Rattle.open_agents.specs.Blocks.{items_in}
 use Rattle.open_agents.specs.OpenItems.{is_for_driver, manager_of}
-use Rattle.driver_connect.specs.Stopping.{same_pair, has_pair, with_pair, with_pairs, is_maker, manages_made, managers_of_made, round, rounds, stop_set}
+use Rattle.driver_connect.specs.Stopping.{same_pair, has_pair, with_pair, with_pairs, is_maker, maker_pair, manages_made, managers_of_made, round, rounds, stop_set}
 use Rattle.driver_connect.specs.Laws.{IsClosed}
 use Rattle.driver_connect.proofs.Filters.{any_more}
 use Rattle.driver_connect.proofs.Rounds.{rounds_end}
@@ -89,7 +89,7 @@ all_within s (p ∷ ps) u w v =
 
 maker_within : (s u : List Manager) → IsWithin s u → (m : Option (ℕ × ℕ)) → is_maker s m ≡ true → is_maker u m ≡ true
 maker_within s u w None h = h
-maker_within s u w (Some p) h = w p h
+maker_within s u w (Some p) h = w (maker_pair p) h
 
 manages_within : (t : HandleTable) (s u : List Manager) → IsWithin s u → (o : OpenRecord) → manages_made t s o ≡ true → manages_made t u o ≡ true
 manages_within t s u w o h = elim (cases_Bool (is_for_driver o.attributes)) [
