@@ -29,7 +29,7 @@ use Rattle.driver_connect.proofs.Ready.{ready_start}
 use Rattle.protocol_services.specs.Lists.{Lists, IsRaised}
 use Rattle.protocol_services.specs.Opening.{OpensAs, opened_value}
 use Rattle.protocol_services.specs.Stopping.{can_stop}
-use Rattle.protocol_services.specs.Removing.{Reinstalls, Replaces, can_be_freed, drivers_on, freed, is_value, once_freed, reconnected, removal_refusal, replaced, uninstalled, with_progress, without_dead}
+use Rattle.protocol_services.specs.Removing.{Reinstalls, Replaces, can_be_freed, drivers_among, drivers_on, freed, is_value, once_freed, reconnected, removal_refusal, replaced, uninstalled, with_progress, without_dead}
 use Rattle.protocol_services.proofs.OpenCounts.{CountUpTo, one_higher, opened_counts}
 use Rattle.protocol_services.proofs.Raised.{all_left, stays_raised}
 
@@ -100,7 +100,7 @@ opened_stopped_raised l new plan handle guid agent controller a added o e = rw e
 
 -- Where the drivers that have an interface open can be stopped, it can be freed unless an item that they leave keeps it.
 pub free_answer : (ds : List Meaning) (l : Lists) (handle : ℕ) (guid : List ℕ) (plan : PlannedStop) (items : List OpenItem) (can kept : Bool)
-    → items ≡ items_on l.opens handle guid → plan ≡ planned_stop l.handles l.opens (map (λ i. (i.controller, i.agent)) (filter (λ i. is_for_driver i.attributes) items))
+    → items ≡ items_on l.opens handle guid → plan ≡ planned_stop l.handles l.opens (drivers_among items)
     → can ≡ can_be_stopped ds l.handles l.opens plan.pairs handle None → can ≡ true
     → kept ≡ list_any (λ i. keeps i.attributes && not (takes_item plan handle i.agent i.controller)) items → can_be_freed ds l handle guid ≡ not kept
 free_answer ds l handle guid plan items can kept i p asked sure k =
@@ -111,7 +111,7 @@ free_answer ds l handle guid plan items can kept i p asked sure k =
 
 -- Where they can't be stopped, it can't be freed.
 pub not_freed : (ds : List Meaning) (l : Lists) (handle : ℕ) (guid : List ℕ) (plan : PlannedStop) (items : List OpenItem) (can : Bool)
-    → items ≡ items_on l.opens handle guid → plan ≡ planned_stop l.handles l.opens (map (λ i. (i.controller, i.agent)) (filter (λ i. is_for_driver i.attributes) items))
+    → items ≡ items_on l.opens handle guid → plan ≡ planned_stop l.handles l.opens (drivers_among items)
     → can ≡ can_be_stopped ds l.handles l.opens plan.pairs handle None → can ≡ false → can_be_freed ds l handle guid ≡ false
 not_freed ds l handle guid plan items can i p asked sure =
     let whole : plan ≡ planned_stop l.handles l.opens (drivers_on l.opens handle guid) = rw i at p in

@@ -3,8 +3,8 @@ ghost use Rattle.std.specs.Prelude.{◌≡◌, ◌==◌, [], ◌∷◌, true, fa
 ghost use Rattle.guid_handles.specs.HandleTables.{carries, value_at};
 ghost use Rattle.protocol_services.specs.Lists.{IsRaised};
 ghost use Rattle.open_agents.specs.OpenRule.{has_equal};
-ghost use Rattle.protocol_services.specs.Opening.{Closes, HandlesProtocol, OpensAs, OpensProtocol, ReturnsItems, names_none, test_protocol};
-ghost use Rattle.protocol_services.specs.OpeningSteps.{OpensAgain, OpensAnew, decision};
+ghost use Rattle.protocol_services.specs.Opening.{Closes, HandlesProtocol, OpensProtocol, ReturnsItems, names_none, test_protocol};
+ghost use Rattle.protocol_services.specs.OpeningSteps.{OpensAfterStop, OpensAgain, OpensAnew, decision};
 
 use crate::protocols::Protocols;
 use driver_connect::{Driver, Opener, StopPlan};
@@ -129,9 +129,8 @@ impl<A: Allocator + Copy> Protocols<A> {
         opener: Opener,
         attributes: u32,
     ) -> Result<Option<u64>, Status>
-        ensures opens { OpensAs (map D.meaning drivers.now)
-            (Decision.StopFirst manager) self.old handle guid opener.agent opener.controller
-            attributes result self.new }
+        ensures opens { OpensAfterStop (map D.meaning drivers.now)
+            manager self.old handle guid opener attributes result self.new }
         ensures raised { IsRaised self.old self.new }
     {
         let Ok(plan) = StopPlan::new(self.alloc, &self.handles, &self.opens, &[manager]) else {
