@@ -1,5 +1,5 @@
 -- The stop of one pair that made no handle takes out that pair alone.
-use Rattle.std.proofs.Common.{◌≡◌, ℕ, ◌+◌, List, [], ◌∷◌, length, refl, sym, ap, ◌∙◌, arith}
+use Rattle.std.proofs.Common.{◌≡◌, ◌+◌, List, [], ◌∷◌, length, refl, sym, ap, ◌∙◌, arith}
 use Rattle.guid_handles.specs.HandleTables.{HandleTable}
 use Rattle.guid_handles.proofs.GuidOrder.{and_false}
 use Rattle.open_agents.specs.declared.items.Manager.{Manager}

@@ -1,5 +1,5 @@
 -- Pairs that are kept twice: in the order in which they joined, and by their controllers.
-use Rattle.std.specs.Prelude.{◌≡◌, ℕ, ◌==◌, List}
+use Rattle.std.specs.Prelude.{◌≡◌, ◌==◌, List}
 use Rattle.std.specs.List.{list_any}
 use Rattle.guid_handles.specs.Blocks.{Block, block_at}
 use Rattle.open_agents.specs.declared.items.Manager.{Manager}

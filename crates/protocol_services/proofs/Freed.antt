@@ -1,5 +1,5 @@
 -- An interface that is freed, and what stays of its handle.
-use Rattle.std.proofs.Common.{◌≡◌, ℕ, ◌+◌, ◌≤◌, ◌&&◌, ◌++◌, map, append-nil, Bool, not, true, false, List, [], ◌∷◌, Option, Some, None, is_some, Result, Ok, Err, IfOk, OnOk, OnErr, Vec, inl, inr, refl, sym, ap, subst, ◌∙◌, arith}
+use Rattle.std.proofs.Common.{◌≡◌, ℕ, ◌+◌, ◌≤◌, ◌&&◌, ◌++◌, append-nil, Bool, not, true, false, List, [], ◌∷◌, Option, Some, None, is_some, Result, Ok, Err, IfOk, OnOk, OnErr, Vec, inl, inr, refl, sym, ap, subst, ◌∙◌, arith}
 use Rattle.std.specs.List.{filter, list_any, list_all}
 use Rattle.std.specs.Option.{option_map}
 use Rattle.std.proofs.lemmas.Bool.{cases_Bool, and_parts}
@@ -14,7 +14,7 @@ use Rattle.open_agents.specs.declared.items.Decision.TheVariants.{StopFirst}
 use Rattle.open_agents.specs.declared.items.Manager.{Manager}
 use Rattle.open_agents.specs.declared.items.OpenRecord.{OpenRecord}
 use Rattle.open_agents.specs.declared.items.OpenItem.{OpenItem}
-use Rattle.open_agents.specs.OpenItems.{is_for_driver, is_kept, is_open_on, items_on, keeps, names, with_item, without_items}
+use Rattle.open_agents.specs.OpenItems.{is_kept, is_open_on, items_on, keeps, names, with_item, without_items}
 use Rattle.protocol_notify.specs.Registrations.{events_for}
 use Rattle.driver_connect.specs.declared.stopping.Opener.{Opener}
 use Rattle.driver_connect.specs.Drivers.{Meaning}
