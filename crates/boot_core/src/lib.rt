@@ -23,5 +23,5 @@ pub use laws::{
     locate_step_law, map_growth_law, map_step_law, pool_bytes_law, proper_lists_law,
     read_bytes_law, read_step_law, record_entries_law, sound_law, uninstall_run_law,
 };
-pub use open_agents::{OpenItem, OpenRecord};
+pub use open_agents::{Manager, OpenItem, OpenRecord};
 pub use pool_services::{PoolBlock, PoolMemory};

@@ -5,6 +5,7 @@ ghost use Rattle.boot_core.specs.Stops.{stops_on_interface, stops_on_controller,
 
 use crate::core_state::Core;
 use driver_connect::{Agent, Driver, DriverTurns};
+use open_agents::Manager;
 use page_ranges::Status;
 use std::alloc::{AllocError, Allocator};
 use uuid::Uuid;
@@ -29,34 +30,30 @@ impl<D: Driver, A: Allocator + Copy> Core<D, A> {
         driver_connect::begin_turns(alloc, self.protocols.handles(), controller, named, drivers)
     }
 
-    /// The pairs of controller and agent to be stopped, in order, before an interface that drivers have open can be
-    /// opened exclusively, uninstalled or reinstalled.
-    pub fn stops_on_interface(
-        &self,
-        handle: u64,
-        guid: Uuid,
-    ) -> Result<Vec<(u64, u64), A>, AllocError>
+    /// The managers to be stopped, in order, before an interface that drivers have open can be opened exclusively,
+    /// uninstalled or reinstalled.
+    pub fn stops_on_interface(&self, handle: u64, guid: Uuid) -> Result<Vec<Manager, A>, AllocError>
         ensures { IfOk result
             (λ v. v.items ≡ stops_on_interface self.now.state.parts.lists handle guid) }
     {
         self.protocols.stops_on_interface(handle, guid)
     }
 
-    /// The pairs to be stopped, in order, before a handle can be disconnected from the drivers that manage
+    /// The managers to be stopped, in order, before a handle can be disconnected from the drivers that manage
     /// it, or from one of them if `driver` is not 0.
     pub fn stops_on_controller(
         &self,
         handle: u64,
         driver: u64,
-    ) -> Result<Vec<(u64, u64), A>, AllocError>
+    ) -> Result<Vec<Manager, A>, AllocError>
         ensures { IfOk result
             (λ v. v.items ≡ stops_on_controller self.now.state.parts.lists handle driver) }
     {
         self.protocols.stops_on_controller(handle, driver)
     }
 
-    /// The children of a pair of a controller and an agent: the handles that it made, ascending, and then
-    /// those for which the agent has the controller open as for a child.
+    /// The children of an agent on a controller: the handles that it made there, ascending, and then those
+    /// for which it has the controller open as for a child.
     pub fn children(&self, controller: u64, agent: u64) -> Result<Vec<u64, A>, AllocError>
         ensures { IfOk result
             (λ v. v.items ≡ children self.now.state.parts.lists controller agent) }

@@ -2,6 +2,7 @@
 use Rattle.std.specs.Prelude.{◌≡◌, ◌⊎◌, ℕ, List, map}
 use Rattle.page_ranges.specs.Statuses.{status_number}
 use Rattle.page_ranges.specs.declared.statuses.Status.TheVariants.{OutOfResources}
+use Rattle.open_agents.specs.declared.items.Manager.{Manager}
 use Rattle.boot_core.specs.Stops as stops
 use Rattle.c_machines.specs.declared.guids.Guid.{Guid}
 use Rattle.c_machines.specs.Guids.{guid_in}
@@ -9,9 +10,9 @@ use Rattle.c_interface.specs.declared.entries.StopEntry.{StopEntry}
 use Rattle.c_interface.specs.EfiCores.{EfiCoreValue}
 use Rattle.c_interface.specs.Questions.{FillsWith}
 
--- a pair of controller and agent as C has it
-abbrev pub stop_in_c : ℕ × ℕ → StopEntry
-stop_in_c p = record { controller = p.0; agent = p.1 }
+-- a manager that is to be stopped, as C has it
+abbrev pub stop_in_c : Manager → StopEntry
+stop_in_c m = record { controller = m.controller; agent = m.agent }
 
 -- the drivers to be stopped, in order, before an interface can be freed of them
 abbrev pub stops_on_interface : {A : Type 0} → EfiCoreValue A → ℕ → Guid → List StopEntry

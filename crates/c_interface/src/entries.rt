@@ -4,7 +4,7 @@ ghost use Rattle.page_ranges.specs.MemoryTypes.{page_count};
 ghost use Rattle.c_interface.specs.Questions.{block_in_c, interface_in_c, open_in_c, owner_number, run_in_c};
 ghost use Rattle.c_interface.specs.Stops.{stop_in_c};
 
-use boot_core::{OpenRecord, PoolBlock};
+use boot_core::{Manager, OpenRecord, PoolBlock};
 use c_machines::{Guid, Interface};
 use page_ranges::{Owner, PAGE_SIZE, Run};
 
@@ -109,12 +109,12 @@ pub(crate) fn open_in_c(item: OpenRecord) -> OpenEntry
     }
 }
 
-/// A pair that is to be stopped as C has it.
-pub(crate) fn stop_in_c(pair: &(u64, u64)) -> StopEntry
-    ensures { result ≡ stop_in_c pair.now }
+/// A manager that is to be stopped as C has it.
+pub(crate) fn stop_in_c(manager: &Manager) -> StopEntry
+    ensures { result ≡ stop_in_c manager.now }
 {
     StopEntry {
-        controller: pair.0,
-        agent: pair.1,
+        controller: manager.controller,
+        agent: manager.agent,
     }
 }

@@ -7,6 +7,7 @@ ghost use Rattle.c_interface.specs.Stops.{ListsChildren, ListsManagers, ListsSto
 use crate::efi_core::EfiCore;
 use crate::entries::{StopEntry, stop_in_c};
 use crate::questions::fill;
+use boot_core::Manager;
 use c_machines::Guid;
 use page_ranges::Status;
 use std::alloc::Allocator;
@@ -64,25 +65,25 @@ impl<A: Allocator + Copy> EfiCore<A> {
     }
 }
 
-/// Copies all of some pairs into the front of a buffer that has room for them, and puts into a variable how many they
+/// Copies all of some managers into the front of a buffer that has room for them, and puts into a variable how many they
 /// are.
-fn fill_stops(pairs: &[(u64, u64)], buffer: &mut [StopEntry], count: &mut u64) -> u64
-    ensures { FillsWith (map stop_in_c pairs.now) result buffer.old count.new buffer.new }
+fn fill_stops(managers: &[Manager], buffer: &mut [StopEntry], count: &mut u64) -> u64
+    ensures { FillsWith (map stop_in_c managers.now) result buffer.old count.new buffer.new }
 {
-    *count = pairs.len() as u64;
-    if buffer.len() < pairs.len() {
+    *count = managers.len() as u64;
+    if buffer.len() < managers.len() {
         return Status::BufferTooSmall.number();
     }
-    copy_stops(buffer, pairs);
+    copy_stops(buffer, managers);
     Status::Success.number()
 }
 
-/// Copies pairs into the front of a buffer, as many as it has room for.
-fn copy_stops(buffer: &mut [StopEntry], pairs: &[(u64, u64)])
-    ensures { buffer.new ≡ front_filled (map stop_in_c pairs.now) buffer.old }
+/// Copies managers into the front of a buffer, as many as it has room for.
+fn copy_stops(buffer: &mut [StopEntry], managers: &[Manager])
+    ensures { buffer.new ≡ front_filled (map stop_in_c managers.now) buffer.old }
 {
-    let count = pairs.len().min(buffer.len());
+    let count = managers.len().min(buffer.len());
     for index in 0..count {
-        buffer[index] = stop_in_c(&pairs[index]);
+        buffer[index] = stop_in_c(&managers[index]);
     }
 }

@@ -12,6 +12,7 @@ use Rattle.guid_handles.specs.HandleChanges.{IsHandleTable, stamped}
 use Rattle.guid_handles.proofs.Filters.{filter_append, filter_inside}
 use Rattle.guid_handles.proofs.Indexed.{at_handle}
 use Rattle.guid_handles.proofs.SortedLists.{all_filter, all_map, all_of, filter_map_filter, filter_same, find_filter, find_none}
+use Rattle.open_agents.specs.declared.items.Manager.{Manager}
 use Rattle.open_agents.specs.declared.items.OpenRecord.{OpenRecord}
 use Rattle.driver_connect.specs.declared.agents.Agent.{Agent}
 use Rattle.driver_connect.specs.Beside.{Draft, MayLeave, first_draft, reached}
@@ -167,7 +168,7 @@ none_passes p (n ∷ ns) h = elim (cases_Bool (p n)) [
 ]
 
 -- the handles that some pairs made may stay
-pub may_leave_made : (t : HandleTable) (pairs : List (ℕ × ℕ)) (ns : List ℕ) → IsHandleTable t → ns ≡ made_by t pairs → list_any (λ n. carries t driver_binding n) ns ≡ false → MayLeave ns t
+pub may_leave_made : (t : HandleTable) (pairs : List Manager) (ns : List ℕ) → IsHandleTable t → ns ≡ made_by t pairs → list_any (λ n. carries t driver_binding n) ns ≡ false → MayLeave ns t
 may_leave_made t pairs ns proper e h = record {
   given = rw e (all_filter (λ n. n ≤ t.last_number) (is_made_by t pairs) (numbers t) (all_map (λ n. (0 < n) × (n ≤ t.last_number)) (λ n. n ≤ t.last_number) (λ n g. g.1) (numbers t) proper.given));
   count = rw e (parted (is_made_by t pairs) (numbers t) t.handles (each_one_of (numbers t)));

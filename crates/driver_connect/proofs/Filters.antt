@@ -5,9 +5,10 @@ use Rattle.std.proofs.lemmas.Bool.{cases_Bool}
 use Rattle.guid_handles.specs.HandleTables.{HandleTable}
 use Rattle.guid_handles.specs.HandleChanges.{without_handle}
 use Rattle.guid_handles.proofs.SortedLists.{filter_same, all_of}
+use Rattle.open_agents.specs.declared.items.Manager.{Manager}
 use Rattle.open_agents.specs.declared.items.OpenRecord.{OpenRecord}
-use Rattle.open_agents.specs.OpenItems.{names, is_of_pair, without_items}
-use Rattle.driver_connect.specs.Stopping.{same_pair, pair_of, names_any, without_handles, without_pairs}
+use Rattle.open_agents.specs.OpenItems.{names, is_of_pair, manager_of, without_items}
+use Rattle.driver_connect.specs.Stopping.{same_pair, names_any, without_handles, without_pairs}
 
 pub any_more : {X : Type 0} (p : X → Bool) (xs : List X) (x : X) → list_any p (xs ++ x ∷ []) ≡ (list_any p xs || p x)
 any_more p [] x = elim (cases_Bool (p x)) [
@@ -77,7 +78,7 @@ pub names_none : (opens : List OpenRecord) → opens ≡ without_items (names_an
 names_none opens = sym (left_out_none names opens)
 
 pub pairs_none : (opens : List OpenRecord) → opens ≡ without_pairs [] opens
-pairs_none opens = sym (left_out_none (λ q o. same_pair (pair_of o) q) opens)
+pairs_none opens = sym (left_out_none (λ q o. same_pair (manager_of o) q) opens)
 
 handles_first : (n : ℕ) (ns : List ℕ) (t : HandleTable) → without_handle n (without_handles ns t) ≡ without_handles (n ∷ ns) t
 handles_first n ns t =
@@ -104,19 +105,19 @@ names_before ns at opens old new z l e f =
     ∙ names_first (get_or ns (at - 1) 0) (drop at ns) opens
     ∙ ap (λ ms. without_items (names_any ms) opens) (sym (left_at ns at z l))
 
-same_as_pair : (p : ℕ × ℕ) (o : OpenRecord) → not (is_of_pair p.0 p.1 o) ≡ not (same_pair (pair_of o) p)
-same_as_pair p o = elim (cases_Bool (o.controller == p.0)) [
-  | inl e ↦ elim (cases_Bool (o.agent == p.1)) [
+same_as_pair : (p : Manager) (o : OpenRecord) → not (is_of_pair p.controller p.agent o) ≡ not (same_pair (manager_of o) p)
+same_as_pair p o = elim (cases_Bool (o.controller == p.controller)) [
+  | inl e ↦ elim (cases_Bool (o.agent == p.agent)) [
     | inl k ↦ rw e (rw k refl)
     | inr k ↦ rw e (rw k refl)
   ]
-  | inr e ↦ elim (cases_Bool (o.agent == p.1)) [
+  | inr e ↦ elim (cases_Bool (o.agent == p.agent)) [
     | inl k ↦ rw e (rw k refl)
     | inr k ↦ rw e (rw k refl)
   ]
 ]
 
-pub pairs_more : (ps : List (ℕ × ℕ)) (p : ℕ × ℕ) (opens : List OpenRecord) → without_items (is_of_pair p.0 p.1) (without_pairs ps opens) ≡ without_pairs (ps ++ p ∷ []) opens
+pub pairs_more : (ps : List Manager) (p : Manager) (opens : List OpenRecord) → without_items (is_of_pair p.controller p.agent) (without_pairs ps opens) ≡ without_pairs (ps ++ p ∷ []) opens
 pairs_more ps p opens =
-    filter_same (λ o. not (is_of_pair p.0 p.1 o)) (λ o. not (same_pair (pair_of o) p)) (without_pairs ps opens) (all_of (λ o. not (is_of_pair p.0 p.1 o) ≡ not (same_pair (pair_of o) p)) (same_as_pair p) (without_pairs ps opens))
-    ∙ left_out_more (λ q o. same_pair (pair_of o) q) ps p opens
+    filter_same (λ o. not (is_of_pair p.controller p.agent o)) (λ o. not (same_pair (manager_of o) p)) (without_pairs ps opens) (all_of (λ o. not (is_of_pair p.controller p.agent o) ≡ not (same_pair (manager_of o) p)) (same_as_pair p) (without_pairs ps opens))
+    ∙ left_out_more (λ q o. same_pair (manager_of o) q) ps p opens

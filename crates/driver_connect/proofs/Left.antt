@@ -4,9 +4,10 @@ use Rattle.std.specs.List.{filter, list_any}
 use Rattle.std.proofs.lemmas.Bool.{cases_Bool}
 use Rattle.std.proofs.lemmas.Bool.Decides.{eqb_tells}
 use Rattle.guid_handles.specs.HandleTables.{HandleTable, has_number, is_on}
+use Rattle.open_agents.specs.declared.items.Manager.{Manager}
 use Rattle.open_agents.specs.declared.items.OpenRecord.{OpenRecord}
-use Rattle.open_agents.specs.OpenItems.{names, without_items}
-use Rattle.driver_connect.specs.Stopping.{has_pair, pair_of, is_one_of, names_any, without_handles, without_opens}
+use Rattle.open_agents.specs.OpenItems.{names, manager_of, without_items}
+use Rattle.driver_connect.specs.Stopping.{has_pair, is_one_of, names_any, without_handles, without_opens}
 
 -- a filter keeps all that another looks for
 kept : {X : Type 0} (q p : X → Bool) → ((x : X) → q x ≡ true → p x ≡ true) → (xs : List X) → filter q (filter p xs) ≡ filter q xs
@@ -68,12 +69,12 @@ named_by_one (m ∷ ms) n o h k = elim (eqb_tells n m) [
       ]
 ]
 
-pub handles_gone : (ns : List ℕ) (pairs : List (ℕ × ℕ)) (t : HandleTable) (opens : List OpenRecord) (n : ℕ) → is_one_of ns n ≡ true
+pub handles_gone : (ns : List ℕ) (pairs : List Manager) (t : HandleTable) (opens : List OpenRecord) (n : ℕ) → is_one_of ns n ≡ true
     → (filter (has_number n) (without_handles ns t).handles ≡ []) × (filter (is_on n) (without_handles ns t).interfaces ≡ []) × (list_any (names n) (without_opens ns pairs opens) ≡ false)
 handles_gone ns pairs t opens n h = (
   gone (has_number n) (λ l. not (is_one_of ns l.number)) (λ l e. ap not (same_number ns l.number n true h e)) t.handles,
   gone (is_on n) (λ i. not (is_one_of ns i.handle)) (λ i e. ap not (same_number ns i.handle n true h e)) t.interfaces,
-  any_filtered (names n) (λ o. not (has_pair pairs (pair_of o))) (without_items (names_any ns) opens) (any_gone (names n) (λ o. not (names_any ns o)) (λ o e. ap not (named_by_one ns n o h e)) opens),
+  any_filtered (names n) (λ o. not (has_pair pairs (manager_of o))) (without_items (names_any ns) opens) (any_gone (names n) (λ o. not (names_any ns o)) (λ o e. ap not (named_by_one ns n o h e)) opens),
 )
 
 pub others_stay : (ns : List ℕ) (t : HandleTable) (n : ℕ) → is_one_of ns n ≡ false

@@ -4,8 +4,10 @@ use Rattle.std.specs.List.{filter, list_all}
 use Rattle.std.proofs.lemmas.Bool.{eqb-true}
 use Rattle.guid_handles.specs.HandleTables.{HandleTable, maker_of, numbers}
 use Rattle.guid_handles.proofs.GuidOrder.{and_false}
+use Rattle.open_agents.specs.declared.items.Manager.{Manager}
 use Rattle.open_agents.specs.declared.items.OpenRecord.{OpenRecord}
 use Rattle.open_agents.specs.OpenItems.{is_for_driver}
+use Rattle.driver_connect.specs.declared.stopping.Opener.{Opener}
 use Rattle.driver_connect.specs.Drivers.{Meaning}
 use Rattle.driver_connect.specs.Stopping.{planned_stop, can_be_stopped, is_maker, is_made_by, is_no_obstacle, made_by, managers_of_made, manages_made, rounds, spares_opener, stop_set}
 
@@ -39,16 +41,16 @@ clear : (t : HandleTable) (os : List OpenRecord) → list_all (λ o. not (is_mad
 clear t [] = refl
 clear t (o ∷ os) = rw (none_made t o.handle) (clear t os)
 
-spared : (t : HandleTable) (opener : Option (ℕ × ℕ)) → spares_opener t [] opener ≡ true
+spared : (t : HandleTable) (opener : Option Opener) → spares_opener t [] opener ≡ true
 spared t None = refl
-spared t (Some o) = rw (none_made t o.0) (rw (none_made t o.1) refl)
+spared t (Some o) = rw (none_made t o.agent) (rw (none_made t o.controller) refl)
 
-pub nothing_hinders : (ds : List Meaning) (t : HandleTable) (opens : List OpenRecord) (handle : ℕ) (opener : Option (ℕ × ℕ)) → can_be_stopped ds t opens [] handle opener ≡ true
+pub nothing_hinders : (ds : List Meaning) (t : HandleTable) (opens : List OpenRecord) (handle : ℕ) (opener : Option Opener) → can_be_stopped ds t opens [] handle opener ≡ true
 nothing_hinders ds t opens handle opener = rw (clear t opens) (rw (none_made t handle) (rw (spared t opener) refl))
 
 pub none_in : {X : Type 0} (xs : List X) → (length xs == 0) ≡ true → xs ≡ []
 none_in [] h = refl
 none_in (x ∷ xs) h = absurd (let e : suc (length xs) ≡ 0 = eqb-true (suc (length xs)) 0 h in omega (arith, e))
 
-pub nothing_planned : (t : HandleTable) (opens : List OpenRecord) (pairs : List (ℕ × ℕ)) → (length pairs == 0) ≡ true → record { pairs = []; handles = [] } ≡ planned_stop t opens pairs
+pub nothing_planned : (t : HandleTable) (opens : List OpenRecord) (pairs : List Manager) → (length pairs == 0) ≡ true → record { pairs = []; handles = [] } ≡ planned_stop t opens pairs
 nothing_planned t opens pairs e = rw (none_in pairs e) (rw (empty_set t opens) (rw (none_made_by t) refl))

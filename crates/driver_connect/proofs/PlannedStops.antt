@@ -5,11 +5,13 @@ use Rattle.std.proofs.lemmas.Bool.{cases_Bool, and_parts, eq-eqb}
 use Rattle.std.proofs.lemmas.Bool.Decides.{eqb_tells}
 use Rattle.guid_handles.specs.HandleTables.{HandleTable, numbers, same_guid}
 use Rattle.guid_handles.proofs.GuidOrder.{and_false}
+use Rattle.open_agents.specs.declared.items.Manager.{Manager}
 use Rattle.open_agents.specs.declared.items.OpenRecord.{OpenRecord}
-use Rattle.open_agents.specs.OpenItems.{counted, is_equal_item, is_exclusive, is_for_driver, is_kept, is_of_pair, is_open_on, items_on, keeps, once_more, with_item, without_items}
+use Rattle.open_agents.specs.OpenItems.{counted, is_equal_item, is_exclusive, is_for_driver, is_kept, is_of_pair, is_open_on, items_on, keeps, manager_of, once_more, with_item, without_items}
 use Rattle.open_agents.specs.OpenRule.{has_holder}
+use Rattle.driver_connect.specs.declared.stopping.Opener.{Opener}
 use Rattle.driver_connect.specs.Drivers.{Meaning}
-use Rattle.driver_connect.specs.Stopping.{PlannedStop, takes_item, can_be_stopped, has_agent, has_pair, is_made_by, is_unobstructed, made_by, may_stop, names_any, pair_of, spares_opener, without_opens}
+use Rattle.driver_connect.specs.Stopping.{PlannedStop, takes_item, can_be_stopped, has_agent, has_pair, is_made_by, is_unobstructed, made_by, may_stop, names_any, spares_opener, without_opens}
 
 -- a stop takes out an item
 abbrev pub takes : PlannedStop → OpenRecord → Bool
@@ -33,7 +35,7 @@ filter_twice p q (x ∷ xs) = elim (cases_Bool (p x)) [
 
 -- the handles and the pairs of a stop take out the same items one after the other as at once
 pub taken_at_once : (plan : PlannedStop) (opens : List OpenRecord) → without_opens plan.handles plan.pairs opens ≡ without_items (takes plan) opens
-taken_at_once plan opens = filter_twice (names_any plan.handles) (λ o. has_pair plan.pairs (pair_of o)) opens
+taken_at_once plan opens = filter_twice (names_any plan.handles) (λ o. has_pair plan.pairs (manager_of o)) opens
 
 -- ---- what is left on an interface
 
@@ -146,13 +148,13 @@ added_first plan n guid agent controller a opens h =
 
 -- ---- the opener stays
 
-not_pair : (pairs : List (ℕ × ℕ)) (agent controller : ℕ) → has_agent pairs agent ≡ false → has_pair pairs (controller, agent) ≡ false
+not_pair : (pairs : List Manager) (agent controller : ℕ) → has_agent pairs agent ≡ false → has_pair pairs (record { controller = controller; agent = agent }) ≡ false
 not_pair [] agent controller h = refl
-not_pair (p ∷ ps) agent controller h = elim (eqb_tells agent p.1) [
-  | inl t ↦ absurd (let k : (p.1 == agent) ≡ true = eq-eqb p.1 agent (sym t.1) in let m = rw k at h in cc)
-  | inr f ↦ elim (cases_Bool (p.1 == agent)) [
+not_pair (p ∷ ps) agent controller h = elim (eqb_tells agent p.agent) [
+  | inl t ↦ absurd (let k : (p.agent == agent) ≡ true = eq-eqb p.agent agent (sym t.1) in let m = rw k at h in cc)
+  | inr f ↦ elim (cases_Bool (p.agent == agent)) [
     | inl k ↦ absurd (let m = rw k at h in cc)
-    | inr k ↦ rw f.0 (rw (and_false (controller == p.0)) (not_pair ps agent controller (rw k at h)))
+    | inr k ↦ rw f.0 (rw (and_false (controller == p.controller)) (not_pair ps agent controller (rw k at h)))
   ]
 ]
 
@@ -174,14 +176,14 @@ false_if_not true h = cc
 false_if_not false h = refl
 
 -- A stop that can be made for a call of OpenProtocol takes out no item of its opener.
-pub opener_spared : (ds : List Meaning) (t : HandleTable) (opens : List OpenRecord) (plan : PlannedStop) (handle : ℕ) (opener : ℕ × ℕ) → plan.handles ≡ made_by t plan.pairs
-    → can_be_stopped ds t opens plan.pairs handle (Some opener) ≡ true → takes_item plan handle opener.0 opener.1 ≡ false
+pub opener_spared : (ds : List Meaning) (t : HandleTable) (opens : List OpenRecord) (plan : PlannedStop) (handle : ℕ) (opener : Opener) → plan.handles ≡ made_by t plan.pairs
+    → can_be_stopped ds t opens plan.pairs handle (Some opener) ≡ true → takes_item plan handle opener.agent opener.controller ≡ false
 opener_spared ds t opens plan handle opener made h =
     let set = plan.pairs in
     let a = and_parts (list_all (may_stop ds t opens) set) _ h in
     let b = and_parts (is_unobstructed t opens set) _ a.1 in
     let c = and_parts (not (is_made_by t set handle)) (spares_opener t set (Some opener)) b.1 in
-    let d = and_parts (not (has_agent set opener.0)) _ c.1 in
-    let e = and_parts (not (is_made_by t set opener.0)) (not (is_made_by t set opener.1)) d.1 in
-    let named = others_named (is_made_by t set) handle opener.0 opener.1 (false_if_not _ c.0) (false_if_not _ e.0) (false_if_not _ e.1) (numbers t) in
-    rw made (rw named (not_pair set opener.0 opener.1 (false_if_not _ d.0)))
+    let d = and_parts (not (has_agent set opener.agent)) _ c.1 in
+    let e = and_parts (not (is_made_by t set opener.agent)) (not (is_made_by t set opener.controller)) d.1 in
+    let named = others_named (is_made_by t set) handle opener.agent opener.controller (false_if_not _ c.0) (false_if_not _ e.0) (false_if_not _ e.1) (numbers t) in
+    rw made (rw named (not_pair set opener.agent opener.controller (false_if_not _ d.0)))

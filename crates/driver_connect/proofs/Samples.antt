@@ -4,8 +4,10 @@ use Rattle.std.specs.List.{list_any}
 use Rattle.guid_handles.specs.declared.records.Interface.{Interface}
 use Rattle.guid_handles.specs.declared.records.LiveHandle.{LiveHandle}
 use Rattle.guid_handles.specs.HandleTables.{HandleTable, numbers, maker_of, same_guid}
+use Rattle.open_agents.specs.declared.items.Manager.{Manager}
 use Rattle.open_agents.specs.declared.items.OpenRecord.{OpenRecord}
 use Rattle.driver_connect.specs.declared.agents.Agent.{Agent}
+use Rattle.driver_connect.specs.declared.stopping.Opener.{Opener}
 use Rattle.driver_connect.specs.Drivers.{Meaning, Plan, is_free, protocols_on, driver_binding, driver_of}
 use Rattle.driver_connect.specs.Stopping.{stop_set, made_by, can_be_stopped, without_handles, without_opens, managers_meant}
 use Rattle.driver_connect.specs.Starting.{site, agents_for, can_start, starts_on}
@@ -99,23 +101,29 @@ tree = record table { handles = live 1 None ∷ live 2 None ∷ live 3 None ∷ 
 abbrev opened : List OpenRecord
 opened = item 1 (guid 1) 2 1 0x10 ∷ item 5 (guid 1) 2 5 0x10 ∷ item 1 (guid 2) 3 1 0x10 ∷ item 6 (guid 1) 0 0 0x2 ∷ []
 
-stopped_pairs : stop_set tree opened ((1, 2) ∷ []) ≡ (1, 2) ∷ (5, 2) ∷ []
+abbrev pair : ℕ → ℕ → Manager
+pair controller agent = record { controller = controller; agent = agent }
+
+abbrev opener : ℕ → ℕ → Opener
+opener agent controller = record { agent = agent; controller = controller }
+
+stopped_pairs : stop_set tree opened (pair 1 2 ∷ []) ≡ pair 1 2 ∷ pair 5 2 ∷ []
 stopped_pairs = refl
 
-stopped_handles : made_by tree (stop_set tree opened ((1, 2) ∷ [])) ≡ 5 ∷ 6 ∷ []
+stopped_handles : made_by tree (stop_set tree opened (pair 1 2 ∷ [])) ≡ 5 ∷ 6 ∷ []
 stopped_handles = refl
 
-managers : managers_meant opened 1 0 ≡ (1, 2) ∷ (1, 3) ∷ []
+managers : managers_meant opened 1 0 ≡ pair 1 2 ∷ pair 1 3 ∷ []
 managers = refl
 
-manager : managers_meant opened 1 3 ≡ (1, 3) ∷ []
+manager : managers_meant opened 1 3 ≡ pair 1 3 ∷ []
 manager = refl
 
-abbrev can : List OpenRecord → ℕ → Option (ℕ × ℕ) → Bool
-can opens handle opener = can_be_stopped drivers tree opens ((1, 2) ∷ (5, 2) ∷ []) handle opener
+abbrev can : List OpenRecord → ℕ → Option Opener → Bool
+can opens handle by = can_be_stopped drivers tree opens (pair 1 2 ∷ pair 5 2 ∷ []) handle by
 
 -- not for a handle that goes or an opener that goes
-asked : can opened 1 None ∷ can opened 5 None ∷ can opened 1 (Some (3, 1)) ∷ can opened 1 (Some (2, 1)) ∷ can opened 1 (Some (3, 6)) ∷ [] ≡ true ∷ false ∷ true ∷ false ∷ false ∷ []
+asked : can opened 1 None ∷ can opened 5 None ∷ can opened 1 (Some (opener 3 1)) ∷ can opened 1 (Some (opener 2 1)) ∷ can opened 1 (Some (opener 3 6)) ∷ [] ≡ true ∷ false ∷ true ∷ false ∷ false ∷ []
 asked = refl
 
 -- an exclusive item on a handle that goes is an obstacle, and so is one for a child that stays
@@ -123,11 +131,11 @@ obstacles : can (item 6 (guid 1) 4 0 0x20 ∷ opened) 1 None ∷ can (item 6 (gu
 obstacles = refl
 
 -- a driver that does not let itself be stopped on a controller
-stays : can_be_stopped drivers tree opened ((1, 3) ∷ []) 1 None ∷ can_be_stopped drivers tree opened ((5, 3) ∷ []) 1 None ∷ can_be_stopped drivers tree opened ((1, 4) ∷ []) 1 None ∷ [] ≡ true ∷ false ∷ false ∷ []
+stays : can_be_stopped drivers tree opened (pair 1 3 ∷ []) 1 None ∷ can_be_stopped drivers tree opened (pair 5 3 ∷ []) 1 None ∷ can_be_stopped drivers tree opened (pair 1 4 ∷ []) 1 None ∷ [] ≡ true ∷ false ∷ false ∷ []
 stays = refl
 
 left_handles : numbers (without_handles (5 ∷ 6 ∷ []) tree) ≡ 1 ∷ 2 ∷ 3 ∷ []
 left_handles = refl
 
-left_items : without_opens (5 ∷ 6 ∷ []) ((1, 2) ∷ (5, 2) ∷ []) (item 3 (guid 1) 2 1 0x2 ∷ opened) ≡ item 1 (guid 2) 3 1 0x10 ∷ []
+left_items : without_opens (5 ∷ 6 ∷ []) (pair 1 2 ∷ pair 5 2 ∷ []) (item 3 (guid 1) 2 1 0x2 ∷ opened) ≡ item 1 (guid 2) 3 1 0x10 ∷ []
 left_items = refl

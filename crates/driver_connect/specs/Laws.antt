@@ -5,6 +5,7 @@ use Rattle.guid_handles.specs.declared.records.LiveHandle.{LiveHandle}
 use Rattle.guid_handles.specs.HandleTables.{HandleTable, has_number, is_on}
 use Rattle.guid_handles.specs.HandleChanges.{IsHandleTable}
 use Rattle.guid_handles.specs.Sorting.{Ascending}
+use Rattle.open_agents.specs.declared.items.Manager.{Manager}
 use Rattle.open_agents.specs.declared.items.OpenRecord.{OpenRecord}
 use Rattle.open_agents.specs.OpenItems.{is_of_pair, names}
 use Rattle.driver_connect.specs.declared.agents.Agent.{Agent}
@@ -17,23 +18,23 @@ use Rattle.driver_connect.specs.Connecting.{connected}
 
 -- A set holds some pairs, and each pair that manages a handle that a pair of the set made.
 pub record IsClosed (t : HandleTable) (opens : List OpenRecord)
-    (pairs set : List (ℕ × ℕ)) : Type 0 where
-  pub given : (p : ℕ × ℕ) → has_pair pairs p ≡ true → has_pair set p ≡ true
-  pub managers : (p : ℕ × ℕ) → has_pair (managers_of_made t opens set) p ≡ true
+    (pairs set : List Manager) : Type 0 where
+  pub given : (p : Manager) → has_pair pairs p ≡ true → has_pair set p ≡ true
+  pub managers : (p : Manager) → has_pair (managers_of_made t opens set) p ≡ true
       → has_pair set p ≡ true
 
 -- The stop set of some pairs is the least such set.
 abbrev pub StopSetLaw : Type 0
 StopSetLaw =
-    (t : HandleTable) (opens : List OpenRecord) (pairs : List (ℕ × ℕ)) →
+    (t : HandleTable) (opens : List OpenRecord) (pairs : List Manager) →
     IsClosed t opens pairs (stop_set t opens pairs)
-    × ((set : List (ℕ × ℕ)) → IsClosed t opens pairs set → (p : ℕ × ℕ)
+    × ((set : List Manager) → IsClosed t opens pairs set → (p : Manager)
     → has_pair (stop_set t opens pairs) p ≡ true → has_pair set p ≡ true)
 
 -- No further round adds anything to it.
 abbrev pub RoundsLaw : Type 0
 RoundsLaw =
-    (k : ℕ) (t : HandleTable) (opens : List OpenRecord) (pairs : List (ℕ × ℕ))
+    (k : ℕ) (t : HandleTable) (opens : List OpenRecord) (pairs : List Manager)
     → rounds k t opens (stop_set t opens pairs) ≡ stop_set t opens pairs
 
 -- ---- what stopping takes out
@@ -41,7 +42,7 @@ RoundsLaw =
 -- Of the handles that go, no interface is left, and no item that names one.
 abbrev pub GoneLaw : Type 0
 GoneLaw =
-    (ns : List ℕ) (pairs : List (ℕ × ℕ)) (t : HandleTable) (opens : List OpenRecord) (n : ℕ)
+    (ns : List ℕ) (pairs : List Manager) (t : HandleTable) (opens : List OpenRecord) (n : ℕ)
     → is_one_of ns n ≡ true →
     (filter (has_number n) (without_handles ns t).handles ≡ [])
     × (filter (is_on n) (without_handles ns t).interfaces ≡ [])

@@ -33,6 +33,6 @@ pub use laws::{
 pub use readiness::may_start_after;
 pub use reconnecting::replace_and_connect;
 pub use stop_order::{children_of, managers_to_stop, pairs_to_stop};
-pub use stopping::{StopPlan, disconnect, stop};
+pub use stopping::{Opener, StopPlan, disconnect, stop};
 pub use table::TableDriver;
 pub use view::{MAX_CHILDREN, MAX_GUIDS, MAX_PAIRS, ProtocolView, StartPlan, View};

@@ -1,24 +1,26 @@
-//! Pairs of a controller and the agent of a driver, each once.
+//! Pairs of a controller and the agent that manages it, each once.
 ghost use Rattle.std.specs.Prelude.{◌≡◌, ◌<◌, ◌++◌, [], ◌∷◌, length, OnOk, vec_len, vec_capacity};
 ghost use Rattle.driver_connect.specs.Stopping as spec;
 
 use guid_handles::Blocks;
+use open_agents::Manager;
 use std::alloc::{AllocError, Allocator};
 use std::marker::Model;
 
 /// Pairs, each once, in the order in which they joined.
 #[derive(Drop)]
 pub(crate) struct PairSet<A: Allocator> {
-    pairs: Vec<(u64, u64), A>,
+    pairs: Vec<Manager, A>,
     // Their agents, by the controllers.
     agents: Blocks<A>,
 }
 
 impl<A: Allocator> Model for PairSet<A> {
-    ghost use Rattle.std.specs.Prelude.{List, ℕ};
+    ghost use Rattle.std.specs.Prelude.{List};
+    ghost use Rattle.open_agents.specs.declared.items.Manager.{Manager};
     ghost use Rattle.driver_connect.specs.PairSets.{AreMembers};
 
-    ghost Value = { List (ℕ × ℕ) };
+    ghost Value = { List Manager };
 
     ghost view = { λ s. s.pairs.items };
 
@@ -26,7 +28,7 @@ impl<A: Allocator> Model for PairSet<A> {
 }
 
 /// Appends a pair, for which there is room.
-fn push_with_room<A: Allocator>(pairs: &mut Vec<(u64, u64), A>, pair: (u64, u64))
+fn push_with_room<A: Allocator>(pairs: &mut Vec<Manager, A>, pair: Manager)
     requires { vec_len pairs.old < vec_capacity pairs.old }
     ensures { pairs.new.items ≡ pairs.old.items ++ pair ∷ [] }
 {
@@ -47,7 +49,7 @@ impl<A: Allocator + Copy> PairSet<A> {
     }
 
     /// The pairs, in the order in which they joined.
-    pub(crate) fn as_slice(&self) -> &[(u64, u64)]
+    pub(crate) fn as_slice(&self) -> &[Manager]
         ensures { result.now ≡ self.now }
     {
         self.pairs.as_slice()
@@ -61,21 +63,23 @@ impl<A: Allocator + Copy> PairSet<A> {
     }
 
     /// Whether a pair is among them.
-    pub(crate) fn has(&self, pair: (u64, u64)) -> bool
+    pub(crate) fn has(&self, pair: Manager) -> bool
         ensures { result ≡ spec.has_pair self.now pair }
     {
-        self.agents.places(pair.0).contains(&(pair.1 as usize))
+        self.agents
+            .places(pair.controller)
+            .contains(&(pair.agent as usize))
     }
 
     /// Adds a pair, unless it is there.
-    pub(crate) fn add(&mut self, pair: (u64, u64)) -> Result<(), AllocError>
+    pub(crate) fn add(&mut self, pair: Manager) -> Result<(), AllocError>
         ensures { OnOk result (self.new ≡ spec.with_pair self.old pair) }
     {
         if self.has(pair) {
             return Ok(());
         }
         self.pairs.reserve(1)?;
-        self.agents.push(pair.0, pair.1 as usize)?;
+        self.agents.push(pair.controller, pair.agent as usize)?;
         push_with_room(&mut self.pairs, pair);
         Ok(())
     }

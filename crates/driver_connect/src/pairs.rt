@@ -1,25 +1,22 @@
-//! Pairs of a controller and the agent of a driver, and the stop set of some.
+//! Pairs of a controller and the agent that manages it, and the stop set of some.
 ghost use Rattle.std.specs.Prelude.{◌≡◌, ◌≤◌, IfOk, OnOk, length, drop};
 ghost use Rattle.driver_connect.specs.Stopping as spec;
 
 use crate::made::made_by;
 use crate::pair_set::PairSet;
 use guid_handles::Handles;
-use open_agents::Opens;
+use open_agents::{Manager, Opens};
 use std::alloc::{AllocError, Allocator};
 
 /// Whether a pair is among some.
-pub(crate) fn has_pair(pairs: &[(u64, u64)], pair: (u64, u64)) -> bool
+pub(crate) fn has_pair(pairs: &[Manager], pair: Manager) -> bool
     ensures { result ≡ spec.has_pair pairs.now pair }
 {
-    pairs.iter().any(|p| pair.0 == p.0 && pair.1 == p.1)
+    pairs.iter().any(|p| pair.controller == p.controller && pair.agent == p.agent)
 }
 
 /// Adds each of some pairs to a set, unless it is there.
-fn add_pairs<A: Allocator + Copy>(
-    set: &mut PairSet<A>,
-    more: &[(u64, u64)],
-) -> Result<(), AllocError>
+fn add_pairs<A: Allocator + Copy>(set: &mut PairSet<A>, more: &[Manager]) -> Result<(), AllocError>
     ensures { OnOk result (set.new ≡ spec.with_pairs set.old more.now) }
 {
     for pair in more {
@@ -37,7 +34,7 @@ pub(crate) fn is_made_by<A: Allocator + Copy>(
     ensures { result ≡ spec.is_made_by handles.now pairs.now handle }
 {
     match handles.maker(handle) {
-        Some(maker) => pairs.has(maker),
+        Some((controller, agent)) => pairs.has(Manager { controller, agent }),
         None => false,
     }
 }
@@ -47,8 +44,8 @@ fn managers_of_made<A: Allocator + Copy>(
     alloc: A,
     handles: &Handles<A>,
     opens: &Opens<A>,
-    pairs: &[(u64, u64)],
-) -> Result<Vec<(u64, u64), A>, AllocError>
+    pairs: &[Manager],
+) -> Result<Vec<Manager, A>, AllocError>
     ensures { IfOk result (λ v. v.items ≡ spec.managers_of_made handles.now opens.now pairs.now) }
 {
     let made = made_by(alloc, handles, pairs)?;
@@ -100,7 +97,7 @@ pub(crate) fn stop_set<A: Allocator + Copy>(
     alloc: A,
     handles: &Handles<A>,
     opens: &Opens<A>,
-    pairs: &[(u64, u64)],
+    pairs: &[Manager],
 ) -> Result<PairSet<A>, AllocError>
     ensures { IfOk result (λ set. set ≡ spec.stop_set handles.now opens.now pairs.now) }
 {

@@ -14,12 +14,19 @@ use crate::protocols::protocols_on;
 use crate::view::View;
 use guid_handles::Handles;
 use open_agents::{
-    BY_CHILD_CONTROLLER, BY_HANDLE_PROTOCOL, GET_PROTOCOL, Near, OpenRecord, Opens, TEST_PROTOCOL,
-    item_at,
+    BY_CHILD_CONTROLLER, BY_HANDLE_PROTOCOL, GET_PROTOCOL, Manager, Near, OpenRecord, Opens,
+    TEST_PROTOCOL, item_at,
 };
 use page_ranges::Status;
 use std::alloc::{AllocError, Allocator, Global};
 use std::marker::Model;
+
+/// The agent and the controller of a call of OpenProtocol.
+#[derive(Clone, Copy)]
+pub struct Opener {
+    pub agent: u64,
+    pub controller: u64,
+}
 
 /// Whether the driver of a pair lets itself be stopped.
 fn may_stop<D: Driver, A: Allocator + Copy>(
@@ -27,12 +34,12 @@ fn may_stop<D: Driver, A: Allocator + Copy>(
     drivers: &[D],
     handles: &Handles<A>,
     opens: &Opens<A>,
-    pair: (u64, u64),
+    pair: Manager,
 ) -> Result<bool, AllocError>
     ensures { IfOk result
         (λ b. b ≡ spec.may_stop (map D.meaning drivers.now) handles.now opens.now pair) }
 {
-    let (controller, agent) = pair;
+    let Manager { controller, agent } = pair;
     let Some(place) = driver_of(drivers, handles, agent) else {
         return Ok(false);
     };
@@ -51,7 +58,7 @@ fn may_all_stop<D: Driver, A: Allocator + Copy>(
     drivers: &[D],
     handles: &Handles<A>,
     opens: &Opens<A>,
-    pairs: &[(u64, u64)],
+    pairs: &[Manager],
 ) -> Result<bool, AllocError>
     ensures { IfOk result
         (λ b. b
@@ -76,7 +83,7 @@ fn is_no_obstacle<A: Allocator + Copy>(
     matches!(
         o.attributes,
         BY_HANDLE_PROTOCOL | GET_PROTOCOL | TEST_PROTOCOL
-    ) || set.has((o.controller, o.agent))
+    ) || set.has(o.manager())
         || (o.attributes == BY_CHILD_CONTROLLER && is_made_by(handles, set, o.controller))
 }
 
@@ -121,25 +128,25 @@ fn is_unobstructed<A: Allocator + Copy>(
 }
 
 /// Whether an agent is that of one of some pairs.
-fn has_agent(pairs: &[(u64, u64)], agent: u64) -> bool
+fn has_agent(pairs: &[Manager], agent: u64) -> bool
     ensures { result ≡ spec.has_agent pairs.now agent }
 {
-    pairs.iter().any(|p| p.1 == agent)
+    pairs.iter().any(|p| p.agent == agent)
 }
 
 /// Whether the agent and the controller of a call of OpenProtocol stay.
 fn spares_opener<A: Allocator + Copy>(
     handles: &Handles<A>,
     set: &PairSet<A>,
-    opener: Option<(u64, u64)>,
+    opener: Option<Opener>,
 ) -> bool
     ensures { result ≡ spec.spares_opener handles.now set.now opener }
 {
     match opener {
-        Some((agent, controller)) => {
-            !has_agent(set.as_slice(), agent)
-                && !is_made_by(handles, set, agent)
-                && !is_made_by(handles, set, controller)
+        Some(opener) => {
+            !has_agent(set.as_slice(), opener.agent)
+                && !is_made_by(handles, set, opener.agent)
+                && !is_made_by(handles, set, opener.controller)
         }
         None => true,
     }
@@ -153,7 +160,7 @@ fn can_be_stopped<D: Driver, A: Allocator + Copy>(
     opens: &Opens<A>,
     set: &PairSet<A>,
     handle: u64,
-    opener: Option<(u64, u64)>,
+    opener: Option<Opener>,
 ) -> Result<bool, AllocError>
     ensures { IfOk result
         (λ b. b
@@ -191,11 +198,11 @@ fn take_naming<A: Allocator + Copy>(opens: &mut Opens<A>, leaving: &[u64])
 }
 
 /// Removes the items of pairs.
-fn take_pairs<A: Allocator + Copy>(opens: &mut Opens<A>, pairs: &[(u64, u64)])
+fn take_pairs<A: Allocator + Copy>(opens: &mut Opens<A>, pairs: &[Manager])
     ensures { opens.new ≡ spec.without_pairs pairs.now opens.old }
 {
     for pair in pairs {
-        opens.drop_pair(pair.0, pair.1);
+        opens.drop_pair(pair.controller, pair.agent);
     }
 }
 
@@ -231,7 +238,7 @@ impl<A: Allocator + Copy> StopPlan<A> {
         alloc: A,
         handles: &Handles<A>,
         opens: &Opens<A>,
-        pairs: &[(u64, u64)],
+        pairs: &[Manager],
     ) -> Result<StopPlan<A>, AllocError>
         ensures { IfOk result (λ plan. plan ≡ spec.planned_stop handles.now opens.now pairs.now) }
     {
@@ -247,7 +254,7 @@ impl<A: Allocator + Copy> StopPlan<A> {
     }
 
     /// The pairs that the stop removes.
-    pub(crate) fn pairs(&self) -> &[(u64, u64)]
+    pub(crate) fn pairs(&self) -> &[Manager]
         ensures { result.now ≡ self.now.pairs }
     {
         self.pairs.as_slice()
@@ -272,7 +279,7 @@ impl<A: Allocator + Copy> StopPlan<A> {
         ensures { result ≡ spec.takes_item self.now handle agent controller }
     {
         names_any(self.handles.as_slice(), handle, agent, controller)
-            || self.pairs.has((controller, agent))
+            || self.pairs.has(Manager { controller, agent })
     }
 
     /// Whether the pairs can be stopped, for a call on a handle, and of OpenProtocol also with its agent
@@ -284,7 +291,7 @@ impl<A: Allocator + Copy> StopPlan<A> {
         handles: &Handles<A>,
         opens: &Opens<A>,
         handle: u64,
-        opener: Option<(u64, u64)>,
+        opener: Option<Opener>,
     ) -> Result<bool, AllocError>
         ensures { IfOk result
             (λ b. b
@@ -333,9 +340,9 @@ pub fn stop<D: Driver, A: Allocator + Copy>(
     handles: &mut Handles<A>,
     opens: &mut Opens<A>,
     drivers: &[D],
-    pairs: &[(u64, u64)],
+    pairs: &[Manager],
     handle: u64,
-    opener: Option<(u64, u64)>,
+    opener: Option<Opener>,
 ) -> Result<bool, AllocError>
     ensures ok { IfOk result
         (λ stopped. spec.Stops
@@ -357,7 +364,7 @@ pub(crate) fn managers_meant<A: Allocator + Copy>(
     opens: &Opens<A>,
     handle: u64,
     driver: u64,
-) -> Result<Vec<(u64, u64), A>, AllocError>
+) -> Result<Vec<Manager, A>, AllocError>
     ensures { IfOk result (λ v. v.items ≡ spec.managers_meant opens.now handle driver) }
 {
     let mut pairs = opens.managers(handle)?;
@@ -366,13 +373,13 @@ pub(crate) fn managers_meant<A: Allocator + Copy>(
 }
 
 /// Keeps the pairs of a driver, or all if it is 0.
-fn keep_of_driver<A: Allocator>(pairs: &mut Vec<(u64, u64), A>, driver: u64)
+fn keep_of_driver<A: Allocator>(pairs: &mut Vec<Manager, A>, driver: u64)
     ensures { pairs.new.items ≡ filter (spec.is_meant driver) pairs.old.items }
 {
     pairs.retain(
-        |p: &(u64, u64)| -> bool
+        |p: &Manager| -> bool
             ensures { result ≡ spec.is_meant driver p.now }
-        { driver == 0 || p.1 == driver },
+        { driver == 0 || p.agent == driver },
     );
 }
 

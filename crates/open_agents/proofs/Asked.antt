@@ -6,7 +6,7 @@ use Rattle.guid_handles.specs.HandleTables.{HandleTable, is_live, same_guid}
 use Rattle.guid_handles.proofs.SortedLists.{any_found, find_filter}
 use Rattle.guid_handles.proofs.Grouped.{is_same}
 use Rattle.open_agents.specs.declared.items.OpenRecord.{OpenRecord}
-use Rattle.open_agents.specs.OpenItems.{is_for_driver, is_exclusive, is_open_on, is_of_pair, is_closed_by, item_of, items_on, manages, managers_of, names}
+use Rattle.open_agents.specs.OpenItems.{is_for_driver, is_exclusive, is_open_on, is_of_pair, is_closed_by, item_of, items_on, manager_of, manages, managers_of, names}
 use Rattle.open_agents.specs.declared.items.Decision.TheVariants.{Add}
 use Rattle.open_agents.specs.OpenRule.{add_or_stop, has_equal, has_of_agent, has_holder, has_exclusive, is_driver_item, driver_item, names_badly, needs_agent, open_rule}
 use Rattle.open_agents.proofs.Placed.{none_of_agent_0}
@@ -83,12 +83,9 @@ filter_narrow q p h (x ∷ xs) = elim (cases_Bool (q x)) [
   ]
 ]
 
-abbrev pair_of : OpenRecord → ℕ × ℕ
-pair_of o = (o.controller, o.agent)
-
--- the items that make a pair manage a handle are near it
+-- the items that make an agent manage a handle are near it
 pub managed_near : (opens : List OpenRecord) (n : ℕ) → (n == 0) ≡ false → managers_of (filter (is_near n) opens) n ≡ managers_of opens n
-managed_near opens n z = ap (map pair_of) (filter_narrow (manages n) (is_near n) (λ o h. controller_near n o z (second_part (is_for_driver o.attributes) (o.controller == n) h)) opens)
+managed_near opens n z = ap (map manager_of) (filter_narrow (manages n) (is_near n) (λ o h. controller_near n o z (second_part (is_for_driver o.attributes) (o.controller == n) h)) opens)
 
 far_unnamed : (n : ℕ) (o : OpenRecord) → (n == 0) ≡ false → (o.agent == n) ≡ false → is_near n o ≡ false → names n o ≡ false
 far_unnamed n o z a f = elim (cases_Bool (o.handle == n)) [

@@ -2,6 +2,7 @@
 use Rattle.std.specs.Prelude.{ℕ, ◌+◌, ◌-◌, ◌^◌, min, ◌==◌, ◌&&◌, ◌||◌, not, Bool, cond, List, [], ◌∷◌, ◌++◌, map}
 use Rattle.std.specs.List.{filter, list_any}
 use Rattle.guid_handles.specs.HandleTables.{same_guid}
+use Rattle.open_agents.specs.declared.items.Manager.{Manager}
 use Rattle.open_agents.specs.declared.items.OpenRecord.{OpenRecord}
 use Rattle.open_agents.specs.declared.items.OpenItem.{OpenItem}
 
@@ -28,7 +29,7 @@ abbrev pub is_equal_item : ℕ → List ℕ → ℕ → ℕ → ℕ → OpenReco
 is_equal_item n guid agent controller a o =
     is_open_on n guid o && (is_of_pair controller agent o && (o.attributes == a))
 
--- an item makes its pair manage a handle: it is for a driver, and the handle is its controller
+-- an item makes its agent manage a handle: it is for a driver, and the handle is its controller
 abbrev pub manages : ℕ → OpenRecord → Bool
 manages n o = is_for_driver o.attributes && (o.controller == n)
 
@@ -80,19 +81,19 @@ abbrev pub is_kept : List OpenRecord → ℕ → List ℕ → Bool
 is_kept opens n guid = list_any (λ i. keeps i.attributes) (items_on opens n guid)
 
 -- the controller and the agent of an item
-abbrev pub manager_of : OpenRecord → ℕ × ℕ
-manager_of o = (o.controller, o.agent)
+abbrev pub manager_of : OpenRecord → Manager
+manager_of o = record { controller = o.controller; agent = o.agent }
 
--- the controller and the agent of each item that makes them manage a handle
-abbrev pub managers_of : List OpenRecord → ℕ → List (ℕ × ℕ)
+-- the controller and the agent of each item that makes the agent manage a handle
+abbrev pub managers_of : List OpenRecord → ℕ → List Manager
 managers_of opens n = map manager_of (filter (manages n) opens)
 
--- an item makes its pair manage one of some handles
+-- an item makes its agent manage one of some handles
 abbrev pub manages_any : List ℕ → OpenRecord → Bool
 manages_any ns o = is_for_driver o.attributes && list_any (λ n. o.controller == n) ns
 
--- the controller and the agent of each item that makes them manage one of some handles
-abbrev pub managers_of_any : List OpenRecord → List ℕ → List (ℕ × ℕ)
+-- the controller and the agent of each item that makes the agent manage one of some handles
+abbrev pub managers_of_any : List OpenRecord → List ℕ → List Manager
 managers_of_any opens ns = map manager_of (filter (manages_any ns) opens)
 
 -- ---- what changes

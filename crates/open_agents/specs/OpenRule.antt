@@ -7,7 +7,7 @@ use Rattle.guid_handles.specs.HandleChanges.{is_dead}
 use Rattle.open_agents.specs.declared.items.OpenRecord.{OpenRecord}
 use Rattle.open_agents.specs.declared.items.Decision.{Decision}
 use Rattle.open_agents.specs.declared.items.Decision.TheVariants.{Refuse, Count, Add, StopFirst}
-use Rattle.open_agents.specs.OpenItems.{is_for_driver, is_exclusive, is_open_on, is_equal_item, is_open_with, is_holding}
+use Rattle.open_agents.specs.OpenItems.{is_for_driver, is_exclusive, is_open_on, is_equal_item, is_open_with, is_holding, manager_of}
 
 -- ---- attributes
 
@@ -64,10 +64,10 @@ abbrev pub first_line : List (Bool × Decision) → Decision → Decision
 first_line [] last = last
 first_line (l ∷ ls) last = cond l.0 l.1 (first_line ls last)
 
--- an exclusive open stops the driver that has the interface open
+-- an exclusive open stops the manager that has the interface open
 abbrev pub add_or_stop : Bool → Option OpenRecord → Decision
 add_or_stop exclusive None = Add
-add_or_stop exclusive (Some o) = cond exclusive (StopFirst (o.controller, o.agent)) Add
+add_or_stop exclusive (Some o) = cond exclusive (StopFirst (manager_of o)) Add
 
 -- The first line that applies decides.
 abbrev pub open_rule : HandleTable → List OpenRecord → ℕ → List ℕ → ℕ → ℕ → ℕ → Decision

@@ -18,6 +18,18 @@ pub struct OpenRecord {
     pub count: u32,
 }
 
+impl OpenRecord {
+    /// The controller and the agent of the item.
+    pub fn manager(&self) -> Manager
+        ensures { result ≡ spec.manager_of self.now }
+    {
+        Manager {
+            controller: self.controller,
+            agent: self.agent,
+        }
+    }
+}
+
 /// An item of an interface, as OpenProtocolInformation lists it: an EFI_OPEN_PROTOCOL_INFORMATION_ENTRY.
 #[repr(C)]
 #[derive(Clone, Copy, Debug, PartialEq, Eq)]
@@ -26,6 +38,13 @@ pub struct OpenItem {
     pub controller: u64,
     pub attributes: u32,
     pub count: u32,
+}
+
+/// An agent that manages a controller: it has an interface open for a driver, with this controller.
+#[derive(Clone, Copy, Debug, PartialEq, Eq)]
+pub struct Manager {
+    pub controller: u64,
+    pub agent: u64,
 }
 
 /// How an interface is open, as far as its removal goes.
@@ -48,8 +67,8 @@ pub enum Decision {
     Count,
     /// A new item is made.
     Add,
-    /// A new item is made once the driver of a pair of controller and agent was stopped.
-    StopFirst((u64, u64)),
+    /// A new item is made once the manager that has the interface open was stopped.
+    StopFirst(Manager),
 }
 
 /// Whether an item is on the interface of a GUID on a handle.
@@ -99,7 +118,7 @@ pub(crate) fn item_of(o: &OpenRecord) -> OpenItem
     }
 }
 
-/// Whether an item makes its pair manage a handle.
+/// Whether an item makes its agent manage a handle.
 pub(crate) fn manages(o: &OpenRecord, handle: u64) -> bool
     ensures { result ≡ spec.manages handle o.now }
 {

@@ -14,7 +14,7 @@ use crate::attributes::{
     BY_CHILD_CONTROLLER, BY_DRIVER, EXCLUSIVE, is_exclusive, is_for_driver, is_known, needs_agent,
     needs_controller,
 };
-use crate::items::{Decision, OpenItem, OpenRecord, Usage, is_open_on, item_of, manages};
+use crate::items::{Decision, Manager, OpenItem, OpenRecord, Usage, is_open_on, item_of, manages};
 use crate::managers;
 use crate::near::{Near, item_at};
 use crate::questions::{
@@ -359,10 +359,9 @@ impl<A: Allocator + Copy> Opens<A> {
         self.items.nth_of(agent, index)
     }
 
-    /// The pairs of controller and agent that manage a handle: one for each item for a driver with
-    /// the handle as its controller, on whatever handle it is. If there are none, this takes no
-    /// memory.
-    pub fn managers(&self, handle: u64) -> Result<Vec<(u64, u64), A>, AllocError>
+    /// The managers of a handle: one for each item for a driver with the handle as its controller,
+    /// on whatever handle it is. If there are none, this takes no memory.
+    pub fn managers(&self, handle: u64) -> Result<Vec<Manager, A>, AllocError>
         ensures pairs { IfOk result (λ v. v.items ≡ managers_of self.now handle) }
         ensures none { managers_of self.now handle ≡ [] → IsOk result }
     {
@@ -372,9 +371,8 @@ impl<A: Allocator + Copy> Opens<A> {
         managers_near(self.items.allocator(), self.near(handle), handle)
     }
 
-    /// The pairs of controller and agent that manage one of some handles, none of which is 0, in the
-    /// order of their items.
-    pub fn managers_of_any(&self, handles: &[u64]) -> Result<Vec<(u64, u64), A>, AllocError>
+    /// The managers of some handles, none of which is 0, in the order of their items.
+    pub fn managers_of_any(&self, handles: &[u64]) -> Result<Vec<Manager, A>, AllocError>
         requires { AllByRecursion (λ n. (n == 0) ≡ false) handles.now }
         ensures { IfOk result (λ v. v.items ≡ managers_of_any self.now handles.now) }
     {
@@ -428,7 +426,7 @@ fn decide_among<A: Allocator + Copy>(
         return Decision::Refuse(Status::AccessDenied);
     }
     match first_driver_item(on, handle, guid) {
-        Some(item) => Decision::StopFirst((item.controller, item.agent)),
+        Some(item) => Decision::StopFirst(item.manager()),
         None => Decision::Add,
     }
 }
@@ -495,12 +493,12 @@ fn items_among<A: Allocator>(
     Ok(found)
 }
 
-/// The pairs that manage a handle by items near it.
+/// The managers of a handle by items near it.
 fn managers_near<A: Allocator>(
     alloc: A,
     near: Near<'_>,
     handle: u64,
-) -> Result<Vec<(u64, u64), A>, AllocError>
+) -> Result<Vec<Manager, A>, AllocError>
     ensures pairs { IfOk result (λ v. v.items ≡ managers_of (items_near near.entry) handle) }
     ensures none { managers_of (items_near near.entry) handle ≡ [] → IsOk result }
 {
@@ -508,19 +506,19 @@ fn managers_near<A: Allocator>(
     for place in near.places {
         if let Some(o) = item_at(near.slots, *place) {
             if manages(o, handle) {
-                found.push((o.controller, o.agent))?;
+                found.push(o.manager())?;
             }
         }
     }
     Ok(found)
 }
 
-/// The pairs that manage a handle by all items.
+/// The managers of a handle by all items.
 fn managers_among<A: Allocator>(
     alloc: A,
     slots: &[Option<OpenRecord>],
     handle: u64,
-) -> Result<Vec<(u64, u64), A>, AllocError>
+) -> Result<Vec<Manager, A>, AllocError>
     ensures pairs { IfOk result (λ v. v.items ≡ managers_of (items_in slots.now) handle) }
     ensures none { managers_of (items_in slots.now) handle ≡ [] → IsOk result }
 {
@@ -528,7 +526,7 @@ fn managers_among<A: Allocator>(
     for slot in slots {
         if let Some(item) = slot {
             if manages(item, handle) {
-                found.push((item.controller, item.agent))?;
+                found.push(item.manager())?;
             }
         }
     }

@@ -1,5 +1,5 @@
 -- An interface that is freed, and what stays of its handle.
-use Rattle.std.proofs.Common.{◌≡◌, ℕ, ◌+◌, ◌≤◌, ◌&&◌, ◌++◌, map, append-nil, Bool, not, true, false, List, [], ◌∷◌, Option, Some, None, is_some, Result, Ok, Err, IfOk, OnOk, OnErr, Vec, inl, inr, refl, sym, ap, subst, ◌∙◌, arith}
+use Rattle.std.proofs.Common.{◌≡◌, ℕ, ◌+◌, ◌≤◌, ◌&&◌, ◌++◌, append-nil, Bool, not, true, false, List, [], ◌∷◌, Option, Some, None, is_some, Result, Ok, Err, IfOk, OnOk, OnErr, Vec, inl, inr, refl, sym, ap, subst, ◌∙◌, arith}
 use Rattle.std.specs.List.{filter, list_any, list_all}
 use Rattle.std.specs.Option.{option_map}
 use Rattle.std.proofs.lemmas.Bool.{cases_Bool, and_parts}
@@ -11,10 +11,12 @@ use Rattle.guid_handles.specs.HandleChanges.{IsHandleTable, unless_bare, with_va
 use Rattle.guid_handles.proofs.SortedLists.{all_filter, find_filter}
 use Rattle.guid_handles.proofs.Indexed.{at_handle}
 use Rattle.open_agents.specs.declared.items.Decision.TheVariants.{StopFirst}
+use Rattle.open_agents.specs.declared.items.Manager.{Manager}
 use Rattle.open_agents.specs.declared.items.OpenRecord.{OpenRecord}
 use Rattle.open_agents.specs.declared.items.OpenItem.{OpenItem}
-use Rattle.open_agents.specs.OpenItems.{is_for_driver, is_kept, is_open_on, items_on, keeps, names, with_item, without_items}
+use Rattle.open_agents.specs.OpenItems.{is_kept, is_open_on, items_on, keeps, names, with_item, without_items}
 use Rattle.protocol_notify.specs.Registrations.{events_for}
+use Rattle.driver_connect.specs.declared.stopping.Opener.{Opener}
 use Rattle.driver_connect.specs.Drivers.{Meaning}
 use Rattle.driver_connect.specs.Starting.{Progress, Site, site}
 use Rattle.driver_connect.specs.Stopping.{PlannedStop, planned_stop, takes_item, can_be_stopped, is_made_by, is_one_of, is_unobstructed, made_by, may_stop, spares_opener, stop_set, without_handles, without_opens}
@@ -27,14 +29,14 @@ use Rattle.driver_connect.proofs.Ready.{ready_start}
 use Rattle.protocol_services.specs.Lists.{Lists, IsRaised}
 use Rattle.protocol_services.specs.Opening.{OpensAs, opened_value}
 use Rattle.protocol_services.specs.Stopping.{can_stop}
-use Rattle.protocol_services.specs.Removing.{Reinstalls, Replaces, can_be_freed, drivers_on, freed, is_value, once_freed, reconnected, removal_refusal, replaced, uninstalled, with_progress, without_dead}
+use Rattle.protocol_services.specs.Removing.{Reinstalls, Replaces, can_be_freed, drivers_among, drivers_on, freed, is_value, once_freed, reconnected, removal_refusal, replaced, uninstalled, with_progress, without_dead}
 use Rattle.protocol_services.proofs.OpenCounts.{CountUpTo, one_higher, opened_counts}
 use Rattle.protocol_services.proofs.Raised.{all_left, stays_raised}
 
 -- ---- the handle of a call stays
 
 -- the handle of a call is not one of those that go
-stays : (ds : List Meaning) (t : HandleTable) (opens : List OpenRecord) (set : List (ℕ × ℕ)) (handle : ℕ) (opener : Option (ℕ × ℕ)) → can_be_stopped ds t opens set handle opener ≡ true
+stays : (ds : List Meaning) (t : HandleTable) (opens : List OpenRecord) (set : List Manager) (handle : ℕ) (opener : Option Opener) → can_be_stopped ds t opens set handle opener ≡ true
     → is_made_by t set handle ≡ false
 stays ds t opens set handle opener h =
     let a = and_parts (list_all (may_stop ds t opens) set) _ h in
@@ -73,15 +75,15 @@ carried_freed ds l handle guid h k = ap is_some (interface_kept ds l handle guid
 -- ---- an open after a stop
 
 -- What an exclusive open leaves that added its item and then stopped a driver.
-pub opened_stopped : (ds : List Meaning) (l new : Lists) (plan : PlannedStop) (pair : ℕ × ℕ) (handle : ℕ) (guid : List ℕ) (opener : ℕ × ℕ) (a : ℕ) (can : Bool) (value : Option ℕ) (added : List OpenRecord)
-    → plan ≡ planned_stop l.handles l.opens (pair ∷ []) → can ≡ can_be_stopped ds l.handles l.opens plan.pairs handle (Some opener) → can ≡ true → added ≡ with_item handle guid opener.0 opener.1 a l.opens
+pub opened_stopped : (ds : List Meaning) (l new : Lists) (plan : PlannedStop) (pair : Manager) (handle : ℕ) (guid : List ℕ) (opener : Opener) (a : ℕ) (can : Bool) (value : Option ℕ) (added : List OpenRecord)
+    → plan ≡ planned_stop l.handles l.opens (pair ∷ []) → can ≡ can_be_stopped ds l.handles l.opens plan.pairs handle (Some opener) → can ≡ true → added ≡ with_item handle guid opener.agent opener.controller a l.opens
     → new ≡ record l { handles = without_handles plan.handles l.handles; opens = without_opens plan.handles plan.pairs added }
-    → value ≡ opened_value l handle guid a → OpensAs ds (StopFirst pair) l handle guid opener.0 opener.1 a (Ok value) new
+    → value ≡ opened_value l handle guid a → OpensAs ds (StopFirst pair) l handle guid opener.agent opener.controller a (Ok value) new
 opened_stopped ds l new plan pair handle guid opener a can value added p asked sure o e v =
     let made : plan.handles ≡ made_by l.handles plan.pairs = rw p refl in
-    let stays : takes_item plan handle opener.0 opener.1 ≡ false = opener_spared ds l.handles l.opens plan handle opener made (sym asked ∙ sure) in
-    let last : without_opens plan.handles plan.pairs added ≡ with_item handle guid opener.0 opener.1 a (without_opens plan.handles plan.pairs l.opens)
-    = ap (without_opens plan.handles plan.pairs) o ∙ added_first plan handle guid opener.0 opener.1 a l.opens stays in
+    let stays : takes_item plan handle opener.agent opener.controller ≡ false = opener_spared ds l.handles l.opens plan handle opener made (sym asked ∙ sure) in
+    let last : without_opens plan.handles plan.pairs added ≡ with_item handle guid opener.agent opener.controller a (without_opens plan.handles plan.pairs l.opens)
+    = ap (without_opens plan.handles plan.pairs) o ∙ added_first plan handle guid opener.agent opener.controller a l.opens stays in
     let can_stop_it : can_stop ds l (pair ∷ []) handle (Some opener) ≡ true = ap (λ (q : PlannedStop). can_be_stopped ds l.handles l.opens q.pairs handle (Some opener)) (sym p) ∙ sym asked ∙ sure in
     (can_stop_it, v, e ∙ rw last (rw p refl))
 
@@ -98,7 +100,7 @@ opened_stopped_raised l new plan handle guid agent controller a added o e = rw e
 
 -- Where the drivers that have an interface open can be stopped, it can be freed unless an item that they leave keeps it.
 pub free_answer : (ds : List Meaning) (l : Lists) (handle : ℕ) (guid : List ℕ) (plan : PlannedStop) (items : List OpenItem) (can kept : Bool)
-    → items ≡ items_on l.opens handle guid → plan ≡ planned_stop l.handles l.opens (map (λ i. (i.controller, i.agent)) (filter (λ i. is_for_driver i.attributes) items))
+    → items ≡ items_on l.opens handle guid → plan ≡ planned_stop l.handles l.opens (drivers_among items)
     → can ≡ can_be_stopped ds l.handles l.opens plan.pairs handle None → can ≡ true
     → kept ≡ list_any (λ i. keeps i.attributes && not (takes_item plan handle i.agent i.controller)) items → can_be_freed ds l handle guid ≡ not kept
 free_answer ds l handle guid plan items can kept i p asked sure k =
@@ -109,7 +111,7 @@ free_answer ds l handle guid plan items can kept i p asked sure k =
 
 -- Where they can't be stopped, it can't be freed.
 pub not_freed : (ds : List Meaning) (l : Lists) (handle : ℕ) (guid : List ℕ) (plan : PlannedStop) (items : List OpenItem) (can : Bool)
-    → items ≡ items_on l.opens handle guid → plan ≡ planned_stop l.handles l.opens (map (λ i. (i.controller, i.agent)) (filter (λ i. is_for_driver i.attributes) items))
+    → items ≡ items_on l.opens handle guid → plan ≡ planned_stop l.handles l.opens (drivers_among items)
     → can ≡ can_be_stopped ds l.handles l.opens plan.pairs handle None → can ≡ false → can_be_freed ds l handle guid ≡ false
 not_freed ds l handle guid plan items can i p asked sure =
     let whole : plan ≡ planned_stop l.handles l.opens (drivers_on l.opens handle guid) = rw i at p in
@@ -324,7 +326,7 @@ handles_left (Ok returned) t new opens old h = tt
 handles_left (Err error) t new opens old h = h.0
 
 -- the handles of a stop are those that its pairs made
-pub planned_made : (t : HandleTable) (opens : List OpenRecord) (pairs : List (ℕ × ℕ)) (plan : PlannedStop) → plan ≡ planned_stop t opens pairs → plan.handles ≡ made_by t plan.pairs
+pub planned_made : (t : HandleTable) (opens : List OpenRecord) (pairs : List Manager) (plan : PlannedStop) → plan ≡ planned_stop t opens pairs → plan.handles ≡ made_by t plan.pairs
 planned_made t opens pairs plan p = rw p refl
 
 -- ---- what is put back

@@ -9,10 +9,11 @@ use Rattle.guid_handles.specs.HandleChanges.{is_dead, without_interface}
 use Rattle.guid_handles.specs.Sorting.{Ascending}
 use Rattle.guid_handles.proofs.GuidOrder.{same_guid-true}
 use Rattle.guid_handles.proofs.SortedLists.{all_map, all_mapped, all_of, all_push, all_filter, all_filtered, any_none, ascending_filter, ascending_map, ascending_push}
+use Rattle.open_agents.specs.declared.items.Manager.{Manager}
 use Rattle.open_agents.specs.declared.items.OpenRecord.{OpenRecord}
-use Rattle.open_agents.specs.OpenItems.{counted, is_equal_item, is_exclusive, is_for_driver, is_open_on, names, with_item, without_items}
+use Rattle.open_agents.specs.OpenItems.{counted, is_equal_item, is_exclusive, is_for_driver, is_open_on, manager_of, names, with_item, without_items}
 use Rattle.open_agents.specs.OpenRule.{has_equal, has_holder, is_driver_item}
-use Rattle.driver_connect.specs.Stopping.{has_pair, is_one_of, names_any, pair_of, without_handles, without_opens}
+use Rattle.driver_connect.specs.Stopping.{has_pair, is_one_of, names_any, without_handles, without_opens}
 use Rattle.driver_connect.proofs.Opened.{is_holder, none_any}
 use Rattle.protocol_services.specs.ProperLists.{NamesLive, HoldApart, holds}
 use Rattle.protocol_services.proofs.ProperTables.{live_filtered, not_dead, other_live}
@@ -111,16 +112,16 @@ unnamed (n ∷ ns) o m k e = elim (cases_Bool (names n o)) [
   ]
 ]
 
-pub stopped_named : (ns : List ℕ) (pairs : List (ℕ × ℕ)) (t : HandleTable) (opens : List OpenRecord) → AllByRecursion (NamesLive t) opens
+pub stopped_named : (ns : List ℕ) (pairs : List Manager) (t : HandleTable) (opens : List OpenRecord) → AllByRecursion (NamesLive t) opens
     → AllByRecursion (NamesLive (without_handles ns t)) (without_opens ns pairs opens)
 stopped_named ns pairs t opens h =
-    all_filter (NamesLive (without_handles ns t)) (λ o. not (has_pair pairs (pair_of o))) (without_items (names_any ns) opens)
+    all_filter (NamesLive (without_handles ns t)) (λ o. not (has_pair pairs (manager_of o))) (without_items (names_any ns) opens)
     (all_filtered (NamesLive (without_handles ns t)) (NamesLive t) (λ o. not (names_any ns o))
     (λ o k l. named_there t (without_handles ns t) o (λ m e live. live_filtered (λ i. not (is_one_of ns i)) t m live (unnamed ns o m k e)) l) opens h)
 
-pub stopped_apart : (ns : List ℕ) (pairs : List (ℕ × ℕ)) (opens : List OpenRecord) → Ascending HoldApart opens → Ascending HoldApart (without_opens ns pairs opens)
+pub stopped_apart : (ns : List ℕ) (pairs : List Manager) (opens : List OpenRecord) → Ascending HoldApart opens → Ascending HoldApart (without_opens ns pairs opens)
 stopped_apart ns pairs opens h =
-    ascending_filter HoldApart (λ o. not (has_pair pairs (pair_of o))) (without_items (names_any ns) opens) (ascending_filter HoldApart (λ o. not (names_any ns o)) opens h)
+    ascending_filter HoldApart (λ o. not (has_pair pairs (manager_of o))) (without_items (names_any ns) opens) (ascending_filter HoldApart (λ o. not (names_any ns o)) opens h)
 
 -- ---- an interface that goes
 
@@ -171,12 +172,12 @@ found_with {X = X} P p (y ∷ ys) x a e = elim (cases_Bool (p y)) [
 
 -- where a driver has an interface open, no other pair holds it
 pub one_holder : (n : ℕ) (guid : List ℕ) (opens : List OpenRecord) (o : OpenRecord) → Ascending HoldApart opens → find (is_driver_item n guid) opens ≡ Some o
-    → AllByRecursion (λ p. is_holder n guid p ≡ true → pair_of p ≡ pair_of o) opens
+    → AllByRecursion (λ p. is_holder n guid p ≡ true → manager_of p ≡ manager_of o) opens
 one_holder n guid [] o h e = tt
 one_holder n guid (x ∷ xs) o h e = elim (cases_Bool (is_driver_item n guid x)) [
   | inl k ↦ (
-    λ l. ap pair_of (same_Some x o (rw k at e)),
-    all_map (HoldApart x) (λ p. is_holder n guid p ≡ true → pair_of p ≡ pair_of o) (λ p r l. absurd (rivals n guid x p r l (driver_holds n guid x k))) xs h.0,
+    λ l. ap manager_of (same_Some x o (rw k at e)),
+    all_map (HoldApart x) (λ p. is_holder n guid p ≡ true → manager_of p ≡ manager_of o) (λ p r l. absurd (rivals n guid x p r l (driver_holds n guid x k))) xs h.0,
   )
   | inr k ↦
       let rest : find (is_driver_item n guid) xs ≡ Some o = rw k at e in
@@ -185,13 +186,13 @@ one_holder n guid (x ∷ xs) o h e = elim (cases_Bool (is_driver_item n guid x))
 ]
 
 -- once it is stopped, nobody holds it
-pub none_holds : (n : ℕ) (guid : List ℕ) (ns : List ℕ) (set : List (ℕ × ℕ)) (q : ℕ × ℕ) (opens : List OpenRecord) → has_pair set q ≡ true
-    → AllByRecursion (λ p. is_holder n guid p ≡ true → pair_of p ≡ q) opens → has_holder (without_opens ns set opens) n guid ≡ false
+pub none_holds : (n : ℕ) (guid : List ℕ) (ns : List ℕ) (set : List Manager) (q : Manager) (opens : List OpenRecord) → has_pair set q ≡ true
+    → AllByRecursion (λ p. is_holder n guid p ≡ true → manager_of p ≡ q) opens → has_holder (without_opens ns set opens) n guid ≡ false
 none_holds n guid ns set q opens h all =
     any_none (is_holder n guid) (without_opens ns set opens)
-    (all_filtered (λ o. is_holder n guid o ≡ false) (λ p. is_holder n guid p ≡ true → pair_of p ≡ q) (λ o. not (has_pair set (pair_of o)))
+    (all_filtered (λ o. is_holder n guid o ≡ false) (λ p. is_holder n guid p ≡ true → manager_of p ≡ q) (λ o. not (has_pair set (manager_of o)))
     (λ o k f. elim (cases_Bool (is_holder n guid o)) [
-      | inl e ↦ absurd (let g : has_pair set (pair_of o) ≡ true = rw (f e) h in let j = rw g at k in cc)
+      | inl e ↦ absurd (let g : has_pair set (manager_of o) ≡ true = rw (f e) h in let j = rw g at k in cc)
       | inr e ↦ e
     ])
-    (without_items (names_any ns) opens) (all_filter (λ p. is_holder n guid p ≡ true → pair_of p ≡ q) (λ o. not (names_any ns o)) opens all))
+    (without_items (names_any ns) opens) (all_filter (λ p. is_holder n guid p ≡ true → manager_of p ≡ q) (λ o. not (names_any ns o)) opens all))

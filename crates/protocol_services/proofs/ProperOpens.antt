@@ -9,16 +9,17 @@ use Rattle.guid_handles.specs.HandleChanges.{is_dead}
 use Rattle.guid_handles.proofs.SortedLists.{all_both, all_filter, any_none, ascending_filter, found_none}
 use Rattle.open_agents.specs.declared.items.Decision.{Decision}
 use Rattle.open_agents.specs.declared.items.Decision.TheVariants.{Refuse, Count, Add, StopFirst}
+use Rattle.open_agents.specs.declared.items.Manager.{Manager}
 use Rattle.open_agents.specs.declared.items.OpenRecord.{OpenRecord}
-use Rattle.open_agents.specs.OpenItems.{is_closed_by, is_exclusive, is_for_driver, is_open_on, without_items}
+use Rattle.open_agents.specs.OpenItems.{is_closed_by, is_exclusive, is_for_driver, is_open_on, manager_of, without_items}
 use Rattle.open_agents.specs.OpenRule.{add_or_stop, driver_item, has_equal, has_exclusive, has_holder, has_of_agent, is_driver_item, is_known, names_badly, needs_agent, needs_controller, open_rule}
 use Rattle.driver_connect.specs.Drivers.{Meaning}
-use Rattle.driver_connect.specs.Stopping.{has_pair, made_by, pair_of, stop_set}
+use Rattle.driver_connect.specs.Stopping.{has_pair, made_by, stop_set}
 use Rattle.driver_connect.proofs.Opened.{is_holder, none_any}
 use Rattle.driver_connect.proofs.StopSets.{is_closed}
 use Rattle.protocol_services.specs.Lists.{Lists}
 use Rattle.protocol_services.specs.Stopping.{can_stop, once_stopped}
-use Rattle.protocol_services.specs.Opening.{Closes, HandlesProtocol, OpensAs, OpensProtocol, by_handle_protocol, once_opened}
+use Rattle.protocol_services.specs.Opening.{Closes, HandlesProtocol, OpensAs, OpensProtocol, by_handle_protocol, once_opened, opened_by}
 use Rattle.protocol_services.specs.ProperLists.{AreProperLists, NamesLive, HoldApart}
 use Rattle.protocol_services.proofs.ProperItems.{none_holds, one_holder, with_item_apart, with_item_named}
 use Rattle.protocol_services.proofs.ProperRules.{handle_spared, lists_proper, opener_spared, parts_proper, same, spared_dead, spared_live, stopped_proper}
@@ -149,22 +150,22 @@ adds l n guid agent controller a d s e f g =
     let k = goes l.handles l.opens n guid agent controller a d e f in
     opened_proper l n guid agent controller a s (well_named l.handles n agent controller a k.named) (λ x h. free_for l.opens n guid a d (k.new x) g h)
 
-stop_pair : (exclusive : Bool) (o : Option OpenRecord) (q : ℕ × ℕ) → add_or_stop exclusive o ≡ StopFirst q → (p : OpenRecord) × (o ≡ Some p) × (pair_of p ≡ q)
+stop_pair : (exclusive : Bool) (o : Option OpenRecord) (q : Manager) → add_or_stop exclusive o ≡ StopFirst q → (p : OpenRecord) × (o ≡ Some p) × (manager_of p ≡ q)
 stop_pair true None q e = absurd cc
 stop_pair true (Some p) q e = (p, refl, cc)
 stop_pair false None q e = absurd cc
 stop_pair false (Some p) q e = absurd cc
 
-own_pair : (q : ℕ × ℕ) → has_pair (q ∷ []) q ≡ true
-own_pair q = rw (eq-eqb q.0 q.0 refl) (rw (eq-eqb q.1 q.1 refl) refl)
+own_pair : (q : Manager) → has_pair (q ∷ []) q ≡ true
+own_pair q = rw (eq-eqb q.controller q.controller refl) (rw (eq-eqb q.agent q.agent refl) refl)
 
-stops : (ds : List Meaning) (l : Lists) (n : ℕ) (guid : List ℕ) (agent controller a : ℕ) (q : ℕ × ℕ) → AreProperLists l → open_rule l.handles l.opens n guid agent controller a ≡ StopFirst q
-    → can_stop ds l (q ∷ []) n (Some (agent, controller)) ≡ true → AreProperLists (once_opened (once_stopped (q ∷ []) l) n guid agent controller a)
+stops : (ds : List Meaning) (l : Lists) (n : ℕ) (guid : List ℕ) (agent controller a : ℕ) (q : Manager) → AreProperLists l → open_rule l.handles l.opens n guid agent controller a ≡ StopFirst q
+    → can_stop ds l (q ∷ []) n (opened_by agent controller) ≡ true → AreProperLists (once_opened (once_stopped (q ∷ []) l) n guid agent controller a)
 stops ds l n guid agent controller a q s e can =
     let k = goes l.handles l.opens n guid agent controller a (StopFirst q) e (λ x. x) in
     let m = well_named l.handles n agent controller a k.named in
     let set = stop_set l.handles l.opens (q ∷ []) in
-    let spared = handle_spared ds l.handles l.opens set n (Some (agent, controller)) can in
+    let spared = handle_spared ds l.handles l.opens set n (opened_by agent controller) can in
     let opener = opener_spared l.handles set agent controller spared.1 in
     let new : ComesNew l.opens n guid a (StopFirst q) = elim (cases_Bool (has_equal l.opens n guid agent controller a)) [
       | inl x ↦ absurd (let c = k.equal x in cc)
@@ -179,7 +180,7 @@ stops ds l n guid agent controller a q s e can =
       controller_lives = spared_dead l.handles set controller opener.1 m.controller_lives;
     })
     (λ x h. none_holds n guid (made_by l.handles set) set q l.opens within
-    (subst (λ (r : ℕ × ℕ). AllByRecursion (λ p. is_holder n guid p ≡ true → pair_of p ≡ r) l.opens) pair.2 (one_holder n guid l.opens pair.0 s.holders pair.1)))
+    (subst (λ (r : Manager). AllByRecursion (λ p. is_holder n guid p ≡ true → manager_of p ≡ r) l.opens) pair.2 (one_holder n guid l.opens pair.0 s.holders pair.1)))
 
 opens_as : (ds : List Meaning) (d : Decision) (old : Lists) (n : ℕ) (guid : List ℕ) (agent controller a : ℕ) (result : Result (Option ℕ) Status) (new : Lists) → AreProperLists old
     → open_rule old.handles old.opens n guid agent controller a ≡ d → OpensAs ds d old n guid agent controller a result new → AreProperLists new

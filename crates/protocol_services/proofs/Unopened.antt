@@ -6,6 +6,7 @@ use Rattle.page_ranges.specs.declared.statuses.Status.TheVariants.{AccessDenied}
 use Rattle.guid_handles.specs.HandleTables.{is_live}
 use Rattle.guid_handles.specs.HandleChanges.{without_interface}
 use Rattle.open_agents.specs.OpenItems.{is_driven, is_for_driver, is_kept, items_on}
+use Rattle.open_agents.specs.declared.items.Manager.{Manager}
 use Rattle.driver_connect.specs.Drivers.{Meaning}
 use Rattle.driver_connect.proofs.Filters.{handles_none, names_none, pairs_none}
 use Rattle.driver_connect.proofs.NoPairs.{empty_set, none_made_by, nothing_hinders}
@@ -42,7 +43,7 @@ both can kept c = rw c refl
 idle_free : (ds : List Meaning) (l : Lists) (handle : ℕ) (guid : List ℕ) → is_driven l.opens handle guid ≡ false → can_be_freed ds l handle guid ≡ not (is_kept l.opens handle guid)
 idle_free ds l handle guid e =
     both (can_stop ds l (drivers_on l.opens handle guid) handle None) (is_kept (once_freed handle guid l).opens handle guid)
-    (ap (λ (pairs : List (ℕ × ℕ)). can_stop ds l pairs handle None) (no_drivers l handle guid e) ∙ idle_stop ds l handle)
+    (ap (λ (pairs : List Manager). can_stop ds l pairs handle None) (no_drivers l handle guid e) ∙ idle_stop ds l handle)
     ∙ ap (λ (m : Lists). not (is_kept m.opens handle guid)) (once_freed_same l handle guid e)
 
 pub idle_freed : (l : Lists) (handle : ℕ) (guid : List ℕ) → is_driven l.opens handle guid ≡ false → freed handle guid l ≡ without_opens_on handle guid l

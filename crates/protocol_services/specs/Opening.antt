@@ -10,6 +10,7 @@ use Rattle.open_agents.specs.declared.items.OpenItem.{OpenItem}
 use Rattle.open_agents.specs.declared.items.Decision.TheVariants.{Refuse, Count, Add, StopFirst}
 use Rattle.open_agents.specs.OpenItems.{is_closed_by, items_on, with_item, without_items}
 use Rattle.open_agents.specs.OpenRule.{open_rule}
+use Rattle.driver_connect.specs.declared.stopping.Opener.{Opener}
 use Rattle.driver_connect.specs.Drivers.{Meaning}
 use Rattle.protocol_services.specs.Lists.{Lists}
 use Rattle.protocol_services.specs.Stopping.{can_stop, once_stopped}
@@ -32,6 +33,10 @@ abbrev pub once_opened : Lists → ℕ → List ℕ → ℕ → ℕ → ℕ → 
 once_opened l handle guid agent controller attributes =
     record l { opens = with_item handle guid agent controller attributes l.opens }
 
+-- the opener of a call, which must stay
+abbrev pub opened_by : ℕ → ℕ → Option Opener
+opened_by agent controller = Some (record { agent = agent; controller = controller })
+
 -- What OpenProtocol returns where so much was decided, and the lists after it. An exclusive open
 -- stops the driver that has the interface open, or is refused with ACCESS_DENIED. Memory may run
 -- out there, and for a new item; agent 0 has none.
@@ -41,11 +46,11 @@ OpensAs ds (Refuse status) l handle guid agent controller attributes (Ok value) 
 OpensAs ds (Refuse status) l handle guid agent controller attributes (Err e) new =
     (e ≡ status) × (new ≡ l)
 OpensAs ds (StopFirst pair) l handle guid agent controller attributes (Ok value) new =
-    (can_stop ds l (pair ∷ []) handle (Some (agent, controller)) ≡ true)
+    (can_stop ds l (pair ∷ []) handle (opened_by agent controller) ≡ true)
     × (value ≡ opened_value l handle guid attributes)
     × (new ≡ once_opened (once_stopped (pair ∷ []) l) handle guid agent controller attributes)
 OpensAs ds (StopFirst pair) l handle guid agent controller attributes (Err AccessDenied) new =
-    (can_stop ds l (pair ∷ []) handle (Some (agent, controller)) ≡ false) × (new ≡ l)
+    (can_stop ds l (pair ∷ []) handle (opened_by agent controller) ≡ false) × (new ≡ l)
 OpensAs ds (StopFirst pair) l handle guid agent controller attributes (Err OutOfResources) new =
     new ≡ l
 OpensAs ds (StopFirst pair) l handle guid agent controller attributes (Err e) new = ⊥

@@ -3,12 +3,12 @@ ghost use Rattle.std.specs.Prelude.{◌≡◌, ◌==◌, [], ◌∷◌, true, fa
 ghost use Rattle.guid_handles.specs.HandleTables.{carries, value_at};
 ghost use Rattle.protocol_services.specs.Lists.{IsRaised};
 ghost use Rattle.open_agents.specs.OpenRule.{has_equal};
-ghost use Rattle.protocol_services.specs.Opening.{Closes, HandlesProtocol, OpensAs, OpensProtocol, ReturnsItems, names_none, test_protocol};
-ghost use Rattle.protocol_services.specs.OpeningSteps.{OpensAgain, OpensAnew, decision};
+ghost use Rattle.protocol_services.specs.Opening.{Closes, HandlesProtocol, OpensProtocol, ReturnsItems, names_none, test_protocol};
+ghost use Rattle.protocol_services.specs.OpeningSteps.{OpensAfterStop, OpensAgain, OpensAnew, decision};
 
 use crate::protocols::Protocols;
-use driver_connect::{Driver, StopPlan};
-use open_agents::{BY_HANDLE_PROTOCOL, Decision, OpenItem, TEST_PROTOCOL};
+use driver_connect::{Driver, Opener, StopPlan};
+use open_agents::{BY_HANDLE_PROTOCOL, Decision, Manager, OpenItem, TEST_PROTOCOL};
 use page_ranges::Status;
 use std::alloc::Allocator;
 use uuid::Uuid;
@@ -37,9 +37,9 @@ impl<A: Allocator + Copy> Protocols<A> {
         let value = self.handles.interface(handle, guid);
         match self.decide(value, handle, guid, agent, controller, attributes) {
             Decision::Refuse(status) => Err(status),
-            Decision::StopFirst(pair) => {
-                let opener = (agent, controller);
-                self.open_after_stop(drivers, pair, handle, guid, opener, attributes)
+            Decision::StopFirst(manager) => {
+                let opener = Opener { agent, controller };
+                self.open_after_stop(drivers, manager, handle, guid, opener, attributes)
             }
             Decision::Count => self.count_open(value, handle, guid, agent, controller, attributes),
             Decision::Add => self.add_open(value, handle, guid, agent, controller, attributes),
@@ -117,24 +117,23 @@ impl<A: Allocator + Copy> Protocols<A> {
         }
     }
 
-    /// Opens an interface for an opener, its agent and controller, after the driver of a pair is stopped.
+    /// Opens an interface for an opener, its agent and controller, after a manager is stopped.
     ///
     /// ACCESS_DENIED: it can't be stopped. OUT_OF_RESOURCES: memory ran out.
     fn open_after_stop<D: Driver>(
         &mut self,
         drivers: &[D],
-        pair: (u64, u64),
+        manager: Manager,
         handle: u64,
         guid: Uuid,
-        opener: (u64, u64),
+        opener: Opener,
         attributes: u32,
     ) -> Result<Option<u64>, Status>
-        ensures opens { OpensAs (map D.meaning drivers.now)
-            (Decision.StopFirst pair) self.old handle guid opener.0 opener.1 attributes result
-            self.new }
+        ensures opens { OpensAfterStop (map D.meaning drivers.now)
+            manager self.old handle guid opener attributes result self.new }
         ensures raised { IsRaised self.old self.new }
     {
-        let Ok(plan) = StopPlan::new(self.alloc, &self.handles, &self.opens, &[pair]) else {
+        let Ok(plan) = StopPlan::new(self.alloc, &self.handles, &self.opens, &[manager]) else {
             return Err(Status::OutOfResources);
         };
         match plan.can_be_carried_out(
@@ -151,7 +150,10 @@ impl<A: Allocator + Copy> Protocols<A> {
         }
         let value = returned_value(self.handles.interface(handle, guid), attributes);
         // The new item is none that the stop takes out. It comes first, as it may take memory.
-        match self.opens.add(handle, guid, opener.0, opener.1, attributes) {
+        match self
+            .opens
+            .add(handle, guid, opener.agent, opener.controller, attributes)
+        {
             Ok(()) => {
                 plan.carry_out(&mut self.handles, &mut self.opens);
                 Ok(value)

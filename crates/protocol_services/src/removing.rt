@@ -14,7 +14,7 @@ ghost use Rattle.protocol_services.specs.RemovalSteps.{FreesAndReplaces, PlansTo
 use crate::protocols::Protocols;
 use driver_connect::{Driver, StopPlan, may_start_after, replace_and_connect};
 use guid_handles::Handles;
-use open_agents::{BY_CHILD_CONTROLLER, EXCLUSIVE, OpenItem, Opens, Usage, is_for_driver};
+use open_agents::{BY_CHILD_CONTROLLER, EXCLUSIVE, Manager, OpenItem, Opens, Usage, is_for_driver};
 use page_ranges::Status;
 use std::alloc::{AllocError, Allocator};
 use uuid::Uuid;
@@ -51,17 +51,24 @@ fn has_value<A: Allocator + Copy>(handles: &Handles<A>, handle: u64, guid: Uuid,
     }
 }
 
-/// The pairs of controller and agent of the items that are for a driver.
-fn drivers_among<A: Allocator>(
-    alloc: A,
-    items: &[OpenItem],
-) -> Result<Vec<(u64, u64), A>, AllocError>
+/// The controller and the agent of an item of an interface.
+fn manager_in(item: &OpenItem) -> Manager
+    ensures { result ≡ spec.manager_in item.now }
+{
+    Manager {
+        controller: item.controller,
+        agent: item.agent,
+    }
+}
+
+/// The controllers and the agents of the items that are for a driver.
+fn drivers_among<A: Allocator>(alloc: A, items: &[OpenItem]) -> Result<Vec<Manager, A>, AllocError>
     ensures { IfOk result (λ v. v.items ≡ spec.drivers_among items.now) }
 {
     let mut pairs = Vec::new(alloc);
     for item in items {
         if is_for_driver(item.attributes) {
-            pairs.push((item.controller, item.agent))?;
+            pairs.push(manager_in(item))?;
         }
     }
     Ok(pairs)

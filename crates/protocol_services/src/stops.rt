@@ -9,7 +9,7 @@ ghost use Rattle.protocol_services.specs.Removing.{drivers_on};
 use crate::protocols::Protocols;
 use driver_connect::{children_of, managers_to_stop, pairs_to_stop};
 use guid_handles::is_same_guid;
-use open_agents::{Near, OpenRecord, is_for_driver, item_at};
+use open_agents::{Manager, Near, OpenRecord, is_for_driver, item_at};
 use std::alloc::{AllocError, Allocator};
 use uuid::Uuid;
 
@@ -20,20 +20,20 @@ fn is_driving(o: &OpenRecord, handle: u64, guid: Uuid) -> bool
     o.handle == handle && is_same_guid(&o.guid, &guid) && is_for_driver(o.attributes)
 }
 
-/// The pairs of controller and agent that have an interface open for a driver, by the items near it.
+/// The managers that have an interface open, by the items near it.
 fn drivers_near<A: Allocator>(
     alloc: A,
     near: Near<'_>,
     handle: u64,
     guid: Uuid,
-) -> Result<Vec<(u64, u64), A>, AllocError>
+) -> Result<Vec<Manager, A>, AllocError>
     ensures { IfOk result (λ v. v.items ≡ drivers_on (items_near near.entry) handle guid) }
 {
     let mut pairs = Vec::new(alloc);
     for place in near.places {
         if let Some(o) = item_at(near.slots, *place) {
             if is_driving(o, handle, guid) {
-                pairs.push((o.controller, o.agent))?;
+                pairs.push(o.manager())?;
             }
         }
     }
@@ -41,13 +41,9 @@ fn drivers_near<A: Allocator>(
 }
 
 impl<A: Allocator + Copy> Protocols<A> {
-    /// The pairs of controller and agent to be stopped, in order, before an interface that drivers have open can be
-    /// opened exclusively, uninstalled or reinstalled.
-    pub fn stops_on_interface(
-        &self,
-        handle: u64,
-        guid: Uuid,
-    ) -> Result<Vec<(u64, u64), A>, AllocError>
+    /// The managers to be stopped, in order, before an interface that drivers have open can be opened exclusively,
+    /// uninstalled or reinstalled.
+    pub fn stops_on_interface(&self, handle: u64, guid: Uuid) -> Result<Vec<Manager, A>, AllocError>
         ensures { IfOk result
             (λ v. v.items ≡ stop_order
             (planned_stop self.now.handles self.now.opens
@@ -57,13 +53,13 @@ impl<A: Allocator + Copy> Protocols<A> {
         pairs_to_stop(self.alloc, &self.handles, &self.opens, pairs)
     }
 
-    /// The pairs to be stopped, in order, before a handle can be disconnected from the drivers that manage
+    /// The managers to be stopped, in order, before a handle can be disconnected from the drivers that manage
     /// it, or from one of them if `driver` is not 0.
     pub fn stops_on_controller(
         &self,
         handle: u64,
         driver: u64,
-    ) -> Result<Vec<(u64, u64), A>, AllocError>
+    ) -> Result<Vec<Manager, A>, AllocError>
         ensures { IfOk result
             (λ v. v.items ≡ stop_order
             (planned_stop self.now.handles self.now.opens
@@ -75,8 +71,10 @@ impl<A: Allocator + Copy> Protocols<A> {
     /// The children of a pair of a controller and an agent.
     pub fn children(&self, controller: u64, agent: u64) -> Result<Vec<u64, A>, AllocError>
         ensures { IfOk result
-            (λ v. v.items ≡ children self.now.handles self.now.opens (controller, agent)) }
+            (λ v. v.items ≡ children self.now.handles self.now.opens
+            (record { controller = controller; agent = agent })) }
     {
-        children_of(self.alloc, &self.handles, &self.opens, (controller, agent))
+        let manager = Manager { controller, agent };
+        children_of(self.alloc, &self.handles, &self.opens, manager)
     }
 }

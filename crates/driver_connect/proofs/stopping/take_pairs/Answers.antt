@@ -9,7 +9,7 @@ loop-pair-init g c = pairs_none c.args.opens.now
 
 pub loop-pair-preserved : goal.loop-pair-preserved
 loop-pair-preserved g c =
-    let e = take_more c.args.pairs.now c.loop-pair.pair-index (0, 0) c.loop-pair-test.true in
+    let e = take_more c.args.pairs.now c.loop-pair.pair-index (record { controller = 0; agent = 0 }) c.loop-pair-test.true in
     rw e (c.drop_pair.ensures ∙ ap (without_items (is_of_pair _ _)) c.loop-pair.invariant ∙ pairs_more (take c.loop-pair.pair-index c.args.pairs.now) _ c.args.opens.now)
 
 pub returns : goal.returns

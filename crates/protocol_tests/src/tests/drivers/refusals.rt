@@ -4,6 +4,7 @@ use super::wholes::{assert_unchanged, whole_of};
 use super::{BINDING, add_children, opening, table};
 use driver_connect::TableDriver;
 use linked_list_allocator::LocalHeap;
+use open_agents::Manager;
 use page_ranges::Status;
 use std::process::Abort;
 
@@ -48,7 +49,14 @@ const DISCONNECT: &[Step] = &[Step::Disconnect(1, 0, Status::Success)];
 
 const DISCONNECTED: &[Step] = &[Step::Handles(&[1, 2, 3]), Step::Managers(1, &[])];
 
-const STOP: &[Step] = &[Step::Stop(&[(1, 3)], 1, true)];
+const STOP: &[Step] = &[Step::Stop(
+    &[Manager {
+        controller: 1,
+        agent: 3,
+    }],
+    1,
+    true,
+)];
 
 const STOPPED: &[Step] = &[
     Step::Handles(&[1, 2, 3, 4, 5]),

@@ -2,7 +2,7 @@
 use super::guid;
 use driver_connect::{Driver, children_of, connect, disconnect, managers_to_stop, stop};
 use guid_handles::Handles;
-use open_agents::{OpenItem, Opens};
+use open_agents::{Manager, OpenItem, Opens};
 use page_ranges::Status;
 use protocol_notify::Notify;
 use std::alloc::{AllocError, Allocator};
@@ -24,8 +24,8 @@ pub enum Step {
     Connect(u64, &'static [u64], bool, Status, &'static [u64]),
     /// A handle, a driver or 0, and the status.
     Disconnect(u64, u64, Status),
-    /// Pairs and the handle of the call, and whether they are stopped.
-    Stop(&'static [(u64, u64)], u64, bool),
+    /// Managers and the handle of the call, and whether they are stopped.
+    Stop(&'static [Manager], u64, bool),
     /// All handles.
     Handles(&'static [u64]),
     /// How many handles there are, and the last stamp.
@@ -182,7 +182,7 @@ fn stop_pairs<D: Driver, A: Allocator + Copy>(
     alloc: A,
     lists: &mut Lists<A>,
     drivers: &[D],
-    pairs: &[(u64, u64)],
+    pairs: &[Manager],
     handle: u64,
 ) -> Result<bool, AllocError> {
     stop(
@@ -228,6 +228,19 @@ fn status_returned<T: Drop>(returned: Result<T, Status>) -> Status {
     }
 }
 
+/// Whether managers are some pairs of controller and agent, in order.
+pub fn are_pairs(managers: &[Manager], pairs: &[(u64, u64)]) -> bool {
+    if managers.len() != pairs.len() {
+        return false;
+    }
+    for (manager, pair) in managers.iter().zip(pairs.iter()) {
+        if manager.controller != pair.0 || manager.agent != pair.1 {
+            return false;
+        }
+    }
+    true
+}
+
 /// Asserts which pairs manage a handle.
 pub fn assert_managers<A: Allocator + Copy>(
     rt: &impl Abort,
@@ -236,7 +249,7 @@ pub fn assert_managers<A: Allocator + Copy>(
     pairs: &[(u64, u64)],
 ) {
     match opens.managers(handle) {
-        Ok(managers) => assert!(rt; managers.as_slice() == pairs, "{handle}"),
+        Ok(managers) => assert!(rt; are_pairs(managers.as_slice(), pairs), "{handle}"),
         Err(_) => panic!(rt; "out of memory"),
     }
 }
@@ -251,7 +264,7 @@ fn assert_stops<A: Allocator + Copy>(
     pairs: &[(u64, u64)],
 ) {
     match managers_to_stop(alloc, &lists.handles, &lists.opens, handle, driver) {
-        Ok(stops) => assert!(rt; stops.as_slice() == pairs, "{handle}"),
+        Ok(stops) => assert!(rt; are_pairs(stops.as_slice(), pairs), "{handle}"),
         Err(_) => panic!(rt; "out of memory"),
     }
 }
@@ -261,7 +274,7 @@ fn assert_children<A: Allocator + Copy>(
     rt: &impl Abort,
     alloc: A,
     lists: &Lists<A>,
-    pair: (u64, u64),
+    pair: Manager,
     wanted: &[u64],
 ) {
     match children_of(alloc, &lists.handles, &lists.opens, pair) {
@@ -309,7 +322,11 @@ fn prepare<A: Allocator + Copy>(rt: &impl Abort, alloc: A, lists: &mut Lists<A>,
             assert_stops(rt, alloc, lists, *handle, *driver, pairs);
         }
         Step::Children(controller, agent, children) => {
-            assert_children(rt, alloc, lists, (*controller, *agent), children);
+            let pair = Manager {
+                controller: *controller,
+                agent: *agent,
+            };
+            assert_children(rt, alloc, lists, pair, children);
         }
         _ => assert_lists(rt, lists, step),
     }

@@ -1,7 +1,7 @@
 //! Drivers that are tables.
 use super::steps::{Step, assert_steps};
 use super::{BINDING, add_children, opening, table};
-use open_agents::{BY_CHILD_CONTROLLER, BY_DRIVER, EXCLUSIVE, OpenItem};
+use open_agents::{BY_CHILD_CONTROLLER, BY_DRIVER, EXCLUSIVE, Manager, OpenItem};
 use page_ranges::Status;
 
 #[test]
@@ -29,7 +29,14 @@ const CHILDREN: &[Step] = &[
     Step::Children(1, 2, &[4, 5]),
     Step::Children(1, 3, &[]),
     Step::Close(4, 2, 3, 0),
-    Step::Stop(&[(1, 2)], 4, false),
+    Step::Stop(
+        &[Manager {
+            controller: 1,
+            agent: 2,
+        }],
+        4,
+        false,
+    ),
     Step::Disconnect(1, 2, Status::Success),
     Step::Handles(&[1, 2, 3]),
     Step::Managers(1, &[]),

@@ -2,7 +2,7 @@
 use super::super::guid;
 use super::{install, opened};
 use guid_handles::Handles;
-use open_agents::{Decision, Opens};
+use open_agents::{Decision, Manager, Opens};
 use page_ranges::Status;
 use std::process::Abort;
 
@@ -52,7 +52,10 @@ fn decision_of(rt: &impl Abort, letter: u8) -> Decision {
     match letter {
         b'A' => Decision::Add,
         b'C' => Decision::Count,
-        b'F' => Decision::StopFirst((4, 2)),
+        b'F' => Decision::StopFirst(Manager {
+            controller: 4,
+            agent: 2,
+        }),
         b'D' => Decision::Refuse(Status::AccessDenied),
         b'I' => Decision::Refuse(Status::InvalidParameter),
         b'S' => Decision::Refuse(Status::AlreadyStarted),

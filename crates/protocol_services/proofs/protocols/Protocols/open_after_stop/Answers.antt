@@ -8,7 +8,7 @@ pub returns-in-Ok-add-clause-opens : goal.returns-in-Ok-add-clause-opens
 returns-in-Ok-add-clause-opens g c =
     let l : Lists = record { handles = c.self.inside.handles; opens = c.self.inside.opens; registrations = c.self.inside.registrations } in
     rw (← c.self.view_is)
-    (opened_stopped (map g.D.Driver.meaning c.args.drivers.now) l (record { handles = c.carry_out.new.handles; opens = c.carry_out.new.opens; registrations = l.registrations }) c.in-Ok.plan c.args.pair c.args.handle c.args.guid c.args.opener
+    (opened_stopped (map g.D.Driver.meaning c.args.drivers.now) l (record { handles = c.carry_out.new.handles; opens = c.carry_out.new.opens; registrations = l.registrations }) c.in-Ok.plan c.args.manager c.args.handle c.args.guid c.args.opener
     c.args.attributes c.in-Ok-true.field-0 c.returned_value-value.result c.add.new.self c.in-Ok.ensures c.in-Ok-true.ensures c.in-Ok-true.field-0-test c.in-Ok-add.ensures.ok
     (rw c.carry_out.ensures.handles (rw c.carry_out.ensures.opens refl)) (rw c.interface.ensures.value at c.returned_value-value.ensures))
 
@@ -16,7 +16,7 @@ pub returns-in-Ok-add-clause-raised : goal.returns-in-Ok-add-clause-raised
 returns-in-Ok-add-clause-raised g c =
     let l : Lists = record { handles = c.self.inside.handles; opens = c.self.inside.opens; registrations = c.self.inside.registrations } in
     rw (← c.self.view_is)
-    (opened_stopped_raised l (record { handles = c.carry_out.new.handles; opens = c.carry_out.new.opens; registrations = l.registrations }) c.in-Ok.plan c.args.handle c.args.guid c.args.opener.0 c.args.opener.1 c.args.attributes c.add.new.self
+    (opened_stopped_raised l (record { handles = c.carry_out.new.handles; opens = c.carry_out.new.opens; registrations = l.registrations }) c.in-Ok.plan c.args.handle c.args.guid c.args.opener.agent c.args.opener.controller c.args.attributes c.add.new.self
     c.in-Ok-add.ensures.ok (rw c.carry_out.ensures.handles (rw c.carry_out.ensures.opens refl)))
 
 pub returns-clause-raised : goal.returns-clause-raised
