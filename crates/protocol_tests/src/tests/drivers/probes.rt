@@ -75,7 +75,7 @@ const SECOND_PASS: &[Step] = &[
     Step::Install(0, &[(1, 1), (2, 2)], 1),
     Step::Install(0, &[(BINDING, 0)], 2),
     Step::Install(0, &[(BINDING, 1)], 3),
-    Step::Connect(1, &[], false, Status::Success, &[]),
+    Step::Connect(1, &[], false, Status::Success),
     Step::Managers(1, &[(1, 3), (1, 2)]),
 ];
 
@@ -88,7 +88,7 @@ fn starts_that_are_not_carried_out(rt: HostRuntime) {
 const NOT_CARRIED_OUT: &[Step] = &[
     Step::Install(0, &[(1, 1)], 1),
     Step::Install(0, &[(BINDING, 0)], 2),
-    Step::Connect(1, &[], true, Status::NotFound, &[]),
+    Step::Connect(1, &[], true, Status::NotFound),
     Step::Managers(1, &[]),
 ];
 
@@ -106,8 +106,8 @@ const STAYS: &[Step] = &[
     Step::Install(0, &[(BINDING, 0)], 2),
     Step::Install(0, &[(BINDING, 1)], 3),
     Step::Install(0, &[(1, 1)], 4),
-    Step::Connect(1, &[], false, Status::Success, &[]),
-    Step::Connect(4, &[], false, Status::Success, &[]),
+    Step::Connect(1, &[], false, Status::Success),
+    Step::Connect(4, &[], false, Status::Success),
     Step::Disconnect(1, 2, Status::DeviceError),
     Step::Disconnect(4, 2, Status::DeviceError),
     Step::Disconnect(1, 3, Status::Success),
