@@ -3,7 +3,7 @@ ghost use Rattle.std.specs.Prelude.{◌≡◌, ◌<◌, false};
 ghost use Rattle.page_ranges.specs.declared.ranges.Owner.TheVariants.{Given};
 ghost use Rattle.page_ranges.specs.MemoryTypes.{is_bad_type, page_count};
 ghost use Rattle.page_ranges.specs.Memory.{IsProperMemory};
-ghost use Rattle.page_ranges.specs.Runs.{pages_of};
+ghost use Rattle.page_ranges.specs.Runs.{pages_of, AreRuns};
 ghost use Rattle.placement_certificate.specs.Placement.{IsProperRequest};
 ghost use Rattle.plain_search.specs.PlainAnswers.{given_run};
 ghost use Rattle.plain_search.specs.RunsBy.{AreRunsBy};
@@ -15,7 +15,7 @@ mod wide_tables;
 use super::*;
 use page_ranges::{Descriptor, MemoryType, Owner, PAGE_COUNT, PageRange, Run};
 use placement_certificate::{Bound, Request};
-use std::alloc::AllocError;
+use std::process::Abort;
 
 fn run(first: u64, pages: u64, number: u32, attributes: u64) -> Run
     ensures { result ≡ given_run first pages number attributes }
@@ -63,27 +63,47 @@ fn request(number: u32, pages: u64, limit: u64) -> Request
 }
 
 #[test]
-fn lists_the_map(rt: HostRuntime) -> Result<(), AllocError> {
-    let entries = plain_map(rt.alloc(), &machine_a())?;
+fn lists_the_map(rt: HostRuntime) {
+    let entries = plain_map(rt.alloc(), &machine_a()).expect(&rt, "memory");
     let want = Descriptor {
         mtype: MemoryType::new(6),
         first: 1024,
         pages: 16,
         attributes: 0x8000_0000_0000_000f,
     };
-    assert_eq!(rt; entries.len(), 4);
-    assert_eq!(rt; entries.get(2), Some(&want));
-    Ok(())
+    assert!(rt; entries.len() == 4);
+    assert!(rt; entries.get(2) == Some(&want));
 }
 
 #[test]
-fn prices_starts(rt: HostRuntime) -> Result<(), AllocError> {
+fn prices_starts(rt: HostRuntime) {
     let request = request(2, 12, PAGE_COUNT);
     for (start, want) in [(0, 3), (2, 4), (4, 3)] {
-        let price = plain_price(rt.alloc(), &machine_b(), &request, start)?;
-        assert_eq!(rt; price, want, "at {start}");
+        let price = plain_price(rt.alloc(), &machine_b(), &request, start).expect(&rt, "memory");
+        assert!(rt; price == want, "at {start}");
     }
-    Ok(())
+}
+
+// Asserts the certificate that the plain search makes.
+fn assert_certificate(
+    rt: &(impl AllocGlobal + Abort),
+    runs: &[Run],
+    request: &Request,
+    bounds: &[Bound],
+    answer: u64,
+)
+    requires runs { AreRuns runs.now }
+    requires proper { IsProperMemory (pages_of runs.now) }
+    requires good { IsProperRequest request.now }
+{
+    let found = plain_certificate(rt.alloc(), runs, request).expect(rt, "memory");
+    match &found {
+        Some(certificate) => {
+            assert!(rt; certificate.bounds.as_slice() == bounds);
+            assert!(rt; certificate.answer == answer);
+        }
+        None => panic!(rt; "no certificate"),
+    }
 }
 
 fn bound(first: u64, pages: u64, count: u64, top: u64) -> Bound {
@@ -95,40 +115,22 @@ fn bound(first: u64, pages: u64, count: u64, top: u64) -> Bound {
 }
 
 #[test]
-fn certifies_a_best_start(rt: HostRuntime) -> Result<(), AllocError> {
-    let request = request(4, 10, PAGE_COUNT);
+fn certifies_a_best_start(rt: HostRuntime) {
     let want = [
         bound(0, 160, 5, 150),
         bound(256, 768, 5, 1014),
         bound(1040, 1008, 5, 2038),
     ];
-    match plain_certificate(rt.alloc(), &machine_a(), &request)? {
-        Some(certificate) => {
-            assert_eq!(rt; certificate.bounds.as_slice(), want.as_slice());
-            assert_eq!(rt; certificate.answer, 2038);
-        }
-        None => panic!(rt; "no certificate"),
-    }
-    Ok(())
+    assert_certificate(&rt, &machine_a(), &request(4, 10, PAGE_COUNT), &want, 2038);
 }
 
 #[test]
-fn certifies_a_start_across_entries(rt: HostRuntime) -> Result<(), AllocError> {
-    let request = request(2, 12, PAGE_COUNT);
+fn certifies_a_start_across_entries(rt: HostRuntime) {
     let none = Bound {
         first: 8,
         pages: 8,
         least: None,
     };
-    match plain_certificate(rt.alloc(), &machine_b(), &request)? {
-        Some(certificate) => {
-            assert_eq!(rt;
-                certificate.bounds.as_slice(),
-                [bound(0, 8, 3, 4), none].as_slice()
-            );
-            assert_eq!(rt; certificate.answer, 4);
-        }
-        None => panic!(rt; "no certificate"),
-    }
-    Ok(())
+    let want = [bound(0, 8, 3, 4), none];
+    assert_certificate(&rt, &machine_b(), &request(2, 12, PAGE_COUNT), &want, 4);
 }

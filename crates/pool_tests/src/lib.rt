@@ -1,4 +1,5 @@
-//! Tests of raw pool memory, of the pool, and of device paths: how they are read, and the handles that they lead to.
+//! Tests of raw pool memory: regions, and regions over given pages. (The pool's services and device paths are tested in
+//! C and by stored runs: `tests/c`, `tests/runs`.)
 #![tactic(auto)]
 
 #[cfg(test)]

@@ -1,5 +1,5 @@
-//! Tests of handles, of drivers, and of the protocol services of a core: drawn calls, judged by plain lists, the
-//! most handles, and drivers in boxes.
+//! Tests of drivers that are of the tests' own kinds: what they are shown, and what follows from their answers.
+//! (Handles, open items and table drivers are tested in C, through the services: `tests/c`.)
 #![tactic(auto)]
 
 #[cfg(test)]

@@ -1,7 +1,7 @@
 //! Expected values worked out by hand, and small machines on which a plain search judges.
 ghost use Rattle.std.specs.Prelude.{◌≡◌, ◌+◌, ◌%◌, ◌<◌, ◌≤◌, true, false, IsTrue, IfOk, OnOk};
 ghost use Rattle.page_ranges.specs.declared.ranges.Owner.TheVariants.{Given};
-ghost use Rattle.page_ranges.specs.MemoryTypes.{conventional, has_runtime, page_count};
+ghost use Rattle.page_ranges.specs.MemoryTypes.{conventional, has_runtime, is_bad_type, page_count};
 ghost use Rattle.page_ranges.specs.Granules.{is_granular};
 ghost use Rattle.page_ranges.specs.Memory.{IsProperMemory};
 ghost use Rattle.page_ranges.specs.Runs.{pages_of, AreRuns};
@@ -9,7 +9,7 @@ ghost use Rattle.placement_certificate.specs.Placement.{IsProperRequest};
 ghost use Rattle.plain_search.specs.PlainAnswers.{IsPossibleRun};
 ghost use Rattle.plain_search.specs.RunsBy.{AreRunsBy};
 
-use super::{bound, request, run};
+use super::{request, run};
 use crate::plain_certificate;
 use descriptor_table::RunTable;
 use page_ranges::{MemoryType, PAGE_COUNT, Run, has_runtime};
@@ -22,7 +22,7 @@ use std::process::Abort;
 type Row = (u64, u64, u32, u64);
 
 // Free memory with a hole, and runtime data in its upper part.
-const MACHINE_A: [Row; 4] = [
+const MACHINE_A: &[Row] = &[
     (0, 160, 7, 0xf),
     (256, 768, 7, 0xf),
     (1024, 16, 6, 0x8000_0000_0000_000f),
@@ -30,7 +30,7 @@ const MACHINE_A: [Row; 4] = [
 ];
 
 // The same once ten pages at its end are placed.
-const MACHINE_A_PLACED: [Row; 5] = [
+const MACHINE_A_PLACED: &[Row] = &[
     (0, 160, 7, 0xf),
     (256, 768, 7, 0xf),
     (1024, 16, 6, 0x8000_0000_0000_000f),
@@ -39,13 +39,13 @@ const MACHINE_A_PLACED: [Row; 5] = [
 ];
 
 // Free memory with two sets of attributes.
-const MACHINE_B: [Row; 2] = [(0, 8, 7, 0xf), (8, 8, 7, 0x7)];
+const MACHINE_B: &[Row] = &[(0, 8, 7, 0xf), (8, 8, 7, 0x7)];
 
 // Ordinary free memory, and free memory of specific purpose above it.
-const SPECIFIC_PURPOSE: [Row; 2] = [(0, 8, 7, 0xf), (8, 8, 7, 0x4_000f)];
+const SPECIFIC_PURPOSE: &[Row] = &[(0, 8, 7, 0xf), (8, 8, 7, 0x4_000f)];
 
 // The same with ordinary memory above that, and with data placed on memory of specific purpose.
-const BETWEEN_ORDINARY: [Row; 4] = [
+const BETWEEN_ORDINARY: &[Row] = &[
     (0, 8, 7, 0xf),
     (8, 8, 7, 0x4_000f),
     (16, 8, 7, 0x7),
@@ -53,7 +53,7 @@ const BETWEEN_ORDINARY: [Row; 4] = [
 ];
 
 // The last eight pages of all.
-const LAST_PAGES: [Row; 1] = [(PAGE_COUNT - 8, 8, 7, 0xf)];
+const LAST_PAGES: &[Row] = &[(PAGE_COUNT - 8, 8, 7, 0xf)];
 
 // A machine may have the run.
 fn may_stand(first: u64, pages: u64, kind: (u32, u64)) -> bool
@@ -84,13 +84,13 @@ fn machine_of(alloc: Global, rows: &[Row]) -> Result<Vec<Run>, AllocError>
     Ok(runs)
 }
 
-fn chosen(alloc: Global, runs: &[Run], request: &Request) -> Result<Option<Certificate>, AllocError>
+fn chosen(rt: &(impl AllocGlobal + Abort), runs: &[Run], request: &Request) -> Option<Certificate>
     requires runs { AreRuns runs.now }
     requires proper { IsProperMemory (pages_of runs.now) }
     requires good { IsProperRequest request.now }
 {
-    let table = RunTable::from_runs(alloc, runs)?;
-    choose(alloc, &table, request)
+    let table = RunTable::from_runs(rt.alloc(), runs).expect(rt, "memory");
+    choose(rt.alloc(), &table, request).expect(rt, "memory")
 }
 
 // A request on a machine with granules of 16 pages, of a type whose pages lie in whole granules.
@@ -105,159 +105,221 @@ pub fn in_granules(number: u32, pages: u64, limit: u64) -> Request
     }
 }
 
-fn no_start(first: u64, pages: u64) -> Bound {
-    Bound {
-        first,
-        pages,
-        least: None,
+/// What a certificate says of an entry: its first page and pages, and the entries of the map and the start.
+type Least = (u64, u64, Option<(u64, u64)>);
+
+// Whether bounds are those of rows.
+fn are_bounds(bounds: &[Bound], rows: &[Least]) -> bool {
+    if bounds.len() != rows.len() {
+        return false;
     }
+    for at in 0..rows.len() {
+        let bound = &bounds[at];
+        if (bound.first, bound.pages, bound.least) != rows[at] {
+            return false;
+        }
+    }
+    true
 }
 
-// Asserts the certificate of a request on a machine.
+// Asserts the certificate of a request on a machine, or that there is none.
 fn assert_certified(
     rt: &(impl AllocGlobal + Abort),
     rows: &[Row],
     request: &Request,
-    bounds: &[Bound],
-    answer: u64,
-) -> Result<(), AllocError>
+    bounds: &[Least],
+    answer: Option<u64>,
+)
     requires { IsProperRequest request.now }
 {
-    let runs = machine_of(rt.alloc(), rows)?;
-    match chosen(rt.alloc(), runs.as_slice(), request)? {
+    let runs = machine_of(rt.alloc(), rows).expect(rt, "memory");
+    let found = chosen(rt, runs.as_slice(), request);
+    match &found {
         Some(certificate) => {
-            assert_eq!(rt; certificate.bounds.as_slice(), bounds, "for {answer}");
-            assert_eq!(rt; certificate.answer, answer);
+            assert!(rt; answer == Some(certificate.answer));
+            assert!(rt; are_bounds(certificate.bounds.as_slice(), bounds));
         }
-        None => panic!(rt; "no certificate for {answer}"),
+        None => assert!(rt; answer.is_none()),
     }
-    Ok(())
 }
 
-#[test]
-fn best_fit_high(rt: HostRuntime) -> Result<(), AllocError> {
-    let bounds = [
-        bound(0, 160, 5, 150),
-        bound(256, 768, 5, 1014),
-        bound(1040, 1008, 5, 2038),
-    ];
-    assert_certified(&rt, &MACHINE_A, &request(4, 10, PAGE_COUNT), &bounds, 2038)
+// Whether a type is one of three that requests may name.
+fn is_named(number: u32) -> bool
+    ensures { IsTrue result → is_bad_type number ≡ false }
+{
+    number == 2 || number == 4 || number == 6
 }
 
-#[test]
-fn free_joins_again(rt: HostRuntime) -> Result<(), AllocError> {
-    let bounds = [
-        bound(0, 160, 6, 155),
-        bound(256, 768, 6, 1019),
-        bound(1040, 998, 5, 2033),
-    ];
-    assert_certified(
-        &rt,
-        &MACHINE_A_PLACED,
-        &request(4, 5, PAGE_COUNT),
-        &bounds,
-        2033,
-    )
-}
+/// A machine, the type, the pages and the limit of a request there, and its certificate, if there is one.
+type Choice = (
+    &'static [Row],
+    (u32, u64, u64),
+    &'static [Least],
+    Option<u64>,
+);
 
-#[test]
-fn runtime_joins_below(rt: HostRuntime) -> Result<(), AllocError> {
-    let bounds = [
-        bound(0, 160, 5, 156),
-        bound(256, 768, 4, 1020),
-        bound(1040, 1008, 4, 1040),
-    ];
-    assert_certified(&rt, &MACHINE_A, &request(6, 4, PAGE_COUNT), &bounds, 1040)
-}
-
-#[test]
-fn whole_entry(rt: HostRuntime) -> Result<(), AllocError> {
-    let bounds = [
-        bound(0, 160, 4, 0),
-        bound(256, 768, 5, 864),
-        bound(1040, 1008, 5, 1888),
-    ];
-    assert_certified(&rt, &MACHINE_A, &request(4, 160, PAGE_COUNT), &bounds, 0)
-}
-
-#[test]
-fn below_a_limit(rt: HostRuntime) -> Result<(), AllocError> {
-    let bounds = [
-        bound(0, 160, 5, 0),
-        no_start(256, 768),
-        no_start(1040, 1008),
-    ];
-    assert_certified(&rt, &MACHINE_A, &request(4, 10, 80), &bounds, 0)
-}
-
-#[test]
-fn last_pages_of_all(rt: HostRuntime) -> Result<(), AllocError> {
-    let first = PAGE_COUNT - 8;
-    for (pages, limit, count, top) in [
-        (8, PAGE_COUNT, 1, first),
-        (8, u64::MAX, 1, first),
-        (1, PAGE_COUNT, 2, PAGE_COUNT - 1),
-        (1, PAGE_COUNT - 1, 2, first),
-    ] {
-        let bounds = [bound(first, 8, count, top)];
-        assert_certified(&rt, &LAST_PAGES, &request(4, pages, limit), &bounds, top)?;
+fn assert_choices(rt: &(impl AllocGlobal + Abort), rows: &[Choice]) {
+    for (machine, (number, pages, limit), bounds, answer) in rows {
+        if *pages == 0 || !is_named(*number) {
+            panic!(rt; "no request");
+        }
+        assert_certified(
+            rt,
+            machine,
+            &request(*number, *pages, *limit),
+            bounds,
+            *answer,
+        );
     }
-    Ok(())
 }
 
 #[test]
-fn one_of_two_attributes(rt: HostRuntime) -> Result<(), AllocError> {
-    let bounds = [bound(0, 8, 2, 0), bound(8, 8, 2, 8)];
-    assert_certified(&rt, &MACHINE_B, &request(2, 8, PAGE_COUNT), &bounds, 8)
+fn best_starts(rt: HostRuntime) {
+    assert_choices(&rt, BEST_STARTS);
 }
 
-#[test]
-fn across_attributes(rt: HostRuntime) -> Result<(), AllocError> {
-    let bounds = [bound(0, 8, 3, 4), no_start(8, 8)];
-    assert_certified(&rt, &MACHINE_B, &request(2, 12, PAGE_COUNT), &bounds, 4)
-}
+const BEST_STARTS: &[Choice] = &[
+    // The best fit, and the highest.
+    (
+        MACHINE_A,
+        (4, 10, PAGE_COUNT),
+        &[
+            (0, 160, Some((5, 150))),
+            (256, 768, Some((5, 1014))),
+            (1040, 1008, Some((5, 2038))),
+        ],
+        Some(2038),
+    ),
+    // Pages of the same type join.
+    (
+        MACHINE_A_PLACED,
+        (4, 5, PAGE_COUNT),
+        &[
+            (0, 160, Some((6, 155))),
+            (256, 768, Some((6, 1019))),
+            (1040, 998, Some((5, 2033))),
+        ],
+        Some(2033),
+    ),
+    // Runtime data joins what lies below.
+    (
+        MACHINE_A,
+        (6, 4, PAGE_COUNT),
+        &[
+            (0, 160, Some((5, 156))),
+            (256, 768, Some((4, 1020))),
+            (1040, 1008, Some((4, 1040))),
+        ],
+        Some(1040),
+    ),
+    // A whole entry.
+    (
+        MACHINE_A,
+        (4, 160, PAGE_COUNT),
+        &[
+            (0, 160, Some((4, 0))),
+            (256, 768, Some((5, 864))),
+            (1040, 1008, Some((5, 1888))),
+        ],
+        Some(0),
+    ),
+    // Below a limit.
+    (
+        MACHINE_A,
+        (4, 10, 80),
+        &[(0, 160, Some((5, 0))), (256, 768, None), (1040, 1008, None)],
+        Some(0),
+    ),
+];
 
 #[test]
-fn limit_is_the_last_byte(rt: HostRuntime) -> Result<(), AllocError> {
-    let bounds = [bound(0, 8, 2, 0), no_start(8, 8)];
-    assert_certified(&rt, &MACHINE_B, &request(2, 8, 8), &bounds, 0)
+fn last_pages_of_all(rt: HostRuntime) {
+    assert_choices(&rt, LAST_PAGES_OF_ALL);
 }
 
-#[test]
-fn specific_purpose_is_left_alone(rt: HostRuntime) -> Result<(), AllocError> {
-    let bounds = [bound(0, 8, 2, 0), no_start(8, 8)];
-    let whole = request(4, 8, PAGE_COUNT);
-    assert_certified(&rt, &SPECIFIC_PURPOSE, &whole, &bounds, 0)?;
-    let bounds = [bound(0, 8, 5, 6), no_start(8, 8), bound(16, 8, 5, 22)];
-    let two = request(4, 2, PAGE_COUNT);
-    assert_certified(&rt, &BETWEEN_ORDINARY, &two, &bounds, 22)?;
-    let runs = machine_of(rt.alloc(), &BETWEEN_ORDINARY)?;
-    let found = chosen(rt.alloc(), runs.as_slice(), &request(4, 9, PAGE_COUNT))?;
-    assert!(rt; found.is_none(), "across memory of specific purpose");
-    Ok(())
-}
+const LAST: u64 = PAGE_COUNT - 8;
+
+const LAST_PAGES_OF_ALL: &[Choice] = &[
+    (
+        LAST_PAGES,
+        (4, 8, PAGE_COUNT),
+        &[(LAST, 8, Some((1, LAST)))],
+        Some(LAST),
+    ),
+    (
+        LAST_PAGES,
+        (4, 8, u64::MAX),
+        &[(LAST, 8, Some((1, LAST)))],
+        Some(LAST),
+    ),
+    (
+        LAST_PAGES,
+        (4, 1, PAGE_COUNT),
+        &[(LAST, 8, Some((2, PAGE_COUNT - 1)))],
+        Some(PAGE_COUNT - 1),
+    ),
+    (
+        LAST_PAGES,
+        (4, 1, PAGE_COUNT - 1),
+        &[(LAST, 8, Some((2, LAST)))],
+        Some(LAST),
+    ),
+    // No start is permitted.
+    (LAST_PAGES, (4, 1, 0), &[], None),
+    (LAST_PAGES, (4, 1, LAST), &[], None),
+    (LAST_PAGES, (4, 8, PAGE_COUNT - 1), &[], None),
+    (LAST_PAGES, (4, 9, PAGE_COUNT), &[], None),
+    (LAST_PAGES, (4, PAGE_COUNT, PAGE_COUNT), &[], None),
+    (LAST_PAGES, (4, u64::MAX, PAGE_COUNT), &[], None),
+    (LAST_PAGES, (4, u64::MAX, u64::MAX), &[], None),
+];
 
 #[test]
-fn no_start_is_permitted(rt: HostRuntime) -> Result<(), AllocError> {
-    let runs = machine_of(rt.alloc(), &LAST_PAGES)?;
-    for (pages, limit) in [
-        (1, 0),
-        (1, PAGE_COUNT - 8),
-        (8, PAGE_COUNT - 1),
-        (9, PAGE_COUNT),
-        (PAGE_COUNT, PAGE_COUNT),
-        (u64::MAX, PAGE_COUNT),
-        (u64::MAX, u64::MAX),
-    ] {
-        let found = chosen(rt.alloc(), runs.as_slice(), &request(4, pages, limit))?;
-        assert!(rt; found.is_none(), "{pages} by {limit}");
-    }
-    Ok(())
+fn attributes_count(rt: HostRuntime) {
+    assert_choices(&rt, ATTRIBUTES);
 }
+
+const ATTRIBUTES: &[Choice] = &[
+    // One of two attributes.
+    (
+        MACHINE_B,
+        (2, 8, PAGE_COUNT),
+        &[(0, 8, Some((2, 0))), (8, 8, Some((2, 8)))],
+        Some(8),
+    ),
+    // Across attributes.
+    (
+        MACHINE_B,
+        (2, 12, PAGE_COUNT),
+        &[(0, 8, Some((3, 4))), (8, 8, None)],
+        Some(4),
+    ),
+    // The limit is the last byte.
+    (
+        MACHINE_B,
+        (2, 8, 8),
+        &[(0, 8, Some((2, 0))), (8, 8, None)],
+        Some(0),
+    ),
+    // Memory of specific purpose is left alone, also where it lies between ordinary memory.
+    (
+        SPECIFIC_PURPOSE,
+        (4, 8, PAGE_COUNT),
+        &[(0, 8, Some((2, 0))), (8, 8, None)],
+        Some(0),
+    ),
+    (
+        BETWEEN_ORDINARY,
+        (4, 2, PAGE_COUNT),
+        &[(0, 8, Some((5, 6))), (8, 8, None), (16, 8, Some((5, 22)))],
+        Some(22),
+    ),
+    (BETWEEN_ORDINARY, (4, 9, PAGE_COUNT), &[], None),
+];
 
 // With a granule of 16: at 64 the pages end below others of their type, at 112 both ends lie inside an
 // entry, between 146 and 158 is no multiple, and from 160 on two entries follow each other.
-const IN_GRANULES: [Row; 7] = [
+const IN_GRANULES: &[Row] = &[
     (0, 8, 4, 0xf),
     (8, 72, 7, 0xf),
     (80, 16, 6, 0x8000_0000_0000_000f),
@@ -268,34 +330,38 @@ const IN_GRANULES: [Row; 7] = [
 ];
 
 #[test]
-fn multiples_of_the_granule(rt: HostRuntime) -> Result<(), AllocError> {
-    let bounds = [
-        bound(8, 72, 7, 64),
-        bound(100, 40, 9, 112),
-        no_start(146, 12),
-        bound(160, 10, 8, 160),
-        bound(170, 30, 9, 176),
-    ];
+fn multiples_of_the_granule(rt: HostRuntime) {
     let sixteen = in_granules(6, 16, PAGE_COUNT);
-    assert_certified(&rt, &IN_GRANULES, &sixteen, &bounds, 64)?;
-    let bounds = [
-        bound(8, 72, 8, 48),
-        no_start(100, 40),
-        no_start(146, 12),
-        bound(160, 10, 8, 160),
-        no_start(170, 30),
-    ];
+    assert_certified(&rt, IN_GRANULES, &sixteen, FOR_SIXTEEN, Some(64));
     let more = in_granules(10, 32, PAGE_COUNT);
-    assert_certified(&rt, &IN_GRANULES, &more, &bounds, 160)?;
-    let bounds = [
-        bound(8, 72, 9, 48),
-        no_start(100, 40),
-        no_start(146, 12),
-        no_start(160, 10),
-        no_start(170, 30),
-    ];
-    assert_certified(&rt, &IN_GRANULES, &in_granules(0, 16, 79), &bounds, 48)
+    assert_certified(&rt, IN_GRANULES, &more, FOR_MORE, Some(160));
+    let below = in_granules(0, 16, 79);
+    assert_certified(&rt, IN_GRANULES, &below, BELOW_A_LIMIT, Some(48));
 }
+
+const FOR_SIXTEEN: &[Least] = &[
+    (8, 72, Some((7, 64))),
+    (100, 40, Some((9, 112))),
+    (146, 12, None),
+    (160, 10, Some((8, 160))),
+    (170, 30, Some((9, 176))),
+];
+
+const FOR_MORE: &[Least] = &[
+    (8, 72, Some((8, 48))),
+    (100, 40, None),
+    (146, 12, None),
+    (160, 10, Some((8, 160))),
+    (170, 30, None),
+];
+
+const BELOW_A_LIMIT: &[Least] = &[
+    (8, 72, Some((9, 48))),
+    (100, 40, None),
+    (146, 12, None),
+    (160, 10, None),
+    (170, 30, None),
+];
 
 // A type with attributes, drawn by a number below six, or below twelve for more that are free, or below 24 for
 // more types beside them, of which the last two differ by a multiple of 64.
@@ -393,75 +459,51 @@ fn drawn_in_granules(draw: u64) -> Request
     in_granules(number, (draw / 4 % 3 + 1) * 16, draw / 12 * 8)
 }
 
-// The choice is that of the plain search, with its certificate and alone.
-fn agrees(alloc: Global, runs: &[Run], request: &Request) -> Result<bool, AllocError>
+// Asserts that the choice is that of the plain search, with its certificate and alone.
+fn assert_agrees(rt: &(impl AllocGlobal + Abort), runs: &[Run], request: &Request)
     requires runs { AreRuns runs.now }
     requires proper { IsProperMemory (pages_of runs.now) }
     requires good { IsProperRequest request.now }
 {
-    let want = plain_certificate(alloc, runs, request)?;
-    let table = RunTable::from_runs(alloc, runs)?;
-    let got = choose(alloc, &table, request)?;
+    let table = RunTable::from_runs(rt.alloc(), runs).expect(rt, "memory");
     let alone = best_start(&table, request);
-    Ok(match (&want, &got) {
-        (None, None) => alone.is_none(),
-        (Some(x), Some(y)) => {
-            x.answer == y.answer
-                && x.bounds.as_slice() == y.bounds.as_slice()
-                && alone == Some(x.answer)
-        }
-        _ => false,
-    })
+    let got = choose(rt.alloc(), &table, request).expect(rt, "memory");
+    let wanted = plain_certificate(rt.alloc(), runs, request).expect(rt, "memory");
+    match &wanted {
+        Some(wanted) => assert!(rt; alone == Some(wanted.answer) && is_certificate(&got, wanted)),
+        None => assert!(rt; alone.is_none() && got.is_none()),
+    }
 }
 
-// In how many drawn requests the choice is another.
-fn disagreements(alloc: Global, runs: &[Run]) -> Result<usize, AllocError>
-    requires runs { AreRuns runs.now }
-    requires proper { IsProperMemory (pages_of runs.now) }
-{
-    let mut others = 0_usize;
-    for draw in 0..738 {
-        if !agrees(alloc, runs, &drawn_request(draw))? {
-            others = others.saturating_add(1);
+// Whether a certificate is this one.
+fn is_certificate(got: &Option<Certificate>, wanted: &Certificate) -> bool {
+    match got {
+        Some(certificate) => {
+            certificate.answer == wanted.answer
+                && certificate.bounds.as_slice() == wanted.bounds.as_slice()
         }
+        None => false,
     }
-    Ok(others)
-}
-
-// The same of requests in granules of 16 pages.
-fn disagreements_in_granules(alloc: Global, runs: &[Run]) -> Result<usize, AllocError>
-    requires runs { AreRuns runs.now }
-    requires proper { IsProperMemory (pages_of runs.now) }
-{
-    let mut others = 0_usize;
-    for draw in 0..168 {
-        if !agrees(alloc, runs, &drawn_in_granules(draw))? {
-            others = others.saturating_add(1);
-        }
-    }
-    Ok(others)
 }
 
 // Machines of at most forty pages.
 #[test]
-fn agrees_with_the_plain_search(rt: HostRuntime) -> Result<(), AllocError> {
+fn agrees_with_the_plain_search(rt: HostRuntime) {
     for seed in 0..200 {
-        let runs = drawn_machine(rt.alloc(), seed, 8, 4, 6)?;
-        assert_eq!(rt; disagreements(rt.alloc(), runs.as_slice())?, 0, "at {seed}");
+        let runs = drawn_machine(rt.alloc(), seed, 8, 4, 6).expect(&rt, "memory");
+        for draw in 0..738 {
+            assert_agrees(&rt, runs.as_slice(), &drawn_request(draw));
+        }
     }
-    Ok(())
 }
 
 // Machines of at most 96 pages.
 #[test]
-fn agrees_in_granules(rt: HostRuntime) -> Result<(), AllocError> {
+fn agrees_in_granules(rt: HostRuntime) {
     for seed in 0..200 {
-        let runs = drawn_machine(rt.alloc(), seed, 8, 11, 12)?;
-        assert_eq!(rt;
-            disagreements_in_granules(rt.alloc(), runs.as_slice())?,
-            0,
-            "at {seed}"
-        );
+        let runs = drawn_machine(rt.alloc(), seed, 8, 11, 12).expect(&rt, "memory");
+        for draw in 0..168 {
+            assert_agrees(&rt, runs.as_slice(), &drawn_in_granules(draw));
+        }
     }
-    Ok(())
 }

@@ -3,14 +3,17 @@ ghost use Rattle.std.specs.Prelude.{◌≡◌, ◌<◌, ◌≤◌, IfOk, false};
 ghost use Rattle.page_ranges.specs.MemoryTypes.{conventional, has_runtime};
 ghost use Rattle.page_ranges.specs.Memory.{IsProperMemory};
 ghost use Rattle.page_ranges.specs.Runs.{pages_of, AreRuns};
+ghost use Rattle.placement_certificate.specs.Placement.{IsProperRequest};
 
 use super::choices::push_run;
 use super::request;
 use super::wide_tables::{assert_places, pages_by_number, start_by_pages};
 use descriptor_table::RunTable;
 use page_ranges::Run;
+use placement_certificate::Request;
 use placement_chooser::best_start;
 use std::alloc::{AllocError, Global};
+use std::process::Abort;
 
 // Of how many parts a promising machine is made, and how many pages each has.
 const PARTS: u64 = 300;
@@ -79,52 +82,58 @@ fn lone_machine(alloc: Global, best: u64) -> Result<Vec<Run>, AllocError>
     Ok(runs)
 }
 
+// Asserts where the best start of a request is.
+fn assert_start(rt: &(impl AllocGlobal + Abort), runs: &[Run], request: &Request, start: u64)
+    requires runs { AreRuns runs.now }
+    requires proper { IsProperMemory (pages_of runs.now) }
+    requires good { IsProperRequest request.now }
+{
+    let table = RunTable::from_runs(rt.alloc(), runs).expect(rt, "memory");
+    assert!(rt; best_start(&table, request) == Some(start), "at {start}");
+}
+
 /// One place, in whichever leaf of its group it lies.
 #[test]
-fn finds_the_one_place(rt: HostRuntime) -> Result<(), AllocError> {
+fn finds_the_one_place(rt: HostRuntime) {
     for best in 0..PARTS {
-        let runs = lone_machine(rt.alloc(), best)?;
-        let table = RunTable::from_runs(rt.alloc(), runs.as_slice())?;
-        let found = best_start(&table, &request(4, 2, u64::MAX));
-        assert!(rt; found == Some(2 * best), "at {best}");
+        let runs = lone_machine(rt.alloc(), best).expect(&rt, "memory");
+        assert_start(&rt, runs.as_slice(), &request(4, 2, u64::MAX), 2 * best);
     }
-    Ok(())
 }
 
 /// A search that opens each leaf and finds nothing better there.
 #[test]
-fn finds_the_best_where_all_leaves_look_promising(rt: HostRuntime) -> Result<(), AllocError> {
-    let runs = promising_machine(rt.alloc(), PARTS)?;
-    let table = RunTable::from_runs(rt.alloc(), runs.as_slice())?;
-    let list = pages_by_number(rt.alloc(), runs.as_slice())?;
+fn finds_the_best_where_all_leaves_look_promising(rt: HostRuntime) {
+    let runs = promising_machine(rt.alloc(), PARTS).expect(&rt, "memory");
+    let list = pages_by_number(&rt, runs.as_slice());
     for pages in 1..5 {
         let request = request(6, pages, u64::MAX);
-        let found = best_start(&table, &request);
-        assert!(rt; found.is_some() && found == start_by_pages(list.as_slice(), &request));
+        let start = start_by_pages(list.as_slice(), &request).expect(&rt, "a start");
+        assert_start(&rt, runs.as_slice(), &request, start);
     }
-    Ok(())
 }
 
 /// One that is right, wherever it is among its leaf and its group.
 #[test]
-fn finds_the_one_promise_that_holds(rt: HostRuntime) -> Result<(), AllocError> {
+fn finds_the_one_promise_that_holds(rt: HostRuntime) {
     for best in 1..PARTS {
-        let runs = promising_machine(rt.alloc(), best)?;
-        let table = RunTable::from_runs(rt.alloc(), runs.as_slice())?;
-        let found = best_start(&table, &request(6, 3, u64::MAX));
-        assert!(rt; found == Some(PART_PAGES * best), "at {best}");
+        let runs = promising_machine(rt.alloc(), best).expect(&rt, "memory");
+        assert_start(
+            &rt,
+            runs.as_slice(),
+            &request(6, 3, u64::MAX),
+            PART_PAGES * best,
+        );
     }
-    Ok(())
 }
 
 /// Leaves that look promising as they change.
 #[test]
-fn places_where_all_leaves_look_promising(rt: HostRuntime) -> Result<(), AllocError> {
+fn places_where_all_leaves_look_promising(rt: HostRuntime) {
     let mut placed = 0_u64;
     for seed in 0..8 {
-        let runs = promising_machine(rt.alloc(), 37 * seed)?;
-        placed = placed.saturating_add(assert_places(&rt, runs.as_slice(), seed, 400)?);
+        let runs = promising_machine(rt.alloc(), 37 * seed).expect(&rt, "memory");
+        placed = placed.saturating_add(assert_places(&rt, runs.as_slice(), seed, 400));
     }
     assert!(rt; placed >= 2_000, "places for {placed}");
-    Ok(())
 }

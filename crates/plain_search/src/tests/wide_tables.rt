@@ -10,24 +10,24 @@ use descriptor_table::RunTable;
 use page_ranges::{MemoryType, Owner, PageRange, Run, is_specific_purpose};
 use placement_certificate::Request;
 use placement_chooser::best_start;
-use std::alloc::{AllocError, Global};
 use std::process::Abort;
 
 /// The type and the attributes of a page that is present.
 pub type Page = Option<(u32, u64)>;
 
 // The page of each number up to the last one of a machine.
-pub fn pages_by_number(alloc: Global, runs: &[Run]) -> Result<Vec<Page>, AllocError> {
-    let mut list = Vec::new(alloc);
+pub fn pages_by_number(rt: &(impl AllocGlobal + Abort), runs: &[Run]) -> Vec<Page> {
+    let mut list = Vec::new(rt.alloc());
     for run in runs {
         for _hole in list.len() as u64..run.range.first {
-            list.push(None)?;
+            list.push(None).expect(rt, "memory");
         }
         for _page in 0..run.range.pages {
-            list.push(Some((run.mtype.number(), run.attributes)))?;
+            list.push(Some((run.mtype.number(), run.attributes)))
+                .expect(rt, "memory");
         }
     }
-    Ok(list)
+    list
 }
 
 fn page_at(list: &[Page], number: u64) -> Page {
@@ -107,22 +107,24 @@ fn are_present(table: &RunTable, range: PageRange) -> bool
 
 // Gives the pages of a range a type, if all are present.
 fn change(
+    rt: &impl Abort,
     table: &mut RunTable,
     list: &mut [Page],
     range: PageRange,
     mtype: MemoryType,
-) -> Result<(), AllocError> {
+) {
     if !are_present(table, range) {
-        return Ok(());
+        return;
     }
-    table.retype(range, mtype, Owner::Given)?;
+    table
+        .retype(range, mtype, Owner::Given)
+        .expect(rt, "memory");
     for number in range.first..range.first.saturating_add(range.pages) {
         let page = page_after(list, number, range, mtype);
         if let Some(place) = list.get_mut(number as usize) {
             *place = page;
         }
     }
-    Ok(())
 }
 
 // A request of a kind of its number, below a limit that lies among twice as many pages as the machine has or
@@ -168,39 +170,39 @@ fn drawn_type(draw: u64) -> MemoryType {
 
 // Places pages by drawn requests and changes drawn ranges, and asserts that each place is the best. Returns how
 // many requests there is a place for.
-pub fn assert_places(
-    rt: &(impl AllocGlobal + Abort),
-    runs: &[Run],
-    seed: u64,
-    calls: u64,
-) -> Result<u64, AllocError>
+pub fn assert_places(rt: &(impl AllocGlobal + Abort), runs: &[Run], seed: u64, calls: u64) -> u64
     requires runs { AreRuns runs.now }
     requires proper { IsProperMemory (pages_of runs.now) }
 {
-    let mut table = RunTable::from_runs(rt.alloc(), runs)?;
-    let mut list = pages_by_number(rt.alloc(), runs)?;
+    let mut table = RunTable::from_runs(rt.alloc(), runs).expect(rt, "memory");
+    let mut list = pages_by_number(rt, runs);
     let mut draw = seed;
     let mut placed = 0_u64;
     for _call in 0..calls {
         draw = next_draw(draw);
-        let request = drawn_request(draw, list.len());
-        let found = best_start(&table, &request);
-        assert!(rt;
-            found == start_by_pages(list.as_slice(), &request),
-            "at {seed}"
-        );
-        if let Some(first) = found {
-            let range = PageRange {
-                first,
-                pages: request.pages,
-            };
-            change(&mut table, list.as_mut_slice(), range, request.mtype)?;
+        if is_placed(rt, &mut table, list.as_mut_slice(), draw) {
             placed = placed.saturating_add(1);
         }
         let range = drawn_range(draw, list.len());
-        change(&mut table, list.as_mut_slice(), range, drawn_type(draw))?;
+        change(rt, &mut table, list.as_mut_slice(), range, drawn_type(draw));
     }
-    Ok(placed)
+    placed
+}
+
+// Asserts that the place of a drawn request is the best, and places its pages there. Returns whether there is one.
+fn is_placed(rt: &impl Abort, table: &mut RunTable, list: &mut [Page], draw: u64) -> bool {
+    let request = drawn_request(draw, list.len());
+    let found = best_start(table, &request);
+    assert!(rt; found == start_by_pages(list, &request), "at {draw}");
+    let Some(first) = found else {
+        return false;
+    };
+    let range = PageRange {
+        first,
+        pages: request.pages,
+    };
+    change(rt, table, list, range, request.mtype);
+    true
 }
 
 // How many runs a machine of a seed has, up to how many pages each, and of how many kinds: one in eight is large.
@@ -223,13 +225,12 @@ fn size_of(seed: u64) -> (u64, u64, u64)
 
 /// Tables of up to 2,000 runs.
 #[test]
-fn places_as_pages_say(rt: HostRuntime) -> Result<(), AllocError> {
+fn places_as_pages_say(rt: HostRuntime) {
     let mut placed = 0_u64;
     for seed in 0..1_000 {
         let (count, most, kinds) = size_of(seed);
-        let runs = drawn_machine(rt.alloc(), seed, count, most, kinds)?;
-        placed = placed.saturating_add(assert_places(&rt, runs.as_slice(), seed, 60)?);
+        let runs = drawn_machine(rt.alloc(), seed, count, most, kinds).expect(&rt, "memory");
+        placed = placed.saturating_add(assert_places(&rt, runs.as_slice(), seed, 60));
     }
     assert!(rt; placed >= 30_000, "places for {placed}");
-    Ok(())
 }

@@ -20,16 +20,12 @@ fn region_over(rt: &impl AllocGlobal, home: PoolMemory, at: u64, pages: usize) -
 
 /// Asserts whether a region can be had over some pages. It is dropped at once.
 fn assert_has(rt: &(impl AllocGlobal + Abort), home: PoolMemory, at: u64, pages: usize, has: bool) {
-    assert_eq!(rt;
-        region_over(rt, home, at, pages).is_some(),
-        has,
-        "{pages} pages from {at}"
-    );
+    assert!(rt; region_over(rt, home, at, pages).is_some() == has);
 }
 
 /// Fills a region with one block of a byte.
 fn fill(rt: &impl Abort, region: &mut RawPool, size: usize, byte: u8) {
-    assert_eq!(rt; region.take(size), Some(0));
+    assert!(rt; region.take(size) == Some(0));
     for at in 0..size {
         assert!(rt; region.write(0, at, &[byte]));
     }
@@ -38,7 +34,7 @@ fn fill(rt: &impl Abort, region: &mut RawPool, size: usize, byte: u8) {
 /// Asserts that the block of a region has one byte throughout.
 fn assert_filled(rt: &impl Abort, region: &RawPool, size: usize, byte: u8) {
     let bytes = region.bytes(0).expect(rt, "a block");
-    assert_eq!(rt; bytes.len(), size);
+    assert!(rt; bytes.len() == size);
     assert!(rt; bytes.iter().all(|it| *it == byte));
 }
 
@@ -79,7 +75,7 @@ fn regions_over_one_heap_share_nothing(rt: HostRuntime) {
     drop(low);
     assert_filled(&rt, &high, 12280, 2);
     let mut again = region_over(&rt, home, 0, 1).expect(&rt, "a page");
-    assert_eq!(rt; again.take(4088), Some(0));
+    assert!(rt; again.take(4088) == Some(0));
     assert_filled(&rt, &again, 4088, 0);
     assert_filled(&rt, &high, 12280, 2);
 }

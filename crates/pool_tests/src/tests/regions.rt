@@ -1,4 +1,4 @@
-//! Blocks that were worked out by hand, and generated calls against a plain list.
+//! Blocks of a region, by hand.
 use raw_pool::RawPool;
 use std::process::Abort;
 
@@ -23,68 +23,37 @@ enum Step {
     Empty(bool),
 }
 
-fn assert_takes(rt: &impl Abort, pool: &mut RawPool, size: usize, cell: Option<usize>) {
-    assert_eq!(rt; pool.take(size), cell, "{size} bytes");
-}
-
-fn assert_gives(rt: &impl Abort, pool: &mut RawPool, cell: usize, is_given: bool) {
-    assert_eq!(rt; pool.give(cell), is_given, "cell {cell}");
-}
-
-fn assert_writes(
-    rt: &impl Abort,
-    pool: &mut RawPool,
-    cell: usize,
-    at: usize,
-    bytes: &[u8],
-    fits: bool,
-) {
-    assert_eq!(rt; pool.write(cell, at, bytes), fits, "cell {cell} at {at}");
-}
-
-fn assert_holds(
-    rt: &impl Abort,
-    pool: &RawPool,
-    cell: usize,
-    size: usize,
-    front: &[u8],
-    back: &[u8],
-) {
-    assert_eq!(rt; pool.size_of(cell), Some(size), "cell {cell}");
-    let bytes = pool.bytes(cell).expect(rt, "a block");
-    assert_eq!(rt; bytes.len(), size);
-    assert!(rt;
-        bytes.starts_with(front) && bytes.ends_with(back),
-        "cell {cell}"
-    );
-}
-
-fn assert_refuses(rt: &impl Abort, pool: &mut RawPool, cell: usize) {
-    assert_gives(rt, pool, cell, false);
-    assert_eq!(rt; pool.size_of(cell), None, "cell {cell}");
-    assert!(rt; pool.bytes(cell).is_none(), "cell {cell}");
-    assert_writes(rt, pool, cell, 0, b"", false);
-}
-
-fn assert_longest(rt: &impl Abort, pool: &RawPool, cells: usize) {
-    assert_eq!(rt; pool.longest_free(), cells);
-}
-
-fn assert_empty(rt: &impl Abort, pool: &RawPool, is_empty: bool) {
-    assert_eq!(rt; pool.is_empty(), is_empty);
-}
-
-fn make(rt: &impl Abort, pool: &mut RawPool, step: &Step) {
-    match step {
-        Step::Take(size, cell) => assert_takes(rt, pool, *size, *cell),
-        Step::Give(cell, is_given) => assert_gives(rt, pool, *cell, *is_given),
-        Step::Write(cell, at, bytes, fits) => assert_writes(rt, pool, *cell, *at, bytes, *fits),
-        Step::Holds(cell, size, front, back) => {
-            assert_holds(rt, pool, *cell, *size, front, back);
+/// Whether a block has a size, and these bytes first and last.
+fn holds(pool: &RawPool, cell: usize, size: usize, front: &[u8], back: &[u8]) -> bool {
+    match pool.bytes(cell) {
+        Some(bytes) => {
+            pool.size_of(cell) == Some(size)
+                && bytes.len() == size
+                && bytes.starts_with(front)
+                && bytes.ends_with(back)
         }
-        Step::Refuses(cell) => assert_refuses(rt, pool, *cell),
-        Step::Longest(cells) => assert_longest(rt, pool, *cells),
-        Step::Empty(is_empty) => assert_empty(rt, pool, *is_empty),
+        None => false,
+    }
+}
+
+/// Whether no block begins at a cell.
+fn refuses(pool: &mut RawPool, cell: usize) -> bool {
+    !pool.give(cell)
+        && pool.size_of(cell).is_none()
+        && pool.bytes(cell).is_none()
+        && !pool.write(cell, 0, b"")
+}
+
+/// Whether a call returns what its step says.
+fn is_as_said(pool: &mut RawPool, step: &Step) -> bool {
+    match step {
+        Step::Take(size, cell) => pool.take(*size) == *cell,
+        Step::Give(cell, is_given) => pool.give(*cell) == *is_given,
+        Step::Write(cell, at, bytes, fits) => pool.write(*cell, *at, bytes) == *fits,
+        Step::Holds(cell, size, front, back) => holds(pool, *cell, *size, front, back),
+        Step::Refuses(cell) => refuses(pool, *cell),
+        Step::Longest(cells) => pool.longest_free() == *cells,
+        Step::Empty(is_empty) => pool.is_empty() == *is_empty,
     }
 }
 
@@ -100,7 +69,7 @@ fn region_of(rt: &(impl AllocGlobal + Abort), pages: usize) -> RawPool {
 fn make_all(rt: &(impl AllocGlobal + Abort), pages: usize, steps: &[Step]) {
     let mut pool = region_of(rt, pages);
     for step in steps {
-        make(rt, &mut pool, step);
+        assert!(rt; is_as_said(&mut pool, step));
     }
 }
 
@@ -187,8 +156,7 @@ const LARGEST_BLOCK: &[Step] = &[
 fn sizes_at_the_edges(rt: HostRuntime) {
     for (size, cell, next) in SIZES {
         let mut pool = region_of(&rt, 1);
-        assert_takes(&rt, &mut pool, *size, *cell);
-        assert_takes(&rt, &mut pool, 0, *next);
+        assert!(rt; pool.take(*size) == *cell && pool.take(0) == *next);
     }
 }
 
@@ -208,7 +176,7 @@ const SIZES: &[(usize, Option<usize>, Option<usize>)] = &[
 /// Gives back every second block of a page from one on.
 fn give_half(rt: &impl Abort, pool: &mut RawPool, first: usize) {
     for half in 0..PAGE_BLOCKS / 2 {
-        assert_gives(rt, pool, first.saturating_add(2 * half), true);
+        assert!(rt; pool.give(first.saturating_add(2 * half)));
     }
 }
 
@@ -217,96 +185,33 @@ fn give_half(rt: &impl Abort, pool: &mut RawPool, first: usize) {
 fn full_page(rt: HostRuntime) {
     let mut pool = region_of(&rt, 1);
     for cell in 0..PAGE_BLOCKS {
-        assert_takes(&rt, &mut pool, 24, Some(cell));
+        assert!(rt; pool.take(24) == Some(cell));
     }
-    assert_takes(&rt, &mut pool, 0, None);
+    assert!(rt; pool.take(0).is_none());
     give_half(&rt, &mut pool, 0);
-    assert_longest(&rt, &pool, 1);
+    assert!(rt; pool.longest_free() == 1);
     give_half(&rt, &mut pool, 1);
-    assert_longest(&rt, &pool, PAGE_BLOCKS);
-    assert_takes(&rt, &mut pool, 4088, Some(0));
+    assert!(rt; pool.longest_free() == PAGE_BLOCKS && pool.take(4088) == Some(0));
 }
 
-/// A block that was taken, and the byte that it was filled with.
-#[derive(Clone, Copy)]
-struct Known {
-    cell: usize,
-    size: usize,
-    fill: u8,
-}
+/// The pages of the largest region.
+const MAX_PAGES: usize = 1 << 21;
 
-/// The lowest place for a block among those known, in a region of 512 cells, found by trying each.
-fn lowest(blocks: &[Known], size: usize) -> Option<usize> {
-    let need = cells_of(size);
-    (0..512usize).find(|start| {
-        let end = start.saturating_add(need);
-        end <= 512
-            && blocks.iter().all(|b| b.cell.saturating_add(cells_of(b.size)) <= *start
-                || end <= b.cell)
-    })
-}
-
-fn cells_of(size: usize) -> usize {
-    size.saturating_add(39) / 32
-}
-
-/// Fills a block byte by byte.
-fn fill_cell(rt: &impl Abort, pool: &mut RawPool, cell: usize, size: usize, fill: u8) {
-    for at in 0..size {
-        assert_writes(rt, pool, cell, at, &[fill], true);
-    }
-}
-
-fn take_filled(
-    rt: &impl Abort,
-    pool: &mut RawPool,
-    blocks: &mut Vec<Known>,
-    size: usize,
-    fill: u8,
-) {
-    let place = lowest(blocks.as_slice(), size);
-    assert_takes(rt, pool, size, place);
-    if let Some(cell) = place {
-        fill_cell(rt, pool, cell, size, fill);
-        blocks.push(Known { cell, size, fill }).expect(rt, "memory");
-    }
-}
-
-fn give_one(rt: &impl Abort, pool: &mut RawPool, blocks: &mut Vec<Known>, index: usize) {
-    if index < blocks.len() {
-        let block = blocks.swap_remove(index);
-        assert_gives(rt, pool, block.cell, true);
-    }
-}
-
-fn compare(rt: &impl Abort, pool: &RawPool, block: &Known) {
-    let bytes = pool.bytes(block.cell).expect(rt, "a block");
-    assert_eq!(rt; bytes.len(), block.size);
-    assert!(rt; bytes.iter().all(|byte| *byte == block.fill));
-}
-
-/// Makes a call as it was drawn: gives back a block, or takes one and fills it.
-fn make_drawn(rt: &impl Abort, pool: &mut RawPool, blocks: &mut Vec<Known>, draw: usize, fill: u8) {
-    if draw % 3 == 0 {
-        give_one(rt, pool, blocks, draw / 3 % 64);
-    } else {
-        take_filled(rt, pool, blocks, draw / 3 % 300, fill);
-    }
-}
-
+/// The largest region has 8 GiB, none of which is touched. A host may refuse so much memory.
 #[test]
-fn generated_calls(rt: HostRuntime) {
-    let mut pool = region_of(&rt, 4);
-    let mut blocks = Vec::new(rt.alloc());
-    let mut seed: u64 = 2026;
-    for call in 0..1000u64 {
-        seed = seed
-            .wrapping_mul(6364136223846793005)
-            .wrapping_add(1442695040888963407);
-        let draw = (seed >> 33) as usize;
-        make_drawn(&rt, &mut pool, &mut blocks, draw, (call % 255) as u8);
-        for block in &blocks {
-            compare(&rt, &pool, block);
+fn largest_region(rt: HostRuntime) {
+    if let Ok(mut pool) = RawPool::new(rt.alloc(), MAX_PAGES) {
+        for step in LARGEST_REGION {
+            assert!(rt; is_as_said(&mut pool, step));
         }
     }
 }
+
+const LARGEST_REGION: &[Step] = &[
+    Step::Empty(true),
+    Step::Longest(PAGE_BLOCKS * MAX_PAGES),
+    Step::Take(24, Some(0)),
+    Step::Longest(PAGE_BLOCKS * MAX_PAGES - 1),
+    Step::Give(0, true),
+    Step::Empty(true),
+];

@@ -5,6 +5,7 @@ ghost use Rattle.protocol_tests.specs.Probes as spec;
 use super::steps::{Step, assert_steps};
 use super::{BINDING, guid, opening};
 use driver_connect::{Driver, ProtocolView, StartPlan, View};
+use open_agents::Manager;
 use page_ranges::Status;
 use uuid::Uuid;
 
@@ -75,8 +76,20 @@ const SECOND_PASS: &[Step] = &[
     Step::Install(0, &[(1, 1), (2, 2)], 1),
     Step::Install(0, &[(BINDING, 0)], 2),
     Step::Install(0, &[(BINDING, 1)], 3),
-    Step::Connect(1, &[], false, Status::Success, &[]),
-    Step::Managers(1, &[(1, 3), (1, 2)]),
+    Step::Connect(1, &[], false, Status::Success),
+    Step::Managers(
+        1,
+        &[
+            Manager {
+                controller: 1,
+                agent: 3,
+            },
+            Manager {
+                controller: 1,
+                agent: 2,
+            },
+        ],
+    ),
 ];
 
 /// The plan opens a GUID that is not there.
@@ -88,7 +101,7 @@ fn starts_that_are_not_carried_out(rt: HostRuntime) {
 const NOT_CARRIED_OUT: &[Step] = &[
     Step::Install(0, &[(1, 1)], 1),
     Step::Install(0, &[(BINDING, 0)], 2),
-    Step::Connect(1, &[], true, Status::NotFound, &[]),
+    Step::Connect(1, &[], true, Status::NotFound),
     Step::Managers(1, &[]),
 ];
 
@@ -106,11 +119,17 @@ const STAYS: &[Step] = &[
     Step::Install(0, &[(BINDING, 0)], 2),
     Step::Install(0, &[(BINDING, 1)], 3),
     Step::Install(0, &[(1, 1)], 4),
-    Step::Connect(1, &[], false, Status::Success, &[]),
-    Step::Connect(4, &[], false, Status::Success, &[]),
+    Step::Connect(1, &[], false, Status::Success),
+    Step::Connect(4, &[], false, Status::Success),
     Step::Disconnect(1, 2, Status::DeviceError),
     Step::Disconnect(4, 2, Status::DeviceError),
     Step::Disconnect(1, 3, Status::Success),
     Step::Disconnect(1, 2, Status::Success),
-    Step::Managers(4, &[(4, 2)]),
+    Step::Managers(
+        4,
+        &[Manager {
+            controller: 4,
+            agent: 2,
+        }],
+    ),
 ];

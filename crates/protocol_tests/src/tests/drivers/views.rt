@@ -5,7 +5,6 @@ ghost use Rattle.protocol_tests.specs.Probes as spec;
 use super::steps::{Step, assert_steps};
 use super::{BINDING, guid, opening};
 use driver_connect::{Driver, ProtocolView, StartPlan, View};
-use open_agents::BY_DRIVER;
 use page_ranges::Status;
 use std::process::Abort;
 
@@ -113,13 +112,13 @@ fn views(rt: HostRuntime) {
 const SHOWN: &[Step] = &[
     Step::Install(0, &[(1, 5), (2, 6), (3, 7)], 1),
     Step::Install(0, &[(BINDING, 0)], 2),
-    Step::Open(1, 2, 2, 1, BY_DRIVER),
-    Step::Connect(1, &[], false, Status::Success, &[]),
+    Step::Open(1, 2, 2, 1),
+    Step::Connect(1, &[], false, Status::Success),
 ];
 
 const NOT_SHOWN: &[Step] = &[
     Step::Install(0, &[(1, 5), (2, 6), (3, 7)], 1),
     Step::Install(0, &[(BINDING, 0)], 2),
-    Step::Open(1, 2, 2, 1, BY_DRIVER),
-    Step::Connect(1, &[], false, Status::NotFound, &[]),
+    Step::Open(1, 2, 2, 1),
+    Step::Connect(1, &[], false, Status::NotFound),
 ];
