@@ -1,8 +1,9 @@
-//! Lines that are read as calls, and calls that are printed.
+//! Lines that are read as calls, calls that are printed, and the text of a fault.
 use boot_calls::Call;
 use call_texts::{CallTrace, line_for};
+use std::fmt::Write;
 use std::process::Abort;
-use trace_lines::{TraceCall, read_call};
+use trace_lines::{RunFault, TraceCall, read_call};
 
 /// A line of each verb that makes a call, as it is printed.
 const LINES: [&str; 26] = [
@@ -79,4 +80,13 @@ fn lines_are_kept_in_order(rt: HostRuntime) {
         panic!(rt; "memory");
     };
     assert!(rt; lines.as_str() == "exit 12\nfree-pool 0x1008\n");
+}
+
+/// The text of a fault that no trace is long enough for. Those of all other faults are in stored runs.
+#[test]
+fn no_calls_left(rt: HostRuntime) {
+    let mut text = String::new(rt.alloc());
+    let fault = RunFault::NoCallsLeft;
+    assert!(rt; write!(text, "{fault}").is_ok());
+    assert!(rt; text.as_str() == "trace: no calls left");
 }

@@ -1,4 +1,5 @@
-//! Tests of runs over readers and writers that fail once, or give and take little at a time, and of long inputs.
+//! Tests of runs and checks over readers and writers that fail, and over memory that is refused beside the services.
+//! (`tools/hostile-runs` has what the program's files and streams show, and `tests/c` the services.)
 #![tactic(auto)]
 
 #[cfg(test)]

@@ -1,27 +1,10 @@
 //! Runs and checks over streams.
-mod call_rows;
-mod fault_lines;
+mod block_writes;
 mod heaps;
 mod left_states;
-mod openings;
-mod reads;
-mod refused_calls;
 mod refused_inputs;
-mod writes;
 
-use program_runs::{serve_check, serve_run};
 use std::io::{Error, ErrorKind, Read, Result, Write};
-use std::process::Abort;
-
-/// A machine with two blocks of free memory above each other, runtime pages, and free memory.
-pub const MACHINE: &[u8] = b"{\"memory\":[
-{\"type\":7,\"start\":\"0x0\",\"pages\":160,\"attributes\":\"0xf\"},
-{\"type\":7,\"start\":\"0x100000\",\"pages\":768,\"attributes\":\"0xf\"},
-{\"type\":6,\"start\":\"0x400000\",\"pages\":16,\"attributes\":\"0x800000000000000f\"},
-{\"type\":7,\"start\":\"0x410000\",\"pages\":1008,\"attributes\":\"0xf\"}]}";
-
-/// A trace whose second reply has more than 64 bytes, and some more than that.
-pub const TRACE: &[u8] = b"pages 2 4 2 0x9e000\n# a comment\nlist\npages 3 4 1 0\nmap 240";
 
 /// A block that is accepted.
 pub const BLOCK: &[u8] = b"certificate
@@ -106,39 +89,4 @@ pub fn sink_of(rt: &impl AllocGlobal, writes: u64, flushes: u64, takes_none: boo
         flushes,
         takes_none,
     }
-}
-
-/// What a run or a check leaves: its status and what it wrote.
-#[derive(Drop)]
-pub struct Outcome {
-    pub status: u8,
-    pub out: Vec<u8>,
-    pub err: Vec<u8>,
-}
-
-/// A run of a machine file and a trace.
-pub fn run_of(
-    rt: &impl AllocGlobal,
-    machine: impl Read + Drop,
-    trace: impl Read + Drop,
-) -> Outcome {
-    let mut out = Vec::new(rt.alloc());
-    let mut err = Vec::new(rt.alloc());
-    let status = serve_run(rt.alloc(), machine, trace, &mut out, &mut err, false);
-    Outcome { status, out, err }
-}
-
-/// A check of a block.
-pub fn check_of(rt: &impl AllocGlobal, block: impl Read + Drop) -> Outcome {
-    let mut out = Vec::new(rt.alloc());
-    let mut err = Vec::new(rt.alloc());
-    let status = serve_check(rt.alloc(), block, &mut out, &mut err);
-    Outcome { status, out, err }
-}
-
-/// Asserts a status, and what was written.
-pub fn assert_outcome(rt: &impl Abort, outcome: &Outcome, status: u8, out: &[u8], err: &[u8]) {
-    assert_eq!(rt; outcome.status, status);
-    assert_eq!(rt; outcome.err.as_slice(), err);
-    assert!(rt; outcome.out.as_slice() == out);
 }

@@ -41,16 +41,17 @@ fn is_ended(rt: &impl Abort, core: &mut Core<TableDriver, &Refusing<Global>>) ->
     }
 }
 
-/// The boot services can be ended once.
-#[test]
-fn replies_are_refused_memory(rt: HostRuntime) {
-    let heap = Refusing::new(rt.alloc());
-    let mut core = core_on(&rt, &heap);
+/// The boot services can be ended once, and no call is made while memory is refused.
+fn assert_ends(
+    rt: &impl Abort,
+    heap: &Refusing<Global>,
+    core: &mut Core<TableDriver, &Refusing<Global>>,
+) {
     let left = core.calls_left();
     heap.refuse(1);
-    assert!(rt; is_ended(&rt, &mut core).is_none());
+    assert!(rt; is_ended(rt, core).is_none());
     assert!(rt; core.calls_left() == left);
-    assert!(rt; is_ended(&rt, &mut core) == Some(true));
+    assert!(rt; is_ended(rt, core) == Some(true));
 }
 
 /// How many descriptors are read, if memory is there for them.
@@ -62,19 +63,41 @@ fn count_of(rt: &impl Abort, heap: &Refusing<Global>, bytes: &[u8]) -> Option<us
 }
 
 /// A map and the pool are read into the caller's buffers without memory. The descriptors of the map take some.
-#[test]
-fn descriptors_are_refused_memory(rt: HostRuntime) {
-    let heap = Refusing::new(rt.alloc());
-    let mut core = core_on(&rt, &heap);
+fn assert_reads(
+    rt: &impl Abort,
+    heap: &Refusing<Global>,
+    core: &mut Core<TableDriver, &Refusing<Global>>,
+) {
     let mut bytes = [0u8; 192];
     heap.refuse_from(1);
     assert!(rt; core.calls_left() > 1);
     assert!(rt; core.get_memory_map(&mut bytes).status == Status::Success);
     assert!(rt; core.pool_read(0, &mut [0u8; 1]) == Status::InvalidParameter);
     assert!(rt; !heap.has_refused());
-    assert!(rt; count_of(&rt, &heap, &bytes).is_none());
+    assert!(rt; count_of(rt, heap, &bytes).is_none());
     heap.refuse(0);
-    assert!(rt; count_of(&rt, &heap, &bytes) == Some(4));
+    assert!(rt; count_of(rt, heap, &bytes) == Some(4));
+}
+
+/// Makes a core, and asserts that memory is refused to its replies, or to descriptors.
+fn assert_refused(rt: &(impl AllocGlobal + Abort), is_of_replies: bool) {
+    let heap = Refusing::new(rt.alloc());
+    let mut core = core_on(rt, &heap);
+    if is_of_replies {
+        assert_ends(rt, &heap, &mut core);
+    } else {
+        assert_reads(rt, &heap, &mut core);
+    }
+}
+
+#[test]
+fn replies_are_refused_memory(rt: HostRuntime) {
+    assert_refused(&rt, true);
+}
+
+#[test]
+fn descriptors_are_refused_memory(rt: HostRuntime) {
+    assert_refused(&rt, false);
 }
 
 /// Lines of traces.
