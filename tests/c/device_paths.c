@@ -66,7 +66,7 @@ static uint64_t install_path(struct rafkudin *core, uint64_t block)
     return RafkudinInstallMultipleProtocolInterfaces(core, &handle, &interface, 1);
 }
 
-/* A block with so many bytes of some nodes, and an end. */
+/* A block with the given number of bytes of some nodes, and an end. */
 static uint64_t nodes_of(struct rafkudin *core, const uint8_t *bytes, size_t length)
 {
     uint8_t *nodes = malloc(length + 4);
@@ -81,7 +81,7 @@ static uint64_t nodes_of(struct rafkudin *core, const uint8_t *bytes, size_t len
     return block;
 }
 
-/* Asks for a path, of which the first handle is to match so many bytes, in the pool and in the
+/* Asks for a path, of which the first handle is to match a number of bytes, in the pool and in the
  * caller's memory. */
 static void try_leads(struct rafkudin *core, const uint8_t *bytes, size_t length, size_t matches)
 {

@@ -250,7 +250,7 @@ static uint64_t locate(struct both *both, uint32_t search)
     return locate_in(both, search, byte, key, draw_room(both));
 }
 
-/* Reads a list of so many bytes from a block of the pool, which is freed. There is no block for no
+/* Reads a list of a number of bytes from a block of the pool, which is freed. There is no block for no
  * bytes. */
 static void take_list(struct both *both, uint64_t address, void *bytes, size_t size)
 {

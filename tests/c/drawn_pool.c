@@ -238,7 +238,7 @@ struct row {
     size_t count;
 };
 
-/* A core that has so many pages alone, all of them an extent, which a block in its last cell keeps;
+/* A core that has a number of pages alone, all of them an extent, which a block in its last cell keeps;
  * that cell does not count. */
 static void begin_row(struct row *row, uint64_t pages)
 {

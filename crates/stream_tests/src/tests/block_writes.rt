@@ -25,7 +25,7 @@ fn block_read_fails(rt: HostRuntime) {
     }
 }
 
-/// Asserts that a check stops after so many writes or flushes, with these bytes written.
+/// Asserts that a check stops after a number of writes or flushes, with these bytes written.
 fn assert_stops(
     rt: &(impl AllocGlobal + Abort),
     writes: u64,
