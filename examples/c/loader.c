@@ -149,16 +149,11 @@ int main(int count, char **words)
     struct map map = {0};
     struct machine machine;
     struct rafkudin *core;
-    FILE *file;
 
     fault_program = "loader";
     if (count != 2)
         fail("usage: loader MACHINE");
-    file = fopen(words[1], "rb");
-    if (file == NULL)
-        fail("cannot read machine");
-    machine = machine_read(file);
-    fclose(file);
+    machine = machine_open(words[1]);
     core = machine_core(&machine);
     machine_free(&machine);
     size_map(core, &map);

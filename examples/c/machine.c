@@ -231,6 +231,18 @@ struct machine machine_read(FILE *file)
     return machine;
 }
 
+struct machine machine_open(const char *path)
+{
+    FILE *file = fopen(path, "rb");
+    struct machine machine;
+
+    if (file == NULL)
+        fail("cannot read machine");
+    machine = machine_read(file);
+    fclose(file);
+    return machine;
+}
+
 void machine_free(struct machine *machine)
 {
     free(machine->records);

@@ -19,6 +19,9 @@ struct machine {
  * are left for RafkudinMake to judge. */
 struct machine machine_read(FILE *file);
 
+/* The same of a path, where there is to be a file. */
+struct machine machine_open(const char *path);
+
 void machine_free(struct machine *machine);
 
 /* A core of the machine. Where the library refuses to make it, the program ends and says why. */

@@ -89,16 +89,11 @@ static void try_chain(const struct machine *machine)
 int main(int count, char **words)
 {
     struct machine machine;
-    FILE *file;
 
     fault_program = "places";
     if (count != 2)
         fail("usage: places MACHINE");
-    file = fopen(words[1], "rb");
-    if (file == NULL)
-        fail("cannot read machine");
-    machine = machine_read(file);
-    fclose(file);
+    machine = machine_open(words[1]);
     granule = machine.granule;
     try_requests(&machine);
     try_chain(&machine);

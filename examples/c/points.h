@@ -9,6 +9,9 @@ void point(bool holds, const char *file, int line, const char *what);
 
 #define HOLDS(what) point((what), __FILE__, __LINE__, #what)
 
+/* How many elements an array has. */
+#define COUNT(array) (sizeof(array) / sizeof(array)[0])
+
 /* Prints how many points are as said, and gives the exit status. */
 int points_end(const char *program);
 

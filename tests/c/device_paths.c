@@ -2,14 +2,13 @@
  * paths see of them, drawn bytes against a plain reader, and the handles that paths in blocks of the
  * pool lead to. The rows are worked out by hand from docs/RULES.md. Each point that does not hold is
  * printed on standard error, and then the status is 1. */
+#include "draws.h"
 #include "points.h"
 #include "small_core.h"
 
 #include <stdio.h>
 #include <stdlib.h>
 #include <string.h>
-
-#define COUNT(rows) (sizeof(rows) / sizeof(rows)[0])
 
 #define SUCCESS RAFKUDIN_SUCCESS
 #define INVALID RAFKUDIN_INVALID_PARAMETER
@@ -274,19 +273,13 @@ static void try_rows(void)
 
 static uint64_t seed = 2026;
 
-static uint64_t draw(uint64_t below)
-{
-    seed = seed * 6364136223846793005U + 1442695040888963407U;
-    return (seed >> 33) % below;
-}
-
 /* A byte of which many matter to a reader of paths. */
 static uint8_t likely_byte(void)
 {
     static const uint8_t likely[7] = {0, 1, 3, 4, 5, 0x7f, 0xff};
-    uint64_t which = draw(8);
+    uint64_t which = draw_below(&seed, 8);
 
-    return which < 7 ? likely[which] : (uint8_t)draw(256);
+    return which < 7 ? likely[which] : (uint8_t)draw_below(&seed, 256);
 }
 
 static size_t push(uint8_t *bytes, size_t length, const char *more, size_t count)
@@ -298,10 +291,10 @@ static size_t push(uint8_t *bytes, size_t length, const char *more, size_t count
 /* A node of 4 to 8 bytes. */
 static size_t push_node(uint8_t *bytes, size_t length)
 {
-    size_t end = length + 4 + draw(5);
+    size_t end = length + 4 + draw_below(&seed, 5);
 
-    bytes[length] = (uint8_t)draw(6);
-    bytes[length + 1] = (uint8_t)draw(256);
+    bytes[length] = (uint8_t)draw_below(&seed, 6);
+    bytes[length + 1] = (uint8_t)draw_below(&seed, 256);
     bytes[length + 2] = (uint8_t)(end - length);
     bytes[length + 3] = 0;
     for (length += 4; length < end; length++)
@@ -315,13 +308,14 @@ static size_t draw_bytes(uint8_t *bytes)
 {
     size_t length = 0, at;
 
-    for (uint64_t nodes = draw(6); nodes > 0; nodes--)
-        length = draw(4) == 0 ? push(bytes, length, "\x7f\x01\x04", 4) : push_node(bytes, length);
+    for (uint64_t nodes = draw_below(&seed, 6); nodes > 0; nodes--)
+        length = draw_below(&seed, 4) == 0 ? push(bytes, length, "\x7f\x01\x04", 4)
+                                           : push_node(bytes, length);
     length = push(bytes, length, END, 4);
-    for (uint64_t more = draw(4); more > 0; more--)
+    for (uint64_t more = draw_below(&seed, 4); more > 0; more--)
         bytes[length++] = likely_byte();
-    at = draw(length);
-    switch (draw(4)) {
+    at = draw_below(&seed, length);
+    switch (draw_below(&seed, 4)) {
     case 0:
         return at;
     case 1:

@@ -7,15 +7,15 @@
  * new extent. Then blocks in one extent alone, of 1, 4 and 4,096 pages, which is all the memory that
  * there is. Each point that does not hold is printed on standard error, and then the status is
  * 1. */
+#include "draws.h"
 #include "fault.h"
 #include "machine.h"
 #include "points.h"
+#include "small_core.h"
 
-#include <stdio.h>
 #include <stdlib.h>
 #include <string.h>
 
-#define PAGE_SIZE 4096U
 #define CELL 32U
 #define PAGE_CELLS (PAGE_SIZE / CELL)
 #define CALLS 20000U
@@ -41,12 +41,6 @@ struct pool {
     struct block blocks[CALLS];
     size_t extent_count, block_count;
 };
-
-static uint64_t next_draw(uint64_t *seed)
-{
-    *seed = *seed * 6364136223846793005U + 1442695040888963407U;
-    return *seed >> 33;
-}
 
 /* The cells of a block with its header. */
 static size_t cells_of(uint64_t size)
@@ -180,16 +174,16 @@ static void give(struct pool *pool, size_t at)
 }
 
 /* Takes a block as it was drawn, or gives one back. */
-static void make_drawn(struct pool *pool, uint64_t draw)
+static void make_drawn(struct pool *pool, uint64_t number)
 {
     static const uint32_t types[4] = {4, 4, 6, 2};
-    uint64_t most = draw / 32 % 8 == 0 ? 9000 : 300;
-    struct block block = {0, draw / 256 % most, (uint8_t)(draw / 64 % 255)};
+    uint64_t most = number / 32 % 8 == 0 ? 9000 : 300;
+    struct block block = {0, number / 256 % most, (uint8_t)(number / 64 % 255)};
 
-    if (draw % 5 >= 2)
-        take(pool, types[draw / 8 % 4], block);
-    else if (draw / 8 % 512 < pool->block_count)
-        give(pool, draw / 8 % 512);
+    if (number % 5 >= 2)
+        take(pool, types[number / 8 % 4], block);
+    else if (number / 8 % 512 < pool->block_count)
+        give(pool, number / 8 % 512);
 }
 
 /* Drawn calls on a machine, after which all blocks are given back: then the memory map is what it
@@ -204,7 +198,7 @@ static void draw_on(const struct machine *machine)
     RafkudinCertify(pool.core, true);
     entries = RafkudinDescriptors(pool.core);
     for (unsigned call = 0; call < CALLS; call++)
-        make_drawn(&pool, next_draw(&seed));
+        make_drawn(&pool, draw(&seed));
     while (pool.block_count > 0)
         give(&pool, pool.block_count - 1);
     HOLDS(RafkudinDescriptors(pool.core) == entries && pool.extent_count == 0);
@@ -242,18 +236,12 @@ struct row {
  * that cell does not count. */
 static void begin_row(struct row *row, uint64_t pages)
 {
-    uint8_t record[RAFKUDIN_DESCRIPTOR_SIZE] = {RAFKUDIN_CONVENTIONAL};
     uint64_t first = 0, last = 0;
 
-    put_number(record + 8, 8, PAGE_SIZE);
-    put_number(record + 24, 8, pages);
-    row->core = NULL;
+    row->core = core_of_pages(1, pages, NULL, 0);
     row->count = 0;
     row->start = PAGE_SIZE;
     row->cells = pages * PAGE_CELLS - 1;
-    if (RafkudinMake(record, sizeof record, sizeof record, 1, NULL, 0, &row->core) !=
-        RAFKUDIN_SUCCESS)
-        fail("no core");
     HOLDS(RafkudinAllocatePool(row->core, 4, row->cells * CELL - 8, &first) == RAFKUDIN_SUCCESS);
     HOLDS(RafkudinAllocatePool(row->core, 4, 24, &last) == RAFKUDIN_SUCCESS);
     HOLDS(first == row->start + 8 && last == row->start + row->cells * CELL + 8);
@@ -325,12 +313,12 @@ static void draw_in(const struct draws *drawn)
 
     begin_row(&row, drawn->pages);
     for (unsigned call = 0; call < drawn->calls; call++) {
-        uint64_t draw = next_draw(&seed);
+        uint64_t number = draw(&seed);
 
-        if (row.count > drawn->blocks || (draw % 2 == 0 && row.count > 0))
-            give_in(&row, draw / 2 % row.count);
+        if (row.count > drawn->blocks || (number % 2 == 0 && row.count > 0))
+            give_in(&row, number / 2 % row.count);
         else
-            take_in(&row, draw / 2 % drawn->sizes, (uint8_t)(draw % 255));
+            take_in(&row, number / 2 % drawn->sizes, (uint8_t)(number % 255));
     }
     while (row.count > 0)
         give_in(&row, row.count - 1);
@@ -346,17 +334,12 @@ int main(int count, char **names)
 {
     fault_program = "drawn_pool";
     for (int at = 1; at < count; at++) {
-        FILE *file = fopen(names[at], "rb");
-        struct machine machine;
+        struct machine machine = machine_open(names[at]);
 
-        if (file == NULL)
-            fail("no file: %s", names[at]);
-        machine = machine_read(file);
-        fclose(file);
         draw_on(&machine);
         machine_free(&machine);
     }
-    for (size_t at = 0; at < sizeof draws / sizeof draws[0]; at++)
+    for (size_t at = 0; at < COUNT(draws); at++)
         draw_in(&draws[at]);
     return points_end("drawn_pool");
 }

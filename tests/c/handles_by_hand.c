@@ -7,8 +7,6 @@
 #include <stdlib.h>
 #include <string.h>
 
-#define COUNT(rows) (sizeof(rows) / sizeof(rows)[0])
-
 #define SUCCESS RAFKUDIN_SUCCESS
 #define INVALID RAFKUDIN_INVALID_PARAMETER
 #define DENIED RAFKUDIN_ACCESS_DENIED

@@ -3,11 +3,8 @@
  * found in the core's memory and written over, as no caller may. Each point that does not hold is
  * printed on standard error, and then the status is 1. */
 #include "points.h"
+#include "small_core.h"
 
-#include <rafkudin.h>
-
-#include <stdio.h>
-#include <stdlib.h>
 #include <string.h>
 
 /* What a variable holds before a call that must leave it. */
@@ -27,17 +24,6 @@ static const struct rafkudin_guid disk = {{1}};
 struct served {
     uint64_t memory, block, handle;
 };
-
-/* A core with 256 free pages from page 1 on. */
-static struct rafkudin *make_core(void)
-{
-    uint8_t record[RAFKUDIN_DESCRIPTOR_SIZE] = {[0] = 7, [9] = 0x10, [25] = 1};
-    struct rafkudin *core = NULL;
-
-    if (RafkudinMake(record, sizeof record, sizeof record, 1, NULL, 0, &core) != RAFKUDIN_SUCCESS)
-        abort();
-    return core;
-}
 
 /* Leaves a core a number of calls: where its memory has the number that it says is left. Its pointer
  * leads to one to this memory. */
@@ -151,7 +137,7 @@ static void try_state(const struct rafkudin *core)
 
 int main(void)
 {
-    struct rafkudin *core = make_core();
+    struct rafkudin *core = core_of_pages(1, 256, NULL, 0);
     struct served served;
 
     leave_calls(core, CALLS);

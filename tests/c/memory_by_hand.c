@@ -5,28 +5,14 @@
 #include "fault.h"
 #include "machine.h"
 #include "points.h"
+#include "small_core.h"
 
 #include <stdlib.h>
 #include <string.h>
 
-#define COUNT(rows) (sizeof(rows) / sizeof(rows)[0])
-
-#define PAGE_SIZE 4096U
-#define PAGE_COUNT ((uint64_t)1 << 52)
 #define SUCCESS RAFKUDIN_SUCCESS
 
 /* ---- Requests that take much memory ---- */
-
-static void put_record(uint8_t *record, uint32_t type, uint64_t page, uint64_t pages,
-                       uint64_t attributes)
-{
-    put_number(record, 8, type);
-    put_number(record + 8, 8, page * PAGE_SIZE);
-    put_number(record + 16, 8, 0);
-    put_number(record + 24, 8, pages);
-    put_number(record + 32, 8, attributes);
-    put_number(record + 40, 8, 0);
-}
 
 /* Requests on all pages: each the kind, the type, the pages and the memory, and where they are
  * placed. */
@@ -50,11 +36,8 @@ static const struct {
 
 static void try_many_pages(void)
 {
-    uint8_t record[RAFKUDIN_DESCRIPTOR_SIZE];
-    struct rafkudin *core = NULL;
+    struct rafkudin *core = core_of_pages(0, PAGE_COUNT, NULL, 0);
 
-    put_record(record, RAFKUDIN_CONVENTIONAL, 0, PAGE_COUNT, 0xf);
-    HOLDS(RafkudinMake(record, sizeof record, sizeof record, 1, NULL, 0, &core) == SUCCESS);
     for (size_t certifies = 0; certifies < 2; certifies++) {
         RafkudinCertify(core, certifies);
         for (size_t row = 0; row < COUNT(requests); row++) {

@@ -1,9 +1,9 @@
 /* The lists of plain_lists.h without their drivers. */
 #include "plain_lists.h"
 
-#include <stdlib.h>
+#include "points.h"
 
-#define COUNT(array) (sizeof(array) / sizeof(array)[0])
+#include <stdlib.h>
 
 /* Ends the test where an array is full. */
 static void need(bool has_room)

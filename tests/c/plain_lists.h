@@ -8,7 +8,6 @@
 /* The value of a child's interface. */
 #define CHILD_VALUE 7U
 
-
 /* A GUID and a value to be installed. */
 struct named {
     uint8_t guid;

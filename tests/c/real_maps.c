@@ -8,6 +8,7 @@
  * can have one. The certificates of three requests are accepted, and refused with any of their
  * numbers changed by one. A core that makes no certificates places where one that makes them does.
  * Each point that does not hold is printed on standard error, and then the status is 1. */
+#include "draws.h"
 #include "fault.h"
 #include "points.h"
 #include "stretches.h"
@@ -41,15 +42,10 @@ struct drawn {
     uint64_t pages, memory, granule;
 };
 
-static uint64_t next_draw(uint64_t draw)
+/* A number below 256, from a place of what is drawn. */
+static size_t place_of(uint64_t seed, unsigned place)
 {
-    return draw * 6364136223846793005U + 1442695040888963407U;
-}
-
-/* A number below 256, from a place of a draw. */
-static size_t place_of(uint64_t draw, unsigned place)
-{
-    return draw >> place & 0xff;
+    return seed >> place & 0xff;
 }
 
 static uint64_t border_below(uint64_t page, uint64_t granule)
@@ -64,21 +60,21 @@ static uint64_t border_above(uint64_t page, uint64_t granule)
 
 /* A request, whose address is up to 63 pages above the first page of a stretch, and often at the
  * border of a granule. */
-static struct drawn draw_request(uint64_t draw, const struct memory *memory)
+static struct drawn draw_request(uint64_t seed, const struct memory *memory)
 {
     static const uint32_t kinds[4] = {0, 0, 1, 2};
     static const uint32_t types[16] = {0, 1,  2,  3,  4,  5,          6,          8,
                                        9, 10, 11, 12, 13, 0x70000001, 0x80000000, 0xffffffff};
-    size_t at = place_of(draw, 20);
+    size_t at = place_of(seed, 20);
     uint64_t page = at < memory->stretches.count ? memory->stretches.list[at].first : 0;
     struct drawn drawn;
 
-    drawn.kind = kinds[place_of(draw, 50) % 4];
-    drawn.type = types[place_of(draw, 40) % 16];
-    drawn.pages = (draw >> 54 & 0x1f) + 1;
+    drawn.kind = kinds[place_of(seed, 50) % 4];
+    drawn.type = types[place_of(seed, 40) % 16];
+    drawn.pages = (seed >> 54 & 0x1f) + 1;
     drawn.granule = granule_of(drawn.type, memory->granule);
-    page += draw >> 30 & 0x3f;
-    drawn.memory = border_below(page, (draw >> 36 & 3) != 0 ? drawn.granule : 1) * PAGE_SIZE;
+    page += seed >> 30 & 0x3f;
+    drawn.memory = border_below(page, (seed >> 36 & 3) != 0 ? drawn.granule : 1) * PAGE_SIZE;
     return drawn;
 }
 
@@ -128,9 +124,9 @@ static void push_placed(struct memory *memory, uint64_t first, uint64_t end)
 }
 
 /* Makes a request that was drawn, judges the reply, and returns whether it was served. */
-static bool place(struct memory *memory, uint64_t draw)
+static bool place(struct memory *memory, uint64_t seed)
 {
-    struct drawn drawn = draw_request(draw, memory);
+    struct drawn drawn = draw_request(seed, memory);
     uint64_t address = drawn.memory, status = status_of(&memory->stretches, &drawn);
     struct change change;
 
@@ -153,19 +149,19 @@ static bool place(struct memory *memory, uint64_t draw)
 }
 
 /* Frees pages that were placed, one page more, or some of them, and judges the reply. */
-static bool give(struct memory *memory, uint64_t draw)
+static bool give(struct memory *memory, uint64_t seed)
 {
-    size_t at = place_of(draw, 20) % memory->placed_count;
+    size_t at = place_of(seed, 20) % memory->placed_count;
     uint64_t first = memory->placed[at].first, end = memory->placed[at].end, from = first, to = end;
     struct change change = {0, 0, RAFKUDIN_CONVENTIONAL, false};
     bool are_placed;
 
     memory->placed[at] = memory->placed[--memory->placed_count];
-    if ((draw >> 45 & 3) == 0)
+    if ((seed >> 45 & 3) == 0)
         to = end + 1;
-    else if ((draw >> 45 & 3) == 1)
+    else if ((seed >> 45 & 3) == 1)
         from = first + 3 < end ? first + 3 : end - 1;
-    else if ((draw >> 45 & 3) == 2)
+    else if ((seed >> 45 & 3) == 2)
         to = end > first + 3 ? end - 2 : first + 1;
     are_placed = are_all(&memory->stretches, from, to, PLACED);
     HOLDS(RafkudinFreePages(memory->core, from * PAGE_SIZE, to - from) ==
@@ -186,7 +182,7 @@ static bool draw_on(const struct machine *machine, uint64_t granule, bool has_sp
 {
     static struct memory memory;
     unsigned changes = 0;
-    uint64_t draw = 1;
+    uint64_t seed = 1;
 
     memory.stretches = stretches_of(machine, has_specific_purpose);
     memory.core = core_of(&memory.stretches, granule);
@@ -194,9 +190,9 @@ static bool draw_on(const struct machine *machine, uint64_t granule, bool has_sp
     memory.placed_count = 0;
     for (unsigned call = 0; memory.core != NULL && call < CALLS; call++) {
         HOLDS(call != 0 || is_map_of(memory.core, &memory.stretches));
-        draw = next_draw(draw);
-        changes += draw >> 61 >= 3 || memory.placed_count == 0 ? place(&memory, draw)
-                                                               : give(&memory, draw);
+        draw(&seed);
+        changes += seed >> 61 >= 3 || memory.placed_count == 0 ? place(&memory, seed)
+                                                               : give(&memory, seed);
         HOLDS(is_map_of(memory.core, &memory.stretches));
         HOLDS(call + 1 != FIRST_CALLS || changes >= FIRST_CALLS / 2);
     }
@@ -360,13 +356,8 @@ int main(int count, char **names)
 
     fault_program = "real_maps";
     for (int at = 1; at < count; at++) {
-        FILE *file = fopen(names[at], "rb");
-        struct machine machine;
+        struct machine machine = machine_open(names[at]);
 
-        if (file == NULL)
-            fail("no file: %s", names[at]);
-        machine = machine_read(file);
-        fclose(file);
         HOLDS(draw_on(&machine, 1, false));
         HOLDS(draw_on(&machine, 1, true));
         with_granules += draw_on(&machine, 16, false);

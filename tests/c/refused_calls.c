@@ -5,12 +5,13 @@
  * Each allocation of a call is refused in turn, alone and with all after it. The call then is out of
  * memory, the questions at the end of the file are answered as without it, and made again it is
  * served as ever; or else it is served at once, as where std asks again for less. A call that is
- * refused none is served. All this on cores that make certificates, too. The heap is the test's own,
+ * refused none is served. All this on cores that make certificates, too. The heap is that of refusing_heap.h,
  * instead of the library's. Each point that does not hold is printed on standard error, and then
  * the status is 1. */
 #include "calls.h"
 #include "fault.h"
 #include "points.h"
+#include "refusing_heap.h"
 #include "replies.h"
 #include "small_core.h"
 
@@ -18,61 +19,6 @@
 #include <stdio.h>
 #include <stdlib.h>
 #include <string.h>
-
-/* ---- The heap ---- */
-
-struct block {
-    bool given;
-    void *start;
-};
-
-struct block rattle_alloc(size_t size, size_t align);
-struct block rattle_realloc(void *start, size_t kept, size_t size, size_t align);
-void rattle_dealloc(void *start);
-
-/* Which allocations are refused, from 1 on: those from one up to another; how many were asked for
- * since this was set, and whether one was refused. */
-static unsigned long first_refused, last_refused, asked;
-static bool was_refused;
-
-static void refuse(unsigned long first, unsigned long last)
-{
-    first_refused = first;
-    last_refused = last;
-    asked = 0;
-}
-
-static bool refuses(void)
-{
-    bool refused = ++asked >= first_refused && asked <= last_refused;
-
-    was_refused = was_refused || refused;
-    return refused;
-}
-
-static struct block block_at(void *start)
-{
-    static char nowhere;
-    struct block block = {start != NULL, start != NULL ? start : &nowhere};
-
-    return block;
-}
-
-struct block rattle_alloc(size_t size, size_t align)
-{
-    return block_at(refuses() ? NULL : malloc(size == 0 ? align : size));
-}
-
-struct block rattle_realloc(void *start, size_t kept, size_t size, size_t align)
-{
-    (void)kept;
-    return block_at(refuses() ? NULL : realloc(start, size == 0 ? align : size));
-}
-
-void rattle_dealloc(void *start)
-{
-    free(start);
-}
 
 /* ---- The file ---- */
 
@@ -330,16 +276,15 @@ static struct returned make_refused(const struct stretch *stretch, const struct 
     struct call call;
     uint64_t left, length = 0;
 
-    refuse(0, 0);
+    refuse_none();
     run.core = make_core(stretch->has_driver, certifies);
     make_lines(&run, stretch->lines, stretch->count - 1);
     text_free(&run.text);
     call_read(&call, stretch->lines[stretch->count - 1], 1);
     left = RafkudinCallsLeft(run.core);
-    was_refused = false;
     refuse(first, last);
     returned.status = serve(run.core, &call);
-    refuse(0, 0);
+    refuse_none();
     HOLDS(RafkudinCallsLeft(run.core) == left - 1);
     returned.lost_certificate =
         RafkudinCertificate(run.core, NULL, 0, &length) == RAFKUDIN_OUT_OF_RESOURCES;

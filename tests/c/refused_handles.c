@@ -2,10 +2,11 @@
  * of a call and all after it, then from the second on, and so on until the call is served; each
  * allocation alone; and all that goes past an amount of bytes, for each amount. A call that is
  * refused memory returns OUT_OF_RESOURCES and leaves all handles, interfaces, open items and what is
- * in memory as they were, and one that is refused none is served. The heap is the test's own,
+ * in memory as they were, and one that is refused none is served. The heap is that of refusing_heap.h,
  * instead of the library's. Each point that does not hold is printed on standard error, and then
  * the status is 1. */
 #include "points.h"
+#include "refusing_heap.h"
 #include "small_core.h"
 
 #include <limits.h>
@@ -14,92 +15,6 @@
 #include <string.h>
 
 #define SUCCESS RAFKUDIN_SUCCESS
-
-/* ---- The heap ---- */
-
-struct block {
-    bool given;
-    void *start;
-};
-
-struct block rattle_alloc(size_t size, size_t align);
-struct block rattle_realloc(void *start, size_t kept, size_t size, size_t align);
-void rattle_dealloc(void *start);
-
-/* Before each block is its size. */
-#define HEADER 16
-
-/* Which allocations are refused, from 1 on: those from one up to another, and those after which
- * more bytes than these would be in use. */
-static unsigned long first_refused, last_refused;
-static size_t most_bytes = SIZE_MAX;
-
-/* How many were asked for since the last call began, whether one was refused, and the bytes in
- * use. */
-static unsigned long asked;
-static bool was_refused;
-static size_t in_use;
-
-static bool refuses(size_t more)
-{
-    bool refused;
-
-    asked++;
-    refused = (asked >= first_refused && asked <= last_refused) || in_use + more > most_bytes;
-    was_refused = was_refused || refused;
-    return refused;
-}
-
-static size_t *size_before(void *start)
-{
-    return (size_t *)((uint8_t *)start - HEADER);
-}
-
-static struct block block_at(uint8_t *whole, size_t size)
-{
-    static char nowhere;
-    struct block block = {whole != NULL, whole != NULL ? (void *)(whole + HEADER) : &nowhere};
-
-    if (whole != NULL) {
-        *(size_t *)whole = size;
-        in_use += size;
-    }
-    return block;
-}
-
-struct block rattle_alloc(size_t size, size_t align)
-{
-    (void)align;
-    return block_at(refuses(size) ? NULL : malloc(HEADER + size), size);
-}
-
-struct block rattle_realloc(void *start, size_t kept, size_t size, size_t align)
-{
-    size_t before = *size_before(start);
-    uint8_t *whole;
-
-    (void)kept;
-    (void)align;
-    whole = refuses(size) ? NULL : realloc(size_before(start), HEADER + size);
-    if (whole != NULL)
-        in_use -= before;
-    return block_at(whole, size);
-}
-
-void rattle_dealloc(void *start)
-{
-    in_use -= *size_before(start);
-    free(size_before(start));
-}
-
-/* Refuses the allocations from one number up to another, 0 for none. */
-static void refuse(unsigned long first, unsigned long last)
-{
-    asked = 0;
-    was_refused = false;
-    first_refused = first;
-    last_refused = last;
-}
 
 /* ---- What a core has ---- */
 
@@ -111,7 +26,7 @@ struct state {
 
 static void push(struct state *state, uint64_t number)
 {
-    if (state->count == sizeof state->numbers / sizeof state->numbers[0])
+    if (state->count == COUNT(state->numbers))
         abort();
     state->numbers[state->count++] = number;
 }
@@ -253,7 +168,7 @@ static unsigned long refusals_of(struct rafkudin *core, struct call call)
 
         refuse(number, ULONG_MAX);
         status = make(core, &call);
-        first_refused = last_refused = 0;
+        refuse_none();
         HOLDS(RafkudinCallsLeft(core) == left - 1);
         HOLDS(status == (was_refused ? RAFKUDIN_OUT_OF_RESOURCES : SUCCESS));
         if (status == SUCCESS)
@@ -276,7 +191,7 @@ static void refuse_alone(struct rafkudin *(*made)(void), struct call call)
         take_state(&before, core);
         refuse(number, number);
         status = make(core, &call);
-        first_refused = last_refused = 0;
+        refuse_none();
         take_state(&after, core);
         HOLDS(status == SUCCESS || (was_refused && status == RAFKUDIN_OUT_OF_RESOURCES));
         HOLDS(are_same(&before, &after) == (status != SUCCESS));
@@ -298,7 +213,7 @@ static void refuse_alone(struct rafkudin *(*made)(void), struct call call)
 /* A core with some drivers. */
 static struct rafkudin *core_with(const struct rafkudin_driver *drivers, size_t count)
 {
-    first_refused = last_refused = 0;
+    refuse_none();
     handles = registrations = 1;
     return small_core(drivers, count);
 }

@@ -16,15 +16,30 @@ struct rafkudin_guid guid_of(uint8_t byte)
     return guid;
 }
 
-struct rafkudin *small_core(const struct rafkudin_driver *drivers, size_t count)
+void put_record(uint8_t *record, uint32_t type, uint64_t first, uint64_t pages,
+                uint64_t attributes)
 {
-    uint8_t record[RAFKUDIN_DESCRIPTOR_SIZE] = {[0] = 7, [10] = 1, [25] = 2, [32] = 0xf};
+    const uint64_t numbers[6] = {type, first * PAGE_SIZE, 0, pages, attributes, 0};
+
+    memcpy(record, numbers, sizeof numbers);
+}
+
+struct rafkudin *core_of_pages(uint64_t first, uint64_t pages,
+                               const struct rafkudin_driver *drivers, size_t count)
+{
+    uint8_t record[RAFKUDIN_DESCRIPTOR_SIZE];
     struct rafkudin *core = NULL;
 
+    put_record(record, RAFKUDIN_CONVENTIONAL, first, pages, 0xf);
     if (RafkudinMake(record, sizeof record, sizeof record, 1, drivers, count, &core) !=
         RAFKUDIN_SUCCESS)
         abort();
     return core;
+}
+
+struct rafkudin *small_core(const struct rafkudin_driver *drivers, size_t count)
+{
+    return core_of_pages(16, 512, drivers, count);
 }
 
 struct rafkudin_driver driver_for(uint32_t version, uint8_t needs, uint8_t opens)

@@ -64,14 +64,9 @@ struct rafkudin *core_of(const struct stretches *stretches, uint64_t granule)
 
     for (size_t at = 0; at < stretches->count; at++) {
         const struct stretch *stretch = &stretches->list[at];
-        uint8_t *record = records + at * RAFKUDIN_DESCRIPTOR_SIZE;
 
-        put_number(record, 8, stretch->type);
-        put_number(record + 8, 8, stretch->first * PAGE_SIZE);
-        put_number(record + 16, 8, 0);
-        put_number(record + 24, 8, stretch->end - stretch->first);
-        put_number(record + 32, 8, stretch->attributes);
-        put_number(record + 40, 8, 0);
+        put_record(records + at * RAFKUDIN_DESCRIPTOR_SIZE, stretch->type, stretch->first,
+                   stretch->end - stretch->first, stretch->attributes);
     }
     status = RafkudinMake(records, size, RAFKUDIN_DESCRIPTOR_SIZE, granule, NULL, 0, &core);
     free(records);

@@ -3,10 +3,7 @@
 #define STRETCHES_H
 
 #include "machine.h"
-
-/* How many pages there can be. */
-#define PAGE_COUNT ((uint64_t)1 << 52)
-#define PAGE_SIZE 4096U
+#include "small_core.h"
 
 /* Pages of one kind, from one number up to another. */
 struct stretch {
