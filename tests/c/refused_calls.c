@@ -5,9 +5,9 @@
  * Each allocation of a call is refused in turn, alone and with all after it. The call then is out of
  * memory, the questions at the end of the file are answered as without it, and made again it is
  * served as ever; or else it is served at once, as where std asks again for less. A call that is
- * refused none is served. All this on cores that make certificates, too. The heap is that of refusing_heap.h,
- * instead of the library's. Each point that does not hold is printed on standard error, and then
- * the status is 1. */
+ * refused none is served. All this on cores that make certificates, too. The heap is that of
+ * refusing_heap.h, instead of the library's. Each point that does not hold is printed on standard
+ * error, and then the status is 1. */
 #include "calls.h"
 #include "fault.h"
 #include "points.h"

@@ -1,10 +1,10 @@
 /* Calls on handles and drivers over memory that is refused, as the lists grow: the first allocation
  * of a call and all after it, then from the second on, and so on until the call is served; each
  * allocation alone; and all that goes past an amount of bytes, for each amount. A call that is
- * refused memory returns OUT_OF_RESOURCES and leaves all handles, interfaces, open items and what is
- * in memory as they were, and one that is refused none is served. The heap is that of refusing_heap.h,
- * instead of the library's. Each point that does not hold is printed on standard error, and then
- * the status is 1. */
+ * refused memory returns OUT_OF_RESOURCES and leaves all handles, interfaces, open items and what
+ * is in memory as they were, and one that is refused none is served. The heap is that of
+ * refusing_heap.h, instead of the library's. Each point that does not hold is printed on standard
+ * error, and then the status is 1. */
 #include "points.h"
 #include "refusing_heap.h"
 #include "small_core.h"
