@@ -317,15 +317,18 @@ static void try_most_handles(void)
  * newer than the change of a row before, from the first row on. */
 enum change { INSTALL, REMOVE, REPLACE };
 
+#define ORDERS 12
+
 struct order {
     enum change change;
     uint64_t handle;
     size_t holder_count;
     uint64_t holders[2];
-    const char *newer[13]; /* a text for each row so far, row 0 being before all; digits are handles */
+    const char *newer[ORDERS + 1]; /* a text for each row so far, after one for the time before all;
+                                      digits are handles */
 };
 
-static const struct order orders[12] = {
+static const struct order orders[ORDERS] = {
     {INSTALL, 1, 1, {1}, {"1", ""}},
     {INSTALL, 2, 2, {1, 2}, {"12", "2", ""}},
     {REMOVE, 1, 1, {2}, {"2", "2", "", ""}},
@@ -349,12 +352,13 @@ static bool meets(struct rafkudin *core, uint64_t key, const char *handles)
     return take_next(core, key) == RAFKUDIN_NOT_FOUND;
 }
 
-/* Each question takes what a key meets, so there are twelve keys for each row. */
-static uint64_t order_keys[13][12];
+/* Each question takes what a key meets, so there is a key of each row, and of the time before all, for
+ * each row that asks. */
+static uint64_t order_keys[ORDERS + 1][ORDERS];
 
 static void register_row(struct rafkudin *core, size_t row)
 {
-    for (size_t at = 0; at < 12; at++)
+    for (size_t at = 0; at < ORDERS; at++)
         order_keys[row][at] = registered(core, 1, row);
 }
 
