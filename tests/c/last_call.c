@@ -25,6 +25,20 @@ struct served {
     uint64_t memory, block, handle;
 };
 
+/* Each call uses one up, a refused one too. */
+static void count_calls(void)
+{
+    struct rafkudin *core = core_of_pages(1, 256, NULL, 0);
+    uint64_t memory = LEFT;
+
+    HOLDS(RafkudinCallsLeft(core) == ALL_CALLS);
+    HOLDS(RafkudinAllocatePages(core, RAFKUDIN_ANY_PAGES, 4, 2, &memory) == RAFKUDIN_SUCCESS);
+    HOLDS(RafkudinCallsLeft(core) == ALL_CALLS - 1);
+    HOLDS(RafkudinFreePages(core, 0, 1) != RAFKUDIN_SUCCESS);
+    HOLDS(RafkudinCallsLeft(core) == ALL_CALLS - 2);
+    RafkudinFree(core);
+}
+
 /* Leaves a core a number of calls: where its memory has the number that it says is left. Its pointer
  * leads to one to this memory. */
 static void leave_calls(struct rafkudin *core, uint64_t calls)
@@ -140,6 +154,7 @@ int main(void)
     struct rafkudin *core = core_of_pages(1, 256, NULL, 0);
     struct served served;
 
+    count_calls();
     leave_calls(core, CALLS);
     served = serve(core);
     try_state(core);

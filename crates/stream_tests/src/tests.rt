@@ -1,6 +1,7 @@
 //! Runs and checks over streams.
 mod block_writes;
 mod heaps;
+mod last_calls;
 mod left_states;
 mod refused_inputs;
 

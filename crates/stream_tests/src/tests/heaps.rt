@@ -1,6 +1,6 @@
 //! Cores on memory that can be refused, and what lines print on them.
 use boot_core::{Core, Machine};
-use boot_trace::{MachineFile, read_machine, run};
+use boot_trace::{MachineFile, RunFault, read_machine, run};
 use driver_connect::TableDriver;
 use refusing_memory::Refusing;
 use std::alloc::{AllocError, Global};
@@ -80,14 +80,25 @@ pub fn digest_of(before: u64, text: &[u8]) -> u64 {
 /// The number of no text.
 pub const NO_TEXT: u64 = 0xcbf2_9ce4_8422_2325;
 
-/// What lines print on a core, as a number. They are read and printed on a heap of their own.
+/// How a run of lines on a core ends, and what it prints, as a number. They are read and printed on a heap of their own.
+pub fn run_on<'a>(
+    lines_heap: &'a Refusing<Global>,
+    core: &mut Core<TableDriver, &'a Refusing<Global>>,
+    lines: &str,
+) -> (Result<(), RunFault>, u64) {
+    let mut out = Digest { number: NO_TEXT };
+    let end = run(lines_heap, core, lines.as_bytes(), &mut out, false);
+    (end, out.number)
+}
+
+/// What lines print on a core that serves them all, as a number.
 pub fn printed<'a>(
     rt: &impl Abort,
     lines_heap: &'a Refusing<Global>,
     core: &mut Core<TableDriver, &'a Refusing<Global>>,
     lines: &str,
 ) -> u64 {
-    let mut out = Digest { number: NO_TEXT };
-    assert!(rt; run(lines_heap, core, lines.as_bytes(), &mut out, false).is_ok());
-    out.number
+    let (end, number) = run_on(lines_heap, core, lines);
+    assert!(rt; end.is_ok());
+    number
 }
