@@ -1,5 +1,5 @@
 //! Driver handles, and what the drivers in them answer.
-ghost use Rattle.std.specs.Prelude.{◌≡◌, map};
+ghost use Rattle.std.specs.Prelude.{◌≡◌, ◌<◌, IsTrue, length, map};
 ghost use Rattle.driver_connect.specs.Drivers as spec;
 
 use crate::driver::Driver;
@@ -66,9 +66,10 @@ fn version_at<D: Driver>(drivers: &[D], place: u64) -> u32
     }
 }
 
-/// Whether the driver at a place can be started on a controller.
+/// Whether there is a driver at a place, and it can be started on a controller.
 pub(crate) fn supports_at<D: Driver>(drivers: &[D], place: u64, view: &View) -> bool
-    ensures { result ≡ spec.supports_at (map D.meaning drivers.now) place view.now }
+    ensures supports { result ≡ spec.supports_at (map D.meaning drivers.now) place view.now }
+    ensures place { IsTrue result → place < length drivers.now }
 {
     if place < drivers.len() as u64 {
         drivers[place as usize].supported(view)
@@ -79,13 +80,10 @@ pub(crate) fn supports_at<D: Driver>(drivers: &[D], place: u64, view: &View) -> 
 
 /// What starting the driver at a place does.
 pub(crate) fn plan_at<D: Driver>(drivers: &[D], place: u64, view: &View) -> StartPlan
+    requires { place < length drivers.now }
     ensures { result ≡ spec.plan_at (map D.meaning drivers.now) place view.now }
 {
-    if place < drivers.len() as u64 {
-        drivers[place as usize].plan(view)
-    } else {
-        StartPlan::none()
-    }
+    drivers[place as usize].plan(view)
 }
 
 /// A driver handle, if the handle is one.

@@ -25,17 +25,6 @@ pub(crate) fn is_free(protocols: &[ProtocolView], guid: Uuid) -> bool
     protocols.iter().any(|p| p.guid == guid && !p.held)
 }
 
-/// The same GUIDs.
-fn copied(guids: &ArrayVec<Uuid, MAX_GUIDS>) -> ArrayVec<Uuid, MAX_GUIDS>
-    ensures { result.items ≡ guids.now.items }
-{
-    let mut copy = ArrayVec::new();
-    for guid in guids.as_slice() {
-        copy.push(*guid);
-    }
-    copy
-}
-
 /// The same interfaces.
 fn copied_child(pairs: &ArrayVec<(Uuid, u64), MAX_PAIRS>) -> ArrayVec<(Uuid, u64), MAX_PAIRS>
     ensures { result.items ≡ pairs.now.items }
@@ -47,28 +36,19 @@ fn copied_child(pairs: &ArrayVec<(Uuid, u64), MAX_PAIRS>) -> ArrayVec<(Uuid, u64
     copy
 }
 
-/// The same children.
-fn copied_children(
-    children: &ArrayVec<ArrayVec<(Uuid, u64), MAX_PAIRS>, MAX_CHILDREN>,
-) -> ArrayVec<ArrayVec<(Uuid, u64), MAX_PAIRS>, MAX_CHILDREN>
-    ensures { map (λ c. c.items) result.items ≡ map (λ c. c.items) children.now.items }
-{
-    let mut copy = ArrayVec::new();
-    for child in children.as_slice() {
-        copy.push(copied_child(child));
-    }
-    copy
-}
-
 impl StartPlan {
     /// The same plan.
     pub fn copied(&self) -> StartPlan
         ensures { result ≡ self.now }
     {
-        StartPlan {
-            opens: copied(&self.opens),
-            children: copied_children(&self.children),
+        let mut copy = StartPlan::none();
+        for guid in self.opens.as_slice() {
+            copy.opens.push(*guid);
         }
+        for child in self.children.as_slice() {
+            copy.children.push(copied_child(child));
+        }
+        copy
     }
 }
 

@@ -14,14 +14,14 @@ returns-then-not-can_start-clause-goes_on g c = goes_nowhere c.args.connecting.n
 pub returns-then-not-can_start-clause-turn : goal.returns-then-not-can_start-clause-turn
 returns-then-not-can_start-clause-turn g c =
     let site = site_of g.D.Driver.meaning c.args.drivers.now c.args.notify.now c.args.controller in
-    let s : is_supported site (reached c.args.connecting.now) c.args.agent.now ≡ true = rw c.requires.protocols at (sym c.supports_at.ensures ∙ c.if-not-supports_at.false) in
+    let s : is_supported site (reached c.args.connecting.now) c.args.agent.now ≡ true = rw c.requires.protocols at (sym c.supports_at.ensures.supports ∙ c.if-not-supports_at.false) in
     let k : is_carried_out site (reached c.args.connecting.now) c.args.agent.now ≡ false = rw (c.plan_at-plan.ensures, c.requires.protocols) at (sym (c.can_start.ensures (reached c.args.connecting.now).handles c.count.ensures.count) ∙ c.if-not-can_start.true) in
     (turn_of site (reached c.args.connecting.now) c.args.agent.now false s k).0
 
 pub returns-then-not-can_start-clause-progress : goal.returns-then-not-can_start-clause-progress
 returns-then-not-can_start-clause-progress g c =
     let site = site_of g.D.Driver.meaning c.args.drivers.now c.args.notify.now c.args.controller in
-    let s : is_supported site (reached c.args.connecting.now) c.args.agent.now ≡ true = rw c.requires.protocols at (sym c.supports_at.ensures ∙ c.if-not-supports_at.false) in
+    let s : is_supported site (reached c.args.connecting.now) c.args.agent.now ≡ true = rw c.requires.protocols at (sym c.supports_at.ensures.supports ∙ c.if-not-supports_at.false) in
     let k : is_carried_out site (reached c.args.connecting.now) c.args.agent.now ≡ false = rw (c.plan_at-plan.ensures, c.requires.protocols) at (sym (c.can_start.ensures (reached c.args.connecting.now).handles c.count.ensures.count) ∙ c.if-not-can_start.true) in
     (turn_of site (reached c.args.connecting.now) c.args.agent.now false s k).1
 
@@ -32,6 +32,6 @@ carry_out-requires-clause-can g c =
 pub returns-clause-turn : goal.returns-clause-turn
 returns-clause-turn g c =
     let site = site_of g.D.Driver.meaning c.args.drivers.now c.args.notify.now c.args.controller in
-    let s : is_supported site (reached c.args.connecting.now) c.args.agent.now ≡ true = rw c.requires.protocols at (sym c.supports_at.ensures ∙ c.if-not-supports_at.false) in
+    let s : is_supported site (reached c.args.connecting.now) c.args.agent.now ≡ true = rw c.requires.protocols at (sym c.supports_at.ensures.supports ∙ c.if-not-supports_at.false) in
     let k : is_carried_out site (reached c.args.connecting.now) c.args.agent.now ≡ true = rw (c.plan_at-plan.ensures, c.requires.protocols) at (sym (c.can_start.ensures (reached c.args.connecting.now).handles c.count.ensures.count) ∙ c.if-not-can_start.false) in
     (turn_of site (reached c.args.connecting.now) c.args.agent.now true s k).0
