@@ -1,6 +1,7 @@
 -- What OpenProtocol and HandleProtocol give the caller's variable beside the interface that they
 -- return.
-use Rattle.std.specs.Prelude.{◌≡◌, ℕ, ◌==◌, not, Bool, true, cond, List, MatchOption, Option, Some, None}
+use Rattle.std.specs.Prelude.{◌≡◌, ℕ, ◌==◌, not, Bool, true, cond, List, Option, None}
+use Rattle.page_ranges.specs.Statuses.{status_number}
 use Rattle.page_ranges.specs.declared.statuses.Status.{Status}
 use Rattle.page_ranges.specs.declared.statuses.Status.TheVariants.{AlreadyStarted, Unsupported}
 use Rattle.guid_handles.specs.HandleTables.{HandleTable, value_at}
@@ -12,7 +13,7 @@ use Rattle.c_machines.specs.Guids.{guid_in}
 use Rattle.c_interface.specs.EfiCores.{EfiCoreValue}
 use Rattle.c_interface.specs.Items.{value_on}
 use Rattle.c_interface.specs.Replies.{number_in, returned_or, status_in}
-use Rattle.c_interface.specs.Served.{Answers}
+use Rattle.c_interface.specs.Served.{Answers, aborted}
 
 -- the attributes with which OpenProtocol leaves the caller's variable: TEST_PROTOCOL
 abbrev pub test_protocol : ℕ
@@ -66,8 +67,9 @@ OpensGiving old handle guid agent controller attributes value status new_value n
     AnswersOpen old (call.OpenProtocol handle (guid_in guid) agent controller attributes) value
     status new_value new
 
--- What the last call gives that opened an interface and returned a number or left one.
-abbrev pub GivesLast : {A : Type 0} → EfiCoreValue A → ℕ → List ℕ → ℕ → ℕ → Type 0
-GivesLast c handle guid returned result =
-    MatchOption c.last (result ≡ returned)
-    (λ answer. result ≡ given_by (status_in answer) (value_on c handle guid) returned)
+-- What is given by the number of a status: what the status gives, and what was there where no call
+-- could be made.
+abbrev pub GivesByNumber : {A : Type 0} → EfiCoreValue A → ℕ → List ℕ → ℕ → ℕ → ℕ → Type 0
+GivesByNumber c handle guid returned status result =
+    ((s : Status) → status ≡ status_number s
+    → result ≡ given_by s (value_on c handle guid) returned) × (status ≡ aborted → result ≡ returned)

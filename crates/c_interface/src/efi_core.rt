@@ -108,31 +108,22 @@ impl<A: Allocator + Copy> EfiCore<A> {
         self.block = block;
     }
 
-    /// Keeps the reply to a call that carries no certificate, and returns its status.
+    /// Keeps the reply to a call, and returns its status.
+    #[inline(always)]
     pub(crate) fn return_status(&mut self, reply: Reply<A>) -> u64
-        ensures status { result ≡ status_number (status_in reply) }
-        ensures core { self.new ≡ with_last self.old reply LastBlock.Nothing }
-    {
-        let status = status_in(&reply).number();
-        self.keep(reply, LastBlock::Nothing);
-        status
-    }
-
-    /// The same, beside the block that the call before left.
-    pub(crate) fn return_beside(&mut self, reply: Reply<A>) -> u64
         ensures status { result ≡ status_number (status_in reply) }
         ensures core { self.new ≡ with_reply self.old reply }
     {
-        let status = status_in(&reply).number();
+        let status = status_in(&reply);
         self.last = Some(reply);
-        status
+        status.number()
     }
 
     /// The same; where the reply carries a number it is put in the caller's variable.
     pub(crate) fn return_number(&mut self, reply: Reply<A>, place: &mut u64) -> u64
         ensures status { result ≡ status_number (status_in reply) }
         ensures number { place.new ≡ returned_or place.old (number_in reply) }
-        ensures core { self.new ≡ with_last self.old reply LastBlock.Nothing }
+        ensures core { self.new ≡ with_reply self.old reply }
     {
         if let Some(number) = number_in(&reply) {
             *place = number;

@@ -1,17 +1,18 @@
 //! OpenProtocol and HandleProtocol as shipped programs rely on them.
 ghost use Rattle.std.specs.Prelude.{◌≡◌};
 ghost use Rattle.c_machines.specs.Guids.{guid_in};
-ghost use Rattle.c_interface.specs.Items.{value_on};
-ghost use Rattle.c_interface.specs.Opening.{GivesLast, HandlesGiving, OpensGiving, given_by};
+ghost use Rattle.c_interface.specs.Opening.{GivesByNumber, HandlesGiving, OpensGiving};
 ghost use Rattle.c_interface.specs.Replies.{returned_or};
 
 use crate::efi_core::EfiCore;
-use crate::replies::status_in;
 use c_machines::Guid;
 use open_agents::TEST_PROTOCOL;
-use page_ranges::Status;
 use std::alloc::Allocator;
-use uuid::Uuid;
+
+/// The statuses whose values are not those that the call returned, as numbers of EFI_STATUS.
+const UNSUPPORTED: u64 = 0x8000_0000_0000_0003;
+
+const ALREADY_STARTED: u64 = 0x8000_0000_0000_0014;
 
 impl<A: Allocator + Copy> EfiCore<A> {
     /// OpenProtocol. The variable `value` receives the interface's value, also with ALREADY_STARTED, and 0 with
@@ -34,7 +35,7 @@ impl<A: Allocator + Copy> EfiCore<A> {
         if attributes == TEST_PROTOCOL {
             return status;
         }
-        *value = self.given(handle, guid, opened);
+        *value = self.given(status, handle, guid, opened);
         status
     }
 
@@ -46,31 +47,21 @@ impl<A: Allocator + Copy> EfiCore<A> {
     {
         let mut opened = *value;
         let status = self.handle_protocol(handle, guid, &mut opened);
-        *value = self.given(handle, guid, opened);
+        *value = self.given(status, handle, guid, opened);
         status
     }
 
-    /// The value for the caller's variable after the last call, which opened an interface: `returned` is what that
-    /// returned, or what it left there.
-    fn given(&self, handle: u64, guid: &Guid, returned: u64) -> u64
-        ensures { GivesLast self.now handle (guid_in guid.now) returned result }
-    {
-        let guid = guid.uuid();
-        match self.last_reply() {
-            Some(reply) => self.given_by(status_in(reply), handle, guid, returned),
-            None => returned,
-        }
-    }
-
-    /// The same by the status of the call.
-    fn given_by(&self, status: Status, handle: u64, guid: Uuid, returned: u64) -> u64
-        ensures { result ≡ given_by status (value_on self.now handle guid) returned }
+    /// The value for the caller's variable by the number of the status of a call that opened an interface. `returned`
+    /// is what the call returned, or what it left there.
+    fn given(&self, status: u64, handle: u64, guid: &Guid, returned: u64) -> u64
+        ensures { GivesByNumber self.now handle (guid_in guid.now) returned status result }
     {
         match status {
-            Status::AlreadyStarted => {
-                value_or(self.core.interface_value(handle, guid), returned)
+            ALREADY_STARTED => {
+                let value = self.core.interface_value(handle, guid.uuid());
+                value_or(value, returned)
             }
-            Status::Unsupported => 0,
+            UNSUPPORTED => 0,
             _ => returned,
         }
     }

@@ -21,7 +21,7 @@ returns g c =
     let answer = c.call-reply.result in
     let returned = certified book.granule asked answer in
     let none = no_block {A = g.row.A.Denot} book.granule entries asked returned in
-    rw (c.return_status.ensures.core, sym core, sym certifies) (inl (
+    rw (c.return_status.ensures.core, sym core, sym certifies, ap (λ (x : EfiCoreValue g.row.A.Denot). x.block) same) (inl (
       answer,
       record {
         step = c.call-reply.ensures.step;
