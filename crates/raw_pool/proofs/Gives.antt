@@ -389,11 +389,11 @@ last_ready bytes marks cells head cell last end after before f a l =
           (omega (arith, i.1, p.first), omega (arith, p.within, p.first), omega (arith, p.first))
     ]
 
-pub given : (bytes marks new : Bytes) (cells head head' cell last end after : ℕ) (before : List FreeRun) → Freeing bytes.set marks.set cells head cell last end after before → cell < length marks.set → (get_or marks.set cell 0 ≡ 0 → ⊥) → last ≤ cells → cells ≤ 2 ^ 28 → after < 2 ^ 64 →
-    (last < cells → last + word bytes.set (32 * last) ≡ cell → (new ≡ record { set = put (put bytes.set (32 * last) (little_bytes 8 (end - last))) (32 * last + 8) (little_bytes 8 after); room = bytes.room }) × (head' ≡ head)) →
-    ((last < cells → last + word bytes.set (32 * last) ≡ cell → ⊥) → (new ≡ record { set = with_link (put (put bytes.set (32 * cell) (little_bytes 8 (end - cell))) (32 * cell + 8) (little_bytes 8 after)) cells last cell; room = bytes.room }) × (head' ≡ cond (last == cells) cell head)) →
+pub given : (bytes marks new : Bytes) (cells head head' cell last end after count : ℕ) (before : List FreeRun) → Freeing bytes.set marks.set cells head cell last end after before → cell < length marks.set → (get_or marks.set cell 0 ≡ 0 → ⊥) → last ≤ cells → cells ≤ 2 ^ 28 → after < 2 ^ 64 →
+    (last < cells → last + word bytes.set (32 * last) ≡ cell → (new ≡ record { set = put (put bytes.set (32 * last) (little_bytes 8 (end - last))) (32 * last + 8) (little_bytes 8 after); room = bytes.room }) × (head' ≡ head) × (count ≡ end - last)) →
+    ((last < cells → last + word bytes.set (32 * last) ≡ cell → ⊥) → (new ≡ record { set = with_link (put (put bytes.set (32 * cell) (little_bytes 8 (end - cell))) (32 * cell + 8) (little_bytes 8 after)) cells last cell; room = bytes.room }) × (head' ≡ cond (last == cells) cell head) × (count ≡ end - cell)) →
     Freed bytes.set new.set marks.set cells head' cell × (new.room ≡ bytes.room)
-given bytes marks new cells head head' cell last end after before f h z w few n touch apart =
+given bytes marks new cells head head' cell last end after count before f h z w few n touch apart =
     let here : (last < cells) × (last + word bytes.set (32 * last) ≡ cell) → Freed bytes.set new.set marks.set cells head' cell × (new.room ≡ bytes.room) =
     λ q. let t = touch q.0 q.1 in
     rw (t.0, t.1) (freed-touching bytes.set marks.set cells head cell last end after before f h z q.0 q.1 (omega (arith, f.within)) n, refl) in

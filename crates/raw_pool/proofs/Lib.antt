@@ -11,6 +11,7 @@ pub mod Takes
 pub mod Gives
 pub mod Writes
 pub mod Regions
+pub mod Longest
 pub mod RawSteps
 pub mod Leases
 mod PageContents

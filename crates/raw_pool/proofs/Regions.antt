@@ -94,7 +94,7 @@ abbrev pub most : List FreeRun → ℕ
 most [] = 0
 most (r ∷ rs) = max r.cells (most rs)
 
-most-gap : (from to : ℕ) (rs : List FreeRun) → most (gap from to ++ rs) ≡ max (to - from) (most rs)
+pub most-gap : (from to : ℕ) (rs : List FreeRun) → most (gap from to ++ rs) ≡ max (to - from) (most rs)
 most-gap from to rs =
     elim (cases_lt from to) [
       | inl l ↦ rw (gap-some from to l) refl

@@ -258,12 +258,13 @@ header_set two cells last to at s w h =
 
 -- ---- where the block is
 
-pub lowest_place : (bytes marks : Bytes) (cells head last at need : ℕ) → IsStore bytes marks cells head → (c : Scan (λ (r : FreeRun). r.cells < need) bytes.set cells head (runs_of bytes marks cells) last at) → at < cells → 0 < need →
-    need ≤ word bytes.set (32 * at) → Some at ≡ lowest_fit cells need 0 (blocks_in bytes.set marks.set)
-lowest_place bytes marks cells head last at need s c l n f =
+pub lowest_place : (bytes marks : Bytes) (cells head last at size need : ℕ) → IsStore bytes marks cells head → (c : Scan (λ (r : FreeRun). r.cells < need) bytes.set cells head (runs_of bytes marks cells) last at) → at < cells → need ≡ cells_for size →
+    need ≤ word bytes.set (32 * at) → Some at ≡ lowest_fit cells (cells_for size) 0 (blocks_in bytes.set marks.set)
+lowest_place bytes marks cells head last at size need s c l n f =
     let q : Fit bytes.set cells head (marked 0 marks.set) last at c.before c.after = fit (λ (r : FreeRun). r.cells < need) bytes marks cells head last at s c l in
     let b : behind bytes.set 0 q.between.left ≡ at = sym q.between.first ∙ sym q.first in
     let end : next_start cells q.between.right ≡ at + word bytes.set (32 * at) = sym q.between.end ∙ omega (arith, q.first, q.cells_is) in
-    sym (ap (λ (xs : List ℕ). lowest_fit cells need 0 (map (block_in bytes.set) xs)) q.between.is
-    ∙ fit-behind bytes.set cells need 0 q.between.left q.between.right n (subst (AllByRecursion (λ (r : FreeRun). r.cells < need)) q.between.before_is c.passed) (omega arith)
+    sym (ap (λ (k : ℕ). lowest_fit cells k 0 (blocks_in bytes.set marks.set)) (sym n)
+    ∙ ap (λ (xs : List ℕ). lowest_fit cells need 0 (map (block_in bytes.set) xs)) q.between.is
+    ∙ fit-behind bytes.set cells need 0 q.between.left q.between.right (omega (arith, n)) (subst (AllByRecursion (λ (r : FreeRun). r.cells < need)) q.between.before_is c.passed) (omega arith)
     ∙ ap Some b)

@@ -2,7 +2,7 @@
 use Rattle.std.specs.Prelude.{◌≡◌, ◌≢◌, ◌≤◌, ◌<◌, ℕ, ◌+◌, ◌-◌, ◌*◌, ◌==◌, cond, List, [], ◌∷◌, length, slice_index, Option, MatchOption}
 use Rattle.std.specs.List.{AllByRecursion}
 use Rattle.raw_pool.specs.Bytes.{Bytes, put, word}
-use Rattle.raw_pool.specs.Blocks.{Block, Pool}
+use Rattle.raw_pool.specs.Blocks.{Block, Pool, longest_run}
 use Rattle.raw_pool.specs.FreeList.{FreeRun, block_in, blocks_in, link}
 use Rattle.raw_pool.specs.Searches.{IsRegion, IsStore, Scan, grown, pool_of, runs_of, with_link, with_run}
 use Rattle.raw_pool.specs.declared.store.Store.{Store}
@@ -11,10 +11,6 @@ use Rattle.raw_pool.specs.declared.store.Store.{Store}
 abbrev pub IsLaidStore : {A : Type 0} → Store A → Type 0
 IsLaidStore s = IsStore s.region.bytes s.region.marks s.cells s.head
 
--- the store is fresh or laid out
-abbrev pub IsWholeStore : {A : Type 0} → Store A → Type 0
-IsWholeStore s = IsRegion s.region.bytes s.region.marks s.cells s.head
-
 -- the pool that it represents
 abbrev pub pool_in : {A : Type 0} → Store A → Pool
 pool_in s = pool_of s.region.bytes s.region.marks s.cells
@@ -22,6 +18,14 @@ pool_in s = pool_of s.region.bytes s.region.marks s.cells
 -- its blocks
 abbrev pub blocks_of : {A : Type 0} → Store A → List Block
 blocks_of s = blocks_in s.region.bytes.set s.region.marks.set
+
+-- the number that it keeps is how many cells its longest free run has
+abbrev pub KnowsLongest : {A : Type 0} → Store A → Type 0
+KnowsLongest s = s.longest ≡ longest_run s.cells 0 (blocks_of s)
+
+-- it is fresh or laid out, and knows its longest free run
+abbrev pub IsWholeStore : {A : Type 0} → Store A → Type 0
+IsWholeStore s = IsRegion s.region.bytes s.region.marks s.cells s.head × KnowsLongest s
 
 -- what a block at a cell is by its header
 abbrev pub block_by_header : {A : Type 0} → Store A → ℕ → Block
@@ -83,38 +87,45 @@ marks_with s cell =
 
 -- only bytes and the head change
 abbrev pub ChangesLinks : {A : Type 0} → Store A → Store A → Type 0
-ChangesLinks old new = (new.region.marks ≡ old.region.marks) × (new.cells ≡ old.cells)
+ChangesLinks old new =
+    (new.region.marks ≡ old.region.marks) × (new.cells ≡ old.cells) × (new.longest ≡ old.longest)
 
 -- only bytes change
 abbrev pub ChangesBytes : {A : Type 0} → Store A → Store A → Type 0
 ChangesBytes old new =
     (new.head ≡ old.head) × (new.region.marks ≡ old.region.marks) × (new.cells ≡ old.cells)
+    × (new.longest ≡ old.longest)
 
 -- only the bytes that are set change
 abbrev pub ChangesSet : {A : Type 0} → Store A → Store A → Type 0
 ChangesSet old new =
     (new.region.bytes.room ≡ old.region.bytes.room) × (new.head ≡ old.head)
     × (new.region.marks ≡ old.region.marks) × (new.cells ≡ old.cells)
+    × (new.longest ≡ old.longest)
 
 -- only marks change
 abbrev pub ChangesMarks : {A : Type 0} → Store A → Store A → Type 0
 ChangesMarks old new =
     (new.region.bytes ≡ old.region.bytes) × (new.head ≡ old.head) × (new.cells ≡ old.cells)
+    × (new.longest ≡ old.longest)
 
 -- Where free cells follow a cell at once, they end where the run at that cell ends.
 abbrev pub EndsWithRun : {A : Type 0} → Store A → ℕ → ℕ → ℕ × ℕ → Type 0
 EndsWithRun s cell next result =
     next ≡ cell → next < s.cells → (result.0 ≡ run_end s next) × (result.1 ≡ run_behind s next)
 
--- Where a free run ends at a cell, it goes on up to `end`, and `after` is the run behind it.
-abbrev pub JoinsRun : {A : Type 0} → Store A → ℕ → ℕ → ℕ → ℕ → Store A → Type 0
-JoinsRun old last cell end after new =
+-- Where a free run ends at a cell, it goes on up to `end`, and `after` is the run behind it. It has
+-- `count` cells then.
+abbrev pub JoinsRun : {A : Type 0} → Store A → ℕ → ℕ → ℕ → ℕ → Store A → ℕ → Type 0
+JoinsRun old last cell end after new count =
     last < old.cells → run_end old last ≡ cell →
     (new.region.bytes ≡ bytes_with_run old last (end - last) after) × (new.head ≡ old.head)
+    × (count ≡ end - last)
 
--- Where none ends there, a run begins at the cell, and the list has it behind `last`.
-abbrev pub AddsRun : {A : Type 0} → Store A → ℕ → ℕ → ℕ → ℕ → Store A → Type 0
-AddsRun old last cell end after new =
+-- Where none ends there, a run of `count` cells begins at the cell, and the list has it behind
+-- `last`.
+abbrev pub AddsRun : {A : Type 0} → Store A → ℕ → ℕ → ℕ → ℕ → Store A → ℕ → Type 0
+AddsRun old last cell end after new count =
     (last < old.cells → run_end old last ≡ cell → ⊥) →
     (new.region.bytes
     ≡ record {
@@ -123,4 +134,4 @@ AddsRun old last cell end after new =
       room =
           old.region.bytes.room;
     })
-    × (new.head ≡ cond (last == old.cells) cell old.head)
+    × (new.head ≡ cond (last == old.cells) cell old.head) × (count ≡ end - cell)

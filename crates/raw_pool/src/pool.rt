@@ -49,6 +49,7 @@ impl<A: Allocator + Copy> RawPool<A> {
             region,
             cells,
             head: 0,
+            longest: cells,
         };
         Ok(RawPool {
             store: Box::new(alloc, store)?,
@@ -73,6 +74,7 @@ impl<A: Allocator + Copy> RawPool<A> {
             region,
             cells,
             head: 0,
+            longest: cells,
         };
         Ok(RawPool {
             store: Box::new(alloc, store)?,
@@ -127,7 +129,7 @@ impl<A: Allocator + Copy> RawPool<A> {
         self.store.is_empty()
     }
 
-    /// How many cells the longest run of free cells has. It goes along all free runs.
+    /// How many cells the longest run of free cells has.
     pub fn longest_free(&self) -> usize
         ensures { result ≡ longest_run self.now.cells 0 self.now.blocks }
     {

@@ -8,7 +8,7 @@ ghost use Rattle.raw_pool.specs.Answers.{AreCellsIn, bytes_at};
 ghost use Rattle.raw_pool.specs.Blocks.{block_at, cells_for, given, holds_range, longest_run, lowest_fit, taken, written};
 ghost use Rattle.raw_pool.specs.FreeList.{link};
 ghost use Rattle.raw_pool.specs.Searches.{IsCut};
-ghost use Rattle.raw_pool.specs.Stores.{AddsRun, ChangesBytes, ChangesLinks, ChangesMarks, ChangesSet, EndsWithRun, HasPassed, IsFit, IsLaidStore, IsMarked, IsRunBefore, IsRunIn, IsWholeStore, JoinsRun, block_by_header, blocks_of, bytes_with_link, bytes_with_run, marks_with, pool_in};
+ghost use Rattle.raw_pool.specs.Stores.{AddsRun, ChangesBytes, ChangesLinks, ChangesMarks, ChangesSet, EndsWithRun, HasPassed, IsFit, IsLaidStore, IsMarked, IsRunBefore, IsRunIn, IsWholeStore, JoinsRun, KnowsLongest, block_by_header, blocks_of, bytes_with_link, bytes_with_run, marks_with, pool_in};
 
 use crate::region::Region;
 use std::alloc::{Allocator, Global};
@@ -44,6 +44,8 @@ pub(crate) struct Store<A: Allocator = Global> {
     pub(crate) cells: usize,
     // The first free run.
     pub(crate) head: usize,
+    // How many cells the longest free run has.
+    pub(crate) longest: usize,
 }
 
 impl<A: Allocator + Copy> Store<A> {
@@ -133,6 +135,20 @@ impl<A: Allocator + Copy> Store<A> {
         (last, next)
     }
 
+    /// How many cells the longest free run has. It goes along the whole free list.
+    fn find_longest(&self) -> usize
+        requires { IsLaidStore self.now }
+        ensures { result ≡ longest_run self.now.cells 0 (blocks_of self.now) }
+    {
+        let mut longest = 0;
+        let mut next = self.head;
+        while next < self.cells {
+            longest = larger(longest, self.run_cells(next));
+            next = self.link(next);
+        }
+        longest
+    }
+
     /// Takes the given number of cells off the front of a free run and sets their bytes to 0. The answer is what
     /// the list goes on with: the rest of the run, or the run behind it.
     fn cut(&mut self, at: usize, need: usize) -> usize
@@ -178,6 +194,7 @@ impl<A: Allocator + Copy> Store<A> {
         requires fits { need ≤ word self.old.region.bytes.set (32 * at) }
         ensures pool { pool_in self.new ≡ taken (pool_in self.old) size (Some at) }
         ensures store { IsLaidStore self.new }
+        ensures longest { self.new.longest ≡ self.old.longest }
         ensures lies { self.new.region.lies ≡ self.old.region.lies }
     {
         let rest = self.cut(at, need);
@@ -188,10 +205,12 @@ impl<A: Allocator + Copy> Store<A> {
 
     /// Takes the lowest run of free cells that has room for a block.
     fn take_prepared(&mut self, size: usize) -> Option<usize>
-        requires { IsLaidStore self.old }
+        requires store { IsLaidStore self.old }
+        requires longest { KnowsLongest self.old }
         ensures cell { result ≡ lowest_fit self.old.cells (cells_for size) 0 (blocks_of self.old) }
         ensures pool { pool_in self.new ≡ taken (pool_in self.old) size result }
         ensures store { IsLaidStore self.new }
+        ensures longest { KnowsLongest self.new }
         ensures lies { self.new.region.lies ≡ self.old.region.lies }
     {
         if size > CELL_SIZE * self.cells {
@@ -199,7 +218,12 @@ impl<A: Allocator + Copy> Store<A> {
         }
         let need = cells_of(size);
         let (last, at) = self.find_fit(need)?;
+        let run = self.run_cells(at);
         self.place(last, at, size, need);
+        // Another run that is longer stays the longest.
+        if run >= self.longest {
+            self.longest = self.find_longest();
+        }
         Some(at)
     }
 
@@ -231,38 +255,43 @@ impl<A: Allocator + Copy> Store<A> {
     }
 
     /// Makes the cells from a cell up to `end` free. They join the free run `last` before them if it
-    /// touches them; the list goes on with `after`.
-    fn join(&mut self, last: usize, cell: usize, end: usize, after: usize)
+    /// touches them; the list goes on with `after`. The answer is how many cells their run has.
+    fn join(&mut self, last: usize, cell: usize, end: usize, after: usize) -> usize
         requires few { AreCellsIn self.old.cells cell end last }
         requires room { self.old.region.bytes.room ≡ 32 * self.old.cells }
         requires last { last < self.old.cells → IsRunBefore self.old last cell }
         requires set { 32 * cell + 32 ≤ length self.old.region.bytes.set }
-        ensures touching { JoinsRun self.old last cell end after self.new }
-        ensures apart { AddsRun self.old last cell end after self.new }
+        ensures touching { JoinsRun self.old last cell end after self.new result }
+        ensures apart { AddsRun self.old last cell end after self.new result }
         ensures others { ChangesLinks self.old self.new }
         ensures lies { self.new.region.lies ≡ self.old.region.lies }
     {
         if last < self.cells && last + self.run_cells(last) == cell {
             self.set_run(last, end - last, after);
+            end - last
         } else {
             self.set_run(cell, end - cell, after);
             self.set_link(last, cell);
+            end - cell
         }
     }
 
     /// Makes the cells of a block free.
     fn free(&mut self, cell: usize)
         requires store { IsLaidStore self.old }
+        requires longest { KnowsLongest self.old }
         requires block { IsMarked self.old cell }
         ensures pool { pool_in self.new ≡ given (pool_in self.old) cell }
         ensures store { IsLaidStore self.new }
+        ensures longest { KnowsLongest self.new }
         ensures lies { self.new.region.lies ≡ self.old.region.lies }
     {
         let block_end = cell + cells_of(self.region.word(CELL_SIZE * cell) as usize);
         let (last, next) = self.find_place(cell);
         let (end, after) = self.run_behind(block_end, next);
-        self.join(last, cell, end, after);
+        let run = self.join(last, cell, end, after);
         self.region.put_mark(cell, 0);
+        self.longest = larger(self.longest, run);
     }
 
     /// Writes the header of the one free run, if no byte of the region is set yet.
@@ -270,6 +299,7 @@ impl<A: Allocator + Copy> Store<A> {
         requires { IsWholeStore self.old }
         ensures pool { pool_in self.new ≡ pool_in self.old }
         ensures store { IsLaidStore self.new }
+        ensures longest { KnowsLongest self.new }
         ensures lies { self.new.region.lies ≡ self.old.region.lies }
     {
         if self.region.len() == 0 {
@@ -348,21 +378,12 @@ impl<A: Allocator + Copy> Store<A> {
         true
     }
 
-    /// How many cells the longest free run has. It goes along the whole free list.
+    /// How many cells the longest free run has.
     pub(crate) fn longest_free(&self) -> usize
         requires { IsWholeStore self.now }
         ensures { result ≡ longest_run self.now.cells 0 (blocks_of self.now) }
     {
-        if self.region.len() == 0 {
-            return self.cells;
-        }
-        let mut longest = 0;
-        let mut next = self.head;
-        while next < self.cells {
-            longest = larger(longest, self.run_cells(next));
-            next = self.link(next);
-        }
-        longest
+        self.longest
     }
 
     /// Whether there is no block: the first free run has all cells then.

@@ -1,30 +1,14 @@
-use Rattle.std.proofs.Common.{ℕ, ◌∙◌, sym, subst, arith}
+use Rattle.std.proofs.Common.{ℕ, sym, subst, arith}
 use Rattle.raw_pool.specs.Blocks.{longest_run}
 use Rattle.raw_pool.specs.FreeList.{blocks_in}
-use Rattle.raw_pool.specs.Searches.{IsStore}
-use Rattle.raw_pool.proofs.Regions.{Left, fresh_of, store_of, fresh_longest, left_start, left_here, left_next, left_done}
-use Rattle.raw_pool.proofs.store.Store.longest_free.Goals as goal
-
-pub returns-then-len-eq0 : goal.returns-then-len-eq0
-returns-then-len-eq0 g c = fresh_longest c.args.self.now.region.bytes c.args.self.now.region.marks c.args.self.now.cells (fresh_of c.args.self.now.region.bytes c.args.self.now.region.marks c.args.self.now.cells c.args.self.now.head c.requires (sym c.len.ensures.len ∙ c.if-len-eq0.true))
+use Rattle.raw_pool.proofs.Regions.{Left, left_start, left_here, left_next, left_done}
+use Rattle.raw_pool.proofs.store.Store.find_longest.Goals as goal
 
 pub loop-next-init : goal.loop-next-init
-loop-next-init g c =
-    let s : IsStore c.args.self.now.region.bytes c.args.self.now.region.marks c.args.self.now.cells c.args.self.now.head = store_of c.args.self.now.region.bytes c.args.self.now.region.marks c.args.self.now.cells c.args.self.now.head c.requires (λ e. c.if-len-eq0.false (c.len.ensures.len ∙ e)) in
-    left_start c.args.self.now.region.bytes c.args.self.now.region.marks c.args.self.now.cells c.args.self.now.head s
-
-pub run_cells-requires-clause-few : goal.run_cells-requires-clause-few
-run_cells-requires-clause-few g c =
-    let s : IsStore c.args.self.now.region.bytes c.args.self.now.region.marks c.args.self.now.cells c.args.self.now.head = store_of c.args.self.now.region.bytes c.args.self.now.region.marks c.args.self.now.cells c.args.self.now.head c.requires (λ e. c.if-len-eq0.false (c.len.ensures.len ∙ e)) in
-    (s.few, c.loop-next-test.true)
+loop-next-init g c = left_start c.args.self.now.region.bytes c.args.self.now.region.marks c.args.self.now.cells c.args.self.now.head c.requires
 
 pub run_cells-requires-clause-set : goal.run_cells-requires-clause-set
 run_cells-requires-clause-set g c = (left_here c.args.self.now.region.bytes.set c.args.self.now.cells c.args.self.now.head c.loop-next.next c.loop-next.longest (longest_run c.args.self.now.cells 0 (blocks_in c.args.self.now.region.bytes.set c.args.self.now.region.marks.set)) c.loop-next.invariant c.loop-next-test.true).set
-
-pub link-next-requires-clause-few : goal.link-next-requires-clause-few
-link-next-requires-clause-few g c =
-    let s : IsStore c.args.self.now.region.bytes c.args.self.now.region.marks c.args.self.now.cells c.args.self.now.head = store_of c.args.self.now.region.bytes c.args.self.now.region.marks c.args.self.now.cells c.args.self.now.head c.requires (λ e. c.if-len-eq0.false (c.len.ensures.len ∙ e)) in
-    s.few
 
 pub link-next-requires-clause-set : goal.link-next-requires-clause-set
 link-next-requires-clause-set g c = λ h. (left_here c.args.self.now.region.bytes.set c.args.self.now.cells c.args.self.now.head c.loop-next.next c.loop-next.longest (longest_run c.args.self.now.cells 0 (blocks_in c.args.self.now.region.bytes.set c.args.self.now.region.marks.set)) c.loop-next.invariant c.loop-next-test.true).set
