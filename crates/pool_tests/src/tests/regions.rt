@@ -194,6 +194,41 @@ fn full_page(rt: HostRuntime) {
     assert!(rt; pool.longest_free() == PAGE_BLOCKS && pool.take(4088) == Some(0));
 }
 
+/// How many cells the longest free run of a page has, by the sizes of its blocks.
+fn longest_by_sizes(pool: &RawPool) -> usize {
+    let mut longest: usize = 0;
+    let mut free: usize = 0;
+    let mut taken: usize = 0;
+    for cell in 0..PAGE_BLOCKS {
+        if let Some(size) = pool.size_of(cell) {
+            taken = size.saturating_add(39) / 32;
+        }
+        free = if taken > 0 { 0 } else { free.saturating_add(1) };
+        taken = taken.saturating_sub(1);
+        longest = longest.max(free);
+    }
+    longest
+}
+
+/// The longest free run after each of many calls on a page, drawn by a generator of numbers.
+#[test]
+fn longest_after_drawn_calls(rt: HostRuntime) {
+    let mut pool = region_of(&rt, 1);
+    let mut draw: u64 = 1;
+    for _ in 0..4000 {
+        draw = draw
+            .wrapping_mul(6_364_136_223_846_793_005)
+            .wrapping_add(1_442_695_040_888_963_407);
+        let drawn = (draw >> 40) as usize;
+        if draw >> 63 == 0 {
+            pool.take(drawn % 200);
+        } else {
+            pool.give(drawn % PAGE_BLOCKS);
+        }
+        assert!(rt; pool.longest_free() == longest_by_sizes(&pool));
+    }
+}
+
 /// The pages of the largest region.
 const MAX_PAGES: usize = 1 << 21;
 
