@@ -157,9 +157,6 @@ left_done bytes cells head next longest total l h =
     let t = l.most_is in
     omega arith
 
-pub fresh_longest : (bytes marks : Bytes) (cells : ℕ) → IsFresh bytes marks cells → cells ≡ longest_run cells 0 (blocks_in bytes.set marks.set)
-fresh_longest bytes marks cells f = rw (f.bytes_is, f.marks_is) (let z : cells ≡ cells - 0 = omega arith in z)
-
 -- ---- no blocks
 
 whole-empty : (bytes : List ℕ) (cells head : ℕ) (cs : List ℕ) → AreApart bytes cells 0 cs → AreLinked bytes cells head head (free_runs bytes cells 0 cs) → head ≡ 0 → word bytes (32 * 0) ≡ cells → cs ≡ []
