@@ -2,8 +2,8 @@
  *
  * A core is the boot services of one machine. docs/RULES.md states what each service does, point by
  * point, and docs/FORMATS.md the bytes of maps, lists, device paths and certificates; the end of
- * RULES.md says what of the standard is left out. No hardware is touched: addresses are those of
- * the machine that RafkudinMake describes, never pointers of this program, but of a core that
+ * RULES.md says what of the standard is left out. No hardware is touched. Addresses are those of
+ * the machine that RafkudinMake describes, never pointers of this program, except on a core that
  * RafkudinMakeOver makes over memory.
  *
  * NAMES. There are 24 services. 22 of them have their names in the UEFI Specification 2.10 with
@@ -28,17 +28,17 @@
  *
  * STATUSES. Services return an EFI_STATUS. SUCCESS is 0, any other is a refusal. A refused call
  * changes nothing in the core but the number of calls left and what RafkudinEvents,
- * RafkudinCertificate and RafkudinReplyLine report, which is always of the last call. Nor does it
- * write to the caller's variables and buffers, except as said of BUFFER_TOO_SMALL, OpenProtocol and
- * HandleProtocol. Where several refusals apply, the call returns the one that is named first. These
- * hold for every service, and are not repeated below:
+ * RafkudinCertificate and RafkudinReplyLine report, which is always about the last call. Nor does
+ * it write to the caller's variables and buffers, except as said at BUFFER_TOO_SMALL, OpenProtocol
+ * and HandleProtocol. Where several refusals apply, the call returns the one that is named first.
+ * The following refusals hold for every service, and are not repeated below:
  * - First of all, ABORTED: the core has served its 2^62 - 1 calls, which at 50 ns each take 7,300
  *   years. Refused ones count too.
  * - Then UNSUPPORTED: boot services have ended. Every service returns it from then on.
  * - Last of all, OUT_OF_RESOURCES: the heap refused the core memory for its own tables; or 2^61
  *   numbers were given to handles, or as often an interface was installed or reinstalled.
  *   GetMemoryMap, ExitBootServices, PoolRead, PoolWrite, CloseProtocol, HandleProtocol,
- *   LocateDevicePath and LocateProtocol never ask for any.
+ *   LocateDevicePath and LocateProtocol never ask for memory.
  * OUT_OF_RESOURCES may be returned instead of six refusals that are named before it, as the core
  * needs memory to decide them:
  * - ACCESS_DENIED of UninstallProtocolInterface, of ReinstallProtocolInterface, and of an exclusive
@@ -50,9 +50,9 @@
  * - `core` is a pointer that RafkudinMake or RafkudinMakeOver set, and RafkudinFree has not been
  *   called with it.
  * - Each pointer is null or aligned for its type.
- * - A buffer has the room, and an array the entries, that the parameter beside it states. What is
- *   read is initialized, all of it: every field of a structure, entries beyond its counts too. A
- *   bool is 0 or 1.
+ * - A buffer has the room, and an array the entries, that the parameter beside it states. All that
+ *   is read is initialized: every field of a structure, and entries beyond its counts too. A bool
+ *   is 0 or 1.
  * - The variables and buffers that a call's pointers point to must not overlap, nor be a part of
  *   the core; those that are only read may overlap. So each result has a variable of its own.
  * - A core is in one call at a time, on the thread that made it. Two cores may be in calls at once,
@@ -69,8 +69,8 @@
  *
  * docs/C.md says what these must do, how to link, and how a firmware builds the library. On x86-64
  * it runs on every processor and may be interrupted anywhere, as it uses no byte below the stack
- * pointer. ReinstallProtocolInterface and ConnectController take up to 8 KB of stack, what changes
- * pages 16 KB, RafkudinMake 20 KB; docs/C.md says what was measured of others. */
+ * pointer. ReinstallProtocolInterface and ConnectController take up to 8 KB of stack, services that
+ * change pages 16 KB, RafkudinMake 20 KB; docs/C.md says what other functions take. */
 #ifndef RAFKUDIN_H
 #define RAFKUDIN_H
 
@@ -293,11 +293,11 @@ struct rafkudin_memory {
     size_t pages;
 };
 
-/* RafkudinMake with memory for the machine's pages from number `first_page` on, where page k of the
- * memory is page `first_page` + k of the machine. A block of the pool then is at its address: its
- * bytes are those of the memory. All replies are the same, but that of a pool extent of other pages
- * than these, which is refused as where memory runs out. So there is to be memory for each
- * conventional page of the machine; `start` is at least as aligned as a page.
+/* RafkudinMake with memory for the machine's pages from number `first_page` on: page k of the
+ * memory is page `first_page` + k of the machine. The bytes of a pool block are then in this
+ * memory, at the block's address. All replies are the same, with one exception: new pages for the
+ * pool that are not all in the memory are refused as where memory runs out. So the memory must have
+ * each conventional page of the machine; `start` is at least as aligned as a page.
  *
  * The memory is the core's alone until RafkudinFree, but for what it has handed out. The caller may
  * read and write, by their addresses,
@@ -306,10 +306,10 @@ struct rafkudin_memory {
  *   core's, as are free bytes of an extent, in which it keeps its list;
  * - pages that AllocatePages placed, until they are freed: the core reads and writes no page but
  *   those of the pool.
- * Two cores have no page of memory in common. What the core keeps of each page, a byte and some
- * more, stays allocated once it is freed, and where none is made.
+ * Two cores must have no page of memory in common. What the core keeps for each page, a byte and
+ * some more, stays allocated after the core is freed, and also where no core is made.
  *
- * INVALID_PARAMETER: the memory begins at null, or has 2^51 pages or more; and as of RafkudinMake.
+ * INVALID_PARAMETER: the memory begins at null, or has 2^51 pages or more; and as for RafkudinMake.
  * OUT_OF_RESOURCES: memory was refused. *core is set on SUCCESS alone. */
 RAFKUDIN_API rafkudin_uint64 RafkudinMakeOver(struct rafkudin_memory memory,
                                               rafkudin_uint64 first_page, const uint8_t *records,
@@ -327,11 +327,10 @@ RAFKUDIN_API void RafkudinFree(struct rafkudin *core);
 RAFKUDIN_API void RafkudinCertify(struct rafkudin *core, bool certify);
 
 /* The certificate of the last service that was called, as the text of a certificate block
- * (docs/FORMATS.md), without a zero byte at its end. There is one where that call succeeded while
- * certificates are kept, and was AllocatePages of the types RAFKUDIN_ANY_PAGES or
- * RAFKUDIN_MAX_ADDRESS, or AllocatePool, LocateHandleBuffer or OpenProtocolInformation and placed
- * new pages for the pool. `text` has room for `room` bytes; the text is written where all of it
- * fits.
+ * (docs/FORMATS.md), without a zero byte at its end. There is one where certificates are kept, the
+ * call succeeded, and it was AllocatePages of the type RAFKUDIN_ANY_PAGES or RAFKUDIN_MAX_ADDRESS,
+ * or an AllocatePool, LocateHandleBuffer or OpenProtocolInformation that placed new pages for the
+ * pool. `text` has room for `room` bytes; the text is written where all of it fits.
  *
  * SUCCESS: *length are the bytes written. BUFFER_TOO_SMALL: *length are the bytes needed, and none
  * is written. NOT_FOUND: there is no certificate. OUT_OF_RESOURCES: memory was refused. */
@@ -443,14 +442,14 @@ RAFKUDIN_API rafkudin_uint64 RafkudinOpenProtocolInformationInto(
 
 /* ---- A placement with no core, and the check of one ---- */
 
-/* Finds the best place for `Pages` pages of the type `MemoryType` on a memory map, of which nothing
- * is kept: `records`, `size`, `descriptor_size` and `granule` as of RafkudinMake. `limit` is the
- * last byte that may belong to them, UINT64_MAX where they may lie anywhere. *address is what
- * AllocatePages would return on a core that is made of the map.
+/* Finds the best place for `Pages` pages of the type `MemoryType` on a memory map, and keeps
+ * nothing of the map: `records`, `size`, `descriptor_size` and `granule` are those of RafkudinMake.
+ * `limit` is the last byte that may belong to the pages, UINT64_MAX where they may lie anywhere.
+ * *address is what AllocatePages would return on a core that is made of the map.
  *
- * INVALID_PARAMETER: `address` is null; the map, as of RafkudinMake; a memory type that no request
- * may name; 0 pages. OUT_OF_RESOURCES: no free memory without SP has room for them below the limit,
- * or memory was refused. */
+ * INVALID_PARAMETER: `address` is null; the map, as for RafkudinMake; a memory type that no request
+ * may name; 0 pages. OUT_OF_RESOURCES: no free memory without SP has room for the pages below the
+ * limit, or memory was refused. */
 RAFKUDIN_API rafkudin_uint64 RafkudinPlace(const uint8_t *records, size_t size,
                                            size_t descriptor_size, rafkudin_uint64 granule,
                                            uint32_t MemoryType, rafkudin_uint64 Pages,
@@ -518,9 +517,9 @@ RAFKUDIN_API rafkudin_uint64 RafkudinAllocatePool(struct rafkudin *core, uint32_
 /* 7.2.5. Frees the block at an address. INVALID_PARAMETER: no live block has this address. */
 RAFKUDIN_API rafkudin_uint64 RafkudinFreePool(struct rafkudin *core, rafkudin_uint64 Buffer);
 
-/* The bytes of the pool, which a program of a firmware reaches by a pointer: `count` bytes from the
- * address on are copied to `bytes`, or from there. INVALID_PARAMETER: they do not all belong to one
- * live block. */
+/* Copy `count` bytes of the pool, from the address on, to `bytes`, or copy `bytes` to there. A
+ * program of a firmware reaches these bytes by a pointer. INVALID_PARAMETER: the bytes from the
+ * address on do not all belong to one live block. */
 RAFKUDIN_API rafkudin_uint64 RafkudinPoolRead(struct rafkudin *core, rafkudin_uint64 Address,
                                               uint8_t *bytes, size_t count);
 RAFKUDIN_API rafkudin_uint64 RafkudinPoolWrite(struct rafkudin *core, rafkudin_uint64 Address,
@@ -542,10 +541,10 @@ RAFKUDIN_API rafkudin_uint64 RafkudinInstallProtocolInterface(struct rafkudin *c
 /* The same with `count` interfaces instead of the standard's list of arguments. All are installed
  * or none.
  *
- * INVALID_PARAMETER: no interfaces or over 16, of which no more than the first 17 are read; a
- * handle that is neither 0 nor live; a GUID that is twice among them or is on the handle.
- * ALREADY_STARTED: one of them is a device path that a live handle has already. OUT_OF_RESOURCES:
- * RAFKUDIN_MAX_HANDLES are live already. */
+ * INVALID_PARAMETER: no interfaces, or over 16 (at most the first 17 are read); a handle that is
+ * neither 0 nor live; a GUID that is twice among the interfaces or is on the handle.
+ * ALREADY_STARTED: one of the interfaces is a device path that a live handle has already.
+ * OUT_OF_RESOURCES: RAFKUDIN_MAX_HANDLES are live already. */
 RAFKUDIN_API rafkudin_uint64 RafkudinInstallMultipleProtocolInterfaces(
     struct rafkudin *core, rafkudin_uint64 *Handle, const struct rafkudin_interface *interfaces,
     size_t count);
@@ -562,7 +561,7 @@ RafkudinUninstallProtocolInterface(struct rafkudin *core, rafkudin_uint64 Handle
 
 /* Uninstalls the `count` interfaces of an array from a handle, one after the other as
  * RafkudinUninstallProtocolInterface does, or none: a refusal leaves all of them, with what is open
- * on them. Of no interfaces it is SUCCESS. The standard's service takes the interfaces as
+ * on them. With no interfaces it returns SUCCESS. The standard's service takes the interfaces as
  * arguments.
  *
  * INVALID_PARAMETER: more than 16 interfaces; one that RafkudinUninstallProtocolInterface refuses
@@ -712,7 +711,7 @@ RAFKUDIN_API rafkudin_uint64 RafkudinLocateDevicePath(struct rafkudin *core,
 /* ---- The end of the boot services, section 7.4.6 ---- */
 
 /* Ends the boot services where `MapKey` is the current key, as GetMemoryMap returns it: each call
- * that changes the type of a page makes another. `ImageHandle` is ignored.
+ * that changes the type of a page makes another key. `ImageHandle` is ignored.
  * INVALID_PARAMETER: another key. */
 RAFKUDIN_API rafkudin_uint64 RafkudinExitBootServices(struct rafkudin *core,
                                                       rafkudin_uint64 ImageHandle,
@@ -739,8 +738,8 @@ RAFKUDIN_API rafkudin_uint64 RafkudinExitBootServices(struct rafkudin *core,
  * Between two turns any service may be called, and turns on other controllers may be begun: the
  * list and the turns are the caller's own memory, and nothing else is kept of them. */
 
-/* A driver: its driver handle, what its caller knows it by, as the address of its protocol, and the
- * version there. */
+/* A driver: its driver handle; a number by which the caller knows it, such as the address of its
+ * driver binding protocol; and the version in that protocol. */
 struct rafkudin_binding {
     rafkudin_uint64 handle;
     rafkudin_uint64 driver;
@@ -755,14 +754,15 @@ struct rafkudin_turns {
     bool has_started;
 };
 
-/* Begins the turns on a controller of the `count` drivers at `drivers`, and puts these into the
- * order in which they are tried. First come those of the `named_count` handles at `named`, up to
- * 16, each once and in that order, then all others, the highest version first, those of one version
- * as they came. So a caller passes all that it has, by ascending handle. A driver counts where its
- * handle is live and carries the driver binding GUID; others drop out.
+/* Begins the turns of the `count` drivers at `drivers` on a controller, and puts the drivers into
+ * the order in which they are tried. First come those of the `named_count` handles at `named`, up
+ * to 16, each once and in that order. Then come all others, the highest version first, and drivers
+ * of one version as they are in the list; so a caller passes all drivers that it has, by ascending
+ * handle. A driver counts where its handle is live and carries the driver binding GUID; others drop
+ * out.
  *
  * INVALID_PARAMETER: the controller is not live, or over 16 handles are named. OUT_OF_RESOURCES:
- * memory was refused. Either leaves the list and *turns as they are. */
+ * memory was refused. Both leave the list and *turns as they are. */
 RAFKUDIN_API rafkudin_uint64 RafkudinConnectBegin(const struct rafkudin *core,
                                                   rafkudin_uint64 ControllerHandle,
                                                   const rafkudin_uint64 *named, size_t named_count,
@@ -777,9 +777,9 @@ RAFKUDIN_API rafkudin_uint64 RafkudinConnectNext(const struct rafkudin_turns *tu
                                                  const struct rafkudin_binding *drivers,
                                                  size_t count, struct rafkudin_binding *driver);
 
-/* Records what came of the turn: whether the driver was started, also where its start failed. One
- * that was started has no other turn; one that was not has another after a pass in which any driver
- * was started. Without a turn nothing happens. */
+/* Records the outcome of the turn: whether the driver was started, also where its start failed. A
+ * driver that was started has no other turn; a driver that was not has another turn after a pass in
+ * which any driver was started. Where it is no driver's turn, nothing happens. */
 RAFKUDIN_API void RafkudinConnectRecord(struct rafkudin_turns *turns,
                                         struct rafkudin_binding *drivers, size_t count,
                                         bool was_started);
@@ -797,13 +797,13 @@ RAFKUDIN_API void RafkudinConnectRecord(struct rafkudin_turns *turns,
  *         .. Stop() of the driver stops[i].agent on the controller, first with its children ..
  *     }
  *
- * What Stop() itself uninstalls has drivers of its own to be stopped, so stops nest. Where a Stop()
- * may stop others of the list, ask for the list anew after each, and pass over pairs that were
- * tried.
+ * What Stop() itself uninstalls may have drivers to be stopped too, so stops nest. Where a Stop()
+ * may stop others of the list, ask for the list anew after each Stop(), and pass over pairs that
+ * were tried.
  *
  * The lists are written to the front of a buffer that has room for `room` entries; *count is how
- * many there are. A handle that is not live, or lacks the GUID, has no drivers to be stopped;
- * children that a driver of RafkudinMake made on it are listed as long as they live.
+ * many entries there are. A handle that is not live, or lacks the GUID, has no drivers to be
+ * stopped; children that a driver of RafkudinMake made on it are listed as long as they live.
  *
  * BUFFER_TOO_SMALL: there is no room for all of them, and none is written; *count is set too.
  * OUT_OF_RESOURCES: memory was refused; *count stays as it is. */
@@ -817,7 +817,7 @@ struct rafkudin_stop {
 
 /* The drivers to be stopped, in order, before an interface can be opened exclusively, uninstalled
  * or reinstalled: those that have it open by driver. Where drivers of RafkudinMake made handles,
- * the drivers on these are among them, the controller that was made last first. */
+ * the drivers on these handles are listed too, the controller that was made last first. */
 RAFKUDIN_API rafkudin_uint64 RafkudinStopsOnInterface(const struct rafkudin *core,
                                                       rafkudin_uint64 Handle,
                                                       const struct rafkudin_guid *Protocol,
@@ -861,14 +861,14 @@ RAFKUDIN_API rafkudin_uint64 RafkudinLocatePath(struct rafkudin *core,
  * PoolWrite of the bytes to that block, and InstallMultipleProtocolInterfaces of the block's
  * address as the device path of *Handle, or of a new handle where *Handle is 0; the new handle is
  * then put into *Handle. *address is the block's address, which is the value of the interface:
- * whoever uninstalls that frees the block. The caller's bytes are read during the call alone. Where
- * InstallMultipleProtocolInterfaces is refused, FreePool gives the block back; only where the heap
- * then refuses memory for that, the block stays. The three or four services count as such, and the
- * call's events are those of the installation, its certificate that of the block.
+ * whoever uninstalls the interface frees the block. The caller's bytes are read during the call
+ * alone. Where InstallMultipleProtocolInterfaces is refused, FreePool gives the block back; only
+ * where the heap refuses FreePool memory, the block stays. Each of the three or four services
+ * counts as a call; the events are those of the installation, the certificate is that of the block.
  *
  * INVALID_PARAMETER: the bytes begin with no device path, or it goes on behind them; then no
- * service is called. ABORTED: fewer than four services can still be called; then none is. Else what
- * the first of the services returns that is refused. */
+ * service is called. ABORTED: fewer than four services can still be called; then none is called.
+ * Otherwise the status is that of the first of these services that is refused. */
 RAFKUDIN_API rafkudin_uint64 RafkudinInstallPath(struct rafkudin *core, rafkudin_uint64 *Handle,
                                                  const uint8_t *path, size_t length,
                                                  rafkudin_uint64 *address);
@@ -901,9 +901,9 @@ RAFKUDIN_API rafkudin_uint64 RafkudinInstallPath(struct rafkudin *core, rafkudin
 #define RAFKUDIN_CALL_LOCATE_DEVICE_PATH 23U
 #define RAFKUDIN_CALL_EXIT_BOOT_SERVICES 24U
 
-/* A call: the number of its service, and its parameters. Of a parameter that is a pointer the field
- * is the value of its variable before the call: a handle of 0 asks for a new one. The other fields
- * are ignored, and may be 0 or null (with RAFKUDIN_NO_NULL_CHECKS not null). */
+/* A call: the number of its service, and its parameters. For a parameter that is a pointer, the
+ * field has the value of the variable before the call: a handle of 0 asks for a new one. Fields of
+ * no parameter are ignored, and may be 0 or null (with RAFKUDIN_NO_NULL_CHECKS not null). */
 struct rafkudin_call {
     uint32_t service;
     uint32_t type;        /* Type of AllocatePages, InterfaceType */
@@ -968,8 +968,8 @@ struct rafkudin_read_reply {
 
 /* What the program `bootcore` prints of these (docs/FORMATS.md), without a zero byte at its end.
  * The replies of GetMemoryMap and PoolRead are in the caller's buffers, so the caller hands them
- * in. `text` has room for `room` bytes; the text is written where all of it fits. The core plays no
- * part but for the memory that the text takes in between.
+ * in. `text` has room for `room` bytes; the text is written where all of it fits. Of the core only
+ * its heap is used, while the text is made.
  *
  * SUCCESS: *length are the bytes written. BUFFER_TOO_SMALL: *length are the bytes needed, and none
  * is written. INVALID_PARAMETER: the status is ABORTED, or none of a service.

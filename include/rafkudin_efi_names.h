@@ -1,6 +1,6 @@
 /* The names of the UEFI Specification without a prefix, for the services of rafkudin.h. They are
- * macros, so this header comes behind all others of a file, and no file includes it that calls a
- * firmware's own services by these names. */
+ * macros: a file includes this header behind all others, and a file that calls a firmware's own
+ * services by these names must not include it. */
 #ifndef RAFKUDIN_EFI_NAMES_H
 #define RAFKUDIN_EFI_NAMES_H
 

@@ -1,9 +1,9 @@
-/* Checks for null pointers before the library is called: each function here returns
- * INVALID_PARAMETER where a pointer is null that may not be, as the UEFI Specification says of its
- * services, and else calls the function of its name. One that returns no status returns 0 then, or
- * does nothing. A pointer with a count of 0 may be null. rafkudin.h includes this file and says
- * what each function does; the macros here make calls by the names of rafkudin.h go to these
- * functions. */
+/* Checks for null pointers before the library is called. Each function here returns
+ * INVALID_PARAMETER where a pointer that must not be null is null, as the UEFI Specification says
+ * of its services, and otherwise calls the function of its name. A function that returns no status
+ * returns 0 for such a pointer, or does nothing. A pointer with a count of 0 may be null.
+ * rafkudin.h includes this file and says what each function does; the macros here make calls by the
+ * names of rafkudin.h go to these functions. */
 #ifndef RAFKUDIN_NULL_H
 #define RAFKUDIN_NULL_H
 

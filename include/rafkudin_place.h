@@ -49,9 +49,9 @@ static inline struct rafkudin_region rafkudin_region_in(void *start, size_t room
 #define RAFKUDIN_PLACE_ROOM(size) (6 * (size_t)(size) + 4096)
 #define RAFKUDIN_CHECK_ROOM(length) (16 * (size_t)(length) + 4096)
 
-/* RafkudinPlace, by the `room` bytes of a region.
+/* RafkudinPlace with the `room` bytes of a region as its memory.
  *
- * INVALID_PARAMETER: `region` is null; and as of RafkudinPlace. OUT_OF_RESOURCES: no permitted
+ * INVALID_PARAMETER: `region` is null; and as for RafkudinPlace. OUT_OF_RESOURCES: no permitted
  * place, or the region is too small. */
 static inline rafkudin_uint64 RafkudinPlaceIn(void *region, size_t room, const uint8_t *records,
                                               size_t size, size_t descriptor_size,
@@ -69,10 +69,10 @@ static inline rafkudin_uint64 RafkudinPlaceIn(void *region, size_t room, const u
                                  granule, MemoryType, Pages, limit, address);
 }
 
-/* RafkudinCheck, by the `room` bytes of a region.
+/* RafkudinCheck with the `room` bytes of a region as its memory.
  *
- * INVALID_PARAMETER: `region` is null; and as of RafkudinCheck. OUT_OF_RESOURCES: the region is too
- * small. */
+ * INVALID_PARAMETER: `region` is null; and as for RafkudinCheck. OUT_OF_RESOURCES: the region is
+ * too small. */
 static inline rafkudin_uint64 RafkudinCheckIn(void *region, size_t room, const uint8_t *text,
                                               size_t length, rafkudin_uint64 *line)
 {

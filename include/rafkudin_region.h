@@ -4,12 +4,12 @@
  * A program that includes this header is linked with librafkudin_region.a instead of librafkudin.a.
  * That library has the functions of rafkudin.h but four: instead of RafkudinMake and
  * RafkudinMakeOver it has RafkudinMakeIn and RafkudinMakeOverIn, which take a region, and instead
- * of RafkudinPlace and RafkudinCheck there are those of rafkudin_place.h. It needs memcpy, memmove and memset and nothing else, and two cores
- * share nothing. docs/C.md says how it is linked.
+ * of RafkudinPlace and RafkudinCheck there are those of rafkudin_place.h. It needs memcpy, memmove
+ * and memset and nothing else, and two cores share nothing. docs/C.md says how it is linked.
  *
  * A region is any memory, from any address on, that the library alone reads and writes while the
- * core in it is called. Its bytes need no value. OUT_OF_RESOURCES means of all services of such a
- * core, and of RafkudinMakeIn, that the region has no room left. */
+ * core in it is called. Its bytes need no value. Where a service of such a core, or RafkudinMakeIn,
+ * returns OUT_OF_RESOURCES for want of memory, the region has no room left. */
 #ifndef RAFKUDIN_REGION_H
 #define RAFKUDIN_REGION_H
 
@@ -39,7 +39,7 @@ RAFKUDIN_API rafkudin_uint64 RafkudinRoom(rafkudin_uint64 entries, rafkudin_uint
 /* RafkudinMake in the `room` bytes of a region. After RafkudinFree, which has nothing to free, the
  * region is its caller's again.
  *
- * INVALID_PARAMETER: `region` is null; and as of RafkudinMake. OUT_OF_RESOURCES: the region is too
+ * INVALID_PARAMETER: `region` is null; and as for RafkudinMake. OUT_OF_RESOURCES: the region is too
  * small. */
 static inline rafkudin_uint64 RafkudinMakeIn(void *region, size_t room, const uint8_t *records,
                                              size_t size, size_t descriptor_size,
@@ -60,10 +60,10 @@ static inline rafkudin_uint64 RafkudinMakeIn(void *region, size_t room, const ui
                                 granule, drivers, driver_count, core);
 }
 
-/* RafkudinMakeOver in the `room` bytes of a region, which are none of the memory. The region has
- * the byte for each page, but not the bytes of the pool.
+/* RafkudinMakeOver in the `room` bytes of a region, which must not overlap the memory. The region
+ * has the byte for each page, but not the bytes of the pool.
  *
- * INVALID_PARAMETER: `region` is null; and as of RafkudinMakeOver. OUT_OF_RESOURCES: the region is
+ * INVALID_PARAMETER: `region` is null; and as for RafkudinMakeOver. OUT_OF_RESOURCES: the region is
  * too small. */
 static inline rafkudin_uint64
 RafkudinMakeOverIn(void *region, size_t room, struct rafkudin_memory memory,
