@@ -35,10 +35,11 @@
  * - First of all, ABORTED: the core has served its 2^62 - 1 calls, which at 50 ns each take 7,300
  *   years. Refused ones count too.
  * - Then UNSUPPORTED: boot services have ended. Every service returns it from then on.
- * - Last of all, OUT_OF_RESOURCES: the heap refused the core memory for its own tables; or 2^61
- *   numbers were given to handles, or as often an interface was installed or reinstalled.
- *   GetMemoryMap, ExitBootServices, PoolRead, PoolWrite, CloseProtocol, HandleProtocol,
- *   LocateDevicePath and LocateProtocol never ask for memory.
+ * - Last of all, OUT_OF_RESOURCES: the heap refused the core memory for its own tables. The
+ *   services that install or reinstall interfaces, and ConnectController, also return it once 2^61
+ *   numbers were given to handles, or 2^61 - 1 stamps to interfaces, one at each installation and
+ *   reinstallation. GetMemoryMap, ExitBootServices, PoolRead, PoolWrite, CloseProtocol,
+ *   HandleProtocol, LocateDevicePath and LocateProtocol never ask for memory.
  * OUT_OF_RESOURCES may be returned instead of six refusals that are named before it, as the core
  * needs memory to decide them:
  * - ACCESS_DENIED of UninstallProtocolInterface, of ReinstallProtocolInterface, and of an exclusive
@@ -296,8 +297,8 @@ struct rafkudin_memory {
 /* RafkudinMake with memory for the machine's pages from number `first_page` on: page k of the
  * memory is page `first_page` + k of the machine. The bytes of a pool block are then in this
  * memory, at the block's address. All replies are the same, with one exception: new pages for the
- * pool that are not all in the memory are refused as where memory runs out. So the memory must have
- * each conventional page of the machine; `start` is at least as aligned as a page.
+ * pool that are not all in the memory are refused as where memory runs out. So there should be
+ * memory for each conventional page of the machine; `start` is at least as aligned as a page.
  *
  * The memory is the core's alone until RafkudinFree, but for what it has handed out. The caller may
  * read and write, by their addresses,
@@ -902,8 +903,9 @@ RAFKUDIN_API rafkudin_uint64 RafkudinInstallPath(struct rafkudin *core, rafkudin
 #define RAFKUDIN_CALL_EXIT_BOOT_SERVICES 24U
 
 /* A call: the number of its service, and its parameters. For a parameter that is a pointer, the
- * field has the value of the variable before the call: a handle of 0 asks for a new one. Fields of
- * no parameter are ignored, and may be 0 or null (with RAFKUDIN_NO_NULL_CHECKS not null). */
+ * field has the value of the variable before the call: a handle of 0 asks for a new one. Fields for
+ * which the service has no parameter are ignored, and may be 0 or null (with
+ * RAFKUDIN_NO_NULL_CHECKS not null). */
 struct rafkudin_call {
     uint32_t service;
     uint32_t type;        /* Type of AllocatePages, InterfaceType */
