@@ -328,10 +328,11 @@ RAFKUDIN_API void RafkudinFree(struct rafkudin *core);
 RAFKUDIN_API void RafkudinCertify(struct rafkudin *core, bool certify);
 
 /* The certificate of the last service that was called, as the text of a certificate block
- * (docs/FORMATS.md), without a zero byte at its end. There is one where certificates are kept, the
- * call succeeded, and it was AllocatePages of the type RAFKUDIN_ANY_PAGES or RAFKUDIN_MAX_ADDRESS,
- * or an AllocatePool, LocateHandleBuffer or OpenProtocolInformation that placed new pages for the
- * pool. `text` has room for `room` bytes; the text is written where all of it fits.
+ * (docs/FORMATS.md), without a zero byte at its end. There is one where that call succeeded while
+ * certificates were kept, and it was AllocatePages of the type RAFKUDIN_ANY_PAGES or
+ * RAFKUDIN_MAX_ADDRESS, or an AllocatePool, LocateHandleBuffer or OpenProtocolInformation that
+ * placed new pages for the pool. `text` has room for `room` bytes; the text is written where all of
+ * it fits.
  *
  * SUCCESS: *length are the bytes written. BUFFER_TOO_SMALL: *length are the bytes needed, and none
  * is written. NOT_FOUND: there is no certificate. OUT_OF_RESOURCES: memory was refused. */
