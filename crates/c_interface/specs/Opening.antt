@@ -72,4 +72,5 @@ OpensGiving old handle guid agent controller attributes value status new_value n
 abbrev pub GivesByNumber : {A : Type 0} → EfiCoreValue A → ℕ → List ℕ → ℕ → ℕ → ℕ → Type 0
 GivesByNumber c handle guid returned status result =
     ((s : Status) → status ≡ status_number s
-    → result ≡ given_by s (value_on c handle guid) returned) × (status ≡ aborted → result ≡ returned)
+    → result ≡ given_by s (value_on c handle guid) returned)
+    × (status ≡ aborted → result ≡ returned)
