@@ -1,5 +1,5 @@
 -- What is left of a call, where blocks are kept and where not.
-use Rattle.std.proofs.Common.{◌≡◌, ℕ, Bool, true, false, List, Option, None, Result, Ok, Err, Vec, inl, inr, refl, sym, subst, MatchResult, IfOk}
+use Rattle.std.proofs.Common.{◌≡◌, ℕ, true, false, List, Option, Result, Ok, Err, Vec, inl, inr, refl, sym, subst, MatchResult, IfOk}
 use Rattle.std.specs.Option.{option_map}
 use Rattle.page_ranges.specs.declared.ranges.Descriptor.{Descriptor}
 use Rattle.placement_certificate.specs.declared.certificates.Request.{Request}

@@ -1,5 +1,5 @@
 -- Device paths of a caller's memory that are installed.
-use Rattle.std.proofs.Common.{◌≡◌, ◌≢◌, ℕ, ◌≤◌, ◌<◌, Bool, true, false, List, length, Option, Some, None, option_and_then, option_map, is_none, refl, sym, ap, subst, ◌∙◌, arith, inl, inr}
+use Rattle.std.proofs.Common.{◌≡◌, ℕ, ◌≤◌, true, false, List, length, Option, Some, None, option_and_then, option_map, is_none, refl, sym, ap, subst, ◌∙◌, arith, inl, inr}
 use Rattle.page_ranges.specs.Statuses.{status_number}
 use Rattle.device_path_locate.specs.DevicePaths.{Node, path_in, span_of}
 use Rattle.device_path_locate.specs.declared.spans.PathSpan.{PathSpan}

@@ -1,8 +1,7 @@
 -- InstallMultipleProtocolInterfaces of more interfaces than may be installed at once: it is refused, whatever they are.
-use Rattle.std.proofs.Common.{◌≡◌, ℕ, ◌<◌, ◌≤◌, ◌||◌, ◌==◌, nat_lt, nat_le, List, length, take, map, Bool, true, false, Option, Some, None, Result, Ok, Err, refl, sym, ◌∙◌, ap, subst, arith, inl, inr, leb-true, leb-false}
+use Rattle.std.proofs.Common.{◌≡◌, ℕ, ◌<◌, nat_le, List, length, take, map, Bool, true, false, refl, subst, arith, inl, inr, leb-true, leb-false}
 use Rattle.std.proofs.lemmas.List.{length-map, length-take-le, take_all}
 use Rattle.page_ranges.specs.declared.ranges.Descriptor.{Descriptor}
-use Rattle.boot_calls.specs.declared.calls.Call.{Call}
 use Rattle.boot_calls.specs.declared.calls.Call.TheVariants as call
 use Rattle.boot_replies.specs.Certified.{map_before}
 use Rattle.boot_core.proofs.LongLists.{step_for_more}

@@ -1,5 +1,5 @@
 -- UninstallMultipleProtocolInterfaces of more interfaces than are uninstalled at once: it is refused, whatever they are.
-use Rattle.std.proofs.Common.{◌≡◌, ℕ, ◌<◌, ◌≤◌, nat_le, List, length, take, map, Bool, true, false, refl, subst, arith, inl, inr, leb-true, leb-false}
+use Rattle.std.proofs.Common.{◌≡◌, ℕ, ◌<◌, nat_le, List, length, take, map, Bool, true, false, refl, subst, arith, inl, inr, leb-true, leb-false}
 use Rattle.std.proofs.lemmas.List.{length-map, length-take-le, take_all}
 use Rattle.boot_core.proofs.UninstallRuns.{long_step}
 use Rattle.c_machines.specs.declared.guids.Interface.{Interface}

@@ -1,12 +1,11 @@
 -- What a call that opens an interface leaves in the caller's variable.
-use Rattle.std.proofs.Common.{◌≡◌, ◌∙◌, ℕ, Bool, true, false, Option, inl, inr, refl, ap}
+use Rattle.std.proofs.Common.{◌≡◌, ◌∙◌, ℕ, true, false, Option, inl, inr, refl, ap}
 use Rattle.page_ranges.specs.Statuses.{status_number}
 use Rattle.page_ranges.specs.declared.statuses.Status.{Status}
 use Rattle.boot_calls.specs.declared.calls.Call.{Call}
-use Rattle.boot_replies.specs.declared.replies.Reply.{Reply}
-use Rattle.c_interface.specs.EfiCores.{EfiCoreValue, forgotten}
+use Rattle.c_interface.specs.EfiCores.{EfiCoreValue}
 use Rattle.c_interface.specs.Opening.{AnswersOpen, given_by, is_giving, named_value}
-use Rattle.c_interface.specs.Replies.{number_in, returned_or, status_in}
+use Rattle.c_interface.specs.Replies.{status_in}
 use Rattle.c_interface.specs.Served.{AnswersNumber, aborted}
 
 -- what is given by the number of a status that is returned

@@ -10,7 +10,7 @@ ghost use Rattle.c_interface.specs.Replies.{number_in, returned_or, status_in};
 ghost use Rattle.c_interface.specs.Served.{AnswersStatus, AnswersNumber, AnswersNumbers, ReturnsBlock};
 
 use crate::buffers::copy_to_front;
-use crate::replies::{events_in, number_in, numbers_in, status_in};
+use crate::replies::{events_in, number_in, numbers_in, status_in, status_number_in};
 use boot_core::{Call, Core, Reply, certified, map_before};
 use certificate_blocks::print_block;
 use driver_connect::TableDriver;
@@ -108,27 +108,54 @@ impl<A: Allocator + Copy> EfiCore<A> {
         self.block = block;
     }
 
-    /// Keeps the reply to a call, and returns its status.
+    // Keeps the reply to a call before which no reply is left.
+    #[inline(always)]
+    fn leave(&mut self, reply: Reply<A>)
+        requires { self.old.last ≡ None }
+        ensures { self.new ≡ with_reply self.old reply }
+    {
+        match self.last.replace(reply) {
+            None => {}
+            Some(_before) => unreachable!(),
+        }
+    }
+
+    /// Keeps the reply to a call before which no reply is left, and returns its status.
     #[inline(always)]
     pub(crate) fn return_status(&mut self, reply: Reply<A>) -> u64
+        requires { self.old.last ≡ None }
         ensures status { result ≡ status_number (status_in reply) }
         ensures core { self.new ≡ with_reply self.old reply }
     {
-        let status = status_in(&reply);
-        self.last = Some(reply);
-        status.number()
+        let status = status_number_in(&reply);
+        self.leave(reply);
+        status
     }
 
     /// The same; where the reply carries a number it is put in the caller's variable.
+    #[inline(always)]
     pub(crate) fn return_number(&mut self, reply: Reply<A>, place: &mut u64) -> u64
+        requires { self.old.last ≡ None }
         ensures status { result ≡ status_number (status_in reply) }
         ensures number { place.new ≡ returned_or place.old (number_in reply) }
         ensures core { self.new ≡ with_reply self.old reply }
     {
+        let status = status_in(&reply).number();
         if let Some(number) = number_in(&reply) {
             *place = number;
         }
-        self.return_status(reply)
+        self.leave(reply);
+        status
+    }
+
+    /// Keeps the reply to a call in place of the one that the call before left, and returns its status.
+    pub(crate) fn return_in_place(&mut self, reply: Reply<A>) -> u64
+        ensures status { result ≡ status_number (status_in reply) }
+        ensures core { self.new ≡ with_reply self.old reply }
+    {
+        let status = status_number_in(&reply);
+        self.last = Some(reply);
+        status
     }
 
     /// The reply of the last call.
@@ -162,7 +189,7 @@ impl<A: Allocator + Copy> EfiCore<A> {
         let granule = self.core.granule();
         let before = map_before(self.alloc, &self.core, call, true);
         let reply = self.core.call(call);
-        let status = status_in(&reply).number();
+        let status = status_number_in(&reply);
         let block = block_of(self.alloc, granule, &before, call, &reply);
         self.keep(reply, block);
         status

@@ -93,11 +93,11 @@ impl<A: Allocator + Copy> EfiCore<A> {
         let reply = self.write_path(*handle, path, block);
         if status_in(&reply) != Status::Success {
             let _freed = self.core.free_pool(block);
-            return self.return_status(reply);
+            return self.return_in_place(reply);
         }
         *handle = number_in(&reply).unwrap_or(*handle);
         *address = block;
-        self.return_status(reply)
+        self.return_in_place(reply)
     }
 
     // Writes a path to its block, and installs the block's address.

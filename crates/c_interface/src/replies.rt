@@ -1,5 +1,6 @@
 //! What replies carry.
 ghost use Rattle.std.specs.Prelude.{◌≡◌};
+ghost use Rattle.page_ranges.specs.Statuses.{status_number};
 ghost use Rattle.c_interface.specs.Replies.{returned_status, status_in, number_in, numbers_in, events_in};
 
 use boot_core::Reply;
@@ -7,6 +8,7 @@ use page_ranges::Status;
 use std::alloc::Allocator;
 
 /// The status of a result.
+#[inline(always)]
 fn returned_status<R>(returned: &Result<R, Status>) -> Status
     ensures { result ≡ returned_status returned.now }
 {
@@ -16,7 +18,8 @@ fn returned_status<R>(returned: &Result<R, Status>) -> Status
     }
 }
 
-/// The status of a reply.
+/// The status of a reply. Inlined, it costs nothing where the service is known.
+#[inline(always)]
 pub(crate) fn status_in<A: Allocator>(reply: &Reply<A>) -> Status
     ensures { result ≡ status_in reply.now }
 {
@@ -50,6 +53,7 @@ pub(crate) fn status_in<A: Allocator>(reply: &Reply<A>) -> Status
 
 /// The number that a reply carries: an address, a handle, a registration's key or the value of an
 /// interface.
+#[inline(always)]
 pub(crate) fn number_in<A: Allocator>(reply: &Reply<A>) -> Option<u64>
     ensures { result ≡ number_in reply.now }
 {
@@ -64,6 +68,13 @@ pub(crate) fn number_in<A: Allocator>(reply: &Reply<A>) -> Option<u64>
         Reply::HandleProtocol(Ok(value)) => Some(*value),
         _ => None,
     }
+}
+
+/// The number of the status of a reply.
+pub(crate) fn status_number_in<A: Allocator>(reply: &Reply<A>) -> u64
+    ensures { result ≡ status_number (status_in reply.now) }
+{
+    status_in(reply).number()
 }
 
 /// The two numbers that a reply carries: how many items are in a block of the pool, and its address; or

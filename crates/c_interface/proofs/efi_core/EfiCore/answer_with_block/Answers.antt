@@ -1,6 +1,5 @@
 use Rattle.std.proofs.Common.{◌∙◌, true, refl, sym, ap, subst, inl}
 use Rattle.page_ranges.specs.MemoryMap.{memory_map}
-use Rattle.page_ranges.specs.Statuses.{status_number}
 use Rattle.boot_replies.specs.Certified.{certified}
 use Rattle.boot_replies.specs.Certified.{map_before}
 use Rattle.c_interface.specs.EfiCores.{EfiCoreValue, LeavesBlock}
@@ -27,6 +26,6 @@ returns g c =
         last = refl;
         block = subst (λ k. LeavesBlock k (map_before k book.granule entries asked) (certified book.granule asked answer) left) (sym (certifies ∙ c.requires.certifies)) block;
       },
-      c.number-status.ensures ∙ ap status_number c.status_in.ensures,
+      c.status_number_in-status.ensures,
       tt,
     ))
