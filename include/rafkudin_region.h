@@ -8,8 +8,8 @@
  * and memset and nothing else, and two cores share nothing. docs/C.md says how it is linked.
  *
  * A region is any memory, from any address on, that the library alone reads and writes while the
- * core in it is called. Its bytes need no value. Where a service of such a core, or RafkudinMakeIn,
- * returns OUT_OF_RESOURCES for want of memory, the region has no room left. */
+ * core in it is called. Its bytes need no value. Memory runs out for a service of such a core, or
+ * for RafkudinMakeIn, where the region has no room left: then it returns OUT_OF_RESOURCES. */
 #ifndef RAFKUDIN_REGION_H
 #define RAFKUDIN_REGION_H
 
