@@ -16,6 +16,7 @@ pub mod Keys
 pub mod Acceptances
 pub mod CertifiedChoices
 pub mod Growth
+pub mod FreeMemory
 pub mod LongLists
 pub mod PutItems
 pub mod LocatedPaths

@@ -57,7 +57,6 @@ given_back b new_b es new address (Ok done) l sound h k =
     let (bytes, here, is) = freed b new_b es new address done sound.extents h in
     is k ∙ ap (λ (n : ℕ). cond (is_among address n k) None (byte_at k es)) (sym (ap bytes_left here))
 given_back b new_b es new address (Err status.InvalidParameter) l sound h k = ap (byte_at k) h.2
-given_back b new_b es new address (Err status.OutOfResources) l sound h k = ap (byte_at k) h.5
 given_back b new_b es new address (Err other) l sound h k = absurd h
 
 written_bytes : (es new : List Extent) (address : ℕ) (bytes : List ℕ) (result : Result (Unit {0}) Status) (b : Book) (l : Lists) → AreSound (parts_of b es l) → WritesPool es address bytes result new → Laid (block_returned (λ (done : Unit {0}). address) bytes result) es new

@@ -7,8 +7,9 @@ use Rattle.page_services.specs.PageRules.{Book, IsInGranules, AllocatesPages, Fr
 use Rattle.page_services.proofs.Choices.{Permits}
 use Rattle.page_services.proofs.Granules.{allocates_granules, frees_granules}
 use Rattle.pool_services.specs.Extents.{Extent, AreExtents}
-use Rattle.pool_services.specs.PoolRules.{Answer, AllocatesPool, FillsPool, FreesPool, OwnsExtents, WritesPool}
+use Rattle.pool_services.specs.PoolRules.{Answer, AllocatesPool, FillsPool, FreesPool, HasReservedEnds, OwnsExtents, WritesPool}
 use Rattle.pool_services.proofs.FilledBlocks.{filled-keeps}
+use Rattle.pool_services.proofs.KeptEnds.{placed-ends, freed-ends, allocated-ends, filled-ends, freed-block-ends, written-ends}
 use Rattle.pool_services.proofs.KeptPools.{placed-keeps, freed-keeps, given-keeps, allocated-keeps, freed-block-keeps, written-keeps}
 use Rattle.pool_services.proofs.PoolGranules.{allocated-granules, filled-granules, freed-block-granules, machine-granules}
 use Rattle.boot_calls.specs.declared.calls.Call.{Call}
@@ -32,16 +33,16 @@ parts_of b es l = record { book = b; pools = es; lists = l }
 
 -- no rule is about the lists of the protocol services
 pub any_lists : (b : Book) (es : List Extent) (l m : Lists) → AreSound (parts_of b es l) → AreSound (parts_of b es m)
-any_lists b es l m sound = record { proper = sound.proper; granules = sound.granules; extents = sound.extents; owned = sound.owned }
+any_lists b es l m sound = record { proper = sound.proper; granules = sound.granules; extents = sound.extents; owned = sound.owned; reserved = sound.reserved }
 
 -- what each rule keeps: the parts are sound, and the key rises by 1 at most
 pub record IsKept (old : Parts) (b : Book) (es : List Extent) : Type 0 where
   pub sound : (l : Lists) → AreSound (parts_of b es l)
   pub key : b.key ≤ old.book.key + 1
 
-kept_by : (Fits : Type 0) (old : Parts) (b : Book) (es : List Extent) → AreSound old → Outcome Fits old.book b → IsInGranules b → AreExtents es → OwnsExtents b.memory es → IsKept old b es
-kept_by Fits old b es sound o granules extents owned = record {
-  sound = λ l. record { proper = stays_proper Fits old.book b sound.proper o; granules = granules; extents = extents; owned = owned };
+kept_by : (Fits : Type 0) (old : Parts) (b : Book) (es : List Extent) → AreSound old → Outcome Fits old.book b → IsInGranules b → AreExtents es → OwnsExtents b.memory es → HasReservedEnds b es → IsKept old b es
+kept_by Fits old b es sound o granules extents owned reserved = record {
+  sound = λ l. record { proper = stays_proper Fits old.book b sound.proper o; granules = granules; extents = extents; owned = owned; reserved = reserved };
   key = key_at_most Fits old.book b o;
 }
 
@@ -50,17 +51,20 @@ frees_kept old address pages result new sound h =
     kept_by (Unit {0}) old new old.pools sound (frees (Unit {0}) old.book address pages result new sound.proper sound.granules h)
     (frees_granules old.book new address pages result h sound.granules)
     sound.extents (freed-keeps old.book old.pools address pages result new sound.granules sound.owned h)
+    (freed-ends old.book old.pools address pages result new sound.granules sound.reserved h)
 
 pub frees_pool_kept : (old : Parts) (address : ℕ) (result : Result (Unit {0}) Status) (b : Book) (es : List Extent) → AreSound old → FreesPool old.book old.pools address result b es → IsKept old b es
 frees_pool_kept old address result b es sound h =
     let (extents, owned) = freed-block-keeps old.book old.pools address result b es sound.extents sound.owned h in
     let granules = freed-block-granules old.book old.pools address result b es sound.extents sound.owned h sound.granules in
     kept_by (Unit {0}) old b es sound (frees_pool (Unit {0}) old.book old.pools address result b es sound.proper sound.extents sound.owned h) granules extents owned
+    (freed-block-ends old.book old.pools address result b es sound.extents sound.reserved h)
 
 pub writes_kept : (old : Parts) (address : ℕ) (bytes : List ℕ) (result : Result (Unit {0}) Status) (es : List Extent) → AreSound old → WritesPool old.pools address bytes result es → IsKept old old.book es
 writes_kept old address bytes result es sound h =
     let (extents, owned) = written-keeps old.book.memory old.pools address bytes result es sound.extents sound.owned h in
-    record { sound = λ l. record { proper = sound.proper; granules = sound.granules; extents = extents; owned = owned }; key = omega arith }
+    let reserved = written-ends old.book old.pools address bytes result es sound.extents sound.reserved h in
+    record { sound = λ l. record { proper = sound.proper; granules = sound.granules; extents = extents; owned = owned; reserved = reserved }; key = omega arith }
 
 -- a service that leaves all parts, or goes by a rule
 served : {A R : Type 0} (exited : Bool) (old new : Parts) (answer : Reply A) (reply_with : Result R Status → Reply A) (Rule : Result R Status → Type 0) → AreSound old → ((result : Result R Status) → Rule result → AreSound new) → Serves exited old new answer reply_with Rule → AreSound new
@@ -82,18 +86,21 @@ module _ (S : Setting) (permits : Permits S.chosen) where
       kept_by _ old new old.pools sound (allocates S permits old.book kind t pages memory result new sound.proper sound.granules h)
       (allocates_granules S.chosen permits old.book new kind t pages memory result h sound.granules)
       sound.extents (placed-keeps S.chosen permits old.book old.pools kind t pages memory result new sound.proper sound.owned h)
+      (placed-ends S.chosen permits old.book old.pools kind t pages memory result new sound.proper sound.reserved h)
 
   pub allocates_pool_kept : (old : Parts) (t size : ℕ) (result : Result Answer Status) (b : Book) (es : List Extent) → AreSound old → AllocatesPool S.chosen old.book old.pools t size result b es → IsKept old b es
   allocates_pool_kept old t size result b es sound h =
       let (extents, owned) = allocated-keeps S.chosen permits old.book old.pools t size result b es sound.granules.granule sound.proper sound.extents sound.owned h in
       let granules = allocated-granules S.chosen permits old.book old.pools t size result b es h sound.granules in
       kept_by _ old b es sound (allocates_pool S permits old.book old.pools t size result b es sound.proper sound.granules h) granules extents owned
+      (allocated-ends S.chosen permits old.book old.pools t size result b es sound.granules.granule sound.proper sound.extents sound.reserved h)
 
   pub fills_pool_kept : (old : Parts) (t : ℕ) (bytes : List ℕ) (result : Result Answer Status) (b : Book) (es : List Extent) → AreSound old → FillsPool S.chosen old.book old.pools t bytes result b es → IsKept old b es
   fills_pool_kept old t bytes result b es sound h =
       let (extents, owned) = filled-keeps S.chosen permits old.book old.pools t bytes result b es sound.granules.granule sound.proper sound.extents sound.owned h in
       let granules = filled-granules S.chosen permits old.book old.pools t bytes result b es h sound.granules in
       kept_by _ old b es sound (fills_pool S permits old.book old.pools t bytes result b es sound.proper sound.granules h) granules extents owned
+      (filled-ends S.chosen permits old.book old.pools t bytes result b es sound.granules.granule sound.proper sound.extents sound.reserved h)
 
   pub locates_buffer_kept : {A : Type 0} (old : Parts) (search : ℕ) (guid : List ℕ) (key : ℕ) (result : Result (PoolList A) Status) (new : Parts) → AreSound old → LocatesBuffer S.chosen old search guid key result new → IsKept old new.book new.pools
   locates_buffer_kept old search guid key (Ok returned) new sound (handles, found, some, count, filled, lists) = fills_pool_kept old list_type (handle_bytes handles) (Ok (returned.address, returned.certificate)) new.book new.pools sound filled
@@ -146,11 +153,12 @@ certifying_sound certifies p is = record {
   granules = record { granule = is.granules.granule; whole = is.granules.whole };
   extents = is.extents;
   owned = is.owned;
+  reserved = is.reserved;
 }
 
 -- a machine before any call
 pub first_sound : (certifies : Bool) (machine : MachineValue) → IsMachine machine → AreSound (first_state_with certifies machine).parts
-first_sound certifies machine valid = record { proper = valid.runs.proper; granules = record { granule = valid.granule; whole = machine-granules machine.granule machine.runs valid.runs }; extents = tt; owned = given-keeps machine.runs valid.runs }
+first_sound certifies machine valid = record { proper = valid.runs.proper; granules = record { granule = valid.granule; whole = machine-granules machine.granule machine.runs valid.runs }; extents = tt; owned = given-keeps machine.runs valid.runs; reserved = omega arith }
 
 pub sound_after : {A : Type 0} (S : Setting) → Permits S.chosen → (certifies : Bool) (machine : MachineValue) (calls : List (Call A)) (replies : List (Reply A)) (new : State) → IsMachine machine → CallRunBy S (first_state_with certifies machine) calls replies new → AreSound new.parts
 sound_after S permits certifies machine calls replies new valid run = run_sound S permits (first_state_with certifies machine) calls replies new (first_sound certifies machine valid) run

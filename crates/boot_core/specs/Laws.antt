@@ -1,9 +1,9 @@
 -- The laws of the machine. Each is the contract of a public function.
-use Rattle.std.specs.Prelude.{◌≡◌, ◌⊎◌, ◌↔◌, ℕ, ◌+◌, ◌*◌, ◌<◌, ◌≤◌, false, cond, List, [], ◌∷◌, ◌++◌, length, take, drop, replicate, Option, Some, None, Ok, IfSome, Vec, Bool, true, is_some}
+use Rattle.std.specs.Prelude.{◌≡◌, ◌≢◌, ◌⊎◌, ◌↔◌, ℕ, ◌+◌, ◌*◌, ◌<◌, ◌≤◌, false, cond, List, [], ◌∷◌, ◌++◌, length, take, drop, replicate, Option, Some, None, Ok, Err, IfSome, Vec, Bool, true, is_some}
 use Rattle.std.specs.Option.{option_map}
 use Rattle.std.specs.List.{AllByRecursion}
 use Rattle.page_ranges.specs.declared.statuses.Status.{Status}
-use Rattle.page_ranges.specs.declared.statuses.Status.TheVariants.{Success}
+use Rattle.page_ranges.specs.declared.statuses.Status.TheVariants.{OutOfResources, Success}
 use Rattle.page_ranges.specs.Memory.{Page, page_at}
 use Rattle.page_ranges.specs.MemoryMap.{memory_map}
 use Rattle.placement_certificate.specs.Acceptance.{IsAccepted}
@@ -184,6 +184,18 @@ MapGrowthLaw S A =
     (new : State)
     → IsMachine machine → CallRunBy S (first_state_with certifies machine) calls replies new →
     length (memory_map new.parts.book.memory) ≤ length machine.runs + 2 * length calls
+
+-- ---- memory to free pages
+
+-- While memory is reserved for a call of FreePages, it does not run out in one. In FreePool it never
+-- does.
+abbrev pub FreeMemoryLaw : Setting → Type 0 → Type 0
+FreeMemoryLaw S A =
+    (old : State) (address pages : ℕ) (answer : Reply A) (new : State) →
+    (0 < old.parts.book.frees → StepBy S old (call.FreePages address pages) answer new
+    → answer ≢ reply.FreePages (Err OutOfResources))
+    × (StepBy S old (call.FreePool address) answer new
+    → answer ≢ reply.FreePool (Err OutOfResources))
 
 -- ---- the pool's bytes
 

@@ -9,7 +9,7 @@ use Rattle.boot_replies.specs.Certified.{map_before}
 use Rattle.boot_machines.specs.Machines.{MachineValue}
 use Rattle.page_services.specs.PageRules.{Book, IsInGranules, certifying, new_book}
 use Rattle.pool_services.specs.Extents.{Extent, AreExtents}
-use Rattle.pool_services.specs.PoolRules.{OwnsExtents}
+use Rattle.pool_services.specs.PoolRules.{HasReservedEnds, OwnsExtents}
 use Rattle.protocol_services.specs.Lists.{Lists, no_lists}
 
 -- what the services work on: the memory with its key, the extents of the pool, and the lists of the
@@ -89,12 +89,13 @@ abbrev pub IsUnused : Parts → Type 0
 IsUnused p = FollowsCalls p most_calls
 
 -- The memory is proper, what AllocatePages placed in it fills whole granules, the extents do
--- not overlap, and the pages of the pool are theirs.
+-- not overlap, the pages of the pool are theirs, and memory is reserved for the end of each.
 pub record AreSound (p : Parts) : Type 0 where
   pub proper : IsProperMemory p.book.memory
   pub granules : IsInGranules p.book
   pub extents : AreExtents p.pools
   pub owned : OwnsExtents p.book.memory p.pools
+  pub reserved : HasReservedEnds p.book p.pools
 
 -- the state of the machine, and the drivers that were handed in, which stay
 pub record CoreValue (D : Type 0) : Type 0 where

@@ -177,7 +177,8 @@ impl<D: Driver, A: Allocator + Copy> Core<D, A> {
     /// the rest of the granule that the page there lies in, if its type fills granules.
     ///
     /// INVALID_PARAMETER: an unaligned address, no pages, or a range past the last page. NOT_FOUND: one
-    /// of the pages was not placed by AllocatePages. OUT_OF_RESOURCES: memory ran out.
+    /// of the pages was not placed by AllocatePages. OUT_OF_RESOURCES: memory ran out, where
+    /// none is reserved; each AllocatePages that succeeds reserves it for one call.
     pub fn free_pages(&mut self, memory: u64, pages: u64) -> Reply<A>
         requires { 0 < self.old.state.calls_left }
         ensures step { CoreStep D.meaning self.old (Call.FreePages memory pages) result self.new }
@@ -233,7 +234,7 @@ impl<D: Driver, A: Allocator + Copy> Core<D, A> {
         })
     }
 
-    /// FreePool: gives the block at an address back.
+    /// FreePool: gives the block at an address back. This takes no memory.
     pub fn free_pool(&mut self, address: u64) -> Reply<A>
         requires { 0 < self.old.state.calls_left }
         ensures step { CoreStep D.meaning self.old (Call.FreePool address) result self.new }

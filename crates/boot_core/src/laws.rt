@@ -1,7 +1,7 @@
 //! The laws of the machine, each the contract of a function that does nothing.
 ghost use Rattle.std.specs.Prelude.{List};
 ghost use Rattle.driver_connect.specs.Drivers.{Meaning};
-ghost use Rattle.boot_core.specs.Laws.{AcceptanceLaw, AnyRunLaw, AnyStepLaw, CertificateLaw, CountLaw, KeyCountLaw, KeyLaw, LastBytesLaw, MapGrowthLaw, MapStepLaw, PoolBytesLaw, ProperListsLaw, ReadBytesLaw, ReadStepLaw, RecordEntriesLaw, SoundLaw};
+ghost use Rattle.boot_core.specs.Laws.{AcceptanceLaw, AnyRunLaw, AnyStepLaw, CertificateLaw, CountLaw, FreeMemoryLaw, KeyCountLaw, KeyLaw, LastBytesLaw, MapGrowthLaw, MapStepLaw, PoolBytesLaw, ProperListsLaw, ReadBytesLaw, ReadStepLaw, RecordEntriesLaw, SoundLaw};
 ghost use Rattle.boot_core.specs.PathSteps.{LocateStepLaw};
 ghost use Rattle.boot_core.specs.Removals.{UninstallRunLaw};
 ghost use Rattle.boot_core.specs.Steps.{any_starts, best_starts};
@@ -42,8 +42,8 @@ pub fn uninstall_run_law<A: Allocator>()
     ensures { UninstallRunLaw A }
 {}
 
-/// After calls on a valid machine the memory is proper and the pages of the pool are those of its
-/// extents, however permitted starts are chosen.
+/// After calls on a valid machine the memory is proper, the pages of the pool are those of its extents, and
+/// memory is reserved for the end of each, however permitted starts are chosen.
 pub fn sound_law<A: Allocator>()
     ensures best { (ds : List Meaning) → SoundLaw (best_starts ds) A }
     ensures any { (ds : List Meaning) → SoundLaw (any_starts ds) A }
@@ -62,6 +62,12 @@ pub fn proper_lists_law<A: Allocator>()
 pub fn count_law<A: Allocator>()
     ensures best { (ds : List Meaning) → CountLaw (best_starts ds) A }
     ensures any { (ds : List Meaning) → CountLaw (any_starts ds) A }
+{}
+
+/// While memory is reserved for a call of FreePages, FreePages does not return OUT_OF_RESOURCES. FreePool never does.
+pub fn free_memory_law<A: Allocator>()
+    ensures best { (ds : List Meaning) → FreeMemoryLaw (best_starts ds) A }
+    ensures any { (ds : List Meaning) → FreeMemoryLaw (any_starts ds) A }
 {}
 
 /// A new block's bytes are 0, a write puts its bytes at its addresses, a block that is given back has no bytes, and no

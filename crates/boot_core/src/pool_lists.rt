@@ -1,7 +1,7 @@
 //! Lists in pool blocks of their own, which the caller frees.
 ghost use Rattle.std.specs.Prelude.{◌≡◌, ◌<◌, ◌^◌};
 ghost use Rattle.page_services.specs.PageRules.{IsBestChoice};
-ghost use Rattle.pool_services.specs.PoolRules.{OwnsExtents};
+ghost use Rattle.pool_services.specs.PoolRules.{HasReservedEnds, OwnsExtents};
 ghost use Rattle.protocol_services.specs.Lists.{IsRaised};
 ghost use Rattle.boot_core.specs.Machines.{parts_of};
 ghost use Rattle.boot_core.specs.PoolLists.{ListsOpens, LocatesBuffer};
@@ -29,6 +29,7 @@ pub(crate) fn locate_buffer<A: Allocator + Copy>(
 ) -> Result<PoolList<A>, Status>
     requires key { book.old.key < 2 ^ 62 }
     requires owns { OwnsExtents book.old.memory pools.old }
+    requires reserved { HasReservedEnds book.old pools.old }
     ensures raised { IsRaised protocols.old protocols.new }
     ensures locates { LocatesBuffer IsBestChoice
         (parts_of book.old pools.old protocols.old) search guid key result
@@ -65,6 +66,7 @@ pub(crate) fn list_opens<A: Allocator + Copy>(
 ) -> Result<PoolList<A>, Status>
     requires key { book.old.key < 2 ^ 62 }
     requires owns { OwnsExtents book.old.memory pools.old }
+    requires reserved { HasReservedEnds book.old pools.old }
     ensures lists { ListsOpens IsBestChoice
         (parts_of book.old pools.old protocols.now) handle guid result
         (parts_of book.new pools.new protocols.now) }

@@ -179,12 +179,6 @@ begin_put ls fresh ns ks from to gone come b c g =
     (begin_append (runs_in (take from ls)) fresh (drop to ls) ks (drop to ns) c
     (begin_kept (runs_in (take to ls)) (runs_in (take from ls) ++ runs_in fresh) (drop to ls) (drop to ns) gone come g (begin_dropped [] ls ns to b)))
 
--- what holds of runs holds of the last of some and those behind them
-pub last_and_part : (P : List Run → Type 0) → ((xs ys : List Run) → P (xs ++ ys) → P xs) → ((xs ys : List Run) → P (xs ++ ys) → P ys) → (rs last part rest : List Run) → AreLast rs last → P (rs ++ (part ++ rest)) → P (last ++ part)
-last_and_part P left right rs last part rest t p =
-    left (last ++ part) rest
-    (right t.others ((last ++ part) ++ rest) (subst P (ap (λ xs. xs ++ (part ++ rest)) t.parts ∙ append_assoc t.others last (part ++ rest) ∙ ap (λ xs. t.others ++ xs) (sym (append_assoc last part rest))) p))
-
 -- new leaves, and the numbers of all with theirs
 module _ (ls fresh : List (List Run)) (ns ks : List ℕ) (from to less more : ℕ) (before part : List Run) (b : BeginIn [] ls ns) (t : AreLast (runs_in (take from ls)) before) (same : runs_in fresh ≡ part) (a : AreRuns (runs_in (take from ls) ++ (part ++ runs_in (drop to ls)))) (g : GrowsBy (runs_in (take to ls)) (runs_in (take from ls) ++ part) (runs_in (drop to ls)) less more) (c : BeginIn before fresh ks) where
   with_fresh : AreRuns (runs_in (take from ls) ++ (runs_in fresh ++ runs_in (drop to ls)))
@@ -195,12 +189,6 @@ module _ (ls fresh : List (List Run)) (ns ks : List ℕ) (from to less more : �
       let here = runs-left (runs_in (take from ls) ++ runs_in fresh) (runs_in (drop to ls)) (subst AreRuns (sym (append_assoc (runs_in (take from ls)) (runs_in fresh) (runs_in (drop to ls)))) with_fresh) in
       begin_put ls fresh ns ks from to less more b (begin_behind (runs_in (take from ls)) before fresh ks t here c)
       (subst (λ xs. GrowsBy (runs_in (take to ls)) (runs_in (take from ls) ++ xs) (runs_in (drop to ls)) less more) (sym same) g)
-
-  pub put_within : EndBy page_count (runs_in (take from ls) ++ (part ++ runs_in (drop to ls))) → total (take from ns ++ (ks ++ drop to ns)) < 2 ^ 63
-  put_within e =
-      let ms = take from ls ++ (fresh ++ drop to ls) in
-      let all : runs_in ms ≡ runs_in (take from ls) ++ (part ++ runs_in (drop to ls)) = runs_in-append (take from ls) (fresh ++ drop to ls) ∙ ap (λ xs. runs_in (take from ls) ++ xs) (runs_in-append fresh (drop to ls) ∙ ap (λ xs. xs ++ runs_in (drop to ls)) same) in
-      begin_within ms (take from ns ++ (ks ++ drop to ns)) (subst AreRuns (sym all) a) (subst (EndBy page_count) (sym all) e) put_begun
 
 -- ---- one leaf that changes
 

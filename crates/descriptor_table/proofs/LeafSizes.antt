@@ -9,7 +9,6 @@ use Rattle.page_ranges.specs.Runs.{AreRuns}
 use Rattle.descriptor_table.specs.Leaves.{runs_in}
 use Rattle.descriptor_table.specs.Tables.{EndBy}
 use Rattle.descriptor_table.specs.Tallies.{total}
-use Rattle.descriptor_table.proofs.LeafLists.{runs_in-append}
 use Rattle.descriptor_table.proofs.LeafSplices.{set_runs}
 use Rattle.descriptor_table.proofs.TableFacts.{few_runs}
 
@@ -33,13 +32,6 @@ pub sizes_put : (ls fresh : List (List Run)) (from to : ℕ) → take from (size
 sizes_put ls fresh from to =
     ap (λ ns. ns ++ (sizes fresh ++ drop to (sizes ls))) (take-map length from ls) ∙ ap (λ ns. sizes (take from ls) ++ (sizes fresh ++ ns)) (drop-map length to ls)
     ∙ ap (λ ns. sizes (take from ls) ++ ns) (sym (map-append length fresh (drop to ls))) ∙ sym (map-append length (take from ls) (fresh ++ drop to ls))
-
-pub sizes_put_within : (ls fresh : List (List Run)) (from to : ℕ) (part : List Run) → runs_in fresh ≡ part → AreRuns (runs_in (take from ls) ++ (part ++ runs_in (drop to ls))) → EndBy page_count (runs_in (take from ls) ++ (part ++ runs_in (drop to ls)))
-    → total (take from (sizes ls) ++ (sizes fresh ++ drop to (sizes ls))) < 2 ^ 63
-sizes_put_within ls fresh from to part same a e =
-    let ms = take from ls ++ (fresh ++ drop to ls) in
-    let all : runs_in ms ≡ runs_in (take from ls) ++ (part ++ runs_in (drop to ls)) = runs_in-append (take from ls) (fresh ++ drop to ls) ∙ ap (λ xs. runs_in (take from ls) ++ xs) (runs_in-append fresh (drop to ls) ∙ ap (λ xs. xs ++ runs_in (drop to ls)) same) in
-    omega (arith, ap total (sizes_put ls fresh from to), sizes_within ms (subst AreRuns (sym all) a) (subst (EndBy page_count) (sym all) e))
 
 -- a leaf that changes, and its size with it
 module _ (ls : List (List Run)) (i to n : ℕ) (l : List Run) (size : n ≡ length l) (h : i < length ls) (next : suc i ≡ to) where

@@ -5,7 +5,6 @@ pub mod Counts
 pub mod Finding
 pub mod TableFacts
 pub mod Meetings
-pub mod Moves
 pub mod Ends
 pub mod Splices
 pub mod Replaced
@@ -15,14 +14,18 @@ pub mod LeafLists
 pub mod LeafSizes
 pub mod Places
 pub mod LeafSplices
+pub mod NearLeaves
 pub mod TwoLeaves
 pub mod LeavesAcross
+pub mod CutCounts
 pub mod RunArrays
 pub mod Tallied
 pub mod Begun
+pub mod LeavesPut
 pub mod LaterEntries
 pub mod FreeBounds
 pub mod NoUse
 pub mod Downward
 pub mod Grouped
 pub mod ChangedRuns
+pub mod RetypedRuns

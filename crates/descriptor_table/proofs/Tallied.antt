@@ -1,6 +1,7 @@
 -- Sums of numbers, and of groups of them.
 use Rattle.std.proofs.Common.{◌≡◌, ℕ, zero, suc, ◌+◌, ◌-◌, ◌*◌, ◌<◌, ◌≤◌, ◌^◌, List, [], ◌∷◌, ◌++◌, length, length-append, get_or, take, drop, inl, inr, refl, sym, ap, ◌∙◌, arith}
 use Rattle.std.proofs.Math.ListN.{set}
+use Rattle.std.specs.List.{insert}
 use Rattle.std.proofs.lemmas.Bool.{cases_lt}
 use Rattle.std.proofs.lemmas.List.{take-append-drop, length-take-le}
 use Rattle.descriptor_table.specs.Tallies.{total, AreGroupSums}
@@ -53,6 +54,21 @@ total_of_cut (n ∷ ns) zero (suc to) h = omega (arith, total_of_cut ns zero to 
 total_of_cut (n ∷ ns) (suc from) zero h = absurd (omega arith)
 total_of_cut (n ∷ ns) (suc from) (suc to) h = omega (arith, total_of_cut ns from to (omega arith))
 
+-- those that go and those that are left
+pub total_parted : (ns : List ℕ) (from to : ℕ) → from ≤ to → total (take from ns ++ drop to ns) + total (take (to - from) (drop from ns)) ≡ total ns
+total_parted ns from to h = let e : from + (to - from) ≡ to = omega arith in omega (
+  arith,
+  total-append (take from ns) (drop to ns),
+  total_between ns from (to - from),
+  ap (λ k. total (take k ns)) e,
+  total-append (take to ns) (drop to ns),
+  ap total (take-append-drop to ns),
+)
+
+-- those beside one that comes
+pub total_inserted : (ns : List ℕ) (at x : ℕ) → total (insert ns at x) ≡ total ns + x
+total_inserted ns at x = omega (arith, total-append (take at ns) (x ∷ drop at ns), total-append (take at ns) (drop at ns), ap total (take-append-drop at ns))
+
 -- ---- one number changes
 
 pub total_set_before : (ns : List ℕ) (i k x : ℕ) → k ≤ i → total (take k (set ns i x)) ≡ total (take k ns)
@@ -66,6 +82,11 @@ total_set_behind [] i k x d h l = absurd (omega arith)
 total_set_behind (n ∷ ns) i zero x d h l = absurd (omega arith)
 total_set_behind (n ∷ ns) zero (suc k) x d h l = omega arith
 total_set_behind (n ∷ ns) (suc i) (suc k) x d h l = omega (arith, total_set_behind ns i k x d (omega arith) (omega arith))
+
+pub total_set : (ns : List ℕ) (i x d : ℕ) → i < length ns → total (set ns i x) + get_or ns i d ≡ total ns + x
+total_set [] i x d l = absurd (omega arith)
+total_set (n ∷ ns) zero x d l = omega arith
+total_set (n ∷ ns) (suc i) x d l = omega (arith, total_set ns i x d (omega arith))
 
 pub set_length : (ns : List ℕ) (i x : ℕ) → length (set ns i x) ≡ length ns
 set_length [] i x = refl
@@ -85,20 +106,6 @@ take_whole [] zero h = refl
 take_whole [] (suc k) h = refl
 take_whole (m ∷ ms) zero h = absurd (omega arith)
 take_whole (m ∷ ms) (suc k) h = ap (λ ks. m ∷ ks) (take_whole ms k (omega arith))
-
-pub no_sums : (ns : List ℕ) → total ns < 2 ^ 63 → AreGroupSums ns []
-no_sums ns h = record { within = h; bound = omega arith; sums_up = λ g l. let e : g ≡ 0 = omega arith in rw e refl }
-
--- the sums and the numbers that are in none
-pub sums_and_rest : (ns sums : List ℕ) (k n : ℕ) → AreGroupSums ns sums → k ≡ 64 * length sums → k + n ≡ length ns → total sums + total (take n (drop k ns)) ≡ total ns
-sums_and_rest ns sums k n a e f = omega (
-  arith,
-  ap total (take_whole sums (length sums) (omega arith)),
-  a.sums_up (length sums) (omega arith),
-  ap (λ j. total (take j ns)) e,
-  total_between ns k n,
-  ap total (take_whole ns (k + n) (omega arith)),
-)
 
 -- the sums of the groups before a place, once what is behind it changes
 pub kept_sums : (ns sums more : List ℕ) (from k : ℕ) → AreGroupSums ns sums → from ≤ length ns → 64 * k ≤ from → k ≤ length sums → total (take from ns ++ more) < 2 ^ 63 → AreGroupSums (take from ns ++ more) (take k sums)

@@ -11,10 +11,6 @@ use Rattle.descriptor_table.specs.Tables.{EndBy}
 
 -- ---- the runs of all leaves
 
--- some runs, with parts instead of those in a window
-abbrev pub with_parts : List Run → ℕ × ℕ → List Run → List Run
-with_parts runs window parts = take window.0 runs ++ (parts ++ drop window.1 runs)
-
 -- the runs of all leaves, with others instead of those of the leaves between two indices
 abbrev pub runs_with : List (List Run) → ℕ × ℕ → List Run → List Run
 runs_with ls near runs = runs_in (take near.0 ls) ++ (runs ++ runs_in (drop near.1 ls))
@@ -73,14 +69,8 @@ with_two ls index window front back =
 
 -- ---- the entries of the map
 
--- Of the leaves between two indices a window of runs gives way to parts: the map has a number of
--- entries less and a number more.
-abbrev pub GrowsBetween : List (List Run) → ℕ × ℕ → List Run → ℕ × ℕ → List Run → ℕ × ℕ → Type 0
-GrowsBetween ls near runs window parts entries =
-    GrowsBy (runs_in (take near.1 ls)) (runs_in (take near.0 ls) ++ with_parts runs window parts)
-    (runs_in (drop near.1 ls)) entries.0 entries.1
-
--- the same of a window of the leaf at an index
+-- Of the leaf at an index a window of runs gives way to parts: the map has a number of entries less
+-- and a number more.
 abbrev pub GrowsIn : List (List Run) → ℕ → ℕ × ℕ → List Run → ℕ × ℕ → Type 0
 GrowsIn ls index window parts entries =
     GrowsBy (runs_in (take (index + 1) ls))

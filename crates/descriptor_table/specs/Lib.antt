@@ -8,3 +8,4 @@ pub mod Summaries
 pub mod LeafChanges
 pub mod LeafWalks
 pub mod LeafSummaries
+pub mod Reserves

@@ -1,12 +1,15 @@
 //! Cutting and joining runs.
-ghost use Rattle.std.specs.Prelude.{◌≡◌, ◌+◌, ◌-◌, ◌<◌, ◌≤◌, ◌^◌, ◌++◌, ◌∷◌, [], List, length, false, IsTrue, OnOk};
+ghost use Rattle.std.specs.Prelude.{◌≡◌, ◌+◌, ◌-◌, ◌<◌, ◌≤◌, ◌^◌, ◌++◌, ◌∷◌, [], List, length, false, vec_capacity, IsTrue, OnOk, OnErr};
 ghost use Rattle.page_ranges.specs.declared.ranges.Run.{Run};
 ghost use Rattle.page_ranges.specs.MemoryTypes.{page_count};
 ghost use Rattle.page_ranges.specs.Memory.{row, retyped};
 ghost use Rattle.page_ranges.specs.Runs.{page_in, pages_of, should_be_one_run, AreRuns, AreMaximalRuns};
+ghost use Rattle.descriptor_table.specs.Leaves.{runs_in};
 ghost use Rattle.descriptor_table.specs.LeafChanges.{AppendsPart, AppendsRetyped, BeginBehind, EndsWith, RetypesRuns};
+ghost use Rattle.descriptor_table.specs.Reserves.{cut_count};
 ghost use Rattle.descriptor_table.specs.Tables.{EndBy, AreMaximalUpTo, PutsBehind};
 
+use crate::leaves::Leaf;
 use page_ranges::{MemoryType, Owner, PageRange, Run};
 use std::alloc::{AllocError, Allocator};
 
@@ -48,7 +51,10 @@ pub(crate) fn push_joined<A: Allocator>(runs: &mut Vec<Run, A>, run: Run) -> Res
     requires order { AreMaximalUpTo run.range.first runs.old.items }
     requires some { 0 < run.range.pages }
     requires within { run.range.first + run.range.pages ≤ page_count }
-    ensures { OnOk result (PutsBehind runs.old.items run runs.new.items) }
+    ensures ok { OnOk result (PutsBehind runs.old.items run runs.new.items) }
+    ensures few { length runs.new.items ≤ length runs.old.items + 1 }
+    ensures capacity { vec_capacity runs.old ≤ vec_capacity runs.new }
+    ensures full { OnErr result (vec_capacity runs.old ≤ length runs.old.items) }
 {
     if grow_last(runs.as_mut_slice(), &run) {
         return Ok(());
@@ -71,6 +77,10 @@ fn push_part<A: Allocator>(
     ensures pages { OnOk result
         (AppendsPart first end run.now runs.old.items runs.new.items) }
     ensures order { OnOk result (AreMaximalUpTo end runs.new.items) }
+    ensures few { length runs.new.items ≤ length runs.old.items + 1 }
+    ensures none { first ≡ end → runs.new ≡ runs.old }
+    ensures capacity { vec_capacity runs.old ≤ vec_capacity runs.new }
+    ensures full { OnErr result ((first < end) × (vec_capacity runs.old ≤ length runs.old.items)) }
 {
     if first == end {
         return Ok(());
@@ -100,6 +110,11 @@ pub(crate) fn push_behind<A: Allocator>(
         (AppendsRetyped range mtype owner runs.now parts.old.items parts.new.items) }
     ensures order { OnOk result (AreMaximalRuns parts.new.items) }
     ensures ends { OnOk result (EndsWith runs.now parts.old.items parts.new.items) }
+    ensures few { length parts.new.items
+        ≤ length parts.old.items + (length runs.now + cut_count range runs.now) }
+    ensures capacity { vec_capacity parts.old ≤ vec_capacity parts.new }
+    ensures full { OnErr result (vec_capacity parts.old
+        < length parts.old.items + (length runs.now + cut_count range runs.now)) }
 {
     for run in runs {
         let first = run.range.first;
@@ -135,4 +150,30 @@ pub(crate) fn push_retyped<A: Allocator>(
     ensures order { OnOk result (AreMaximalRuns parts.new.items) }
 {
     push_behind(parts, runs, range, mtype, owner)
+}
+
+/// Puts into an empty list, which has room for them, the runs of leaves in which the pages of a range have a
+/// type and an owner.
+pub(crate) fn push_leaves<A: Allocator + Copy>(
+    parts: &mut Vec<Run, A>,
+    leaves: &[Leaf<A>],
+    range: PageRange,
+    mtype: MemoryType,
+    owner: Owner,
+)
+    requires empty { parts.old.items ≡ [] }
+    requires runs { AreRuns (runs_in leaves.now) }
+    requires ends { EndBy page_count (runs_in leaves.now) }
+    requires within { range.first + range.pages ≤ page_count }
+    requires room { length (runs_in leaves.now) + 2 ≤ vec_capacity parts.old }
+    ensures pages { RetypesRuns range mtype owner (runs_in leaves.now) parts.new.items }
+    ensures order { AreMaximalRuns parts.new.items }
+    ensures few { length parts.new.items ≤ length (runs_in leaves.now) + 2 }
+    ensures capacity { vec_capacity parts.old ≤ vec_capacity parts.new }
+{
+    for leaf in leaves {
+        let Ok(()) = push_behind(parts, leaf.runs(), range, mtype, owner) else {
+            unreachable!();
+        };
+    }
 }

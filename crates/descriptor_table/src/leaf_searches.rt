@@ -96,7 +96,7 @@ pub(crate) fn run_at_index<A: Allocator + Copy>(
     sizes: &Tally<A>,
     index: usize,
 ) -> Option<Run>
-    requires { sizes.now ≡ map length leaves.now }
+    requires { sizes.now.items ≡ map length leaves.now }
     ensures { result ≡ slice_get (runs_in leaves.now) index }
 {
     let (count, left) = sizes.find(index);

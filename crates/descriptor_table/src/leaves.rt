@@ -1,5 +1,5 @@
 //! Runs in leaves.
-ghost use Rattle.std.specs.Prelude.{◌≡◌, ℕ, ◌+◌, ◌-◌, ◌<◌, ◌≤◌, ◌++◌, length, map, take, drop, true, false, IfOk, OnOk, OnErr, slice_get};
+ghost use Rattle.std.specs.Prelude.{◌≡◌, ℕ, ◌+◌, ◌*◌, ◌-◌, ◌<◌, ◌≤◌, ◌++◌, length, map, take, drop, true, false, IfOk, slice_get};
 ghost use Rattle.descriptor_table.specs.Leaves.{first_page, runs_in, AreLeaves};
 ghost use Rattle.descriptor_table.specs.Summaries.{Allows, AllowsAll, BeginsFree, EndsFree, IsFreeRun, IsLeafOfNoUse};
 
@@ -7,7 +7,7 @@ use crate::run_arrays::replace_runs;
 use crate::summaries::{Summary, begins_free, ends_free, joined_near, summary_of};
 use crate::wanted::Wanted;
 use arrayvec::ArrayVec;
-use page_ranges::Run;
+use page_ranges::{MemoryType, Owner, PageRange, Run};
 use std::alloc::{AllocError, Allocator, Global};
 use std::marker::Model;
 
@@ -62,6 +62,18 @@ impl<A: Allocator + Copy> Leaf<A> {
             count: runs.len() as u8,
             runs: leaf,
         })
+    }
+
+    /// A leaf for later, whose runs are those of no table.
+    pub(crate) fn spare(alloc: A) -> Result<Leaf<A>, AllocError> {
+        let range = PageRange { first: 0, pages: 1 };
+        let run = Run {
+            range,
+            mtype: MemoryType::conventional(),
+            attributes: 0,
+            owner: Owner::Given,
+        };
+        Leaf::from_slice(alloc, &[run])
     }
 
     /// The first page of the first run.
@@ -143,11 +155,12 @@ impl<A: Allocator + Copy> Leaf<A> {
 }
 
 /// How many of some runs the first leaf of them takes. Two leaves share what one can't hold.
-fn first_share(count: usize) -> usize
+pub(crate) fn first_share(count: usize) -> usize
     requires { 0 < count }
     ensures some { 0 < result }
     ensures bound { result ≤ count }
     ensures fits { result ≤ 32 }
+    ensures rest { (n : ℕ) → count ≤ 32 * n → count + 32 ≤ result + 32 * n }
 {
     if count <= LEAF_SIZE {
         return count;
@@ -190,18 +203,4 @@ pub(crate) fn sizes_of<A: Allocator + Copy>(
         sizes.push(leaf.runs().len() as u8)?;
     }
     Ok(sizes)
-}
-
-/// The runs of leaves, one leaf after the other.
-pub(crate) fn runs_of_leaves<A: Allocator + Copy>(
-    alloc: A,
-    leaves: &[Leaf<A>],
-) -> Result<Vec<Run, A>, AllocError>
-    ensures { IfOk result (λ v. v.items ≡ runs_in leaves.now) }
-{
-    let mut runs = Vec::new(alloc);
-    for leaf in leaves {
-        runs.extend_from_slice(leaf.runs())?;
-    }
-    Ok(runs)
 }

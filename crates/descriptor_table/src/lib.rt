@@ -10,6 +10,7 @@ mod free_entries;
 mod groups;
 mod leaf_searches;
 mod leaves;
+mod new_leaves;
 mod replacing;
 mod retyping;
 mod run_arrays;

@@ -1,11 +1,12 @@
 //! A range of a table that gets a type and an owner.
-ghost use Rattle.std.specs.Prelude.{◌≡◌, ℕ, ◌+◌, ◌-◌, ◌<◌, ◌≤◌, ◌^◌, ◌++◌, ◌∷◌, [], length, map, set, take, drop, false, IsTrue, IfOk, OnOk, OnErr, IfSome, OnSome, IfNone};
+ghost use Rattle.std.specs.Prelude.{◌≡◌, ℕ, ◌+◌, ◌-◌, ◌<◌, ◌≤◌, ◌^◌, ◌++◌, ◌∷◌, [], length, map, set, take, drop, false, vec_capacity, IsTrue, OnOk, IfSome, OnSome, IfNone};
 ghost use Rattle.page_ranges.specs.declared.ranges.Owner.TheVariants.{Given};
 ghost use Rattle.page_ranges.specs.MemoryTypes.{conventional, page_count};
 ghost use Rattle.page_ranges.specs.Memory.{IsPresent, AllInRange, retyped};
 ghost use Rattle.page_ranges.specs.Runs.{pages_of, AreMaximalRuns, AreRuns};
 ghost use Rattle.descriptor_table.specs.Leaves.{leaf_at, runs_in, IsLeaf, AreLeaves, AreLeavesNear, BeginIn, GrowsBy, IsLeafTable};
-ghost use Rattle.descriptor_table.specs.LeafChanges.{AreOtherSizes, BeginInOthers, BeginInRest, GrowsAcross, GrowsBetween, GrowsIn, GrowsSome, Retypes, RetypesRuns, count_across, leaves_without, put_first, runs_between, runs_with, runs_with_in, with_across, with_first, with_parts, with_two};
+ghost use Rattle.descriptor_table.specs.LeafChanges.{AreOtherSizes, BeginInOthers, BeginInRest, GrowsAcross, GrowsIn, GrowsSome, Retypes, RetypesRuns, count_across, leaves_without, put_first, runs_between, runs_with_in, with_across, with_first, with_two};
+ghost use Rattle.descriptor_table.specs.Reserves.{AreSame, KeepsRoom};
 ghost use Rattle.descriptor_table.specs.Summaries.{KeepsLeaves};
 ghost use Rattle.descriptor_table.specs.Tables.{EndBy, IsWindow};
 ghost use Rattle.descriptor_table.specs.Tallies.{total};
@@ -13,10 +14,10 @@ ghost use Rattle.descriptor_table.specs.Tallies.{total};
 use crate::cursors::count_leaves_by_from;
 use crate::cuts::{push_behind, push_retyped};
 use crate::entries::count_entries;
-use crate::entry_starts::{begun_in, count_begun, runs_before};
+use crate::entry_starts::{count_begun, runs_before};
 use crate::leaf_searches::count_leaves_below;
-use crate::leaves::{LEAF_SIZE, Leaf, leaves_of, runs_of_leaves, sizes_of};
-use crate::replacing::{cut_out, replace_between};
+use crate::leaves::{LEAF_SIZE, Leaf};
+use crate::replacing::cut_out;
 use crate::searches::{count_beginning_by, count_beginning_by_from, count_ending_below};
 use crate::tallies::Tally;
 use page_ranges::{MemoryType, Owner, PageRange, Run};
@@ -82,7 +83,7 @@ fn first_of_pair<A: Allocator + Copy>(
     most: usize,
 ) -> Option<usize>
     requires near { AreLeavesNear leaves.now range index (index + 1) }
-    requires sizes { sizes.now ≡ map length leaves.now }
+    requires sizes { sizes.now.items ≡ map length leaves.now }
     ensures { IfSome result (λ first. AreLeavesNear leaves.now range first (first + 2)) }
 {
     let count = sizes.number(index);
@@ -101,7 +102,7 @@ fn fits_in_neighbours<A: Allocator + Copy>(
     sizes: &Tally<A>,
     index: usize,
 ) -> bool
-    requires sizes { sizes.now ≡ map length leaves.now }
+    requires sizes { sizes.now.items ≡ map length leaves.now }
     requires index { index < length leaves.now }
     ensures { IsTrue result → (0 < index) × (index + 1 < length leaves.now) }
 {
@@ -118,7 +119,7 @@ pub(crate) fn leaves_near<A: Allocator + Copy>(
     range: PageRange,
 ) -> (usize, usize)
     requires leaves { AreLeaves leaves.now }
-    requires sizes { sizes.now ≡ map length leaves.now }
+    requires sizes { sizes.now.items ≡ map length leaves.now }
     requires runs { AreRuns (runs_in leaves.now) }
     requires within { range.first + range.pages ≤ page_count }
     ensures { AreLeavesNear leaves.now range result.0 result.1 }
@@ -140,59 +141,6 @@ pub(crate) fn leaves_near<A: Allocator + Copy>(
     (low, high)
 }
 
-/// Replaces a window of `runs`, which are the runs of leaves next to each other, by parts, and puts all of
-/// them in new leaves. `entries` are how many entries the map of the window has, and that of the
-/// parts. On an `Err` the leaves are as they were.
-fn put_in_new_leaves<A: Allocator + Copy>(
-    leaves: &mut Vec<Leaf<A>, A>,
-    begun: &mut Tally<A>,
-    sizes: &mut Tally<A>,
-    near: (usize, usize),
-    mut runs: Vec<Run, A>,
-    window: (usize, usize),
-    mut parts: Vec<Run, A>,
-    entries: (usize, usize),
-) -> Result<(), AllocError>
-    requires leaves { AreLeaves leaves.old.items }
-    requires some { (near.0 ≤ near.1) × (near.1 ≤ length leaves.old.items) }
-    requires runs { runs.items ≡ runs_in (take (near.1 - near.0) (drop near.0 leaves.old.items)) }
-    requires window { (window.0 ≤ window.1) × (window.1 ≤ length runs.items) }
-    requires begun { BeginIn [] leaves.old.items begun.old }
-    requires sizes { sizes.old ≡ map length leaves.old.items }
-    requires grows { GrowsBetween leaves.old.items near runs.items window parts.items entries }
-    requires few { entries.1 < 2 ^ 63 }
-    requires order { AreRuns
-        (runs_with leaves.old.items near (with_parts runs.items window parts.items)) }
-    requires ends { EndBy page_count
-        (runs_with leaves.old.items near (with_parts runs.items window parts.items)) }
-    ensures leaves { IfOk result (λ _. AreLeaves leaves.new.items) }
-    ensures runs { IfOk result (λ _. runs_in leaves.new.items
-        ≡ runs_with leaves.old.items near (with_parts runs.items window parts.items)) }
-    ensures begun { IfOk result (λ _. BeginIn [] leaves.new.items begun.new) }
-    ensures sizes { IfOk result (λ _. sizes.new ≡ map length leaves.new.items) }
-    ensures kept { IfOk result (λ _. KeepsLeaves leaves.old.items leaves.new.items near.0 near.1) }
-    ensures err { OnErr result ((leaves.new.items ≡ leaves.old.items) × (begun.new ≡ begun.old)
-        × (sizes.new ≡ sizes.old)) }
-{
-    let (from, to) = near;
-    let (low, high) = window;
-    let alloc = *leaves.allocator();
-    replace_between(&mut runs, low, high, &mut parts)?;
-    let mut new_leaves = leaves_of(alloc, runs.as_slice())?;
-    let part = begun_in(
-        alloc,
-        runs_before(leaves.as_slice(), from),
-        new_leaves.as_slice(),
-    )?;
-    let new_begun = begun.with_part(alloc, from, to, part.as_slice())?;
-    let part = sizes_of(alloc, new_leaves.as_slice())?;
-    let new_sizes = sizes.with_part(alloc, from, to, part.as_slice())?;
-    replace_between(leaves, from, to, &mut new_leaves)?;
-    *begun = new_begun;
-    *sizes = new_sizes;
-    Ok(())
-}
-
 /// Replaces a window of a leaf's runs by parts, for which the leaf has room. `entries` are how many
 /// entries the map of the window has, and that of the parts.
 fn put_in_leaf<A: Allocator + Copy>(
@@ -211,17 +159,19 @@ fn put_in_leaf<A: Allocator + Copy>(
     requires some { 0 < length parts.now }
     requires fits { length (leaf_at leaves.old.items index) + length parts.now ≤ 32
         + (window.1 - window.0) }
-    requires begun { BeginIn [] leaves.old.items begun.old }
-    requires sizes { sizes.old ≡ map length leaves.old.items }
+    requires begun { BeginIn [] leaves.old.items begun.old.items }
+    requires sizes { sizes.old.items ≡ map length leaves.old.items }
     requires grows { GrowsIn leaves.old.items index window parts.now entries }
     requires few { entries.1 < 2 ^ 63 }
     requires order { AreRuns (runs_with_in leaves.old.items index window parts.now) }
     requires ends { EndBy page_count (runs_with_in leaves.old.items index window parts.now) }
     ensures leaves { AreLeaves leaves.new.items }
     ensures runs { runs_in leaves.new.items ≡ runs_with_in leaves.old.items index window parts.now }
-    ensures begun { BeginIn [] leaves.new.items begun.new }
-    ensures sizes { sizes.new ≡ map length leaves.new.items }
+    ensures begun { BeginIn [] leaves.new.items begun.new.items }
+    ensures sizes { sizes.new.items ≡ map length leaves.new.items }
     ensures kept { KeepsLeaves leaves.old.items leaves.new.items index (index + 1) }
+    ensures room { KeepsRoom leaves.old leaves.new begun.old begun.new sizes.old sizes.new }
+    ensures len { length leaves.new.items ≡ length leaves.old.items }
 {
     let (low, high) = window;
     let count = leaves[index].runs().len() - (high - low) + parts.len();
@@ -244,17 +194,20 @@ fn retype_in_leaf<A: Allocator + Copy>(
     owner: Owner,
     parts: &mut Vec<Run, A>,
 ) -> Option<usize>
-    requires table { IsLeafTable leaves.old.items entries begun.old sizes.old }
+    requires table { IsLeafTable leaves.old.items entries begun.old.items sizes.old.items }
     requires near { AreLeavesNear leaves.old.items range index (index + 1) }
     requires some { 0 < range.pages }
     requires present { AllInRange (pages_of (runs_in leaves.old.items)) range IsPresent }
     requires owner { mtype ≡ conventional → owner ≡ Given }
-    ensures table { IfSome result (λ n. IsLeafTable leaves.new.items n begun.new sizes.new) }
+    ensures table { IfSome result
+        (λ n. IsLeafTable leaves.new.items n begun.new.items sizes.new.items) }
     ensures pages { OnSome result (Retypes range mtype owner leaves.old.items leaves.new.items) }
     ensures kept { OnSome result
         (KeepsLeaves leaves.old.items leaves.new.items index (index + 1)) }
-    ensures none { IfNone result ((leaves.new.items ≡ leaves.old.items) × (begun.new ≡ begun.old)
-        × (sizes.new ≡ sizes.old)) }
+    ensures none { IfNone result
+        (AreSame leaves.old leaves.new begun.old begun.new sizes.old sizes.new) }
+    ensures room { KeepsRoom leaves.old leaves.new begun.old begun.new sizes.old sizes.new }
+    ensures len { length leaves.new.items ≡ length leaves.old.items }
 {
     let runs = leaves[index].runs();
     let window = window_of(runs, range);
@@ -313,7 +266,8 @@ fn replace_two<A: Allocator + Copy>(
     requires high { window.1 ≤ length (leaf_at leaves.old.items (index + 1)) }
     requires first { IsLeaf (take window.0 (leaf_at leaves.old.items index) ++ front.now) }
     requires second { IsLeaf (back.now ++ drop window.1 (leaf_at leaves.old.items (index + 1))) }
-    ensures { leaves.new.items ≡ with_two leaves.old.items index window front.now back.now }
+    ensures items { leaves.new.items ≡ with_two leaves.old.items index window front.now back.now }
+    ensures room { vec_capacity leaves.new ≡ vec_capacity leaves.old }
 {
     let (low, high) = window;
     let count = leaves[index].runs().len();
@@ -332,15 +286,16 @@ fn recount_one<A: Allocator + Copy>(
     requires runs { AreRuns (runs_in leaves.now) }
     requires ends { EndBy page_count (runs_in leaves.now) }
     requires index { index < length leaves.now }
-    requires begun_length { length begun.old ≡ length leaves.now }
-    requires few { total begun.old ≤ page_count }
-    requires begun { BeginInRest leaves.now index begun.old }
-    requires sizes_length { length sizes.old ≡ length leaves.now }
-    requires few_runs { total sizes.old ≤ page_count }
-    requires sizes { set sizes.old index (length (leaf_at leaves.now index))
+    requires begun_length { length begun.old.items ≡ length leaves.now }
+    requires few { total begun.old.items ≤ page_count }
+    requires begun { BeginInRest leaves.now index begun.old.items }
+    requires sizes_length { length sizes.old.items ≡ length leaves.now }
+    requires few_runs { total sizes.old.items ≤ page_count }
+    requires sizes { set sizes.old.items index (length (leaf_at leaves.now index))
         ≡ map length leaves.now }
-    ensures begun { BeginIn [] leaves.now begun.new }
-    ensures sizes { sizes.new ≡ map length leaves.now }
+    ensures begun { BeginIn [] leaves.now begun.new.items }
+    ensures sizes { sizes.new.items ≡ map length leaves.now }
+    ensures room { (begun.new.room ≡ begun.old.room) × (sizes.new.room ≡ sizes.old.room) }
 {
     let runs = leaves[index].runs();
     begun.set(index, count_begun(runs_before(leaves, index), runs) as u8);
@@ -358,14 +313,15 @@ fn recount<A: Allocator + Copy>(
     requires runs { AreRuns (runs_in leaves.now) }
     requires ends { EndBy page_count (runs_in leaves.now) }
     requires index { index + 1 < length leaves.now }
-    requires begun_length { length begun.old ≡ length leaves.now }
-    requires few { total begun.old ≤ page_count }
-    requires begun { BeginInOthers leaves.now index begun.old }
-    requires sizes_length { length sizes.old ≡ length leaves.now }
-    requires few_runs { total sizes.old ≤ page_count }
-    requires sizes { AreOtherSizes leaves.now index sizes.old }
-    ensures begun { BeginIn [] leaves.now begun.new }
-    ensures sizes { sizes.new ≡ map length leaves.now }
+    requires begun_length { length begun.old.items ≡ length leaves.now }
+    requires few { total begun.old.items ≤ page_count }
+    requires begun { BeginInOthers leaves.now index begun.old.items }
+    requires sizes_length { length sizes.old.items ≡ length leaves.now }
+    requires few_runs { total sizes.old.items ≤ page_count }
+    requires sizes { AreOtherSizes leaves.now index sizes.old.items }
+    ensures begun { BeginIn [] leaves.now begun.new.items }
+    ensures sizes { sizes.new.items ≡ map length leaves.now }
+    ensures room { (begun.new.room ≡ begun.old.room) × (sizes.new.room ≡ sizes.old.room) }
 {
     let first = leaves[index].runs();
     let second = leaves[index + 1].runs();
@@ -385,11 +341,12 @@ fn cut_leaves<A: Allocator + Copy>(
 )
     requires order { from ≤ to }
     requires bound { to ≤ length leaves.old.items }
-    requires begun { length begun.old ≡ length leaves.old.items }
-    requires sizes { length sizes.old ≡ length leaves.old.items }
+    requires begun { length begun.old.items ≡ length leaves.old.items }
+    requires sizes { length sizes.old.items ≡ length leaves.old.items }
     ensures leaves { leaves.new.items ≡ leaves_without leaves.old.items from to }
-    ensures begun { begun.new ≡ take from begun.old ++ drop to begun.old }
-    ensures sizes { sizes.new ≡ take from sizes.old ++ drop to sizes.old }
+    ensures begun { begun.new.items ≡ take from begun.old.items ++ drop to begun.old.items }
+    ensures sizes { sizes.new.items ≡ take from sizes.old.items ++ drop to sizes.old.items }
+    ensures room { KeepsRoom leaves.old leaves.new begun.old begun.new sizes.old sizes.new }
 {
     if from == to {
         return;
@@ -420,16 +377,19 @@ fn put_across<A: Allocator + Copy>(
     requires some { 0 < length parts.now }
     requires enough { 2 ≤ count_across leaves.old.items ends window parts.now }
     requires fits { count_across leaves.old.items ends window parts.now ≤ 64 }
-    requires begun { BeginIn [] leaves.old.items begun.old }
-    requires sizes { sizes.old ≡ map length leaves.old.items }
+    requires begun { BeginIn [] leaves.old.items begun.old.items }
+    requires sizes { sizes.old.items ≡ map length leaves.old.items }
     requires grows { GrowsAcross leaves.old.items ends window parts.now }
     requires new { AreRuns (with_across leaves.old.items ends window parts.now) }
     requires ends { EndBy page_count (with_across leaves.old.items ends window parts.now) }
     ensures leaves { AreLeaves leaves.new.items }
     ensures runs { runs_in leaves.new.items ≡ with_across leaves.old.items ends window parts.now }
-    ensures begun { BeginIn [] leaves.new.items begun.new }
-    ensures sizes { sizes.new ≡ map length leaves.new.items }
+    ensures begun { BeginIn [] leaves.new.items begun.new.items }
+    ensures sizes { sizes.new.items ≡ map length leaves.new.items }
     ensures kept { KeepsLeaves leaves.old.items leaves.new.items ends.0 (ends.1 + 1) }
+    ensures room { KeepsRoom leaves.old leaves.new begun.old begun.new sizes.old sizes.new }
+    ensures lost { length leaves.old.items + ends.0 ≤ length leaves.new.items + ends.1 }
+    ensures few { length leaves.new.items ≤ length leaves.old.items }
 {
     let (index, last) = ends;
     let behind = leaves[last].runs().len() - window.1;
@@ -464,17 +424,20 @@ fn put_in_first<A: Allocator + Copy>(
     requires bound { ends.1 < length leaves.old.items }
     requires low { low ≤ length (leaf_at leaves.old.items ends.0) }
     requires leaf { IsLeaf (put_first leaves.old.items ends low runs.now) }
-    requires begun { BeginIn [] leaves.old.items begun.old }
-    requires sizes { sizes.old ≡ map length leaves.old.items }
+    requires begun { BeginIn [] leaves.old.items begun.old.items }
+    requires sizes { sizes.old.items ≡ map length leaves.old.items }
     requires grows { GrowsSome leaves.old.items ends
         (put_first leaves.old.items ends low runs.now) }
     requires new { AreRuns (with_first leaves.old.items ends low runs.now) }
     requires ends { EndBy page_count (with_first leaves.old.items ends low runs.now) }
     ensures leaves { AreLeaves leaves.new.items }
     ensures runs { runs_in leaves.new.items ≡ with_first leaves.old.items ends low runs.now }
-    ensures begun { BeginIn [] leaves.new.items begun.new }
-    ensures sizes { sizes.new ≡ map length leaves.new.items }
+    ensures begun { BeginIn [] leaves.new.items begun.new.items }
+    ensures sizes { sizes.new.items ≡ map length leaves.new.items }
     ensures kept { KeepsLeaves leaves.old.items leaves.new.items ends.0 (ends.1 + 1) }
+    ensures room { KeepsRoom leaves.old leaves.new begun.old begun.new sizes.old sizes.new }
+    ensures lost { length leaves.old.items + ends.0 ≤ length leaves.new.items + ends.1 }
+    ensures few { length leaves.new.items ≤ length leaves.old.items }
 {
     let (index, last) = ends;
     cut_leaves(leaves, begun, sizes, index + 1, last + 1);
@@ -502,20 +465,23 @@ fn put_between<A: Allocator + Copy>(
     requires bound { ends.1 < length leaves.old.items }
     requires low { window.0 ≤ length (leaf_at leaves.old.items ends.0) }
     requires high { window.1 ≤ length (leaf_at leaves.old.items ends.1) }
-    requires begun { BeginIn [] leaves.old.items begun.old }
-    requires sizes { sizes.old ≡ map length leaves.old.items }
+    requires begun { BeginIn [] leaves.old.items begun.old.items }
+    requires sizes { sizes.old.items ≡ map length leaves.old.items }
     requires grows { GrowsAcross leaves.old.items ends window parts.old.items }
     requires new { AreRuns (with_across leaves.old.items ends window parts.old.items) }
     requires ends { EndBy page_count (with_across leaves.old.items ends window parts.old.items) }
     ensures leaves { IsTrue result → AreLeaves leaves.new.items }
     ensures runs { IsTrue result
         → runs_in leaves.new.items ≡ with_across leaves.old.items ends window parts.old.items }
-    ensures begun { IsTrue result → BeginIn [] leaves.new.items begun.new }
-    ensures sizes { IsTrue result → sizes.new ≡ map length leaves.new.items }
+    ensures begun { IsTrue result → BeginIn [] leaves.new.items begun.new.items }
+    ensures sizes { IsTrue result → sizes.new.items ≡ map length leaves.new.items }
     ensures kept { IsTrue result
         → KeepsLeaves leaves.old.items leaves.new.items ends.0 (ends.1 + 1) }
-    ensures none { result ≡ false → (leaves.new.items ≡ leaves.old.items)
-        × (begun.new ≡ begun.old) × (sizes.new ≡ sizes.old) }
+    ensures none { result ≡ false
+        → AreSame leaves.old leaves.new begun.old begun.new sizes.old sizes.new }
+    ensures room { KeepsRoom leaves.old leaves.new begun.old begun.new sizes.old sizes.new }
+    ensures lost { length leaves.old.items + ends.0 ≤ length leaves.new.items + ends.1 }
+    ensures few { length leaves.new.items ≤ length leaves.old.items }
 {
     let behind = &leaves[ends.1].runs()[window.1..];
     let count = window.0 + parts.len() + behind.len();
@@ -589,18 +555,22 @@ fn retype_across<A: Allocator + Copy>(
     owner: Owner,
     parts: &mut Vec<Run, A>,
 ) -> Option<usize>
-    requires table { IsLeafTable leaves.old.items entries begun.old sizes.old }
+    requires table { IsLeafTable leaves.old.items entries begun.old.items sizes.old.items }
     requires near { AreLeavesNear leaves.old.items range ends.0 (ends.1 + 1) }
     requires several { ends.0 < ends.1 }
     requires some { 0 < range.pages }
     requires present { AllInRange (pages_of (runs_in leaves.old.items)) range IsPresent }
     requires owner { mtype ≡ conventional → owner ≡ Given }
-    ensures table { IfSome result (λ n. IsLeafTable leaves.new.items n begun.new sizes.new) }
+    ensures table { IfSome result
+        (λ n. IsLeafTable leaves.new.items n begun.new.items sizes.new.items) }
     ensures pages { OnSome result (Retypes range mtype owner leaves.old.items leaves.new.items) }
     ensures kept { OnSome result
         (KeepsLeaves leaves.old.items leaves.new.items ends.0 (ends.1 + 1)) }
-    ensures none { IfNone result ((leaves.new.items ≡ leaves.old.items) × (begun.new ≡ begun.old)
-        × (sizes.new ≡ sizes.old)) }
+    ensures none { IfNone result
+        (AreSame leaves.old leaves.new begun.old begun.new sizes.old sizes.new) }
+    ensures room { KeepsRoom leaves.old leaves.new begun.old begun.new sizes.old sizes.new }
+    ensures lost { length leaves.old.items + ends.0 ≤ length leaves.new.items + ends.1 }
+    ensures few { length leaves.new.items ≤ length leaves.old.items }
 {
     let low = count_ending_below(leaves[ends.0].runs(), range.first);
     let high = count_beginning_by(leaves[ends.1].runs(), range.first + range.pages);
@@ -615,50 +585,6 @@ fn retype_across<A: Allocator + Copy>(
         return None;
     }
     Some(begun.sum())
-}
-
-/// Gives the pages of a range a type and an owner by new leaves instead of those that have all runs near it, and
-/// returns how many entries the map then has. All memory is taken before the leaves change.
-fn retype_in_new_leaves<A: Allocator + Copy>(
-    leaves: &mut Vec<Leaf<A>, A>,
-    begun: &mut Tally<A>,
-    sizes: &mut Tally<A>,
-    entries: usize,
-    near: (usize, usize),
-    range: PageRange,
-    mtype: MemoryType,
-    owner: Owner,
-) -> Result<usize, AllocError>
-    requires table { IsLeafTable leaves.old.items entries begun.old sizes.old }
-    requires near { AreLeavesNear leaves.old.items range near.0 near.1 }
-    requires some { 0 < range.pages }
-    requires present { AllInRange (pages_of (runs_in leaves.old.items)) range IsPresent }
-    requires owner { mtype ≡ conventional → owner ≡ Given }
-    ensures table { IfOk result (λ n. IsLeafTable leaves.new.items n begun.new sizes.new) }
-    ensures pages { IfOk result (λ n. Retypes range mtype owner leaves.old.items leaves.new.items) }
-    ensures kept { IfOk result (λ _. KeepsLeaves leaves.old.items leaves.new.items near.0 near.1) }
-    ensures err { OnErr result ((leaves.new.items ≡ leaves.old.items) × (begun.new ≡ begun.old)
-        × (sizes.new ≡ sizes.old)) }
-{
-    let alloc = *leaves.allocator();
-    let runs = runs_of_leaves(alloc, &leaves[near.0..near.1])?;
-    let window = window_of(runs.as_slice(), range);
-    let old = &runs[window.0..window.1];
-    let old_entries = count_entries(old);
-    let mut parts = Vec::new(alloc);
-    push_retyped(&mut parts, old, range, mtype, owner)?;
-    let new_entries = count_entries(parts.as_slice());
-    put_in_new_leaves(
-        leaves,
-        begun,
-        sizes,
-        near,
-        runs,
-        window,
-        parts,
-        (old_entries, new_entries),
-    )?;
-    Ok(entries + new_entries - old_entries)
 }
 
 /// Gives the pages of a range a type and an owner within two leaves, where the one that has all runs near it
@@ -677,18 +603,21 @@ fn retype_in_pair<A: Allocator + Copy>(
     owner: Owner,
     parts: &mut Vec<Run, A>,
 ) -> Option<Change>
-    requires table { IsLeafTable leaves.old.items entries begun.old sizes.old }
+    requires table { IsLeafTable leaves.old.items entries begun.old.items sizes.old.items }
     requires near { AreLeavesNear leaves.old.items range near.0 near.1 }
     requires some { 0 < range.pages }
     requires present { AllInRange (pages_of (runs_in leaves.old.items)) range IsPresent }
     requires owner { mtype ≡ conventional → owner ≡ Given }
     ensures table { IfSome result
-        (λ it. IsLeafTable leaves.new.items it.entries begun.new sizes.new) }
+        (λ it. IsLeafTable leaves.new.items it.entries begun.new.items sizes.new.items) }
     ensures pages { OnSome result (Retypes range mtype owner leaves.old.items leaves.new.items) }
     ensures kept { IfSome result
         (λ it. KeepsLeaves leaves.old.items leaves.new.items it.near.0 it.near.1) }
-    ensures none { IfNone result ((leaves.new.items ≡ leaves.old.items) × (begun.new ≡ begun.old)
-        × (sizes.new ≡ sizes.old)) }
+    ensures none { IfNone result
+        (AreSame leaves.old leaves.new begun.old begun.new sizes.old sizes.new) }
+    ensures room { KeepsRoom leaves.old leaves.new begun.old begun.new sizes.old sizes.new }
+    ensures lost { length leaves.old.items + near.0 ≤ length leaves.new.items + near.1 }
+    ensures few { length leaves.new.items ≤ length leaves.old.items }
 {
     if near.1 - near.0 != 1 || leaves.len() <= FEW_LEAVES {
         return None;
@@ -704,10 +633,11 @@ fn retype_in_pair<A: Allocator + Copy>(
     })
 }
 
-/// Gives the pages of a range a type and an owner: in the leaves that have the runs near it where these
-/// have room, or in one of them and a neighbour, and else in new leaves. `parts` is room for the runs
-/// that come, an array that is not made anew for each change.
-pub(crate) fn retype_runs<A: Allocator + Copy>(
+/// Gives the pages of a range a type and an owner in the leaves that have the runs near it, or in one of
+/// them and a neighbour; `None`, and nothing changes, where these have no room for the runs that come. It
+/// takes no memory for up to `MAX_PARTS` of these. `parts` is room for them, an array that is not made anew
+/// for each change.
+pub(crate) fn retype_in_place<A: Allocator + Copy>(
     leaves: &mut Vec<Leaf<A>, A>,
     begun: &mut Tally<A>,
     sizes: &mut Tally<A>,
@@ -717,19 +647,22 @@ pub(crate) fn retype_runs<A: Allocator + Copy>(
     mtype: MemoryType,
     owner: Owner,
     parts: &mut Vec<Run, A>,
-) -> Result<Change, AllocError>
-    requires table { IsLeafTable leaves.old.items entries begun.old sizes.old }
+) -> Option<Change>
+    requires table { IsLeafTable leaves.old.items entries begun.old.items sizes.old.items }
     requires near { AreLeavesNear leaves.old.items range near.0 near.1 }
     requires some { 0 < range.pages }
     requires present { AllInRange (pages_of (runs_in leaves.old.items)) range IsPresent }
     requires owner { mtype ≡ conventional → owner ≡ Given }
-    ensures table { IfOk result
-        (λ it. IsLeafTable leaves.new.items it.entries begun.new sizes.new) }
-    ensures pages { OnOk result (Retypes range mtype owner leaves.old.items leaves.new.items) }
-    ensures kept { IfOk result
+    ensures table { IfSome result
+        (λ it. IsLeafTable leaves.new.items it.entries begun.new.items sizes.new.items) }
+    ensures pages { OnSome result (Retypes range mtype owner leaves.old.items leaves.new.items) }
+    ensures kept { IfSome result
         (λ it. KeepsLeaves leaves.old.items leaves.new.items it.near.0 it.near.1) }
-    ensures err { OnErr result ((leaves.new.items ≡ leaves.old.items) × (begun.new ≡ begun.old)
-        × (sizes.new ≡ sizes.old)) }
+    ensures none { IfNone result
+        (AreSame leaves.old leaves.new begun.old begun.new sizes.old sizes.new) }
+    ensures room { KeepsRoom leaves.old leaves.new begun.old begun.new sizes.old sizes.new }
+    ensures lost { length leaves.old.items + near.0 ≤ length leaves.new.items + near.1 }
+    ensures few { length leaves.new.items ≤ length leaves.old.items }
 {
     let changed = match near.1 - near.0 {
         0 => None,
@@ -744,14 +677,9 @@ pub(crate) fn retype_runs<A: Allocator + Copy>(
         }
     };
     if let Some(entries) = changed {
-        return Ok(Change { entries, near });
+        return Some(Change { entries, near });
     }
-    let changed = retype_in_pair(
+    retype_in_pair(
         leaves, begun, sizes, entries, near, range, mtype, owner, parts,
-    );
-    if let Some(change) = changed {
-        return Ok(change);
-    }
-    let entries = retype_in_new_leaves(leaves, begun, sizes, entries, near, range, mtype, owner)?;
-    Ok(Change { entries, near })
+    )
 }

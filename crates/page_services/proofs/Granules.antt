@@ -20,7 +20,7 @@ use Rattle.page_ranges.proofs.WholeGranules.{for_granules, mod_one, rounded_one,
 use Rattle.placement_certificate.specs.declared.certificates.Request.{Request}
 use Rattle.placement_certificate.specs.Placement.{IsProperRequest, IsPermittedStart}
 use Rattle.page_services.specs.declared.page_book.Placed.{Placed}
-use Rattle.page_services.specs.PageRules.{Book, new_book, IsInGranule, HasWholeGranules, IsInGranules, range_from, IsAligned, changed_book, whole_pages, whole_request, if_counted, Choice, IsBestChoice, PlacesPages, any_pages, max_address, fixed_address, IsValidRequest, placement_request, IsFree, IsPlaced, AllocatesPages, IsValidRange, IsAllocated, granule_of, freed_range, FreesPages, pool_request, TakesForPool, given_back, GivesFromPool}
+use Rattle.page_services.specs.PageRules.{Book, new_book, IsInGranule, HasWholeGranules, IsInGranules, range_from, IsAligned, changed_book, whole_pages, whole_request, if_counted, Choice, IsBestChoice, PlacesPages, any_pages, max_address, fixed_address, IsValidRequest, placement_request, IsFree, IsPlaced, AllocatesPages, IsValidRange, IsAllocated, granule_of, freed_book, freed_range, FreesPages, placed_book, pool_request, TakesForPool, given_back, GivesFromPool}
 use Rattle.page_services.proofs.Choices.{Permits}
 
 -- ---- pages of one granule
@@ -149,6 +149,10 @@ free_present None free = absurd free
 free_present (Some x) free = tt
 
 -- pages of a type and an owner are put in a free range that fills granules of the type
+-- what memory is reserved is no matter of granules
+pub reserved_granules : (b : Book) (frees ends held : ℕ) → IsInGranules b → IsInGranules (record b { frees = frees; ends = ends; held = held })
+reserved_granules b frees ends held is = record { granule = is.granule; whole = is.whole }
+
 pub taken_granules : (b : Book) (range : PageRange) (t : ℕ) (o : Owner) → range.first % granule_for t b.granule ≡ 0 → range.pages % granule_for t b.granule ≡ 0 → AllInRange b.memory range IsConventional → IsInGranules b → IsInGranules (changed_book range t o b)
 taken_granules b range t o start filled free is =
     let closed : IsClosed b.granule b.memory range = λ k j same there was. absurd (free_is_in_none (page_at b.memory j) (free j there.0 there.1) was) in
@@ -204,7 +208,7 @@ module _ {A : Type 0} (Chosen : Choice) (permits : Permits Chosen) where
   allocates_granules b new kind t pages memory (Ok placed) (valid, at, e) is =
       let (start, free) = was_free b (placement_request b.granule kind t pages memory) t pages memory placed (λ r. requested b.granule kind t pages memory r) at in
       let filled : whole_pages b.granule t pages % granule_for t b.granule ≡ 0 = rounded_fills pages (granule_for t b.granule) (granule_for_granule t b.granule is.granule) in
-      subst IsInGranules (sym e) (taken_granules b (range_from placed.address (whole_pages b.granule t pages)) t Pages start filled free is)
+      subst IsInGranules (sym e) (reserved_granules _ _ _ _ (taken_granules b (range_from placed.address (whole_pages b.granule t pages)) t Pages start filled free is))
   allocates_granules b new kind t pages memory (Err status.InvalidParameter) h is = subst IsInGranules (sym h.1) is
   allocates_granules b new kind t pages memory (Err status.NotFound) h is = subst IsInGranules (sym h.3) is
   allocates_granules b new kind t pages memory (Err status.OutOfResources) h is = subst IsInGranules (sym h.2) is
@@ -215,7 +219,7 @@ module _ {A : Type 0} (Chosen : Choice) (permits : Permits Chosen) where
   pub places_granules : (b new : Book) (r : Request) (result : Result (Placed A) Status) → PlacesPages Chosen b r Pool result new → IsInGranules b → IsInGranules new
   places_granules b new r (Ok placed) ((start, chosen, at), e) is =
       let first : placed.address / page_size ≡ start = omega arith in
-      subst IsInGranules (sym e) (subst (λ n. IsInGranules (changed_book (record { first = n; pages = r.pages }) r.mtype Pool b)) (sym first) (placed_granules b r start (permits b r start placed.certificate chosen) is))
+      subst IsInGranules (sym e) (reserved_granules _ _ _ _ (subst (λ n. IsInGranules (changed_book (record { first = n; pages = r.pages }) r.mtype Pool b)) (sym first) (placed_granules b r start (permits b r start placed.certificate chosen) is)))
   places_granules b new r (Err status.OutOfResources) e is = subst IsInGranules (sym e) is
   places_granules b new r (Err other) h is = absurd h
 
@@ -236,12 +240,12 @@ returned range b owned is =
 pub given_back_granules : (range : PageRange) (b : Book) → AllInRange b.memory range (IsOwnedBy Pool) → IsInGranules b → IsInGranules (given_back range b)
 given_back_granules range b owned is = elim (cases_eq range.pages 0) [
   | inl none ↦ subst IsInGranules (sym (cond-true _ _ _ (eq-eqb range.pages 0 none))) is
-  | inr some ↦ subst IsInGranules (sym (cond-false _ _ _ (ne_eqb range.pages 0 some))) (returned range b owned is)
+  | inr some ↦ subst IsInGranules (sym (cond-false _ _ _ (ne_eqb range.pages 0 some))) (reserved_granules _ _ _ _ (returned range b owned is))
 ]
 
 pub gives_granules : (b new : Book) (range : PageRange) (result : Result (Unit {0}) Status) → AllInRange b.memory range (IsOwnedBy Pool) → GivesFromPool b range result new → IsInGranules b → IsInGranules new
 gives_granules b new range (Ok done) owned e is = subst IsInGranules (sym e) (given_back_granules range b owned is)
-gives_granules b new range (Err status.OutOfResources) owned e is = subst IsInGranules (sym e) is
+gives_granules b new range (Err status.OutOfResources) owned h is = subst IsInGranules (sym h.0) is
 gives_granules b new range (Err other) owned h is = absurd h
 
 -- ---- FreePages
@@ -314,7 +318,7 @@ pub freed_granules : (b : Book) (address pages : ℕ) → IsInGranules b → IsI
 freed_granules b address pages is = record { granule = is.granule; whole = retyped_granules b.granule (freed_range b address pages) conventional Given b.memory (freed_closed b is address pages) (λ so. absurd (given_is_other so.0)) is.whole }
 
 pub frees_granules : (b new : Book) (address pages : ℕ) (result : Result (Unit {0}) Status) → FreesPages b address pages result new → IsInGranules b → IsInGranules new
-frees_granules b new address pages (Ok done) (valid, owned, e) is = subst IsInGranules (sym e) (freed_granules b address pages is)
+frees_granules b new address pages (Ok done) (valid, owned, e) is = subst IsInGranules (sym e) (reserved_granules _ _ _ _ (freed_granules b address pages is))
 frees_granules b new address pages (Err status.InvalidParameter) h is = subst IsInGranules (sym h.1) is
 frees_granules b new address pages (Err status.NotFound) h is = subst IsInGranules (sym h.2) is
 frees_granules b new address pages (Err status.OutOfResources) h is = subst IsInGranules (sym h.2) is
@@ -502,7 +506,7 @@ module _ {A : Type 0} (b new : Book) (kind t pages memory : ℕ) (r : Request) (
   allocates_placed (Ok placed) (chosen, e) =
       let (limit, whole) = requested b.granule kind t pages memory r asked in
       let at : IsPlaced IsBestChoice b (placement_request b.granule kind t pages memory) t pages memory placed = subst (λ o. IsPlaced IsBestChoice b o t pages memory placed) (sym asked) chosen in
-      (valid, at, e ∙ ap (λ (q : Request). changed_book (range_from placed.address q.pages) q.mtype Pages b) whole)
+      (valid, at, e ∙ ap (λ (q : Request). placed_book (range_from placed.address q.pages) q.mtype Pages b) whole)
   allocates_placed (Err status.OutOfResources) e = (valid, λ k. absurd (other k), e)
   allocates_placed (Err rest) h = absurd h
 
@@ -519,6 +523,6 @@ freed_present b address pages is some owned k low high = owned_present Pages (pa
 pub page_address : (address : ℕ) → IsAligned address → address / page_size * page_size ≡ address
 page_address address aligned = omega arith
 
-pub frees_changed : (b new : Book) (address pages : ℕ) (result : Result (Unit {0}) Status) → IsValidRange address pages → IsAllocated b.memory address pages → MatchResult result (λ done. new ≡ changed_book (freed_range b address pages) conventional Given b) (λ e. (e ≡ OutOfResources) × (new ≡ b)) → FreesPages b address pages result new
+pub frees_changed : (b new : Book) (address pages : ℕ) (result : Result (Unit {0}) Status) → IsValidRange address pages → IsAllocated b.memory address pages → MatchResult result (λ done. new ≡ freed_book (freed_range b address pages) b) (λ e. (e ≡ OutOfResources) × (new ≡ b) × (b.frees ≡ 0)) → FreesPages b address pages result new
 frees_changed b new address pages (Ok done) valid owned e = (valid, owned, e)
-frees_changed b new address pages (Err s) valid owned (e, same) = subst (λ s. FreesPages b address pages (Err s) new) (sym e) (valid, owned, same)
+frees_changed b new address pages (Err s) valid owned (e, same, none) = subst (λ s. FreesPages b address pages (Err s) new) (sym e) (valid, owned, same, none)

@@ -1,5 +1,5 @@
 -- The rules of AllocatePages, of FreePages and of the pool's pages on a memory.
-use Rattle.std.specs.Prelude.{◌≡◌, ℕ, ◌+◌, ◌-◌, ◌*◌, ◌<◌, ◌≤◌, ◌/◌, ◌%◌, ◌==◌, Bool, true, false, List, Option, Some, None, Result, Ok, Err, option_map, if◌then◌else◌}
+use Rattle.std.specs.Prelude.{◌≡◌, ℕ, ◌+◌, ◌-◌, ◌*◌, ◌<◌, ◌≤◌, ◌/◌, ◌%◌, ◌==◌, Bool, true, false, List, Option, Some, None, Result, Ok, Err, option_map, if◌then◌else◌, min}
 use Rattle.page_ranges.specs.declared.ranges.Owner.{Owner}
 use Rattle.page_ranges.specs.declared.ranges.Owner.TheVariants.{Given, Pages, Pool}
 use Rattle.page_ranges.specs.declared.ranges.PageRange.{PageRange}
@@ -8,6 +8,7 @@ use Rattle.page_ranges.specs.declared.statuses.Status.TheVariants.{InvalidParame
 use Rattle.page_ranges.specs.MemoryTypes.{page_size, page_count, pages_below, conventional, is_bad_type}
 use Rattle.page_ranges.specs.Granules.{IsGranule, is_granular, granule_for, if_64_bits, rounded}
 use Rattle.page_ranges.specs.Memory.{Page, page_at, page_below, IsConventional, IsOwnedBy, AllInRange, retyped}
+use Rattle.descriptor_table.specs.Reserves.{Table}
 use Rattle.placement_certificate.specs.declared.certificates.Request.{Request}
 use Rattle.placement_certificate.specs.Placement.{IsPermittedStart, IsProperRequest}
 use Rattle.placement_certificate.specs.Certificates.{CertificateValue, IsTrueCertificate}
@@ -15,22 +16,46 @@ use Rattle.page_services.specs.declared.page_book.ChosenStart.{ChosenStart}
 use Rattle.page_services.specs.declared.page_book.Placed.{Placed}
 
 -- the memory, the map key, which is 1 at first and one more after each call that changed the type
--- of a page, the granule of the machine, and whether certificates are returned
+-- of a page, the granule of the machine, whether certificates are returned, for how many calls of
+-- FreePages and for how many ends of extents of the pool memory is reserved, and how many pages
+-- AllocatePages placed that FreePages has not freed
 pub record Book : Type 0 where
   pub memory : List Page
   pub key : ℕ
   pub granule : ℕ
   pub certifies : Bool
+  pub frees : ℕ
+  pub ends : ℕ
+  pub held : ℕ
+
+-- the book of a table, with all else that it has
+abbrev pub book_of : Table → ℕ → ℕ → Bool → ℕ → ℕ → ℕ → Book
+book_of t key granule certifies frees ends held = record {
+  memory = t.pages;
+  key = key;
+  granule = granule;
+  certifies = certifies;
+  frees = frees;
+  ends = ends;
+  held = held;
+}
 
 -- the book of a machine with a granule and a memory in which no type has changed, which returns
 -- certificates
 abbrev pub new_book : ℕ → List Page → Book
-new_book granule m = record { memory = m; key = 1; granule = granule; certifies = true }
+new_book granule m = record {
+  memory = m;
+  key = 1;
+  granule = granule;
+  certifies = true;
+  frees = 0;
+  ends = 0;
+  held = 0;
+}
 
 -- the same book, where certificates are returned or not
 abbrev pub certifying : Bool → Book → Book
-certifying certifies b =
-    record { memory = b.memory; key = b.key; granule = b.granule; certifies = certifies }
+certifying certifies b = record b { certifies = certifies }
 
 -- the page was placed by AllocatePages with a type that fills granules
 abbrev pub IsInGranule : Option Page → Type 0
@@ -54,14 +79,34 @@ range_from address pages = record { first = address / page_size; pages = pages }
 abbrev pub IsAligned : ℕ → Type 0
 IsAligned address = address % page_size ≡ 0
 
--- the book after a call that gave the pages of a range another type
+-- the book after a call that gave the pages of a range another type and an owner
 abbrev pub changed_book : PageRange → ℕ → Owner → Book → Book
-changed_book range t o b = record {
-  memory = retyped range t o b.memory;
-  key = b.key + 1;
-  granule = b.granule;
-  certifies = b.certifies;
+changed_book range t o b = record b { memory = retyped range t o b.memory; key = b.key + 1 }
+
+-- the book after pages were placed in a range for an owner: memory is reserved to free them
+abbrev pub placed_book : PageRange → ℕ → Owner → Book → Book
+placed_book range t Given b = changed_book range t Given b
+placed_book range t Pages b = record (changed_book range t Pages b) {
+  frees = b.frees + 1;
+  held = min page_count (b.held + range.pages);
 }
+placed_book range t Pool b = record (changed_book range t Pool b) { ends = b.ends + 1 }
+
+-- the book after FreePages freed a range: it takes memory that is reserved for one call, if there
+-- is, and it is reserved for no more calls than there are pages to free
+abbrev pub freed_book : PageRange → Book → Book
+freed_book range b = record (changed_book range conventional Given b) {
+  frees = min (b.frees - 1) (b.held - range.pages);
+  held = b.held - range.pages;
+}
+
+-- the book after an extent of the pool ended, which takes memory in the same way
+abbrev pub ended_book : PageRange → Book → Book
+ended_book range b = record (changed_book range conventional Given b) { ends = b.ends - 1 }
+
+-- memory ran out for a call, for which none is reserved, and the book is left
+abbrev pub RunsOut : ℕ → Book → Status → Book → Type 0
+RunsOut reserved b status new = (status ≡ OutOfResources) × (new ≡ b) × (reserved ≡ 0)
 
 -- ---- requests
 
@@ -123,7 +168,7 @@ abbrev pub PlacesPages : {A : Type 0} → Choice → Book → Request → Owner 
     → Book → Type 0
 PlacesPages Chosen b r o (Ok placed) new =
     IsChosenPlace Chosen b r placed
-    × (new ≡ changed_book (range_from placed.address r.pages) r.mtype o b)
+    × (new ≡ placed_book (range_from placed.address r.pages) r.mtype o b)
 PlacesPages Chosen b r o (Err OutOfResources) new = new ≡ b
 PlacesPages Chosen b r o (Err status) new = ⊥
 
@@ -175,7 +220,7 @@ abbrev pub AllocatesPages : {A : Type 0} → Choice → Book → ℕ → ℕ →
 AllocatesPages Chosen b kind t pages memory (Ok placed) new =
     IsValidRequest kind t pages
     × IsPlaced Chosen b (placement_request b.granule kind t pages memory) t pages memory placed
-    × (new ≡ changed_book (range_from placed.address (whole_pages b.granule t pages)) t Pages b)
+    × (new ≡ placed_book (range_from placed.address (whole_pages b.granule t pages)) t Pages b)
 AllocatesPages Chosen b kind t pages memory (Err InvalidParameter) new =
     (¬ IsValidRequest kind t pages) × (new ≡ b)
 AllocatesPages Chosen b kind t pages memory (Err NotFound) new =
@@ -211,16 +256,18 @@ freed_range b address pages =
     rounded (named + pages) (granule_of b.granule (page_below b.memory (named + pages))) in
     record { first = first; pages = end - first }
 
--- what FreePages answers, and the book after it; a refusal leaves the book
+-- What FreePages answers, and the book after it; a refusal leaves the book. OUT_OF_RESOURCES means
+-- that memory ran out, which it does only where none is reserved: each AllocatePages that succeeds
+-- reserves memory for one call of FreePages.
 abbrev pub FreesPages : Book → ℕ → ℕ → Result (Unit {0}) Status → Book → Type 0
 FreesPages b address pages (Ok done) new =
     IsValidRange address pages × IsAllocated b.memory address pages
-    × (new ≡ changed_book (freed_range b address pages) conventional Given b)
+    × (new ≡ freed_book (freed_range b address pages) b)
 FreesPages b address pages (Err InvalidParameter) new = (¬ IsValidRange address pages) × (new ≡ b)
 FreesPages b address pages (Err NotFound) new =
     IsValidRange address pages × (¬ IsAllocated b.memory address pages) × (new ≡ b)
 FreesPages b address pages (Err OutOfResources) new =
-    IsValidRange address pages × IsAllocated b.memory address pages × (new ≡ b)
+    IsValidRange address pages × IsAllocated b.memory address pages × (new ≡ b) × (b.frees ≡ 0)
 FreesPages b address pages (Err status) new = ⊥
 
 -- ---- the pages of the pool
@@ -239,11 +286,11 @@ TakesForPool Chosen b t pages result new =
 -- the book after the pool gave a range back: its pages are conventional; of no pages no type
 -- changes, and the key stays
 abbrev pub given_back : PageRange → Book → Book
-given_back range b = if range.pages == 0 then b else changed_book range conventional Given b
+given_back range b = if range.pages == 0 then b else ended_book range b
 
 -- what the pool is answered that gives pages back, and the book after it: OUT_OF_RESOURCES, which
--- leaves the book, means that memory ran out
+-- leaves the book, means that memory ran out and that none is reserved for the end of an extent
 abbrev pub GivesFromPool : Book → PageRange → Result (Unit {0}) Status → Book → Type 0
 GivesFromPool b range (Ok done) new = new ≡ given_back range b
-GivesFromPool b range (Err OutOfResources) new = new ≡ b
+GivesFromPool b range (Err OutOfResources) new = (new ≡ b) × (b.ends ≡ 0)
 GivesFromPool b range (Err status) new = ⊥

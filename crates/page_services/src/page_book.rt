@@ -1,11 +1,11 @@
 //! The book of a machine's pages.
-ghost use Rattle.std.specs.Prelude.{◌≡◌, false, ◌+◌, ◌*◌, ◌<◌, ◌≤◌, ◌^◌, IfOk, IfSome, MatchResult, Err, option_and_then};
+ghost use Rattle.std.specs.Prelude.{◌≡◌, ◌≢◌, false, ◌+◌, ◌-◌, ◌*◌, ◌<◌, ◌≤◌, ◌^◌, IfOk, IfSome, MatchResult, Err, option_and_then};
 ghost use Rattle.page_ranges.specs.declared.ranges.Owner.TheVariants.{Given, Pool};
 ghost use Rattle.page_ranges.specs.MemoryTypes.{conventional, is_bad_type, page_count, page_size};
 ghost use Rattle.page_ranges.specs.Memory.{page_at, IsPresent, IsOwnedBy, AllInRange};
 ghost use Rattle.page_ranges.specs.Granules.{IsGranule, granule_for};
 ghost use Rattle.placement_certificate.specs.Placement.{IsProperRequest};
-ghost use Rattle.page_services.specs.PageRules.{AllocatesPages, IsBestChoice, PlacesPages, FreesPages, HasWholeGranules, IsChosenOn, IsInGranules, TakesForPool, GivesFromPool, certifying, changed_book, fixed_address, freed_range, granule_of, if_counted, new_book, placement_request, pool_request, whole_pages, whole_request};
+ghost use Rattle.page_services.specs.PageRules.{AllocatesPages, IsBestChoice, PlacesPages, FreesPages, HasWholeGranules, IsChosenOn, IsInGranules, TakesForPool, GivesFromPool, RunsOut, certifying, changed_book, ended_book, fixed_address, freed_book, freed_range, granule_of, if_counted, new_book, placed_book, placement_request, pool_request, whole_pages, whole_request};
 
 use descriptor_table::RunTable;
 use page_ranges::{
@@ -99,18 +99,24 @@ pub struct PageBook<A: Allocator = Global> {
     key: u64,
     granule: u64,
     certifies: bool,
+    // For how many calls of FreePages, and for how many ends of extents, the table has memory reserved.
+    frees: usize,
+    ends: usize,
+    // How many pages AllocatePages placed that FreePages has not freed.
+    held: u64,
 }
 
 impl<A: Allocator> Model for PageBook<A> {
-    ghost use Rattle.page_services.specs.PageRules.{Book, IsInGranules};
+    ghost use Rattle.std.specs.Prelude.{◌+◌, ◌≤◌};
+    ghost use Rattle.page_services.specs.PageRules.{Book, IsInGranules, book_of};
 
     ghost Value = { Book };
 
-    ghost view = { λ b.
-        record { memory = b.table; key = b.key; granule = b.granule; certifies = b.certifies } };
+    ghost view = { λ b. book_of b.table b.key b.granule b.certifies b.frees b.ends b.held };
 
-    ghost invariant = { λ b. IsInGranules
-        (record { memory = b.table; key = b.key; granule = b.granule; certifies = b.certifies }) };
+    ghost invariant = { λ b.
+        IsInGranules (book_of b.table b.key b.granule b.certifies b.frees b.ends b.held)
+        × (b.frees + b.ends ≤ b.table.reserved) };
 }
 
 impl<A: Allocator + Copy> PageBook<A> {
@@ -119,14 +125,17 @@ impl<A: Allocator + Copy> PageBook<A> {
     /// type that fills granules, all pages of the granule were.
     pub fn new(table: RunTable<A>, granule: u64) -> PageBook<A>
         requires granule { IsGranule granule }
-        requires whole { HasWholeGranules granule table }
-        ensures { result ≡ new_book granule table }
+        requires whole { HasWholeGranules granule table.pages }
+        ensures { result ≡ new_book granule table.pages }
     {
         PageBook {
             table,
             key: 1,
             granule,
             certifies: true,
+            frees: 0,
+            ends: 0,
+            held: 0,
         }
     }
 
@@ -197,7 +206,7 @@ impl<A: Allocator + Copy> PageBook<A> {
         if !self.table.all_conventional(range) {
             return Err(Status::NotFound);
         }
-        self.change(range, mtype, Owner::Pages)?;
+        self.place_in(range, mtype, Owner::Pages)?;
         Ok(Placed {
             address: memory,
             certificate: None,
@@ -210,6 +219,7 @@ impl<A: Allocator + Copy> PageBook<A> {
         requires proper { IsProperRequest request }
         requires limit { request.limit ≤ page_count }
         requires granule { request.granule ≡ granule_for request.mtype self.old.granule }
+        requires taken { owner ≢ Given }
         ensures { PlacesPages IsBestChoice self.old request owner result self.new }
     {
         match self.best_place(request) {
@@ -222,6 +232,7 @@ impl<A: Allocator + Copy> PageBook<A> {
     fn place(&mut self, chosen: ChosenStart<A>, owner: Owner) -> Result<Placed<A>, Status>
         requires key { self.old.key < 2 ^ 62 }
         requires chosen { IsChosenOn self.old chosen }
+        requires taken { owner ≢ Given }
         ensures places { PlacesPages IsBestChoice self.old chosen.request owner result self.new }
         ensures at { IfOk result (λ p. p.address ≡ chosen.first * page_size) }
     {
@@ -234,7 +245,7 @@ impl<A: Allocator + Copy> PageBook<A> {
             first,
             pages: request.pages,
         };
-        self.change(range, request.mtype, owner)?;
+        self.place_in(range, request.mtype, owner)?;
         Ok(Placed {
             address: first * PAGE_SIZE,
             certificate,
@@ -272,8 +283,9 @@ impl<A: Allocator + Copy> PageBook<A> {
     /// granules.
     ///
     /// INVALID_PARAMETER: an unaligned address, no pages, or a range past the last page. NOT_FOUND:
-    /// a page that AllocatePages did not place. OUT_OF_RESOURCES: memory ran out for the table. On an
-    /// `Err` the book is as it was.
+    /// a page that AllocatePages did not place. OUT_OF_RESOURCES: memory ran out for the table, where none is
+    /// reserved; each AllocatePages that succeeds reserves it for one call. On an `Err` the book is as it
+    /// was.
     pub fn free(&mut self, memory: u64, pages: u64) -> Result<(), Status>
         requires { self.old.key < 2 ^ 62 }
         ensures { FreesPages self.old memory pages result self.new }
@@ -289,7 +301,7 @@ impl<A: Allocator + Copy> PageBook<A> {
             return Err(Status::NotFound);
         }
         let freed = self.freed_range(range);
-        self.change(freed, MemoryType::conventional(), Owner::Given)
+        self.free_in(freed)
     }
 
     // The range with the rest of the granules that its ends lie in.
@@ -369,7 +381,8 @@ impl<A: Allocator + Copy> PageBook<A> {
 
     /// Gives pages of the pool back, as those of an extent that ends: they are conventional again.
     ///
-    /// OUT_OF_RESOURCES: memory ran out for the table. The book is then as it was.
+    /// OUT_OF_RESOURCES: memory ran out for the table, and none is reserved for the end of an extent. The book
+    /// is then as it was.
     pub fn give_from_pool(&mut self, extent: PageRange) -> Result<(), Status>
         requires key { self.old.key < 2 ^ 62 }
         requires owned { AllInRange self.old.memory extent (IsOwnedBy Pool) }
@@ -378,23 +391,87 @@ impl<A: Allocator + Copy> PageBook<A> {
         if extent.pages == 0 {
             return Ok(());
         }
-        self.change(extent, MemoryType::conventional(), Owner::Given)
+        self.end_in(extent)
     }
 
-    // Gives pages, of which some are of another type, a type and an owner, so that granules stay whole.
-    fn change(&mut self, range: PageRange, mtype: MemoryType, owner: Owner) -> Result<(), Status>
+    // Places pages in a range for an owner, so that granules stay whole. Memory is reserved first, for that
+    // and to free them.
+    fn place_in(&mut self, range: PageRange, mtype: MemoryType, owner: Owner) -> Result<(), Status>
         requires key { self.old.key < 2 ^ 62 }
         requires present { AllInRange self.old.memory range IsPresent }
-        requires owner { mtype ≡ conventional → owner ≡ Given }
+        requires good { is_bad_type mtype ≡ false }
+        requires taken { owner ≢ Given }
         requires whole { IsInGranules self.old
             → IsInGranules (changed_book range mtype owner self.old) }
-        ensures { MatchResult result (λ _. self.new ≡ changed_book range mtype owner self.old)
+        ensures { MatchResult result (λ _. self.new ≡ placed_book range mtype owner self.old)
             (λ e. (e ≡ Status.OutOfResources) × (self.new ≡ self.old)) }
     {
-        let Ok(()) = self.table.retype(range, mtype, owner) else {
+        let kept = self.table.reserved() - self.frees - self.ends;
+        let Ok(()) = self.table.reserve(2_usize.saturating_sub(kept)) else {
             return Err(Status::OutOfResources);
         };
+        let _few = self.table.reserved();
+        self.table.change(range, mtype, owner);
         self.key += 1;
+        if owner == Owner::Pool {
+            self.ends += 1;
+            return Ok(());
+        }
+        self.frees += 1;
+        self.held = self.held.saturating_add(range.pages).min(PAGE_COUNT);
+        Ok(())
+    }
+
+    // Frees pages for FreePages, so that granules stay whole. Where no memory is reserved for that, it is
+    // reserved first.
+    fn free_in(&mut self, range: PageRange) -> Result<(), Status>
+        requires key { self.old.key < 2 ^ 62 }
+        requires present { AllInRange self.old.memory range IsPresent }
+        requires whole { IsInGranules self.old
+            → IsInGranules (changed_book range conventional Given self.old) }
+        ensures { MatchResult result (λ _. self.new ≡ freed_book range self.old)
+            (λ e. RunsOut self.old.frees self.old e self.new) }
+    {
+        if self.frees == 0 {
+            let Ok(()) = self.table.reserve(1) else {
+                return Err(Status::OutOfResources);
+            };
+            self.table
+                .change(range, MemoryType::conventional(), Owner::Given);
+            self.key += 1;
+            self.held = self.held.saturating_sub(range.pages);
+            return Ok(());
+        }
+        self.table
+            .change(range, MemoryType::conventional(), Owner::Given);
+        self.key += 1;
+        self.held = self.held.saturating_sub(range.pages);
+        self.frees = (self.frees - 1).min(self.held as usize);
+        Ok(())
+    }
+
+    // The same for an extent that ends.
+    fn end_in(&mut self, range: PageRange) -> Result<(), Status>
+        requires key { self.old.key < 2 ^ 62 }
+        requires present { AllInRange self.old.memory range IsPresent }
+        requires whole { IsInGranules self.old
+            → IsInGranules (changed_book range conventional Given self.old) }
+        ensures { MatchResult result (λ _. self.new ≡ ended_book range self.old)
+            (λ e. RunsOut self.old.ends self.old e self.new) }
+    {
+        if self.ends == 0 {
+            let Ok(()) = self.table.reserve(1) else {
+                return Err(Status::OutOfResources);
+            };
+            self.table
+                .change(range, MemoryType::conventional(), Owner::Given);
+            self.key += 1;
+            return Ok(());
+        }
+        self.table
+            .change(range, MemoryType::conventional(), Owner::Given);
+        self.key += 1;
+        self.ends -= 1;
         Ok(())
     }
 
@@ -415,7 +492,7 @@ impl<A: Allocator + Copy> PageBook<A> {
 
     /// The memory.
     pub fn table(&self) -> &RunTable<A>
-        ensures { result.now ≡ self.now.memory }
+        ensures { result.now.pages ≡ self.now.memory }
     {
         &self.table
     }

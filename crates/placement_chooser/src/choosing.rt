@@ -16,9 +16,9 @@ pub fn choose<A: Allocator + Copy, B: Allocator + Copy>(
 ) -> Result<Option<Certificate<A>>, AllocError>
     requires { IsProperRequest request.now }
     ensures certificate { IfOk result
-        (λ o. IfSome o (λ c. IsTrueCertificate table.now request.now c)) }
+        (λ o. IfSome o (λ c. IsTrueCertificate table.now.pages request.now c)) }
     ensures none { IfOk result
-        (λ o. o ≡ None → (p : ℕ) → ¬ IsPermittedStart table.now request.now p) }
+        (λ o. o ≡ None → (p : ℕ) → ¬ IsPermittedStart table.now.pages request.now p) }
 {
     let entries = table.descriptors();
     // Room for a bound of each entry.

@@ -11,8 +11,8 @@ use std::alloc::Allocator;
 /// It takes no memory.
 pub fn best_start<B: Allocator + Copy>(table: &RunTable<B>, request: &Request) -> Option<u64>
     requires { IsProperRequest request.now }
-    ensures best { IfSome result (IsCertifiedStart table.now request.now) }
-    ensures none { result ≡ None → (p : ℕ) → ¬ IsPermittedStart table.now request.now p }
+    ensures best { IfSome result (IsCertifiedStart table.now.pages request.now) }
+    ensures none { result ≡ None → (p : ℕ) → ¬ IsPermittedStart table.now.pages request.now p }
 {
     let count = table.descriptors() as u64;
     let mut best = None;

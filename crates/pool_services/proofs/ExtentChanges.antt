@@ -1,11 +1,10 @@
 -- What the calls do to one extent of the pool.
-use Rattle.std.proofs.Common.{◌≡◌, ℕ, zero, suc, ◌+◌, ◌<◌, ◌≤◌, ◌==◌, nat_le, slice_index_or, Result, Ok, Err, eq-eqb, ne_eqb, add-one, Bool, true, false, is_some, inl, inr, List, [], ◌∷◌, ◌++◌, length, take, drop, set, Option, Some, None, refl, sym, ap, ◌∙◌, arith, subst}
+use Rattle.std.proofs.Common.{◌≡◌, ℕ, zero, suc, ◌+◌, ◌-◌, ◌<◌, ◌≤◌, ◌==◌, nat_le, slice_index_or, Result, Ok, Err, eq-eqb, ne_eqb, add-one, Bool, true, false, is_some, inl, inr, List, [], ◌∷◌, ◌++◌, length, take, drop, set, Option, Some, None, refl, sym, ap, ◌∙◌, arith, subst}
 use Rattle.std.specs.List.{AllByRecursion, insert}
 use Rattle.std.specs.Bool.{IsTrue}
 use Rattle.page_ranges.specs.declared.ranges.PageRange.{PageRange}
 use Rattle.page_ranges.specs.declared.statuses.Status.{Status}
-use Rattle.page_ranges.specs.declared.statuses.Status.TheVariants.{OutOfResources}
-use Rattle.page_services.specs.PageRules.{Book, changed_book, given_back}
+use Rattle.page_services.specs.PageRules.{Book, changed_book, ended_book, given_back}
 use Rattle.pool_services.specs.PoolRules.{FreesPool, IsInBlock, OwnsExtents, extent_type, given_if, pool_type}
 use Rattle.page_ranges.specs.Memory.{Page, page_at, retyped, AllInRange, IsOwnedBy}
 use Rattle.page_ranges.specs.MemoryTypes.{conventional}
@@ -234,11 +233,6 @@ freed-ended b es address i c x (Ok done) new_b new (e, h, k, p, a) s l (y, g, nb
       nb ∙ ap (λ (z : Extent). given_back (range_of z) b) (same-at es i y e g h) ∙ sym (ap (λ (o : Option PageRange). given_if o b) range),
       n ∙ ap (λ (j : ℕ). take i es ++ drop j es) (add-one i) ∙ gone-is (λ (z : Extent). left_of z (without_block c z.blocks)) es i e a h (ap (λ (bs : List Block). left_of e bs) none),
     )
-freed-ended b es address i c x (Err OutOfResources) new_b new (e, h, k, p, a) s l n =
-    let xe : x ≡ e = same-at es i x e (h.0, s) h in
-    let le : length e.blocks ≡ 1 = subst (λ (z : Extent). length z.blocks ≡ 1) xe l in
-    let none : without_block c e.blocks ≡ [] = none-left (without_block c e.blocks) (omega (arith, le, count-without c e.blocks k)) in
-    (record { first = e.first; cell = c }, range_of e, p, ended-at c es i e a h ∙ ap (λ (bs : List Block). range_if_ended e bs) none, n.0, n.1)
 freed-ended b es address i c x (Err status) new_b new f s l n = absurd n
 
 pub owns-new-block : (m : List Page) (t size address : ℕ) (es new : List Extent) → OwnsExtents m es → IsTakenLive t size es (Some address) new → OwnsExtents m new
@@ -270,7 +264,7 @@ pub gone-owns : (b new_b : Book) (es : List Extent) (i : ℕ) (e : Extent) (new 
 gone-owns b new_b es i e new a owns h gb n =
     let x = is-extent es i e a h in
     let z : (e.pages == 0) ≡ false = ne_eqb e.pages 0 (λ s. omega (arith, s, x.some)) in
-    let g : new_b ≡ changed_book (range_of e) conventional Given b = rw z at gb in
+    let g : new_b ≡ ended_book (range_of e) b = rw z at gb in
     let m : new_b.memory ≡ retyped (range_of e) conventional Given b.memory = ap (λ (y : Book). y.memory) g in
     let l : new ≡ take i es ++ drop (suc i) es = n ∙ ap (λ (j : ℕ). take i es ++ drop j es) (add-one i) in
     λ k. ap (λ (y : List Page). pool_type (page_at y k)) m ∙ owns-less b.memory es i e a owns h k ∙ ap (λ (ys : List Extent). extent_type k ys) (sym l)

@@ -8,6 +8,7 @@ pub mod NewExtents
 pub mod PoolBytes
 pub mod BlockBytes
 pub mod KeptPools
+pub mod KeptEnds
 pub mod FilledBlocks
 pub mod PoolGranules
 pub mod ListedBlocks

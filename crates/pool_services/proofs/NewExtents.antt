@@ -13,7 +13,7 @@ use Rattle.page_ranges.proofs.WholeGranules.{granule_for_granule, if_64_bits_non
 use Rattle.placement_certificate.specs.declared.certificates.Request.{Request}
 use Rattle.placement_certificate.specs.Certificates.{CertificateValue}
 use Rattle.page_services.specs.declared.page_book.Placed.{Placed}
-use Rattle.page_services.specs.PageRules.{Book, Choice, IsBestChoice, IsChosenPlace, PlacesPages, TakesForPool, changed_book, pool_request, range_from}
+use Rattle.page_services.specs.PageRules.{Book, Choice, IsBestChoice, IsChosenPlace, PlacesPages, TakesForPool, placed_book, pool_request, range_from}
 use Rattle.page_services.proofs.Choices.{Permits, best_is_permitted}
 use Rattle.pool_services.specs.Extents.{Extent, AreExtents, IsExtent, address_of, extent_pages, extent_with_block, first_fit, max_size, new_extent, pages_for, range_of, with_extent}
 use Rattle.pool_services.specs.PoolRules.{IsPut, OwnsExtents}
@@ -110,19 +110,19 @@ is-new-extents b es had new e t size pages placed g s p a owns proper h k n w =
     subst AreExtents (sym q) (are-more b.memory (extent_at b t size placed) es x.0 a owns proper x.1)
 
 -- the book once the pages of a new extent are taken
-taken-book : {A : Type 0} (b new_b : Book) (t size pages : ℕ) (placed : Placed A) → pages ≡ pages_for size → new_b ≡ changed_book (range_from placed.address (pool_request b.granule t pages).pages) t Pool b →
-    new_b ≡ changed_book (range_of (extent_at b t size placed)) t Pool b
-taken-book b new_b t size pages placed p f = f ∙ ap (λ (z : ℕ). changed_book (range_from placed.address (pool_request b.granule t z).pages) t Pool b) p
+taken-book : {A : Type 0} (b new_b : Book) (t size pages : ℕ) (placed : Placed A) → pages ≡ pages_for size → new_b ≡ placed_book (range_from placed.address (pool_request b.granule t pages).pages) t Pool b →
+    new_b ≡ placed_book (range_of (extent_at b t size placed)) t Pool b
+taken-book b new_b t size pages placed p f = f ∙ ap (λ (z : ℕ). placed_book (range_from placed.address (pool_request b.granule t z).pages) t Pool b) p
 
 -- the pages of the pool are those of the extents, with the new one
 pub owns-new : {A : Type 0} (b new_b : Book) (es had new : List Extent) (e : Extent) (t size pages : ℕ) (placed : Placed A) → IsGranule b.granule → size ≤ max_size → pages ≡ pages_for size → OwnsExtents b.memory es → IsProperMemory b.memory →
-    IsChosenPlace IsBestChoice b (pool_request b.granule t pages) placed → new_b ≡ changed_book (range_from placed.address (pool_request b.granule t pages).pages) t Pool b → had ≡ es → e ≡ extent_at b t size placed → new ≡ with_extent e had →
+    IsChosenPlace IsBestChoice b (pool_request b.granule t pages) placed → new_b ≡ placed_book (range_from placed.address (pool_request b.granule t pages).pages) t Pool b → had ≡ es → e ≡ extent_at b t size placed → new ≡ with_extent e had →
     OwnsExtents new_b.memory new
 owns-new b new_b es had new e t size pages placed g s p owns proper h f k n w =
     let c = started b t size pages placed p h in
     let x = is-new-extent IsBestChoice best_is_permitted b t size (placed.address / page_size) placed.certificate g s c.0 in
     let q : new ≡ with_extent (extent_at b t size placed) es = w ∙ ap (λ (y : Extent). with_extent y had) n ∙ ap (λ (ys : List Extent). with_extent (extent_at b t size placed) ys) k in
-    let r : new_b ≡ changed_book (range_of (extent_at b t size placed)) t Pool b = taken-book b new_b t size pages placed p f in
+    let r : new_b ≡ placed_book (range_of (extent_at b t size placed)) t Pool b = taken-book b new_b t size pages placed p f in
     subst (λ (z : Book). OwnsExtents z.memory new) (sym r) (subst (λ (ys : List Extent). OwnsExtents (retyped (range_of (extent_at b t size placed)) t Pool b.memory) ys) (sym q) (owns-more b.memory (extent_at b t size placed) es owns proper x.1))
 
 at-start : (address start : ℕ) → address ≡ start * page_size → address + 8 ≡ address_of start 0
@@ -130,7 +130,7 @@ at-start address start a = omega (arith, a)
 
 -- the block was put into a new extent
 pub is-put : {A : Type 0} (b new_b : Book) (es had new : List Extent) (e : Extent) (t size pages : ℕ) (placed : Placed A) → pages ≡ pages_for size → first_fit t size es ≡ None →
-    IsChosenPlace IsBestChoice b (pool_request b.granule t pages) placed → new_b ≡ changed_book (range_from placed.address (pool_request b.granule t pages).pages) t Pool b → had ≡ es → e ≡ extent_at b t size placed → new ≡ with_extent e had →
+    IsChosenPlace IsBestChoice b (pool_request b.granule t pages) placed → new_b ≡ placed_book (range_from placed.address (pool_request b.granule t pages).pages) t Pool b → had ≡ es → e ≡ extent_at b t size placed → new ≡ with_extent e had →
     IsPut IsBestChoice (first_fit t size es) b es t size (placed.address + 8, placed.certificate) new_b new
 is-put b new_b es had new e t size pages placed p none h f k n w =
     let c = started b t size pages placed p h in

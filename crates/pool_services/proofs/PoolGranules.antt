@@ -7,7 +7,7 @@ use Rattle.page_ranges.specs.declared.statuses.Status.TheVariants.{InvalidParame
 use Rattle.page_ranges.specs.Runs.{pages_of, IsValidMachine}
 use Rattle.page_services.specs.PageRules.{Book, Choice, HasWholeGranules, IsInGranules, pool_request}
 use Rattle.page_services.proofs.Choices.{Permits}
-use Rattle.page_services.proofs.Granules.{given_back_granules, given_granules, placed_granules}
+use Rattle.page_services.proofs.Granules.{given_back_granules, given_granules, placed_granules, reserved_granules}
 use Rattle.pool_services.specs.Extents.{Extent, Place, AreExtents, ended, pages_for}
 use Rattle.pool_services.specs.PoolRules.{Answer, AllocatesPool, FillsPool, FreesPool, IsPut, OwnsExtents, given_if}
 use Rattle.pool_services.proofs.KeptPools.{all-given, ended-owned}
@@ -19,7 +19,7 @@ put-granules : (Chosen : Choice) → Permits Chosen → (b new_b : Book) (es new
 put-granules Chosen permits b new_b es new t size answer (Some p) (d, c, g, n) is = subst IsInGranules (sym g) is
 put-granules Chosen permits b new_b es new t size answer None (start, c, d, g, n) is =
     let r = pool_request b.granule t (pages_for size) in
-    subst IsInGranules (sym g) (placed_granules b r start (permits b r start answer.1 c) is)
+    subst IsInGranules (sym g) (reserved_granules _ _ _ _ (placed_granules b r start (permits b r start answer.1 c) is))
 
 pub allocated-granules : (Chosen : Choice) → Permits Chosen → (b : Book) (es : List Extent) (t size : ℕ) (result : Result Answer Status) (new_b : Book) (new : List Extent) →
     AllocatesPool Chosen b es t size result new_b new → IsInGranules b → IsInGranules new_b
@@ -41,5 +41,4 @@ pub freed-block-granules : (b : Book) (es : List Extent) (address : ℕ) (result
     FreesPool b es address result new_b new → IsInGranules b → IsInGranules new_b
 freed-block-granules b es address (Ok done) new_b new a owns (p, s, g, n) is = subst IsInGranules (sym g) (ended-granules b es p (ended p es) a owns refl is)
 freed-block-granules b es address (Err InvalidParameter) new_b new a owns h is = subst IsInGranules (sym h.1) is
-freed-block-granules b es address (Err OutOfResources) new_b new a owns (p, range, s, t, g, n) is = subst IsInGranules (sym g) is
 freed-block-granules b es address (Err status) new_b new a owns h is = absurd h

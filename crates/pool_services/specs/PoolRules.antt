@@ -9,7 +9,7 @@ use Rattle.page_ranges.specs.Memory.{Page, page_at, is_in_range}
 use Rattle.page_ranges.specs.Runs.{is_same_owner}
 use Rattle.placement_certificate.specs.declared.certificates.Request.{Request}
 use Rattle.placement_certificate.specs.Certificates.{CertificateValue}
-use Rattle.page_services.specs.PageRules.{Book, Choice, changed_book, given_back, pool_request}
+use Rattle.page_services.specs.PageRules.{Book, Choice, given_back, placed_book, pool_request}
 use Rattle.pool_services.specs.Extents.{Extent, Place, address_of, ended, extent_pages, first_fit, max_size, new_extent, pages_for, place_of, range_of, tail_at, with_extent, with_new_block, without, written}
 
 -- ---- the pages of the pool
@@ -28,6 +28,10 @@ extent_type k (e ∷ es) = cond (is_in_range (range_of e) k) (Some e.mtype) (ext
 -- extent.
 abbrev pub OwnsExtents : List Page → List Extent → Type 0
 OwnsExtents m es = (k : ℕ) → pool_type (page_at m k) ≡ extent_type k es
+
+-- memory is reserved in a book for the end of each extent
+abbrev pub HasReservedEnds : Book → List Extent → Type 0
+HasReservedEnds b es = length es ≤ b.ends
 
 -- ---- AllocatePool
 
@@ -55,7 +59,7 @@ IsPutInNew Chosen b es t size answer new_b new_es =
     (start : ℕ) × Chosen b (pool_request b.granule t (pages_for size)) start answer.1
     × (answer.0 ≡ address_of start 0)
     × (new_b
-    ≡ changed_book (record { first = start; pages = extent_pages b.granule t size }) t Pool b)
+    ≡ placed_book (record { first = start; pages = extent_pages b.granule t size }) t Pool b)
     × (new_es ≡ with_extent (new_extent b.granule start t size) es)
 
 abbrev pub IsPut : Choice → Option Place → Book → List Extent → ℕ → ℕ → Answer → Book → List Extent
@@ -96,8 +100,8 @@ abbrev pub given_if : Option PageRange → Book → Book
 given_if None b = b
 given_if (Some range) b = given_back range b
 
--- What FreePool answers, and the book and the extents after it. A refusal leaves both.
--- OUT_OF_RESOURCES means that memory ran out as an extent was to end.
+-- What FreePool answers, and the book and the extents after it. A refusal leaves both. Memory does
+-- not run out, as it is reserved for the end of each extent.
 abbrev pub FreesPool : Book → List Extent → ℕ → Result (Unit {0}) Status → Book → List Extent
     → Type 0
 FreesPool b es address (Ok done) new_b new_es =
@@ -105,9 +109,6 @@ FreesPool b es address (Ok done) new_b new_es =
     × (new_es ≡ without p es)
 FreesPool b es address (Err InvalidParameter) new_b new_es =
     (place_of address es ≡ None) × (new_b ≡ b) × (new_es ≡ es)
-FreesPool b es address (Err OutOfResources) new_b new_es =
-    (p : Place) × (range : PageRange) × (place_of address es ≡ Some p) × (ended p es ≡ Some range)
-    × (new_b ≡ b) × (new_es ≡ es)
 FreesPool b es address (Err status) new_b new_es = ⊥
 
 -- ---- the pool's bytes

@@ -3,7 +3,6 @@ use Rattle.std.specs.Prelude.{◌≡◌, ℕ, suc, ◌+◌, ◌==◌, ◌&&◌, 
 use Rattle.std.specs.List.{AllByRecursion}
 use Rattle.raw_pool.specs.Blocks.{Block, block_at, longest_run}
 use Rattle.page_ranges.specs.declared.statuses.Status.{Status}
-use Rattle.page_ranges.specs.declared.statuses.Status.TheVariants.{OutOfResources}
 use Rattle.page_services.specs.PageRules.{Book, given_back}
 use Rattle.pool_services.specs.declared.rooms.Room.{Room}
 use Rattle.pool_services.specs.PoolRules.{IsInBlock, extent_type}
@@ -106,12 +105,11 @@ IsGivenIn i cell es new =
     × (ended (record { first = e.first; cell = cell }) es ≡ None)
     × ((k : ℕ) → extent_type k new ≡ extent_type k es)
 
--- an extent ended, or memory ran out and all is as it was
+-- an extent ended, which no lack of memory prevents
 abbrev pub IsEnded : ℕ → Book → List Extent → Result (Unit {0}) Status → Book → List Extent → Type 0
 IsEnded i b es (Ok done) new_b new =
     (e : Extent) × IsAt es i e × (new_b ≡ given_back (range_of e) b)
     × (new ≡ take i es ++ drop (i + 1) es)
-IsEnded i b es (Err OutOfResources) new_b new = (new_b ≡ b) × (new ≡ es)
 IsEnded i b es (Err status) new_b new = ⊥
 
 -- the block that has an address: the index of its extent and its cell, among extents in order

@@ -6,7 +6,7 @@ ghost use Rattle.page_services.specs.PageRules.{IsBestChoice, if_counted};
 ghost use Rattle.pool_services.specs.Extents.{first_fit, max_size, tail_at};
 ghost use Rattle.pool_services.specs.KeptRooms.{IsRegionFor};
 ghost use Rattle.pool_services.specs.Listed.{blocks_of, is_from};
-ghost use Rattle.pool_services.specs.PoolRules.{AllocatesPool, FillsPool, FreesPool, OwnsExtents, ReadsPool, WritesPool, extent_request};
+ghost use Rattle.pool_services.specs.PoolRules.{AllocatesPool, FillsPool, FreesPool, HasReservedEnds, OwnsExtents, ReadsPool, WritesPool, extent_request};
 ghost use Rattle.pool_services.specs.Searches.{IsEnded, IsFound, IsGivable, IsGivenIn, IsHolder, IsTakenIn, IsTakenLive, IsWrittenIn};
 
 use crate::extents::{HEADER_SIZE, PoolExtent, cells_for, extent_pages, pages_for};
@@ -38,7 +38,7 @@ pub fn extent_request(granule: u64, mtype: MemoryType, size: u64) -> Option<Requ
 /// The pool of a machine: its extents, in the order of their addresses, and the blocks in them.
 ///
 /// Calls that take the machine's book require that the pages of the pool in it are those of these
-/// extents, and keep it so.
+/// extents, and that it has memory reserved for the end of each, and keep it so.
 #[derive(Drop)]
 pub struct Pools<A: Allocator = Global> {
     alloc: A,
@@ -102,9 +102,11 @@ impl<A: Allocator + Copy> Pools<A> {
     ) -> Result<(u64, Option<Certificate<A>>), Status>
         requires key { book.old.key < 2 ^ 62 }
         requires owns { OwnsExtents book.old.memory self.old }
+        requires reserved { HasReservedEnds book.old self.old }
         ensures allocates { AllocatesPool IsBestChoice book.old self.old mtype size result book.new
             self.new }
         ensures owns { OwnsExtents book.new.memory self.new }
+        ensures reserved { HasReservedEnds book.new self.new }
     {
         let mtype = type_for_alloc(mtype)?;
         if size > MAX_SIZE {
@@ -129,9 +131,11 @@ impl<A: Allocator + Copy> Pools<A> {
     ) -> Result<(u64, Option<Certificate<A>>), Status>
         requires key { book.old.key < 2 ^ 62 }
         requires owns { OwnsExtents book.old.memory self.old }
+        requires reserved { HasReservedEnds book.old self.old }
         ensures fills { FillsPool IsBestChoice book.old self.old mtype bytes.now result book.new
             self.new }
         ensures owns { OwnsExtents book.new.memory self.new }
+        ensures reserved { HasReservedEnds book.new self.new }
     {
         // That the extents are apart is known where a field is named.
         let _ = &self.extents;
@@ -185,12 +189,14 @@ impl<A: Allocator + Copy> Pools<A> {
     ) -> Result<(u64, Option<Certificate<A>>), Status>
         requires key { book.old.key < 2 ^ 62 }
         requires owns { OwnsExtents book.old.memory self.old }
+        requires reserved { HasReservedEnds book.old self.old }
         requires good { is_bad_type mtype ≡ false }
         requires size { size ≤ max_size }
         requires none { first_fit mtype size self.old ≡ None }
         ensures allocates { AllocatesPool IsBestChoice book.old self.old mtype size result book.new
             self.new }
         ensures owns { OwnsExtents book.new.memory self.new }
+        ensures reserved { HasReservedEnds book.new self.new }
     {
         let pages = extent_pages(book.granule(), mtype, size);
         let Some(chosen) = book.choose_for_pool(mtype, pages_for(size) as u64) else {
@@ -230,9 +236,11 @@ impl<A: Allocator + Copy> Pools<A> {
     fn end(&mut self, book: &mut PageBook<A>, at: usize) -> Result<(), Status>
         requires key { book.old.key < 2 ^ 62 }
         requires owns { OwnsExtents book.old.memory self.old }
+        requires reserved { HasReservedEnds book.old self.old }
         requires index { at < length self.old }
         ensures ended { IsEnded at book.old self.old result book.new self.new }
         ensures owns { OwnsExtents book.new.memory self.new }
+        ensures reserved { HasReservedEnds book.new self.new }
     {
         book.give_from_pool(self.extents[at].range())?;
         self.extents.remove(at);
@@ -243,13 +251,15 @@ impl<A: Allocator + Copy> Pools<A> {
     /// FreePool: gives the block at an address back. An extent that has no other block ends, and its
     /// pages are conventional again.
     ///
-    /// INVALID_PARAMETER: no block has the address. OUT_OF_RESOURCES: memory ran out for the book, as an
-    /// extent was to end. On an `Err` all is as it was.
+    /// INVALID_PARAMETER: no block has the address. On an `Err` all is as it was. Memory does not run out: the
+    /// book has it reserved for the end of each extent.
     pub fn free(&mut self, book: &mut PageBook<A>, address: u64) -> Result<(), Status>
         requires key { book.old.key < 2 ^ 62 }
         requires owns { OwnsExtents book.old.memory self.old }
+        requires reserved { HasReservedEnds book.old self.old }
         ensures frees { FreesPool book.old self.old address result book.new self.new }
         ensures owns { OwnsExtents book.new.memory self.new }
+        ensures reserved { HasReservedEnds book.new self.new }
     {
         let Some((at, cell)) = self.find(address) else {
             return Err(Status::InvalidParameter);

@@ -4,6 +4,7 @@ mod heaps;
 mod last_calls;
 mod left_states;
 mod refused_inputs;
+mod reserved_frees;
 
 use std::io::{Error, ErrorKind, Read, Result, Write};
 

@@ -2,5 +2,5 @@
 mod checks;
 mod many_changes;
 mod map_bytes;
-mod refused_changes;
+mod reserved_changes;
 mod table_changes;

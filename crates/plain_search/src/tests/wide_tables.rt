@@ -92,7 +92,7 @@ pub fn start_by_pages(list: &[Page], request: &Request) -> Option<u64> {
 
 // Whether all pages of a range of few pages are present.
 fn are_present(table: &RunTable, range: PageRange) -> bool
-    ensures { IsTrue result → AllInRange table.now range IsPresent }
+    ensures { IsTrue result → AllInRange table.now.pages range IsPresent }
 {
     if range.first > 100_000 || range.pages > 1_000 {
         return false;

@@ -7,7 +7,7 @@ ghost use Rattle.page_ranges.specs.Runs.{pages_of, AreRuns};
 
 use descriptor_table::RunTable;
 use page_ranges::{Descriptor, MemoryType, Owner, PageCursor, PageRange, Run};
-use std::alloc::{AllocError, Allocator};
+use std::alloc::Allocator;
 use std::process::Abort;
 
 /// Page numbers that are asked about are below this.
@@ -142,14 +142,14 @@ fn entry_of(run: &Run) -> Descriptor {
 }
 
 fn is_present<A: Allocator + Copy>(table: &RunTable<A>, page: u64) -> bool
-    ensures { IsTrue result ↔ IsPresent (page_at table.now page) }
+    ensures { IsTrue result ↔ IsPresent (page_at table.now.pages page) }
 {
     table.run_at(page).is_some()
 }
 
 // Whether all pages of a range of few pages are present.
 pub fn are_present<A: Allocator + Copy>(table: &RunTable<A>, range: PageRange) -> bool
-    ensures { IsTrue result → AllInRange table.now range IsPresent }
+    ensures { IsTrue result → AllInRange table.now.pages range IsPresent }
 {
     if range.first > 100_000 || range.pages > 1_000 {
         return false;
@@ -452,7 +452,7 @@ fn changes_of_many_runs_are_those_of_the_pages(rt: HostRuntime) {
 
 // The table made anew of its runs: its leaves have 32 runs, but for the last ones.
 pub fn made_anew<A: Allocator + Copy>(rt: &impl Abort, alloc: A, table: &RunTable) -> RunTable<A>
-    ensures { result ≡ table.now }
+    ensures { result ≡ record { pages = table.now.pages; reserved = 0 } }
 {
     let mut runs = Vec::new(alloc);
     for index in 0..table.len() {
@@ -462,22 +462,7 @@ pub fn made_anew<A: Allocator + Copy>(rt: &impl Abort, alloc: A, table: &RunTabl
     RunTable::from_runs(alloc, runs.as_slice()).expect(rt, "memory")
 }
 
-// Gives a range of the table a type and the owner Pages, if all its pages are present.
-pub fn change_table<A: Allocator + Copy>(
-    table: &mut RunTable<A>,
-    range: PageRange,
-    number: u32,
-) -> Result<bool, AllocError>
-    requires { number ≢ conventional }
-{
-    let is_whole = are_present(table, range);
-    if is_whole {
-        table.retype(range, MemoryType::new(number), Owner::Pages)?;
-    }
-    Ok(is_whole)
-}
-
-// Does the same to the table and to the list.
+// Gives a range of the table and of the list a type and the owner Pages, if all its pages are present.
 fn change_both(
     rt: &impl Abort,
     table: &mut RunTable,
@@ -487,7 +472,10 @@ fn change_both(
 )
     requires { number ≢ conventional }
 {
-    if change_table(table, range, number).expect(rt, "memory") {
+    if are_present(table, range) {
+        table
+            .retype(range, MemoryType::new(number), Owner::Pages)
+            .expect(rt, "memory");
         change_list(list, range, number, Owner::Pages);
     }
 }

@@ -77,7 +77,7 @@ share_of_first-share-requires-clause-fits g c =
 
 pub cut_leaves-requires-clause-begun : goal.cut_leaves-requires-clause-begun
 cut_leaves-requires-clause-begun g c =
-    begin_length [] c.args.leaves.now.items c.args.begun.now c.requires.begun
+    begin_length [] c.args.leaves.now.items c.args.begun.now.items c.requires.begun
 
 pub cut_leaves-requires-clause-sizes : goal.cut_leaves-requires-clause-sizes
 cut_leaves-requires-clause-sizes g c =
@@ -178,7 +178,7 @@ recount-requires-clause-leaves g c =
     let new = c.replace_two.new.leaves.items in
     let f = new_first ls i k low high share parts in
     let l = new_last ls i k low high share parts in
-    let put = put_two ls c.cut_leaves.new.leaves.items new i k low high share parts (take (length parts - share) (drop share parts)) h b c.cut_leaves.ensures.leaves rest c.replace_two.ensures in
+    let put = put_two ls c.cut_leaves.new.leaves.items new i k low high share parts (take (length parts - share) (drop share parts)) h b c.cut_leaves.ensures.leaves rest c.replace_two.ensures.items in
     let runs = put_across ls (i, k) (low, high) parts in
     let same = both_runs ls i k low high share parts in
     rw c.as_slice.ensures.value (leaves_put ls (f ∷ l ∷ []) new i (k + 1) put c.requires.leaves ((first_is_leaf ls i k low high share parts c.requires.low of_share.bound of_share.first.0 of_share.first.1), ((last_is_leaf ls i k low high share parts of_share.bound (omega (arith, ap length was, of_share.second.0)) (omega (arith, ap length was, of_share.second.1))), tt)))
@@ -199,7 +199,7 @@ recount-requires-clause-runs g c =
     let new = c.replace_two.new.leaves.items in
     let f = new_first ls i k low high share parts in
     let l = new_last ls i k low high share parts in
-    let put = put_two ls c.cut_leaves.new.leaves.items new i k low high share parts (take (length parts - share) (drop share parts)) h b c.cut_leaves.ensures.leaves rest c.replace_two.ensures in
+    let put = put_two ls c.cut_leaves.new.leaves.items new i k low high share parts (take (length parts - share) (drop share parts)) h b c.cut_leaves.ensures.leaves rest c.replace_two.ensures.items in
     let runs = put_across ls (i, k) (low, high) parts in
     let same = both_runs ls i k low high share parts in
     rw c.as_slice.ensures.value (subst AreRuns (sym (new_runs ls (f ∷ l ∷ []) new i k runs put same)) c.requires.new)
@@ -220,7 +220,7 @@ recount-requires-clause-ends g c =
     let new = c.replace_two.new.leaves.items in
     let f = new_first ls i k low high share parts in
     let l = new_last ls i k low high share parts in
-    let put = put_two ls c.cut_leaves.new.leaves.items new i k low high share parts (take (length parts - share) (drop share parts)) h b c.cut_leaves.ensures.leaves rest c.replace_two.ensures in
+    let put = put_two ls c.cut_leaves.new.leaves.items new i k low high share parts (take (length parts - share) (drop share parts)) h b c.cut_leaves.ensures.leaves rest c.replace_two.ensures.items in
     let runs = put_across ls (i, k) (low, high) parts in
     let same = both_runs ls i k low high share parts in
     rw c.as_slice.ensures.value (subst (EndBy page_count) (sym (new_runs ls (f ∷ l ∷ []) new i k runs put same)) c.requires.ends)
@@ -241,7 +241,7 @@ recount-requires-clause-index g c =
     let new = c.replace_two.new.leaves.items in
     let f = new_first ls i k low high share parts in
     let l = new_last ls i k low high share parts in
-    let put = put_two ls c.cut_leaves.new.leaves.items new i k low high share parts (take (length parts - share) (drop share parts)) h b c.cut_leaves.ensures.leaves rest c.replace_two.ensures in
+    let put = put_two ls c.cut_leaves.new.leaves.items new i k low high share parts (take (length parts - share) (drop share parts)) h b c.cut_leaves.ensures.leaves rest c.replace_two.ensures.items in
     let runs = put_across ls (i, k) (low, high) parts in
     let same = both_runs ls i k low high share parts in
     omega (arith, h, b, ap length c.as_slice.ensures.value, two_length ls new i k f l h b put)
@@ -262,11 +262,11 @@ recount-requires-clause-begun_length g c =
     let new = c.replace_two.new.leaves.items in
     let f = new_first ls i k low high share parts in
     let l = new_last ls i k low high share parts in
-    let put = put_two ls c.cut_leaves.new.leaves.items new i k low high share parts (take (length parts - share) (drop share parts)) h b c.cut_leaves.ensures.leaves rest c.replace_two.ensures in
+    let put = put_two ls c.cut_leaves.new.leaves.items new i k low high share parts (take (length parts - share) (drop share parts)) h b c.cut_leaves.ensures.leaves rest c.replace_two.ensures.items in
     let runs = put_across ls (i, k) (low, high) parts in
     let same = both_runs ls i k low high share parts in
-    let many = begin_length [] ls c.args.begun.now c.requires.begun in
-    omega (arith, h, b, many, ap length c.as_slice.ensures.value, two_length ls new i k f l h b put, length_of_cut c.args.begun.now c.cut_leaves.new.begun (i + 1) k (omega (arith, h)) (omega (arith, b, many)) c.cut_leaves.ensures.begun)
+    let many = begin_length [] ls c.args.begun.now.items c.requires.begun in
+    omega (arith, h, b, many, ap length c.as_slice.ensures.value, two_length ls new i k f l h b put, length_of_cut c.args.begun.now.items c.cut_leaves.new.begun.items (i + 1) k (omega (arith, h)) (omega (arith, b, many)) c.cut_leaves.ensures.begun)
 
 pub recount-requires-clause-few : goal.recount-requires-clause-few
 recount-requires-clause-few g c =
@@ -278,7 +278,7 @@ recount-requires-clause-few g c =
     let parts = c.args.parts.now in
     let h = c.requires.order in
     let b = c.requires.bound in
-    omega (arith, ap total c.cut_leaves.ensures.begun, total_of_cut c.args.begun.now (i + 1) k (omega (arith, h)), few_begun ls c.args.begun.now c.requires.old.0 c.requires.old.1 c.requires.begun)
+    omega (arith, ap total c.cut_leaves.ensures.begun, total_of_cut c.args.begun.now.items (i + 1) k (omega (arith, h)), few_begun ls c.args.begun.now.items c.requires.old.0 c.requires.old.1 c.requires.begun)
 
 pub recount-requires-clause-begun : goal.recount-requires-clause-begun
 recount-requires-clause-begun g c =
@@ -296,10 +296,10 @@ recount-requires-clause-begun g c =
     let new = c.replace_two.new.leaves.items in
     let f = new_first ls i k low high share parts in
     let l = new_last ls i k low high share parts in
-    let put = put_two ls c.cut_leaves.new.leaves.items new i k low high share parts (take (length parts - share) (drop share parts)) h b c.cut_leaves.ensures.leaves rest c.replace_two.ensures in
+    let put = put_two ls c.cut_leaves.new.leaves.items new i k low high share parts (take (length parts - share) (drop share parts)) h b c.cut_leaves.ensures.leaves rest c.replace_two.ensures.items in
     let runs = put_across ls (i, k) (low, high) parts in
     let same = both_runs ls i k low high share parts in
-    rw c.as_slice.ensures.value (two_begun ls new i k f l h b put c.args.begun.now c.cut_leaves.new.begun runs same c.requires.begun c.cut_leaves.ensures.begun c.requires.new c.requires.grows)
+    rw c.as_slice.ensures.value (two_begun ls new i k f l h b put c.args.begun.now.items c.cut_leaves.new.begun.items runs same c.requires.begun c.cut_leaves.ensures.begun c.requires.new c.requires.grows)
 
 pub recount-requires-clause-sizes_length : goal.recount-requires-clause-sizes_length
 recount-requires-clause-sizes_length g c =
@@ -317,11 +317,11 @@ recount-requires-clause-sizes_length g c =
     let new = c.replace_two.new.leaves.items in
     let f = new_first ls i k low high share parts in
     let l = new_last ls i k low high share parts in
-    let put = put_two ls c.cut_leaves.new.leaves.items new i k low high share parts (take (length parts - share) (drop share parts)) h b c.cut_leaves.ensures.leaves rest c.replace_two.ensures in
+    let put = put_two ls c.cut_leaves.new.leaves.items new i k low high share parts (take (length parts - share) (drop share parts)) h b c.cut_leaves.ensures.leaves rest c.replace_two.ensures.items in
     let runs = put_across ls (i, k) (low, high) parts in
     let same = both_runs ls i k low high share parts in
     let many = ap length c.requires.sizes ∙ length-map ls length in
-    omega (arith, h, b, many, ap length c.as_slice.ensures.value, two_length ls new i k f l h b put, length_of_cut c.args.sizes.now c.cut_leaves.new.sizes (i + 1) k (omega (arith, h)) (omega (arith, b, many)) c.cut_leaves.ensures.sizes)
+    omega (arith, h, b, many, ap length c.as_slice.ensures.value, two_length ls new i k f l h b put, length_of_cut c.args.sizes.now.items c.cut_leaves.new.sizes.items (i + 1) k (omega (arith, h)) (omega (arith, b, many)) c.cut_leaves.ensures.sizes)
 
 pub recount-requires-clause-few_runs : goal.recount-requires-clause-few_runs
 recount-requires-clause-few_runs g c =
@@ -333,7 +333,7 @@ recount-requires-clause-few_runs g c =
     let parts = c.args.parts.now in
     let h = c.requires.order in
     let b = c.requires.bound in
-    omega (arith, ap total c.cut_leaves.ensures.sizes, total_of_cut c.args.sizes.now (i + 1) k (omega (arith, h)), ap total c.requires.sizes, few_sizes ls c.requires.old.0 c.requires.old.1)
+    omega (arith, ap total c.cut_leaves.ensures.sizes, total_of_cut c.args.sizes.now.items (i + 1) k (omega (arith, h)), ap total c.requires.sizes, few_sizes ls c.requires.old.0 c.requires.old.1)
 
 pub recount-requires-clause-sizes : goal.recount-requires-clause-sizes
 recount-requires-clause-sizes g c =
@@ -351,10 +351,10 @@ recount-requires-clause-sizes g c =
     let new = c.replace_two.new.leaves.items in
     let f = new_first ls i k low high share parts in
     let l = new_last ls i k low high share parts in
-    let put = put_two ls c.cut_leaves.new.leaves.items new i k low high share parts (take (length parts - share) (drop share parts)) h b c.cut_leaves.ensures.leaves rest c.replace_two.ensures in
+    let put = put_two ls c.cut_leaves.new.leaves.items new i k low high share parts (take (length parts - share) (drop share parts)) h b c.cut_leaves.ensures.leaves rest c.replace_two.ensures.items in
     let runs = put_across ls (i, k) (low, high) parts in
     let same = both_runs ls i k low high share parts in
-    rw c.as_slice.ensures.value (two_sizes ls new i k f l h b put c.args.sizes.now c.cut_leaves.new.sizes c.requires.sizes c.cut_leaves.ensures.sizes)
+    rw c.as_slice.ensures.value (two_sizes ls new i k f l h b put c.args.sizes.now.items c.cut_leaves.new.sizes.items c.requires.sizes c.cut_leaves.ensures.sizes)
 
 pub returns-clause-leaves : goal.returns-clause-leaves
 returns-clause-leaves g c =
@@ -373,7 +373,7 @@ returns-clause-leaves g c =
     let new = c.replace_two.new.leaves.items in
     let f = new_first ls i k low high share parts in
     let l = new_last ls i k low high share parts in
-    let put = put_two ls c.cut_leaves.new.leaves.items new i k low high share parts (take (length parts - share) (drop share parts)) h b c.cut_leaves.ensures.leaves rest c.replace_two.ensures in
+    let put = put_two ls c.cut_leaves.new.leaves.items new i k low high share parts (take (length parts - share) (drop share parts)) h b c.cut_leaves.ensures.leaves rest c.replace_two.ensures.items in
     let runs = put_across ls (i, k) (low, high) parts in
     let same = both_runs ls i k low high share parts in
     leaves_put ls (f ∷ l ∷ []) new i (k + 1) put c.requires.leaves ((first_is_leaf ls i k low high share parts c.requires.low of_share.bound of_share.first.0 of_share.first.1), ((last_is_leaf ls i k low high share parts of_share.bound (omega (arith, ap length was, of_share.second.0)) (omega (arith, ap length was, of_share.second.1))), tt))
@@ -394,7 +394,7 @@ returns-clause-runs g c =
     let new = c.replace_two.new.leaves.items in
     let f = new_first ls i k low high share parts in
     let l = new_last ls i k low high share parts in
-    let put = put_two ls c.cut_leaves.new.leaves.items new i k low high share parts (take (length parts - share) (drop share parts)) h b c.cut_leaves.ensures.leaves rest c.replace_two.ensures in
+    let put = put_two ls c.cut_leaves.new.leaves.items new i k low high share parts (take (length parts - share) (drop share parts)) h b c.cut_leaves.ensures.leaves rest c.replace_two.ensures.items in
     let runs = put_across ls (i, k) (low, high) parts in
     let same = both_runs ls i k low high share parts in
     new_runs ls (f ∷ l ∷ []) new i k runs put same
@@ -415,7 +415,7 @@ returns-clause-kept g c =
     let new = c.replace_two.new.leaves.items in
     let f = new_first ls i k low high share parts in
     let l = new_last ls i k low high share parts in
-    let put = put_two ls c.cut_leaves.new.leaves.items new i k low high share parts (take (length parts - share) (drop share parts)) h b c.cut_leaves.ensures.leaves rest c.replace_two.ensures in
+    let put = put_two ls c.cut_leaves.new.leaves.items new i k low high share parts (take (length parts - share) (drop share parts)) h b c.cut_leaves.ensures.leaves rest c.replace_two.ensures.items in
     let runs = put_across ls (i, k) (low, high) parts in
     let same = both_runs ls i k low high share parts in
     put_keeps ls (f ∷ l ∷ []) new i (k + 1) (omega (arith, h)) (omega (arith, b)) put
@@ -427,3 +427,39 @@ returns-clause-begun g c =
 pub returns-clause-sizes : goal.returns-clause-sizes
 returns-clause-sizes g c =
     rw c.as_slice.ensures.value at c.recount.ensures.sizes
+
+pub returns-clause-lost : goal.returns-clause-lost
+returns-clause-lost g c =
+    let ls = c.args.leaves.now.items in
+    let i = c.args.ends.0 in
+    let k = c.args.ends.1 in
+    let low = c.args.window.0 in
+    let high = c.args.window.1 in
+    let parts = c.args.parts.now in
+    let h = c.requires.order in
+    let b = c.requires.bound in
+    let share = c.share_of_first-share.result in
+    let rest = take_all (length parts - share) (drop share parts) (omega (arith, length-drop share parts)) in
+    let new = c.replace_two.new.leaves.items in
+    let f = new_first ls i k low high share parts in
+    let l = new_last ls i k low high share parts in
+    let put = put_two ls c.cut_leaves.new.leaves.items new i k low high share parts (take (length parts - share) (drop share parts)) h b c.cut_leaves.ensures.leaves rest c.replace_two.ensures.items in
+    omega (arith, two_length ls new i k f l h b put)
+
+pub returns-clause-few : goal.returns-clause-few
+returns-clause-few g c =
+    let ls = c.args.leaves.now.items in
+    let i = c.args.ends.0 in
+    let k = c.args.ends.1 in
+    let low = c.args.window.0 in
+    let high = c.args.window.1 in
+    let parts = c.args.parts.now in
+    let h = c.requires.order in
+    let b = c.requires.bound in
+    let share = c.share_of_first-share.result in
+    let rest = take_all (length parts - share) (drop share parts) (omega (arith, length-drop share parts)) in
+    let new = c.replace_two.new.leaves.items in
+    let f = new_first ls i k low high share parts in
+    let l = new_last ls i k low high share parts in
+    let put = put_two ls c.cut_leaves.new.leaves.items new i k low high share parts (take (length parts - share) (drop share parts)) h b c.cut_leaves.ensures.leaves rest c.replace_two.ensures.items in
+    omega (arith, h, two_length ls new i k f l h b put)

@@ -16,7 +16,7 @@ use Rattle.descriptor_table.proofs.retyping.put_in_first.Goals as goal
 
 pub cut_leaves-requires-clause-begun : goal.cut_leaves-requires-clause-begun
 cut_leaves-requires-clause-begun g c =
-    begin_length [] c.args.leaves.now.items c.args.begun.now c.requires.begun
+    begin_length [] c.args.leaves.now.items c.args.begun.now.items c.requires.begun
 
 pub cut_leaves-requires-clause-sizes : goal.cut_leaves-requires-clause-sizes
 cut_leaves-requires-clause-sizes g c =
@@ -227,8 +227,8 @@ recount_one-requires-clause-begun_length g c =
     let made : c.replace.new.self ≡ f =
     c.replace.ensures ∙ ap (λ l. take low l ++ (runs ++ drop count l)) is ∙ ap (λ xs. take low rs ++ (runs ++ xs)) (drop_of_length-le rs (omega (arith, ap length was))) ∙ ap (λ xs. take low rs ++ xs) (append-nil runs) in
     let put = put_one ls cut new i k f (omega (arith, h)) b c.cut_leaves.ensures.leaves (ap (λ x. set cut i x) made) in
-    let many = begin_length [] ls c.args.begun.now c.requires.begun in
-    omega (arith, h, b, many, ap length c.as_slice.ensures.value, one_length ls new i k f (omega (arith, h)) b put, length_of_cut c.args.begun.now c.cut_leaves.new.begun (i + 1) (k + 1) (omega (arith, h)) (omega (arith, b, many)) c.cut_leaves.ensures.begun)
+    let many = begin_length [] ls c.args.begun.now.items c.requires.begun in
+    omega (arith, h, b, many, ap length c.as_slice.ensures.value, one_length ls new i k f (omega (arith, h)) b put, length_of_cut c.args.begun.now.items c.cut_leaves.new.begun.items (i + 1) (k + 1) (omega (arith, h)) (omega (arith, b, many)) c.cut_leaves.ensures.begun)
 
 pub recount_one-requires-clause-few : goal.recount_one-requires-clause-few
 recount_one-requires-clause-few g c =
@@ -239,7 +239,7 @@ recount_one-requires-clause-few g c =
     let runs = c.args.runs.now in
     let h = c.requires.order in
     let b = c.requires.bound in
-    omega (arith, ap total c.cut_leaves.ensures.begun, total_of_cut c.args.begun.now (i + 1) (k + 1) (omega (arith, h)), few_begun ls c.args.begun.now c.requires.old.0 c.requires.old.1 c.requires.begun)
+    omega (arith, ap total c.cut_leaves.ensures.begun, total_of_cut c.args.begun.now.items (i + 1) (k + 1) (omega (arith, h)), few_begun ls c.args.begun.now.items c.requires.old.0 c.requires.old.1 c.requires.begun)
 
 pub recount_one-requires-clause-begun : goal.recount_one-requires-clause-begun
 recount_one-requires-clause-begun g c =
@@ -262,7 +262,7 @@ recount_one-requires-clause-begun g c =
     let made : c.replace.new.self ≡ f =
     c.replace.ensures ∙ ap (λ l. take low l ++ (runs ++ drop count l)) is ∙ ap (λ xs. take low rs ++ (runs ++ xs)) (drop_of_length-le rs (omega (arith, ap length was))) ∙ ap (λ xs. take low rs ++ xs) (append-nil runs) in
     let put = put_one ls cut new i k f (omega (arith, h)) b c.cut_leaves.ensures.leaves (ap (λ x. set cut i x) made) in
-    rw c.as_slice.ensures.value (one_begun ls new i k f (omega (arith, h)) b put c.args.begun.now c.cut_leaves.new.begun c.requires.begun c.cut_leaves.ensures.begun c.requires.new c.requires.grows)
+    rw c.as_slice.ensures.value (one_begun ls new i k f (omega (arith, h)) b put c.args.begun.now.items c.cut_leaves.new.begun.items c.requires.begun c.cut_leaves.ensures.begun c.requires.new c.requires.grows)
 
 pub recount_one-requires-clause-sizes_length : goal.recount_one-requires-clause-sizes_length
 recount_one-requires-clause-sizes_length g c =
@@ -286,7 +286,7 @@ recount_one-requires-clause-sizes_length g c =
     c.replace.ensures ∙ ap (λ l. take low l ++ (runs ++ drop count l)) is ∙ ap (λ xs. take low rs ++ (runs ++ xs)) (drop_of_length-le rs (omega (arith, ap length was))) ∙ ap (λ xs. take low rs ++ xs) (append-nil runs) in
     let put = put_one ls cut new i k f (omega (arith, h)) b c.cut_leaves.ensures.leaves (ap (λ x. set cut i x) made) in
     let many = ap length c.requires.sizes ∙ length-map ls length in
-    omega (arith, h, b, many, ap length c.as_slice.ensures.value, one_length ls new i k f (omega (arith, h)) b put, length_of_cut c.args.sizes.now c.cut_leaves.new.sizes (i + 1) (k + 1) (omega (arith, h)) (omega (arith, b, many)) c.cut_leaves.ensures.sizes)
+    omega (arith, h, b, many, ap length c.as_slice.ensures.value, one_length ls new i k f (omega (arith, h)) b put, length_of_cut c.args.sizes.now.items c.cut_leaves.new.sizes.items (i + 1) (k + 1) (omega (arith, h)) (omega (arith, b, many)) c.cut_leaves.ensures.sizes)
 
 pub recount_one-requires-clause-few_runs : goal.recount_one-requires-clause-few_runs
 recount_one-requires-clause-few_runs g c =
@@ -297,7 +297,7 @@ recount_one-requires-clause-few_runs g c =
     let runs = c.args.runs.now in
     let h = c.requires.order in
     let b = c.requires.bound in
-    omega (arith, ap total c.cut_leaves.ensures.sizes, total_of_cut c.args.sizes.now (i + 1) (k + 1) (omega (arith, h)), ap total c.requires.sizes, few_sizes ls c.requires.old.0 c.requires.old.1)
+    omega (arith, ap total c.cut_leaves.ensures.sizes, total_of_cut c.args.sizes.now.items (i + 1) (k + 1) (omega (arith, h)), ap total c.requires.sizes, few_sizes ls c.requires.old.0 c.requires.old.1)
 
 pub recount_one-requires-clause-sizes : goal.recount_one-requires-clause-sizes
 recount_one-requires-clause-sizes g c =
@@ -320,7 +320,7 @@ recount_one-requires-clause-sizes g c =
     let made : c.replace.new.self ≡ f =
     c.replace.ensures ∙ ap (λ l. take low l ++ (runs ++ drop count l)) is ∙ ap (λ xs. take low rs ++ (runs ++ xs)) (drop_of_length-le rs (omega (arith, ap length was))) ∙ ap (λ xs. take low rs ++ xs) (append-nil runs) in
     let put = put_one ls cut new i k f (omega (arith, h)) b c.cut_leaves.ensures.leaves (ap (λ x. set cut i x) made) in
-    rw c.as_slice.ensures.value (one_sizes ls new i k f (omega (arith, h)) b put c.args.sizes.now c.cut_leaves.new.sizes c.requires.sizes c.cut_leaves.ensures.sizes)
+    rw c.as_slice.ensures.value (one_sizes ls new i k f (omega (arith, h)) b put c.args.sizes.now.items c.cut_leaves.new.sizes.items c.requires.sizes c.cut_leaves.ensures.sizes)
 
 pub returns-clause-leaves : goal.returns-clause-leaves
 returns-clause-leaves g c =
@@ -398,3 +398,49 @@ returns-clause-begun g c =
 pub returns-clause-sizes : goal.returns-clause-sizes
 returns-clause-sizes g c =
     rw c.as_slice.ensures.value at c.recount_one.ensures.sizes
+
+pub returns-clause-lost : goal.returns-clause-lost
+returns-clause-lost g c =
+    let ls = c.args.leaves.now.items in
+    let i = c.args.ends.0 in
+    let k = c.args.ends.1 in
+    let low = c.args.low in
+    let runs = c.args.runs.now in
+    let h = c.requires.order in
+    let b = c.requires.bound in
+    let cut = c.cut_leaves.new.leaves.items in
+    let at : i < length cut = omega (arith, h, b, length_of_cut ls cut (i + 1) (k + 1) (omega (arith, h)) (omega (arith, b)) c.cut_leaves.ensures.leaves) in
+    let first = first_in_cut ls cut i (k + 1) (omega (arith, h, b)) c.cut_leaves.ensures.leaves in
+    let was = c.runs-count.ensures ∙ c.index.ensures ∙ get_or_default cut i c.index.result.now [] at ∙ first in
+    let is = c.index_mut.ensures.value ∙ get_or_default cut i c.index_mut.result.now [] at ∙ first in
+    let new = set cut i c.replace.new.self in
+    let rs = leaf_at ls i in
+    let count = length c.runs-count.result.now in
+    let f = take low rs ++ runs in
+    let made : c.replace.new.self ≡ f =
+    c.replace.ensures ∙ ap (λ l. take low l ++ (runs ++ drop count l)) is ∙ ap (λ xs. take low rs ++ (runs ++ xs)) (drop_of_length-le rs (omega (arith, ap length was))) ∙ ap (λ xs. take low rs ++ xs) (append-nil runs) in
+    let put = put_one ls cut new i k f (omega (arith, h)) b c.cut_leaves.ensures.leaves (ap (λ x. set cut i x) made) in
+    omega (arith, one_length ls new i k f (omega (arith, h)) b put)
+
+pub returns-clause-few : goal.returns-clause-few
+returns-clause-few g c =
+    let ls = c.args.leaves.now.items in
+    let i = c.args.ends.0 in
+    let k = c.args.ends.1 in
+    let low = c.args.low in
+    let runs = c.args.runs.now in
+    let h = c.requires.order in
+    let b = c.requires.bound in
+    let cut = c.cut_leaves.new.leaves.items in
+    let at : i < length cut = omega (arith, h, b, length_of_cut ls cut (i + 1) (k + 1) (omega (arith, h)) (omega (arith, b)) c.cut_leaves.ensures.leaves) in
+    let first = first_in_cut ls cut i (k + 1) (omega (arith, h, b)) c.cut_leaves.ensures.leaves in
+    let was = c.runs-count.ensures ∙ c.index.ensures ∙ get_or_default cut i c.index.result.now [] at ∙ first in
+    let is = c.index_mut.ensures.value ∙ get_or_default cut i c.index_mut.result.now [] at ∙ first in
+    let new = set cut i c.replace.new.self in
+    let rs = leaf_at ls i in
+    let count = length c.runs-count.result.now in
+    let f = take low rs ++ runs in
+    let made : c.replace.new.self ≡ f =
+    c.replace.ensures ∙ ap (λ l. take low l ++ (runs ++ drop count l)) is ∙ ap (λ xs. take low rs ++ (runs ++ xs)) (drop_of_length-le rs (omega (arith, ap length was))) ∙ ap (λ xs. take low rs ++ xs) (append-nil runs) in
+    let put = put_one ls cut new i k f (omega (arith, h)) b c.cut_leaves.ensures.leaves (ap (λ x. set cut i x) made) in
+    omega (arith, h, one_length ls new i k f (omega (arith, h)) b put)

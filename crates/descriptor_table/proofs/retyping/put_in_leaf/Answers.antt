@@ -25,7 +25,7 @@ returns-clause-runs g c =
 
 pub change-requires-clause-bound : goal.change-requires-clause-bound
 change-requires-clause-bound g c =
-    omega (arith, begin_length [] c.args.leaves.now.items c.args.begun.now c.requires.begun)
+    omega (arith, begin_length [] c.args.leaves.now.items c.args.begun.now.items c.requires.begun)
 
 pub change-requires-clause-few : goal.change-requires-clause-few
 change-requires-clause-few g c =
@@ -40,7 +40,7 @@ change-requires-clause-enough g c =
     let high = c.args.window.1 in
     let parts = c.args.parts.now in
     let part = splice rs low high parts in
-    leaf_no_fewer ls c.args.begun.now i (i + 1) 0 c.args.entries.0 c.args.entries.1 part c.requires.begun (omega arith) (omega arith) c.requires.order c.requires.grows
+    leaf_no_fewer ls c.args.begun.now.items i (i + 1) 0 c.args.entries.0 c.args.entries.1 part c.requires.begun (omega arith) (omega arith) c.requires.order c.requires.grows
 
 pub change-requires-clause-within : goal.change-requires-clause-within
 change-requires-clause-within g c =
@@ -51,7 +51,7 @@ change-requires-clause-within g c =
     let high = c.args.window.1 in
     let parts = c.args.parts.now in
     let part = splice rs low high parts in
-    set_within ls c.args.begun.now i (i + 1) 0 c.args.entries.0 c.args.entries.1 part c.requires.begun (omega arith) (omega arith) c.requires.order c.requires.grows _ refl c.requires.ends
+    set_within ls c.args.begun.now.items i (i + 1) 0 c.args.entries.0 c.args.entries.1 part c.requires.begun (omega arith) (omega arith) c.requires.order c.requires.grows _ refl c.requires.ends
 
 pub change-requires-clause-fits : goal.change-requires-clause-fits
 change-requires-clause-fits g c =
@@ -65,7 +65,7 @@ change-requires-clause-fits g c =
     let was = c.runs.ensures ∙ c.index.ensures ∙ get_or_default ls i c.index.result.now [] (omega arith) in
     let count = length c.runs.result.now - (high - low) + length parts in
     let size : count ≡ length part = omega (arith, ap length was, c.requires.window.0, c.requires.window.1, replaced_length rs parts low high c.requires.window.0 c.requires.window.1) in
-    omega (arith, size, ap length was, c.requires.fits, leaf_small ls c.args.begun.now i (i + 1) 0 c.args.entries.0 c.args.entries.1 part c.requires.begun (omega arith) (omega arith) c.requires.order c.requires.grows)
+    omega (arith, size, ap length was, c.requires.fits, leaf_small ls c.args.begun.now.items i (i + 1) 0 c.args.entries.0 c.args.entries.1 part c.requires.begun (omega arith) (omega arith) c.requires.order c.requires.grows)
 
 pub returns-clause-begun : goal.returns-clause-begun
 returns-clause-begun g c =
@@ -78,7 +78,7 @@ returns-clause-begun g c =
     let part = splice rs low high parts in
     let leaf = c.index_mut.result.now in
     let now : c.replace.new.self ≡ part = c.replace.ensures ∙ ap (λ l. splice l low high parts) (c.index_mut.ensures.value ∙ get_or_default ls i leaf [] (omega arith)) in
-    rw (now, c.change.ensures) (begin_set ls c.args.begun.now i (i + 1) 0 c.args.entries.0 c.args.entries.1 part c.requires.begun (omega arith) (omega arith) c.requires.order c.requires.grows _ refl)
+    rw (now, c.change.ensures.items) (begin_set ls c.args.begun.now.items i (i + 1) 0 c.args.entries.0 c.args.entries.1 part c.requires.begun (omega arith) (omega arith) c.requires.order c.requires.grows _ refl)
 
 pub set-requires-clause-bound : goal.set-requires-clause-bound
 set-requires-clause-bound g c =
@@ -112,7 +112,7 @@ returns-clause-sizes g c =
     let was = c.runs.ensures ∙ c.index.ensures ∙ get_or_default ls i c.index.result.now [] (omega arith) in
     let count = length c.runs.result.now - (high - low) + length parts in
     let size : count ≡ length part = omega (arith, ap length was, c.requires.window.0, c.requires.window.1, replaced_length rs parts low high c.requires.window.0 c.requires.window.1) in
-    c.set.ensures ∙ ap (λ ns. set ns i count) c.requires.sizes ∙ size_set ls i (i + 1) count c.replace.new.self (omega (arith, size, ap length now)) (omega arith) (omega arith)
+    c.set.ensures.items ∙ ap (λ ns. set ns i count) c.requires.sizes ∙ size_set ls i (i + 1) count c.replace.new.self (omega (arith, size, ap length now)) (omega arith) (omega arith)
 
 pub returns-clause-kept : goal.returns-clause-kept
 returns-clause-kept g c = set_keeps c.args.leaves.now.items c.args.index c.replace.new.self

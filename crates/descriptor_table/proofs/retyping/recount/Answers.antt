@@ -53,10 +53,10 @@ set-requires-clause-within g c =
     let ls = c.args.leaves.now in
     let i = c.args.index in
     let is = c.runs-first.ensures ∙ c.index-leaves-index.is ∙ get_or_default ls i c.index-leaves-index.result [] (omega (arith, c.requires.index)) in
-    omega (arith, c.requires.few, total_set c.args.begun.now i c.count_begun.result, c.count_begun.ensures.bound, ap length is, (leaf_of ls i [] c.requires.leaves (omega (arith, c.requires.index))).1)
+    omega (arith, c.requires.few, total_set c.args.begun.now.items i c.count_begun.result, c.count_begun.ensures.bound, ap length is, (leaf_of ls i [] c.requires.leaves (omega (arith, c.requires.index))).1)
 
 pub set-requires-2-clause-bound : goal.set-requires-2-clause-bound
-set-requires-2-clause-bound g c = omega (arith, c.requires.index, c.requires.begun_length, ap length c.set.ensures, set_length c.args.begun.now c.args.index c.count_begun.result)
+set-requires-2-clause-bound g c = omega (arith, c.requires.index, c.requires.begun_length, ap length c.set.ensures.items, set_length c.args.begun.now.items c.args.index c.count_begun.result)
 
 pub set-requires-2-clause-within : goal.set-requires-2-clause-within
 set-requires-2-clause-within g c =
@@ -67,9 +67,9 @@ set-requires-2-clause-within g c =
     omega (
       arith,
       c.requires.few,
-      total_set c.args.begun.now i c.count_begun.result,
-      ap total c.set.ensures,
-      total_set c.set.new.self (i + 1) c.count_begun-2.result,
+      total_set c.args.begun.now.items i c.count_begun.result,
+      ap total c.set.ensures.items,
+      total_set c.set.new.self.items (i + 1) c.count_begun-2.result,
       c.count_begun.ensures.bound,
       c.count_begun-2.ensures.bound,
       ap length first,
@@ -86,10 +86,10 @@ set-requires-3-clause-within g c =
     let ls = c.args.leaves.now in
     let i = c.args.index in
     let first = c.runs-first.ensures ∙ c.index-leaves-index.is ∙ get_or_default ls i c.index-leaves-index.result [] (omega (arith, c.requires.index)) in
-    omega (arith, c.requires.few_runs, total_set c.args.sizes.now i (length c.runs-first.result.now), ap length first, (leaf_of ls i [] c.requires.leaves (omega (arith, c.requires.index))).1)
+    omega (arith, c.requires.few_runs, total_set c.args.sizes.now.items i (length c.runs-first.result.now), ap length first, (leaf_of ls i [] c.requires.leaves (omega (arith, c.requires.index))).1)
 
 pub set-requires-4-clause-bound : goal.set-requires-4-clause-bound
-set-requires-4-clause-bound g c = omega (arith, c.requires.index, c.requires.sizes_length, ap length c.set-3.ensures, set_length c.args.sizes.now c.args.index (length c.runs-first.result.now))
+set-requires-4-clause-bound g c = omega (arith, c.requires.index, c.requires.sizes_length, ap length c.set-3.ensures.items, set_length c.args.sizes.now.items c.args.index (length c.runs-first.result.now))
 
 pub set-requires-4-clause-within : goal.set-requires-4-clause-within
 set-requires-4-clause-within g c =
@@ -100,9 +100,9 @@ set-requires-4-clause-within g c =
     omega (
       arith,
       c.requires.few_runs,
-      total_set c.args.sizes.now i (length c.runs-first.result.now),
-      ap total c.set-3.ensures,
-      total_set c.set-3.new.self (i + 1) (length c.runs-second.result.now),
+      total_set c.args.sizes.now.items i (length c.runs-first.result.now),
+      ap total c.set-3.ensures.items,
+      total_set c.set-3.new.self.items (i + 1) (length c.runs-second.result.now),
       ap length first,
       ap length second,
       (leaf_of ls i [] c.requires.leaves (omega (arith, c.requires.index))).1,
@@ -120,7 +120,7 @@ returns-clause-begun g c =
     let second = c.runs-second.ensures ∙ c.index-leaves-index-2.is ∙ get_or_default ls (i + 1) c.index-leaves-index-2.result [] c.requires.index in
     let one = subst (λ x. entry_count (before ++ x) ≡ entry_count before + n) first c.count_begun.ensures.count in
     let two = subst (λ y. entry_count (leaf_at ls i ++ y) ≡ entry_count (leaf_at ls i) + m) second (subst (λ x. entry_count (x ++ c.runs-second.result.now) ≡ entry_count x + m) first c.count_begun-2.ensures.count) in
-    let numbers = c.set-2.ensures ∙ ap (λ ns. set ns (i + 1) m) c.set.ensures in
+    let numbers = c.set-2.ensures.items ∙ ap (λ ns. set ns (i + 1) m) c.set.ensures.items in
     rw numbers (c.requires.begun n m (begin_two ls i n m before c.requires.index c.requires.runs (leaf_of ls i [] c.requires.leaves (omega (arith, c.requires.index))).0 c.runs_before.ensures one two))
 
 pub returns-clause-sizes : goal.returns-clause-sizes
@@ -129,4 +129,4 @@ returns-clause-sizes g c =
     let i = c.args.index in
     let first = c.runs-first.ensures ∙ c.index-leaves-index.is ∙ get_or_default ls i c.index-leaves-index.result [] (omega (arith, c.requires.index)) in
     let second = c.runs-second.ensures ∙ c.index-leaves-index-2.is ∙ get_or_default ls (i + 1) c.index-leaves-index-2.result [] c.requires.index in
-    c.set-4.ensures ∙ ap (λ ns. set ns (i + 1) (length c.runs-second.result.now)) c.set-3.ensures ∙ ap₂ (λ x y. set (set c.args.sizes.now i (length x)) (i + 1) (length y)) first second ∙ c.requires.sizes
+    c.set-4.ensures.items ∙ ap (λ ns. set ns (i + 1) (length c.runs-second.result.now)) c.set-3.ensures.items ∙ ap₂ (λ x y. set (set c.args.sizes.now.items i (length x)) (i + 1) (length y)) first second ∙ c.requires.sizes

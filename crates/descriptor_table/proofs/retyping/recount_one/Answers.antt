@@ -35,7 +35,7 @@ set-requires-clause-within g c =
     let ls = c.args.leaves.now in
     let i = c.args.index in
     let is = c.runs-runs.ensures ∙ c.index-leaves-index.is ∙ get_or_default ls i c.index-leaves-index.result [] c.requires.index in
-    omega (arith, c.requires.few, total_set c.args.begun.now i c.count_begun.result, c.count_begun.ensures.bound, ap length is, (leaf_of ls i [] c.requires.leaves c.requires.index).1)
+    omega (arith, c.requires.few, total_set c.args.begun.now.items i c.count_begun.result, c.count_begun.ensures.bound, ap length is, (leaf_of ls i [] c.requires.leaves c.requires.index).1)
 
 pub set-requires-2-clause-bound : goal.set-requires-2-clause-bound
 set-requires-2-clause-bound g c = omega (arith, c.requires.index, c.requires.sizes_length)
@@ -45,7 +45,7 @@ set-requires-2-clause-within g c =
     let ls = c.args.leaves.now in
     let i = c.args.index in
     let is = c.runs-runs.ensures ∙ c.index-leaves-index.is ∙ get_or_default ls i c.index-leaves-index.result [] c.requires.index in
-    omega (arith, c.requires.few_runs, total_set c.args.sizes.now i (length c.runs-runs.result.now), ap length is, (leaf_of ls i [] c.requires.leaves c.requires.index).1)
+    omega (arith, c.requires.few_runs, total_set c.args.sizes.now.items i (length c.runs-runs.result.now), ap length is, (leaf_of ls i [] c.requires.leaves c.requires.index).1)
 
 pub returns-clause-begun : goal.returns-clause-begun
 returns-clause-begun g c =
@@ -55,11 +55,11 @@ returns-clause-begun g c =
     let n = c.count_begun.result in
     let is = c.runs-runs.ensures ∙ c.index-leaves-index.is ∙ get_or_default ls i c.index-leaves-index.result [] c.requires.index in
     let one = subst (λ x. entry_count (before ++ x) ≡ entry_count before + n) is c.count_begun.ensures.count in
-    rw c.set.ensures (c.requires.begun n (begin_one ls i n before c.requires.index c.requires.runs c.runs_before.ensures one))
+    rw c.set.ensures.items (c.requires.begun n (begin_one ls i n before c.requires.index c.requires.runs c.runs_before.ensures one))
 
 pub returns-clause-sizes : goal.returns-clause-sizes
 returns-clause-sizes g c =
     let ls = c.args.leaves.now in
     let i = c.args.index in
     let is = c.runs-runs.ensures ∙ c.index-leaves-index.is ∙ get_or_default ls i c.index-leaves-index.result [] c.requires.index in
-    c.set-2.ensures ∙ ap (λ x. set c.args.sizes.now i (length x)) is ∙ c.requires.sizes
+    c.set-2.ensures.items ∙ ap (λ x. set c.args.sizes.now.items i (length x)) is ∙ c.requires.sizes

@@ -78,8 +78,8 @@ replace-requires-2-clause-fits g c =
     let rs = leaf_at ls (i + 1) in
     omega (arith, c.requires.high, c.requires.second.1, ap length is, length-append c.args.back.now (drop c.args.window.1 rs), length-drop c.args.window.1 rs)
 
-pub returns : goal.returns
-returns g c =
+pub returns-clause-items : goal.returns-clause-items
+returns-clause-items g c =
     let ls = c.args.leaves.now.items in
     let i = c.args.index in
     let low = c.args.window.0 in

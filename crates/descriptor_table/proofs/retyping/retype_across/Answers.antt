@@ -276,7 +276,7 @@ returns-clause-table g c =
     let new = c.put_between.ensures.runs c.if-not-put_between.false ∙ across_is ls i k low high h b parts in
     let begun = c.put_between.ensures.begun c.if-not-put_between.false in
     let count = new_count (runs_in ls) n range t o table before old behind cut c.requires.some c.requires.present parts order pages in
-    let all = begin_all [] c.put_between.new.leaves.items c.put_between.new.begun begun in
+    let all = begin_all [] c.put_between.new.leaves.items c.put_between.new.begun.items begun in
     record {
       table = subst (λ rs. IsTable rs c.sum.result) (sym new) (new_table (runs_in ls) n range t o table before old behind cut c.requires.some c.requires.present parts order pages c.requires.owner c.sum.result (omega (arith, c.sum.ensures, all, ap entry_count new, count)));
       leaves = c.put_between.ensures.leaves c.if-not-put_between.false;

@@ -23,7 +23,7 @@ written : (b : Book) (old new : List ℕ) → 48 * length (memory_map b.memory) 
 written b old new h e = search rules
 
 pub overflow_mul-size : goal.overflow_mul-size
-overflow_mul-size g c = omega (arith, c.descriptors-size.ensures.count, few_entries_of c.table-table.result.now c.descriptors-size.ensures.proper)
+overflow_mul-size g c = omega (arith, c.descriptors-size.ensures.count, few_entries_of c.table-table.result.now.pages c.descriptors-size.ensures.proper)
 
 pub write_map-requires-clause-room : goal.write_map-requires-clause-room
 write_map-requires-clause-room g c = omega (arith, c.descriptors-size.ensures.count, c.if-buffer-size.false, ap (λ (m : List Page). length (memory_map m)) c.leaves.ensures.memory)
@@ -35,7 +35,7 @@ returns-clause-buffer g c =
     written c.args.book.now c.args.buffer.now c.write_map.new.buffer size (rw same at c.write_map.ensures)
 
 pub returns-clause-reply : goal.returns-clause-reply
-returns-clause-reply g c = reply c.args.book.now c.table-table.result.now c.descriptors-size.result c.key.result (length c.args.buffer.now) c.table-table.ensures c.descriptors-size.ensures.count c.if-buffer-size.false c.key.ensures
+returns-clause-reply g c = reply c.args.book.now c.table-table.result.now.pages c.descriptors-size.result c.key.result (length c.args.buffer.now) c.table-table.ensures c.descriptors-size.ensures.count c.if-buffer-size.false c.key.ensures
 
 pub returns-then-buffer-size-clause-reply : goal.returns-then-buffer-size-clause-reply
-returns-then-buffer-size-clause-reply g c = reply_too_small c.args.book.now c.table-table.result.now c.descriptors-size.result (length c.args.buffer.now) c.table-table.ensures c.descriptors-size.ensures.count c.if-buffer-size.true
+returns-then-buffer-size-clause-reply g c = reply_too_small c.args.book.now c.table-table.result.now.pages c.descriptors-size.result (length c.args.buffer.now) c.table-table.ensures c.descriptors-size.ensures.count c.if-buffer-size.true

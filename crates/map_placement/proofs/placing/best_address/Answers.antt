@@ -1,4 +1,5 @@
 use Rattle.std.proofs.Common.{◌≡◌, ◌∙◌, ℕ, List, Some, false, sym, ap, subst, arith}
+use Rattle.descriptor_table.specs.Reserves.{Table}
 use Rattle.page_ranges.specs.Memory.{Page}
 use Rattle.page_ranges.specs.MemoryTypes.{is_bad_type}
 use Rattle.page_ranges.specs.Runs.{pages_of}
@@ -21,7 +22,7 @@ returns-in-Some-best_start g c =
     let asked = asked_request c.granule-granule.result max_address named c.args.pages c.args.limit c.in-Some.request (sym c.placement_request.ensures ∙ c.in-Some.is) in
     let (good, same) = named_type c.args.mtype named (sym c.in_ok-named.ensures) in
     let at_machine = subst (λ (n : ℕ). placement_request n max_address c.args.mtype c.args.pages c.args.limit ≡ Some c.in-Some.request) c.granule-granule.ensures.granule (subst (λ (t : ℕ). placement_request c.granule-granule.result max_address t c.args.pages c.args.limit ≡ Some c.in-Some.request) (sym same) asked) in
-    let memory = c.in-Ok.ensures ∙ ap pages_of c.runs.ensures.runs in
+    let memory = ap (λ (t : Table). t.pages) c.in-Ok.ensures ∙ ap pages_of c.runs.ensures.runs in
     found machine c.args.mtype c.args.pages c.args.limit c.in-Some.request c.in-Some-best_start.first good (omega arith) at_machine (subst (λ (m : List Page). IsCertifiedStart m c.in-Some.request c.in-Some-best_start.first) memory c.in-Some-best_start.ensures.best)
 
 pub overflow_mul-result : goal.overflow_mul-result

@@ -16,7 +16,7 @@ loop-free-init g c = record {
   bounds = ([], c.free_entries-left.ensures.entries, rw c.in_ok-bounds.ensures.items tt);
   best = rw c.in_ok-bounds.ensures.items tt;
   stays = search rules;
-  room = omega (arith, ap length c.free_entries-left.ensures.entries, few_conventional c.args.table.now, c.descriptors-entries.ensures.count, c.in_ok-bounds.ensures.len, c.in_ok-bounds.ensures.capacity);
+  room = omega (arith, ap length c.free_entries-left.ensures.entries, few_conventional c.args.table.now.pages, c.descriptors-entries.ensures.count, c.in_ok-bounds.ensures.len, c.in_ok-bounds.ensures.capacity);
 }
 
 pub least_beside-least-requires-clause-below : goal.least_beside-least-requires-clause-below
@@ -31,7 +31,7 @@ least_beside-least-requires-clause-above g c =
 
 pub loop-free-preserved : goal.loop-free-preserved
 loop-free-preserved g c =
-    let m = c.args.table.now in
+    let m = c.args.table.now.pages in
     let r = c.args.request.now in
     let e = c.in-Some.free.entry in
     let es = c.next_entry.new.self.entries in
@@ -55,7 +55,7 @@ loop-free-preserved g c =
 
 pub returns-in-Some-best-clause-certificate : goal.returns-in-Some-best-clause-certificate
 returns-in-Some-best-clause-certificate g c =
-    let m = c.args.table.now in
+    let m = c.args.table.now.pages in
     let r = c.args.request.now in
     let bs = c.loop-free.bounds.items in
     let front = c.loop-free.invariant.bounds in
@@ -65,7 +65,7 @@ returns-in-Some-best-clause-certificate g c =
 
 pub returns-in-None-clause-none : goal.returns-in-None-clause-none
 returns-in-None-clause-none g c =
-    let m = c.args.table.now in
+    let m = c.args.table.now.pages in
     let r = c.args.request.now in
     let bs = c.loop-free.bounds.items in
     let front = c.loop-free.invariant.bounds in

@@ -9,10 +9,10 @@ use Rattle.placement_chooser.proofs.choosing.choose.Given as goal
 -- the bounds of the entries so far and the best of them
 abbrev pub invariant-loop-free : goal.invariant-loop-free
 invariant-loop-free g l = record {
-  memory : l.left.memory ≡ l.table;
-  bounds : (front : List Descriptor) × (front ++ l.left.entries ≡ conventional_entries l.table) × AllZip (IsTrueBound l.table l.request) front l.bounds.items;
+  memory : l.left.memory ≡ l.table.pages;
+  bounds : (front : List Descriptor) × (front ++ l.left.entries ≡ conventional_entries l.table.pages) × AllZip (IsTrueBound l.table.pages l.request) front l.bounds.items;
   best : IsBestOf l.best l.bounds.items;
-  stays : l.search ≡ l.table;
+  stays : l.search ≡ l.table.pages;
   room : vec_len l.bounds + length l.left.entries ≤ vec_capacity l.bounds;
 }
 

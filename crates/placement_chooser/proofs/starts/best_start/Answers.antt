@@ -12,7 +12,7 @@ use Rattle.placement_chooser.proofs.starts.best_start.Goals as goal
 pub loop-free-init : goal.loop-free-init
 loop-free-init g c = record {
   memory = c.entries_down-left.ensures.memory;
-  best = none_done c.args.table.now c.args.request.now c.descriptors-count.ensures.proper c.requires _ c.entries_down-left.result.entries c.entries_down-left.ensures.entries refl refl refl;
+  best = none_done c.args.table.now.pages c.args.request.now c.descriptors-count.ensures.proper c.requires _ c.entries_down-left.result.entries c.entries_down-left.ensures.entries refl refl refl;
   gain = refl;
   stays = search rules;
 }
@@ -28,18 +28,18 @@ least_beside-least-requires-clause-above g c =
     subst (λ m. IsOnPage free.above (page_at m (free.entry.first + free.entry.pages))) (c.loop-free.invariant.memory ∙ sym c.loop-free.invariant.stays) (on_page c.loop-free.left.memory (free.entry.first + free.entry.pages) free.above c.in-Some.ensures.next.0.above)
 
 pub gain_to_beat-requires-clause-few : goal.gain_to_beat-requires-clause-few
-gain_to_beat-requires-clause-few g c = omega (arith, few_in_map c.args.table.now c.descriptors-count.ensures.proper, c.descriptors-count.ensures.count)
+gain_to_beat-requires-clause-few g c = omega (arith, few_in_map c.args.table.now.pages c.descriptors-count.ensures.proper, c.descriptors-count.ensures.count)
 
 pub gain_to_beat-requires-clause-most : goal.gain_to_beat-requires-clause-most
 gain_to_beat-requires-clause-most g c =
-    let m = c.args.table.now in
+    let m = c.args.table.now.pages in
     let r = c.args.request.now in
     let least = rw c.loop-free.invariant.stays at c.least_beside-least.ensures.least in
     found_most m r c.descriptors-count.ensures.proper c.requires c.descriptors-count.result c.loop-free.best c.least_beside-least.result c.better_of-best.result c.in-Some.free.entry c.descriptors-count.ensures.count c.better_of-best.ensures c.loop-free.invariant.best.found least
 
 pub loop-free-preserved : goal.loop-free-preserved
 loop-free-preserved g c =
-    let m = c.args.table.now in
+    let m = c.args.table.now.pages in
     let r = c.args.request.now in
     let w = c.loop-free.wanted in
     let next = c.in-Some.ensures.next.1 in
@@ -54,7 +54,7 @@ loop-free-preserved g c =
 
 pub returns-in-Some-best-clause-best : goal.returns-in-Some-best-clause-best
 returns-in-Some-best-clause-best g c =
-    let m = c.args.table.now in
+    let m = c.args.table.now.pages in
     let r = c.args.request.now in
     let proper = c.descriptors-count.ensures.proper in
     let w = c.loop-free.wanted in
@@ -64,7 +64,7 @@ returns-in-Some-best-clause-best g c =
 
 pub returns-in-None-clause-none : goal.returns-in-None-clause-none
 returns-in-None-clause-none g c =
-    let m = c.args.table.now in
+    let m = c.args.table.now.pages in
     let r = c.args.request.now in
     let proper = c.descriptors-count.ensures.proper in
     let w = c.loop-free.wanted in

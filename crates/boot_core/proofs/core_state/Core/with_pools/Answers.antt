@@ -3,6 +3,7 @@ use Rattle.std.proofs.Common.{◌≡◌, ◌∙◌, ℕ, true, List, [], ap, rul
 use Rattle.page_ranges.specs.Granules.{IsGranule}
 use Rattle.page_ranges.specs.Runs.{pages_of}
 use Rattle.page_ranges.specs.Memory.{Page}
+use Rattle.descriptor_table.specs.Reserves.{Table}
 use Rattle.page_services.specs.PageRules.{Book, HasWholeGranules, new_book}
 use Rattle.pool_services.proofs.PoolGranules.{machine-granules}
 use Rattle.pool_services.specs.Extents.{Extent}
@@ -15,8 +16,9 @@ use Rattle.boot_core.proofs.core_state.Core.with_pools.Goals as goal
 pub invariant_of-result : goal.invariant_of-result
 invariant_of-result g c =
     let machine : MachineValue = c.args.machine in
+    let pages : c.in_ok-table.table.pages ≡ pages_of machine.runs = ap (λ (t : Table). t.pages) c.in_ok-table.ensures ∙ ap pages_of c.runs.ensures.runs in
     let book : c.new.result ≡ new_book machine.granule (pages_of machine.runs) =
-    c.new.ensures ∙ ap (λ (n : ℕ). new_book n c.in_ok-table.table) c.granule.ensures.granule ∙ ap (new_book machine.granule) (c.in_ok-table.ensures ∙ ap pages_of c.runs.ensures.runs) in
+    c.new.ensures ∙ ap (λ (n : ℕ). new_book n c.in_ok-table.table.pages) c.granule.ensures.granule ∙ ap (new_book machine.granule) pages in
     let is : parts_of c.new.result c.args.pools c.new-2.result ≡ (first_state machine).parts =
     ap (λ (b : Book). parts_of b c.args.pools c.new-2.result) book ∙ ap (λ (es : List Extent). parts_of (first_state machine).parts.book es c.new-2.result) c.requires ∙ ap (parts_of (first_state machine).parts.book []) c.new-2.ensures in
     let valid : IsMachine machine = record { runs = c.runs.ensures.valid; granule = subst IsGranule c.granule.ensures.granule c.granule.ensures.valid } in (
@@ -26,7 +28,7 @@ invariant_of-result g c =
 
 pub new-requires-clause-whole : goal.new-requires-clause-whole
 new-requires-clause-whole g c =
-    subst (λ (m : List Page). HasWholeGranules c.granule.result m) (sym (c.in_ok-table.ensures ∙ ap pages_of c.runs.ensures.runs)) (machine-granules c.granule.result c.args.machine.runs c.runs.ensures.valid)
+    subst (λ (m : List Page). HasWholeGranules c.granule.result m) (sym (ap (λ (t : Table). t.pages) c.in_ok-table.ensures ∙ ap pages_of c.runs.ensures.runs)) (machine-granules c.granule.result c.args.machine.runs c.runs.ensures.valid)
 
 pub returns : goal.returns
 returns c = search rules

@@ -10,16 +10,16 @@ use Rattle.descriptor_table.proofs.TableFacts.{table_runs, table_ends}
 use Rattle.descriptor_table.proofs.table.RunTable.descriptor.Goals as goal
 
 pub from_leaf-requires-clause-leaves : goal.from_leaf-requires-clause-leaves
-from_leaf-requires-clause-leaves g c = rw c.as_slice.ensures.value c.self.invariant.leaves
+from_leaf-requires-clause-leaves g c = rw c.as_slice.ensures.value c.self.invariant.0.leaves
 
 pub from_leaf-requires-clause-runs : goal.from_leaf-requires-clause-runs
-from_leaf-requires-clause-runs g c = rw c.as_slice.ensures.value (table_runs (runs_in c.self.inside.leaves.items) c.self.inside.entries c.self.invariant.table)
+from_leaf-requires-clause-runs g c = rw c.as_slice.ensures.value (table_runs (runs_in c.self.inside.leaves.items) c.self.inside.entries c.self.invariant.0.table)
 
 pub from_leaf-requires-clause-ends : goal.from_leaf-requires-clause-ends
-from_leaf-requires-clause-ends g c = rw c.as_slice.ensures.value (table_ends (runs_in c.self.inside.leaves.items) c.self.inside.entries c.self.invariant.table)
+from_leaf-requires-clause-ends g c = rw c.as_slice.ensures.value (table_ends (runs_in c.self.inside.leaves.items) c.self.inside.entries c.self.invariant.0.table)
 
 pub from_leaf-requires-clause-bound : goal.from_leaf-requires-clause-bound
-from_leaf-requires-clause-bound g c = rw c.as_slice.ensures.value (omega (arith, c.find-count.ensures.bound, begin_length [] c.self.inside.leaves.items c.self.inside.begun c.self.invariant.begun))
+from_leaf-requires-clause-bound g c = rw c.as_slice.ensures.value (omega (arith, c.find-count.ensures.bound, begin_length [] c.self.inside.leaves.items c.self.inside.begun.items c.self.invariant.0.begun))
 
 pub returns : goal.returns
 returns g c =
@@ -29,6 +29,6 @@ returns g c =
     let map = memory_map (pages_of (runs_in ls)) in
     let n = entry_count (runs_in (take count ls)) in
     let entries = rw c.as_slice.ensures.value at c.from_leaf.ensures in
-    let place = begin_total [] ls c.self.inside.begun count c.self.invariant.begun in
+    let place = begin_total [] ls c.self.inside.begun.items count c.self.invariant.0.begun in
     rw (← c.self.view_is)
     (sym (option_map_id c.nth.result) ∙ nth_from_yields_List c.nth.result c.nth.new.self left c.nth.ensures.ran (YieldsList-from_first (λ e. e) (λ e. e) (drop n map) entries) ∙ get_dropped map n left c.args.index (omega (arith, c.find-count.ensures.place, place)))

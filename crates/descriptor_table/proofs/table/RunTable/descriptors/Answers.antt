@@ -2,7 +2,7 @@
 use Rattle.descriptor_table.proofs.table.RunTable.descriptors.Goals as goal
 
 pub returns-clause-count : goal.returns-clause-count
-returns-clause-count g c = rw (← c.self.view_is) c.self.invariant.table.entries
+returns-clause-count g c = rw (← c.self.view_is) c.self.invariant.0.table.entries
 
 pub returns-clause-proper : goal.returns-clause-proper
-returns-clause-proper g c = rw (← c.self.view_is) c.self.invariant.table.proper
+returns-clause-proper g c = rw (← c.self.view_is) c.self.invariant.0.table.proper

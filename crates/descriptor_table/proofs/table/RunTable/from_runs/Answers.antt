@@ -1,11 +1,14 @@
-use Rattle.std.proofs.Common.{sym, ap, subst, ◌∙◌, arith}
-use Rattle.std.proofs.lemmas.List.{take_all}
+use Rattle.std.proofs.Common.{[], length, sym, ap, subst, ◌∙◌, arith}
+use Rattle.std.proofs.lemmas.List.{length-map, take_all}
 use Rattle.page_ranges.specs.Memory.{IsProperMemory}
 use Rattle.page_ranges.specs.Runs.{pages_of}
 use Rattle.page_ranges.proofs.RunLists.{some_pages_at}
-use Rattle.descriptor_table.proofs.Begun.{begin_within}
+use Rattle.descriptor_table.specs.Leaves.{BeginIn}
+use Rattle.descriptor_table.specs.Reserves.{Table}
+use Rattle.descriptor_table.proofs.Begun.{begin_length, begin_within}
 use Rattle.descriptor_table.proofs.LeafSizes.{sizes_within}
 use Rattle.descriptor_table.proofs.CutRuns.{run_put_behind, up_to_next}
+use Rattle.descriptor_table.proofs.RetypedRuns.{leaves_hold}
 use Rattle.descriptor_table.proofs.TableFacts.{proper_end_at, proper_ends}
 use Rattle.page_ranges.proofs.MaximalRuns.{maximal_are_runs}
 use Rattle.descriptor_table.proofs.table.RunTable.from_runs.Goals as goal
@@ -22,9 +25,9 @@ push_joined-requires-clause-within g c = proper_end_at c.args.runs.now c.loop-ru
 pub loop-run-preserved : goal.loop-run-preserved
 loop-run-preserved g c =
     record {
-      pages = run_put_behind c.args.runs.now c.loop-run.run-index c.run-item.result (omega arith) c.run-item.is (pages_of c.loop-run.joined.items) (pages_of c.push_joined.new.runs.items) c.in_ok-push_joined.ensures.pages c.loop-run.invariant.pages;
-      order = c.in_ok-push_joined.ensures.order.0;
-      next = λ s h e. up_to_next c.args.runs.now c.push_joined.new.runs.items c.loop-run.run-index c.run-item.result s c.requires.runs c.run-item.is h e c.in_ok-push_joined.ensures.order;
+      pages = run_put_behind c.args.runs.now c.loop-run.run-index c.run-item.result (omega arith) c.run-item.is (pages_of c.loop-run.joined.items) (pages_of c.push_joined.new.runs.items) c.in_ok-push_joined.ensures.ok.pages c.loop-run.invariant.pages;
+      order = c.in_ok-push_joined.ensures.ok.order.0;
+      next = λ s h e. up_to_next c.args.runs.now c.push_joined.new.runs.items c.loop-run.run-index c.run-item.result s c.requires.runs c.run-item.is h e c.in_ok-push_joined.ensures.ok.order;
     }
 
 pub count_entries-entries-requires-clause-runs : goal.count_entries-entries-requires-clause-runs
@@ -38,22 +41,36 @@ invariant_of-result g c =
     let same = rw c.as_slice-2.ensures.value at c.in_ok-leaves.ensures.runs in
     let all = take_all c.loop-run.run-index c.args.runs.now (omega arith) in
     let count = rw c.as_slice.ensures.value at c.count_entries-entries.ensures.count in
-    record {
-      table = rw same (record {
-        maximal = c.loop-run.invariant.order;
-        proper = subst IsProperMemory (sym (c.loop-run.invariant.pages ∙ ap pages_of all)) c.requires.proper;
-        entries = count;
-      });
-      leaves = c.in_ok-leaves.ensures.leaves;
-      begun = rw c.in_ok-begun.ensures (rw c.as_slice-3.ensures.value at c.in_ok-begun_in.ensures);
-      sizes = rw c.as_slice-4.ensures.value at (c.in_ok-sizes.ensures ∙ c.in_ok-sizes_of.ensures);
-      groups = rw c.as_slice-5.ensures.value at c.make_groups.ensures;
-    }
+    let leaves = c.in_ok-leaves.leaves.items in
+    let begun : BeginIn [] leaves c.new-begun.result.items = rw c.new-begun.ensures.items (rw c.as_slice-3.ensures.value at c.in_ok-begun_in.ensures) in
+    let sizes = rw c.as_slice-4.ensures.value at (c.new-sizes.ensures.items ∙ c.in_ok-sizes_of.ensures) in
+    let none = ap length c.in_ok-spare.ensures.items in (
+      record {
+        table = rw same (record {
+          maximal = c.loop-run.invariant.order;
+          proper = subst IsProperMemory (sym (c.loop-run.invariant.pages ∙ ap pages_of all)) c.requires.proper;
+          entries = count;
+        });
+        leaves = c.in_ok-leaves.ensures.leaves;
+        begun = begun;
+        sizes = sizes;
+        groups = rw c.as_slice-5.ensures.value at c.make_groups.ensures;
+      },
+      record {
+        leaves_fit = omega (arith, none);
+        spare_fit = omega (arith, none, c.in_ok-spare.ensures.capacity, c.len.ensures);
+        begun_fit = omega (arith, none, c.new-begun.ensures.room, begin_length [] leaves c.new-begun.result.items begun);
+        sizes_fit = omega (arith, none, c.new-sizes.ensures.room, ap length sizes, length-map leaves length);
+        buffer_fits = omega (arith, ap length same);
+        holds = omega (arith, none, leaves_hold leaves c.in_ok-leaves.ensures.leaves);
+        few = omega arith;
+      },
+    )
 
 pub returns : goal.returns
 returns g c =
     let same = rw c.as_slice-2.ensures.value at c.in_ok-leaves.ensures.runs in
-    ap pages_of same ∙ c.loop-run.invariant.pages ∙ ap pages_of (take_all c.loop-run.run-index c.args.runs.now (omega arith))
+    ap {B = Table} (λ m. record { pages = m; reserved = 0 }) (ap pages_of same ∙ c.loop-run.invariant.pages ∙ ap pages_of (take_all c.loop-run.run-index c.args.runs.now (omega arith)))
 
 pub begun_in-requires-clause-runs : goal.begun_in-requires-clause-runs
 begun_in-requires-clause-runs g c =
@@ -71,8 +88,8 @@ begun_in-requires-clause-ends g c =
     let ends = proper_ends joined runs (subst IsProperMemory (sym (c.loop-run.invariant.pages ∙ ap pages_of all)) c.requires.proper) in
     rw (c.as_slice-3.ensures.value, same) ends
 
-pub new-requires : goal.new-requires
-new-requires g c =
+pub new-begun-requires : goal.new-begun-requires
+new-begun-requires g c =
     let joined = c.loop-run.joined.items in
     let same = rw c.as_slice-2.ensures.value at c.in_ok-leaves.ensures.runs in
     let runs = maximal_are_runs joined c.loop-run.invariant.order in
@@ -80,8 +97,8 @@ new-requires g c =
     let ends = proper_ends joined runs (subst IsProperMemory (sym (c.loop-run.invariant.pages ∙ ap pages_of all)) c.requires.proper) in
     begin_within c.in_ok-leaves.leaves.items c.in_ok-begun_in.field-0.items (rw same runs) (rw same ends) (rw c.as_slice-3.ensures.value at c.in_ok-begun_in.ensures)
 
-pub new-requires-2 : goal.new-requires-2
-new-requires-2 g c =
+pub new-sizes-requires : goal.new-sizes-requires
+new-sizes-requires g c =
     let joined = c.loop-run.joined.items in
     let same = rw c.as_slice-2.ensures.value at c.in_ok-leaves.ensures.runs in
     let runs = maximal_are_runs joined c.loop-run.invariant.order in

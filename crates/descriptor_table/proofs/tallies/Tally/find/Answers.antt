@@ -14,8 +14,8 @@ pub loop-count-init : goal.loop-count-init
 loop-count-init g c =
     let k : 64 * c.loop-group.group ≡ c.loop-group.group * 64 = omega arith in
     record {
-      bound = omega (arith, c.loop-group.invariant.bound, c.self.invariant.bound);
-      place = omega (arith, c.loop-group.invariant.place, c.self.invariant.sums_up c.loop-group.group c.loop-group.invariant.bound, ap (λ j. total (take j c.self.inside.numbers.items)) k);
+      bound = omega (arith, c.loop-group.invariant.bound, c.self.invariant.groups.bound);
+      place = omega (arith, c.loop-group.invariant.place, c.self.invariant.groups.sums_up c.loop-group.group c.loop-group.invariant.bound, ap (λ j. total (take j c.self.inside.numbers.items)) k);
     }
 
 pub loop-count-preserved : goal.loop-count-preserved

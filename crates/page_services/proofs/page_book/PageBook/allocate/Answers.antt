@@ -11,7 +11,7 @@ place_best-requires-clause-proper g c =
     let returned = subst (λ (b : Book). option_and_then if_counted (placement_request b.granule c.args.kind c.in_ok-mtype.mtype c.args.pages c.args.memory) ≡ Some c.in-Some.request) c.self.view_is (sym c.placement_request.ensures ∙ c.in-Some.is) in
     let asked = asked_request c.args.self.now.granule c.args.kind c.in_ok-mtype.mtype c.args.pages c.args.memory c.in-Some.request returned in
     let (good, same) = named_type c.args.mtype c.in_ok-mtype.mtype (sym c.in_ok-mtype.ensures) in
-    let is = subst IsInGranules c.self.view_is c.self.invariant in
+    let is = subst IsInGranules c.self.view_is c.self.invariant.0 in
     placement_request_proper c.args.self.now.granule c.args.kind c.in_ok-mtype.mtype c.args.pages c.args.memory c.in-Some.request is.granule (subst (λ t. is_bad_type t ≡ false) same good) (omega arith) asked
 
 pub place_best-requires-clause-limit : goal.place_best-requires-clause-limit

@@ -12,7 +12,7 @@ pub best_place-requires-clause-proper : goal.best_place-requires-clause-proper
 best_place-requires-clause-proper g c =
     let asked = subst (λ (b : Book). if_counted (pool_request b.granule c.args.mtype c.args.pages) ≡ Some c.in-Some.request) c.self.view_is (sym c.pool_request.ensures ∙ c.in-Some.is) in
     let same = (counted_is (pool_request c.args.self.now.granule c.args.mtype c.args.pages) c.in-Some.request asked).0 in
-    let is = subst IsInGranules c.self.view_is c.self.invariant in
+    let is = subst IsInGranules c.self.view_is c.self.invariant.0 in
     subst IsProperRequest (sym same) (whole_request_proper c.args.self.now.granule c.args.mtype c.args.pages page_count is.granule c.requires.good c.requires.some)
 
 pub best_place-requires-clause-limit : goal.best_place-requires-clause-limit

@@ -3,8 +3,8 @@ use Rattle.std.proofs.Common.{rules}
 use Rattle.page_services.proofs.Granules.{returned}
 use Rattle.page_services.proofs.page_book.PageBook.give_from_pool.Goals as goal
 
-pub change-requires-clause-whole : goal.change-requires-clause-whole
-change-requires-clause-whole g c = rw c.conventional.ensures (returned c.args.extent c.args.self.now c.requires.owned)
+pub end_in-requires-clause-whole : goal.end_in-requires-clause-whole
+end_in-requires-clause-whole g c = returned c.args.extent c.args.self.now c.requires.owned
 
 pub returns : goal.returns
 returns g c = search rules

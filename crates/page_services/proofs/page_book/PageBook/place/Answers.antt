@@ -3,7 +3,7 @@ use Rattle.page_services.proofs.Choices.{best_is_permitted}
 use Rattle.page_services.proofs.Granules.{chosen_granules}
 use Rattle.page_services.proofs.page_book.PageBook.place.Goals as goal
 
-pub change-requires-clause-whole : goal.change-requires-clause-whole
-change-requires-clause-whole g c =
+pub place_in-requires-clause-whole : goal.place_in-requires-clause-whole
+place_in-requires-clause-whole g c =
     let permitted = best_is_permitted c.args.self.now c.args.chosen.request c.args.chosen.first c.args.chosen.certificate c.requires.chosen.best in
     chosen_granules c.args.self.now c.args.chosen.request c.args.chosen.first c.args.owner c.requires.chosen.proper c.requires.chosen.granule permitted

@@ -18,8 +18,8 @@ returns-then-not-all_conventional g c =
     let taken : ¬ AllInRange c.args.self.now.memory (range_from c.args.memory c.in-Some.pages) IsConventional = subst (λ (b : Book). ¬ AllInRange b.memory (range_from c.args.memory c.in-Some.pages) IsConventional) c.self.view_is (λ all. true≢false (sym (c.if-not-all_conventional.ensures.1 all))) in
     ((omega arith, c.requires.good, c.requires.some), refl, not_free c.args.self.now c.args.mtype c.args.pages c.args.memory c.granule_for-granule.result of_type c.in-Some.pages (sym c.rounded.ensures ∙ c.in-Some.is) taken, refl)
 
-pub change-requires-clause-whole : goal.change-requires-clause-whole
-change-requires-clause-whole g c =
+pub place_in-requires-clause-whole : goal.place_in-requires-clause-whole
+place_in-requires-clause-whole g c =
     let of_type = subst (λ (b : Book). c.granule_for-granule.result ≡ granule_for c.args.mtype b.granule) c.self.view_is c.granule_for-granule.ensures in
     let free = subst (λ (b : Book). AllInRange b.memory (range_from c.args.memory c.in-Some.pages) IsConventional) c.self.view_is (c.if-not-all_conventional.ensures.0 refl) in
     named_granules c.args.self.now c.args.mtype c.args.pages c.args.memory c.granule_for-granule.result of_type c.in-Some.pages (sym c.rounded.ensures ∙ c.in-Some.is) c.if-first-granule-ne0.false free

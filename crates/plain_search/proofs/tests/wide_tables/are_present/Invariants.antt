@@ -4,4 +4,4 @@ use Rattle.plain_search.proofs.tests.wide_tables.are_present.Given as goal
 
 -- the pages so far are present
 abbrev pub invariant-loop-page : goal.invariant-loop-page
-invariant-loop-page l = (k : ℕ) → l.fn.range.first ≤ k → k < l.page → IsPresent (page_at l.table k)
+invariant-loop-page l = (k : ℕ) → l.fn.range.first ≤ k → k < l.page → IsPresent (page_at l.table.pages k)

@@ -3,6 +3,7 @@ use Rattle.page_services.specs.PageRules.{IsBestChoice}
 use Rattle.pool_services.specs.Extents.{AreExtents}
 use Rattle.pool_services.proofs.KeptPools.{written-keeps}
 use Rattle.pool_services.proofs.FilledBlocks.{not-refused}
+use Rattle.pool_services.proofs.KeptEnds.{written-ends}
 use Rattle.pool_services.proofs.pools.Pools.allocate_filled.Goals as goal
 
 pub unreachable-requires : goal.unreachable-requires
@@ -15,3 +16,8 @@ pub returns-clause-owns : goal.returns-clause-owns
 returns-clause-owns g c =
     let placed : AreExtents c.allocate.new.self = subst AreExtents c.self-2.view_is c.self-2.invariant.0 in
     (written-keeps c.allocate.new.book.memory c.allocate.new.self c.in_ok-answer.answer.0 _ c.write.result c.write.new.self placed c.in_ok-answer.ensures.owns c.write.ensures).1
+
+pub returns-clause-reserved : goal.returns-clause-reserved
+returns-clause-reserved g c =
+    let placed : AreExtents c.allocate.new.self = subst AreExtents c.self-2.view_is c.self-2.invariant.0 in
+    written-ends c.allocate.new.book c.allocate.new.self c.in_ok-answer.answer.0 _ c.write.result c.write.new.self placed c.in_ok-answer.ensures.reserved c.write.ensures

@@ -1,10 +1,11 @@
-use Rattle.std.proofs.Common.{List, sym, ap, ◌∙◌, subst}
+use Rattle.std.proofs.Common.{List, arith, sym, ap, ◌∙◌, subst}
 use Rattle.pool_services.specs.Extents.{Extent}
 use Rattle.pool_services.specs.PoolRules.{OwnsExtents}
 use Rattle.page_services.specs.PageRules.{given_back}
 use Rattle.page_ranges.specs.declared.ranges.PageRange.{PageRange}
 use Rattle.pool_services.proofs.ExtentChanges.{owned-range, are-gone-at, same-range, gone-owns}
 use Rattle.pool_services.proofs.RoomLists.{rooms-gone}
+use Rattle.pool_services.proofs.KeptEnds.{gives, gone-ends}
 use Rattle.pool_services.proofs.pools.Pools.end.Goals as goal
 
 pub give_from_pool-requires-clause-owned : goal.give_from_pool-requires-clause-owned
@@ -33,3 +34,12 @@ returns-clause-owns g c =
     (rw (← c.self.view_is) at c.requires.index, c.index.ensures)
     (c.in_ok-give_from_pool.ensures ∙ ap (λ (r : PageRange). given_back r c.args.book.now) (same-range c.range.result c.index.result.now c.range.ensures.first c.range.ensures.pages))
     c.remove.ensures.by_index.2
+
+pub returns-in_err-give_from_pool-clause-ended : goal.returns-in_err-give_from_pool-clause-ended
+returns-in_err-give_from_pool-clause-ended g c =
+    absurd (gives c.args.book.now c.give_from_pool.new.self c.args.self.now c.range.result _ (omega (arith, c.requires.index)) c.requires.reserved c.in_err-give_from_pool.ensures)
+
+pub returns-clause-reserved : goal.returns-clause-reserved
+returns-clause-reserved g c =
+    gone-ends c.args.book.now c.give_from_pool.new.self c.self.inside.extents.items c.args.at c.range.result c.remove.new.self.items (rw (← c.self.view_is) at c.requires.index)
+    (rw (← c.self.view_is) at c.requires.reserved) c.in_ok-give_from_pool.ensures c.remove.ensures.by_index.2

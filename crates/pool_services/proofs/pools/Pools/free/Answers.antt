@@ -1,4 +1,5 @@
 use Rattle.pool_services.proofs.ExtentChanges.{freed-ended, freed-in, givable, owns-given}
+use Rattle.pool_services.proofs.KeptEnds.{given-ends}
 use Rattle.pool_services.proofs.pools.Pools.free.Goals as goal
 
 pub returns-then-has_one_block-clause-frees : goal.returns-then-has_one_block-clause-frees
@@ -14,3 +15,6 @@ returns-clause-frees g c = freed-in c.args.book.now c.args.self.now c.args.addre
 
 pub returns-clause-owns : goal.returns-clause-owns
 returns-clause-owns g c = owns-given c.args.book.now.memory c.in-Some.at c.in-Some.cell c.args.self.now c.give_in.new.self c.requires.owns c.give_in.ensures
+
+pub returns-clause-reserved : goal.returns-clause-reserved
+returns-clause-reserved g c = given-ends c.args.book.now c.in-Some.at c.in-Some.cell c.args.self.now c.give_in.new.self c.requires.reserved c.give_in.ensures

@@ -6,6 +6,7 @@ use Rattle.pool_services.specs.Extents.{Extent, AreExtents}
 use Rattle.pool_services.specs.PoolRules.{OwnsExtents}
 use Rattle.pool_services.proofs.NewExtents.{is-made, is-new-extents, is-of-granule, is-put, owns-new, refused, takes}
 use Rattle.pool_services.proofs.Reached.{moved}
+use Rattle.pool_services.proofs.KeptEnds.{more-ends, same-ends}
 use Rattle.pool_services.proofs.pools.Pools.take_new.Goals as goal
 
 pub returns-in_default-place_for_pool-clause-allocates : goal.returns-in_default-place_for_pool-clause-allocates
@@ -61,3 +62,16 @@ returns-clause-owns g c =
     owns-new c.args.book.now c.place_for_pool.new.self c.args.self.now c.reserve.new.self.items c.add.new.extents.items c.with_block-extent.result c.args.mtype c.args.size c.pages_for.result c.in-Ok-place_for_pool.placed
     v c.requires.size c.pages_for.ensures.pages c.requires.owns (subst IsProperMemory c.table.ensures c.len.ensures.proper) w.0 w.1
     (moved c.reserve.new.self.items c.self.inside.extents.items c.args.self.now c.reserve.ensures.items c.self.view_is) e c.add.ensures.extents
+
+pub returns-in_default-place_for_pool-clause-reserved : goal.returns-in_default-place_for_pool-clause-reserved
+returns-in_default-place_for_pool-clause-reserved g c =
+    let b : c.place_for_pool.new.self ≡ c.args.book.now = refused g.row.A.Denot c.args.book.now c.args.mtype c.pages_for.result c.in_default-place_for_pool.field-0 c.place_for_pool.new.self
+    (takes g.row.A.Denot c.args.book.now c.place_for_pool.new.self c.in-Some.chosen.request c.args.mtype c.pages_for.result (Err c.in_default-place_for_pool.field-0) c.in-Some.ensures.0 c.in_default-place_for_pool.ensures.places) in
+    let e : c.reserve.new.self.items ≡ c.args.self.now = moved c.reserve.new.self.items c.self.inside.extents.items c.args.self.now c.reserve.ensures.items c.self.view_is in
+    same-ends c.args.book.now c.place_for_pool.new.self c.args.self.now c.reserve.new.self.items c.requires.reserved b e
+
+pub returns-clause-reserved : goal.returns-clause-reserved
+returns-clause-reserved g c =
+    let w = takes g.row.A.Denot c.args.book.now c.place_for_pool.new.self c.in-Some.chosen.request c.args.mtype c.pages_for.result (Ok c.in-Ok-place_for_pool.placed) c.in-Some.ensures.0 c.in-Ok-place_for_pool.ensures.places in
+    more-ends c.args.book.now c.place_for_pool.new.self c.args.self.now c.reserve.new.self.items c.add.new.extents.items c.with_block-extent.result _ c.args.mtype c.requires.reserved w.1
+    (moved c.reserve.new.self.items c.self.inside.extents.items c.args.self.now c.reserve.ensures.items c.self.view_is) c.add.ensures.extents

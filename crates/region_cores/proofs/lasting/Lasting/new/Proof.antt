@@ -1,7 +1,7 @@
 -- The value stays where the box has it; the right to give its memory back is dropped. Assumes `Logic`.
 use Rattle.std.proofs.Common.{List, [], ◌∷◌, ◌++◌, refl, sym, ap, subst}
 use mir.MapTy.{inst_fn}
-use mir.Syntax.{Args, Dict, Fn, a_type, dcons, dnil}
+use mir.Syntax.{Args, Dict, a_type, dcons, dnil}
 use mir.Val.{Val}
 use base.Logic.{SProp, ent, id⊢}
 use contract.Running.{tables}

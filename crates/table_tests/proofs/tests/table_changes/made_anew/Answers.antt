@@ -15,7 +15,7 @@ taken_next (q ∷ rs) (suc i) r e = ap (λ xs. q ∷ xs) (taken_next rs i r e)
 
 pub loop-index-preserved : goal.loop-index-preserved
 loop-index-preserved g c =
-    let all = runs_of c.args.table.now in
+    let all = runs_of c.args.table.now.pages in
     let i = c.loop-index.index in
     let r = c.expect-run.result in
     let next : suc i ≡ i + 1 = omega arith in
@@ -24,20 +24,20 @@ loop-index-preserved g c =
 
 pub from_runs-requires-clause-runs : goal.from_runs-requires-clause-runs
 from_runs-requires-clause-runs g c =
-    let m = c.args.table.now in
+    let m = c.args.table.now.pages in
     let all = c.loop-index.invariant ∙ take_all c.loop-index.index (runs_of m) (omega (arith, c.len-index-end.ensures.len)) in
     rw c.as_slice.ensures.value (subst AreRuns (sym all) (maximal_are_runs (runs_of m) (runs_of-maximal m c.len-index-end.ensures.proper.ascending)))
 
 pub from_runs-requires-clause-proper : goal.from_runs-requires-clause-proper
 from_runs-requires-clause-proper g c =
-    let m = c.args.table.now in
+    let m = c.args.table.now.pages in
     let all = c.loop-index.invariant ∙ take_all c.loop-index.index (runs_of m) (omega (arith, c.len-index-end.ensures.len)) in
     rw c.as_slice.ensures.value (subst (λ rs. IsProperMemory (pages_of rs)) (sym all) (subst IsProperMemory (sym (pages_of-runs_of m)) c.len-index-end.ensures.proper))
 
 pub returns : goal.returns
 returns g c =
-    let m = c.args.table.now in
+    let m = c.args.table.now.pages in
     let all = c.loop-index.invariant ∙ take_all c.loop-index.index (runs_of m) (omega (arith, c.len-index-end.ensures.len)) in
     let same = ap pages_of (c.as_slice.ensures.value ∙ all) ∙ pages_of-runs_of m in
     let made = rw c.expect-2.ensures at c.from_runs.ensures in
-    made ∙ same
+    made ∙ ap (λ m. record { pages = m; reserved = 0 }) same

@@ -1,0 +1,23 @@
+use Rattle.std.proofs.Common.{◌≡◌, [], ◌∷◌, ◌++◌, length, length-append, take, drop, ap, ◌∙◌, arith}
+use Rattle.descriptor_table.proofs.LeavesPut.{one_less}
+use Rattle.descriptor_table.proofs.new_leaves.take_out.Goals as goal
+
+pub loop-index-preserved : goal.loop-index-preserved
+loop-index-preserved g c =
+    let ls = c.args.leaves.now.items in
+    let loop = c.loop-index in
+    record {
+      low = omega (arith, c.loop-index-test.true);
+      leaves = rw c.remove-leaf.ensures.items (one_less ls (drop c.args.to ls) loop.leaves.items loop.index (omega (arith, c.loop-index-test.true)) (omega (arith, loop.auto.index, c.requires.bound)) loop.invariant.leaves);
+      spare = omega (arith, ap length c.push_reserved.ensures.items, length-append loop.spare.items (c.remove-leaf.result ∷ []), loop.invariant.spare, c.loop-index-test.true);
+      leaf_room = c.remove-leaf.ensures.capacity ∙ loop.invariant.leaf_room;
+      spare_room = c.push_reserved.ensures.capacity ∙ loop.invariant.spare_room;
+    }
+
+pub returns-clause-leaves : goal.returns-clause-leaves
+returns-clause-leaves g c =
+    let last : c.loop-index.index ≡ c.args.from = omega (arith, c.loop-index.invariant.low, c.loop-index-test.false) in
+    c.loop-index.invariant.leaves ∙ ap (λ k. take k c.args.leaves.now.items ++ drop c.args.to c.args.leaves.now.items) last
+
+pub returns-clause-spare : goal.returns-clause-spare
+returns-clause-spare g c = omega (arith, c.loop-index.invariant.spare, c.loop-index.invariant.low, c.loop-index-test.false, c.requires.order)

@@ -1,0 +1,309 @@
+//! Leaves that are made anew, of those that there are and of leaves for later.
+ghost use Rattle.std.specs.Prelude.{◌≡◌, ℕ, ◌+◌, ◌-◌, ◌*◌, ◌<◌, ◌≤◌, ◌^◌, ◌++◌, [], length, map, take, drop, vec_capacity, OnOk, if◌then◌else◌};
+ghost use Rattle.std.specs.List.{insert};
+ghost use Rattle.page_ranges.specs.declared.ranges.Owner.TheVariants.{Given};
+ghost use Rattle.page_ranges.specs.MemoryTypes.{conventional, page_count};
+ghost use Rattle.page_ranges.specs.Memory.{IsPresent, AllInRange};
+ghost use Rattle.page_ranges.specs.Runs.{pages_of, AreMaximalRuns, AreRuns};
+ghost use Rattle.descriptor_table.specs.Leaves.{entry_count, runs_in, AreLeaves, AreLeavesNear, BeginIn, IsLeaf, IsLeafTable};
+ghost use Rattle.descriptor_table.specs.LeafChanges.{Retypes, RetypesRuns, leaves_without, runs_with};
+ghost use Rattle.descriptor_table.specs.Reserves.{GrowsNear, LeavesHaveRoom, PutsBegun, PutsLeaves, leaf_count};
+ghost use Rattle.descriptor_table.specs.Summaries.{KeepsLeaves};
+ghost use Rattle.descriptor_table.specs.Tables.{EndBy};
+ghost use Rattle.descriptor_table.specs.Tallies.{total};
+
+use crate::cuts::push_leaves;
+use crate::entry_starts::{count_begun, runs_before};
+use crate::leaves::{LEAF_SIZE, Leaf, first_share};
+use crate::replacing::insert_with_room;
+use crate::retyping::{Change, retype_in_place};
+use crate::tallies::Tally;
+use page_ranges::{MemoryType, Owner, PageRange, Run};
+use std::alloc::{AllocError, Allocator};
+
+/// Takes memory for one more leaf, and room for it beside the others. On an `Err` some of the lists may
+/// have more room.
+#[inline(never)]
+pub(crate) fn add_spare<A: Allocator + Copy>(
+    leaves: &mut Vec<Leaf<A>, A>,
+    begun: &mut Tally<A>,
+    sizes: &mut Tally<A>,
+    spare: &mut Vec<Leaf<A>, A>,
+) -> Result<(), AllocError>
+    requires room { LeavesHaveRoom leaves.old spare.old begun.old sizes.old }
+    ensures leaves { leaves.new.items ≡ leaves.old.items }
+    ensures begun { begun.new.items ≡ begun.old.items }
+    ensures sizes { sizes.new.items ≡ sizes.old.items }
+    ensures room { LeavesHaveRoom leaves.new spare.new begun.new sizes.new }
+    ensures more { length spare.old.items ≤ length spare.new.items }
+    ensures ok { OnOk result (length spare.new.items ≡ length spare.old.items + 1) }
+{
+    let count = leaves.len() + spare.len() + 1;
+    let alloc = *leaves.allocator();
+    leaves.reserve(count - leaves.len())?;
+    spare.reserve(count - spare.len())?;
+    begun.reserve(count)?;
+    sizes.reserve(count)?;
+    spare.push(Leaf::spare(alloc)?)?;
+    Ok(())
+}
+
+/// Keeps the leaves between two indices for later.
+fn take_out<A: Allocator + Copy>(
+    leaves: &mut Vec<Leaf<A>, A>,
+    spare: &mut Vec<Leaf<A>, A>,
+    from: usize,
+    to: usize,
+)
+    requires order { from ≤ to }
+    requires bound { to ≤ length leaves.old.items }
+    requires room { length spare.old.items + (to - from) ≤ vec_capacity spare.old }
+    ensures leaves { leaves.new.items ≡ leaves_without leaves.old.items from to }
+    ensures spare { length spare.new.items ≡ length spare.old.items + (to - from) }
+    ensures room { (vec_capacity leaves.new ≡ vec_capacity leaves.old)
+        × (vec_capacity spare.new ≡ vec_capacity spare.old) }
+{
+    for index in (from..to).rev() {
+        let leaf = leaves.remove(index);
+        spare.push_reserved(leaf);
+    }
+}
+
+/// Puts runs in a leaf before the one at an index.
+fn insert_leaf<A: Allocator + Copy>(
+    leaves: &mut Vec<Leaf<A>, A>,
+    begun: &mut Tally<A>,
+    sizes: &mut Tally<A>,
+    spare: &mut Vec<Leaf<A>, A>,
+    at: usize,
+    runs: &[Run],
+)
+    requires leaves { AreLeaves leaves.old.items }
+    requires place { at ≤ length leaves.old.items }
+    requires leaf { IsLeaf runs.now }
+    requires order { AreRuns (runs_in (take at leaves.old.items) ++ runs.now) }
+    requires ends { EndBy page_count (runs_in (take at leaves.old.items) ++ runs.now) }
+    requires begun { length begun.old.items ≡ length leaves.old.items }
+    requires sizes { length sizes.old.items ≡ length leaves.old.items }
+    requires few { total begun.old.items + length runs.now < 2 ^ 63 }
+    requires few_runs { total sizes.old.items + length runs.now < 2 ^ 63 }
+    requires spare { 0 < length spare.old.items }
+    requires room { LeavesHaveRoom leaves.old spare.old begun.old sizes.old }
+    ensures leaves { leaves.new.items ≡ insert leaves.old.items at runs.now }
+    ensures begun { PutsBegun leaves.old.items at runs.now begun.old.items begun.new.items }
+    ensures sizes { sizes.new.items ≡ insert sizes.old.items at (length runs.now) }
+    ensures spare { length spare.new.items + 1 ≡ length spare.old.items }
+    ensures room { LeavesHaveRoom leaves.new spare.new begun.new sizes.new }
+{
+    let begins = count_begun(runs_before(leaves.as_slice(), at), runs);
+    let Some(mut leaf) = spare.pop() else {
+        unreachable!();
+    };
+    let count = leaf.runs().len();
+    leaf.replace(0, count, runs, 0);
+    insert_with_room(leaves, at, leaf);
+    begun.insert(at, begins as u8);
+    sizes.insert(at, runs.len() as u8);
+}
+
+/// Puts runs in leaves before the one at an index.
+fn insert_leaves<A: Allocator + Copy>(
+    leaves: &mut Vec<Leaf<A>, A>,
+    begun: &mut Tally<A>,
+    sizes: &mut Tally<A>,
+    spare: &mut Vec<Leaf<A>, A>,
+    from: usize,
+    runs: &[Run],
+)
+    requires leaves { AreLeaves leaves.old.items }
+    requires place { from ≤ length leaves.old.items }
+    requires order { AreRuns (runs_in (take from leaves.old.items) ++ runs.now) }
+    requires ends { EndBy page_count (runs_in (take from leaves.old.items) ++ runs.now) }
+    requires begun { length begun.old.items ≡ length leaves.old.items }
+    requires sizes { length sizes.old.items ≡ length leaves.old.items }
+    requires few { total begun.old.items ≤ page_count }
+    requires few_runs { total sizes.old.items ≤ page_count }
+    requires fits { length runs.now ≤ 32 * length spare.old.items }
+    requires room { LeavesHaveRoom leaves.old spare.old begun.old sizes.old }
+    ensures puts { PutsLeaves leaves.old.items begun.old.items sizes.old.items from runs.now
+        leaves.new.items begun.new.items sizes.new.items }
+    ensures count { leaf_count leaves.new spare.new ≡ leaf_count leaves.old spare.old }
+    ensures room { LeavesHaveRoom leaves.new spare.new begun.new sizes.new }
+{
+    let mut at = from;
+    let mut rest = runs;
+    while !rest.is_empty() {
+        let share = first_share(rest.len());
+        insert_leaf(leaves, begun, sizes, spare, at, &rest[..share]);
+        rest = &rest[share..];
+        at += 1;
+    }
+}
+
+/// Puts runs in leaves instead of those between two indices. It takes no memory.
+fn put_leaves<A: Allocator + Copy>(
+    leaves: &mut Vec<Leaf<A>, A>,
+    begun: &mut Tally<A>,
+    sizes: &mut Tally<A>,
+    spare: &mut Vec<Leaf<A>, A>,
+    near: (usize, usize),
+    runs: &[Run],
+)
+    requires leaves { AreLeaves leaves.old.items }
+    requires old { AreRuns (runs_in leaves.old.items)
+        × EndBy page_count (runs_in leaves.old.items) }
+    requires order { near.0 ≤ near.1 }
+    requires bound { near.1 ≤ length leaves.old.items }
+    requires begun { BeginIn [] leaves.old.items begun.old.items }
+    requires sizes { sizes.old.items ≡ map length leaves.old.items }
+    requires grows { GrowsNear leaves.old.items near runs.now }
+    requires new { AreRuns (runs_with leaves.old.items near runs.now) }
+    requires ends { EndBy page_count (runs_with leaves.old.items near runs.now) }
+    requires fits { length runs.now ≤ 32 * (length spare.old.items + (near.1 - near.0)) }
+    requires room { LeavesHaveRoom leaves.old spare.old begun.old sizes.old }
+    ensures leaves { AreLeaves leaves.new.items }
+    ensures runs { runs_in leaves.new.items ≡ runs_with leaves.old.items near runs.now }
+    ensures begun { BeginIn [] leaves.new.items begun.new.items }
+    ensures sizes { sizes.new.items ≡ map length leaves.new.items }
+    ensures kept { KeepsLeaves leaves.old.items leaves.new.items near.0 near.1 }
+    ensures count { leaf_count leaves.new spare.new ≡ leaf_count leaves.old spare.old }
+    ensures room { LeavesHaveRoom leaves.new spare.new begun.new sizes.new }
+{
+    let (from, to) = near;
+    take_out(leaves, spare, from, to);
+    begun.cut_out(from, to);
+    sizes.cut_out(from, to);
+    insert_leaves(leaves, begun, sizes, spare, from, runs);
+}
+
+/// Puts into a buffer the runs of leaves in which the pages of a range have a type and an owner, and returns
+/// the indices between which these leaves are: the given ones, where the leaves there and those for later
+/// have room for the runs, and else all.
+fn fill_buffer<A: Allocator + Copy>(
+    buffer: &mut Vec<Run, A>,
+    leaves: &[Leaf<A>],
+    spare: usize,
+    near: (usize, usize),
+    range: PageRange,
+    mtype: MemoryType,
+    owner: Owner,
+) -> (usize, usize)
+    requires runs { AreRuns (runs_in leaves.now) }
+    requires ends { EndBy page_count (runs_in leaves.now) }
+    requires near { AreLeavesNear leaves.now range near.0 near.1 }
+    requires within { range.first + range.pages ≤ page_count }
+    requires room { length (runs_in leaves.now) + 2 ≤ vec_capacity buffer.old }
+    requires fits { length (runs_in leaves.now) + 2 ≤ 32 * (length leaves.now + spare) }
+    requires small { length leaves.now + spare < 2 ^ 63 }
+    ensures near { AreLeavesNear leaves.now range result.0 result.1 }
+    ensures pages { RetypesRuns range mtype owner
+        (runs_in (take (result.1 - result.0) (drop result.0 leaves.now))) buffer.new.items }
+    ensures order { AreMaximalRuns buffer.new.items }
+    ensures fits { length buffer.new.items ≤ 32 * (spare + (result.1 - result.0)) }
+    ensures capacity { vec_capacity buffer.old ≤ vec_capacity buffer.new }
+{
+    buffer.clear();
+    push_leaves(buffer, &leaves[near.0..near.1], range, mtype, owner);
+    if buffer.len().div_ceil(LEAF_SIZE) <= spare + (near.1 - near.0) {
+        return near;
+    }
+    buffer.clear();
+    push_leaves(buffer, leaves, range, mtype, owner);
+    (0, leaves.len())
+}
+
+/// Gives the pages of a range a type and an owner in leaves that are made anew: those that have the runs near
+/// it, and leaves for later, or all leaves where these have no room. It takes no memory.
+#[inline(never)]
+pub(crate) fn retype_anew<A: Allocator + Copy>(
+    leaves: &mut Vec<Leaf<A>, A>,
+    begun: &mut Tally<A>,
+    sizes: &mut Tally<A>,
+    spare: &mut Vec<Leaf<A>, A>,
+    entries: usize,
+    near: (usize, usize),
+    range: PageRange,
+    mtype: MemoryType,
+    owner: Owner,
+    buffer: &mut Vec<Run, A>,
+) -> Change
+    requires table { IsLeafTable leaves.old.items entries begun.old.items sizes.old.items }
+    requires near { AreLeavesNear leaves.old.items range near.0 near.1 }
+    requires some { 0 < range.pages }
+    requires present { AllInRange (pages_of (runs_in leaves.old.items)) range IsPresent }
+    requires owner { mtype ≡ conventional → owner ≡ Given }
+    requires buffer { length (runs_in leaves.old.items) + 2 ≤ vec_capacity buffer.old }
+    requires fits { length (runs_in leaves.old.items) + 2 ≤ 32 * leaf_count leaves.old spare.old }
+    requires room { LeavesHaveRoom leaves.old spare.old begun.old sizes.old }
+    ensures table { IsLeafTable leaves.new.items result.entries begun.new.items sizes.new.items }
+    ensures pages { Retypes range mtype owner leaves.old.items leaves.new.items }
+    ensures kept { KeepsLeaves leaves.old.items leaves.new.items result.near.0 result.near.1 }
+    ensures count { leaf_count leaves.new spare.new ≡ leaf_count leaves.old spare.old }
+    ensures room { LeavesHaveRoom leaves.new spare.new begun.new sizes.new }
+    ensures capacity { vec_capacity buffer.old ≤ vec_capacity buffer.new }
+{
+    let near = fill_buffer(
+        buffer,
+        leaves.as_slice(),
+        spare.len(),
+        near,
+        range,
+        mtype,
+        owner,
+    );
+    put_leaves(leaves, begun, sizes, spare, near, buffer.as_slice());
+    Change {
+        entries: begun.sum(),
+        near,
+    }
+}
+
+/// Gives the pages of a range a type and an owner in the leaves that have the runs near it, or anew where these
+/// have no room, or where none of them may go. It takes no memory that it could not do without.
+#[inline(always)]
+pub(crate) fn retype_leaves<A: Allocator + Copy>(
+    leaves: &mut Vec<Leaf<A>, A>,
+    begun: &mut Tally<A>,
+    sizes: &mut Tally<A>,
+    spare: &mut Vec<Leaf<A>, A>,
+    entries: usize,
+    near: (usize, usize),
+    range: PageRange,
+    mtype: MemoryType,
+    owner: Owner,
+    parts: &mut Vec<Run, A>,
+    buffer: &mut Vec<Run, A>,
+    may_lose: bool,
+) -> Change
+    requires table { IsLeafTable leaves.old.items entries begun.old.items sizes.old.items }
+    requires near { AreLeavesNear leaves.old.items range near.0 near.1 }
+    requires some { 0 < range.pages }
+    requires present { AllInRange (pages_of (runs_in leaves.old.items)) range IsPresent }
+    requires owner { mtype ≡ conventional → owner ≡ Given }
+    requires buffer { length (runs_in leaves.old.items) + 2 ≤ vec_capacity buffer.old }
+    requires fits { length (runs_in leaves.old.items) + 2 ≤ 32 * leaf_count leaves.old spare.old }
+    requires room { LeavesHaveRoom leaves.old spare.old begun.old sizes.old }
+    ensures table { IsLeafTable leaves.new.items result.entries begun.new.items sizes.new.items }
+    ensures pages { Retypes range mtype owner leaves.old.items leaves.new.items }
+    ensures kept { KeepsLeaves leaves.old.items leaves.new.items result.near.0 result.near.1 }
+    ensures count { leaf_count leaves.old spare.old ≤ leaf_count leaves.new spare.new
+        + (if may_lose then near.1 - near.0 else 0) }
+    ensures room { LeavesHaveRoom leaves.new spare.new begun.new sizes.new }
+    ensures capacity { vec_capacity buffer.old ≤ vec_capacity buffer.new }
+{
+    if may_lose {
+        let changed = retype_in_place(
+            leaves, begun, sizes, entries, near, range, mtype, owner, parts,
+        );
+        if let Some(change) = changed {
+            return change;
+        }
+    }
+    if spare.is_empty() {
+        // Without it all leaves are made anew, which takes longer.
+        let _added = add_spare(leaves, begun, sizes, spare);
+    }
+    retype_anew(
+        leaves, begun, sizes, spare, entries, near, range, mtype, owner, buffer,
+    )
+}
