@@ -39,7 +39,8 @@
  *   services that install or reinstall interfaces, and ConnectController, also return it once 2^61
  *   numbers were given to handles, or 2^61 - 1 stamps to interfaces, one at each installation and
  *   reinstallation. GetMemoryMap, ExitBootServices, PoolRead, PoolWrite, CloseProtocol,
- *   HandleProtocol, LocateDevicePath and LocateProtocol never ask for memory.
+ *   HandleProtocol, LocateDevicePath and LocateProtocol never ask for memory. FreePool never
+ *   returns it, and FreePages only where its comment says.
  * OUT_OF_RESOURCES may be returned instead of six refusals that are named before it, as the core
  * needs memory to decide them:
  * - ACCESS_DENIED of UninstallProtocolInterface, of ReinstallProtocolInterface, and of an exclusive
@@ -489,7 +490,9 @@ RAFKUDIN_API rafkudin_uint64 RafkudinAllocatePages(struct rafkudin *core, uint32
  * names; what it grows by was always placed too, and is freed with the rest.
  *
  * INVALID_PARAMETER: `Memory` is no multiple of 4,096, `Pages` is 0, or the range goes past the
- * last page. NOT_FOUND: a page of the range, as it is named, was not placed by AllocatePages. */
+ * last page. NOT_FOUND: a page of the range, as it is named, was not placed by AllocatePages.
+ * OUT_OF_RESOURCES: memory was refused, and none is reserved. Each AllocatePages reserves memory
+ * for one free: enough where all allocations are freed whole. Parts take the memory of one each. */
 RAFKUDIN_API rafkudin_uint64 RafkudinFreePages(struct rafkudin *core, rafkudin_uint64 Memory,
                                                rafkudin_uint64 Pages);
 
@@ -516,7 +519,8 @@ RAFKUDIN_API rafkudin_uint64 RafkudinGetMemoryMapInto(struct rafkudin *core, uin
 RAFKUDIN_API rafkudin_uint64 RafkudinAllocatePool(struct rafkudin *core, uint32_t PoolType,
                                                   rafkudin_uint64 Size, rafkudin_uint64 *Buffer);
 
-/* 7.2.5. Frees the block at an address. INVALID_PARAMETER: no live block has this address. */
+/* 7.2.5. Frees the block at an address. INVALID_PARAMETER: no live block has this address. It never
+ * returns OUT_OF_RESOURCES: AllocatePool reserves the memory that it may need. */
 RAFKUDIN_API rafkudin_uint64 RafkudinFreePool(struct rafkudin *core, rafkudin_uint64 Buffer);
 
 /* Copy `count` bytes of the pool, from the address on, to `bytes`, or copy `bytes` to there. A

@@ -9,7 +9,8 @@
  *
  * A region is any memory, from any address on, that the library alone reads and writes while the
  * core in it is called. Its bytes need no value. Memory runs out for a service of such a core, or
- * for RafkudinMakeIn, where the region has no room left: then it returns OUT_OF_RESOURCES. */
+ * for RafkudinMakeIn, where the region has no room left: then it returns OUT_OF_RESOURCES. For
+ * FreePool and FreePages room is reserved, as rafkudin.h says. */
 #ifndef RAFKUDIN_REGION_H
 #define RAFKUDIN_REGION_H
 
@@ -30,9 +31,11 @@ RAFKUDIN_API rafkudin_uint64 RafkudinMakeOverInRegion(
     const struct rafkudin_driver *drivers, size_t driver_count, struct rafkudin **core);
 
 /* How many bytes of a region serve a core whose memory map never has more than `entries` entries,
- * on which no more than `handles` handles with 8 interfaces each are live, and whose pool has no
- * more than `pool_pages` pages. A number above 2^32 - 1 counts as that. That it serves is
- * measured and not proved. */
+ * on which no more than `entries` allocations of pages and `handles` handles with 8 interfaces each
+ * are live, and whose pool has no more than `pool_pages` pages. Several allocations can be one
+ * entry. Of allocations that one FreePages frees together, all but one still count as live, but
+ * never more in all than there are pages to free. A number above 2^32 - 1 counts as that. That it
+ * serves is measured and not proved. */
 RAFKUDIN_API rafkudin_uint64 RafkudinRoom(rafkudin_uint64 entries, rafkudin_uint64 handles,
                                           rafkudin_uint64 pool_pages);
 

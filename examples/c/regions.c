@@ -1,6 +1,7 @@
 /* Cores in regions: regions of many sizes, of which the small ones are refused or run full with
  * nothing lost; two cores that share nothing, also over memory, where a block is at its address; and
- * regions of the sizes that RafkudinRoom returns. */
+ * regions of the sizes that RafkudinRoom returns. With `--smallest` it prints how many bytes the
+ * smallest regions that serve have for an entry, a handle and a page of the pool. */
 #include "points.h"
 
 #include <rafkudin_region.h>
@@ -151,17 +152,24 @@ static void try_two(void)
     free_guarded(other);
 }
 
-/* A core with this many entries, handles of eight interfaces, and pages of the pool, in a region of
- * the size that RafkudinRoom returns. */
-static void try_room(uint64_t entries, uint64_t handles, uint64_t pool_pages)
-{
-    size_t room = RafkudinRoom(entries, handles, pool_pages);
-    struct guarded guarded = guarded_region(room, 1);
-    struct rafkudin *core = NULL;
-    bool serves = make(guarded.region, room, 0x1000000, &core) == RAFKUDIN_SUCCESS;
+/* ---- How large a region is ---- */
 
-    for (uint64_t at = 0; serves && RafkudinDescriptors(core) + 2 < entries; at++) {
-        uint64_t address = 0x100000000 + 0x2000 * at;
+/* The page that is allocated as number `at`, two of which touch and are one entry. */
+static uint64_t entry_address(uint64_t at)
+{
+    return 0x100000000 + 0x3000 * (at / 2) + 0x1000 * (at % 2);
+}
+
+/* Whether a region serves a core with this many entries and live allocations of pages, handles of
+ * eight interfaces, and pages of the pool, until all pages are freed. */
+static bool serves(struct guarded guarded, uint64_t entries, uint64_t handles, uint64_t pool_pages)
+{
+    struct rafkudin *core = NULL;
+    bool serves = make(guarded.region, guarded.room, 0x1000000, &core) == RAFKUDIN_SUCCESS;
+    uint64_t placed = 0;
+
+    for (; serves && RafkudinDescriptors(core) + 2 < entries; placed++) {
+        uint64_t address = entry_address(placed);
 
         serves = RafkudinAllocatePages(core, RAFKUDIN_AT_ADDRESS, 2, 1, &address) ==
                  RAFKUDIN_SUCCESS;
@@ -182,8 +190,47 @@ static void try_room(uint64_t entries, uint64_t handles, uint64_t pool_pages)
         serves = RafkudinAllocatePool(core, RAFKUDIN_BOOT_SERVICES_DATA, 2100, &address) ==
                  RAFKUDIN_SUCCESS;
     }
-    HOLDS(serves);
+    for (uint64_t at = 0; serves && at < placed; at++)
+        serves = RafkudinFreePages(core, entry_address(at), 1) == RAFKUDIN_SUCCESS;
+    return serves;
+}
+
+static void try_room(uint64_t entries, uint64_t handles, uint64_t pool_pages)
+{
+    struct guarded guarded = guarded_region(RafkudinRoom(entries, handles, pool_pages), 1);
+
+    HOLDS(serves(guarded, entries, handles, pool_pages));
     free_guarded(guarded);
+}
+
+/* The smallest room that serves, by halving: below it some larger one may fail too. */
+static size_t smallest(uint64_t entries, uint64_t handles, uint64_t pool_pages)
+{
+    size_t low = 0, high = RafkudinRoom(entries, handles, pool_pages);
+
+    while (high - low > 16) {
+        size_t room = low + (high - low) / 2;
+        struct guarded guarded = guarded_region(room, 0);
+
+        if (serves(guarded, entries, handles, pool_pages))
+            high = room;
+        else
+            low = room;
+        free_guarded(guarded);
+    }
+    return high;
+}
+
+static void print_smallest(void)
+{
+    size_t least = smallest(4, 1, 1);
+
+    printf("4 entries, 1 handle, 1 page: %zu bytes\n", least);
+    for (size_t count = 16; count <= 2048; count *= 2)
+        printf("%zu more: %zu bytes for an entry, %zu for a handle, %zu for a page\n", count,
+               (smallest(4 + count, 1, 1) - least) / count,
+               (smallest(4, 1 + count, 1) - least) / count,
+               (smallest(4, 1, 1 + count) - least) / count);
 }
 
 /* ---- Cores in regions over memory ---- */
@@ -307,8 +354,12 @@ static void try_null(void)
     RafkudinFree(NULL);
 }
 
-int main(void)
+int main(int count, char **words)
 {
+    if (count == 2 && strcmp(words[1], "--smallest") == 0) {
+        print_smallest();
+        return 0;
+    }
     try_null();
     try_sizes();
     try_two();

@@ -90,9 +90,9 @@ pub extern "C" fn RafkudinMakeOverInRegion(
     }
 }
 
-/// How many bytes of a region serve a core whose memory map has this many entries at most, on which this many handles
-/// with 8 interfaces each are live at most, and whose pool has this many pages at most. A number above 2^32 - 1 counts
-/// as that.
+/// How many bytes of a region serve a core whose memory map has this many entries at most, on which as many allocations
+/// of pages and this many handles with 8 interfaces each are live at most, and whose pool has this many pages at most.
+/// A number above 2^32 - 1 counts as that.
 #[unsafe(no_mangle)]
 pub extern "C" fn RafkudinRoom(entries: u64, handles: u64, pool_pages: u64) -> u64
     ensures { result ≡ room_for entries handles pool_pages }

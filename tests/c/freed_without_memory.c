@@ -1,0 +1,198 @@
+/* Frees without memory. Some hundred drawn allocations of pages and blocks of the pool are freed in
+ * drawn order while the heap refuses everything: each FreePages and FreePool returns SUCCESS, and
+ * an allocation between them is served or leaves all as it was. Of allocations that are freed in
+ * parts, as many FreePages as there were AllocatePages return SUCCESS, whatever they free; a later
+ * one may return OUT_OF_RESOURCES, leaves all as it was then, and returns SUCCESS once there is
+ * memory. The heap is that of refusing_heap.h, instead of the library's. Each point that does not
+ * hold is printed on standard error, and then the status is 1. */
+#include "drawn_load.h"
+#include "draws.h"
+#include "points.h"
+#include "refusing_heap.h"
+
+#include <limits.h>
+#include <stdlib.h>
+
+static struct map first, before, after;
+
+/* Allocations that were refused memory, and those that were served while the heap refuses. */
+static unsigned long outs, served;
+
+static struct rafkudin *core_of_load(uint64_t granule, bool certifies)
+{
+    struct rafkudin *core = NULL;
+
+    refuse_none();
+    if (RafkudinMake((const uint8_t *)load_machine, sizeof load_machine, sizeof load_machine[0],
+                     granule, NULL, 0, &core) != RAFKUDIN_SUCCESS)
+        abort();
+    RafkudinCertify(core, certifies);
+    return core;
+}
+
+/* Whether the map is as it was when it was taken, with the same key. */
+static bool is_same_map(struct rafkudin *core)
+{
+    map_take(&after, core);
+    return map_equals(&before, &after) && before.key == after.key;
+}
+
+/* ---- A load ---- */
+
+/* Allocates while the heap refuses each allocation from one on. */
+static void allocate_refused(struct load *load, unsigned long number)
+{
+    uint64_t status;
+
+    map_take(&before, load->core);
+    refuse(number, ULONG_MAX);
+    status = load_allocate(load);
+    HOLDS(status == RAFKUDIN_SUCCESS || is_same_map(load->core));
+    outs += status == RAFKUDIN_OUT_OF_RESOURCES && was_refused;
+    served += status == RAFKUDIN_SUCCESS;
+}
+
+/* Allocates until there is that number. Of one call in eight a later allocation is refused. */
+static void fill(struct load *load, size_t count)
+{
+    while (load->count < count) {
+        refuse_none();
+        if (one_of(&load->seed, 8))
+            allocate_refused(load, 1 + draw_below(&load->seed, 6));
+        else
+            load_allocate(load);
+    }
+    refuse_none();
+}
+
+/* Frees until that number is left, with the heap refusing everything. */
+static void free_without_memory(struct load *load, size_t left)
+{
+    refuse(1, ULONG_MAX);
+    while (load->count > left) {
+        load_free(load);
+        if (one_of(&load->seed, 4))
+            allocate_refused(load, 1);
+    }
+    refuse_none();
+}
+
+static void try_load(uint64_t seed, uint64_t granule)
+{
+    static struct load load;
+
+    load_begin(&load, core_of_load(granule, seed % 3 == 0), seed);
+    map_take(&first, load.core);
+    for (int round = 0; round < 3; round++) {
+        fill(&load, 600);
+        free_without_memory(&load, (size_t)draw_below(&load.seed, 500));
+    }
+    fill(&load, 600);
+    free_without_memory(&load, 0);
+    map_take(&after, load.core);
+    HOLDS(map_equals(&first, &after));
+    for (int kind = 0; kind < 4; kind++)
+        HOLDS(load.made[kind] > 100);
+    RafkudinFree(load.core);
+    HOLDS(in_use == 0);
+}
+
+/* ---- Allocations that are freed in parts ---- */
+
+#define WHOLES 64U
+#define PAGES 40U
+
+/* The pages that are live, by their numbers. */
+struct parts {
+    struct rafkudin *core;
+    uint64_t seed;
+    uint64_t pages[WHOLES * PAGES];
+    size_t count;
+};
+
+/* Frees a drawn page, and returns whether it was refused memory at first. */
+static bool free_page(struct parts *parts)
+{
+    size_t at = (size_t)draw_below(&parts->seed, parts->count);
+    uint64_t page = parts->pages[at], status;
+
+    parts->pages[at] = parts->pages[--parts->count];
+    map_take(&before, parts->core);
+    refuse(1, ULONG_MAX);
+    status = RafkudinFreePages(parts->core, page * 4096, 1);
+    if (status != RAFKUDIN_OUT_OF_RESOURCES) {
+        HOLDS(status == RAFKUDIN_SUCCESS);
+        return false;
+    }
+    HOLDS(was_refused && is_same_map(parts->core));
+    refuse_none();
+    HOLDS(RafkudinFreePages(parts->core, page * 4096, 1) == RAFKUDIN_SUCCESS);
+    return true;
+}
+
+/* Pages of one type, which are one entry of the map, or of two in turn. */
+static void try_parts(uint64_t seed, uint32_t types)
+{
+    static struct parts parts;
+    unsigned long refused = 0;
+
+    parts.core = core_of_load(1, false);
+    parts.seed = seed;
+    parts.count = 0;
+    map_take(&first, parts.core);
+    for (uint32_t whole = 0; whole < WHOLES; whole++) {
+        uint64_t address = 0x10000000 + (uint64_t)whole * PAGES * 4096;
+
+        HOLDS(RafkudinAllocatePages(parts.core, RAFKUDIN_AT_ADDRESS, 1 + whole % types, PAGES,
+                                    &address) == RAFKUDIN_SUCCESS);
+    }
+    /* One page in two, and then the others. The first of them are as many as the allocations. */
+    for (uint64_t odd = 2; odd-- > 0;) {
+        for (uint64_t at = odd; at < WHOLES * PAGES; at += 2)
+            parts.pages[parts.count++] = 0x10000 + at;
+        for (uint64_t number = 0; parts.count > 0; number++) {
+            bool is_refused = free_page(&parts);
+
+            HOLDS(!is_refused || odd == 0 || number >= WHOLES);
+            refused += is_refused;
+        }
+    }
+    refuse_none();
+    HOLDS(refused > 10);
+    map_take(&after, parts.core);
+    HOLDS(map_equals(&first, &after));
+    RafkudinFree(parts.core);
+    HOLDS(in_use == 0);
+}
+
+/* The middle page of each of some allocations that are one entry of the map. */
+static void try_by_hand(void)
+{
+    struct rafkudin *core = core_of_load(1, false);
+    uint64_t addresses[WHOLES];
+
+    for (size_t at = 0; at < WHOLES; at++) {
+        addresses[at] = 0;
+        HOLDS(RafkudinAllocatePages(core, RAFKUDIN_ANY_PAGES, RAFKUDIN_LOADER_DATA, 3,
+                                    &addresses[at]) == RAFKUDIN_SUCCESS);
+    }
+    refuse(1, ULONG_MAX);
+    for (size_t at = 0; at < WHOLES; at++)
+        HOLDS(RafkudinFreePages(core, addresses[at] + 4096, 1) == RAFKUDIN_SUCCESS);
+    /* They were one entry more, which is free and placed pages by turns now. */
+    HOLDS(RafkudinDescriptors(core) == COUNT(load_machine) + 1 + 2 * WHOLES);
+    refuse_none();
+    RafkudinFree(core);
+    HOLDS(in_use == 0);
+}
+
+int main(void)
+{
+    for (uint64_t seed = 1; seed <= 24; seed++)
+        try_load(seed, seed % 4 < 2 ? 1 : 16);
+    HOLDS(outs > 1000 && served > 100);
+    for (uint64_t seed = 1; seed <= 8; seed++)
+        try_parts(seed, 1 + seed % 2);
+    try_by_hand();
+    return points_end("freed_without_memory");
+}
