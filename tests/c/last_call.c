@@ -16,7 +16,7 @@
 #define CALLS 1000
 
 /* How many numbers of 64 bits a core has at least. */
-#define NUMBERS 80
+#define NUMBERS 96
 
 static const struct rafkudin_guid disk = {{1}};
 
