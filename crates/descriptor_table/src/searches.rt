@@ -9,17 +9,37 @@ ghost use Rattle.descriptor_table.specs.PageTests.{Passes};
 
 use page_ranges::{MemoryType, Owner, Run};
 
-/// How many runs end below a page; they come first.
+/// How many runs end below a page; they come first. Of the runs that begin below it only the last may
+/// end at it or above it.
 pub(crate) fn count_ending_below(runs: &[Run], page: u64) -> usize
     requires { AreRuns runs.now }
     ensures bound { result ≤ length runs.now }
     ensures below { AllWithin (λ r. r.range.first + r.range.pages < page) runs.now 0 result }
     ensures above { AllWithin (EndsFrom page) runs.now result (length runs.now) }
 {
+    let count = count_beginning_below(runs, page);
+    if count == 0 {
+        return 0;
+    }
+    let last = &runs[count - 1];
+    if last.range.pages < page - last.range.first {
+        count
+    } else {
+        count - 1
+    }
+}
+
+/// How many runs begin below a page; they come first.
+fn count_beginning_below(runs: &[Run], page: u64) -> usize
+    requires { AreRuns runs.now }
+    ensures bound { result ≤ length runs.now }
+    ensures below { AllWithin (λ r. r.range.first < page) runs.now 0 result }
+    ensures above { AllWithin (λ r. page ≤ r.range.first) runs.now result (length runs.now) }
+{
     runs.partition_point(
         |run: &Run| -> bool
-            ensures { result ≡ nat_lt (run.now.range.first + run.now.range.pages) page }
-        { run.range.first < page && run.range.pages < page - run.range.first },
+            ensures { result ≡ nat_lt run.now.range.first page }
+        { run.range.first < page },
     )
 }
 
