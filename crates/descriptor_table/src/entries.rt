@@ -17,6 +17,7 @@ use std::alloc::{Allocator, Global};
 use std::marker::Model;
 
 /// The second run goes on in the first one's entry of the map.
+#[inline(always)]
 pub(crate) fn goes_on(run: &Run, next: &Run) -> bool
     requires { run.now.range.first + run.now.range.pages < 2 ^ 64 }
     ensures { result ≡ should_be_one (entry_of run.now) (entry_of next.now) }
@@ -33,11 +34,14 @@ pub(crate) fn count_entries(runs: &[Run]) -> usize
     ensures count { result ≡ length (memory_map (pages_of runs.now)) }
     ensures bound { result ≤ length runs.now }
 {
-    let mut entries = 0;
-    for i in (0..runs.len()).rev() {
-        if i + 1 == runs.len() || !goes_on(&runs[i], &runs[i + 1]) {
-            entries += 1;
+    // Each run begins an entry, but for those that go on in the entry of the run before.
+    let mut entries = runs.len();
+    let mut rest = runs;
+    while let [first, second, ..] = rest {
+        if goes_on(first, second) {
+            entries -= 1;
         }
+        rest = &rest[1..];
     }
     entries
 }
