@@ -17,13 +17,27 @@ pub(crate) fn replace_runs<const N: usize>(
     requires fits { array_vec_len runs.old + length parts.now ≤ N + (high - low) }
     ensures { runs.new.items ≡ take low runs.old.items ++ (parts.now ++ drop high runs.old.items) }
 {
-    let count = runs.len();
     let end = low + parts.len();
-    if end > high {
-        let _grown = runs.try_extend_from_slice(&parts[..end - high]);
+    if end == high {
+        runs.as_mut_slice()[low..high].copy_from_slice(parts);
+        return;
     }
-    let all = runs.as_mut_slice();
-    all.copy_within(high..count, end);
-    all[low..end].copy_from_slice(parts);
-    runs.truncate(count + end - high);
+    let count = runs.len();
+    if end < high {
+        let all = runs.as_mut_slice();
+        all.copy_within(high..count, end);
+        all[low..end].copy_from_slice(parts);
+        runs.truncate(count + end - high);
+        return;
+    }
+    if high == count {
+        let (front, back) = parts.split_at(high - low);
+        runs.as_mut_slice()[low..].copy_from_slice(front);
+        let _grown = runs.try_extend_from_slice(back);
+        return;
+    }
+    let _grown = runs.try_extend_from_slice(&parts[..end - high]);
+    let longer = runs.as_mut_slice();
+    longer.copy_within(high..count, end);
+    longer[low..end].copy_from_slice(parts);
 }

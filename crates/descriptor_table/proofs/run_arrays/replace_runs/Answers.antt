@@ -1,13 +1,63 @@
-use Rattle.std.proofs.Common.{◌≡◌, ◌+◌, ◌-◌, ◌≤◌, ◌++◌, length, take, drop, List, [], sym, ap, ap₂, ◌∙◌, append-nil, arith}
-use Rattle.std.proofs.lemmas.List.{length-append, length-take-le, length-drop, drop-drop}
+use Rattle.std.proofs.Common.{◌≡◌, ◌+◌, ◌-◌, ◌≤◌, ◌++◌, length, take, drop, [], sym, ap, ap₂, ◌∙◌, append-nil, arith}
+use Rattle.std.proofs.lemmas.List.{length-append, length-take-le, take_all}
 use Rattle.std.proofs.Math.Seq.{paste}
-use Rattle.arrayvec.specs.ArrayVec.{ArrayVec, array_vec_len}
+use Rattle.arrayvec.specs.ArrayVec.{array_vec_len, with_items}
 use Rattle.arrayvec.proofs.ArrayVecLemmas.{items-with_items}
-use Rattle.page_ranges.specs.declared.ranges.Run.{Run}
-use Rattle.descriptor_table.proofs.RunArrays.{of_ok, replaced}
+use Rattle.descriptor_table.proofs.RunArrays.{of_ok, written, written_length, written_is, at_end, replaced}
 use Rattle.descriptor_table.proofs.run_arrays.replace_runs.Goals as goal
-use Rattle.descriptor_table.proofs.run_arrays.replace_runs.Goals.{then-end-high, else-end-high}
 
+-- as many as went
+pub returns-then-end-high : goal.returns-then-end-high
+returns-then-end-high g c =
+    let old = c.args.runs.now in
+    let all = c.as_mut_slice.result.now in
+    let put = c.copy_from_slice.new.self in
+    let same = c.as_mut_slice.ensures.value in
+    let long = written_length all c.args.low c.args.high put (omega (arith, c.if-end-high.true, ap length c.copy_from_slice.ensures.after)) (omega (arith, ap length same, c.requires.bound)) ∙ ap length same in
+    items-with_items old (written all c.args.low c.args.high put) long
+    ∙ ap₂ (λ xs ys. written xs c.args.low c.args.high ys) same c.copy_from_slice.ensures.after
+    ∙ written_is old.items c.args.low c.args.high c.args.parts.now c.requires.order
+
+-- fewer
+pub returns-then-end-high-2 : goal.returns-then-end-high-2
+returns-then-end-high-2 g c =
+    let old = c.args.runs.now in
+    let parts = c.args.parts.now in
+    let low = c.args.low in
+    let high = c.args.high in
+    let end = low + length parts in
+    let moved = c.copy_within.new.self in
+    let put = c.copy_from_slice-then-end-high-2 in
+    let same = c.as_mut_slice-all.ensures.value in
+    let was = c.copy_within.ensures.len ∙ ap length same in
+    let long = written_length moved low end put.new.self (omega (arith, ap length put.ensures.after)) (omega (arith, was, c.requires.bound)) ∙ was in
+    let n = c.len-count.result + end - high in
+    c.truncate.ensures.items
+    ∙ ap (take n) (items-with_items old (written moved low end put.new.self) long)
+    ∙ replaced old.items [] parts low high n c.requires.order c.requires.bound (omega arith) (omega (arith, c.len-count.ensures.value, c.requires.bound)) old.items moved put.new.self (sym (append-nil old.items)) (c.copy_within.ensures.after ∙ ap₂ (λ xs k. paste xs end (drop high xs) (k - high)) same c.len-count.ensures.value) put.ensures.after
+
+-- more, and the last ones went
+pub returns-then-high-count : goal.returns-then-high-count
+returns-then-high-count g c =
+    let old = c.args.runs.now in
+    let parts = c.args.parts.now in
+    let low = c.args.low in
+    let high = c.args.high in
+    let all = c.as_mut_slice-then-high-count.result.now in
+    let put = c.copy_from_slice-then-high-count in
+    let grown = c.try_extend_from_slice-grown in
+    let last : high ≡ length old.items = c.if-high-count.true ∙ c.len-count.ensures.value in
+    let same = c.as_mut_slice-then-high-count.ensures.value in
+    let here : length all ≡ high = ap length same ∙ sym last in
+    let front = put.ensures.after ∙ c.split_at.ensures.front in
+    let long = written_length all low (length all) put.new.self (omega (arith, ap length put.ensures.after, c.split_at.ensures.front_len, here, c.requires.order)) (omega arith) ∙ ap length same in
+    let kept = items-with_items old (written all low (length all) put.new.self) long in
+    let fits : array_vec_len (with_items old (written all low (length all) put.new.self)) + length c.split_at.result.1.now ≤ g.row.N = omega (arith, ap length kept, long, c.split_at.ensures.back_len, c.requires.fits, c.requires.order) in
+    of_ok grown.result (grown.ensures.variant.1 fits) grown.ensures.ok
+    ∙ ap₂ (λ xs ys. xs ++ ys) (kept ∙ ap₂ (λ xs ys. written xs low (length all) ys) same front ∙ ap (λ k. written old.items low k (take (high - low) parts)) here) c.split_at.ensures.back
+    ∙ at_end old.items low high parts c.requires.order last
+
+-- more, in front of others
 pub returns : goal.returns
 returns g c =
     let old = c.args.runs.now.items in
@@ -15,22 +65,18 @@ returns g c =
     let low = c.args.low in
     let high = c.args.high in
     let end = low + length parts in
-    let held = c.if-end-high.runs in
-    let moved = c.copy_within.new.self in
-    let put = c.copy_from_slice.new.self in
-    let written = take low moved ++ (put ++ drop (end - low) (drop low moved)) in
-    let is : written ≡ take low moved ++ (parts ++ drop end moved) = ap₂ (λ xs ys. take low moved ++ (xs ++ ys)) c.copy_from_slice.ensures.after (drop-drop (end - low) low moved ∙ ap (λ k. drop k moved) (let e : low + (end - low) ≡ end = omega arith in e)) in
-    let whole : (room : List Run) → held.items ≡ old ++ room → end ≤ high + length room → c.truncate.new.self.items ≡ take low old ++ (parts ++ drop high old) = λ room same fits.
-    let length_is : length moved ≡ length old + length room = omega (arith, ap length same, length-append old room, ap length c.as_mut_slice-all.ensures.value, c.copy_within.ensures.len) in
-    let long : length written ≡ array_vec_len held = omega (arith, ap length is, length-append (take low moved) (parts ++ drop end moved), length-append parts (drop end moved), length-take-le low moved (omega (arith, length_is)), length-drop end moved, ap length same, length-append old room, length_is) in
-    let n = c.len-count.result + end - high in
-    c.truncate.ensures.items ∙ ap (take n) (items-with_items held written long) ∙ replaced old room parts low high n c.requires.order c.requires.bound fits (omega (arith, c.len-count.ensures.value, c.requires.bound)) held.items moved written same (c.copy_within.ensures.after ∙ ap₂ (λ xs k. paste xs end (drop high xs) (k - high)) c.as_mut_slice-all.ensures.value c.len-count.ensures.value) is in
-    elim c.if-end-high.branch [
-      | then-end-high w ↦
-          let grown = w.try_extend_from_slice-grown in
-          let room = take (end - high) parts in
-          let size : length room ≡ end - high = length-take-le (end - high) parts (omega (arith, c.requires.order)) in
-          let fits : array_vec_len c.args.runs.now + length room ≤ g.row.N = omega (arith, size, c.requires.fits, c.requires.order, c.requires.bound) in
-          whole room (ap (λ (v : ArrayVec Run). v.items) w.runs-is ∙ of_ok grown.result (grown.ensures.variant.1 fits) grown.ensures.ok) (omega (arith, size))
-      | else-end-high w ↦ whole [] (ap (λ (v : ArrayVec Run). v.items) w.runs-is ∙ sym (append-nil old)) (omega arith)
-    ]
+    let room = take (end - high) parts in
+    let grown = c.try_extend_from_slice-grown-2 in
+    let size : length room ≡ end - high = length-take-le (end - high) parts (omega (arith, c.requires.order)) in
+    let fits : length old + length room ≤ g.row.N = omega (arith, size, c.requires.fits, c.requires.order, c.requires.bound) in
+    let held : grown.new.self.items ≡ old ++ room = of_ok grown.result (grown.ensures.variant.1 fits) grown.ensures.ok in
+    let moved = c.copy_within-2.new.self in
+    let put = c.copy_from_slice-2 in
+    let same = c.as_mut_slice-longer.ensures.value in
+    let was = c.copy_within-2.ensures.len ∙ ap length same in
+    let count : length grown.new.self.items ≡ length old + length room = ap length held ∙ length-append old room in
+    let long = written_length moved low end put.new.self (omega (arith, ap length put.ensures.after)) (omega (arith, was, count, size, c.requires.bound)) ∙ was in
+    let n = length old + end - high in
+    items-with_items grown.new.self (written moved low end put.new.self) long
+    ∙ sym (take_all n (written moved low end put.new.self) (omega (arith, long, count, size, c.requires.bound)))
+    ∙ replaced old room parts low high n c.requires.order c.requires.bound (omega (arith, size)) (omega (arith, c.requires.bound)) grown.new.self.items moved put.new.self held (c.copy_within-2.ensures.after ∙ ap₂ (λ xs k. paste xs end (drop high xs) (k - high)) same c.len-count.ensures.value) put.ensures.after
