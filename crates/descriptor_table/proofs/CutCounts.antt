@@ -1,10 +1,9 @@
 -- How many more runs there are once a range cuts some.
-use Rattle.std.proofs.Common.{◌≡◌, ◌⊎◌, ℕ, ◌+◌, ◌<◌, ◌≤◌, Bool, true, false, ◌&&◌, if◌then◌else◌, List, [], ◌∷◌, ◌++◌, length, length-append, get_or, take, drop, inl, inr, refl, sym, ap, subst, ◌∙◌, append-nil, take-append-drop, arith}
+use Rattle.std.proofs.Common.{◌≡◌, ℕ, ◌+◌, ◌<◌, ◌≤◌, Bool, true, false, ◌&&◌, if◌then◌else◌, List, [], ◌∷◌, ◌++◌, length, length-append, get_or, take, drop, inl, inr, refl, sym, ap, subst, ◌∙◌, append-nil, take-append-drop, arith}
 use Rattle.std.specs.Prelude.{nat_lt, Result, Ok, Err, OnErr}
 use Rattle.std.specs.List.{AllByRecursion}
 use Rattle.std.proofs.lemmas.List.{take_more}
-use Rattle.std.proofs.lemmas.Bool.{cases_lt, lt-ltb, le-ltb}
-use Rattle.std.proofs.Math.Nat.{eq-or-lt_of_le}
+use Rattle.std.proofs.lemmas.Bool.{cases_lt, le-ltb}
 use Rattle.page_ranges.specs.declared.ranges.PageRange.{PageRange}
 use Rattle.page_ranges.specs.declared.ranges.Run.{Run}
 use Rattle.page_ranges.specs.Runs.{AreRuns}
@@ -21,9 +20,6 @@ on_err (Ok x) h = tt
 on_err (Err e) h = h
 
 -- ---- one run
-
-cuts_one : (k : ℕ) (r : Run) → r.range.first < k → k < r.range.first + r.range.pages → cuts_at k r ≡ 1
-cuts_one k r h e = rw (lt-ltb r.range.first k h, lt-ltb k (r.range.first + r.range.pages) e) refl
 
 neither : (a b : Bool) → b ≡ false → ◌≡◌ {A = ℕ} (if a && b then 1 else 0) 0
 neither true b e = rw e refl
@@ -42,25 +38,6 @@ cuts_none_above k r h = neither (nat_lt r.range.first k) (nat_lt k (r.range.firs
 
 cuts_few : (k : ℕ) (r : Run) → cuts_at k r ≤ 1
 cuts_few k r = one_at_most (nat_lt r.range.first k) (nat_lt k (r.range.first + r.range.pages))
-
--- A run in three parts, of which some may be empty. No more are put behind others than the range cuts it in.
-module _ (range : PageRange) (r : Run) (low high a b c d : ℕ)
-    (under : r.range.first < low → low ≤ range.first) (behind : low < r.range.first + r.range.pages → range.first ≤ low)
-    (within : low < high → high ≤ range.first + range.pages) (over : high < r.range.first + r.range.pages → range.first + range.pages ≤ high)
-    (one : b ≤ a + 1) (none : r.range.first ≡ low → b ≤ a) (two : c ≤ b + 1) (no_second : low ≡ high → c ≤ b) (three : d ≤ c + 1) (no_third : high ≡ r.range.first + r.range.pages → d ≤ c) where
-  few_parts : ((r.range.first ≡ low) ⊎ (r.range.first < low)) → ((low ≡ high) ⊎ (low < high)) → ((high ≡ r.range.first + r.range.pages) ⊎ (high < r.range.first + r.range.pages))
-      → d ≤ a + (1 + (cuts_at range.first r + cuts_at (range.first + range.pages) r))
-  few_parts (inl e) (inl f) t = omega (arith, none e, no_second f)
-  few_parts (inl e) (inr k) (inl g) = omega (arith, none e, no_third g)
-  few_parts (inl e) (inr k) (inr l) = omega (arith, none e, cuts_one (range.first + range.pages) r (omega (arith, within k, over l)) (omega (arith, over l)))
-  few_parts (inr h) (inl f) (inl g) = omega (arith, no_second f, no_third g)
-  few_parts (inr h) (inl f) (inr l) = omega (arith, no_second f, cuts_one range.first r (omega (arith, under h)) (omega (arith, behind (omega arith))))
-  few_parts (inr h) (inr k) (inl g) = omega (arith, no_third g, cuts_one range.first r (omega (arith, under h)) (omega (arith, behind (omega arith))))
-  few_parts (inr h) (inr k) (inr l) =
-      omega (arith, cuts_one range.first r (omega (arith, under h)) (omega (arith, behind (omega arith))), cuts_one (range.first + range.pages) r (omega (arith, within k, over l)) (omega (arith, over l)))
-
-  pub parts_few : r.range.first ≤ low → low ≤ high → high ≤ r.range.first + r.range.pages → d ≤ a + (1 + (cuts_at range.first r + cuts_at (range.first + range.pages) r))
-  parts_few o p q = few_parts (eq-or-lt_of_le o) (eq-or-lt_of_le p) (eq-or-lt_of_le q)
 
 -- ---- runs one after the other
 

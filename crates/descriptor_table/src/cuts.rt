@@ -92,8 +92,47 @@ fn push_part<A: Allocator>(
     push_joined(runs, Run { range, ..*run })
 }
 
+/// Puts a run in which the pages of a range have a type and an owner behind others, which end at its first page
+/// or below it. The run begins below the range's end, and ends above the range's first page.
+fn push_cut<A: Allocator>(
+    parts: &mut Vec<Run, A>,
+    run: &Run,
+    range: PageRange,
+    mtype: MemoryType,
+    owner: Owner,
+) -> Result<(), AllocError>
+    requires order { AreMaximalUpTo run.now.range.first parts.old.items }
+    requires above { range.first < run.now.range.first + run.now.range.pages }
+    requires below { run.now.range.first < range.first + range.pages }
+    requires ends { run.now.range.first + run.now.range.pages ≤ page_count }
+    requires within { range.first + range.pages ≤ page_count }
+    ensures pages { OnOk result
+        (AppendsRetyped range mtype owner (run.now ∷ []) parts.old.items parts.new.items) }
+    ensures order { OnOk result
+        (AreMaximalUpTo (run.now.range.first + run.now.range.pages) parts.new.items) }
+    ensures few { length parts.new.items
+        ≤ length parts.old.items + (1 + cut_count range (run.now ∷ [])) }
+    ensures capacity { vec_capacity parts.old ≤ vec_capacity parts.new }
+    ensures full { OnErr result (vec_capacity parts.old
+        < length parts.old.items + (1 + cut_count range (run.now ∷ []))) }
+{
+    let first = run.range.first;
+    let end = first + run.range.pages;
+    let low = first.max(range.first);
+    let high = end.min(range.first + range.pages);
+    let changed = Run {
+        range: run.range,
+        mtype,
+        attributes: mtype.attributes_as(run.attributes),
+        owner,
+    };
+    push_part(parts, run, first, low)?;
+    push_part(parts, &changed, low, high)?;
+    push_part(parts, run, high, end)
+}
+
 /// Puts the runs in which the pages of a range have a type and an owner behind others, which end where
-/// these begin or below.
+/// these begin or below. A run that shares no page with the range goes behind them as it is.
 pub(crate) fn push_behind<A: Allocator>(
     parts: &mut Vec<Run, A>,
     runs: &[Run],
@@ -116,20 +155,13 @@ pub(crate) fn push_behind<A: Allocator>(
     ensures full { OnErr result (vec_capacity parts.old
         < length parts.old.items + (length runs.now + cut_count range runs.now)) }
 {
+    let end = range.first + range.pages;
     for run in runs {
-        let first = run.range.first;
-        let end = first + run.range.pages;
-        let low = range.first.clamp(first, end);
-        let high = (range.first + range.pages).clamp(low, end);
-        let changed = Run {
-            range: run.range,
-            mtype,
-            attributes: mtype.attributes_as(run.attributes),
-            owner,
-        };
-        push_part(parts, run, first, low)?;
-        push_part(parts, &changed, low, high)?;
-        push_part(parts, run, high, end)?;
+        if run.range.first + run.range.pages <= range.first || end <= run.range.first {
+            push_joined(parts, *run)?;
+        } else {
+            push_cut(parts, run, range, mtype, owner)?;
+        }
     }
     Ok(())
 }

@@ -1,42 +1,49 @@
-use Rattle.std.proofs.Common.{◌+◌, ◌-◌, ◌++◌, length, take, append-nil, refl, sym, ap, subst, ◌∙◌, arith}
+use Rattle.std.proofs.Common.{◌+◌, ◌++◌, ◌≤◌, [], ◌∷◌, Vec, length, append-nil, sym, ap, subst, ◌∙◌, arith}
+use Rattle.std.specs.Prelude.{vec_capacity}
+use Rattle.std.proofs.lemmas.Bool.{leb-true}
 use Rattle.std.proofs.lemmas.List.{take_all}
 use Rattle.page_ranges.specs.declared.ranges.Run.{Run}
-use Rattle.page_ranges.specs.Memory.{row, retyped}
-use Rattle.page_ranges.specs.Runs.{page_in, pages_of}
-use Rattle.page_ranges.proofs.RunLists.{retyped_run, run_at, EndBy-higher}
-use Rattle.descriptor_table.specs.LeafChanges.{EndsWith}
+use Rattle.page_ranges.specs.Memory.{retyped}
+use Rattle.page_ranges.specs.Runs.{pages_of}
+use Rattle.page_ranges.proofs.RunLists.{run_at, some_pages_at, EndBy-higher}
+use Rattle.descriptor_table.specs.LeafChanges.{AppendsRetyped, EndsWith}
 use Rattle.descriptor_table.specs.Reserves.{cut_count}
-use Rattle.descriptor_table.specs.Tables.{EndBy}
-use Rattle.descriptor_table.proofs.CutRuns.{three_parts, last_taken, one_more, put_all, put_behind, up_to_next}
-use Rattle.descriptor_table.proofs.CutCounts.{on_err, cuts_more, parts_few, parts_of_one_more}
+use Rattle.descriptor_table.specs.Tables.{AreMaximalUpTo, EndBy}
+use Rattle.descriptor_table.proofs.CutRuns.{last_taken, one_more, put_above, put_below, up_to_next}
+use Rattle.descriptor_table.proofs.CutCounts.{on_err, cuts_more, parts_of_one_more}
 use Rattle.descriptor_table.proofs.cuts.push_behind.Goals as goal
+use Rattle.descriptor_table.proofs.cuts.push_behind.Goals.{then-run-range, else-run-range, then-end-run+in_ok-push_joined, else-end-run+in_ok-push_cut}
 
 pub loop-run-preserved : goal.loop-run-preserved
 loop-run-preserved g c =
     let i = c.loop-run.invariant in
     let r = c.run-item.result in
     let end = r.range.first + r.range.pages in
-    let low = c.clamp-low.result in
-    let high = c.clamp-high.result in
-    let a = row (low - r.range.first) (page_in r.range.first r) in
-    let b = row (high - low) (page_in low (retyped_run c.args.mtype c.args.owner r)) in
-    let b' = row (high - low) (record { number = low; mtype = c.args.mtype; attributes = c.attributes_as.result; owner = c.args.owner }) in
-    let d = row (end - high) (page_in high r) in
-    let same = ap (λ n. row (high - low) (record { number = low; mtype = c.args.mtype; attributes = n; owner = c.args.owner })) c.attributes_as.ensures in
-    let parts = three_parts c.args.range c.args.mtype c.args.owner r low high (omega arith) (omega arith) (omega arith) (λ h. omega arith) (λ h. (omega arith, omega arith)) (λ h. omega arith) in
-    let put = put_behind (pages_of c.loop-run.parts.items) (pages_of c.push_part.new.runs.items) (pages_of c.push_part-in-loop-run.new.runs.items) (pages_of c.push_part-in-loop-run-2.new.runs.items) a b b' d
-    c.in_ok-push_part.ensures.pages c.in_ok-push_part-2.ensures.pages same c.in_ok-push_part-3.ensures.pages in
-    let p = pages_of c.args.parts.now.items in
-    let m = retyped c.args.range c.args.mtype c.args.owner (pages_of (take c.loop-run.run-index c.args.runs.now)) in
+    let runs = c.args.runs.now in
+    let range = c.args.range in
+    let mtype = c.args.mtype in
+    let owner = c.args.owner in
+    let old = c.loop-run.parts in
+    let new = c.if-end-run.parts.items in
+    let Puts : Vec Run g.row.A.Denot → Type 0 = λ v. AppendsRetyped range mtype owner (r ∷ []) old.items v.items × AreMaximalUpTo end v.items × (length v.items ≤ length old.items + (1 + cut_count range (r ∷ []))) × (vec_capacity old ≤ vec_capacity v) in
+    let put : Puts c.if-end-run.parts = elim c.if-end-run.branch [
+      | then-end-run+in_ok-push_joined w ↦
+          let all = w.in_ok-push_joined.ensures.ok in
+          let pages : AppendsRetyped range mtype owner (r ∷ []) old.items w.push_joined.new.runs.items = elim c.if-run-range.branch [
+            | then-run-range v ↦ put_below range mtype owner r old.items w.push_joined.new.runs.items (omega arith) all.pages
+            | else-run-range v ↦ put_above range mtype owner r old.items w.push_joined.new.runs.items (omega (arith, leb-true _ _ (sym v.value-is ∙ w.if-end-run.true))) all.pages
+          ] in
+          subst Puts (sym w.parts-is) (pages, all.order, omega (arith, w.push_joined.ensures.few), w.push_joined.ensures.capacity)
+      | else-end-run+in_ok-push_cut w ↦
+          subst Puts (sym w.parts-is) (w.in_ok-push_cut.ensures.pages, w.in_ok-push_cut.ensures.order, w.push_cut.ensures.few, w.push_cut.ensures.capacity)
+    ] in
     record {
-      pages =
-          put ∙ ap (λ ms. ms ++ a ++ b ++ d) i.pages ∙ put_all p m a b d
-          ∙ ap (λ ms. p ++ ms) (one_more c.args.range c.args.mtype c.args.owner c.args.runs.now c.loop-run.run-index r (omega arith) c.run-item.is m a b d refl parts);
-      order = c.in_ok-push_part-3.ensures.order.0;
-      next = λ s h e. up_to_next c.args.runs.now c.push_part-in-loop-run-2.new.runs.items c.loop-run.run-index r s c.requires.runs c.run-item.is h e c.in_ok-push_part-3.ensures.order;
-      ends = λ last h was. EndBy-higher end last c.push_part-in-loop-run-2.new.runs.items (last_taken c.args.runs.now c.loop-run.run-index last r (omega arith) c.run-item.is h) c.in_ok-push_part-3.ensures.order.1;
-      few = omega (arith, parts_few c.args.range r low high (length c.loop-run.parts.items) (length c.push_part.new.runs.items) (length c.push_part-in-loop-run.new.runs.items) (length c.push_part-in-loop-run-2.new.runs.items) (λ h. omega arith) (λ h. omega arith) (λ h. omega arith) (λ h. omega arith) c.push_part.ensures.few (λ h. omega (arith, ap (λ v. length v.items) (c.push_part.ensures.none h))) c.push_part-in-loop-run.ensures.few (λ h. omega (arith, ap (λ v. length v.items) (c.push_part-in-loop-run.ensures.none h))) c.push_part-in-loop-run-2.ensures.few (λ h. omega (arith, ap (λ v. length v.items) (c.push_part-in-loop-run-2.ensures.none h))) (omega arith) (omega arith) (omega arith), cuts_more c.args.range c.args.runs.now c.loop-run.run-index r (omega arith) c.run-item.is);
-      capacity = omega arith;
+      pages = one_more range mtype owner runs c.loop-run.run-index r (omega arith) c.run-item.is c.args.parts.now.items old.items new i.pages put.0;
+      order = put.1.0;
+      next = λ s h e. up_to_next runs new c.loop-run.run-index r s c.requires.runs c.run-item.is h e put.1;
+      ends = λ last h was. EndBy-higher end last new (last_taken runs c.loop-run.run-index last r (omega arith) c.run-item.is h) put.1.1;
+      few = omega (arith, put.2, cuts_more range runs c.loop-run.run-index r (omega arith) c.run-item.is);
+      capacity = omega (arith, put.3);
     }
 
 pub loop-run-init : goal.loop-run-init
@@ -51,8 +58,15 @@ loop-run-init g c =
       capacity = omega arith;
     }
 
-pub push_part-requires-clause-order : goal.push_part-requires-clause-order
-push_part-requires-clause-order g c = c.loop-run.invariant.next c.run-item.result (omega arith) c.run-item.is
+pub push_joined-requires-clause-order : goal.push_joined-requires-clause-order
+push_joined-requires-clause-order g c = c.loop-run.invariant.next c.run-item.result (omega arith) c.run-item.is
+
+pub push_joined-requires-clause-some : goal.push_joined-requires-clause-some
+push_joined-requires-clause-some g c =
+    omega (arith, some_pages_at c.args.runs.now c.loop-run.run-index c.run-item.result c.requires.runs (omega arith), ap (λ (q : Run). q.range.pages) c.run-item.is)
+
+pub push_cut-requires-clause-order : goal.push_cut-requires-clause-order
+push_cut-requires-clause-order g c = c.loop-run.invariant.next c.run-item.result (omega arith) c.run-item.is
 
 pub returns : goal.returns
 returns g c =
@@ -68,44 +82,18 @@ returns g c =
       full = tt;
     }
 
-pub returns-in_err-push_part-clause-few : goal.returns-in_err-push_part-clause-few
-returns-in_err-push_part-clause-few g c =
+pub returns-in_err-push_joined-clause-few : goal.returns-in_err-push_joined-clause-few
+returns-in_err-push_joined-clause-few g c =
     omega (arith, parts_of_one_more c.args.range c.args.runs.now c.loop-run.run-index c.run-item.result (omega arith) c.run-item.is)
 
-pub returns-in_err-push_part-clause-full : goal.returns-in_err-push_part-clause-full
-returns-in_err-push_part-clause-full g c =
-    on_err c.from_residual.result (omega (arith, parts_of_one_more c.args.range c.args.runs.now c.loop-run.run-index c.run-item.result (omega arith) c.run-item.is, c.in_err-push_part.ensures.full))
+pub returns-in_err-push_joined-clause-full : goal.returns-in_err-push_joined-clause-full
+returns-in_err-push_joined-clause-full g c =
+    on_err c.from_residual.result (omega (arith, parts_of_one_more c.args.range c.args.runs.now c.loop-run.run-index c.run-item.result (omega arith) c.run-item.is, c.in_err-push_joined.ensures.full))
 
-pub returns-in_err-push_part-2-clause-few : goal.returns-in_err-push_part-2-clause-few
-returns-in_err-push_part-2-clause-few g c =
-    let r = c.run-item.result in
-    let low = c.clamp-low.result in
-    let high = c.clamp-high.result in
-    let few = parts_few c.args.range r low high (length c.loop-run.parts.items) (length c.push_part.new.runs.items) (length c.push_part-in-loop-run.new.runs.items) (length c.push_part-in-loop-run.new.runs.items) (λ h. omega arith) (λ h. omega arith) (λ h. omega arith) (λ h. omega arith) c.push_part.ensures.few (λ h. omega (arith, ap (λ v. length v.items) (c.push_part.ensures.none h))) c.push_part-in-loop-run.ensures.few (λ h. omega (arith, ap (λ v. length v.items) (c.push_part-in-loop-run.ensures.none h))) (omega arith) (λ h. omega arith) (omega arith) (omega arith) (omega arith) in
-    omega (arith, few, parts_of_one_more c.args.range c.args.runs.now c.loop-run.run-index c.run-item.result (omega arith) c.run-item.is)
+pub returns-in_err-push_cut-clause-few : goal.returns-in_err-push_cut-clause-few
+returns-in_err-push_cut-clause-few g c =
+    omega (arith, c.push_cut.ensures.few, parts_of_one_more c.args.range c.args.runs.now c.loop-run.run-index c.run-item.result (omega arith) c.run-item.is)
 
-pub returns-in_err-push_part-2-clause-full : goal.returns-in_err-push_part-2-clause-full
-returns-in_err-push_part-2-clause-full g c =
-    let r = c.run-item.result in
-    let low = c.clamp-low.result in
-    let high = c.clamp-high.result in
-    let full = c.in_err-push_part-2.ensures.full in
-    let few = parts_few c.args.range r low high (length c.loop-run.parts.items) (length c.push_part.new.runs.items) (length c.push_part.new.runs.items + 1) (length c.push_part.new.runs.items + 1) (λ h. omega arith) (λ h. omega arith) (λ h. omega arith) (λ h. omega arith) c.push_part.ensures.few (λ h. omega (arith, ap (λ v. length v.items) (c.push_part.ensures.none h))) (omega arith) (λ h. omega (arith, full.0)) (omega arith) (λ h. omega arith) (omega arith) (omega arith) (omega arith) in
-    on_err c.from_residual-in_err-push_part-2.result (omega (arith, few, full.1, parts_of_one_more c.args.range c.args.runs.now c.loop-run.run-index c.run-item.result (omega arith) c.run-item.is))
-
-pub returns-in_err-push_part-3-clause-few : goal.returns-in_err-push_part-3-clause-few
-returns-in_err-push_part-3-clause-few g c =
-    let r = c.run-item.result in
-    let low = c.clamp-low.result in
-    let high = c.clamp-high.result in
-    let few = parts_few c.args.range r low high (length c.loop-run.parts.items) (length c.push_part.new.runs.items) (length c.push_part-in-loop-run.new.runs.items) (length c.push_part-in-loop-run-2.new.runs.items) (λ h. omega arith) (λ h. omega arith) (λ h. omega arith) (λ h. omega arith) c.push_part.ensures.few (λ h. omega (arith, ap (λ v. length v.items) (c.push_part.ensures.none h))) c.push_part-in-loop-run.ensures.few (λ h. omega (arith, ap (λ v. length v.items) (c.push_part-in-loop-run.ensures.none h))) c.push_part-in-loop-run-2.ensures.few (λ h. omega (arith, ap (λ v. length v.items) (c.push_part-in-loop-run-2.ensures.none h))) (omega arith) (omega arith) (omega arith) in
-    omega (arith, few, parts_of_one_more c.args.range c.args.runs.now c.loop-run.run-index c.run-item.result (omega arith) c.run-item.is)
-
-pub returns-in_err-push_part-3-clause-full : goal.returns-in_err-push_part-3-clause-full
-returns-in_err-push_part-3-clause-full g c =
-    let r = c.run-item.result in
-    let low = c.clamp-low.result in
-    let high = c.clamp-high.result in
-    let full = c.in_err-push_part-3.ensures.full in
-    let few = parts_few c.args.range r low high (length c.loop-run.parts.items) (length c.push_part.new.runs.items) (length c.push_part-in-loop-run.new.runs.items) (length c.push_part-in-loop-run.new.runs.items + 1) (λ h. omega arith) (λ h. omega arith) (λ h. omega arith) (λ h. omega arith) c.push_part.ensures.few (λ h. omega (arith, ap (λ v. length v.items) (c.push_part.ensures.none h))) c.push_part-in-loop-run.ensures.few (λ h. omega (arith, ap (λ v. length v.items) (c.push_part-in-loop-run.ensures.none h))) (omega arith) (λ h. omega (arith, full.0)) (omega arith) (omega arith) (omega arith) in
-    on_err c.from_residual-in_err-push_part-3.result (omega (arith, few, full.1, parts_of_one_more c.args.range c.args.runs.now c.loop-run.run-index c.run-item.result (omega arith) c.run-item.is))
+pub returns-in_err-push_cut-clause-full : goal.returns-in_err-push_cut-clause-full
+returns-in_err-push_cut-clause-full g c =
+    on_err c.from_residual-in_err-push_cut.result (omega (arith, parts_of_one_more c.args.range c.args.runs.now c.loop-run.run-index c.run-item.result (omega arith) c.run-item.is, c.in_err-push_cut.ensures.full))
