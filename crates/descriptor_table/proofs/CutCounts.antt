@@ -96,7 +96,7 @@ parts_of_one_more range rs i r h e = omega (arith, cuts_more range rs i r h e, c
 
 -- ---- leaves one after the other
 
-runs_of_both : (ls : List (List Run)) (j : ℕ) → runs_in ls ≡ runs_in (take j ls) ++ runs_in (drop j ls)
+pub runs_of_both : (ls : List (List Run)) (j : ℕ) → runs_in ls ≡ runs_in (take j ls) ++ runs_in (drop j ls)
 runs_of_both ls j = ap runs_in (sym (take-append-drop j ls)) ∙ runs_in-append (take j ls) (drop j ls)
 
 pub rest_is_runs : (ls : List (List Run)) (j : ℕ) → AreRuns (runs_in ls) → AreRuns (runs_in (drop j ls))

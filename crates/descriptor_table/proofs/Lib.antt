@@ -19,6 +19,7 @@ pub mod TwoLeaves
 pub mod LeavesAcross
 pub mod CutCounts
 pub mod RunArrays
+pub mod Shares
 pub mod Tallied
 pub mod Begun
 pub mod LeavesPut

@@ -18,6 +18,11 @@ pub record Table : Type 0 where
 abbrev pub reserving : ℕ → Table → Table
 reserving n t = record { pages = t.pages; reserved = n }
 
+-- how many leaves there are for later, and for how many there is room
+pub record Spares : Type 0 where
+  pub count : ℕ
+  pub room : ℕ
+
 -- How many leaves there are, and how many for later; for how many each of four lists has room, and
 -- for how many runs a buffer; how many runs there are, and for how many changes memory is reserved.
 -- A change brings two runs at most, and there is room for all of them.
@@ -39,15 +44,13 @@ pub record HaveRoom (leaves spare room spare_room begun_room sizes_room : ℕ) :
   pub sizes_fit : leaves + spare ≤ sizes_room
 
 -- the same of lists of leaves, of those for later, and of two rows of numbers
-abbrev pub LeavesHaveRoom : {A : Type 0} → Vec (List Run) A → Vec (List Run) A → Numbers → Numbers
-    → Type 0
+abbrev pub LeavesHaveRoom : {A : Type 0} → Vec (List Run) A → Spares → Numbers → Numbers → Type 0
 LeavesHaveRoom leaves spare begun sizes =
-    HaveRoom (length leaves.items) (length spare.items) (vec_capacity leaves) (vec_capacity spare)
-    begun.room sizes.room
+    HaveRoom (length leaves.items) spare.count (vec_capacity leaves) spare.room begun.room sizes.room
 
 -- how many leaves there are, with those for later
-abbrev pub leaf_count : {A : Type 0} → Vec (List Run) A → Vec (List Run) A → ℕ
-leaf_count leaves spare = length leaves.items + length spare.items
+abbrev pub leaf_count : {A : Type 0} → Vec (List Run) A → Spares → ℕ
+leaf_count leaves spare = length leaves.items + spare.count
 
 -- leaves and two rows of numbers have room for as many as before
 abbrev pub KeepsRoom : {A : Type 0} → Vec (List Run) A → Vec (List Run) A → Numbers → Numbers
@@ -65,12 +68,11 @@ AreSame old new begun new_begun sizes new_sizes =
 -- a table in leaves with their groups, and the reserve that it has of leaves for later and of a
 -- buffer, for a number of changes
 abbrev pub IsReservedTable : {A : Type 0} → Vec (List Run) A → ℕ → Numbers → Numbers → List Group
-    → Vec (List Run) A → Vec Run A → ℕ → Type 0
+    → Spares → Vec Run A → ℕ → Type 0
 IsReservedTable leaves entries begun sizes groups spare buffer reserved =
     IsGroupedTable leaves.items entries begun.items sizes.items groups
-    × HasReserve (length leaves.items) (length spare.items) (vec_capacity leaves)
-    (vec_capacity spare) begun.room sizes.room (vec_capacity buffer)
-    (length (runs_in leaves.items)) reserved
+    × HasReserve (length leaves.items) spare.count (vec_capacity leaves) spare.room
+    begun.room sizes.room (vec_capacity buffer) (length (runs_in leaves.items)) reserved
 
 -- ---- how many runs a change brings
 

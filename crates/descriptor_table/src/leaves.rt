@@ -27,6 +27,8 @@ pub struct Leaf<A: Allocator = Global> {
     changes: u8,
     // How many runs there are. The array has that too, but behind them, in another line of the cache.
     count: u8,
+    // How many leaves there were as it was made: those that were made together mostly lie together in memory.
+    made: u32,
     runs: Box<ArrayVec<Run, LEAF_SIZE>, A>,
 }
 
@@ -44,8 +46,8 @@ impl<A: Allocator> Model for Leaf<A> {
 }
 
 impl<A: Allocator + Copy> Leaf<A> {
-    /// A leaf of some runs.
-    fn from_slice(alloc: A, runs: &[Run]) -> Result<Leaf<A>, AllocError>
+    /// A leaf of some runs, which is made after a number of others.
+    fn from_slice(alloc: A, runs: &[Run], others: usize) -> Result<Leaf<A>, AllocError>
         requires some { 0 < length runs.now }
         requires fits { length runs.now ≤ 32 }
         ensures { IfOk result (λ leaf. leaf ≡ runs.now) }
@@ -60,12 +62,13 @@ impl<A: Allocator + Copy> Leaf<A> {
             summary: summary_of(runs),
             changes: 0,
             count: runs.len() as u8,
+            made: u32::try_from(others).unwrap_or(u32::MAX),
             runs: leaf,
         })
     }
 
-    /// A leaf for later, whose runs are those of no table.
-    pub(crate) fn spare(alloc: A) -> Result<Leaf<A>, AllocError> {
+    /// A leaf for later, whose runs are those of no table, and which is made after a number of others.
+    pub(crate) fn spare(alloc: A, others: usize) -> Result<Leaf<A>, AllocError> {
         let range = PageRange { first: 0, pages: 1 };
         let run = Run {
             range,
@@ -73,7 +76,12 @@ impl<A: Allocator + Copy> Leaf<A> {
             attributes: 0,
             owner: Owner::Given,
         };
-        Leaf::from_slice(alloc, &[run])
+        Leaf::from_slice(alloc, &[run], others)
+    }
+
+    /// How many leaves there were as it was made.
+    pub(crate) fn made(&self) -> u32 {
+        self.made
     }
 
     /// The first page of the first run.
@@ -154,21 +162,23 @@ impl<A: Allocator + Copy> Leaf<A> {
     }
 }
 
-/// How many of some runs the first leaf of them takes. Two leaves share what one can't hold.
-pub(crate) fn first_share(count: usize) -> usize
-    requires { 0 < count }
+/// How many of some runs the first leaf of them takes, of which a leaf is to have at most a number. Two leaves
+/// share what one can't have.
+pub(crate) fn first_share(count: usize, most: usize) -> usize
+    requires some { 0 < count }
+    requires most { (0 < most) × (most ≤ 32) }
     ensures some { 0 < result }
     ensures bound { result ≤ count }
-    ensures fits { result ≤ 32 }
-    ensures rest { (n : ℕ) → count ≤ 32 * n → count + 32 ≤ result + 32 * n }
+    ensures fits { result ≤ most }
+    ensures rest { (n : ℕ) → count ≤ most * n → count + most ≤ result + most * n }
 {
-    if count <= LEAF_SIZE {
+    if count <= most {
         return count;
     }
-    if count < 2 * LEAF_SIZE {
+    if count < 2 * most {
         return count - count / 2;
     }
-    LEAF_SIZE
+    most
 }
 
 /// Some runs in leaves.
@@ -182,9 +192,10 @@ pub(crate) fn leaves_of<A: Allocator + Copy>(
     let mut leaves = Vec::new(alloc);
     let mut rest = runs;
     while !rest.is_empty() {
-        let count = first_share(rest.len());
+        let count = first_share(rest.len(), LEAF_SIZE);
+        let others = leaves.len();
         leaves.reserve(1)?;
-        leaves.push_reserved(Leaf::from_slice(alloc, &rest[..count])?);
+        leaves.push_reserved(Leaf::from_slice(alloc, &rest[..count], others)?);
         rest = &rest[count..];
     }
     Ok(leaves)

@@ -15,6 +15,7 @@ mod replacing;
 mod retyping;
 mod run_arrays;
 mod searches;
+mod spare_leaves;
 mod summaries;
 mod table;
 mod tallies;

@@ -17,9 +17,13 @@ use crate::entry_starts::{count_begun, runs_before};
 use crate::leaves::{LEAF_SIZE, Leaf, first_share};
 use crate::replacing::insert_with_room;
 use crate::retyping::{Change, retype_in_place};
+use crate::spare_leaves::SpareLeaves;
 use crate::tallies::Tally;
 use page_ranges::{MemoryType, Owner, PageRange, Run};
 use std::alloc::{AllocError, Allocator};
+
+/// How many runs a leaf gets where all leaves are laid in order, if there are enough leaves.
+const LAID_SIZE: usize = 28;
 
 /// Takes memory for one more leaf, and room for it beside the others. On an `Err` some of the lists may
 /// have more room.
@@ -28,45 +32,81 @@ pub(crate) fn add_spare<A: Allocator + Copy>(
     leaves: &mut Vec<Leaf<A>, A>,
     begun: &mut Tally<A>,
     sizes: &mut Tally<A>,
-    spare: &mut Vec<Leaf<A>, A>,
+    spare: &mut SpareLeaves<A>,
 ) -> Result<(), AllocError>
     requires room { LeavesHaveRoom leaves.old spare.old begun.old sizes.old }
     ensures leaves { leaves.new.items ≡ leaves.old.items }
     ensures begun { begun.new.items ≡ begun.old.items }
     ensures sizes { sizes.new.items ≡ sizes.old.items }
     ensures room { LeavesHaveRoom leaves.new spare.new begun.new sizes.new }
-    ensures more { length spare.old.items ≤ length spare.new.items }
-    ensures ok { OnOk result (length spare.new.items ≡ length spare.old.items + 1) }
+    ensures more { spare.old.count ≤ spare.new.count }
+    ensures ok { OnOk result (spare.new.count ≡ spare.old.count + 1) }
 {
-    let count = leaves.len() + spare.len() + 1;
+    let others = leaves.len() + spare.len();
     let alloc = *leaves.allocator();
-    leaves.reserve(count - leaves.len())?;
-    spare.reserve(count - spare.len())?;
-    begun.reserve(count)?;
-    sizes.reserve(count)?;
-    spare.push(Leaf::spare(alloc)?)?;
+    leaves.reserve(others + 1 - leaves.len())?;
+    spare.reserve(others + 1)?;
+    begun.reserve(others + 1)?;
+    sizes.reserve(others + 1)?;
+    spare.add(Leaf::spare(alloc, others)?);
     Ok(())
 }
 
 /// Keeps the leaves between two indices for later.
-fn take_out<A: Allocator + Copy>(
+fn take_out_some<A: Allocator + Copy>(
     leaves: &mut Vec<Leaf<A>, A>,
-    spare: &mut Vec<Leaf<A>, A>,
+    spare: &mut SpareLeaves<A>,
     from: usize,
     to: usize,
 )
     requires order { from ≤ to }
     requires bound { to ≤ length leaves.old.items }
-    requires room { length spare.old.items + (to - from) ≤ vec_capacity spare.old }
+    requires room { spare.old.count + (to - from) ≤ spare.old.room }
     ensures leaves { leaves.new.items ≡ leaves_without leaves.old.items from to }
-    ensures spare { length spare.new.items ≡ length spare.old.items + (to - from) }
+    ensures spare { spare.new.count ≡ spare.old.count + (to - from) }
     ensures room { (vec_capacity leaves.new ≡ vec_capacity leaves.old)
-        × (vec_capacity spare.new ≡ vec_capacity spare.old) }
+        × (spare.new.room ≡ spare.old.room) }
 {
     for index in (from..to).rev() {
         let leaf = leaves.remove(index);
-        spare.push_reserved(leaf);
+        spare.give_back(leaf);
     }
+}
+
+/// Keeps all leaves for later, so that those which were made first are taken first.
+fn take_out_all<A: Allocator + Copy>(leaves: &mut Vec<Leaf<A>, A>, spare: &mut SpareLeaves<A>)
+    requires { spare.old.count + length leaves.old.items ≤ spare.old.room }
+    ensures leaves { leaves.new.items ≡ [] }
+    ensures spare { spare.new.count ≡ spare.old.count + length leaves.old.items }
+    ensures room { (vec_capacity leaves.new ≡ vec_capacity leaves.old)
+        × (spare.new.room ≡ spare.old.room) }
+{
+    while let Some(leaf) = leaves.pop() {
+        spare.give_back(leaf);
+    }
+    spare.put_in_order();
+}
+
+/// Keeps the leaves between two indices for later.
+fn take_out<A: Allocator + Copy>(
+    leaves: &mut Vec<Leaf<A>, A>,
+    spare: &mut SpareLeaves<A>,
+    from: usize,
+    to: usize,
+)
+    requires order { from ≤ to }
+    requires bound { to ≤ length leaves.old.items }
+    requires room { spare.old.count + (to - from) ≤ spare.old.room }
+    ensures leaves { leaves.new.items ≡ leaves_without leaves.old.items from to }
+    ensures spare { spare.new.count ≡ spare.old.count + (to - from) }
+    ensures room { (vec_capacity leaves.new ≡ vec_capacity leaves.old)
+        × (spare.new.room ≡ spare.old.room) }
+{
+    if to - from == leaves.len() {
+        take_out_all(leaves, spare);
+        return;
+    }
+    take_out_some(leaves, spare, from, to);
 }
 
 /// Puts runs in a leaf before the one at an index.
@@ -74,7 +114,7 @@ fn insert_leaf<A: Allocator + Copy>(
     leaves: &mut Vec<Leaf<A>, A>,
     begun: &mut Tally<A>,
     sizes: &mut Tally<A>,
-    spare: &mut Vec<Leaf<A>, A>,
+    spare: &mut SpareLeaves<A>,
     at: usize,
     runs: &[Run],
 )
@@ -87,18 +127,16 @@ fn insert_leaf<A: Allocator + Copy>(
     requires sizes { length sizes.old.items ≡ length leaves.old.items }
     requires few { total begun.old.items + length runs.now < 2 ^ 63 }
     requires few_runs { total sizes.old.items + length runs.now < 2 ^ 63 }
-    requires spare { 0 < length spare.old.items }
+    requires spare { 0 < spare.old.count }
     requires room { LeavesHaveRoom leaves.old spare.old begun.old sizes.old }
     ensures leaves { leaves.new.items ≡ insert leaves.old.items at runs.now }
     ensures begun { PutsBegun leaves.old.items at runs.now begun.old.items begun.new.items }
     ensures sizes { sizes.new.items ≡ insert sizes.old.items at (length runs.now) }
-    ensures spare { length spare.new.items + 1 ≡ length spare.old.items }
+    ensures spare { spare.new.count + 1 ≡ spare.old.count }
     ensures room { LeavesHaveRoom leaves.new spare.new begun.new sizes.new }
 {
     let begins = count_begun(runs_before(leaves.as_slice(), at), runs);
-    let Some(mut leaf) = spare.pop() else {
-        unreachable!();
-    };
+    let mut leaf = spare.take();
     let count = leaf.runs().len();
     leaf.replace(0, count, runs, 0);
     insert_with_room(leaves, at, leaf);
@@ -106,14 +144,15 @@ fn insert_leaf<A: Allocator + Copy>(
     sizes.insert(at, runs.len() as u8);
 }
 
-/// Puts runs in leaves before the one at an index.
+/// Puts runs in leaves before the one at an index, at most a number of them in each.
 fn insert_leaves<A: Allocator + Copy>(
     leaves: &mut Vec<Leaf<A>, A>,
     begun: &mut Tally<A>,
     sizes: &mut Tally<A>,
-    spare: &mut Vec<Leaf<A>, A>,
+    spare: &mut SpareLeaves<A>,
     from: usize,
     runs: &[Run],
+    most: usize,
 )
     requires leaves { AreLeaves leaves.old.items }
     requires place { from ≤ length leaves.old.items }
@@ -123,7 +162,8 @@ fn insert_leaves<A: Allocator + Copy>(
     requires sizes { length sizes.old.items ≡ length leaves.old.items }
     requires few { total begun.old.items ≤ page_count }
     requires few_runs { total sizes.old.items ≤ page_count }
-    requires fits { length runs.now ≤ 32 * length spare.old.items }
+    requires most { (0 < most) × (most ≤ 32) }
+    requires fits { length runs.now ≤ most * spare.old.count }
     requires room { LeavesHaveRoom leaves.old spare.old begun.old sizes.old }
     ensures puts { PutsLeaves leaves.old.items begun.old.items sizes.old.items from runs.now
         leaves.new.items begun.new.items sizes.new.items }
@@ -133,21 +173,23 @@ fn insert_leaves<A: Allocator + Copy>(
     let mut at = from;
     let mut rest = runs;
     while !rest.is_empty() {
-        let share = first_share(rest.len());
+        let share = first_share(rest.len(), most);
         insert_leaf(leaves, begun, sizes, spare, at, &rest[..share]);
         rest = &rest[share..];
         at += 1;
     }
 }
 
-/// Puts runs in leaves instead of those between two indices. It takes no memory.
+/// Puts runs in leaves instead of those between two indices, at most a number of them in each. It takes no
+/// memory.
 fn put_leaves<A: Allocator + Copy>(
     leaves: &mut Vec<Leaf<A>, A>,
     begun: &mut Tally<A>,
     sizes: &mut Tally<A>,
-    spare: &mut Vec<Leaf<A>, A>,
+    spare: &mut SpareLeaves<A>,
     near: (usize, usize),
     runs: &[Run],
+    most: usize,
 )
     requires leaves { AreLeaves leaves.old.items }
     requires old { AreRuns (runs_in leaves.old.items)
@@ -159,7 +201,8 @@ fn put_leaves<A: Allocator + Copy>(
     requires grows { GrowsNear leaves.old.items near runs.now }
     requires new { AreRuns (runs_with leaves.old.items near runs.now) }
     requires ends { EndBy page_count (runs_with leaves.old.items near runs.now) }
-    requires fits { length runs.now ≤ 32 * (length spare.old.items + (near.1 - near.0)) }
+    requires most { (0 < most) × (most ≤ 32) }
+    requires fits { length runs.now ≤ most * (spare.old.count + (near.1 - near.0)) }
     requires room { LeavesHaveRoom leaves.old spare.old begun.old sizes.old }
     ensures leaves { AreLeaves leaves.new.items }
     ensures runs { runs_in leaves.new.items ≡ runs_with leaves.old.items near runs.now }
@@ -173,7 +216,7 @@ fn put_leaves<A: Allocator + Copy>(
     take_out(leaves, spare, from, to);
     begun.cut_out(from, to);
     sizes.cut_out(from, to);
-    insert_leaves(leaves, begun, sizes, spare, from, runs);
+    insert_leaves(leaves, begun, sizes, spare, from, runs, most);
 }
 
 /// Puts into a buffer the runs of leaves in which the pages of a range have a type and an owner, and returns
@@ -219,7 +262,7 @@ pub(crate) fn retype_anew<A: Allocator + Copy>(
     leaves: &mut Vec<Leaf<A>, A>,
     begun: &mut Tally<A>,
     sizes: &mut Tally<A>,
-    spare: &mut Vec<Leaf<A>, A>,
+    spare: &mut SpareLeaves<A>,
     entries: usize,
     near: (usize, usize),
     range: PageRange,
@@ -251,11 +294,74 @@ pub(crate) fn retype_anew<A: Allocator + Copy>(
         mtype,
         owner,
     );
-    put_leaves(leaves, begun, sizes, spare, near, buffer.as_slice());
+    put_leaves(
+        leaves,
+        begun,
+        sizes,
+        spare,
+        near,
+        buffer.as_slice(),
+        LEAF_SIZE,
+    );
     Change {
         entries: begun.sum(),
         near,
     }
+}
+
+/// Puts all runs into an empty buffer, which has room for them.
+fn push_all<A: Allocator + Copy>(buffer: &mut Vec<Run, A>, leaves: &[Leaf<A>])
+    requires empty { buffer.old.items ≡ [] }
+    requires room { length (runs_in leaves.now) ≤ vec_capacity buffer.old }
+    ensures runs { buffer.new.items ≡ runs_in leaves.now }
+    ensures capacity { vec_capacity buffer.old ≤ vec_capacity buffer.new }
+{
+    for leaf in leaves {
+        let Ok(()) = buffer.extend_from_slice(leaf.runs()) else {
+            unreachable!();
+        };
+    }
+}
+
+/// Puts all runs in the leaves that were made first, one after the other, so that the runs of leaves next to each
+/// other mostly lie so in memory too, and each leaf has room for more where there are enough leaves. It takes no
+/// memory.
+#[inline(never)]
+pub(crate) fn lay_in_order<A: Allocator + Copy>(
+    leaves: &mut Vec<Leaf<A>, A>,
+    begun: &mut Tally<A>,
+    sizes: &mut Tally<A>,
+    spare: &mut SpareLeaves<A>,
+    entries: usize,
+    buffer: &mut Vec<Run, A>,
+)
+    requires table { IsLeafTable leaves.old.items entries begun.old.items sizes.old.items }
+    requires buffer { length (runs_in leaves.old.items) ≤ vec_capacity buffer.old }
+    requires fits { length (runs_in leaves.old.items) ≤ 32 * leaf_count leaves.old spare.old }
+    requires room { LeavesHaveRoom leaves.old spare.old begun.old sizes.old }
+    ensures table { IsLeafTable leaves.new.items entries begun.new.items sizes.new.items }
+    ensures runs { runs_in leaves.new.items ≡ runs_in leaves.old.items }
+    ensures count { leaf_count leaves.new spare.new ≡ leaf_count leaves.old spare.old }
+    ensures room { LeavesHaveRoom leaves.new spare.new begun.new sizes.new }
+    ensures capacity { vec_capacity buffer.old ≤ vec_capacity buffer.new }
+{
+    buffer.clear();
+    push_all(buffer, leaves.as_slice());
+    let count = leaves.len();
+    let most = if buffer.len().div_ceil(LAID_SIZE) <= count + spare.len() {
+        LAID_SIZE
+    } else {
+        LEAF_SIZE
+    };
+    put_leaves(
+        leaves,
+        begun,
+        sizes,
+        spare,
+        (0, count),
+        buffer.as_slice(),
+        most,
+    );
 }
 
 /// Gives the pages of a range a type and an owner in the leaves that have the runs near it, or anew where these
@@ -265,7 +371,7 @@ pub(crate) fn retype_leaves<A: Allocator + Copy>(
     leaves: &mut Vec<Leaf<A>, A>,
     begun: &mut Tally<A>,
     sizes: &mut Tally<A>,
-    spare: &mut Vec<Leaf<A>, A>,
+    spare: &mut SpareLeaves<A>,
     entries: usize,
     near: (usize, usize),
     range: PageRange,
@@ -299,7 +405,7 @@ pub(crate) fn retype_leaves<A: Allocator + Copy>(
             return change;
         }
     }
-    if spare.is_empty() {
+    if spare.len() == 0 {
         // Without it all leaves are made anew, which takes longer.
         let _added = add_spare(leaves, begun, sizes, spare);
     }

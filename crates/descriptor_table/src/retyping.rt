@@ -37,7 +37,7 @@ const SPREAD_SIZE: usize = 60;
 
 /// A table with this many leaves, or fewer, shares no runs: full leaves take longer to change, and few
 /// leaves are soon passed.
-const FEW_LEAVES: usize = 64;
+pub(crate) const FEW_LEAVES: usize = 64;
 
 /// What a change of leaves comes to: how many entries the map then has, and between which indices are the
 /// leaves that changed.

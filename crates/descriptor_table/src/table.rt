@@ -19,9 +19,10 @@ use crate::free_entries::FreeEntries;
 use crate::groups::{Group, make_groups, renew_groups};
 use crate::leaf_searches::{all_in_range, run_at_index, run_in_leaves};
 use crate::leaves::{LEAF_SIZE, Leaf, leaves_of, sizes_of};
-use crate::new_leaves::{add_spare, retype_leaves};
-use crate::retyping::{MAX_PARTS, leaves_near};
+use crate::new_leaves::{add_spare, lay_in_order, retype_leaves};
+use crate::retyping::{FEW_LEAVES, MAX_PARTS, leaves_near};
 use crate::searches::PageTest;
+use crate::spare_leaves::SpareLeaves;
 use crate::tallies::Tally;
 use page_ranges::{Descriptor, MemoryType, Owner, PageRange, Run};
 use std::alloc::{AllocError, Allocator, Global};
@@ -50,9 +51,11 @@ pub struct RunTable<A: Allocator = Global> {
     parts: Vec<Run, A>,
     // Leaves for later, whose runs are those of no table, and room for all runs of the table: so that a
     // change takes no memory. For how many changes that is enough.
-    spare: Vec<Leaf<A>, A>,
+    spare: SpareLeaves<A>,
     buffer: Vec<Run, A>,
     reserved: usize,
+    // How many changes by which leaves came or went there were since the leaves were laid in order.
+    moved: usize,
 }
 
 impl<A: Allocator> Model for RunTable<A> {
@@ -87,7 +90,7 @@ impl<A: Allocator + Copy> RunTable<A> {
         let mut groups = Vec::new(alloc);
         make_groups(leaves.as_slice(), &mut groups);
         let parts = Vec::with_capacity(alloc, MAX_PARTS)?;
-        let spare = Vec::with_capacity(alloc, leaves.len())?;
+        let spare = SpareLeaves::with_room(alloc, leaves.len())?;
         Ok(RunTable {
             leaves,
             begun,
@@ -98,6 +101,7 @@ impl<A: Allocator + Copy> RunTable<A> {
             spare,
             buffer: joined,
             reserved: 0,
+            moved: 0,
         })
     }
 
@@ -168,6 +172,34 @@ impl<A: Allocator + Copy> RunTable<A> {
         self.reserved -= 1;
         let near = change.near;
         renew_groups(self.leaves.as_slice(), &mut self.groups, count, near);
+        self.note_moved(count);
+    }
+
+    /// Notes whether there are as many leaves as before a change. Once it happened as often as a large table has
+    /// leaves that there were not, it lays them in order: a map is then read sooner, and each such change bears a
+    /// part of what that takes.
+    fn note_moved(&mut self, before: usize)
+        ensures { self.new ≡ self.old }
+    {
+        let count = self.leaves.len();
+        if count == before {
+            return;
+        }
+        self.moved = self.moved.saturating_add(1);
+        if count <= FEW_LEAVES || self.moved < count {
+            return;
+        }
+        lay_in_order(
+            &mut self.leaves,
+            &mut self.begun,
+            &mut self.sizes,
+            &mut self.spare,
+            self.entries,
+            &mut self.buffer,
+        );
+        self.groups.clear();
+        make_groups(self.leaves.as_slice(), &mut self.groups);
+        self.moved = 0;
     }
 
     /// Gives the pages of a range a type and an owner, and the attributes that go with the type, for which

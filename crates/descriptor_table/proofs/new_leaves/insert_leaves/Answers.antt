@@ -10,6 +10,7 @@ use Rattle.descriptor_table.specs.Leaves.{runs_in}
 use Rattle.descriptor_table.specs.Reserves.{PutsLeaves}
 use Rattle.descriptor_table.specs.Tables.{EndBy}
 use Rattle.descriptor_table.proofs.LeavesPut.{none_left, puts_none, up_to_parts, up_to_share, few_begun, few_sizes, begun_length, runs_up_to, puts_next}
+use Rattle.descriptor_table.proofs.Shares.{some_left, times_next}
 use Rattle.descriptor_table.proofs.new_leaves.insert_leaves.Goals as goal
 
 pub loop-rest-init : goal.loop-rest-init
@@ -53,7 +54,7 @@ insert_leaf-requires-clause-few g c =
     let runs = up_to_parts AreRuns runs-left front puts.0 rest c.args.runs.now puts.1 c.requires.order in
     let ends = up_to_parts (EndBy page_count) (all_append_left (λ r. r.range.first + r.range.pages ≤ page_count)) front puts.0 rest c.args.runs.now puts.1 c.requires.ends in
     let few = few_begun ls c.args.begun.now.items c.args.sizes.now.items c.args.from puts.0 c.loop-rest.leaves.items c.loop-rest.begun.items c.loop-rest.sizes.items puts.2 runs ends in
-    omega (arith, few, c.requires.few, length-take-le c.first_share-share.result rest c.first_share-share.ensures.bound, c.first_share-share.ensures.fits)
+    omega (arith, few, c.requires.few, length-take-le c.first_share-share.result rest c.first_share-share.ensures.bound, c.first_share-share.ensures.fits, c.requires.most.1)
 
 pub insert_leaf-requires-clause-few_runs : goal.insert_leaf-requires-clause-few_runs
 insert_leaf-requires-clause-few_runs g c =
@@ -64,7 +65,10 @@ insert_leaf-requires-clause-few_runs g c =
     let runs = up_to_parts AreRuns runs-left front puts.0 rest c.args.runs.now puts.1 c.requires.order in
     let ends = up_to_parts (EndBy page_count) (all_append_left (λ r. r.range.first + r.range.pages ≤ page_count)) front puts.0 rest c.args.runs.now puts.1 c.requires.ends in
     let few = few_sizes ls c.args.begun.now.items c.args.sizes.now.items c.args.from puts.0 c.loop-rest.leaves.items c.loop-rest.begun.items c.loop-rest.sizes.items puts.2 runs ends in
-    omega (arith, few, c.requires.few_runs, length-take-le c.first_share-share.result rest c.first_share-share.ensures.bound, c.first_share-share.ensures.fits)
+    omega (arith, few, c.requires.few_runs, length-take-le c.first_share-share.result rest c.first_share-share.ensures.bound, c.first_share-share.ensures.fits, c.requires.most.1)
+
+pub insert_leaf-requires-clause-spare : goal.insert_leaf-requires-clause-spare
+insert_leaf-requires-clause-spare g c = some_left c.args.most c.loop-rest.spare.count (length c.loop-rest.rest.now) (omega arith) c.loop-rest.invariant.fits
 
 pub loop-rest-preserved : goal.loop-rest-preserved
 loop-rest-preserved g c =
@@ -83,10 +87,10 @@ loop-rest-preserved g c =
         ap (λ xs. (puts.0 ++ take share rest) ++ xs) left ∙ append_assoc puts.0 (take share rest) (drop share rest) ∙ ap (λ xs. puts.0 ++ xs) (take-append-drop share rest) ∙ puts.1,
         rw (c.insert_leaf.ensures.leaves, begun.1, c.insert_leaf.ensures.sizes)
             (puts_next ls c.args.begun.now.items c.args.sizes.now.items c.args.from puts.0 c.loop-rest.leaves.items c.loop-rest.begun.items c.loop-rest.sizes.items puts.2 c.loop-rest.at c.requires.place c.loop-rest.invariant.at (take share rest) begun.0 c.requires.begun c.requires.sizes
-            (omega (arith, long, c.first_share-share.ensures.some), omega (arith, long, c.first_share-share.ensures.fits)) begun.3),
+            (omega (arith, long, c.first_share-share.ensures.some), omega (arith, long, c.first_share-share.ensures.fits, c.requires.most.1)) begun.3),
       );
       at = omega (arith, one, c.loop-rest.invariant.at);
-      fits = subst (λ xs. length xs ≤ 32 * length c.insert_leaf.new.spare.items) (sym left) (omega (arith, length-drop share rest, spare, c.first_share-share.ensures.rest (length c.loop-rest.spare.items) c.loop-rest.invariant.fits));
+      fits = subst (λ xs. length xs ≤ c.args.most * c.insert_leaf.new.spare.count) (sym left) (omega (arith, length-drop share rest, times_next c.args.most c.insert_leaf.new.spare.count c.loop-rest.spare.count spare, c.first_share-share.ensures.rest c.loop-rest.spare.count c.loop-rest.invariant.fits));
       count = omega (arith, one, spare, c.loop-rest.invariant.count);
       room = c.insert_leaf.ensures.room;
     }

@@ -9,9 +9,9 @@ abbrev pub invariant-loop-rest : goal.invariant-loop-rest
 invariant-loop-rest g l = record {
   puts : (parts : List Run) × (parts ++ l.rest ≡ l.runs) × PutsLeaves l.initial.leaves.items l.initial.begun.items l.initial.sizes.items l.from parts l.leaves.items l.begun.items l.sizes.items;
   at : length l.leaves.items + l.from ≡ length l.initial.leaves.items + l.at;
-  fits : length l.rest ≤ 32 * length l.spare.items;
-  count : length l.leaves.items + length l.spare.items ≡ length l.initial.leaves.items + length l.initial.spare.items;
-  room : HaveRoom (length l.leaves.items) (length l.spare.items) (vec_capacity l.leaves) (vec_capacity l.spare) l.begun.room l.sizes.room;
+  fits : length l.rest ≤ l.most * l.spare.count;
+  count : length l.leaves.items + l.spare.count ≡ length l.initial.leaves.items + l.initial.spare.count;
+  room : HaveRoom (length l.leaves.items) l.spare.count (vec_capacity l.leaves) l.spare.room l.begun.room l.sizes.room;
 }
 
 abbrev pub decreases-loop-rest : goal.decreases-loop-rest

@@ -44,7 +44,7 @@ invariant_of-result g c =
     let leaves = c.in_ok-leaves.leaves.items in
     let begun : BeginIn [] leaves c.new-begun.result.items = rw c.new-begun.ensures.items (rw c.as_slice-3.ensures.value at c.in_ok-begun_in.ensures) in
     let sizes = rw c.as_slice-4.ensures.value at (c.new-sizes.ensures.items ∙ c.in_ok-sizes_of.ensures) in
-    let none = ap length c.in_ok-spare.ensures.items in (
+    let none = c.in_ok-spare.ensures.none in (
       record {
         table = rw same (record {
           maximal = c.loop-run.invariant.order;
@@ -58,7 +58,7 @@ invariant_of-result g c =
       },
       record {
         leaves_fit = omega (arith, none);
-        spare_fit = omega (arith, none, c.in_ok-spare.ensures.capacity, c.len.ensures);
+        spare_fit = omega (arith, none, c.in_ok-spare.ensures.room, c.len.ensures);
         begun_fit = omega (arith, none, c.new-begun.ensures.room, begin_length [] leaves c.new-begun.result.items begun);
         sizes_fit = omega (arith, none, c.new-sizes.ensures.room, ap length sizes, length-map leaves length);
         buffer_fits = omega (arith, ap length same);

@@ -11,11 +11,11 @@ invariant-loop-self g l = record {
   entries : l.self-inside.entries ≡ l.initial.self-inside.entries;
   groups : l.self-inside.groups.items ≡ l.initial.self-inside.groups.items;
   reserved : l.self-inside.reserved ≡ l.initial.self-inside.reserved;
-  more : length l.initial.self-inside.spare.items ≤ length l.self-inside.spare.items;
+  more : l.initial.self-inside.spare.count ≤ l.self-inside.spare.count;
   buffer : vec_capacity l.self-inside.buffer ≡ vec_capacity l.initial.self-inside.buffer;
-  room : HaveRoom (length l.self-inside.leaves.items) (length l.self-inside.spare.items) (vec_capacity l.self-inside.leaves) (vec_capacity l.self-inside.spare) l.self-inside.begun.room l.self-inside.sizes.room;
+  room : HaveRoom (length l.self-inside.leaves.items) l.self-inside.spare.count (vec_capacity l.self-inside.leaves) l.self-inside.spare.room l.self-inside.begun.room l.self-inside.sizes.room;
 }
 
 -- how many leaves are missing
 abbrev pub decreases-loop-self : goal.decreases-loop-self
-decreases-loop-self g l = l.count - (length l.self-inside.leaves.items + length l.self-inside.spare.items)
+decreases-loop-self g l = l.count - (length l.self-inside.leaves.items + l.self-inside.spare.count)

@@ -1,6 +1,6 @@
-use Rattle.std.proofs.Common.{◌≡◌, [], ◌∷◌, ◌++◌, length, length-append, take, drop, ap, ◌∙◌, arith}
+use Rattle.std.proofs.Common.{◌≡◌, ◌++◌, take, drop, ap, ◌∙◌, arith}
 use Rattle.descriptor_table.proofs.LeavesPut.{one_less}
-use Rattle.descriptor_table.proofs.new_leaves.take_out.Goals as goal
+use Rattle.descriptor_table.proofs.new_leaves.take_out_some.Goals as goal
 
 pub loop-index-preserved : goal.loop-index-preserved
 loop-index-preserved g c =
@@ -9,9 +9,9 @@ loop-index-preserved g c =
     record {
       low = omega (arith, c.loop-index-test.true);
       leaves = rw c.remove-leaf.ensures.items (one_less ls (drop c.args.to ls) loop.leaves.items loop.index (omega (arith, c.loop-index-test.true)) (omega (arith, loop.auto.index, c.requires.bound)) loop.invariant.leaves);
-      spare = omega (arith, ap length c.push_reserved.ensures.items, length-append loop.spare.items (c.remove-leaf.result ∷ []), loop.invariant.spare, c.loop-index-test.true);
+      spare = omega (arith, c.give_back.ensures.count, loop.invariant.spare, c.loop-index-test.true);
       leaf_room = c.remove-leaf.ensures.capacity ∙ loop.invariant.leaf_room;
-      spare_room = c.push_reserved.ensures.capacity ∙ loop.invariant.spare_room;
+      spare_room = c.give_back.ensures.room ∙ loop.invariant.spare_room;
     }
 
 pub returns-clause-leaves : goal.returns-clause-leaves
