@@ -1,6 +1,7 @@
 //! What the free runs among some runs may be, in a few numbers.
-ghost use Rattle.std.specs.Prelude.{◌≡◌, ◌↔◌, ℕ, ◌+◌, ◌%◌, ◌<◌, ◌≤◌, ◌^◌, length, true, false, IsTrue, slice_get};
+ghost use Rattle.std.specs.Prelude.{◌≡◌, ◌↔◌, ℕ, ◌+◌, ◌%◌, ◌<◌, ◌≤◌, ◌^◌, length, true, false, Option, IsTrue, slice_get};
 ghost use Rattle.std.specs.Option.{option_map};
+ghost use Rattle.page_ranges.specs.declared.ranges.Run.{Run};
 ghost use Rattle.page_ranges.specs.MemoryTypes.{conventional};
 ghost use Rattle.descriptor_table.specs.Leaves.{run_before};
 ghost use Rattle.descriptor_table.specs.LeafSummaries.{AllowsNear};
@@ -189,6 +190,16 @@ fn may_gain(wanted: &Wanted, below: Option<&Run>, run: &Run, above: Option<&Run>
     wanted.gain <= most
 }
 
+/// Whether more than 1 is to be gained, which only a placement gains that fills the run, and the pages do not
+/// fill it. Where the run above is free too, a placement may go on there.
+#[inline(always)]
+fn is_not_filled(wanted: &Wanted, run: &Run, above: Option<&Run>) -> bool
+    ensures { result ≡ true → (below : Option Run)
+        → RunGainsLittle wanted.now below run.now (option_map (λ r. r.now) above.entry) }
+{
+    wanted.gain > 1 && run.range.pages != wanted.pages && !is_free(above)
+}
+
 /// The run below the one at an index.
 #[inline(always)]
 fn run_below(runs: &[Run], index: usize) -> Option<&Run>
@@ -275,7 +286,11 @@ fn is_of_use(runs: &[Run], index: usize, wanted: &Wanted, goes_on: bool) -> bool
     if goes_on && index + 1 == runs.len() {
         return true;
     }
-    may_gain(wanted, run_below(runs, index), run, run_above(runs, index))
+    let above = run_above(runs, index);
+    if is_not_filled(wanted, run, above) {
+        return false;
+    }
+    may_gain(wanted, run_below(runs, index), run, above)
 }
 
 /// The last free run that may be of use among the first runs of a leaf. `goes_on` says whether a free run
