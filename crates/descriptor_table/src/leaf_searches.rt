@@ -47,11 +47,13 @@ pub(crate) fn count_leaves_by<A: Allocator + Copy>(leaves: &[Leaf<A>], page: u64
 }
 
 /// The run that holds a page.
-pub(crate) fn run_in_leaves<A: Allocator + Copy>(leaves: &[Leaf<A>], page: u64) -> Option<Run>
+pub(crate) fn run_in_leaves<A: Allocator + Copy>(leaves: &[Leaf<A>], page: u64) -> Option<&Run>
     requires leaves { AreLeaves leaves.now }
     requires runs { AreRuns (runs_in leaves.now) }
-    ensures page { page_at (pages_of (runs_in leaves.now)) page ≡ option_map (page_in page) result }
-    ensures member { IfSome result (λ r. Contains (runs_in leaves.now) r × IsInRun r page) }
+    ensures page { page_at (pages_of (runs_in leaves.now)) page
+        ≡ option_map (page_in page) (option_map (λ r. r.now) result) }
+    ensures member { IfSome (option_map (λ r. r.now) result)
+        (λ r. Contains (runs_in leaves.now) r × IsInRun r page) }
 {
     let count = count_leaves_by(leaves, page);
     if count == 0 {
@@ -80,7 +82,7 @@ pub(crate) fn all_in_range<A: Allocator + Copy>(
         let Some(run) = run_in_leaves(leaves, next) else {
             return false;
         };
-        if !test.passes(&run) {
+        if !test.passes(run) {
             return false;
         }
         next = run.range.first + run.range.pages;

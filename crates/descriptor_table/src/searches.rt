@@ -75,16 +75,19 @@ pub(crate) fn count_beginning_by_from(runs: &[Run], page: u64, start: usize) -> 
 }
 
 /// The run that holds a page.
-pub(crate) fn run_holding(runs: &[Run], page: u64) -> Option<Run>
+#[inline(always)]
+pub(crate) fn run_holding(runs: &[Run], page: u64) -> Option<&Run>
     requires { AreRuns runs.now }
-    ensures page { page_at (pages_of runs.now) page ≡ option_map (page_in page) result }
-    ensures member { IfSome result (λ r. Contains runs.now r × IsInRun r page) }
+    ensures page { page_at (pages_of runs.now) page
+        ≡ option_map (page_in page) (option_map (λ r. r.now) result) }
+    ensures member { IfSome (option_map (λ r. r.now) result)
+        (λ r. Contains runs.now r × IsInRun r page) }
 {
     let count = count_beginning_by(runs, page);
     if count == 0 {
         return None;
     }
-    let run = runs[count - 1];
+    let run = &runs[count - 1];
     if page - run.range.first < run.range.pages {
         Some(run)
     } else {

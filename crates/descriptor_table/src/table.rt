@@ -258,7 +258,7 @@ impl<A: Allocator + Copy> RunTable<A> {
         ensures page { page_at self.now.pages page ≡ option_map (page_in page) result }
         ensures maximal { HoldsPage self.now.pages page result }
     {
-        run_in_leaves(self.leaves.as_slice(), page)
+        run_in_leaves(self.leaves.as_slice(), page).copied()
     }
 
     /// The runs that hold the page below a page number and the page itself.

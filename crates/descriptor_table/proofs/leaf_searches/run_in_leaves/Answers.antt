@@ -1,4 +1,5 @@
 use Rattle.std.proofs.Common.{◌-◌, ◌∙◌, sym, ap, subst, arith}
+use Rattle.std.specs.Option.{option_map}
 use Rattle.page_ranges.specs.Memory.{page_at}
 use Rattle.page_ranges.specs.Runs.{pages_of, AreRuns}
 use Rattle.descriptor_table.proofs.LeafLists.{leaf_runs, page_at_leaf, page_at_no_leaf, found_in_leaf}
@@ -20,4 +21,4 @@ returns-clause-page g c =
 
 pub returns-clause-member : goal.returns-clause-member
 returns-clause-member g c =
-    found_in_leaf c.args.leaves.now (c.count_leaves_by-count.result - 1) c.args.page c.index-leaves-count.result _ c.run_holding.result (omega arith) (c.runs.ensures ∙ c.index-leaves-count.is) c.run_holding.ensures.member
+    found_in_leaf c.args.leaves.now (c.count_leaves_by-count.result - 1) c.args.page c.index-leaves-count.result _ (option_map (λ r. r.now) c.run_holding.result) (omega arith) (c.runs.ensures ∙ c.index-leaves-count.is) c.run_holding.ensures.member
