@@ -64,7 +64,7 @@ gained_more s v n t a b c = elim (most_cases s n t) [
 
 allows_more : (s v : Summary) (below : Option Run) (r : Run) (above : Option Run) → s.longest ≤ v.longest → ((n t : ℕ) → most_gained s n t ≤ most_gained v n t) → AllowsRun s below r above → AllowsRun v below r above
 allows_more s v below r above long more a = record {
-  within = λ n t h. let w = a.within n t h in (omega (arith, w.0), omega (arith, w.1, more n t));
+  within = λ n t k h. let w = a.within n t k h in (omega (arith, w.0), omega (arith, w.1, more n t));
   beyond = λ f n t h. let w = a.beyond f n t h in (omega (arith, w.0), omega (arith, w.1, more n t));
 }
 
@@ -99,13 +99,17 @@ pub gain_most : (n p b a : ℕ) → b ≤ 1 → a ≤ 1 → most_gain n p b a �
 gain_most n p b a k l = elim (eqb n p) as (λ c. cond c (1 + b + a) (max b a) ≤ 3) [ true ↦ omega (arith, k, l) | false ↦ omega (arith, k, l) ]
 
 -- a summary of all that may be allows any run
-pub allows_any : (s : Summary) (below : Option Run) (r : Run) (above : Option Run) → ((n t : ℕ) → n < 2 ^ 64 → (n ≤ s.longest) × (3 ≤ most_gained s n t)) → r.range.pages < 2 ^ 64 → AllowsRun s below r above
-allows_any s below r above all small = record {
-  within = λ n t h.
-      let a = all n t (omega (arith, h, small)) in
+pub allows_any : (s : Summary) (below : Option Run) (r : Run) (above : Option Run) → ((n t : ℕ) → n < 2 ^ 64 → (n ≤ s.longest) × (3 ≤ most_gained s n t)) → AllowsRun s below r above
+allows_any s below r above all = record {
+  within = λ n t k h.
+      let a = all n t k in
       (a.0, omega (arith, a.1, gain_most n r.range.pages (may_be t below) (may_be t above) (may_be_most t below) (may_be_most t above)));
   beyond = λ f. all;
 }
+
+-- and so any runs
+pub all_allows : (s : Summary) (rs : List Run) → AllowsAll s → Allows s rs
+all_allows s rs all i r at free = allows_any s (run_before rs i) r (slice_get rs (i + 1)) all
 
 -- a free run, by bits that include those of the runs beside it
 module _ (below : Option Run) (r : Run) (above : Option Run) (s : Summary) (low high low_pair high_pair all : ℕ) (is_low : (t : ℕ) → may_be t below ≤ bit_of low t) (is_high : (t : ℕ) → may_be t above ≤ bit_of high t)
@@ -139,7 +143,7 @@ module _ (below : Option Run) (r : Run) (above : Option Run) (s : Summary) (low 
 
   pub allows_here : ¬ IsFreeRun above → AllowsRun s below r above
   allows_here apart = record {
-    within = λ n t h. (omega (arith, longest), gained_here n t);
+    within = λ n t k h. (omega (arith, longest), gained_here n t);
     beyond = λ f n t h. absurd (apart f);
   }
 
@@ -177,11 +181,11 @@ not_held s w f = elim (cases_Bool (leb w.pages s.longest)) [
 gains_little : (s : Summary) (w : Wanted) (below : Option Run) (r : Run) (above : Option Run) → may_hold s w ≡ false → w.pages < 2 ^ 64 → AllowsRun s below r above → RunGainsLittle w below r above
 gains_little s w below r above f small a = elim (not_held s w f) [
   | inl l ↦ record {
-    within = λ h. absurd (omega (arith, l, (a.within w.pages w.mtype h).0));
+    within = λ h. absurd (omega (arith, l, (a.within w.pages w.mtype small h).0));
     beyond = λ g. absurd (omega (arith, l, (a.beyond g w.pages w.mtype small).0));
   }
   | inr l ↦ record {
-    within = λ h. omega (arith, l, (a.within w.pages w.mtype h).1);
+    within = λ h. omega (arith, l, (a.within w.pages w.mtype small h).1);
     beyond = λ g. omega (arith, l, (a.beyond g w.pages w.mtype small).1);
   }
 ]

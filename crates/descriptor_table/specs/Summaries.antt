@@ -54,7 +54,7 @@ IsFreeRun (Some r) = r.mtype ≡ conventional
 -- the run above is free too.
 pub record AllowsRun (s : Summary) (below : Option Run) (r : Run)
     (above : Option Run) : Type 0 where
-  pub within : (n t : ℕ) → n ≤ r.range.pages
+  pub within : (n t : ℕ) → n < 2 ^ 64 → n ≤ r.range.pages
       → (n ≤ s.longest)
       × (most_gain n r.range.pages (may_be t below) (may_be t above) ≤ most_gained s n t)
   pub beyond : IsFreeRun above → AllowsAll s

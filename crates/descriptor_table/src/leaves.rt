@@ -4,7 +4,7 @@ ghost use Rattle.descriptor_table.specs.Leaves.{first_page, runs_in, AreLeaves};
 ghost use Rattle.descriptor_table.specs.Summaries.{Allows, AllowsAll, BeginsFree, EndsFree, IsFreeRun, IsLeafOfNoUse};
 
 use crate::run_arrays::replace_runs;
-use crate::summaries::{Summary, begins_free, ends_free, joined_near, summary_of};
+use crate::summaries::{Summary, begins_free, ends_free, summary_changed, summary_of};
 use crate::wanted::Wanted;
 use arrayvec::ArrayVec;
 use page_ranges::{MemoryType, Owner, PageRange, Run};
@@ -101,7 +101,7 @@ impl<A: Allocator + Copy> Leaf<A> {
     }
 
     /// Replaces some of the leaf's runs by others, and does not leave it empty. Its summary is joined with that
-    /// of the changed runs, and made anew after `most_joins` joins.
+    /// of the changed runs, and made anew after `most_joins` joins; none is kept for `ALLOWS_ALL`.
     pub(crate) fn replace(&mut self, low: usize, high: usize, parts: &[Run], most_joins: u8)
         requires order { low ≤ high }
         requires bound { high ≤ length self.old }
@@ -115,13 +115,14 @@ impl<A: Allocator + Copy> Leaf<A> {
         self.count = runs.len() as u8;
         self.begins_free = begins_free(runs);
         self.ends_free = ends_free(runs);
-        if self.changes >= most_joins {
-            self.summary = summary_of(runs);
-            self.changes = 0;
-            return;
-        }
-        self.summary = joined_near(self.summary, runs, low, low + parts.len());
-        self.changes += 1;
+        let changed = (low, low + parts.len());
+        (self.summary, self.changes) = summary_changed(
+            self.summary,
+            self.changes,
+            runs,
+            changed,
+            most_joins,
+        );
     }
 
     /// Whether the first run is free.

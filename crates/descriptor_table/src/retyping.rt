@@ -19,6 +19,7 @@ use crate::leaf_searches::count_leaves_below;
 use crate::leaves::{LEAF_SIZE, Leaf};
 use crate::replacing::cut_out;
 use crate::searches::{count_beginning_by, count_beginning_by_from, count_ending_below};
+use crate::summaries::ALLOWS_ALL;
 use crate::tallies::Tally;
 use page_ranges::{MemoryType, Owner, PageRange, Run};
 use std::alloc::{AllocError, Allocator};
@@ -34,6 +35,10 @@ const SHARED_SIZE: usize = 60;
 /// Three leaves in a row that have this many runs together, or fewer, become two when the middle one
 /// changes.
 const SPREAD_SIZE: usize = 60;
+
+/// A table with this many leaves, or fewer, keeps no summaries: a search goes over its runs sooner than changes
+/// keep up what it may pass.
+const BARE_LEAVES: usize = 4;
 
 /// A table with this many leaves, or fewer, shares no runs: full leaves take longer to change, and few
 /// leaves are soon passed.
@@ -56,6 +61,9 @@ pub(crate) const MAX_PARTS: usize = 66;
 /// few leaves a search opens most of them anyway, with many it opens some in vain. Pages that become
 /// free leave little of the runs before them that is not allowed anyway.
 fn most_joins(leaves: usize, mtype: MemoryType) -> u8 {
+    if leaves <= BARE_LEAVES {
+        return ALLOWS_ALL;
+    }
     if leaves <= 8 || mtype == MemoryType::conventional() {
         return 8;
     }

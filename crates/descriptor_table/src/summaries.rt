@@ -262,12 +262,36 @@ pub(crate) fn summary_of(runs: &[Run]) -> Summary
 }
 
 /// A summary joined with that of the runs between two indices and the one beside each of these.
-pub(crate) fn joined_near(summary: Summary, runs: &[Run], low: usize, high: usize) -> Summary
+fn joined_near(summary: Summary, runs: &[Run], low: usize, high: usize) -> Summary
     requires { high ≤ length runs.now }
     ensures { AllowsNear runs.now low high summary result }
 {
     let end = runs.len().min(high + 1);
     summary.joined(summary_between(runs, low.saturating_sub(1), end))
+}
+
+/// In place of a number of joins: no summary is kept, and any free run is allowed.
+pub(crate) const ALLOWS_ALL: u8 = u8::MAX;
+
+/// The summary of runs once those between two indices have changed, and how often it was joined since it was
+/// made: it is made anew after a number of joins.
+pub(crate) fn summary_changed(
+    summary: Summary,
+    joins: u8,
+    runs: &[Run],
+    changed: (usize, usize),
+    most_joins: u8,
+) -> (Summary, u8)
+    requires { changed.1 ≤ length runs.now }
+    ensures { AllowsNear runs.now changed.0 changed.1 summary result.0 }
+{
+    if most_joins == ALLOWS_ALL {
+        return (Summary::all(), ALLOWS_ALL);
+    }
+    if joins >= most_joins {
+        return (summary_of(runs), 0);
+    }
+    (joined_near(summary, runs, changed.0, changed.1), joins + 1)
 }
 
 /// Whether the run at an index of a leaf is free and may be of use. `goes_on` says whether a free run

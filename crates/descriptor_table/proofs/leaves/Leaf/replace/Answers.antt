@@ -3,18 +3,18 @@ use Rattle.descriptor_table.proofs.ChangedRuns.{allows_changed, first_run}
 use Rattle.descriptor_table.proofs.LeafSplices.{replaced_length}
 use Rattle.descriptor_table.proofs.leaves.Leaf.replace.Goals as goal
 
-pub invariant_of-self-2 : goal.invariant_of-self-2
-invariant_of-self-2 g c =
+pub invariant_of-self : goal.invariant_of-self
+invariant_of-self g c =
     let old = c.self.inside.runs.value.items in
     let was = ap length c.self.view_is in
     let put : c.replace_runs.new.runs.items ≡ take c.args.low old ++ (c.args.parts.now ++ drop c.args.high old) = rw c.deref_mut.ensures.value at c.replace_runs.ensures in
     let same : c.as_slice-runs.result.now ≡ c.replace_runs.new.runs.items = search rules in
     let here : c.deref-2.result.now ≡ c.replace_runs.new.runs.items = search rules in
-    let near = rw (same, put) at c.joined_near-self-inside.ensures in
+    let near = rw (same, put) at c.summary_changed.ensures in
     let some : 0 < length c.replace_runs.new.runs.items = omega (arith, was, ap length put, replaced_length old c.args.parts.now c.args.low c.args.high c.requires.order (omega (arith, was))) in (
       ap (λ rs. (get_or rs 0 c.index-deref-0.result).range.first) here ∙ first_run c.replace_runs.new.runs.items c.index-deref-0.result some,
       search rules,
       search rules,
-      rw put (allows_changed old c.args.parts.now c.args.low c.args.high c.requires.order (omega (arith, was)) c.self.inside.summary c.joined_near-self-inside.result c.self.invariant.3 near),
+      rw put (allows_changed old c.args.parts.now c.args.low c.args.high c.requires.order (omega (arith, was)) c.self.inside.summary c.summary_changed.result.0 c.self.invariant.3 near),
       ap length same,
     )

@@ -11,7 +11,7 @@ returns c =
     elim c.if-is_free.branch [
       | then-is_free w ↦
           allows_any _ below c.args.run.now above
-          (all_here below c.args.run.now above _ c.type_bits.result c.type_bits-2.result c.pair_bits.result c.pair_bits-2.result c.if-is_free.all c.type_bits.ensures c.type_bits-2.ensures c.pair_bits.ensures c.pair_bits-2.ensures c.max.ensures (rw c.with_bit.ensures refl) refl refl w.all-is) (omega arith)
+          (all_here below c.args.run.now above _ c.type_bits.result c.type_bits-2.result c.pair_bits.result c.pair_bits-2.result c.if-is_free.all c.type_bits.ensures c.type_bits-2.ensures c.pair_bits.ensures c.pair_bits-2.ensures c.max.ensures (rw c.with_bit.ensures refl) refl refl w.all-is)
       | else-is_free w ↦
           allows_here below c.args.run.now above _ c.type_bits.result c.type_bits-2.result c.pair_bits.result c.pair_bits-2.result c.if-is_free.all c.type_bits.ensures c.type_bits-2.ensures c.pair_bits.ensures c.pair_bits-2.ensures c.max.ensures (rw c.with_bit.ensures refl) refl refl
           (λ f. true≢false (sym (c.is_free.ensures.1 f) ∙ w.if-is_free.false))
