@@ -25,6 +25,7 @@ pub mod Begun
 pub mod LeavesPut
 pub mod LaterEntries
 pub mod FreeBounds
+pub mod FreeMarks
 pub mod NoUse
 pub mod Downward
 pub mod Grouped

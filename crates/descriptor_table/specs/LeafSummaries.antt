@@ -1,5 +1,6 @@
 -- What is kept of a leaf, and of a group once one of its leaves has changed.
 use Rattle.std.specs.Prelude.{◌≡◌, ℕ, ◌+◌, ◌-◌, ◌*◌, ◌⊎◌, ◌<◌, ◌≤◌, Bool, List, Some, length, slice_get}
+use Rattle.std.specs.Int.{bit_at}
 use Rattle.page_ranges.specs.declared.ranges.Run.{Run}
 use Rattle.page_ranges.specs.MemoryTypes.{conventional}
 use Rattle.descriptor_table.specs.declared.groups.Group.{Group}
@@ -7,11 +8,16 @@ use Rattle.descriptor_table.specs.declared.summaries.Summary.{Summary}
 use Rattle.descriptor_table.specs.Leaves.{first_page, leaf_at, run_before}
 use Rattle.descriptor_table.specs.Summaries.{Allows, AllowsLeaf, AllowsRun, AreGroupsBut, BeginsFree, EndsFree, IsFreeRun}
 
+-- the bit of each free run is set
+abbrev pub MarksFree : ℕ → List Run → Type 0
+MarksFree marks rs = (i : ℕ) → IsFreeRun (slice_get rs i) → bit_at marks i ≡ 1
+
 -- the first page of a leaf, marks that are set if its first run or its last one is free, a summary
--- that allows each free run, and how many runs there are
-abbrev pub IsKeptOf : List Run → ℕ → Bool → Bool → Summary → ℕ → Type 0
-IsKeptOf rs first begins_free ends_free summary count = (first ≡ first_page rs)
+-- that allows each free run, how many runs there are, and a bit for each free one
+abbrev pub IsKeptOf : List Run → ℕ → Bool → Bool → Summary → ℕ → ℕ → Type 0
+IsKeptOf rs first begins_free ends_free summary count marks = (first ≡ first_page rs)
     × BeginsFree begins_free rs × EndsFree ends_free rs × Allows summary rs × (count ≡ length rs)
+    × MarksFree marks rs
 
 -- A new summary of runs allows each free run between two indices or beside these, and each that the old
 -- one allows.

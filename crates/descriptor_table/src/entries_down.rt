@@ -7,6 +7,7 @@ ghost use Rattle.page_ranges.specs.MemoryMap.{memory_map};
 ghost use Rattle.page_ranges.specs.Runs.{pages_of, AreMaximalRuns};
 ghost use Rattle.descriptor_table.specs.FreeLists.{IsFreeEntry};
 ghost use Rattle.descriptor_table.specs.Leaves.{leaf_at, run_before, runs_in, AreLeaves};
+ghost use Rattle.descriptor_table.specs.LeafSummaries.{MarksFree};
 ghost use Rattle.descriptor_table.specs.LeafWalks.{free_in, run_above, run_below};
 ghost use Rattle.descriptor_table.specs.Summaries.{AreGroups, BeginsFree, IsLeafOfNoUse};
 ghost use Rattle.descriptor_table.specs.Wanting.{AreOfNoUse, IsFreeAt, IsFreeEntryAt, YieldsLeaf, YieldsPlace, YieldsWanted};
@@ -32,6 +33,17 @@ fn runs_of<A: Allocator + Copy>(leaves: &[Leaf<A>], leaf: usize) -> &[Run]
         return &[];
     }
     leaves[leaf].runs()
+}
+
+/// The marks of its free runs.
+#[inline(always)]
+fn marks_of<A: Allocator + Copy>(leaves: &[Leaf<A>], leaf: usize) -> u64
+    ensures { MarksFree result (leaf_at leaves.now leaf) }
+{
+    if leaf >= leaves.len() {
+        return 0;
+    }
+    leaves[leaf].marks()
 }
 
 /// Whether the leaf above one begins with a free run.
@@ -162,8 +174,9 @@ fn next_place<A: Allocator + Copy>(
     let (mut leaf, mut count) = from;
     loop {
         let runs = runs_of(leaves, leaf);
+        let marks = marks_of(leaves, leaf);
         let goes_on = next_begins_free(leaves, leaf);
-        if let Some(index) = last_of_use(runs, count, wanted, goes_on) {
+        if let Some(index) = last_of_use(runs, marks, count, wanted, goes_on) {
             return Some((leaf, index));
         }
         leaf = leaf_of_use(leaves, groups, leaf, wanted)?;

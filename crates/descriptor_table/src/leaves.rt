@@ -1,8 +1,10 @@
 //! Runs in leaves.
 ghost use Rattle.std.specs.Prelude.{◌≡◌, ℕ, ◌+◌, ◌*◌, ◌-◌, ◌<◌, ◌≤◌, ◌++◌, length, map, take, drop, true, false, IfOk, slice_get};
 ghost use Rattle.descriptor_table.specs.Leaves.{first_page, runs_in, AreLeaves};
+ghost use Rattle.descriptor_table.specs.LeafSummaries.{MarksFree};
 ghost use Rattle.descriptor_table.specs.Summaries.{Allows, AllowsAll, BeginsFree, EndsFree, IsFreeRun, IsLeafOfNoUse};
 
+use crate::free_marks::{marks_changed, marks_of};
 use crate::run_arrays::replace_runs;
 use crate::summaries::{Summary, begins_free, ends_free, summary_changed, summary_of};
 use crate::wanted::Wanted;
@@ -19,10 +21,12 @@ pub(crate) const LEAF_SIZE: usize = 32;
 pub struct Leaf<A: Allocator = Global> {
     // The first page of the first run.
     first: u64,
+    summary: Summary,
+    // A bit for each run, which is set if it is free.
+    marks: u64,
     // Whether the first run is free, and whether the last one is.
     begins_free: bool,
     ends_free: bool,
-    summary: Summary,
     // How often the summary was joined with that of changed runs since it was made.
     changes: u8,
     // How many runs there are. The array has that too, but behind them, in another line of the cache.
@@ -42,7 +46,7 @@ impl<A: Allocator> Model for Leaf<A> {
     ghost view = { λ l. l.runs.value.items };
 
     ghost invariant = { λ l.
-        IsKeptOf l.runs.value.items l.first l.begins_free l.ends_free l.summary l.count };
+        IsKeptOf l.runs.value.items l.first l.begins_free l.ends_free l.summary l.count l.marks };
 }
 
 impl<A: Allocator + Copy> Leaf<A> {
@@ -57,9 +61,10 @@ impl<A: Allocator + Copy> Leaf<A> {
         let _filled = leaf.try_extend_from_slice(runs);
         Ok(Leaf {
             first,
+            summary: summary_of(runs),
+            marks: marks_of(runs),
             begins_free: begins_free(runs),
             ends_free: ends_free(runs),
-            summary: summary_of(runs),
             changes: 0,
             count: runs.len() as u8,
             made: u32::try_from(others).unwrap_or(u32::MAX),
@@ -109,6 +114,9 @@ impl<A: Allocator + Copy> Leaf<A> {
         requires fits { length self.old + length parts.now ≤ 32 + (high - low) }
         ensures { self.new ≡ take low self.old ++ (parts.now ++ drop high self.old) }
     {
+        // There are no more runs than the array holds.
+        let _runs = self.runs.as_slice();
+        self.marks = marks_changed(self.marks, low, high, parts);
         replace_runs(&mut self.runs, low, high, parts);
         self.first = self.runs[0].range.first;
         let runs = self.runs.as_slice();
@@ -139,6 +147,14 @@ impl<A: Allocator + Copy> Leaf<A> {
         ensures { EndsFree result self.now }
     {
         self.ends_free
+    }
+
+    /// A bit for each run, which is set if it is free.
+    #[inline(always)]
+    pub(crate) fn marks(&self) -> u64
+        ensures { MarksFree result self.now }
+    {
+        self.marks
     }
 
     /// What the free runs may be; all that may be, if the last run is free and a free run follows the leaf.

@@ -7,6 +7,7 @@ mod entries;
 mod entries_down;
 mod entry_starts;
 mod free_entries;
+mod free_marks;
 mod groups;
 mod leaf_searches;
 mod leaves;

@@ -38,7 +38,7 @@ const SPREAD_SIZE: usize = 60;
 
 /// A table with this many leaves, or fewer, keeps no summaries: a search goes over its runs sooner than changes
 /// keep up what it may pass.
-const BARE_LEAVES: usize = 4;
+const BARE_LEAVES: usize = 6;
 
 /// A table with this many leaves, or fewer, shares no runs: full leaves take longer to change, and few
 /// leaves are soon passed.

@@ -4,9 +4,10 @@ ghost use Rattle.std.specs.Option.{option_map};
 ghost use Rattle.page_ranges.specs.declared.ranges.Run.{Run};
 ghost use Rattle.page_ranges.specs.MemoryTypes.{conventional};
 ghost use Rattle.descriptor_table.specs.Leaves.{run_before};
-ghost use Rattle.descriptor_table.specs.LeafSummaries.{AllowsNear};
+ghost use Rattle.descriptor_table.specs.LeafSummaries.{AllowsNear, MarksFree};
 ghost use Rattle.descriptor_table.specs.Summaries.{Allows, AllowsAll, AllowsBetween, AllowsRun, AreRunsOfNoUse, BeginsFree, EndsFree, IsFreeRun, IsLastOfUse, RunGainsLittle, bit_of, joined, may_be, may_hold, pair_of};
 
+use crate::free_marks::last_mark;
 use crate::wanted::Wanted;
 use page_ranges::{MemoryType, Run};
 
@@ -317,22 +318,27 @@ fn is_of_use(runs: &[Run], index: usize, wanted: &Wanted, goes_on: bool) -> bool
     may_gain(wanted, run_below(runs, index), run, above)
 }
 
-/// The last free run that may be of use among the first runs of a leaf. `goes_on` says whether a free run
-/// follows the leaf.
+/// The last free run that may be of use among the first runs of a leaf, whose free runs are marked. `goes_on`
+/// says whether a free run follows the leaf.
 #[inline(always)]
 pub(crate) fn last_of_use(
     runs: &[Run],
+    marks: u64,
     count: usize,
     wanted: &Wanted,
     goes_on: bool,
 ) -> Option<usize>
-    requires { count ≤ length runs.now }
+    requires marks { MarksFree marks runs.now }
+    requires bound { count ≤ length runs.now }
+    requires few { count ≤ 32 }
     ensures { IsLastOfUse wanted.now goes_on runs.now count result }
 {
-    for index in (0..count).rev() {
+    let mut end = count;
+    while let Some(index) = last_mark(marks, end) {
         if is_of_use(runs, index, wanted, goes_on) {
             return Some(index);
         }
+        end = index;
     }
     None
 }

@@ -1,4 +1,4 @@
-use Rattle.std.proofs.Common.{refl, true≢false, sym, ◌∙◌, arith}
+use Rattle.std.proofs.Common.{refl, true≢false, sym, ◌∙◌}
 use Rattle.std.specs.Option.{option_map}
 use Rattle.descriptor_table.proofs.FreeBounds.{all_here, allows_any, allows_here}
 use Rattle.descriptor_table.proofs.summaries.Summary.of_free.Goals as goal
