@@ -28,8 +28,27 @@ struct Load {
 struct Counts {
     // How many changes came to more leaves.
     grown: usize,
-    // How many changes of a page or two left at least three leaves less, as only that of all leaves made anew does.
+    // How many changes of a page or two left at least three leaves less, as only that of all leaves made anew, or laid in
+    // order, does.
     anew: usize,
+}
+
+// How often the leaves are laid in order, and how many changes since by which leaves come or go.
+#[derive(Clone, Copy)]
+struct Laid {
+    times: usize,
+    moved: usize,
+}
+
+fn drawn_range(load: Load, draw: u64) -> PageRange {
+    PageRange {
+        first: draw >> 30 & load.places.saturating_sub(1),
+        pages: match draw >> 44 & 7 {
+            0 => load.pages,
+            1 => 0,
+            drawn => 1 + drawn % 2,
+        },
+    }
 }
 
 // Makes one change, for which memory is reserved, of a table and of its list.
@@ -60,6 +79,46 @@ fn change_reserved<A: Allocator + Copy>(
     }
 }
 
+// How many runs leaves get that are laid in order.
+const LAID_RUNS: usize = 28;
+
+// Whether all leaves but the last two have that many runs.
+fn are_laid<A: Allocator + Copy>(table: &RunTable<A>) -> bool {
+    let leaves = table.leaves();
+    for index in 0..leaves.len().saturating_sub(2) {
+        if leaves[index].runs().len() != LAID_RUNS {
+            return false;
+        }
+    }
+    true
+}
+
+// Makes one change of a table of more than 64 leaves. These are laid in order once leaves came or went in as many changes
+// as there are leaves.
+fn change_many<A: Allocator + Copy>(
+    rt: &(impl AllocGlobal + Abort),
+    table: &mut RunTable<A>,
+    list: &mut [Run],
+    range: PageRange,
+    kind: (u32, Owner),
+    laid: &mut Laid,
+)
+    requires { kind.0 ≡ conventional → kind.1 ≡ Given }
+{
+    let mut counts = Counts { grown: 0, anew: 0 };
+    let leaves = table.leaves().len();
+    change_reserved(rt, table, list, range, kind, &mut counts);
+    let left = table.leaves().len();
+    if left != leaves {
+        laid.moved = laid.moved.saturating_add(1);
+    }
+    if laid.moved > 63 && are_laid(table) {
+        laid.times = laid.times.saturating_add(1);
+        laid.moved = 0;
+    }
+    assert!(rt; left > 64 && laid.moved < left);
+}
+
 // Makes as many drawn changes as memory is reserved for.
 fn change_all<A: Allocator + Copy>(
     rt: &(impl AllocGlobal + Abort),
@@ -71,14 +130,7 @@ fn change_all<A: Allocator + Copy>(
     let mut draw = load.draw;
     for _change in 0..table.reserved() {
         draw = next_draw(draw);
-        let range = PageRange {
-            first: draw >> 30 & load.places.saturating_sub(1),
-            pages: match draw >> 44 & 7 {
-                0 => load.pages,
-                1 => 0,
-                drawn => 1 + drawn % 2,
-            },
-        };
+        let range = drawn_range(load, draw);
         change_reserved(rt, table, list, range, drawn_kind(draw >> 50), &mut counts);
     }
     assert!(rt; table.reserved() == 0);
@@ -227,6 +279,53 @@ fn changes_of_full_leaves_take_no_memory(rt: HostRuntime) {
 #[test]
 fn changes_of_many_leaves_take_no_memory(rt: HostRuntime) {
     assert_striped(&rt, 4_608, 4_096);
+}
+
+// Makes rounds of changes by which leaves come and go: a drawn one below a page, and at a place above it twelve pages get
+// one type, and then each second of them another.
+fn change_in_rounds<A: Allocator + Copy>(
+    rt: &(impl AllocGlobal + Abort),
+    table: &mut RunTable<A>,
+    list: &mut [Run],
+    load: Load,
+) -> Laid {
+    let mut laid = Laid { times: 0, moved: 0 };
+    let mut draw = load.draw;
+    for _round in 0..72 {
+        draw = next_draw(draw);
+        let range = drawn_range(load, draw);
+        change_many(rt, table, list, range, drawn_kind(draw >> 50), &mut laid);
+        let twelve = PageRange {
+            first: 4_300,
+            pages: 12,
+        };
+        change_many(rt, table, list, twelve, (4, Owner::Pages), &mut laid);
+        for pair in 0..6_u64 {
+            let page = PageRange {
+                first: 4_300 + 2 * pair,
+                pages: 1,
+            };
+            change_many(rt, table, list, page, (7, Owner::Given), &mut laid);
+        }
+    }
+    laid
+}
+
+// A table of 71 to 77 leaves. Memory is reserved for more than its 576 changes, so that leaves for later last.
+#[test]
+fn leaves_laid_in_order_take_no_memory(rt: HostRuntime) {
+    let load = Load {
+        draw: 7,
+        places: 4_096,
+        pages: 100,
+    };
+    let heap = Refusing::new(rt.alloc());
+    let (table, mut list) = striped(&rt, 4_608);
+    let mut changed = made_anew(&rt, &heap, &table);
+    changed.reserve(1_200).expect(&rt, "memory");
+    heap.refuse_from(1);
+    let laid = change_in_rounds(&rt, &mut changed, list.as_mut_slice(), load);
+    assert!(rt; laid.times > 1);
 }
 
 // The machine's pages, of which each two have other attributes than those beside them, so that no runs are joined.
