@@ -48,7 +48,7 @@ mark_passed rs k marks q is other was i below free = elim (cases_eq i k) [
 
 -- ---- marks of runs of which some gave way to others
 
--- what stands below the end of the first elements of a list
+-- a run among the first ones of a list
 get_taken : (xs : List Run) (n i : ℕ) → i < n → slice_get (take n xs) i ≡ slice_get xs i
 get_taken xs zero i l = absurd (omega arith)
 get_taken [] (suc n) i l = refl

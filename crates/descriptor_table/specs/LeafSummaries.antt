@@ -1,5 +1,5 @@
 -- What is kept of a leaf, and of a group once one of its leaves has changed.
-use Rattle.std.specs.Prelude.{◌≡◌, ℕ, ◌+◌, ◌-◌, ◌*◌, ◌⊎◌, ◌<◌, ◌≤◌, Bool, List, Some, length, slice_get}
+use Rattle.std.specs.Prelude.{◌≡◌, ℕ, ◌+◌, ◌-◌, ◌*◌, ◌⊎◌, ◌<◌, ◌≤◌, ◌++◌, Bool, List, Some, length, take, drop, slice_get}
 use Rattle.std.specs.Int.{bit_at}
 use Rattle.page_ranges.specs.declared.ranges.Run.{Run}
 use Rattle.page_ranges.specs.MemoryTypes.{conventional}
@@ -11,6 +11,14 @@ use Rattle.descriptor_table.specs.Summaries.{Allows, AllowsLeaf, AllowsRun, AreG
 -- the bit of each free run is set
 abbrev pub MarksFree : ℕ → List Run → Type 0
 MarksFree marks rs = (i : ℕ) → IsFreeRun (slice_get rs i) → bit_at marks i ≡ 1
+
+-- Runs of which those between two indices gave way to others, no more than a leaf has room for: where old
+-- bits are set for the free ones of any runs before, new bits are for those after.
+abbrev pub StillMarks : ℕ → ℕ × ℕ → List Run → ℕ → Type 0
+StillMarks old window parts new =
+    (rs : List Run) → MarksFree old rs → window.1 ≤ length rs
+    → length rs + length parts ≤ 32 + (window.1 - window.0)
+    → MarksFree new (take window.0 rs ++ (parts ++ drop window.1 rs))
 
 -- the first page of a leaf, marks that are set if its first run or its last one is free, a summary
 -- that allows each free run, how many runs there are, and a bit for each free one

@@ -46,7 +46,8 @@ pub record HaveRoom (leaves spare room spare_room begun_room sizes_room : ℕ) :
 -- the same of lists of leaves, of those for later, and of two rows of numbers
 abbrev pub LeavesHaveRoom : {A : Type 0} → Vec (List Run) A → Spares → Numbers → Numbers → Type 0
 LeavesHaveRoom leaves spare begun sizes =
-    HaveRoom (length leaves.items) spare.count (vec_capacity leaves) spare.room begun.room sizes.room
+    HaveRoom (length leaves.items) spare.count
+    (vec_capacity leaves) spare.room begun.room sizes.room
 
 -- how many leaves there are, with those for later
 abbrev pub leaf_count : {A : Type 0} → Vec (List Run) A → Spares → ℕ

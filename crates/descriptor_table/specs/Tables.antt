@@ -1,13 +1,14 @@
 -- Sorted runs as the table of a memory.
-use Rattle.std.specs.Prelude.{◌≡◌, ℕ, zero, suc, ◌+◌, ◌<◌, ◌≤◌, List, [], ◌∷◌, ◌++◌, take, drop, length, Contains, Option, Some, None}
+use Rattle.std.specs.Prelude.{◌≡◌, ℕ, zero, suc, ◌+◌, ◌<◌, ◌≤◌, List, [], ◌∷◌, ◌++◌, take, drop, length, Contains, IfSome, Option, Some, None}
 use Rattle.std.specs.List.{AllByRecursion}
+use Rattle.std.specs.Option.{option_map}
 use Rattle.page_ranges.specs.declared.ranges.PageRange.{PageRange}
 use Rattle.page_ranges.specs.declared.ranges.Run.{Run}
 use Rattle.page_ranges.specs.declared.ranges.Descriptor.{Descriptor}
 use Rattle.page_ranges.specs.Memory.{Page, page_at, IsProperMemory}
 use Rattle.page_ranges.specs.MemoryMap.{memory_map}
 use Rattle.page_ranges.specs.Cursors.{IsBlockAt}
-use Rattle.page_ranges.specs.Runs.{pages_of, runs_of, IsInRun, AreMaximalRuns}
+use Rattle.page_ranges.specs.Runs.{page_in, pages_of, runs_of, IsInRun, AreMaximalRuns}
 
 -- a run as an entry of a map, its owner left out
 abbrev pub entry_of : Run → Descriptor
@@ -37,6 +38,14 @@ pub record IsTable (rs : List Run) (count : ℕ) : Type 0 where
   pub maximal : AreMaximalRuns rs
   pub proper : IsProperMemory (pages_of rs)
   pub entries : count ≡ length (memory_map (pages_of rs))
+
+-- the run that was found shows what the page of a number is
+abbrev pub ShowsPage : List Run → ℕ → Option Run → Type 0
+ShowsPage rs k found = page_at (pages_of rs) k ≡ option_map (page_in k) found
+
+-- a run that was found is one of some and holds the page of a number
+abbrev pub IsHolder : List Run → ℕ → Option Run → Type 0
+IsHolder rs k found = IfSome found (λ r. Contains rs r × IsInRun r k)
 
 -- the answer to which run holds a page: a maximal run of the memory with the page in it, or none
 -- where the page is absent

@@ -1,8 +1,7 @@
 //! Which runs of a leaf are free, by a bit for each.
-ghost use Rattle.std.specs.Prelude.{◌≡◌, ◌+◌, ◌-◌, ◌<◌, ◌≤◌, ◌++◌, ℕ, List, length, take, drop, IfSome, IfNone};
+ghost use Rattle.std.specs.Prelude.{◌≡◌, ◌+◌, ◌<◌, ◌≤◌, ℕ, length, IfSome, IfNone};
 ghost use Rattle.std.specs.Int.{bit_at};
-ghost use Rattle.page_ranges.specs.declared.ranges.Run.{Run};
-ghost use Rattle.descriptor_table.specs.LeafSummaries.{MarksFree};
+ghost use Rattle.descriptor_table.specs.LeafSummaries.{MarksFree, StillMarks};
 
 use page_ranges::{MemoryType, Run};
 
@@ -35,9 +34,7 @@ pub(crate) fn marks_changed(marks: u64, low: usize, high: usize, parts: &[Run]) 
     requires order { low ≤ high }
     requires bound { high ≤ 32 }
     requires fits { low + length parts.now ≤ 32 }
-    ensures { (rs : List Run) → MarksFree marks rs → high ≤ length rs
-        → length rs + length parts.now ≤ 32 + (high - low)
-        → MarksFree result (take low rs ++ (parts.now ++ drop high rs)) }
+    ensures { StillMarks marks (low, high) parts.now result }
 {
     let below = marks & bits_below(low);
     let above = marks >> high << (low + parts.len());

@@ -1,13 +1,13 @@
 //! Finding a leaf by a page or by an index.
-ghost use Rattle.std.specs.Prelude.{◌≡◌, ◌↔◌, ◌+◌, ◌<◌, ◌≤◌, length, map, nat_lt, nat_le, Contains, IfSome, IsTrue, slice_get};
+ghost use Rattle.std.specs.Prelude.{◌≡◌, ◌↔◌, ◌+◌, ◌<◌, ◌≤◌, length, map, nat_lt, nat_le, IsTrue, slice_get};
 ghost use Rattle.std.specs.List.{AllWithin};
 ghost use Rattle.std.specs.Option.{option_map};
 ghost use Rattle.page_ranges.specs.MemoryTypes.{page_count};
-ghost use Rattle.page_ranges.specs.Memory.{page_at, AllInRange};
-ghost use Rattle.page_ranges.specs.Runs.{page_in, pages_of, AreRuns, IsInRun};
+ghost use Rattle.page_ranges.specs.Memory.{AllInRange};
+ghost use Rattle.page_ranges.specs.Runs.{pages_of, AreRuns};
 ghost use Rattle.descriptor_table.specs.Leaves.{first_page, runs_in, AreLeaves};
 ghost use Rattle.descriptor_table.specs.PageTests.{Passes};
-ghost use Rattle.descriptor_table.specs.Tables.{EndBy};
+ghost use Rattle.descriptor_table.specs.Tables.{EndBy, IsHolder, ShowsPage};
 
 use crate::leaves::Leaf;
 use crate::searches::{PageTest, run_holding};
@@ -50,10 +50,8 @@ pub(crate) fn count_leaves_by<A: Allocator + Copy>(leaves: &[Leaf<A>], page: u64
 pub(crate) fn run_in_leaves<A: Allocator + Copy>(leaves: &[Leaf<A>], page: u64) -> Option<&Run>
     requires leaves { AreLeaves leaves.now }
     requires runs { AreRuns (runs_in leaves.now) }
-    ensures page { page_at (pages_of (runs_in leaves.now)) page
-        ≡ option_map (page_in page) (option_map (λ r. r.now) result) }
-    ensures member { IfSome (option_map (λ r. r.now) result)
-        (λ r. Contains (runs_in leaves.now) r × IsInRun r page) }
+    ensures page { ShowsPage (runs_in leaves.now) page (option_map (λ r. r.now) result) }
+    ensures member { IsHolder (runs_in leaves.now) page (option_map (λ r. r.now) result) }
 {
     let count = count_leaves_by(leaves, page);
     if count == 0 {

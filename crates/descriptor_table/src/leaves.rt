@@ -22,7 +22,7 @@ pub struct Leaf<A: Allocator = Global> {
     // The first page of the first run.
     first: u64,
     summary: Summary,
-    // A bit for each run, which is set if it is free.
+    // A bit for each run: that of a free one is set.
     marks: u64,
     // Whether the first run is free, and whether the last one is.
     begins_free: bool,
@@ -114,7 +114,7 @@ impl<A: Allocator + Copy> Leaf<A> {
         requires fits { length self.old + length parts.now ≤ 32 + (high - low) }
         ensures { self.new ≡ take low self.old ++ (parts.now ++ drop high self.old) }
     {
-        // There are no more runs than the array holds.
+        // Only for its contract: there are at most 32 runs.
         let _runs = self.runs.as_slice();
         self.marks = marks_changed(self.marks, low, high, parts);
         replace_runs(&mut self.runs, low, high, parts);
@@ -149,7 +149,7 @@ impl<A: Allocator + Copy> Leaf<A> {
         self.ends_free
     }
 
-    /// A bit for each run, which is set if it is free.
+    /// A bit for each run: that of a free one is set.
     #[inline(always)]
     pub(crate) fn marks(&self) -> u64
         ensures { MarksFree result self.now }

@@ -16,7 +16,7 @@ use crate::cuts::push_leaves;
 use crate::entry_starts::{count_begun, runs_before};
 use crate::leaves::{LEAF_SIZE, Leaf, first_share};
 use crate::replacing::insert_with_room;
-use crate::retyping::{Change, retype_in_place};
+use crate::retyping::{Change, FEW_LEAVES, retype_in_place};
 use crate::spare_leaves::SpareLeaves;
 use crate::tallies::Tally;
 use page_ranges::{MemoryType, Owner, PageRange, Run};
@@ -87,7 +87,7 @@ fn take_out_all<A: Allocator + Copy>(leaves: &mut Vec<Leaf<A>, A>, spare: &mut S
     spare.put_in_order();
 }
 
-/// Keeps the leaves between two indices for later.
+/// Keeps the leaves between two indices for later; all of many in the order in which they were made.
 fn take_out<A: Allocator + Copy>(
     leaves: &mut Vec<Leaf<A>, A>,
     spare: &mut SpareLeaves<A>,
@@ -102,7 +102,7 @@ fn take_out<A: Allocator + Copy>(
     ensures room { (vec_capacity leaves.new ≡ vec_capacity leaves.old)
         × (spare.new.room ≡ spare.old.room) }
 {
-    if to - from == leaves.len() {
+    if to - from == leaves.len() && to > FEW_LEAVES {
         take_out_all(leaves, spare);
         return;
     }

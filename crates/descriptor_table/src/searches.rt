@@ -1,11 +1,11 @@
 //! Finding a place among sorted runs.
-ghost use Rattle.std.specs.Prelude.{◌≡◌, ◌↔◌, ℕ, ◌+◌, ◌<◌, ◌≤◌, length, nat_lt, nat_le, Contains, IfSome, IsTrue, Some};
+ghost use Rattle.std.specs.Prelude.{◌≡◌, ◌↔◌, ℕ, ◌+◌, ◌<◌, ◌≤◌, length, nat_lt, nat_le, IsTrue, Some};
 ghost use Rattle.std.specs.List.{AllWithin};
 ghost use Rattle.std.specs.Option.{option_map};
-ghost use Rattle.page_ranges.specs.Memory.{page_at};
-ghost use Rattle.page_ranges.specs.Runs.{page_in, pages_of, AreRuns, IsInRun};
+ghost use Rattle.page_ranges.specs.Runs.{page_in, AreRuns};
 ghost use Rattle.descriptor_table.specs.LeafWalks.{EndsFrom};
 ghost use Rattle.descriptor_table.specs.PageTests.{Passes};
+ghost use Rattle.descriptor_table.specs.Tables.{IsHolder, ShowsPage};
 
 use page_ranges::{MemoryType, Owner, Run};
 
@@ -78,10 +78,8 @@ pub(crate) fn count_beginning_by_from(runs: &[Run], page: u64, start: usize) -> 
 #[inline(always)]
 pub(crate) fn run_holding(runs: &[Run], page: u64) -> Option<&Run>
     requires { AreRuns runs.now }
-    ensures page { page_at (pages_of runs.now) page
-        ≡ option_map (page_in page) (option_map (λ r. r.now) result) }
-    ensures member { IfSome (option_map (λ r. r.now) result)
-        (λ r. Contains runs.now r × IsInRun r page) }
+    ensures page { ShowsPage runs.now page (option_map (λ r. r.now) result) }
+    ensures member { IsHolder runs.now page (option_map (λ r. r.now) result) }
 {
     let count = count_beginning_by(runs, page);
     if count == 0 {

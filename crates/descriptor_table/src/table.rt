@@ -54,7 +54,7 @@ pub struct RunTable<A: Allocator = Global> {
     spare: SpareLeaves<A>,
     buffer: Vec<Run, A>,
     reserved: usize,
-    // How many changes by which leaves came or went there were since the leaves were laid in order.
+    // How many changes left more leaves or fewer since the leaves were laid in order.
     moved: usize,
 }
 
@@ -175,9 +175,8 @@ impl<A: Allocator + Copy> RunTable<A> {
         self.note_moved(count);
     }
 
-    /// Notes whether there are as many leaves as before a change. Once it happened as often as a large table has
-    /// leaves that there were not, it lays them in order: a map is then read sooner, and each such change bears a
-    /// part of what that takes.
+    /// Counts a change that left more leaves or fewer. After half as many of these as a large table has leaves it
+    /// lays the leaves in order, so that a map is read faster; each such change bears a part of the cost.
     fn note_moved(&mut self, before: usize)
         ensures { self.new ≡ self.old }
     {
@@ -186,7 +185,7 @@ impl<A: Allocator + Copy> RunTable<A> {
             return;
         }
         self.moved = self.moved.saturating_add(1);
-        if count <= FEW_LEAVES || self.moved < count {
+        if count <= FEW_LEAVES || self.moved < count / 2 {
             return;
         }
         lay_in_order(
