@@ -175,7 +175,7 @@ impl<A: Allocator + Copy> RunTable<A> {
         self.note_moved(count);
     }
 
-    /// Counts a change that left more leaves or fewer. After half as many of these as a large table has leaves it
+    /// Counts a change that left more leaves or fewer. After as many of these as a large table has leaves it
     /// lays the leaves in order, so that a map is read faster; each such change bears a part of the cost.
     fn note_moved(&mut self, before: usize)
         ensures { self.new ≡ self.old }
@@ -185,7 +185,7 @@ impl<A: Allocator + Copy> RunTable<A> {
             return;
         }
         self.moved = self.moved.saturating_add(1);
-        if count <= FEW_LEAVES || self.moved < count / 2 {
+        if count <= FEW_LEAVES || self.moved < count {
             return;
         }
         lay_in_order(

@@ -93,8 +93,8 @@ fn are_laid<A: Allocator + Copy>(table: &RunTable<A>) -> bool {
     true
 }
 
-// Makes one change of a table of more than 64 leaves. These are laid in order once leaves came or went in half as many
-// changes as there are leaves.
+// Makes one change of a table of more than 64 leaves. These are laid in order once leaves came or went in as many changes
+// as there are leaves.
 fn change_many<A: Allocator + Copy>(
     rt: &(impl AllocGlobal + Abort),
     table: &mut RunTable<A>,
@@ -112,11 +112,11 @@ fn change_many<A: Allocator + Copy>(
     if left != leaves {
         laid.moved = laid.moved.saturating_add(1);
     }
-    if laid.moved > 31 && are_laid(table) {
+    if laid.moved > 63 && are_laid(table) {
         laid.times = laid.times.saturating_add(1);
         laid.moved = 0;
     }
-    assert!(rt; left > 64 && laid.moved < left / 2);
+    assert!(rt; left > 64 && laid.moved < left);
 }
 
 // Makes as many drawn changes as memory is reserved for.
