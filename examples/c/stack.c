@@ -223,7 +223,7 @@ struct measured {
 
 static const struct measured all[] = {
     {"RafkudinMake", make, 20000},
-    {"RafkudinPlace", place, 20000},
+    {"RafkudinPlace", place, 26000},
     {"RafkudinAllocatePages", allocate_pages, 10000},
     {"RafkudinReplyLine", reply_line, 5000},
     {"RafkudinCertificate", certificate, 5000},
@@ -242,7 +242,7 @@ static const struct measured all[] = {
     {"RafkudinUninstallProtocolInterface", uninstall, 5000},
     {"RafkudinUninstallMultipleProtocolInterfaces", uninstall_many, 7000},
     {"RafkudinTraceLine", trace_line, 5000},
-    {"RafkudinFree", give_back, 10000},
+    {"RafkudinFree", give_back, 12000},
 };
 
 /* The bytes of the stack that calls take. */
