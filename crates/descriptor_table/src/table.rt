@@ -35,6 +35,13 @@ const MOST_RESERVED: usize = 1 << 40;
 /// leaves hold, so that the leaves near a range may become fewer as it changes.
 const MORE_RUNS: usize = 96;
 
+/// A large table lays its leaves in order after this many changes by which leaves come or go, or after one for each
+/// `LAID_PART` leaves, where these are more.
+const LAID_AFTER: usize = 128;
+
+/// With each such change a table of many leaves lays this many leaves, on the whole.
+const LAID_PART: usize = 12;
+
 /// The memory of a machine: its maximal runs of equal type, attributes and owner, by ascending page,
 /// in leaves.
 #[derive(Drop)]
@@ -175,8 +182,8 @@ impl<A: Allocator + Copy> RunTable<A> {
         self.note_moved(count);
     }
 
-    /// Counts a change that left more leaves or fewer. After as many of these as a large table has leaves it
-    /// lays the leaves in order, so that a map is read faster; each such change bears a part of the cost.
+    /// Counts a change that left more leaves or fewer. Once there were enough of these a large table lays its
+    /// leaves in order, so that a map is read faster; each such change bears a part of the cost.
     fn note_moved(&mut self, before: usize)
         ensures { self.new ≡ self.old }
     {
@@ -185,7 +192,7 @@ impl<A: Allocator + Copy> RunTable<A> {
             return;
         }
         self.moved = self.moved.saturating_add(1);
-        if count <= FEW_LEAVES || self.moved < count {
+        if count <= FEW_LEAVES || self.moved < LAID_AFTER.max(count / LAID_PART) {
             return;
         }
         lay_in_order(

@@ -1,10 +1,12 @@
 -- What is known of a start that is chosen, and of its certificate.
-use Rattle.std.proofs.Common.{◌≡◌, ℕ, Bool, true, false, cond, Option, Some, None, refl, sym, ap, subst, ◌∙◌}
+use Rattle.std.proofs.Common.{◌≡◌, ℕ, List, Bool, true, false, cond, Option, Some, None, refl, sym, ap, subst, ◌∙◌}
 use Rattle.std.specs.Option.{is_some}
 use Rattle.std.proofs.lemmas.Option.{same_Some}
+use Rattle.page_ranges.specs.Memory.{Page}
 use Rattle.placement_certificate.specs.declared.certificates.Request.{Request}
 use Rattle.placement_certificate.specs.Placement.{IsPermittedStart}
 use Rattle.placement_certificate.specs.Certificates.{CertificateValue, IsTrueCertificate}
+use Rattle.placement_chooser.specs.Starts.{IsCertifiedStart}
 use Rattle.page_services.specs.PageRules.{Book, Choice, IsBestChoice}
 
 -- each start that is chosen is permitted
@@ -13,6 +15,9 @@ Permits Chosen = (b : Book) (r : Request) (start : ℕ) (returned : Option Certi
 
 pub best_is_permitted : (b : Book) (r : Request) (p : ℕ) (returned : Option CertificateValue) → IsBestChoice b r p returned → IsPermittedStart b.memory r p
 best_is_permitted b r p returned (c, is, answer, e) = subst (IsPermittedStart b.memory r) answer is.answer.permitted
+
+pub certified_is_permitted : (m : List Page) (r : Request) (p : ℕ) → IsCertifiedStart m r p → IsPermittedStart m r p
+certified_is_permitted m r p (c, is, answer) = subst (IsPermittedStart m r) answer is.answer.permitted
 
 -- ---- the certificate that is returned
 

@@ -32,7 +32,12 @@ fn whole_request(granule: u64, mtype: MemoryType, pages: u64, limit: u64) -> Opt
     ensures { result ≡ if_counted (whole_request granule mtype pages limit) }
 {
     let granule = granule_for(mtype, granule);
-    let pages = rounded(pages, granule)?;
+    // A granule of one page takes no division.
+    let pages = if granule == 1 {
+        pages
+    } else {
+        rounded(pages, granule)?
+    };
     Some(Request {
         mtype,
         pages,
@@ -222,6 +227,20 @@ impl<A: Allocator + Copy> PageBook<A> {
         requires taken { owner ≢ Given }
         ensures { PlacesPages IsBestChoice self.old request owner result self.new }
     {
+        if !self.certifies {
+            let Some(first) = best_start(&self.table, &request) else {
+                return Err(Status::OutOfResources);
+            };
+            let range = PageRange {
+                first,
+                pages: request.pages,
+            };
+            self.place_in(range, request.mtype, owner)?;
+            return Ok(Placed {
+                address: first * PAGE_SIZE,
+                certificate: None,
+            });
+        }
         match self.best_place(request) {
             Some(chosen) => self.place(chosen, owner),
             None => Err(Status::OutOfResources),
