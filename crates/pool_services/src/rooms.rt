@@ -215,11 +215,15 @@ impl<A: Allocator + Copy> Rooms<A> {
         first_room(self.rooms.as_slice(), &mut self.bounds, mtype, cells)
     }
 
-    /// Puts a room into the place of another.
+    /// Puts a room into the place of another. Most often it is the same.
     pub(crate) fn set(&mut self, at: usize, room: Room)
         requires { at < length self.old.rooms.items }
         ensures { self.new.rooms.items ≡ set self.old.rooms.items at room }
     {
+        let kept = self.rooms[at];
+        if kept.longest == room.longest && kept.first == room.first && kept.mtype == room.mtype {
+            return;
+        }
         self.rooms[at] = room;
         raise(self.rooms.as_slice(), &mut self.bounds, at);
     }

@@ -139,6 +139,16 @@ impl<A: Allocator> Region<A> {
         self.bytes.word(at)
     }
 
+    /// Writes a number into the 8 bytes from an index on, which are set.
+    pub(crate) fn overwrite_word(&mut self, at: usize, number: u64)
+        requires { at + 8 ≤ length self.old.bytes.set }
+        ensures bytes { self.new.bytes ≡ with_put self.old.bytes at (little_bytes 8 number) }
+        ensures marks { self.new.marks ≡ self.old.marks }
+        ensures lies { self.new.lies ≡ self.old.lies }
+    {
+        self.bytes.overwrite_word(at, number);
+    }
+
     /// Writes a number into the 8 bytes from an index on.
     pub(crate) fn write_word(&mut self, at: usize, number: u64)
         requires { (at ≤ length self.old.bytes.set) × (at + 8 ≤ self.old.bytes.room) }
@@ -172,6 +182,16 @@ impl<A: Allocator> Region<A> {
         ensures lies { self.new.lies ≡ self.old.lies }
     {
         self.marks.clear(cell, count);
+    }
+
+    /// Sets the mark of a cell, which is set.
+    pub(crate) fn overwrite_mark(&mut self, cell: usize, mark: u8)
+        requires { cell < length self.old.marks.set }
+        ensures marks { self.new.marks ≡ with_put self.old.marks cell (mark ∷ []) }
+        ensures bytes { self.new.bytes ≡ self.old.bytes }
+        ensures lies { self.new.lies ≡ self.old.lies }
+    {
+        self.marks.overwrite(cell, mark);
     }
 
     /// Sets the mark of a cell, which may be the first that is not set yet.

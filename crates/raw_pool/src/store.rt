@@ -49,19 +49,13 @@ pub(crate) struct Store<A: Allocator = Global> {
 }
 
 impl<A: Allocator + Copy> Store<A> {
-    /// The first cell of the run behind a free run, or of the first one behind the list's head,
-    /// which is written as the number of cells.
+    /// The first cell of the run behind a free run. Behind the last one it is the number of cells.
     fn link(&self, run: usize) -> usize
-        requires few { self.now.cells ≤ 2 ^ 28 }
-        requires set { run < self.now.cells → 32 * run + 16 ≤ length self.now.region.bytes.set }
-        requires within { run ≤ self.now.cells }
+        requires few { (self.now.cells ≤ 2 ^ 28) × (run < self.now.cells) }
+        requires set { 32 * run + 16 ≤ length self.now.region.bytes.set }
         ensures { result ≡ link self.now.region.bytes.set self.now.cells self.now.head run }
     {
-        if run == self.cells {
-            self.head
-        } else {
-            self.region.word(CELL_SIZE * run + 8) as usize
-        }
+        self.region.word(CELL_SIZE * run + 8) as usize
     }
 
     /// How many cells a free run has.
@@ -86,7 +80,7 @@ impl<A: Allocator + Copy> Store<A> {
         if run == self.cells {
             self.head = next;
         } else {
-            self.region.write_word(CELL_SIZE * run + 8, next as u64);
+            self.region.overwrite_word(CELL_SIZE * run + 8, next as u64);
         }
     }
 
@@ -101,6 +95,18 @@ impl<A: Allocator + Copy> Store<A> {
     {
         self.region.write_word(CELL_SIZE * run, cells as u64);
         self.region.write_word(CELL_SIZE * run + 8, next as u64);
+    }
+
+    /// Writes the header of a free run over bytes that are set.
+    fn reset_run(&mut self, run: usize, cells: usize, next: usize)
+        requires few { (self.old.cells ≤ 2 ^ 28) × (run < self.old.cells) }
+        requires set { 32 * run + 16 ≤ length self.old.region.bytes.set }
+        ensures bytes { self.new.region.bytes ≡ bytes_with_run self.old run cells next }
+        ensures others { ChangesBytes self.old self.new }
+        ensures lies { self.new.region.lies ≡ self.old.region.lies }
+    {
+        self.region.overwrite_word(CELL_SIZE * run, cells as u64);
+        self.region.overwrite_word(CELL_SIZE * run + 8, next as u64);
     }
 
     /// The first free run of at least the given number of cells, and the place in the list before it.
@@ -199,7 +205,7 @@ impl<A: Allocator + Copy> Store<A> {
     {
         let rest = self.cut(at, need);
         self.set_link(last, rest);
-        self.region.write_word(CELL_SIZE * at, size as u64);
+        self.region.overwrite_word(CELL_SIZE * at, size as u64);
         self.mark(at);
     }
 
@@ -267,10 +273,10 @@ impl<A: Allocator + Copy> Store<A> {
         ensures lies { self.new.region.lies ≡ self.old.region.lies }
     {
         if last < self.cells && last + self.run_cells(last) == cell {
-            self.set_run(last, end - last, after);
+            self.reset_run(last, end - last, after);
             end - last
         } else {
-            self.set_run(cell, end - cell, after);
+            self.reset_run(cell, end - cell, after);
             self.set_link(last, cell);
             end - cell
         }
@@ -290,7 +296,7 @@ impl<A: Allocator + Copy> Store<A> {
         let (last, next) = self.find_place(cell);
         let (end, after) = self.run_behind(block_end, next);
         let run = self.join(last, cell, end, after);
-        self.region.put_mark(cell, 0);
+        self.region.overwrite_mark(cell, 0);
         self.longest = larger(self.longest, run);
     }
 

@@ -21,7 +21,9 @@ impl RawBytes {
         ensures place { (self.new.room ≡ self.old.room) × (self.new.ptr ≡ self.old.ptr) }
     {
         let len = self.len();
-        self.extend(end.saturating_sub(len));
+        if end > len {
+            self.extend(end - len);
+        }
     }
 
     /// Writes bytes from an index on, at most behind those that are set.
@@ -34,6 +36,15 @@ impl RawBytes {
         self.bytes_mut()[at..at + bytes.len()].copy_from_slice(bytes);
     }
 
+    /// Sets the byte at an index, which is set.
+    pub(crate) fn overwrite(&mut self, at: usize, byte: u8)
+        requires { at < length self.old.set }
+        ensures set { self.new.set ≡ put self.old.set at (byte ∷ []) }
+        ensures place { (self.new.room ≡ self.old.room) × (self.new.ptr ≡ self.old.ptr) }
+    {
+        self.bytes_mut()[at] = byte;
+    }
+
     /// Sets the byte at an index, which may be the first that is not set yet.
     pub(crate) fn put(&mut self, at: usize, byte: u8)
         requires { (at ≤ length self.old.set) × (at < self.old.room) }
@@ -41,7 +52,7 @@ impl RawBytes {
         ensures place { (self.new.room ≡ self.old.room) × (self.new.ptr ≡ self.old.ptr) }
     {
         self.extend_to(at + 1);
-        self.bytes_mut()[at] = byte;
+        self.overwrite(at, byte);
     }
 
     /// Sets the given number of bytes that are set to 0.
@@ -76,6 +87,15 @@ impl RawBytes {
         LittleEndian::read_u64(&self.bytes()[at..at + 8])
     }
 
+    /// Writes a number into the 8 bytes from an index on, which are set.
+    pub(crate) fn overwrite_word(&mut self, at: usize, number: u64)
+        requires { at + 8 ≤ length self.old.set }
+        ensures set { self.new.set ≡ put self.old.set at (little_bytes 8 number) }
+        ensures place { (self.new.room ≡ self.old.room) × (self.new.ptr ≡ self.old.ptr) }
+    {
+        LittleEndian::write_u64(&mut self.bytes_mut()[at..at + 8], number);
+    }
+
     /// Writes a number into the 8 bytes from an index on.
     pub(crate) fn write_word(&mut self, at: usize, number: u64)
         requires { (at ≤ length self.old.set) × (at + 8 ≤ self.old.room) }
@@ -83,6 +103,6 @@ impl RawBytes {
         ensures place { (self.new.room ≡ self.old.room) × (self.new.ptr ≡ self.old.ptr) }
     {
         self.extend_to(at + 8);
-        LittleEndian::write_u64(&mut self.bytes_mut()[at..at + 8], number);
+        self.overwrite_word(at, number);
     }
 }

@@ -11,7 +11,7 @@ run_cells-requires-clause-set g c =
     (store_here (λ r. r.cells < c.args.need) c.args.self.now.region.bytes c.args.self.now.region.marks c.args.self.now.cells c.args.self.now.head c.loop-next.last c.loop-next.next c.requires c.loop-next.invariant c.loop-next-test.true).set
 
 pub link-next-requires-clause-set : goal.link-next-requires-clause-set
-link-next-requires-clause-set g c = λ h.
+link-next-requires-clause-set g c =
     (store_here (λ r. r.cells < c.args.need) c.args.self.now.region.bytes c.args.self.now.region.marks c.args.self.now.cells c.args.self.now.head c.loop-next.last c.loop-next.next c.requires c.loop-next.invariant c.loop-next-test.true).set
 
 pub loop-next-smaller : goal.loop-next-smaller

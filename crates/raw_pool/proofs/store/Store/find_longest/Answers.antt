@@ -11,7 +11,7 @@ pub run_cells-requires-clause-set : goal.run_cells-requires-clause-set
 run_cells-requires-clause-set g c = (left_here c.args.self.now.region.bytes.set c.args.self.now.cells c.args.self.now.head c.loop-next.next c.loop-next.longest (longest_run c.args.self.now.cells 0 (blocks_in c.args.self.now.region.bytes.set c.args.self.now.region.marks.set)) c.loop-next.invariant c.loop-next-test.true).set
 
 pub link-next-requires-clause-set : goal.link-next-requires-clause-set
-link-next-requires-clause-set g c = λ h. (left_here c.args.self.now.region.bytes.set c.args.self.now.cells c.args.self.now.head c.loop-next.next c.loop-next.longest (longest_run c.args.self.now.cells 0 (blocks_in c.args.self.now.region.bytes.set c.args.self.now.region.marks.set)) c.loop-next.invariant c.loop-next-test.true).set
+link-next-requires-clause-set g c = (left_here c.args.self.now.region.bytes.set c.args.self.now.cells c.args.self.now.head c.loop-next.next c.loop-next.longest (longest_run c.args.self.now.cells 0 (blocks_in c.args.self.now.region.bytes.set c.args.self.now.region.marks.set)) c.loop-next.invariant c.loop-next-test.true).set
 
 pub loop-next-smaller : goal.loop-next-smaller
 loop-next-smaller g c =

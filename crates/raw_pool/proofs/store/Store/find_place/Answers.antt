@@ -6,8 +6,8 @@ pub loop-next-init : goal.loop-next-init
 loop-next-init g c = store_scan (λ r. r.first < c.args.cell) c.args.self.now.region.bytes c.args.self.now.region.marks c.args.self.now.cells c.args.self.now.head c.requires.store
 
 pub link-next-requires-clause-set : goal.link-next-requires-clause-set
-link-next-requires-clause-set g c = λ h.
-    (store_here (λ r. r.first < c.args.cell) c.args.self.now.region.bytes c.args.self.now.region.marks c.args.self.now.cells c.args.self.now.head c.loop-next.last c.loop-next.next c.requires.store c.loop-next.invariant h).set
+link-next-requires-clause-set g c =
+    (store_here (λ r. r.first < c.args.cell) c.args.self.now.region.bytes c.args.self.now.region.marks c.args.self.now.cells c.args.self.now.head c.loop-next.last c.loop-next.next c.requires.store c.loop-next.invariant (omega arith)).set
 
 pub loop-next-smaller : goal.loop-next-smaller
 loop-next-smaller g c =

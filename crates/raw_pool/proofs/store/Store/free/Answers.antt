@@ -63,10 +63,8 @@ join-run-requires-clause-set g c =
     let b : Held c.args.self.now.region.bytes.set c.args.self.now.cells c.args.cell = held c.args.self.now.region.bytes c.args.self.now.region.marks c.args.self.now.cells c.args.self.now.head c.args.cell c.requires.store c.requires.block.0 c.requires.block.1 in
     omega (arith, b.set)
 
-pub put_mark-requires : goal.put_mark-requires
-put_mark-requires g c =
-    let b : Held c.args.self.now.region.bytes.set c.args.self.now.cells c.args.cell = held c.args.self.now.region.bytes c.args.self.now.region.marks c.args.self.now.cells c.args.self.now.head c.args.cell c.requires.store c.requires.block.0 c.requires.block.1 in
-    rw c.join-run.ensures.others.0 (omega (arith, c.requires.block.0), omega (arith, b.within, c.requires.store.marks_room))
+pub overwrite_mark-requires : goal.overwrite_mark-requires
+overwrite_mark-requires g c = rw c.join-run.ensures.others.0 c.requires.block.0
 
 pub returns-clause-pool : goal.returns-clause-pool
 returns-clause-pool g c =
@@ -76,9 +74,9 @@ returns-clause-pool g c =
     let w = last_within c.args.self.now.region.bytes.set c.args.self.now.cells _ c.find_place-last.result.0 c.find_place-last.ensures.0.before f.passed_run in
     let d = given c.args.self.now.region.bytes c.args.self.now.region.marks c.join-run.new.self.region.bytes c.args.self.now.cells c.args.self.now.head c.join-run.new.self.head c.args.cell c.find_place-last.result.0 c.run_behind-end.result.0 c.run_behind-end.result.1 c.join-run.result
     c.find_place-last.ensures.0.before f c.requires.block.0 c.requires.block.1 w c.requires.store.few (omega arith) c.join-run.ensures.touching c.join-run.ensures.apart in
-    let e = given_store c.args.self.now.region.bytes c.args.self.now.region.marks c.join-run.new.self.region.bytes c.put_mark.new.self.marks c.args.self.now.cells c.join-run.new.self.cells c.args.self.now.head c.join-run.new.self.head c.args.cell c.requires.store d
-    (c.put_mark.ensures.marks ∙ ap (λ (m : Bytes). record { set = put m.set c.args.cell (0 ∷ []); room = m.room }) c.join-run.ensures.others.0) c.join-run.ensures.others.1 in
-    rw c.put_mark.ensures.bytes e.0
+    let e = given_store c.args.self.now.region.bytes c.args.self.now.region.marks c.join-run.new.self.region.bytes c.overwrite_mark.new.self.marks c.args.self.now.cells c.join-run.new.self.cells c.args.self.now.head c.join-run.new.self.head c.args.cell c.requires.store d
+    (c.overwrite_mark.ensures.marks ∙ ap (λ (m : Bytes). record { set = put m.set c.args.cell (0 ∷ []); room = m.room }) c.join-run.ensures.others.0) c.join-run.ensures.others.1 in
+    rw c.overwrite_mark.ensures.bytes e.0
 
 pub returns-clause-store : goal.returns-clause-store
 returns-clause-store g c =
@@ -88,9 +86,9 @@ returns-clause-store g c =
     let w = last_within c.args.self.now.region.bytes.set c.args.self.now.cells _ c.find_place-last.result.0 c.find_place-last.ensures.0.before f.passed_run in
     let d = given c.args.self.now.region.bytes c.args.self.now.region.marks c.join-run.new.self.region.bytes c.args.self.now.cells c.args.self.now.head c.join-run.new.self.head c.args.cell c.find_place-last.result.0 c.run_behind-end.result.0 c.run_behind-end.result.1 c.join-run.result
     c.find_place-last.ensures.0.before f c.requires.block.0 c.requires.block.1 w c.requires.store.few (omega arith) c.join-run.ensures.touching c.join-run.ensures.apart in
-    let e = given_store c.args.self.now.region.bytes c.args.self.now.region.marks c.join-run.new.self.region.bytes c.put_mark.new.self.marks c.args.self.now.cells c.join-run.new.self.cells c.args.self.now.head c.join-run.new.self.head c.args.cell c.requires.store d
-    (c.put_mark.ensures.marks ∙ ap (λ (m : Bytes). record { set = put m.set c.args.cell (0 ∷ []); room = m.room }) c.join-run.ensures.others.0) c.join-run.ensures.others.1 in
-    rw c.put_mark.ensures.bytes e.1
+    let e = given_store c.args.self.now.region.bytes c.args.self.now.region.marks c.join-run.new.self.region.bytes c.overwrite_mark.new.self.marks c.args.self.now.cells c.join-run.new.self.cells c.args.self.now.head c.join-run.new.self.head c.args.cell c.requires.store d
+    (c.overwrite_mark.ensures.marks ∙ ap (λ (m : Bytes). record { set = put m.set c.args.cell (0 ∷ []); room = m.room }) c.join-run.ensures.others.0) c.join-run.ensures.others.1 in
+    rw c.overwrite_mark.ensures.bytes e.1
 
 pub returns-clause-longest : goal.returns-clause-longest
 returns-clause-longest g c =

@@ -12,6 +12,6 @@ set_link-requires-clause-set g c = λ h.
     let l1 = length-put old (little_bytes 8 (c.args.end - c.args.cell)) (32 * c.args.cell) n0 in
     let n1 : 32 * c.args.cell + 8 ≤ length one = omega (arith, l1) in
     let l2 = length-put one (little_bytes 8 c.args.after) (32 * c.args.cell + 8) n1 in
-    let k : c.args.last < c.args.self.now.cells = subst (λ (n : ℕ). c.args.last < n) c.set_run-else-last-self.ensures.others.2 h in
+    let k : c.args.last < c.args.self.now.cells = subst (λ (n : ℕ). c.args.last < n) c.reset_run-else-last-self.ensures.others.2 h in
     let s = (c.requires.last k).0 in
-    rw c.set_run-else-last-self.ensures.bytes (omega (arith, l1, l2, s))
+    rw c.reset_run-else-last-self.ensures.bytes (omega (arith, l1, l2, s))
