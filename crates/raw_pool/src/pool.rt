@@ -83,6 +83,7 @@ impl<A: Allocator + Copy> RawPool<A> {
 
     /// Takes the lowest run of free cells that has room for a block of the given size, all bytes of which
     /// become 0, and returns its first cell. On None, which means that there is no such run, all stays.
+    #[inline(always)]
     pub fn take(&mut self, size: usize) -> Option<usize>
         ensures cell { result ≡ lowest_fit self.old.cells (cells_for size) 0 self.old.blocks }
         ensures pool { self.new ≡ taken self.old size result }

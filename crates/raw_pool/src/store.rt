@@ -192,6 +192,7 @@ impl<A: Allocator + Copy> Store<A> {
     }
 
     /// Makes the front of a free run a block, all of whose bytes are 0.
+    #[inline(always)]
     fn place(&mut self, last: usize, at: usize, size: usize, need: usize)
         requires store { IsLaidStore self.old }
         requires scan { HasPassed (λ r. r.cells < need) self.old last at }
