@@ -2,11 +2,11 @@
 use Rattle.std.proofs.Common.{◌≡◌, ℕ, zero, suc, ◌+◌, ◌-◌, ◌/◌, ◌<◌, ◌≤◌, nat_le, Bool, true, false, cond, is_some, inl, inr, List, [], ◌∷◌, ◌++◌, length, take, drop, set, get_or, Option, Some, None, refl, sym, ap, ◌∙◌, arith, subst, eq-eqb, ne_eqb, le-leb}
 use Rattle.std.specs.List.{AllByRecursion, insert}
 use Rattle.std.specs.List.Sorted.{IsPartitionedBy, IsPartitionPoint}
-use Rattle.std.proofs.lemmas.Bool.{cases_lt, cases_eq, cases_Bool, lt-leb, leb-false}
+use Rattle.std.proofs.lemmas.Bool.{cases_lt, cases_eq, cases_Bool, false_from_ne_true, lt-leb, leb-false, true≢false}
 use Rattle.std.proofs.lemmas.List.{set_split}
 use Rattle.raw_pool.specs.Blocks.{cells_for, longest_run, lowest_fit}
 use Rattle.pool_services.specs.Extents.{Extent, Place, AreExtents, IsExtent, address_of, at_cell, begins_at, cell_of, cells_in, first_fit, fit_in, has_tail, or_else, place_of, replaced, tail_at, tail_in, with_blocks, with_extent, written, written_in}
-use Rattle.pool_services.specs.Searches.{HasRoom, HoldsAddress, IsAt, has_run, place}
+use Rattle.pool_services.specs.Searches.{HasRoom, HoldsAddress, IsAt, has_run, passing, place}
 use Rattle.pool_services.proofs.CellBlocks.{cell-low, cell-high, tail-low, tail-high, fits}
 
 -- ---- one of the extents
@@ -61,6 +61,19 @@ place-is p (x ∷ xs) zero l h = let e : p x ≡ false = h.1 0 x (omega arith) (
 place-is p (x ∷ xs) (suc i) l h =
     let e : p x ≡ true = h.0 0 x (omega arith) (omega arith) in
     rw e (ap (λ n. suc n) (place-is p xs i (omega arith) (λ k d a b. h.0 (suc k) d (omega arith) (omega arith), λ k d a b. h.1 (suc k) d (omega arith) (omega arith))))
+
+none-passing : {X : Type 0} (p : X → Bool) (xs : List X) → ((k : ℕ) (d : X) → k < length xs → p (get_or xs k d) ≡ false) → passing p xs ≡ 0
+none-passing p [] h = refl
+none-passing p (x ∷ xs) h = rw (h 0 x (omega arith)) (none-passing p xs (λ k d l. h (suc k) d (omega (arith, l))))
+
+-- where those that pass a test are at the front, as many pass as do there
+pub passing-place : {X : Type 0} (p : X → Bool) (xs : List X) → IsPartitionedBy p xs → passing p xs ≡ place p xs
+passing-place p [] h = refl
+passing-place p (x ∷ xs) h =
+    elim (cases_Bool (p x)) [
+      | inl e ↦ rw e (ap (λ n. suc n) (passing-place p xs (λ i j d a b c. h (suc i) (suc j) d (omega (arith, a)) (omega (arith, b)) c)))
+      | inr e ↦ rw e (none-passing p xs (λ k d l. false_from_ne_true (p (get_or xs k d)) (λ c. true≢false (sym (h 0 (suc k) d (omega arith) (omega (arith, l)) c) ∙ e))))
+    ]
 
 -- ---- the extent that holds an address
 

@@ -60,6 +60,15 @@ abbrev pub place : {X : Type 0} → (X → Bool) → List X → ℕ
 place p [] = 0
 place p (x ∷ xs) = cond (p x) (suc (place p xs)) 0
 
+-- how many items pass a test
+abbrev pub passing : {X : Type 0} → (X → Bool) → List X → ℕ
+passing p [] = 0
+passing p (x ∷ xs) = cond (p x) (suc (passing p xs)) (passing p xs)
+
+-- how many rooms begin at or below a page
+abbrev pub begun : ℕ → List Room → ℕ
+begun page rs = passing (λ (r : Room). nat_le r.first page) rs
+
 -- how many extents in order begin at or below a page, by their rooms
 abbrev pub IsCountUpTo : ℕ → List Room → ℕ → Type 0
 IsCountUpTo page rs n =

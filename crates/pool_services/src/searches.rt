@@ -3,7 +3,7 @@ ghost use Rattle.std.specs.Prelude.{◌≡◌, ◌<◌, ◌≤◌, nat_le, lengt
 ghost use Rattle.pool_services.specs.Extents.{AreExtents, IsExtent, with_extent};
 ghost use Rattle.pool_services.specs.KeptRooms.{HasPlaceIn};
 ghost use Rattle.pool_services.specs.Rooms.{room_of};
-ghost use Rattle.pool_services.specs.Searches.{IsCountUpTo, IsHolder};
+ghost use Rattle.pool_services.specs.Searches.{IsCountUpTo, IsHolder, begun};
 
 use crate::extents::{HEADER_SIZE, PoolExtent};
 use crate::room::insert_with_room;
@@ -11,11 +11,29 @@ use crate::rooms::{Room, Rooms};
 use page_ranges::PAGE_SIZE;
 use std::alloc::Allocator;
 
+/// The most rooms that are counted one by one. A search by halves waits at each step for the one before.
+const FEW: usize = 32;
+
+/// How many rooms begin at or below a page.
+fn count_each(rooms: &[Room], page: u64) -> usize
+    ensures count { result ≡ begun page rooms.now }
+    ensures bound { result ≤ length rooms.now }
+{
+    let mut count = 0;
+    for at in 0..rooms.len() {
+        count += usize::from(rooms[at].first <= page);
+    }
+    count
+}
+
 /// How many of the extents that have these rooms begin at or below a page.
 pub(crate) fn count_up_to(rooms: &[Room], page: u64) -> usize
     ensures place { IsCountUpTo page rooms.now result }
     ensures bound { result ≤ length rooms.now }
 {
+    if rooms.len() <= FEW {
+        return count_each(rooms, page);
+    }
     rooms.partition_point(
         |room: &Room| -> bool
             ensures { result ≡ nat_le room.now.first page }
