@@ -6,6 +6,18 @@ ghost use Rattle.raw_pool.specs.Bytes.{extended, put, word};
 use super::RawBytes;
 use byteorder::{ByteOrder, LittleEndian};
 
+/// Writes a number over 8 bytes. Into an array it goes without a look at whether its source overlaps it.
+#[inline(always)]
+fn set_word(bytes: &mut [u8], number: u64)
+    requires { length bytes.old ≡ 8 }
+    ensures { bytes.new ≡ little_bytes 8 number }
+{
+    let Some(word) = bytes.as_mut_array::<8>() else {
+        unreachable!();
+    };
+    *word = number.to_le_bytes();
+}
+
 impl RawBytes {
     /// How many bytes are set.
     pub(crate) fn len(&self) -> usize
@@ -93,7 +105,7 @@ impl RawBytes {
         ensures set { self.new.set ≡ put self.old.set at (little_bytes 8 number) }
         ensures place { (self.new.room ≡ self.old.room) × (self.new.ptr ≡ self.old.ptr) }
     {
-        LittleEndian::write_u64(&mut self.bytes_mut()[at..at + 8], number);
+        set_word(&mut self.bytes_mut()[at..at + 8], number);
     }
 
     /// Writes a number into the 8 bytes from an index on.
