@@ -323,7 +323,7 @@ fn change_in_rounds<A: Allocator + Copy>(
     laid
 }
 
-// A table of 71 to 77 leaves. Memory is reserved for more than its 1,080 changes, so that leaves for later last.
+// A table of more than 64 leaves. Memory is reserved for more than its 1,080 changes, so that leaves for later last.
 #[test]
 fn leaves_laid_in_order_take_no_memory(rt: HostRuntime) {
     let load = Load {
