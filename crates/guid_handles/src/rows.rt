@@ -254,10 +254,10 @@ impl<A: Allocator + Copy> Rows<A> {
         ensures ok { OnOk result (self.new ≡ self.old ++ record { live = live; keys = [] } ∷ []) }
         ensures err { OnErr result (self.new ≡ self.old) }
     {
-        let row = HandleRow::new(*self.numbers.allocator(), live)?;
         clear_above(&mut self.rows, live.number);
         make_room(&mut self.rows)?;
         self.numbers.reserve()?;
+        let row = HandleRow::new(*self.numbers.allocator(), live)?;
         note_made(&mut self.made, live)?;
         self.numbers.push(live.number);
         push_with_room(&mut self.rows, row);

@@ -24,3 +24,9 @@ returns-clause-fewer g c =
     let there = got fs c.args.at _ (left_there c.args.stamp fs c.args.at c.requires.there) c.index.ensures in
     let new : FiledTurn = record { turn = c.index.result.now.turn; gone = true } in
     (marked c.args.stamp fs c.args.at _ new c.requires.filed c.requires.there there refl refl).fewer
+
+pub index-requires : goal.index-requires
+index-requires g c = rw c.args.turns.now.ok.0 (left_there c.args.stamp c.args.turns.now.items c.args.at c.requires.there)
+
+pub index_mut-requires : goal.index_mut-requires
+index_mut-requires g c = rw c.args.turns.now.ok.0 (left_there c.args.stamp c.args.turns.now.items c.args.at c.requires.there)

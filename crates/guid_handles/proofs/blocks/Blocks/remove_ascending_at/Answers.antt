@@ -37,3 +37,6 @@ returns-else-is_empty g c =
     let place = rw (← c.self.view_is) at c.requires.there in
     rw (← c.self.view_is, c.remove_ascending.ensures)
     (changes_block _ c.args.number _ _ (without_place c.args.place) place (got _ _ _ place.0 c.index_mut-block.ensures.value) refl)
+
+pub remove-requires : goal.remove-requires
+remove-requires g c = let place = rw (← c.self.view_is) at c.requires.there in rw c.self.inside.blocks.ok.0 place.0

@@ -37,3 +37,6 @@ index_mut-requires g c = let place = rw (← c.self.view_is) at c.requires in rw
 
 pub index-requires : goal.index-requires
 index-requires g c = let place = rw (← c.self.view_is) at c.requires in rw c.self.inside.blocks.ok.0 place.0
+
+pub remove-requires-then-is_empty : goal.remove-requires-then-is_empty
+remove-requires-then-is_empty g c = let place = rw (← c.self.view_is) at c.requires in rw c.self.inside.blocks.ok.0 place.0

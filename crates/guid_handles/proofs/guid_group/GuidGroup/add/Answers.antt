@@ -1,6 +1,7 @@
 use Rattle.std.proofs.Common.{refl}
 use Rattle.guid_handles.proofs.Beside.{beside_insert, insert_beside}
 use Rattle.guid_handles.proofs.SlidRows.{on_err}
+use Rattle.std.proofs.lemmas.Result.{IfOk-from_err}
 use Rattle.guid_handles.proofs.guid_group.GuidGroup.add.Goals as goal
 
 pub invariant_of-self-2 : goal.invariant_of-self-2
@@ -54,3 +55,42 @@ returns-clause-guid g c = rw (← c.self.view_is) refl
 
 pub returns-clause-turns : goal.returns-clause-turns
 returns-clause-turns g c = rw (← c.self.view_is) c.in_ok-place.ensures.ok
+
+pub returns-in_err-short-clause-guid : goal.returns-in_err-short-clause-guid
+returns-in_err-short-clause-guid g c = refl
+
+pub returns-in_err-short-clause-ok : goal.returns-in_err-short-clause-ok
+returns-in_err-short-clause-ok g c = IfOk-from_err c.from_residual.result _ c.from_residual.ensures.0
+
+pub returns-in_err-short-clause-turns : goal.returns-in_err-short-clause-turns
+returns-in_err-short-clause-turns g c = IfOk-from_err c.from_residual.result _ c.from_residual.ensures.0
+
+pub count_less_than_new-at-requires : goal.count_less_than_new-at-requires
+count_less_than_new-at-requires g c = rw c.as_slice.ensures.value c.self.invariant.ascending
+
+pub returns-in_err-reserve-clause-guid : goal.returns-in_err-reserve-clause-guid
+returns-in_err-reserve-clause-guid g c = rw (← c.self.view_is) refl
+
+pub returns-in_err-reserve-clause-ok : goal.returns-in_err-reserve-clause-ok
+returns-in_err-reserve-clause-ok g c = IfOk-from_err c.from_residual-in_err-reserve.result _ c.from_residual-in_err-reserve.ensures.0
+
+pub returns-in_err-reserve-clause-turns : goal.returns-in_err-reserve-clause-turns
+returns-in_err-reserve-clause-turns g c = IfOk-from_err c.from_residual-in_err-reserve.result _ c.from_residual-in_err-reserve.ensures.0
+
+pub returns-in_err-reserve-2-clause-guid : goal.returns-in_err-reserve-2-clause-guid
+returns-in_err-reserve-2-clause-guid g c = rw (← c.self.view_is) refl
+
+pub returns-in_err-reserve-2-clause-ok : goal.returns-in_err-reserve-2-clause-ok
+returns-in_err-reserve-2-clause-ok g c = IfOk-from_err c.from_residual-in_err-reserve-2.result _ c.from_residual-in_err-reserve-2.ensures.0
+
+pub returns-in_err-reserve-2-clause-turns : goal.returns-in_err-reserve-2-clause-turns
+returns-in_err-reserve-2-clause-turns g c = IfOk-from_err c.from_residual-in_err-reserve-2.result _ c.from_residual-in_err-reserve-2.ensures.0
+
+pub returns-in_err-place-clause-guid : goal.returns-in_err-place-clause-guid
+returns-in_err-place-clause-guid g c = rw (← c.self.view_is) refl
+
+pub returns-in_err-place-clause-ok : goal.returns-in_err-place-clause-ok
+returns-in_err-place-clause-ok g c = IfOk-from_err c.from_residual-in_err-place.result _ c.from_residual-in_err-place.ensures.0
+
+pub returns-in_err-place-clause-turns : goal.returns-in_err-place-clause-turns
+returns-in_err-place-clause-turns g c = IfOk-from_err c.from_residual-in_err-place.result _ c.from_residual-in_err-place.ensures.0

@@ -1,4 +1,5 @@
-use Rattle.std.proofs.Common.{ap, refl, sym, ◌∙◌}
+use Rattle.std.proofs.Common.{ap, arith, refl, sym, ◌∙◌}
+use Rattle.std.proofs.lemmas.Result.{IfOk-from_err}
 use Rattle.slab.specs.Slab.{Slab}
 use Rattle.guid_handles.specs.declared.records.Record.{Record}
 use Rattle.guid_handles.proofs.Stored.{live_row, stored_more, stored_same, turned_below, unkeyed}
@@ -50,3 +51,18 @@ pub invariant_of-self-in_err-turn_place : goal.invariant_of-self-in_err-turn_pla
 invariant_of-self-in_err-turn_place g c =
     let same = ap (λ (s : Slab Record). s.slots) c.make_slot.ensures.rest_kept in
     rw (c.in_err-turn_place.ensures.rows_stay, same) (stored_same _ _ _ _ _ c.self.invariant c.file_key.new.groups c.in_err-turn_place.ensures.groups_stay c.in_err-turn_place.ensures.turns_stay)
+
+pub overflow_add-stamp : goal.overflow_add-stamp
+overflow_add-stamp g c = omega (arith, rw (← c.self.view_is) at c.requires.stamps)
+
+pub returns-in_err-make_slot-clause-ok : goal.returns-in_err-make_slot-clause-ok
+returns-in_err-make_slot-clause-ok g c = IfOk-from_err c.from_residual.result _ c.from_residual.ensures.0
+
+pub returns-in_err-make_slot-clause-below : goal.returns-in_err-make_slot-clause-below
+returns-in_err-make_slot-clause-below g c = rw (← c.self.view_is) c.self.invariant.table.below
+
+pub returns-in_err-turn_place-clause-ok : goal.returns-in_err-turn_place-clause-ok
+returns-in_err-turn_place-clause-ok g c = IfOk-from_err c.from_residual-in_err-turn_place.result _ c.from_residual-in_err-turn_place.ensures.0
+
+pub returns-in_err-turn_place-clause-below : goal.returns-in_err-turn_place-clause-below
+returns-in_err-turn_place-clause-below g c = rw (← c.self.view_is) c.self.invariant.table.below

@@ -35,3 +35,19 @@ returns-in-Some g c =
 
 pub returns-in_default : goal.returns-in_default
 returns-in_default g c = rw (← c.self.view_is) (none_removed _ c.args.number (rw c.as_slice.ensures.value at c.in_default.ensures.none))
+
+pub place_of-requires : goal.place_of-requires
+place_of-requires g c = rw c.as_slice.ensures.value c.self.invariant.rows.filed
+
+pub index-requires : goal.index-requires
+index-requires g c =
+    let there = rw c.as_slice.ensures.value at c.in-Some.ensures.there in
+    rw c.self.inside.rows.ok.0 (filed_there c.args.number c.self.inside.rows.items c.in-Some.at there)
+
+pub index_mut-requires : goal.index_mut-requires
+index_mut-requires g c =
+    let there = rw c.as_slice.ensures.value at c.in-Some.ensures.there in
+    rw c.self.inside.rows.ok.0 (filed_there c.args.number c.self.inside.rows.items c.in-Some.at there)
+
+pub remove_number-requires : goal.remove_number-requires
+remove_number-requires g c = c.self.invariant.rows.ascending
