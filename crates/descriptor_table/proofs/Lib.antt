@@ -1,3 +1,5 @@
+pub mod Lives
+pub mod FoundPlaces
 pub mod Order
 pub mod Joins
 pub mod CutRuns

@@ -47,3 +47,6 @@ pub returns-clause-entry : goal.returns-clause-entry
 returns-clause-entry g c =
     let i = c.loop-run.invariant in
     i.entry ∙ last_entry_done c.args.first.now c.loop-run.last.now c.loop-run.walk.rest c.in_default.ensures.0 i.runs
+
+pub next-requires : goal.next-requires
+next-requires g c = λ κs low. low

@@ -24,3 +24,6 @@ returns g c = λ t.
           (subst (λ x. AreOfNoUse w ls x (8 * k + 8)) low
           (group_of_no_use w ls c.requires.leaves c.requires.maximal c.requires.proper c.args.groups.now k c.in-Some.group.now c.requires.groups (sym (rw c.in-Some.is at c.group_at.ensures)) (omega (arith, high, c.requires.leaf.1)) (sym c.may_hold.ensures.may ∙ c.if-may_hold.false) c.may_hold.ensures.pages c.requires.gain)),
     )
+
+pub first-requires : goal.first-requires
+first-requires g c = λ κs low. low

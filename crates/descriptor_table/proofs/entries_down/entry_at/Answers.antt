@@ -1,4 +1,5 @@
-use Rattle.std.proofs.Common.{◌≡◌, ◌+◌, ap, drop, refl, sym, ◌∙◌, Some}
+use Rattle.descriptor_table.proofs.FoundPlaces.{below_length}
+use Rattle.std.proofs.Common.{◌≡◌, ◌+◌, ap, drop, refl, sym, ◌∙◌, Some, arith, length}
 use Rattle.std.specs.Prelude.{slice_get}
 use Rattle.std.specs.Option.{option_map}
 use Rattle.std.proofs.lemmas.Option.{get_or_from_slice_get, slice_get_within}
@@ -69,3 +70,18 @@ returns g c =
         above = c.block_above.ensures rs (drop (at + 1) rs) (option_map (λ r. r.now) c.run_below.result) c.requires.maximal c.requires.proper place (run_next rs at _ c.run_above.ensures);
       });
     }
+
+pub run_above-requires-clause-leaf : goal.run_above-requires-clause-leaf
+run_above-requires-clause-leaf g c = omega arith
+
+pub run_below-requires-clause-leaf : goal.run_below-requires-clause-leaf
+run_below-requires-clause-leaf g c = omega arith
+
+pub runs_of-requires : goal.runs_of-requires
+runs_of-requires g c = λ κs low. low
+
+pub bounds-runs_of-index : goal.bounds-runs_of-index
+bounds-runs_of-index g c = omega (arith, ap length c.runs_of.ensures, below_length (leaf_at c.args.leaves.now c.args.leaf) c.args.index c.requires.free.run c.requires.free.at)
+
+pub offset_bounds-runs_of-index : goal.offset_bounds-runs_of-index
+offset_bounds-runs_of-index g c = omega (arith, ap length c.runs_of.ensures, below_length (leaf_at c.args.leaves.now c.args.leaf) c.args.index c.requires.free.run c.requires.free.at, c.runs_of.type_inv.1)

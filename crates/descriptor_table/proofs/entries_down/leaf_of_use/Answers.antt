@@ -23,3 +23,6 @@ loop-leaf-preserved g c =
         | inr m ↦ i.passed j m to
       ];
     }
+
+pub begins_free-goes_on-requires : goal.begins_free-goes_on-requires
+begins_free-goes_on-requires g c = λ κs low. low

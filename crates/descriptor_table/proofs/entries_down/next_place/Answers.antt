@@ -1,3 +1,4 @@
+use contract.BorrowLft.{⊑_static}
 use Rattle.std.proofs.Common.{◌≡◌, ◌-◌, ◌+◌, ◌<◌, [], length, subst, sym, ap, ◌∙◌, arith}
 use Rattle.std.proofs.lemmas.List.{get_or_default}
 use Rattle.descriptor_table.specs.Leaves.{leaf_at}
@@ -54,3 +55,39 @@ loop-index-preserved g c =
       count = omega (arith, ap length same);
       passed = subst (λ n. HasPassed w ls all j n) (ap length (sym same)) (leaf_opened w ls all j h (leaves_passed w ls all (leaf - (j + 1)) (j + 1) leaf (omega (arith, next.0)) c.loop-index.invariant.leaf emptied next.1));
     }
+
+pub branch-leaf-requires : goal.branch-leaf-requires
+branch-leaf-requires g c = λ κs. ⊑_static κs.0
+
+pub from_residual-requires : goal.from_residual-requires
+from_residual-requires g c = λ κs. ⊑_static κs.0
+
+pub leaf_of_use-requires-clause-gain : goal.leaf_of_use-requires-clause-gain
+leaf_of_use-requires-clause-gain g c = omega arith
+
+pub leaf_of_use-requires-clause-high : goal.leaf_of_use-requires-clause-high
+leaf_of_use-requires-clause-high g c = omega arith
+
+pub marks_of-marks-requires : goal.marks_of-marks-requires
+marks_of-marks-requires g c = λ κs low. low
+
+pub next_begins_free-goes_on-requires : goal.next_begins_free-goes_on-requires
+next_begins_free-goes_on-requires g c = λ κs low. low
+
+pub runs-count-requires : goal.runs-count-requires
+runs-count-requires g c = λ κs low. low
+
+pub runs_of-runs-requires : goal.runs_of-runs-requires
+runs_of-runs-requires g c = λ κs low. low
+
+pub bounds-leaves-leaf : goal.bounds-leaves-leaf
+bounds-leaves-leaf g c = omega (arith, c.in_ok-leaf.ensures.0, c.loop-index.invariant.leaf)
+
+pub offset_bounds-leaves-leaf : goal.offset_bounds-leaves-leaf
+offset_bounds-leaves-leaf g c = omega (arith, c.in_ok-leaf.ensures.0, c.loop-index.invariant.leaf)
+
+pub loop-index-smaller : goal.loop-index-smaller
+loop-index-smaller g c = c.in_ok-leaf.ensures.0
+
+pub last_of_use-requires-clause-bound : goal.last_of_use-requires-clause-bound
+last_of_use-requires-clause-bound g c = omega (arith, ap length c.runs_of-runs.ensures, c.loop-index.invariant.count)

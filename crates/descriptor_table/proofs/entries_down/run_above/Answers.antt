@@ -10,3 +10,9 @@ returns-then-index-runs g c =
 pub returns : goal.returns
 returns g c =
     c.run_at-2.ensures ∙ ap (λ l. slice_get l 0) c.runs_of.ensures ∙ above_leaf c.args.leaves.now c.args.leaf c.args.index c.requires.leaves c.requires.leaf (omega (arith, ap length c.runs_of-runs.ensures, c.requires.index))
+
+pub runs_of-requires : goal.runs_of-requires
+runs_of-requires g c = λ κs low. low
+
+pub runs_of-runs-requires : goal.runs_of-runs-requires
+runs_of-runs-requires g c = λ κs low. low

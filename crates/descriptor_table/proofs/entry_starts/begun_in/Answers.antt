@@ -1,4 +1,8 @@
-use Rattle.std.proofs.Common.{◌≡◌, ◌+◌, ◌≤◌, ◌++◌, ◌∷◌, [], suc, take, subst, sym, ap, ◌∙◌, arith}
+use Rattle.descriptor_table.proofs.Lives.{twice}
+use Rattle.std.proofs.lemmas.Result.{IfOk-from_err}
+use Rattle.std.proofs.lemmas.List.{take_all}
+use contract.BorrowLft.{⊑_static}
+use Rattle.std.proofs.Common.{◌≡◌, ◌+◌, ◌≤◌, ◌++◌, ◌∷◌, [], suc, take, subst, sym, ap, ◌∙◌, arith, length}
 use Rattle.page_ranges.specs.MemoryTypes.{page_count}
 use Rattle.page_ranges.specs.Runs.{AreRuns}
 use Rattle.page_ranges.proofs.Members.{all_append_left, all_append_right}
@@ -39,3 +43,42 @@ loop-leaf-preserved g c =
       begun = rw c.in_ok-push.ensures.items (subst (λ ms. BeginIn before ms (c.loop-leaf.begun.items ++ n ∷ [])) leaves (begin_last before (take i ls) c.loop-leaf.begun.items runs n c.loop-leaf.invariant.begun grown));
       last = subst (λ rs. AreLast rs c.runs-last.result.now) all (last_leaf (before ++ runs_in (take i ls)) c.runs-last.result.now (rw (c.runs-last.ensures ∙ c.leaf-item.is) (leaf_at ls i leaf c.requires.leaves (omega arith)).0));
     }
+
+pub bounds-leaves-leaf-index : goal.bounds-leaves-leaf-index
+bounds-leaves-leaf-index g c = omega arith
+
+pub branch-push-requires : goal.branch-push-requires
+branch-push-requires g c = λ κs. (⊑_static κs.0, ⊑_static κs.1.0)
+
+pub drop-begun-requires : goal.drop-begun-requires
+drop-begun-requires g c = λ κs low. (⊑_static κs.0, low)
+
+pub loop-leaf-smaller : goal.loop-leaf-smaller
+loop-leaf-smaller g c = omega arith
+
+pub new-begun-requires : goal.new-begun-requires
+new-begun-requires g c = λ κs low. (⊑_static κs.0, low)
+
+pub offset_bounds-leaves-leaf-index : goal.offset_bounds-leaves-leaf-index
+offset_bounds-leaves-leaf-index g c = omega arith
+
+pub push-requires : goal.push-requires
+push-requires g c = λ κs low. (⊑_static κs.1.0, low)
+
+pub runs-last-requires : goal.runs-last-requires
+runs-last-requires g c = λ κs low. low
+
+pub runs-requires : goal.runs-requires
+runs-requires g c = λ κs low. low
+
+pub overflow_cast-count_begun : goal.overflow_cast-count_begun
+overflow_cast-count_begun g c = omega (arith, c.count_begun.ensures.bound, ap length (c.runs.ensures ∙ c.leaf-item.is), (leaf_at c.args.leaves.now c.loop-leaf.leaf-index c.leaf-item.result c.requires.leaves (omega arith)).1)
+
+pub returns-in_err-push : goal.returns-in_err-push
+returns-in_err-push g c = IfOk-from_err c.from_residual.result _ c.from_residual.ensures.0
+
+pub returns : goal.returns
+returns g c = subst (λ ls. BeginIn c.args.before.now ls c.loop-leaf.begun.items) (take_all c.loop-leaf.leaf-index c.args.leaves.now (omega arith)) c.loop-leaf.invariant.begun
+
+pub from_residual-requires : goal.from_residual-requires
+from_residual-requires g c = λ κs low. (twice κs.0 g.row.A.lives low, (⊑_static κs.1.0, ⊑_static κs.1.1.0))

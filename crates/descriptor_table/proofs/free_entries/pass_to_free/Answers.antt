@@ -18,3 +18,9 @@ loop-run-preserved g c =
       place = λ rs q. place_passed rs c.loop-run.walk c.next.new.self run p.0 p.1 (i.place rs q);
       passed = i.passed ∙ ap (λ ss. free_from ss 0) p.0 ∙ other_run run c.next.new.self.rest maximal (search rules);
     }
+
+pub next-requires : goal.next-requires
+next-requires g c = λ κs low. low
+
+pub peek-requires : goal.peek-requires
+peek-requires g c = λ κs low. low

@@ -26,3 +26,6 @@ returns-then-not-ends_free g c = inr (
       let not = c.if-not-ends_free.true in
       cc,
 )
+
+pub ends_free-requires : goal.ends_free-requires
+ends_free-requires g c = λ κs low. low

@@ -1,3 +1,4 @@
+use contract.BorrowLft.{⊑_static}
 use Rattle.std.proofs.Common.{◌≡◌, ◌+◌, ◌*◌, ◌≤◌, ◌++◌, [], length, take, drop, append_assoc, length-drop, refl, sym, ap, subst, ◌∙◌, arith}
 use Rattle.std.proofs.lemmas.List.{length-take-le, take-append-drop, take_rest}
 use Rattle.std.proofs.lemmas.List.Edits.{length-insert}
@@ -102,3 +103,27 @@ returns-clause-puts g c =
     let puts = c.loop-rest.invariant.puts in
     let all = none_left puts.0 c.loop-rest.rest.now c.args.runs.now (eqb-true (length c.loop-rest.rest.now) 0 (sym c.is_empty.ensures ∙ c.loop-rest-test.false)) puts.1 in
     subst (λ xs. PutsLeaves ls c.args.begun.now.items c.args.sizes.now.items c.args.from xs c.loop-rest.leaves.items c.loop-rest.begun.items c.loop-rest.sizes.items) all puts.2
+
+pub insert_leaf-requires-clause-place : goal.insert_leaf-requires-clause-place
+insert_leaf-requires-clause-place g c = omega arith
+
+pub is_empty-requires : goal.is_empty-requires
+is_empty-requires g c = λ κs. ⊑_static κs.1.0
+
+pub loop-rest-smaller : goal.loop-rest-smaller
+loop-rest-smaller g c = omega arith
+
+pub offset_bounds-rest-share : goal.offset_bounds-rest-share
+offset_bounds-rest-share g c = omega arith
+
+pub overflow_add-at : goal.overflow_add-at
+overflow_add-at g c = omega arith
+
+pub slice_bounds-rest-count : goal.slice_bounds-rest-count
+slice_bounds-rest-count g c = omega arith
+
+pub slice_bounds-rest-end : goal.slice_bounds-rest-end
+slice_bounds-rest-end g c = omega arith
+
+pub slice_bounds-rest-start : goal.slice_bounds-rest-start
+slice_bounds-rest-start g c = omega arith

@@ -1,3 +1,5 @@
+use Rattle.descriptor_table.proofs.Lives.{of_leaf}
+use contract.BorrowLft.{⊑_static}
 use Rattle.std.proofs.Common.{[], ap, arith}
 use Rattle.descriptor_table.specs.Leaves.{entry_count, runs_in}
 use Rattle.descriptor_table.proofs.Begun.{begin_all}
@@ -84,3 +86,36 @@ returns-clause-pages g c =
     let parts = c.fill_buffer-near.new.buffer.items in
     let new = rw c.as_slice-2.ensures.value at c.put_leaves.ensures.runs in
     rw new (put_pages ls range from to near c.args.entries c.args.mtype c.args.owner c.requires.table.table c.requires.some c.requires.present parts c.fill_buffer-near.ensures.order pages)
+
+pub as_slice-requires-2 : goal.as_slice-requires-2
+as_slice-requires-2 g c = λ κs low. (⊑_static κs.1.0, low)
+
+pub fill_buffer-near-requires-clause-small : goal.fill_buffer-near-requires-clause-small
+fill_buffer-near-requires-clause-small g c = omega arith
+
+pub len-requires : goal.len-requires
+len-requires g c = λ κs low. low
+
+pub put_leaves-requires-clause-bound : goal.put_leaves-requires-clause-bound
+put_leaves-requires-clause-bound g c = omega arith
+
+pub put_leaves-requires-clause-fits : goal.put_leaves-requires-clause-fits
+put_leaves-requires-clause-fits g c = omega arith
+
+pub put_leaves-requires-clause-order : goal.put_leaves-requires-clause-order
+put_leaves-requires-clause-order g c = omega arith
+
+pub returns-clause-capacity : goal.returns-clause-capacity
+returns-clause-capacity g c = omega arith
+
+pub sum-requires : goal.sum-requires
+sum-requires g c = λ κs low. low
+
+pub fill_buffer-near-requires-clause-fits : goal.fill_buffer-near-requires-clause-fits
+fill_buffer-near-requires-clause-fits g c = rw (c.as_slice.ensures.value, c.len.ensures) c.requires.fits
+
+pub fill_buffer-near-requires-clause-room : goal.fill_buffer-near-requires-clause-room
+fill_buffer-near-requires-clause-room g c = rw c.as_slice.ensures.value c.requires.buffer
+
+pub as_slice-requires : goal.as_slice-requires
+as_slice-requires g c = λ κs low. (of_leaf κs.1.0 g.row.A.lives low.0, low.1)

@@ -1,4 +1,4 @@
-use Rattle.std.proofs.Common.{◌≡◌, ◌++◌, take, drop, ap, ◌∙◌, arith}
+use Rattle.std.proofs.Common.{◌≡◌, ◌++◌, take, drop, ap, ◌∙◌, arith, length, length-append, length-take}
 use Rattle.descriptor_table.proofs.LeavesPut.{one_less}
 use Rattle.descriptor_table.proofs.new_leaves.take_out_some.Goals as goal
 
@@ -21,3 +21,18 @@ returns-clause-leaves g c =
 
 pub returns-clause-spare : goal.returns-clause-spare
 returns-clause-spare g c = omega (arith, c.loop-index.invariant.spare, c.loop-index.invariant.low, c.loop-index-test.false, c.requires.order)
+
+pub give_back-requires : goal.give_back-requires
+give_back-requires g c = omega arith
+
+pub loop-index-smaller : goal.loop-index-smaller
+loop-index-smaller g c = omega arith
+
+pub overflow_step-index : goal.overflow_step-index
+overflow_step-index g c = omega arith
+
+pub remove-leaf-requires : goal.remove-leaf-requires
+remove-leaf-requires g c =
+    let ls = c.args.leaves.now.items in
+    let i = c.loop-index.index in
+    omega (arith, ap length c.loop-index.invariant.leaves, length-append (take i ls) (drop c.args.to ls), length-take i ls, c.loop-index.auto.index, c.requires.bound, c.loop-index-test.true)

@@ -1,3 +1,4 @@
+use Rattle.descriptor_table.proofs.Lives.{of_leaf}
 use Rattle.std.proofs.Common.{◌+◌, ◌-◌, [], ◌∷◌, ◌++◌, length, length-drop, take, drop, sym, ap, subst, ◌∙◌, arith}
 use Rattle.std.proofs.lemmas.List.{get_or_default, length-map, take_all}
 use Rattle.page_ranges.specs.MemoryTypes.{page_count}
@@ -463,3 +464,33 @@ returns-clause-few g c =
     let l = new_last ls i k low high share parts in
     let put = put_two ls c.cut_leaves.new.leaves.items new i k low high share parts (take (length parts - share) (drop share parts)) h b c.cut_leaves.ensures.leaves rest c.replace_two.ensures.items in
     omega (arith, h, two_length ls new i k f l h b put)
+
+pub cut_leaves-requires-clause-bound : goal.cut_leaves-requires-clause-bound
+cut_leaves-requires-clause-bound g c = omega arith
+
+pub cut_leaves-requires-clause-order : goal.cut_leaves-requires-clause-order
+cut_leaves-requires-clause-order g c = omega arith
+
+pub index-requires : goal.index-requires
+index-requires g c = omega arith
+
+pub offset_bounds-parts-share : goal.offset_bounds-parts-share
+offset_bounds-parts-share g c = omega arith
+
+pub overflow_add-index : goal.overflow_add-index
+overflow_add-index g c = omega arith
+
+pub runs-requires : goal.runs-requires
+runs-requires g c = λ κs low. low
+
+pub slice_bounds-replace_two-count : goal.slice_bounds-replace_two-count
+slice_bounds-replace_two-count g c = omega arith
+
+pub slice_bounds-replace_two-end-2 : goal.slice_bounds-replace_two-end-2
+slice_bounds-replace_two-end-2 g c = omega arith
+
+pub slice_bounds-replace_two-start : goal.slice_bounds-replace_two-start
+slice_bounds-replace_two-start g c = omega arith
+
+pub as_slice-requires : goal.as_slice-requires
+as_slice-requires g c = λ κs low. (of_leaf κs.1.0 g.row.A.lives low.0, low.1)

@@ -1,3 +1,4 @@
+use Rattle.descriptor_table.proofs.Lives.{of_leaf}
 use Rattle.std.proofs.Common.{◌≡◌, ◌+◌, ◌<◌, [], ◌∷◌, ◌++◌, length, length-append, take, drop, append-nil, sym, ap, subst, ◌∙◌, arith}
 use Rattle.std.proofs.Math.ListN.{set, drop_of_length-le}
 use Rattle.std.proofs.lemmas.List.{get_or_default, length-map, length-take-le}
@@ -444,3 +445,9 @@ returns-clause-few g c =
     c.replace.ensures ∙ ap (λ l. take low l ++ (runs ++ drop count l)) is ∙ ap (λ xs. take low rs ++ (runs ++ xs)) (drop_of_length-le rs (omega (arith, ap length was))) ∙ ap (λ xs. take low rs ++ xs) (append-nil runs) in
     let put = put_one ls cut new i k f (omega (arith, h)) b c.cut_leaves.ensures.leaves (ap (λ x. set cut i x) made) in
     omega (arith, h, one_length ls new i k f (omega (arith, h)) b put)
+
+pub as_slice-requires : goal.as_slice-requires
+as_slice-requires g c = λ κs low. (of_leaf κs.1.0 g.row.A.lives low.0, low.1)
+
+pub runs-count-requires : goal.runs-count-requires
+runs-count-requires g c = λ κs low. low

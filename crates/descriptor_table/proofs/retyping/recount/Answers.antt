@@ -130,3 +130,53 @@ returns-clause-sizes g c =
     let first = c.runs-first.ensures ∙ c.index-leaves-index.is ∙ get_or_default ls i c.index-leaves-index.result [] (omega (arith, c.requires.index)) in
     let second = c.runs-second.ensures ∙ c.index-leaves-index-2.is ∙ get_or_default ls (i + 1) c.index-leaves-index-2.result [] c.requires.index in
     c.set-4.ensures.items ∙ ap (λ ns. set ns (i + 1) (length c.runs-second.result.now)) c.set-3.ensures.items ∙ ap₂ (λ x y. set (set c.args.sizes.now.items i (length x)) (i + 1) (length y)) first second ∙ c.requires.sizes
+
+pub bounds-leaves-index : goal.bounds-leaves-index
+bounds-leaves-index g c = omega arith
+
+pub bounds-leaves-index-2 : goal.bounds-leaves-index-2
+bounds-leaves-index-2 g c = omega arith
+
+pub offset_bounds-leaves-index : goal.offset_bounds-leaves-index
+offset_bounds-leaves-index g c = omega arith
+
+pub offset_bounds-leaves-index-2 : goal.offset_bounds-leaves-index-2
+offset_bounds-leaves-index-2 g c = omega arith
+
+pub overflow_add-index : goal.overflow_add-index
+overflow_add-index g c = omega arith
+
+pub overflow_add-index-2 : goal.overflow_add-index-2
+overflow_add-index-2 g c = omega arith
+
+pub overflow_add-index-3 : goal.overflow_add-index-3
+overflow_add-index-3 g c = omega arith
+
+pub runs-first-requires : goal.runs-first-requires
+runs-first-requires g c = λ κs low. low
+
+pub runs-second-requires : goal.runs-second-requires
+runs-second-requires g c = λ κs low. low
+
+pub runs_before-requires-clause-bound : goal.runs_before-requires-clause-bound
+runs_before-requires-clause-bound g c = omega arith
+
+pub overflow_cast-first : goal.overflow_cast-first
+overflow_cast-first g c =
+    let is = c.runs-first.ensures ∙ c.index-leaves-index.is in
+    omega (arith, ap length is, (leaf_of c.args.leaves.now c.args.index c.index-leaves-index.result c.requires.leaves (omega (arith, c.requires.index))).1)
+
+pub overflow_cast-second : goal.overflow_cast-second
+overflow_cast-second g c =
+    let is = c.runs-second.ensures ∙ c.index-leaves-index-2.is in
+    omega (arith, ap length is, (leaf_of c.args.leaves.now (c.args.index + 1) c.index-leaves-index-2.result c.requires.leaves c.requires.index).1)
+
+pub overflow_cast-count_begun : goal.overflow_cast-count_begun
+overflow_cast-count_begun g c =
+    let is = c.runs-first.ensures ∙ c.index-leaves-index.is in
+    omega (arith, c.count_begun.ensures.bound, ap length is, (leaf_of c.args.leaves.now c.args.index c.index-leaves-index.result c.requires.leaves (omega (arith, c.requires.index))).1)
+
+pub overflow_cast-count_begun-2 : goal.overflow_cast-count_begun-2
+overflow_cast-count_begun-2 g c =
+    let is = c.runs-second.ensures ∙ c.index-leaves-index-2.is in
+    omega (arith, c.count_begun-2.ensures.bound, ap length is, (leaf_of c.args.leaves.now (c.args.index + 1) c.index-leaves-index-2.result c.requires.leaves c.requires.index).1)

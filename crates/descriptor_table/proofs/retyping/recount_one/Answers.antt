@@ -63,3 +63,21 @@ returns-clause-sizes g c =
     let i = c.args.index in
     let is = c.runs-runs.ensures ∙ c.index-leaves-index.is ∙ get_or_default ls i c.index-leaves-index.result [] c.requires.index in
     c.set-2.ensures.items ∙ ap (λ x. set c.args.sizes.now.items i (length x)) is ∙ c.requires.sizes
+
+pub bounds-leaves-index : goal.bounds-leaves-index
+bounds-leaves-index g c = omega arith
+
+pub offset_bounds-leaves-index : goal.offset_bounds-leaves-index
+offset_bounds-leaves-index g c = omega arith
+
+pub runs-runs-requires : goal.runs-runs-requires
+runs-runs-requires g c = λ κs low. low
+
+pub runs_before-requires-clause-bound : goal.runs_before-requires-clause-bound
+runs_before-requires-clause-bound g c = omega arith
+
+pub overflow_cast-runs : goal.overflow_cast-runs
+overflow_cast-runs g c = omega (arith, ap length (c.runs-runs.ensures ∙ c.index-leaves-index.is), (leaf_of c.args.leaves.now c.args.index c.index-leaves-index.result c.requires.leaves c.requires.index).1)
+
+pub overflow_cast-count_begun : goal.overflow_cast-count_begun
+overflow_cast-count_begun g c = omega (arith, c.count_begun.ensures.bound, ap length (c.runs-runs.ensures ∙ c.index-leaves-index.is), (leaf_of c.args.leaves.now c.args.index c.index-leaves-index.result c.requires.leaves c.requires.index).1)

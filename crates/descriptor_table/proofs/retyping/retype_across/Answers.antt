@@ -1,3 +1,5 @@
+use Rattle.descriptor_table.proofs.Lives.{of_leaf}
+use contract.BorrowLft.{⊑_static}
 use Rattle.std.proofs.Common.{◌+◌, ◌<◌, [], length, take, drop, sym, ap, subst, ◌∙◌, arith}
 use Rattle.std.proofs.lemmas.List.{get_or_default}
 use Rattle.std.specs.List.{AllByRecursion}
@@ -312,3 +314,57 @@ returns-clause-pages g c =
     let pages = rw c.as_slice-all.ensures.value at c.in-Ok.ensures.pages in
     let new = c.put_between.ensures.runs c.if-not-put_between.false ∙ across_is ls i k low high h b parts in
     rw new (new_pages (runs_in ls) n range t o table before old behind cut c.requires.some c.requires.present parts order pages)
+
+pub clear-requires : goal.clear-requires
+clear-requires g c = λ κs low. (⊑_static κs.1.0, low)
+
+pub index-requires : goal.index-requires
+index-requires g c = omega arith
+
+pub index-requires-2 : goal.index-requires-2
+index-requires-2 g c = omega arith
+
+pub push_across-requires-clause-bound : goal.push_across-requires-clause-bound
+push_across-requires-clause-bound g c = omega arith
+
+pub push_across-requires-clause-order : goal.push_across-requires-clause-order
+push_across-requires-clause-order g c = omega arith
+
+pub put_between-requires-clause-bound : goal.put_between-requires-clause-bound
+put_between-requires-clause-bound g c = omega arith
+
+pub put_between-requires-clause-order : goal.put_between-requires-clause-order
+put_between-requires-clause-order g c = omega arith
+
+pub returns-clause-few : goal.returns-clause-few
+returns-clause-few g c = omega arith
+
+pub returns-clause-lost : goal.returns-clause-lost
+returns-clause-lost g c = omega arith
+
+pub returns-in_default-clause-few : goal.returns-in_default-clause-few
+returns-in_default-clause-few g c = omega arith
+
+pub returns-in_default-clause-lost : goal.returns-in_default-clause-lost
+returns-in_default-clause-lost g c = omega arith
+
+pub returns-then-not-put_between-clause-few : goal.returns-then-not-put_between-clause-few
+returns-then-not-put_between-clause-few g c = omega arith
+
+pub returns-then-not-put_between-clause-lost : goal.returns-then-not-put_between-clause-lost
+returns-then-not-put_between-clause-lost g c = omega arith
+
+pub runs-requires : goal.runs-requires
+runs-requires g c = λ κs low. low
+
+pub runs-requires-2 : goal.runs-requires-2
+runs-requires-2 g c = λ κs low. low
+
+pub sum-requires : goal.sum-requires
+sum-requires g c = λ κs low. low
+
+pub as_slice-all-requires : goal.as_slice-all-requires
+as_slice-all-requires g c = λ κs low. (of_leaf κs.1.0 g.row.A.lives low.0, low.1)
+
+pub len-requires : goal.len-requires
+len-requires g c = λ κs low. (of_leaf κs.1.0 g.row.A.lives low.0, low.1)

@@ -1,4 +1,6 @@
-use Rattle.std.proofs.Common.{◌≡◌, ◌+◌, refl, subst, arith}
+use Rattle.descriptor_table.proofs.Lives.{of_leaf}
+use contract.BorrowLft.{⊑_static}
+use Rattle.std.proofs.Common.{◌≡◌, ◌+◌, refl, subst, arith, ap, length}
 use Rattle.descriptor_table.specs.Leaves.{AreLeavesNear}
 use Rattle.descriptor_table.specs.Summaries.{KeepsLeaves}
 use Rattle.descriptor_table.proofs.retyping.retype_in_pair.Goals as goal
@@ -31,3 +33,60 @@ returns-clause-kept g c =
     let first = c.in_ok-first.first in
     let e : first + 1 + 1 ≡ first + 2 = omega arith in
     subst (KeepsLeaves c.args.leaves.now.items c.retype_across.new.leaves.items first) e c.in_ok-entries.ensures.kept
+
+pub branch-entries-requires : goal.branch-entries-requires
+branch-entries-requires g c = λ κs. ⊑_static κs.0
+
+pub branch-first-requires : goal.branch-first-requires
+branch-first-requires g c = λ κs. ⊑_static κs.0
+
+pub from_residual-requires : goal.from_residual-requires
+from_residual-requires g c = λ κs. ⊑_static κs.0
+
+pub from_residual-requires-in_err-entries : goal.from_residual-requires-in_err-entries
+from_residual-requires-in_err-entries g c = λ κs. ⊑_static κs.0
+
+pub overflow_sub-near : goal.overflow_sub-near
+overflow_sub-near g c = omega arith
+
+pub returns-clause-few : goal.returns-clause-few
+returns-clause-few g c = omega arith
+
+pub returns-clause-lost : goal.returns-clause-lost
+returns-clause-lost g c = omega arith
+
+pub returns-in_err-entries-clause-few : goal.returns-in_err-entries-clause-few
+returns-in_err-entries-clause-few g c = omega arith
+
+pub returns-in_err-entries-clause-lost : goal.returns-in_err-entries-clause-lost
+returns-in_err-entries-clause-lost g c = omega arith
+
+pub returns-in_err-first-clause-few : goal.returns-in_err-first-clause-few
+returns-in_err-first-clause-few g c = omega arith
+
+pub returns-in_err-first-clause-lost : goal.returns-in_err-first-clause-lost
+returns-in_err-first-clause-lost g c = omega arith
+
+pub returns-then-near-ne1-clause-few : goal.returns-then-near-ne1-clause-few
+returns-then-near-ne1-clause-few g c = omega arith
+
+pub returns-then-near-ne1-clause-lost : goal.returns-then-near-ne1-clause-lost
+returns-then-near-ne1-clause-lost g c = omega arith
+
+pub retype_across-requires-clause-several : goal.retype_across-requires-clause-several
+retype_across-requires-clause-several g c = omega arith
+
+pub retype_across-requires-clause-some : goal.retype_across-requires-clause-some
+retype_across-requires-clause-some g c = omega arith
+
+pub overflow_add-ends : goal.overflow_add-ends
+overflow_add-ends g c = omega (arith, c.in_ok-first.ensures.bound, ap length c.as_slice.ensures.value)
+
+pub overflow_add-result : goal.overflow_add-result
+overflow_add-result g c = omega (arith, c.in_ok-first.ensures.bound, ap length c.as_slice.ensures.value)
+
+pub as_slice-requires : goal.as_slice-requires
+as_slice-requires g c = λ κs low. (of_leaf κs.1.0 g.row.A.lives low.0, low.1)
+
+pub len-requires : goal.len-requires
+len-requires g c = λ κs low. (of_leaf κs.1.0 g.row.A.lives low.0, low.1)

@@ -1,3 +1,4 @@
+use contract.BorrowLft.{⊑_static}
 use Rattle.std.proofs.Common.{◌≡◌, ◌+◌, ◌-◌, ◌*◌, length, take, drop, ap₂, ◌∙◌, arith}
 use Rattle.descriptor_table.specs.Tallies.{total}
 use Rattle.descriptor_table.proofs.Tallied.{total_part, next_sum}
@@ -23,3 +24,9 @@ loop-group-preserved g c =
       sums = next_sum ns c.loop-group.sums.items c.push.new.self.items c.sum_of-sum.result i.sums c.in-Ok.ensures.items sum (omega (arith, i.count));
       count = omega (arith, i.count, c.in-Ok.ensures.len);
     }
+
+pub len-group-requires : goal.len-group-requires
+len-group-requires g c = λ κs low. (⊑_static κs.1.0, low)
+
+pub push-requires : goal.push-requires
+push-requires g c = λ κs low. (⊑_static κs.1.0, low)

@@ -55,3 +55,6 @@ returns-clause-maximal g c =
     ∙ sym (ap (λ rs. page_at (pages_of rs) c.args.page) (c.runs-runs.ensures ∙ c.index-leaves-count.is)) ∙ c.run_from.ensures.page in
     let member = found_in_leaf ls (count.result - 1) c.args.page leaf _ c.run_from.result (omega arith) (c.runs-runs.ensures ∙ c.index-leaves-count.is) c.run_from.ensures.member in
     rw (← c.self.view_is) (holds_page (runs_in ls) _ c.args.page c.run_from.result (cursor_table (runs_in ls) c.self.invariant.1 c.self.invariant.2) page member)
+
+pub runs-runs-requires : goal.runs-runs-requires
+runs-runs-requires g c = λ κs low. low

@@ -1,3 +1,4 @@
+use contract.BorrowLft.{⊑_static}
 use Rattle.std.proofs.Common.{◌≡◌, ℕ, ◌+◌, ◌-◌, ◌≤◌, List, length, length-drop, take, drop, sym, ap, subst, ◌∷◌, ◌∙◌, arith}
 use Rattle.page_ranges.specs.MemoryTypes.{page_count}
 use Rattle.page_ranges.specs.MemoryMap.{memory_map}
@@ -41,3 +42,6 @@ returns g c =
     let ls = c.args.leaves.now in
     later_entries ls c.args.index c.runs_before.result.now c.runs_before.ensures last c.in-Some.ensures.value _ _ c.requires.runs
     (ap (λ rs. memory_map (pages_of (last ∷ rs))) (sym (c.new-walk.ensures.rest ∙ rest_of_leaves c.args.leaves.now c.args.index)) ∙ c.end_of_entry.ensures.entry)
+
+pub last-requires : goal.last-requires
+last-requires g c = λ κs. ⊑_static κs.1.0

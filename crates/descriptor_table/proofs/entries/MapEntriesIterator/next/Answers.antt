@@ -1,3 +1,5 @@
+use contract.BorrowLft.{⊑_refl, ⊑_static}
+use Rattle.descriptor_table.proofs.Lives.{once}
 use Rattle.std.proofs.Common.{◌∷◌, length, sym, subst, ap, ◌∙◌, arith}
 use Rattle.std.specs.Option.{option_map}
 use Rattle.page_ranges.specs.declared.ranges.Descriptor.{Descriptor}
@@ -38,3 +40,9 @@ returns-clause-steps g c =
 
 pub returns-clause-goes : goal.returns-clause-goes
 returns-clause-goes g c = record { on = λ _. (tt, tt, omega (arith, ap length (returns-clause-steps g c))); keeps = tt; rests = λ _. tt }
+
+pub branch-first-requires : goal.branch-first-requires
+branch-first-requires g c = λ κs. once κs.0 κs.0 (⊑_refl κs.0)
+
+pub from_residual-requires : goal.from_residual-requires
+from_residual-requires g c = λ κs. ⊑_static κs.0

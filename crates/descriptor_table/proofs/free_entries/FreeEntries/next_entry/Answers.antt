@@ -1,3 +1,5 @@
+use contract.BorrowLft.{⊑_refl, ⊑_static}
+use Rattle.descriptor_table.proofs.Lives.{once}
 use Rattle.std.proofs.Common.{◌≡◌, ◌∷◌, ◌∙◌, sym, ap, subst}
 use Rattle.std.specs.Prelude.{slice_get}
 use Rattle.page_ranges.specs.MemoryTypes.{conventional, page_count}
@@ -54,3 +56,18 @@ returns-clause-next g c =
         above = c.block_above.ensures rs rest _ maximal proper place c.peek-above.ensures;
       }),
     )
+
+pub before-below-requires : goal.before-below-requires
+before-below-requires g c = λ κs low. low
+
+pub branch-run-requires : goal.branch-run-requires
+branch-run-requires g c = λ κs. once κs.0 κs.0 (⊑_refl κs.0)
+
+pub from_residual-requires : goal.from_residual-requires
+from_residual-requires g c = λ κs. ⊑_static κs.0
+
+pub next-requires : goal.next-requires
+next-requires g c = λ κs low. low
+
+pub peek-above-requires : goal.peek-above-requires
+peek-above-requires g c = λ κs low. low

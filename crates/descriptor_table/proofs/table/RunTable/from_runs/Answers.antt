@@ -1,3 +1,5 @@
+use contract.BorrowLft.{⊑_static}
+use Rattle.descriptor_table.proofs.Lives.{of_leaf, twice}
 use Rattle.std.proofs.Common.{[], length, sym, ap, subst, ◌∙◌, arith}
 use Rattle.std.proofs.lemmas.List.{length-map, take_all}
 use Rattle.page_ranges.specs.Memory.{IsProperMemory}
@@ -106,3 +108,117 @@ new-sizes-requires g c =
     let ends = proper_ends joined runs (subst IsProperMemory (sym (c.loop-run.invariant.pages ∙ ap pages_of all)) c.requires.proper) in
     let sizes = rw c.as_slice-4.ensures.value at c.in_ok-sizes_of.ensures in
     rw sizes (sizes_within c.in_ok-leaves.leaves.items (rw same runs) (rw same ends))
+
+pub as_slice-requires : goal.as_slice-requires
+as_slice-requires g c = λ κs low. (⊑_static κs.1.0, low)
+
+pub as_slice-requires-2 : goal.as_slice-requires-2
+as_slice-requires-2 g c = λ κs low. (⊑_static κs.1.0, low)
+
+pub as_slice-requires-3 : goal.as_slice-requires-3
+as_slice-requires-3 g c = λ κs low. (of_leaf κs.1.0 g.row.A.lives low.0, low.1)
+
+pub as_slice-requires-4 : goal.as_slice-requires-4
+as_slice-requires-4 g c = λ κs low. (of_leaf κs.1.0 g.row.A.lives low.0, low.1)
+
+pub as_slice-requires-5 : goal.as_slice-requires-5
+as_slice-requires-5 g c = λ κs low. (of_leaf κs.1.0 g.row.A.lives low.0, low.1)
+
+pub branch-begun_in-requires : goal.branch-begun_in-requires
+branch-begun_in-requires g c = λ κs low. (twice κs.0 g.row.A.lives low, ⊑_static κs.1.0)
+
+pub branch-parts-requires : goal.branch-parts-requires
+branch-parts-requires g c = λ κs low. (twice κs.0 g.row.A.lives low, ⊑_static κs.1.0)
+
+pub branch-push_joined-requires : goal.branch-push_joined-requires
+branch-push_joined-requires g c = λ κs. (⊑_static κs.0, ⊑_static κs.1.0)
+
+pub branch-sizes_of-requires : goal.branch-sizes_of-requires
+branch-sizes_of-requires g c = λ κs low. (twice κs.0 g.row.A.lives low, ⊑_static κs.1.0)
+
+pub drop-begun-inside-requires : goal.drop-begun-inside-requires
+drop-begun-inside-requires g c = λ κs low. (⊑_static κs.0, low)
+
+pub drop-begun-inside-requires-in_err-parts : goal.drop-begun-inside-requires-in_err-parts
+drop-begun-inside-requires-in_err-parts g c = λ κs low. (⊑_static κs.0, low)
+
+pub drop-begun-inside-requires-in_err-parts-2 : goal.drop-begun-inside-requires-in_err-parts-2
+drop-begun-inside-requires-in_err-parts-2 g c = λ κs low. (⊑_static κs.0, low)
+
+pub drop-begun-inside-requires-in_err-sizes_of : goal.drop-begun-inside-requires-in_err-sizes_of
+drop-begun-inside-requires-in_err-sizes_of g c = λ κs low. (⊑_static κs.0, low)
+
+pub drop-begun-inside-requires-in_err-spare : goal.drop-begun-inside-requires-in_err-spare
+drop-begun-inside-requires-in_err-spare g c = λ κs low. (⊑_static κs.0, low)
+
+pub drop-begun-inside-requires-in_err-spare-2 : goal.drop-begun-inside-requires-in_err-spare-2
+drop-begun-inside-requires-in_err-spare-2 g c = λ κs low. (⊑_static κs.0, low)
+
+pub drop-groups-requires : goal.drop-groups-requires
+drop-groups-requires g c = λ κs low. (⊑_static κs.0, low)
+
+pub drop-groups-requires-in_err-spare : goal.drop-groups-requires-in_err-spare
+drop-groups-requires-in_err-spare g c = λ κs low. (⊑_static κs.0, low)
+
+pub drop-joined-requires : goal.drop-joined-requires
+drop-joined-requires g c = λ κs low. (⊑_static κs.0, low)
+
+pub drop-joined-requires-in_err-begun_in : goal.drop-joined-requires-in_err-begun_in
+drop-joined-requires-in_err-begun_in g c = λ κs low. (⊑_static κs.0, low)
+
+pub drop-joined-requires-in_err-leaves : goal.drop-joined-requires-in_err-leaves
+drop-joined-requires-in_err-leaves g c = λ κs low. (⊑_static κs.0, low)
+
+pub drop-joined-requires-in_err-parts : goal.drop-joined-requires-in_err-parts
+drop-joined-requires-in_err-parts g c = λ κs low. (⊑_static κs.0, low)
+
+pub drop-joined-requires-in_err-sizes_of : goal.drop-joined-requires-in_err-sizes_of
+drop-joined-requires-in_err-sizes_of g c = λ κs low. (⊑_static κs.0, low)
+
+pub drop-joined-requires-in_err-spare : goal.drop-joined-requires-in_err-spare
+drop-joined-requires-in_err-spare g c = λ κs low. (⊑_static κs.0, low)
+
+pub drop-leaves-requires : goal.drop-leaves-requires
+drop-leaves-requires g c = λ κs low. (of_leaf κs.0 g.row.A.lives low.0, low.1)
+
+pub drop-leaves-requires-in_err-parts : goal.drop-leaves-requires-in_err-parts
+drop-leaves-requires-in_err-parts g c = λ κs low. (of_leaf κs.0 g.row.A.lives low.0, low.1)
+
+pub drop-leaves-requires-in_err-sizes_of : goal.drop-leaves-requires-in_err-sizes_of
+drop-leaves-requires-in_err-sizes_of g c = λ κs low. (of_leaf κs.0 g.row.A.lives low.0, low.1)
+
+pub drop-leaves-requires-in_err-spare : goal.drop-leaves-requires-in_err-spare
+drop-leaves-requires-in_err-spare g c = λ κs low. (of_leaf κs.0 g.row.A.lives low.0, low.1)
+
+pub drop-parts-requires : goal.drop-parts-requires
+drop-parts-requires g c = λ κs low. (⊑_static κs.0, low)
+
+pub drop-sizes-inside-requires : goal.drop-sizes-inside-requires
+drop-sizes-inside-requires g c = λ κs low. (⊑_static κs.0, low)
+
+pub drop-sizes-inside-requires-in_err-parts : goal.drop-sizes-inside-requires-in_err-parts
+drop-sizes-inside-requires-in_err-parts g c = λ κs low. (⊑_static κs.0, low)
+
+pub drop-sizes-inside-requires-in_err-spare : goal.drop-sizes-inside-requires-in_err-spare
+drop-sizes-inside-requires-in_err-spare g c = λ κs low. (⊑_static κs.0, low)
+
+pub drop-sizes-inside-requires-in_err-spare-2 : goal.drop-sizes-inside-requires-in_err-spare-2
+drop-sizes-inside-requires-in_err-spare-2 g c = λ κs low. (⊑_static κs.0, low)
+
+pub leaves_of-requires : goal.leaves_of-requires
+leaves_of-requires g c = λ κs low. low
+
+pub len-requires : goal.len-requires
+len-requires g c = λ κs low. (of_leaf κs.1.0 g.row.A.lives low.0, low.1)
+
+pub new-groups-requires : goal.new-groups-requires
+new-groups-requires g c = λ κs low. (⊑_static κs.0, low)
+
+pub new-joined-requires : goal.new-joined-requires
+new-joined-requires g c = λ κs low. (⊑_static κs.0, low)
+
+pub with_capacity-requires : goal.with_capacity-requires
+with_capacity-requires g c = λ κs low. (⊑_static κs.0, low)
+
+pub with_room-requires : goal.with_room-requires
+with_room-requires g c = λ κs low. low

@@ -1,3 +1,5 @@
+use contract.BorrowLft.{⊑_static}
+use Rattle.descriptor_table.proofs.Lives.{of_leaf}
 use Rattle.std.proofs.Common.{ap, length, arith}
 use Rattle.descriptor_table.proofs.table.RunTable.note_moved.Goals as goal
 
@@ -23,3 +25,12 @@ invariant_of-self-2 g c =
         few = was.few;
       },
     )
+
+pub as_slice-requires : goal.as_slice-requires
+as_slice-requires g c = λ κs low. (of_leaf κs.1.0 g.row.A.lives low.0, low.1)
+
+pub clear-requires : goal.clear-requires
+clear-requires g c = λ κs low. (⊑_static κs.1.0, low)
+
+pub len-count-requires : goal.len-count-requires
+len-count-requires g c = λ κs low. (of_leaf κs.1.0 g.row.A.lives low.0, low.1)

@@ -1,3 +1,4 @@
+use contract.BorrowLft.{⊑_static}
 use Rattle.std.proofs.Common.{◌≡◌, ◌+◌, ◌-◌, ◌<◌, ◌≤◌, ◌^◌, ◌++◌, length, take, drop, ap, ◌∙◌, arith}
 use Rattle.descriptor_table.specs.Tallies.{total}
 use Rattle.descriptor_table.proofs.Tallied.{kept_sums, total_of_cut, total_part, total_parted}
@@ -34,3 +35,15 @@ invariant_of-self g c =
       groups = rw c.as_slice.ensures.value at c.add_sums.ensures;
       sum = omega (arith, c.self.invariant.sum, rw c.deref.ensures.value at c.sum_of.ensures, ap total cut, total_parted ns from to c.requires.order);
     }
+
+pub as_slice-requires : goal.as_slice-requires
+as_slice-requires g c = λ κs low. (⊑_static κs.1.0, low)
+
+pub deref-requires : goal.deref-requires
+deref-requires g c = λ κs low. (⊑_static κs.1.0, low)
+
+pub len-requires : goal.len-requires
+len-requires g c = λ κs low. (⊑_static κs.1.0, low)
+
+pub truncate-requires : goal.truncate-requires
+truncate-requires g c = λ κs low. (⊑_static κs.1.0, low)

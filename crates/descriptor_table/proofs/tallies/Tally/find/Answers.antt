@@ -1,3 +1,4 @@
+use contract.BorrowLft.{⊑_static}
 use Rattle.std.proofs.Common.{◌≡◌, ◌*◌, take, ap, arith}
 use Rattle.descriptor_table.specs.Tallies.{total}
 use Rattle.descriptor_table.proofs.Tallied.{total_next}
@@ -24,3 +25,9 @@ loop-count-preserved g c =
     let one = next c.index-in-loop-count.result.now (omega arith) in
     let two = next c.index-in-loop-count-2.result.now (omega arith) in
     record { bound = omega arith; place = omega (arith, c.loop-count.invariant.place, c.index-in-loop-count.ensures, c.index-in-loop-count-2.ensures, one, two) }
+
+pub len-requires : goal.len-requires
+len-requires g c = λ κs low. (⊑_static κs.1.0, low)
+
+pub len-requires-in-loop-count : goal.len-requires-in-loop-count
+len-requires-in-loop-count g c = λ κs low. (⊑_static κs.1.0, low)

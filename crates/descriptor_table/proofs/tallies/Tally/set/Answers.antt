@@ -1,3 +1,4 @@
+use contract.BorrowLft.{⊑_static}
 use Rattle.std.proofs.Common.{◌+◌, ◌-◌, ◌<◌, ◌^◌, ◌/◌, length, ap, arith}
 use Rattle.std.proofs.Math.ListN.{set}
 use Rattle.descriptor_table.specs.Tallies.{total}
@@ -48,3 +49,6 @@ invariant_of-self-2 g c =
       groups = sum_changed ns c.self.inside.sums.items i (i / 64) c.args.number c.self.invariant.groups bound (omega arith) (omega arith) within c.index.result.now c.index-2.result.now (c.index-2.result.now - c.index.result.now + c.args.number) (omega arith) (omega (arith, c.index-2.ensures, c.index.ensures));
       sum = omega (arith, c.index.ensures, c.self.invariant.sum, total_set ns i c.args.number c.index.result.now bound, at_most_total ns i c.index.result.now bound);
     }
+
+pub len-requires : goal.len-requires
+len-requires g c = λ κs low. (⊑_static κs.1.0, low)
