@@ -15,13 +15,13 @@ use Rattle.page_ranges.proofs.Members.{all_append}
 use Rattle.descriptor_table.specs.declared.wanted.Wanted.{Wanted}
 use Rattle.descriptor_table.specs.Leaves.{IsPlace, first_page, leaf_at, run_before, runs_in, AreLeaves}
 use Rattle.descriptor_table.specs.declared.groups.Group.{Group}
-use Rattle.descriptor_table.specs.Summaries.{AreGroups, AreRunsOfNoUse, BeginsFree, IsFreeRun, IsLeafOfNoUse, may_hold}
+use Rattle.descriptor_table.specs.Summaries.{AreGroups, AreRunsOfNoUse, BeginsFree, FirstGainsLittle, IsFreeRun, IsLeafOfNoUse, may_hold}
 use Rattle.descriptor_table.specs.Tables.{entry_of}
 use Rattle.descriptor_table.specs.Wanting.{AreOfNoUse, IsFreeAt, IsOfNoUse, entries_of, is_of, most_gain, runs_to}
 use Rattle.descriptor_table.proofs.FreeBounds.{gain_most, grouped_leaf_of_no_use}
 use Rattle.descriptor_table.proofs.LaterEntries.{get_dropped}
 use Rattle.descriptor_table.proofs.LeafLists.{leaf_at as is_leaf, leaf_firsts_rise}
-use Rattle.descriptor_table.proofs.NoUse.{all_entries, entries-append, in_leaf, leaf_no_use, offset, offset_next, run_no_use, runs_next}
+use Rattle.descriptor_table.proofs.NoUse.{all_entries, entries-append, first_no_use, in_leaf, leaf_no_use, offset, offset_next, run_no_use, runs_next}
 
 -- ---- the last free run of some
 
@@ -216,6 +216,12 @@ module _ (w : Wanted) (ls : List (List Run)) (leaves : AreLeaves ls) (maximal : 
       free_at : (o : Option Run) → IsFreeRun o → (r : Run) × (o ≡ Some r) × (r.mtype ≡ conventional)
       free_at None e = absurd e
       free_at (Some r) e = (r, refl, e)
+
+  -- all are of no use where the first run of all is
+  pub first_passed : (all : List Descriptor) → HasPassed w ls all 0 1 → IsFreeRun (slice_get (leaf_at ls 0) 0) → FirstGainsLittle w (leaf_at ls 0) → AllByRecursion (IsOfNoUse (pages_of (runs_in ls)) w) all
+  first_passed all has free little =
+      let found = found_in all 0 0 has free in
+      subst (AllByRecursion (IsOfNoUse (pages_of (runs_in ls)) w)) (sym found.1.1) (first_no_use ls maximal proper found.0.bound w found.0.run found.0.at little, found.1.2)
 
   -- a leaf of no use
   pub one_of_no_use : (j : ℕ) (goes_on : Bool) → j < length ls → BeginsFree goes_on (leaf_at ls (j + 1)) → IsLeafOfNoUse w goes_on (leaf_at ls j) → AllByRecursion (IsOfNoUse (pages_of (runs_in ls)) w) (entries_of (leaf_at ls j))

@@ -9,7 +9,7 @@ use Rattle.page_ranges.specs.declared.ranges.Run.{Run}
 use Rattle.descriptor_table.specs.declared.summaries.Summary.{Summary}
 use Rattle.descriptor_table.specs.declared.wanted.Wanted.{Wanted}
 use Rattle.descriptor_table.specs.Leaves.{leaf_at, run_before}
-use Rattle.descriptor_table.specs.Summaries.{Allows, AllowsAll, AllowsLeaf, AllowsRun, EndsFree, IsFreeRun, IsLeafOfNoUse, RunGainsLittle, bit_of, joined, may_be, may_hold, most_gained, pair_of}
+use Rattle.descriptor_table.specs.Summaries.{Allows, AllowsAll, AllowsLeaf, AllowsRun, EndsFree, GoesOnFree, IsFreeRun, IsLeafOfNoUse, RunGainsLittle, bit_of, joined, may_be, may_hold, most_gained, pair_of}
 use Rattle.descriptor_table.specs.Wanting.{most_gain}
 
 -- ---- bits
@@ -178,15 +178,19 @@ not_held s w f = elim (cases_Bool (leb w.pages s.longest)) [
   | inr g ↦ inl (leb-false w.pages s.longest g)
 ]
 
+pub goes_on_free : (r : Run) (above : Option Run) → GoesOnFree r above → IsFreeRun above
+goes_on_free r None g = absurd g
+goes_on_free r (Some s) g = g.0
+
 gains_little : (s : Summary) (w : Wanted) (below : Option Run) (r : Run) (above : Option Run) → may_hold s w ≡ false → w.pages < 2 ^ 64 → AllowsRun s below r above → RunGainsLittle w below r above
 gains_little s w below r above f small a = elim (not_held s w f) [
   | inl l ↦ record {
     within = λ h. absurd (omega (arith, l, (a.within w.pages w.mtype small h).0));
-    beyond = λ g. absurd (omega (arith, l, (a.beyond g w.pages w.mtype small).0));
+    beyond = λ g. absurd (omega (arith, l, (a.beyond (goes_on_free r above g) w.pages w.mtype small).0));
   }
   | inr l ↦ record {
     within = λ h. omega (arith, l, (a.within w.pages w.mtype small h).1);
-    beyond = λ g. omega (arith, l, (a.beyond g w.pages w.mtype small).1);
+    beyond = λ g. omega (arith, l, (a.beyond (goes_on_free r above g) w.pages w.mtype small).1);
   }
 ]
 

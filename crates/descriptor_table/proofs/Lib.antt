@@ -1,5 +1,4 @@
 pub mod Lives
-pub mod FoundPlaces
 pub mod Order
 pub mod Joins
 pub mod CutRuns
@@ -33,3 +32,4 @@ pub mod Downward
 pub mod Grouped
 pub mod ChangedRuns
 pub mod RetypedRuns
+pub mod Edges

@@ -16,10 +16,10 @@ use Rattle.page_ranges.proofs.MaximalRuns.{maximal_are_runs}
 use Rattle.page_ranges.proofs.RunLists.{IsProperRun, proper_runs}
 use Rattle.descriptor_table.specs.declared.wanted.Wanted.{Wanted}
 use Rattle.descriptor_table.specs.Leaves.{first_page, leaf_at, run_before, runs_in, AreLeaves}
-use Rattle.descriptor_table.specs.Summaries.{BeginsFree, IsFreeRun, IsLeafOfNoUse, RunGainsLittle, may_be}
+use Rattle.descriptor_table.specs.Summaries.{BeginsFree, FirstGainsLittle, GoesOnFree, IsFreeRun, IsLeafOfNoUse, RunGainsLittle, may_be}
 use Rattle.descriptor_table.specs.Tables.{entry_of, IsBlockBelow}
 use Rattle.descriptor_table.specs.Wanting.{IsOfNoUse, entries_of, is_of, most_gain}
-use Rattle.descriptor_table.proofs.FreeBounds.{may_be_most}
+use Rattle.descriptor_table.proofs.FreeBounds.{goes_on_free, may_be_most}
 use Rattle.descriptor_table.proofs.FreeRuns.{above_touching, above_gap, above_last, below_touching, below_gap, below_first, free_run, other_run, is_free}
 use Rattle.descriptor_table.proofs.LeafLists.{begin_by_first, leaf_runs, runs_in-last, leaf_at as is_leaf}
 use Rattle.descriptor_table.proofs.LeafSizes.{run_of_leaf, total_sizes}
@@ -87,7 +87,7 @@ module _ (rs : List Run) (maximal : AreMaximalRuns rs) (proper : IsProperMemory 
   read : (g : ℕ) (r : Run) → slice_get rs g ≡ Some r → r ≡ get_or rs g r
   read g r at = sym (get_or_from_slice_get rs g r r at)
 
-  above_case : (g : ℕ) (r : Run) (t : ℕ) (o : Option Run) → slice_get rs g ≡ Some r → slice_get rs (g + 1) ≡ o → (is_of t (page_at m (r.range.first + r.range.pages)) ≤ may_be t o) × (IsConventional (page_at m (r.range.first + r.range.pages)) → IsFreeRun o)
+  above_case : (g : ℕ) (r : Run) (t : ℕ) (o : Option Run) → slice_get rs g ≡ Some r → slice_get rs (g + 1) ≡ o → (is_of t (page_at m (r.range.first + r.range.pages)) ≤ may_be t o) × (IsConventional (page_at m (r.range.first + r.range.pages)) → GoesOnFree r o)
   above_case g r t None at e =
       let h = slice_get_within rs g r at in
       let last : g + 1 ≡ length rs = elim (cases_lt (g + 1) (length rs)) [ inl l ↦ absurd (let some = sym e ∙ slice_get-get_or rs (g + 1) r l in cc) | inr n ↦ omega (arith, h, n) ] in
@@ -97,7 +97,7 @@ module _ (rs : List Run) (maximal : AreMaximalRuns rs) (proper : IsProperMemory 
     | inl touch ↦
         let b = above_touching rs maximal proper g r s (slice_get_within rs (g + 1) s e) (read g r at) (read (g + 1) s e) r at touch in
         let like = b.1 (r.range.first + r.range.pages) b.0 in
-        (like_is_of _ s t like, like_free _ s like)
+        (like_is_of _ s t like, λ c. (like_free _ s like c, touch))
     | inr gap ↦
         let none = above_gap rs maximal proper g r s (slice_get_within rs (g + 1) s e) (read g r at) (read (g + 1) s e) r at gap in
         (none_is_of _ t (may_be t (Some s)) none, λ c. absurd (none_free _ none c))
@@ -108,6 +108,10 @@ module _ (rs : List Run) (maximal : AreMaximalRuns rs) (proper : IsProperMemory 
     | inl touch ↦ below_of m r.range.first q t (below_touching rs maximal proper i q r (slice_get_within rs (i + 1) r at) (read i q e) (read (i + 1) r at) r at touch)
     | inr gap ↦ below_none m r.range.first t (may_be t (Some q)) (below_gap rs maximal proper i q r (slice_get_within rs (i + 1) r at) (read i q e) (read (i + 1) r at) r at gap)
   ]
+
+  -- no page lies below the first run
+  pub first_below : (r : Run) (t : ℕ) → slice_get rs 0 ≡ Some r → is_of t (page_below m r.range.first) ≤ 0
+  first_below r t at = below_none m r.range.first t 0 (below_first rs maximal proper 0 r refl at)
 
   pub below_is : (g : ℕ) (r : Run) (t : ℕ) → slice_get rs g ≡ Some r → is_of t (page_below m r.range.first) ≤ may_be t (run_before rs g)
   below_is zero r t at = below_none m r.range.first t 1 (below_first rs maximal proper 0 r refl at)
@@ -181,8 +185,8 @@ module _ (ls : List (List Run)) (leaves : AreLeaves ls) (maximal : AreMaximalRun
       inr (record {
         within = λ n. omega (arith, little.0.within n, gain_grows w.pages r.range.pages _ _ _ _ low high);
         beyond = λ c. elim (cases_lt (i + 1) (length l)) [
-          | inl u ↦ little.0.beyond (subst IsFreeRun (above_in i u) (above.1 c))
-          | inr u ↦ let last : i + 1 ≡ length l = omega (arith, k, u) in absurd (next_leaf_free i goes_on begins last (little.1 last) (above.1 c))
+          | inl u ↦ little.0.beyond (subst (GoesOnFree r) (above_in i u) (above.1 c))
+          | inr u ↦ let last : i + 1 ≡ length l = omega (arith, k, u) in absurd (next_leaf_free i goes_on begins last (little.1 last) (goes_on_free r _ (above.1 c)))
         ];
       })
 
@@ -191,3 +195,28 @@ module _ (ls : List (List Run)) (leaves : AreLeaves ls) (maximal : AreMaximalRun
     | inl limit ↦ inl (omega (arith, limit, get_all (λ s. first_page l ≤ s.range.first) l i r (begin_by_first l (leaf_runs ls j [] (maximal_are_runs rs maximal) h)) at))
     | inr f ↦ run_no_use w goes_on begins i r at (f i r (omega arith) (slice_get_within l i r at) at free)
   ])
+
+-- ---- the first run of a table
+
+first_parts : (w : Wanted) (l : List Run) (r : Run) → slice_get l 0 ≡ Some r → FirstGainsLittle w l
+    → (s : Run) × (slice_get l 1 ≡ Some s) × (¬ GoesOnFree r (Some s)) × (w.pages ≤ r.range.pages → most_gain w.pages r.range.pages 0 (may_be w.mtype (Some s)) < w.gain)
+first_parts w [] r at little = absurd little
+first_parts w (x ∷ []) r at little = absurd little
+first_parts w (x ∷ s ∷ l) r at little =
+    let same : x ≡ r = cc in
+    (s, refl, subst (λ q. ¬ GoesOnFree q (Some s)) same little.0, subst (λ (q : Run). w.pages ≤ q.range.pages → most_gain w.pages q.range.pages 0 (may_be w.mtype (Some s)) < w.gain) same little.1)
+
+pub first_no_use : (ls : List (List Run)) → AreMaximalRuns (runs_in ls) → IsProperMemory (pages_of (runs_in ls)) → 0 < length ls → (w : Wanted) (r : Run) → slice_get (leaf_at ls 0) 0 ≡ Some r → FirstGainsLittle w (leaf_at ls 0) → IsOfNoUse (pages_of (runs_in ls)) w (entry_of r)
+first_no_use ls maximal proper h w r at little =
+    let rs = runs_in ls in
+    let l = leaf_at ls 0 in
+    let t = w.mtype in
+    let parts = first_parts w l r at little in
+    let s = parts.0 in
+    let here : slice_get rs 0 ≡ Some r = in_leaf ls 0 0 h (slice_get_within l 0 r at) ∙ at in
+    let next : slice_get rs (0 + 1) ≡ Some s = in_leaf ls 0 1 h (slice_get_within l 1 s parts.1) ∙ parts.1 in
+    let above = above_case rs maximal proper 0 r t (Some s) here next in
+    inr (record {
+      within = λ n. omega (arith, parts.3 n, gain_grows w.pages r.range.pages (is_of t (page_below (pages_of rs) r.range.first)) (is_of t (page_at (pages_of rs) (r.range.first + r.range.pages))) 0 (may_be t (Some s)) (first_below rs maximal proper r t here) above.0);
+      beyond = λ c. absurd (parts.2 (above.1 c));
+    })

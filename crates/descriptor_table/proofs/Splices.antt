@@ -72,6 +72,9 @@ module _ (rs : List Run) (n : ℕ) (range : PageRange) (t : ℕ) (o : Owner) (ta
   pub old_runs : AreRuns old
   old_runs = maximal_are_runs old (maximal-left old behind_runs (maximal-right before_runs (old ++ behind_runs) maximal_parts))
 
+  pub old_maximal : AreMaximalRuns old
+  old_maximal = maximal-left old behind_runs (maximal-right before_runs (old ++ behind_runs) maximal_parts)
+
   pub old_ends : EndBy page_count old
   old_ends = all_append_left (λ r. r.range.first + r.range.pages ≤ page_count) old behind_runs (all_append_right (λ r. r.range.first + r.range.pages ≤ page_count) before_runs (old ++ behind_runs) ends_parts)
 

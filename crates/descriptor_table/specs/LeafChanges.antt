@@ -1,12 +1,13 @@
 -- What leaves hold once some of their runs gave way to others.
-use Rattle.std.specs.Prelude.{◌≡◌, ℕ, ◌+◌, ◌-◌, List, [], ◌∷◌, ◌++◌, length, map, set, take, drop}
+use Rattle.std.specs.Prelude.{◌≡◌, ℕ, ◌+◌, ◌-◌, ◌<◌, ◌≤◌, List, [], ◌∷◌, ◌++◌, length, map, set, take, drop}
 use Rattle.std.specs.List.{AllByRecursion, splice}
 use Rattle.page_ranges.specs.declared.ranges.Owner.{Owner}
 use Rattle.page_ranges.specs.declared.ranges.PageRange.{PageRange}
 use Rattle.page_ranges.specs.declared.ranges.Run.{Run}
 use Rattle.page_ranges.specs.Memory.{retyped, row}
-use Rattle.page_ranges.specs.Runs.{page_in, pages_of}
-use Rattle.descriptor_table.specs.Leaves.{leaf_at, runs_in, BeginIn, GrowsBy}
+use Rattle.page_ranges.specs.MemoryTypes.{page_count}
+use Rattle.page_ranges.specs.Runs.{page_in, pages_of, AreMaximalRuns}
+use Rattle.descriptor_table.specs.Leaves.{leaf_at, runs_in, entry_count, BeginIn, GrowsBy}
 use Rattle.descriptor_table.specs.Tables.{EndBy}
 
 -- ---- the runs of all leaves
@@ -125,13 +126,46 @@ AppendsRetyped range mtype owner runs old new =
 abbrev pub BeginBehind : List Run → List Run → Type 0
 BeginBehind others runs = AllByRecursion (λ r. EndBy r.range.first others) runs
 
--- new runs end by any page number by which the old ones and some others end
-abbrev pub EndsWith : List Run → List Run → List Run → Type 0
-EndsWith runs old new = (end : ℕ) → EndBy end runs → EndBy end old → EndBy end new
-
 -- the pages of a range have a type and an owner in the new runs, and the others are as in the old
 abbrev pub RetypesRuns : PageRange → ℕ → Owner → List Run → List Run → Type 0
 RetypesRuns range mtype owner old new = pages_of new ≡ retyped range mtype owner (pages_of old)
+
+-- a run that ends at another page, and one that begins at another
+abbrev pub ending_at : ℕ → Run → Run
+ending_at edge r =
+    record r { range = record { first = r.range.first; pages = edge - r.range.first } }
+
+abbrev pub beginning_at : ℕ → Run → Run
+beginning_at edge r =
+    record r { range = record { first = edge; pages = r.range.first + r.range.pages - edge } }
+
+-- two runs that meet at another page
+abbrev pub with_edge : ℕ → List Run → List Run
+with_edge edge (r ∷ s ∷ []) = ending_at edge r ∷ beginning_at edge s ∷ []
+with_edge edge rs = rs
+
+-- the run at an index of a leaf and the next one, which meet at another page
+abbrev pub leaf_edge : List (List Run) → ℕ → ℕ → ℕ → List Run
+leaf_edge ls index low edge = with_edge edge (take 2 (drop low (leaf_at ls index)))
+
+-- two runs, between whose ends a page lies
+abbrev pub IsEdgeOf : ℕ → List Run → Type 0
+IsEdgeOf edge (r ∷ s ∷ []) = (r.range.first < edge) × (edge < s.range.first + s.range.pages)
+    × (s.range.first + s.range.pages ≤ page_count)
+IsEdgeOf edge rs = ⊥
+
+-- The pages of a range get a type and an owner where two runs meet at another page. Both stay, and
+-- the map has as many entries as before.
+pub record MovesEdge (range : PageRange) (mtype : ℕ) (owner : Owner) (rs : List Run)
+    (edge : ℕ) : Type 0 where
+  pub between : IsEdgeOf edge rs
+  pub pages : RetypesRuns range mtype owner rs (with_edge edge rs)
+  pub order : AreMaximalRuns (with_edge edge rs)
+  pub entries : entry_count (with_edge edge rs) ≡ entry_count rs
+
+-- new runs end by any page number by which the old ones and some others end
+abbrev pub EndsWith : List Run → List Run → List Run → Type 0
+EndsWith runs old new = (end : ℕ) → EndBy end runs → EndBy end old → EndBy end new
 
 -- the same of the runs of leaves
 abbrev pub Retypes : PageRange → ℕ → Owner → List (List Run) → List (List Run) → Type 0

@@ -1,5 +1,5 @@
 -- What the free runs among some runs may be, in a few numbers.
-use Rattle.std.specs.Prelude.{◌≡◌, ℕ, ◌+◌, ◌*◌, ◌%◌, ◌⊎◌, ◌<◌, ◌≤◌, ◌^◌, Bool, true, false, ◌&&◌, ◌==◌, nat_le, max, List, length, Option, Some, None, if◌then◌else◌, slice_get, bit_or, [], map}
+use Rattle.std.specs.Prelude.{◌≡◌, ℕ, ◌+◌, ◌*◌, ◌%◌, ◌⊎◌, ◌<◌, ◌≤◌, ◌^◌, Bool, true, false, ◌&&◌, ◌==◌, nat_le, max, List, ◌∷◌, length, Option, Some, None, if◌then◌else◌, slice_get, bit_or, [], map}
 use Rattle.std.specs.Int.{bit_at}
 use Rattle.page_ranges.specs.declared.ranges.Run.{Run}
 use Rattle.page_ranges.specs.MemoryTypes.{conventional}
@@ -78,13 +78,25 @@ BeginsFree mark rs = IsFreeRun (slice_get rs 0) → mark ≡ true
 abbrev pub EndsFree : Bool → List Run → Type 0
 EndsFree mark rs = (i : ℕ) → i + 1 ≡ length rs → IsFreeRun (slice_get rs i) → mark ≡ true
 
+-- a free run goes on in the one above, which is free and begins where it ends
+abbrev pub GoesOnFree : Run → Option Run → Type 0
+GoesOnFree r None = ⊥
+GoesOnFree r (Some s) = (s.mtype ≡ conventional) × (r.range.first + r.range.pages ≡ s.range.first)
+
 -- In a free run between two others no placement gains enough; where the one above is not known a
 -- free run may go on there.
 pub record RunGainsLittle (w : Wanted) (below : Option Run) (r : Run)
     (above : Option Run) : Type 0 where
   pub within : w.pages ≤ r.range.pages
       → most_gain w.pages r.range.pages (may_be w.mtype below) (may_be w.mtype above) < w.gain
-  pub beyond : IsFreeRun above → 3 < w.gain
+  pub beyond : GoesOnFree r above → 3 < w.gain
+
+-- In the first run of a table, which no page lies below, no placement gains enough: it is not that of
+-- the table's only run.
+abbrev pub FirstGainsLittle : Wanted → List Run → Type 0
+FirstGainsLittle w (r ∷ s ∷ rs) = (¬ GoesOnFree r (Some s))
+    × (w.pages ≤ r.range.pages → most_gain w.pages r.range.pages 0 (may_be w.mtype (Some s)) < w.gain)
+FirstGainsLittle w rs = ⊥
 
 -- No placement gains enough in the free runs of a leaf between two indices. A free run may go on in
 -- the leaf above where a mark is set.

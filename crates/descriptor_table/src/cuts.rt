@@ -1,11 +1,11 @@
 //! Cutting and joining runs.
-ghost use Rattle.std.specs.Prelude.{◌≡◌, ◌+◌, ◌-◌, ◌<◌, ◌≤◌, ◌^◌, ◌++◌, ◌∷◌, [], List, length, false, vec_capacity, IsTrue, OnOk, OnErr};
+ghost use Rattle.std.specs.Prelude.{◌≡◌, ◌+◌, ◌-◌, ◌<◌, ◌≤◌, ◌^◌, ◌++◌, ◌∷◌, [], List, length, false, vec_capacity, IsTrue, IfSome, OnOk, OnErr};
 ghost use Rattle.page_ranges.specs.declared.ranges.Run.{Run};
-ghost use Rattle.page_ranges.specs.MemoryTypes.{page_count};
+ghost use Rattle.page_ranges.specs.MemoryTypes.{attributes_as, page_count};
 ghost use Rattle.page_ranges.specs.Memory.{row, retyped};
 ghost use Rattle.page_ranges.specs.Runs.{page_in, pages_of, should_be_one_run, AreRuns, AreMaximalRuns};
 ghost use Rattle.descriptor_table.specs.Leaves.{runs_in};
-ghost use Rattle.descriptor_table.specs.LeafChanges.{AppendsPart, AppendsRetyped, BeginBehind, EndsWith, RetypesRuns};
+ghost use Rattle.descriptor_table.specs.LeafChanges.{AppendsPart, AppendsRetyped, BeginBehind, EndsWith, MovesEdge, RetypesRuns};
 ghost use Rattle.descriptor_table.specs.Reserves.{cut_count};
 ghost use Rattle.descriptor_table.specs.Tables.{EndBy, AreMaximalUpTo, PutsBehind};
 
@@ -22,6 +22,57 @@ fn should_be_one(run: &Run, next: &Run) -> bool
         && run.mtype == next.mtype
         && run.attributes == next.attributes
         && run.owner == next.owner
+}
+
+/// Whether a run is like another one once the pages of that have a type and an owner.
+#[inline(always)]
+fn is_like_retyped(run: &Run, other: &Run, mtype: MemoryType, owner: Owner) -> bool
+    ensures mtype { IsTrue result → run.now.mtype ≡ mtype }
+    ensures attributes { IsTrue result
+        → run.now.attributes ≡ attributes_as mtype other.now.attributes }
+    ensures owner { IsTrue result → run.now.owner ≡ owner }
+{
+    run.mtype == mtype
+        && run.attributes == mtype.attributes_as(other.attributes)
+        && run.owner == owner
+}
+
+/// The page at which two runs meet once the pages of a range have a type and an owner: where one of the two
+/// has the range at the end that meets the other, which goes on in it.
+#[inline(always)]
+pub(crate) fn moved_edge(
+    runs: &[Run],
+    range: PageRange,
+    mtype: MemoryType,
+    owner: Owner,
+) -> Option<u64>
+    requires order { AreMaximalRuns runs.now }
+    requires ends { EndBy page_count runs.now }
+    requires some { 0 < range.pages }
+    requires within { range.first + range.pages ≤ page_count }
+    ensures { IfSome result (MovesEdge range mtype owner runs.now) }
+{
+    if runs.len() != 2 {
+        return None;
+    }
+    let (below, above) = (&runs[0], &runs[1]);
+    let edge = above.range.first;
+    if below.range.first + below.range.pages != edge {
+        return None;
+    }
+    if range.first == edge {
+        if range.pages < above.range.pages && is_like_retyped(below, above, mtype, owner) {
+            return Some(edge + range.pages);
+        }
+        return None;
+    }
+    if range.first + range.pages != edge {
+        return None;
+    }
+    if below.range.first < range.first && is_like_retyped(above, below, mtype, owner) {
+        return Some(range.first);
+    }
+    None
 }
 
 /// Makes the last of a row of runs longer by a run behind it where the two should be one, and returns

@@ -15,7 +15,7 @@ ghost use Rattle.descriptor_table.specs.Wanting.{AreOfNoUse, IsFreeAt, IsFreeEnt
 use crate::free_entries::{FreeEntry, block_above, block_below, block_of};
 use crate::groups::{GROUP_SIZE, Group, begins_free, group_at, leaf_begins_free};
 use crate::leaves::Leaf;
-use crate::summaries::last_of_use;
+use crate::summaries::{first_is_of_no_use, last_of_use};
 use crate::wanted::Wanted;
 use page_ranges::Run;
 use std::alloc::{Allocator, Global};
@@ -177,6 +177,9 @@ fn next_place<A: Allocator + Copy>(
         let marks = marks_of(leaves, leaf);
         let goes_on = next_begins_free(leaves, leaf);
         if let Some(index) = last_of_use(runs, marks, count, wanted, goes_on) {
+            if leaf == 0 && index == 0 && first_is_of_no_use(runs, wanted) {
+                return None;
+            }
             return Some((leaf, index));
         }
         leaf = leaf_of_use(leaves, groups, leaf, wanted)?;

@@ -1,11 +1,12 @@
 //! Runs in leaves.
 ghost use Rattle.std.specs.Prelude.{◌≡◌, ℕ, ◌+◌, ◌*◌, ◌-◌, ◌<◌, ◌≤◌, ◌++◌, length, map, take, drop, true, false, IfOk, slice_get};
 ghost use Rattle.descriptor_table.specs.Leaves.{first_page, runs_in, AreLeaves};
+ghost use Rattle.descriptor_table.specs.LeafChanges.{IsEdgeOf, with_edge};
 ghost use Rattle.descriptor_table.specs.LeafSummaries.{MarksFree};
 ghost use Rattle.descriptor_table.specs.Summaries.{Allows, AllowsAll, BeginsFree, EndsFree, IsFreeRun, IsLeafOfNoUse};
 
 use crate::free_marks::{marks_changed, marks_of};
-use crate::run_arrays::replace_runs;
+use crate::run_arrays::{move_edge, replace_runs};
 use crate::summaries::{Summary, begins_free, ends_free, summary_changed, summary_of};
 use crate::wanted::Wanted;
 use arrayvec::ArrayVec;
@@ -124,6 +125,25 @@ impl<A: Allocator + Copy> Leaf<A> {
         self.begins_free = begins_free(runs);
         self.ends_free = ends_free(runs);
         let changed = (low, low + parts.len());
+        (self.summary, self.changes) = summary_changed(
+            self.summary,
+            self.changes,
+            runs,
+            changed,
+            most_joins,
+        );
+    }
+
+    /// Has a run and the next one meet at another page, as `replace` would.
+    pub(crate) fn move_edge(&mut self, low: usize, edge: u64, most_joins: u8)
+        requires bound { low + 2 ≤ length self.old }
+        requires edge { IsEdgeOf edge (take 2 (drop low self.old)) }
+        ensures { self.new ≡ take low self.old
+            ++ (with_edge edge (take 2 (drop low self.old)) ++ drop (low + 2) self.old) }
+    {
+        move_edge(&mut self.runs, low, edge);
+        let runs = self.runs.as_slice();
+        let changed = (low, low + 2);
         (self.summary, self.changes) = summary_changed(
             self.summary,
             self.changes,

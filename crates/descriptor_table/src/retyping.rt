@@ -5,14 +5,14 @@ ghost use Rattle.page_ranges.specs.MemoryTypes.{conventional, page_count};
 ghost use Rattle.page_ranges.specs.Memory.{IsPresent, AllInRange, retyped};
 ghost use Rattle.page_ranges.specs.Runs.{pages_of, AreMaximalRuns, AreRuns};
 ghost use Rattle.descriptor_table.specs.Leaves.{leaf_at, runs_in, IsLeaf, AreLeaves, AreLeavesNear, BeginIn, GrowsBy, IsLeafTable};
-ghost use Rattle.descriptor_table.specs.LeafChanges.{AreOtherSizes, BeginInOthers, BeginInRest, GrowsAcross, GrowsIn, GrowsSome, Retypes, RetypesRuns, count_across, leaves_without, put_first, runs_between, runs_with_in, with_across, with_first, with_two};
+ghost use Rattle.descriptor_table.specs.LeafChanges.{AreOtherSizes, BeginInOthers, BeginInRest, GrowsAcross, GrowsIn, GrowsSome, IsEdgeOf, Retypes, RetypesRuns, count_across, leaf_edge, leaves_without, put_first, runs_between, runs_with_in, with_across, with_first, with_two};
 ghost use Rattle.descriptor_table.specs.Reserves.{AreSame, KeepsRoom};
 ghost use Rattle.descriptor_table.specs.Summaries.{KeepsLeaves};
 ghost use Rattle.descriptor_table.specs.Tables.{EndBy, IsWindow};
 ghost use Rattle.descriptor_table.specs.Tallies.{total};
 
 use crate::cursors::count_leaves_by_from;
-use crate::cuts::{push_behind, push_retyped};
+use crate::cuts::{moved_edge, push_behind, push_retyped};
 use crate::entries::count_entries;
 use crate::entry_starts::{count_begun, runs_before};
 use crate::leaf_searches::count_leaves_below;
@@ -188,6 +188,42 @@ fn put_in_leaf<A: Allocator + Copy>(
     sizes.set(index, count as u8);
 }
 
+/// Has a run of a leaf and the next one meet at another page; as many entries as before begin in the leaf.
+#[inline(always)]
+fn move_edge_in_leaf<A: Allocator + Copy>(
+    leaves: &mut Vec<Leaf<A>, A>,
+    begun: &Tally<A>,
+    sizes: &Tally<A>,
+    index: usize,
+    low: usize,
+    edge: u64,
+    joins: u8,
+)
+    requires leaves { AreLeaves leaves.old.items }
+    requires index { index < length leaves.old.items }
+    requires bound { low + 2 ≤ length (leaf_at leaves.old.items index) }
+    requires edge { IsEdgeOf edge (take 2 (drop low (leaf_at leaves.old.items index))) }
+    requires begun { BeginIn [] leaves.old.items begun.now.items }
+    requires sizes { sizes.now.items ≡ map length leaves.old.items }
+    requires grows { GrowsIn leaves.old.items index (low, low + 2)
+        (leaf_edge leaves.old.items index low edge) (0, 0) }
+    requires order { AreRuns (runs_with_in leaves.old.items index (low, low + 2)
+        (leaf_edge leaves.old.items index low edge)) }
+    ensures leaves { AreLeaves leaves.new.items }
+    ensures runs { runs_in leaves.new.items ≡ runs_with_in leaves.old.items index (low, low + 2)
+        (leaf_edge leaves.old.items index low edge) }
+    ensures begun { BeginIn [] leaves.new.items begun.now.items }
+    ensures sizes { sizes.now.items ≡ map length leaves.new.items }
+    ensures kept { KeepsLeaves leaves.old.items leaves.new.items index (index + 1) }
+    ensures room { vec_capacity leaves.new ≡ vec_capacity leaves.old }
+    ensures len { length leaves.new.items ≡ length leaves.old.items }
+{
+    // Only for their contracts.
+    let _entries = begun.sum();
+    let _runs = sizes.sum();
+    leaves[index].move_edge(low, edge, joins);
+}
+
 /// Gives the pages of a range a type and an owner within the leaf that has all runs near it, and
 /// returns how many entries the map then has; `None`, and nothing changes, where the leaf has no room
 /// for the runs that come. It takes no memory; what `parts` held is lost.
@@ -221,6 +257,11 @@ fn retype_in_leaf<A: Allocator + Copy>(
     let window = window_of(runs, range);
     let room = LEAF_SIZE + (window.1 - window.0) - runs.len();
     let gone = &runs[window.0..window.1];
+    if let Some(edge) = moved_edge(gone, range, mtype, owner) {
+        let joins = most_joins(leaves.len(), mtype);
+        move_edge_in_leaf(leaves, begun, sizes, index, window.0, edge, joins);
+        return Some(entries);
+    }
     let old_entries = count_entries(gone);
     parts.clear();
     let Ok(()) = push_retyped(parts, gone, range, mtype, owner) else {

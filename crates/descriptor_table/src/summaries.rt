@@ -5,7 +5,7 @@ ghost use Rattle.page_ranges.specs.declared.ranges.Run.{Run};
 ghost use Rattle.page_ranges.specs.MemoryTypes.{conventional};
 ghost use Rattle.descriptor_table.specs.Leaves.{run_before};
 ghost use Rattle.descriptor_table.specs.LeafSummaries.{AllowsNear, MarksFree};
-ghost use Rattle.descriptor_table.specs.Summaries.{Allows, AllowsAll, AllowsBetween, AllowsRun, AreRunsOfNoUse, BeginsFree, EndsFree, IsFreeRun, IsLastOfUse, RunGainsLittle, bit_of, joined, may_be, may_hold, pair_of};
+ghost use Rattle.descriptor_table.specs.Summaries.{Allows, AllowsAll, AllowsBetween, AllowsRun, AreRunsOfNoUse, BeginsFree, EndsFree, FirstGainsLittle, GoesOnFree, IsFreeRun, IsLastOfUse, RunGainsLittle, bit_of, joined, may_be, may_hold, pair_of};
 
 use crate::free_marks::last_mark;
 use crate::wanted::Wanted;
@@ -97,6 +97,20 @@ fn is_free(run: Option<&Run>) -> bool
     }
 }
 
+/// Whether a free run may go on in the one above: that is free and begins where it ends.
+#[inline(always)]
+fn goes_on_free(run: &Run, above: Option<&Run>) -> bool
+    ensures { result ≡ false → ¬ GoesOnFree run.now (option_map (λ r. r.now) above.entry) }
+{
+    match above {
+        Some(above) => {
+            above.mtype == MemoryType::conventional()
+                && run.range.first.wrapping_add(run.range.pages) == above.range.first
+        }
+        None => false,
+    }
+}
+
 impl Summary {
     /// The summary of no free run.
     pub(crate) fn none() -> Summary {
@@ -175,7 +189,7 @@ fn may_gain(wanted: &Wanted, below: Option<&Run>, run: &Run, above: Option<&Run>
     ensures { result ≡ false → RunGainsLittle wanted.now (option_map (λ r. r.now) below.entry)
         run.now (option_map (λ r. r.now) above.entry) }
 {
-    if is_free(above) {
+    if goes_on_free(run, above) {
         return true;
     }
     if run.range.pages < wanted.pages {
@@ -192,13 +206,13 @@ fn may_gain(wanted: &Wanted, below: Option<&Run>, run: &Run, above: Option<&Run>
 }
 
 /// Whether more than 1 is to be gained, which only a placement gains that fills the run, and the pages do not
-/// fill it. Where the run above is free too, a placement may go on there.
+/// fill it. Where the run goes on in a free one above, a placement may go on there.
 #[inline(always)]
 fn is_not_filled(wanted: &Wanted, run: &Run, above: Option<&Run>) -> bool
     ensures { result ≡ true → (below : Option Run)
         → RunGainsLittle wanted.now below run.now (option_map (λ r. r.now) above.entry) }
 {
-    wanted.gain > 1 && run.range.pages != wanted.pages && !is_free(above)
+    wanted.gain > 1 && run.range.pages != wanted.pages && !goes_on_free(run, above)
 }
 
 /// The run below the one at an index.
@@ -316,6 +330,27 @@ fn is_of_use(runs: &[Run], index: usize, wanted: &Wanted, goes_on: bool) -> bool
         return false;
     }
     may_gain(wanted, run_below(runs, index), run, above)
+}
+
+/// Whether the first run of a table is of no use, which no run lies below. The last run of a leaf may be.
+pub(crate) fn first_is_of_no_use(runs: &[Run], wanted: &Wanted) -> bool
+    requires { 0 < length runs.now }
+    ensures { result ≡ true → FirstGainsLittle wanted.now runs.now }
+{
+    let run = &runs[0];
+    let Some(above) = runs.get(1) else {
+        return false;
+    };
+    if goes_on_free(run, Some(above)) {
+        return false;
+    }
+    let high = may_be(wanted.mtype, Some(above));
+    let most = if run.range.pages == wanted.pages {
+        1 + high
+    } else {
+        high
+    };
+    run.range.pages < wanted.pages || most < wanted.gain
 }
 
 /// The last free run that may be of use among the first runs of a leaf, whose free runs are marked. `goes_on`

@@ -1,4 +1,3 @@
-use Rattle.descriptor_table.proofs.FoundPlaces.{below_length}
 use Rattle.std.proofs.Common.{◌≡◌, ◌+◌, ap, drop, refl, sym, ◌∙◌, Some, arith, length}
 use Rattle.std.specs.Prelude.{slice_get}
 use Rattle.std.specs.Option.{option_map}
@@ -81,7 +80,7 @@ pub runs_of-requires : goal.runs_of-requires
 runs_of-requires g c = λ κs low. low
 
 pub bounds-runs_of-index : goal.bounds-runs_of-index
-bounds-runs_of-index g c = omega (arith, ap length c.runs_of.ensures, below_length (leaf_at c.args.leaves.now c.args.leaf) c.args.index c.requires.free.run c.requires.free.at)
+bounds-runs_of-index g c = omega (arith, ap length c.runs_of.ensures, slice_get_within (leaf_at c.args.leaves.now c.args.leaf) c.args.index c.requires.free.run c.requires.free.at)
 
 pub offset_bounds-runs_of-index : goal.offset_bounds-runs_of-index
-offset_bounds-runs_of-index g c = omega (arith, ap length c.runs_of.ensures, below_length (leaf_at c.args.leaves.now c.args.leaf) c.args.index c.requires.free.run c.requires.free.at, c.runs_of.type_inv.1)
+offset_bounds-runs_of-index g c = omega (arith, ap length c.runs_of.ensures, slice_get_within (leaf_at c.args.leaves.now c.args.leaf) c.args.index c.requires.free.run c.requires.free.at, c.runs_of.type_inv.1)

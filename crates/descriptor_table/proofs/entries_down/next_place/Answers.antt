@@ -1,14 +1,33 @@
 use contract.BorrowLft.{⊑_static}
 use Rattle.std.proofs.Common.{◌≡◌, ◌-◌, ◌+◌, ◌<◌, [], length, subst, sym, ap, ◌∙◌, arith}
+use Rattle.std.specs.Prelude.{slice_get}
 use Rattle.std.proofs.lemmas.List.{get_or_default}
 use Rattle.descriptor_table.specs.Leaves.{leaf_at}
-use Rattle.descriptor_table.specs.Summaries.{IsLastOfUse}
+use Rattle.descriptor_table.specs.Summaries.{FirstGainsLittle, IsFreeRun, IsLastOfUse}
 use Rattle.descriptor_table.specs.Wanting.{entries_of, runs_to}
-use Rattle.descriptor_table.proofs.Downward.{HasPassed, all_passed, found_in, leaf_opened, leaves_passed, none_passed, runs_passed}
+use Rattle.descriptor_table.proofs.Downward.{HasPassed, all_passed, first_passed, found_in, leaf_opened, leaves_passed, none_passed, runs_passed}
 use Rattle.descriptor_table.proofs.entries_down.next_place.Goals as goal
 
 pub loop-index-init : goal.loop-index-init
 loop-index-init g c = record { leaf = c.requires.leaf; count = c.requires.count; passed = none_passed c.args.wanted.now c.args.leaves.now c.args.from.0 c.args.from.1 }
+
+pub returns-then-first_is_of_no_use : goal.returns-then-first_is_of_no_use
+returns-then-first_is_of_no_use g c =
+    let ls = c.args.leaves.now in
+    let w = c.args.wanted.now in
+    let all = entries_of (runs_to ls c.args.from.0 c.args.from.1) in
+    let leaf = c.loop-index.leaf in
+    let count = c.loop-index.count in
+    let goes_on = c.next_begins_free-goes_on.result in
+    let last = subst (λ l. IsLastOfUse w goes_on l count c.last_of_use.result) c.runs_of-runs.ensures c.last_of_use.ensures in
+    let found = rw c.in-Some.is at last in
+    let passed = runs_passed w ls c.requires.leaves c.requires.maximal c.requires.proper all leaf count (c.in-Some.index + 1) goes_on c.loop-index.invariant.passed c.next_begins_free-goes_on.ensures (omega (arith, found.0)) found.2 in
+    let j = c.if-leaf-eq0.true in
+    let i = c.if-index-eq0.true in
+    first_passed w ls c.requires.leaves c.requires.maximal c.requires.proper all
+    (subst (λ k. HasPassed w ls all 0 (k + 1)) i (subst (λ k. HasPassed w ls all k (c.in-Some.index + 1)) j passed))
+    (subst (λ k. IsFreeRun (slice_get (leaf_at ls 0) k)) i (subst (λ k. IsFreeRun (slice_get (leaf_at ls k) c.in-Some.index)) j found.1))
+    (subst (λ k. FirstGainsLittle w (leaf_at ls k)) j (subst (FirstGainsLittle w) c.runs_of-runs.ensures (c.first_is_of_no_use.ensures c.if-first_is_of_no_use.true)))
 
 pub returns-in-Some : goal.returns-in-Some
 returns-in-Some g c =

@@ -1,5 +1,5 @@
-use Rattle.descriptor_table.proofs.FoundPlaces.{below_length}
 use contract.BorrowLft.{⊑_static}
+use Rattle.std.proofs.lemmas.Option.{slice_get_within}
 use Rattle.std.proofs.Common.{◌/◌, sym, arith}
 use Rattle.descriptor_table.proofs.Grouped.{no_group_changed, one_group_changed, none_past}
 use Rattle.descriptor_table.proofs.groups.change_group.Goals as goal
@@ -20,7 +20,7 @@ as_slice-requires g c = λ κs low. (⊑_static κs.1.0, low)
 pub index_mut-requires : goal.index_mut-requires
 index_mut-requires g c =
     let found = rw (c.in-Some.is, c.as_slice.ensures.value) at c.group_at.ensures in
-    omega (arith, c.args.groups.now.ok.0, below_length c.args.groups.now.items (c.args.leaf / 8) c.in-Some.group.now (sym found))
+    omega (arith, c.args.groups.now.ok.0, slice_get_within c.args.groups.now.items (c.args.leaf / 8) c.in-Some.group.now (sym found))
 
 pub changed-requires-clause-leaf : goal.changed-requires-clause-leaf
 changed-requires-clause-leaf g c = c.requires

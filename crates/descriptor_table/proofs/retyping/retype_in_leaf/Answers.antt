@@ -1,11 +1,13 @@
-use Rattle.std.proofs.Common.{◌∙◌, [], ◌+◌, ◌-◌, take, drop, sym, subst, arith}
-use Rattle.std.proofs.lemmas.List.{get_or_default}
+use Rattle.std.proofs.Common.{◌≡◌, ◌∙◌, [], ◌+◌, ◌-◌, take, drop, length-drop, sym, subst, arith}
+use Rattle.std.proofs.lemmas.List.{get_or_default, length-take-le}
 use Rattle.page_ranges.specs.MemoryTypes.{page_count}
 use Rattle.page_ranges.specs.Runs.{AreRuns}
 use Rattle.descriptor_table.specs.Tables.{EndBy}
 use Rattle.descriptor_table.specs.Leaves.{leaf_at, runs_in}
+use Rattle.descriptor_table.specs.LeafChanges.{GrowsIn, IsEdgeOf, runs_with_in, with_edge}
+use Rattle.descriptor_table.proofs.Edges.{two_there}
 use Rattle.descriptor_table.proofs.LeafSplices.{one_leaf, middle_runs, all_before, all_behind, cut_in_leaves, put_regroup, put_is, put_grows}
-use Rattle.descriptor_table.proofs.Splices.{new_pages, new_count, new_table, new_runs, new_ends, window_grows, old_runs, old_ends, parts_ends, present_within}
+use Rattle.descriptor_table.proofs.Splices.{new_pages, new_count, new_table, new_runs, new_ends, window_grows, old_runs, old_maximal, old_ends, parts_ends, present_within}
 use Rattle.descriptor_table.proofs.TableFacts.{table_runs, table_ends, few_entries}
 use Rattle.page_ranges.proofs.MaximalRuns.{maximal_are_runs}
 use Rattle.descriptor_table.proofs.retyping.retype_in_leaf.Goals as goal
@@ -355,3 +357,232 @@ put_in_leaf-requires-clause-ends g c =
     let old_count = rw is at c.count_entries-old_entries.ensures.count in
     let parts_count = rw c.as_slice.ensures.value at c.count_entries-new_entries.ensures.count in
     rw c.as_slice-2.ensures.value (subst (EndBy page_count) (sym (put_is ls from to range near rs same low high parts)) (new_ends (runs_in ls) n range t o table before old behind cut c.requires.some c.requires.present parts order pages c.requires.owner))
+
+pub moved_edge-requires-clause-within : goal.moved_edge-requires-clause-within
+moved_edge-requires-clause-within g c = present_within _ c.args.range c.requires.table.table.proper c.requires.some c.requires.present
+
+pub moved_edge-requires-clause-order : goal.moved_edge-requires-clause-order
+moved_edge-requires-clause-order g c =
+    let ls = c.args.leaves.now.items in
+    let n = c.args.entries in
+    let range = c.args.range in
+    let t = c.args.mtype in
+    let o = c.args.owner in
+    let table = c.requires.table.table in
+    let near = c.requires.near in
+    let from = c.args.index in
+    let to = c.args.index + 1 in
+    let rs = leaf_at ls from in
+    let same = sym (one_leaf ls from (to - from) [] (omega (arith, near.bound)) (omega arith)) in
+    let is = c.runs-runs.ensures ∙ c.index.ensures ∙ get_or_default ls from c.index.result.now [] (omega (arith, near.bound)) in
+    let w = rw is at c.window_of-window.ensures in
+    let low = c.window_of-window.result.0 in
+    let high = c.window_of-window.result.1 in
+    let before = all_before ls from to range near rs same low in
+    let old = take (high - low) (drop low rs) in
+    let behind = all_behind ls from to range near rs same high in
+    let cut = cut_in_leaves ls from to range near rs same low high w in
+    rw is (old_maximal (runs_in ls) n range t o table before old behind cut)
+
+pub moved_edge-requires-clause-ends : goal.moved_edge-requires-clause-ends
+moved_edge-requires-clause-ends g c =
+    let ls = c.args.leaves.now.items in
+    let n = c.args.entries in
+    let range = c.args.range in
+    let t = c.args.mtype in
+    let o = c.args.owner in
+    let table = c.requires.table.table in
+    let near = c.requires.near in
+    let from = c.args.index in
+    let to = c.args.index + 1 in
+    let rs = leaf_at ls from in
+    let same = sym (one_leaf ls from (to - from) [] (omega (arith, near.bound)) (omega arith)) in
+    let is = c.runs-runs.ensures ∙ c.index.ensures ∙ get_or_default ls from c.index.result.now [] (omega (arith, near.bound)) in
+    let w = rw is at c.window_of-window.ensures in
+    let low = c.window_of-window.result.0 in
+    let high = c.window_of-window.result.1 in
+    let before = all_before ls from to range near rs same low in
+    let old = take (high - low) (drop low rs) in
+    let behind = all_behind ls from to range near rs same high in
+    let cut = cut_in_leaves ls from to range near rs same low high w in
+    rw is (old_ends (runs_in ls) n range t o table before old behind cut)
+
+pub move_edge_in_leaf-requires-clause-bound : goal.move_edge_in_leaf-requires-clause-bound
+move_edge_in_leaf-requires-clause-bound g c =
+    let ls = c.args.leaves.now.items in
+    let n = c.args.entries in
+    let range = c.args.range in
+    let t = c.args.mtype in
+    let o = c.args.owner in
+    let table = c.requires.table.table in
+    let near = c.requires.near in
+    let from = c.args.index in
+    let to = c.args.index + 1 in
+    let rs = leaf_at ls from in
+    let same = sym (one_leaf ls from (to - from) [] (omega (arith, near.bound)) (omega arith)) in
+    let is = c.runs-runs.ensures ∙ c.index.ensures ∙ get_or_default ls from c.index.result.now [] (omega (arith, near.bound)) in
+    let w = rw is at c.window_of-window.ensures in
+    let low = c.window_of-window.result.0 in
+    let high = c.window_of-window.result.1 in
+    let before = all_before ls from to range near rs same low in
+    let old = take (high - low) (drop low rs) in
+    let behind = all_behind ls from to range near rs same high in
+    let cut = cut_in_leaves ls from to range near rs same low high w in
+    let moved = rw is at c.in-Some.ensures in
+    let edge = c.in-Some.edge in
+    let parts = with_edge edge old in
+    let two : high ≡ low + 2 = omega (arith, w.order, two_there edge old moved.between, length-take-le (high - low) (drop low rs) (omega (arith, length-drop low rs, w.bound))) in
+    omega (arith, two, w.bound)
+
+pub move_edge_in_leaf-requires-clause-edge : goal.move_edge_in_leaf-requires-clause-edge
+move_edge_in_leaf-requires-clause-edge g c =
+    let ls = c.args.leaves.now.items in
+    let n = c.args.entries in
+    let range = c.args.range in
+    let t = c.args.mtype in
+    let o = c.args.owner in
+    let table = c.requires.table.table in
+    let near = c.requires.near in
+    let from = c.args.index in
+    let to = c.args.index + 1 in
+    let rs = leaf_at ls from in
+    let same = sym (one_leaf ls from (to - from) [] (omega (arith, near.bound)) (omega arith)) in
+    let is = c.runs-runs.ensures ∙ c.index.ensures ∙ get_or_default ls from c.index.result.now [] (omega (arith, near.bound)) in
+    let w = rw is at c.window_of-window.ensures in
+    let low = c.window_of-window.result.0 in
+    let high = c.window_of-window.result.1 in
+    let before = all_before ls from to range near rs same low in
+    let old = take (high - low) (drop low rs) in
+    let behind = all_behind ls from to range near rs same high in
+    let cut = cut_in_leaves ls from to range near rs same low high w in
+    let moved = rw is at c.in-Some.ensures in
+    let edge = c.in-Some.edge in
+    let parts = with_edge edge old in
+    let two : high ≡ low + 2 = omega (arith, w.order, two_there edge old moved.between, length-take-le (high - low) (drop low rs) (omega (arith, length-drop low rs, w.bound))) in
+    let some : high - low ≡ 2 = omega arith in
+    subst (λ k. IsEdgeOf edge (take k (drop low rs))) some moved.between
+
+pub move_edge_in_leaf-requires-clause-grows : goal.move_edge_in_leaf-requires-clause-grows
+move_edge_in_leaf-requires-clause-grows g c =
+    let ls = c.args.leaves.now.items in
+    let n = c.args.entries in
+    let range = c.args.range in
+    let t = c.args.mtype in
+    let o = c.args.owner in
+    let table = c.requires.table.table in
+    let near = c.requires.near in
+    let from = c.args.index in
+    let to = c.args.index + 1 in
+    let rs = leaf_at ls from in
+    let same = sym (one_leaf ls from (to - from) [] (omega (arith, near.bound)) (omega arith)) in
+    let is = c.runs-runs.ensures ∙ c.index.ensures ∙ get_or_default ls from c.index.result.now [] (omega (arith, near.bound)) in
+    let w = rw is at c.window_of-window.ensures in
+    let low = c.window_of-window.result.0 in
+    let high = c.window_of-window.result.1 in
+    let before = all_before ls from to range near rs same low in
+    let old = take (high - low) (drop low rs) in
+    let behind = all_behind ls from to range near rs same high in
+    let cut = cut_in_leaves ls from to range near rs same low high w in
+    let moved = rw is at c.in-Some.ensures in
+    let edge = c.in-Some.edge in
+    let parts = with_edge edge old in
+    let two : high ≡ low + 2 = omega (arith, w.order, two_there edge old moved.between, length-take-le (high - low) (drop low rs) (omega (arith, length-drop low rs, w.bound))) in
+    let some : high - low ≡ 2 = omega arith in
+    let grows = window_grows (runs_in ls) n range t o table before old behind cut c.requires.some c.requires.present parts moved.order moved.pages in
+    let put = put_grows ls from to range near rs same low high parts 0 0 w.order (λ m k e. omega (arith, moved.entries, grows m k e)) in
+    subst (λ h. GrowsIn ls from (low, h) (with_edge edge (take 2 (drop low rs))) (0, 0)) two (subst (λ k. GrowsIn ls from (low, high) (with_edge edge (take k (drop low rs))) (0, 0)) some put)
+
+pub move_edge_in_leaf-requires-clause-order : goal.move_edge_in_leaf-requires-clause-order
+move_edge_in_leaf-requires-clause-order g c =
+    let ls = c.args.leaves.now.items in
+    let n = c.args.entries in
+    let range = c.args.range in
+    let t = c.args.mtype in
+    let o = c.args.owner in
+    let table = c.requires.table.table in
+    let near = c.requires.near in
+    let from = c.args.index in
+    let to = c.args.index + 1 in
+    let rs = leaf_at ls from in
+    let same = sym (one_leaf ls from (to - from) [] (omega (arith, near.bound)) (omega arith)) in
+    let is = c.runs-runs.ensures ∙ c.index.ensures ∙ get_or_default ls from c.index.result.now [] (omega (arith, near.bound)) in
+    let w = rw is at c.window_of-window.ensures in
+    let low = c.window_of-window.result.0 in
+    let high = c.window_of-window.result.1 in
+    let before = all_before ls from to range near rs same low in
+    let old = take (high - low) (drop low rs) in
+    let behind = all_behind ls from to range near rs same high in
+    let cut = cut_in_leaves ls from to range near rs same low high w in
+    let moved = rw is at c.in-Some.ensures in
+    let edge = c.in-Some.edge in
+    let parts = with_edge edge old in
+    let two : high ≡ low + 2 = omega (arith, w.order, two_there edge old moved.between, length-take-le (high - low) (drop low rs) (omega (arith, length-drop low rs, w.bound))) in
+    let some : high - low ≡ 2 = omega arith in
+    let runs = subst AreRuns (sym (put_is ls from to range near rs same low high parts)) (new_runs (runs_in ls) n range t o table before old behind cut c.requires.some c.requires.present parts moved.order moved.pages) in
+    subst (λ h. AreRuns (runs_with_in ls from (low, h) (with_edge edge (take 2 (drop low rs))))) two (subst (λ k. AreRuns (runs_with_in ls from (low, high) (with_edge edge (take k (drop low rs))))) some runs)
+
+pub returns-in-Some-clause-table : goal.returns-in-Some-clause-table
+returns-in-Some-clause-table g c =
+    let ls = c.args.leaves.now.items in
+    let n = c.args.entries in
+    let range = c.args.range in
+    let t = c.args.mtype in
+    let o = c.args.owner in
+    let table = c.requires.table.table in
+    let near = c.requires.near in
+    let from = c.args.index in
+    let to = c.args.index + 1 in
+    let rs = leaf_at ls from in
+    let same = sym (one_leaf ls from (to - from) [] (omega (arith, near.bound)) (omega arith)) in
+    let is = c.runs-runs.ensures ∙ c.index.ensures ∙ get_or_default ls from c.index.result.now [] (omega (arith, near.bound)) in
+    let w = rw is at c.window_of-window.ensures in
+    let low = c.window_of-window.result.0 in
+    let high = c.window_of-window.result.1 in
+    let before = all_before ls from to range near rs same low in
+    let old = take (high - low) (drop low rs) in
+    let behind = all_behind ls from to range near rs same high in
+    let cut = cut_in_leaves ls from to range near rs same low high w in
+    let moved = rw is at c.in-Some.ensures in
+    let edge = c.in-Some.edge in
+    let parts = with_edge edge old in
+    let two : high ≡ low + 2 = omega (arith, w.order, two_there edge old moved.between, length-take-le (high - low) (drop low rs) (omega (arith, length-drop low rs, w.bound))) in
+    let some : 2 ≡ high - low = omega arith in
+    let new = c.move_edge_in_leaf.new.leaves.items in
+    let put = subst (λ k. runs_in new ≡ runs_with_in ls from (low, high) (with_edge edge (take k (drop low rs)))) some (subst (λ h. runs_in new ≡ runs_with_in ls from (low, h) (with_edge edge (take 2 (drop low rs)))) (sym two) c.move_edge_in_leaf.ensures.runs) in
+    let all = put_regroup ls from to range near rs same low high parts new put in
+    record {
+      table = rw all (new_table (runs_in ls) n range t o table before old behind cut c.requires.some c.requires.present parts moved.order moved.pages c.requires.owner n (omega (arith, moved.entries)));
+      leaves = c.move_edge_in_leaf.ensures.leaves;
+      begun = c.move_edge_in_leaf.ensures.begun;
+      sizes = c.move_edge_in_leaf.ensures.sizes;
+    }
+
+pub returns-in-Some-clause-pages : goal.returns-in-Some-clause-pages
+returns-in-Some-clause-pages g c =
+    let ls = c.args.leaves.now.items in
+    let n = c.args.entries in
+    let range = c.args.range in
+    let t = c.args.mtype in
+    let o = c.args.owner in
+    let table = c.requires.table.table in
+    let near = c.requires.near in
+    let from = c.args.index in
+    let to = c.args.index + 1 in
+    let rs = leaf_at ls from in
+    let same = sym (one_leaf ls from (to - from) [] (omega (arith, near.bound)) (omega arith)) in
+    let is = c.runs-runs.ensures ∙ c.index.ensures ∙ get_or_default ls from c.index.result.now [] (omega (arith, near.bound)) in
+    let w = rw is at c.window_of-window.ensures in
+    let low = c.window_of-window.result.0 in
+    let high = c.window_of-window.result.1 in
+    let before = all_before ls from to range near rs same low in
+    let old = take (high - low) (drop low rs) in
+    let behind = all_behind ls from to range near rs same high in
+    let cut = cut_in_leaves ls from to range near rs same low high w in
+    let moved = rw is at c.in-Some.ensures in
+    let edge = c.in-Some.edge in
+    let parts = with_edge edge old in
+    let two : high ≡ low + 2 = omega (arith, w.order, two_there edge old moved.between, length-take-le (high - low) (drop low rs) (omega (arith, length-drop low rs, w.bound))) in
+    let some : 2 ≡ high - low = omega arith in
+    let new = c.move_edge_in_leaf.new.leaves.items in
+    let put = subst (λ k. runs_in new ≡ runs_with_in ls from (low, high) (with_edge edge (take k (drop low rs)))) some (subst (λ h. runs_in new ≡ runs_with_in ls from (low, h) (with_edge edge (take 2 (drop low rs)))) (sym two) c.move_edge_in_leaf.ensures.runs) in
+    rw (put_regroup ls from to range near rs same low high parts new put) (new_pages (runs_in ls) n range t o table before old behind cut c.requires.some c.requires.present parts moved.order moved.pages)
