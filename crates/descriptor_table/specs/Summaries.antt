@@ -95,7 +95,8 @@ pub record RunGainsLittle (w : Wanted) (below : Option Run) (r : Run)
 -- the table's only run.
 abbrev pub FirstGainsLittle : Wanted → List Run → Type 0
 FirstGainsLittle w (r ∷ s ∷ rs) = (¬ GoesOnFree r (Some s))
-    × (w.pages ≤ r.range.pages → most_gain w.pages r.range.pages 0 (may_be w.mtype (Some s)) < w.gain)
+    × (w.pages ≤ r.range.pages
+    → most_gain w.pages r.range.pages 0 (may_be w.mtype (Some s)) < w.gain)
 FirstGainsLittle w rs = ⊥
 
 -- No placement gains enough in the free runs of a leaf between two indices. A free run may go on in
