@@ -91,8 +91,8 @@ pub record RunGainsLittle (w : Wanted) (below : Option Run) (r : Run)
       → most_gain w.pages r.range.pages (may_be w.mtype below) (may_be w.mtype above) < w.gain
   pub beyond : GoesOnFree r above → 3 < w.gain
 
--- In the first run of a table, which no page lies below, no placement gains enough: it is not that of
--- the table's only run.
+-- In the first run of a table, which no page lies below, no placement gains enough. The run above it
+-- is in the same leaf.
 abbrev pub FirstGainsLittle : Wanted → List Run → Type 0
 FirstGainsLittle w (r ∷ s ∷ rs) = (¬ GoesOnFree r (Some s))
     × (w.pages ≤ r.range.pages

@@ -24,7 +24,7 @@ fn should_be_one(run: &Run, next: &Run) -> bool
         && run.owner == next.owner
 }
 
-/// Whether a run is like another one once the pages of that have a type and an owner.
+/// Whether a run has the type, the attributes and the owner of another run's pages once these are retyped.
 #[inline(always)]
 fn is_like_retyped(run: &Run, other: &Run, mtype: MemoryType, owner: Owner) -> bool
     ensures mtype { IsTrue result → run.now.mtype ≡ mtype }
@@ -37,8 +37,8 @@ fn is_like_retyped(run: &Run, other: &Run, mtype: MemoryType, owner: Owner) -> b
         && run.owner == owner
 }
 
-/// The page at which two runs meet once the pages of a range have a type and an owner: where one of the two
-/// has the range at the end that meets the other, which goes on in it.
+/// The page at which two runs meet once the pages of a range, at the end of one of them, become part of the
+/// other. `None` where the range lies elsewhere or is all of a run, or where the other run is not like it.
 #[inline(always)]
 pub(crate) fn moved_edge(
     runs: &[Run],

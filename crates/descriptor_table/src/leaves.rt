@@ -134,7 +134,7 @@ impl<A: Allocator + Copy> Leaf<A> {
         );
     }
 
-    /// Has a run and the next one meet at another page, as `replace` would.
+    /// Moves the page at which a run and the next one meet. The summary is kept as `replace` keeps it.
     pub(crate) fn move_edge(&mut self, low: usize, edge: u64, most_joins: u8)
         requires bound { low + 2 ≤ length self.old }
         requires edge { IsEdgeOf edge (take 2 (drop low self.old)) }

@@ -188,7 +188,8 @@ fn put_in_leaf<A: Allocator + Copy>(
     sizes.set(index, count as u8);
 }
 
-/// Has a run of a leaf and the next one meet at another page; as many entries as before begin in the leaf.
+/// Moves the page at which a run of a leaf and the next one meet. The leaf has as many runs as before, and as
+/// many entries begin in it.
 #[inline(always)]
 fn move_edge_in_leaf<A: Allocator + Copy>(
     leaves: &mut Vec<Leaf<A>, A>,

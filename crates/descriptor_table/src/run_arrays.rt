@@ -6,7 +6,7 @@ ghost use Rattle.descriptor_table.specs.LeafChanges.{IsEdgeOf, with_edge};
 use arrayvec::ArrayVec;
 use page_ranges::{PageRange, Run};
 
-/// Has two runs meet at another page.
+/// Moves the page at which two runs meet.
 fn put_edge(runs: &mut [Run], edge: u64)
     requires { IsEdgeOf edge runs.old }
     ensures { runs.new ≡ with_edge edge runs.old }
@@ -19,7 +19,7 @@ fn put_edge(runs: &mut [Run], edge: u64)
     };
 }
 
-/// Has a run and the next one meet at another page.
+/// Moves the page at which the run at an index and the next one meet.
 pub(crate) fn move_edge<const N: usize>(runs: &mut ArrayVec<Run, N>, low: usize, edge: u64)
     requires bound { low + 2 ≤ array_vec_len runs.old }
     requires edge { IsEdgeOf edge (take 2 (drop low runs.old.items)) }

@@ -332,7 +332,8 @@ fn is_of_use(runs: &[Run], index: usize, wanted: &Wanted, goes_on: bool) -> bool
     may_gain(wanted, run_below(runs, index), run, above)
 }
 
-/// Whether the first run of a table is of no use, which no run lies below. The last run of a leaf may be.
+/// Whether the first run of a table is of no use. No run lies below it. What lies above it is in the leaf, else
+/// the answer is `false`.
 pub(crate) fn first_is_of_no_use(runs: &[Run], wanted: &Wanted) -> bool
     requires { 0 < length runs.now }
     ensures { result ≡ true → FirstGainsLittle wanted.now runs.now }
