@@ -72,7 +72,8 @@
  * docs/C.md says what these must do, how to link, and how a firmware builds the library. On x86-64
  * it runs on every processor and may be interrupted anywhere, as it uses no byte below the stack
  * pointer. ReinstallProtocolInterface and ConnectController take up to 8 KB of stack, services that
- * change pages and RafkudinFree 10 KB, RafkudinMake 20 KB; docs/C.md says what others take. */
+ * change pages 10 KB, RafkudinFree 12 KB, RafkudinMake 20 KB, RafkudinPlace 26 KB; docs/C.md says
+ * what others take. */
 #ifndef RAFKUDIN_H
 #define RAFKUDIN_H
 
@@ -350,7 +351,7 @@ RAFKUDIN_API rafkudin_uint64 RafkudinCertificate(const struct rafkudin *core, ui
  * is written. NOT_FOUND: no service was called yet, or the last call left no reply. None is left by
  * GetMemoryMap and PoolRead, whose replies are in the caller's buffers, by
  * UninstallMultipleProtocolInterfaces and RafkudinLocatePath, which are in no trace, by
- * RafkudinInstallPath of bytes that begin with no path, and by a call that is ABORTED.
+ * RafkudinInstallPath of bytes that begin with no path, and by a call that returns ABORTED.
  * OUT_OF_RESOURCES: memory was refused.
  *
  * After RafkudinInstallPath, which makes several calls, the reply is that of the one that decides
@@ -492,7 +493,8 @@ RAFKUDIN_API rafkudin_uint64 RafkudinAllocatePages(struct rafkudin *core, uint32
  * INVALID_PARAMETER: `Memory` is no multiple of 4,096, `Pages` is 0, or the range goes past the
  * last page. NOT_FOUND: a page of the range, as it is named, was not placed by AllocatePages.
  * OUT_OF_RESOURCES: memory was refused, and none is reserved. Each AllocatePages reserves memory
- * for one free: enough where all allocations are freed whole. Parts take the memory of one each. */
+ * for one FreePages: enough where all allocations are freed whole. A FreePages of a part uses up as
+ * much of it as one of a whole allocation. */
 RAFKUDIN_API rafkudin_uint64 RafkudinFreePages(struct rafkudin *core, rafkudin_uint64 Memory,
                                                rafkudin_uint64 Pages);
 
@@ -584,7 +586,7 @@ RAFKUDIN_API rafkudin_uint64 RafkudinReinstallProtocolInterface(
     rafkudin_uint64 OldInterface, rafkudin_uint64 NewInterface);
 
 /* Registers an event for all later installations of a GUID, and puts the registration's key, from 1
- * up, into *Registration. There are no refusals of its own. */
+ * up, into *Registration. It has no refusals of its own. */
 RAFKUDIN_API rafkudin_uint64 RafkudinRegisterProtocolNotify(struct rafkudin *core,
                                                             const struct rafkudin_guid *Protocol,
                                                             rafkudin_uint64 Event,
@@ -791,8 +793,9 @@ RAFKUDIN_API void RafkudinConnectRecord(struct rafkudin_turns *turns,
                                         bool was_started);
 
 /* Nor can a service stop such a driver: an OpenProtocol with RAFKUDIN_EXCLUSIVE, an uninstall or a
- * reinstall of an interface that one has open by driver is ACCESS_DENIED, and DisconnectController
- * is DEVICE_ERROR. So the caller stops these drivers before it calls the service:
+ * reinstall of an interface that one has open by driver returns ACCESS_DENIED, and
+ * DisconnectController returns DEVICE_ERROR. So the caller stops these drivers before it calls the
+ * service:
  *
  *     struct rafkudin_stop stops[..];
  *     rafkudin_uint64 children[..];
@@ -868,9 +871,9 @@ RAFKUDIN_API rafkudin_uint64 RafkudinLocatePath(struct rafkudin *core,
  * address as the device path of *Handle, or of a new handle where *Handle is 0; the new handle is
  * then put into *Handle. *address is the block's address, which is the value of the interface:
  * whoever uninstalls the interface frees the block. The caller's bytes are read during the call
- * alone. Where InstallMultipleProtocolInterfaces is refused, FreePool gives the block back; only
- * where the heap refuses FreePool memory, the block stays. Each of the three or four services
- * counts as a call; the events are those of the installation, the certificate is that of the block.
+ * alone. Where InstallMultipleProtocolInterfaces is refused, FreePool gives the block back. Each of
+ * the three or four services counts as a call; the events are those of the installation, the
+ * certificate is that of the block.
  *
  * INVALID_PARAMETER: the bytes begin with no device path, or it goes on behind them; then no
  * service is called. ABORTED: fewer than four services can still be called; then none is called.
