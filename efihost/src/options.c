@@ -51,7 +51,7 @@ static const char usage[] =
 #define UNSET UINT32_MAX
 #define MAX_SECONDS 1000000000UL
 
-/* Ends a run that can't begin, or not go on for want of the host. */
+/* Ends a run that can't begin, or that can't go on since the host lacks something for it. */
 void refuse(const char *format, ...)
 {
     char why[1024];

@@ -1,6 +1,6 @@
-/* Hands null pointers to each function of rafkudin.h. A null pointer that may not be null is
- * INVALID_PARAMETER, and uses up no call; beside a count of 0 it is as any other. Each point that
- * is not as said is printed on standard error, and then the status is 1. */
+/* Passes null pointers to each function of rafkudin.h. A function returns INVALID_PARAMETER for a
+ * pointer that must not be null, and uses up no call; beside a count of 0 null is as any other
+ * pointer. Each point that is not as said is printed on standard error, and then the status is 1. */
 #include "points.h"
 
 #include <rafkudin.h>

@@ -1,7 +1,7 @@
 /* Asks a core what it has, and compares that with lists that this program keeps itself, through
  * drawn calls: blocks of the pool, runs of pages, handles, interfaces and open items. No question
- * may change anything. Interfaces go by UninstallMultipleProtocolInterfaces, all of some or none. Each point that is not as said is printed on standard error, and then the
- * status is 1. */
+ * may change anything. Interfaces go by UninstallMultipleProtocolInterfaces, all of some or none.
+ * Each point that is not as said is printed on standard error, and then the status is 1. */
 #include "points.h"
 
 #include <rafkudin.h>
