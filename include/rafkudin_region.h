@@ -4,8 +4,9 @@
  * A program that includes this header is linked with librafkudin_region.a instead of librafkudin.a.
  * That library has the functions of rafkudin.h but four: instead of RafkudinMake and
  * RafkudinMakeOver it has RafkudinMakeIn and RafkudinMakeOverIn, which take a region, and instead
- * of RafkudinPlace and RafkudinCheck there are those of rafkudin_place.h. It needs memcpy, memmove
- * and memset and nothing else, and two cores share nothing. docs/C.md says how it is linked.
+ * of RafkudinPlace and RafkudinCheck there are those of rafkudin_place.h, which librafkudin_place.a
+ * has. It needs memcpy, memmove and memset and nothing else, and two cores share nothing. docs/C.md
+ * says how it is linked.
  *
  * A region is any memory, from any address on, that the library alone reads and writes while the
  * core in it is called. Its bytes need no value. Memory runs out for a service of such a core, or
