@@ -59,8 +59,8 @@
  *   the core; those that are only read may overlap. So each result has a variable of its own.
  * - A core is in one call at a time, on the thread that made it. Two cores may be in calls at once,
  *   also in two threads.
- * - No call is made from an interrupt handler or a signal handler, or in the forked child of a
- *   process with threads.
+ * - No call is made from an interrupt handler itself, from a signal handler, or in the forked child
+ *   of a process with threads.
  *
  * WHAT THE LIBRARY NEEDS. The program defines memcpy, memmove and memset, as the C library does,
  * and malloc, realloc and free; or, instead of these three, a heap of its own:
