@@ -9,7 +9,7 @@ use Rattle.descriptor_table.specs.declared.summaries.Summary.{Summary}
 use Rattle.descriptor_table.specs.Leaves.{first_page, run_before}
 use Rattle.descriptor_table.specs.LeafSummaries.{AllowsNear}
 use Rattle.descriptor_table.specs.Summaries.{Allows, AllowsBetween, AllowsRun, joined}
-use Rattle.descriptor_table.proofs.Downward.{get_taken}
+use Rattle.descriptor_table.proofs.FreeMarks.{get_taken}
 use Rattle.descriptor_table.proofs.FreeBounds.{joined_left, joined_right}
 use Rattle.descriptor_table.proofs.LaterEntries.{get_dropped}
 use Rattle.descriptor_table.proofs.LeafSizes.{get_left, get_right}

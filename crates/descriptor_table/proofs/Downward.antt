@@ -2,49 +2,78 @@
 use Rattle.std.proofs.Common.{◌≡◌, ◌≢◌, ℕ, zero, suc, ◌+◌, ◌-◌, ◌*◌, ◌^◌, ◌<◌, ◌≤◌, Bool, true, false, cond, true≢false, eqb, List, [], ◌∷◌, ◌++◌, length, get_or, take, drop, Option, Some, None, inl, inr, refl, sym, ap, subst, ◌∙◌, append_assoc, append-nil, arith}
 use Rattle.std.specs.Prelude.{slice_get}
 use Rattle.std.specs.List.{AllByRecursion}
-use Rattle.std.proofs.lemmas.Bool.{cases_lt, eqb-true, eq-eqb}
-use Rattle.std.proofs.lemmas.List.{take_more, take_all, take-append-drop, get_or_past, drop_more, length-take}
+use Rattle.std.specs.Int.{bit_at}
+use Rattle.std.proofs.lemmas.Bool.{cases_lt, eqb-true, eq-eqb, ne_eqb}
+use Rattle.std.proofs.lemmas.List.{take_more, take_all, get_or_past, drop_more}
 use Rattle.std.proofs.lemmas.Option.{get_or_from_slice_get, slice_get_within, slice_get_past}
 use Rattle.page_ranges.specs.declared.ranges.Descriptor.{Descriptor}
 use Rattle.page_ranges.specs.declared.ranges.Run.{Run}
-use Rattle.page_ranges.specs.MemoryTypes.{conventional}
+use Rattle.page_ranges.specs.MemoryTypes.{conventional, page_count}
 use Rattle.page_ranges.specs.Memory.{Page, page_at, page_below, IsProperMemory}
+use Rattle.page_ranges.specs.Cursors.{IsBlockAt}
 use Rattle.page_ranges.specs.Runs.{pages_of, AreMaximalRuns}
 use Rattle.page_ranges.proofs.MaximalRuns.{maximal_are_runs}
 use Rattle.page_ranges.proofs.Members.{all_append}
 use Rattle.descriptor_table.specs.declared.wanted.Wanted.{Wanted}
 use Rattle.descriptor_table.specs.Leaves.{IsPlace, first_page, leaf_at, run_before, runs_in, AreLeaves}
 use Rattle.descriptor_table.specs.declared.groups.Group.{Group}
-use Rattle.descriptor_table.specs.Summaries.{AreGroups, AreRunsOfNoUse, BeginsFree, FirstGainsLittle, IsFreeRun, IsLeafOfNoUse, may_hold}
-use Rattle.descriptor_table.specs.Tables.{entry_of}
-use Rattle.descriptor_table.specs.Wanting.{AreOfNoUse, IsFreeAt, IsOfNoUse, entries_of, is_of, most_gain, runs_to}
+use Rattle.descriptor_table.specs.Summaries.{AreGroups, BeginsFree, IsFreeRun, IsLeafOfNoUse, may_hold}
+use Rattle.descriptor_table.specs.LeafSummaries.{MarksFree}
+use Rattle.descriptor_table.specs.LeafWalks.{IsAboveRun, IsBelowRun, run_above, run_below}
+use Rattle.descriptor_table.specs.Tables.{entry_of, IsBlockBelow}
+use Rattle.descriptor_table.specs.Wanting.{AreOfNoUse, IsOfNoUse, entries_of, is_of, most_gain}
 use Rattle.descriptor_table.proofs.FreeBounds.{gain_most, grouped_leaf_of_no_use}
+use Rattle.descriptor_table.proofs.FreeMarks.{none_free}
 use Rattle.descriptor_table.proofs.LaterEntries.{get_dropped}
 use Rattle.descriptor_table.proofs.LeafLists.{leaf_at as is_leaf, leaf_firsts_rise}
-use Rattle.descriptor_table.proofs.NoUse.{all_entries, entries-append, first_no_use, in_leaf, leaf_no_use, offset, offset_next, run_no_use, runs_next}
+use Rattle.descriptor_table.proofs.NoUse.{entries-append, in_leaf, leaf_no_use, offset, offset_next, runs_next}
+use Rattle.descriptor_table.proofs.Places.{below_is_none, above_is_none, next_ends, passed_ends}
+use Rattle.descriptor_table.proofs.TableFacts.{proper_ends}
 
 -- ---- the last free run of some
 
+-- the entries of one run, if it is free, and if it is not
 one_entry : (r : Run) → r.mtype ≡ conventional → entries_of (r ∷ []) ≡ entry_of r ∷ []
 one_entry r free = rw (eq-eqb r.mtype conventional free) refl
 
+no_entry : (r : Run) → r.mtype ≢ conventional → entries_of (r ∷ []) ≡ []
+no_entry r other = rw (ne_eqb r.mtype conventional other) refl
+
+-- one run more is taken
 taken : (rs : List Run) (i : ℕ) (r : Run) → i < length rs → r ≡ get_or rs i r → entries_of (take (i + 1) rs) ≡ entries_of (take i rs) ++ entries_of (r ∷ [])
 taken rs i r h at = ap entries_of (take_more rs i r h ∙ ap (λ x. take i rs ++ x ∷ []) (sym at)) ∙ entries-append (take i rs) (r ∷ [])
 
-pub taken_free : (rs : List Run) (i j : ℕ) (r : Run) → i + 1 ≡ j → i < length rs → r ≡ get_or rs i r → r.mtype ≡ conventional → entries_of (take j rs) ≡ entries_of (take i rs) ++ entry_of r ∷ []
-taken_free rs i j r e h at free = ap (λ k. entries_of (take k rs)) (sym e) ∙ taken rs i r h at ∙ ap (λ ds. entries_of (take i rs) ++ ds) (one_entry r free)
+taken_free : (rs : List Run) (i : ℕ) (r : Run) → i < length rs → r ≡ get_or rs i r → r.mtype ≡ conventional → entries_of (take (i + 1) rs) ≡ entries_of (take i rs) ++ entry_of r ∷ []
+taken_free rs i r h at free = taken rs i r h at ∙ ap (λ ds. entries_of (take i rs) ++ ds) (one_entry r free)
 
-pub get_taken : (l : List Run) (count i : ℕ) → i < count → slice_get (take count l) i ≡ slice_get l i
-get_taken l zero i h = absurd (omega arith)
-get_taken [] (suc count) i h = refl
-get_taken (r ∷ l) (suc count) zero h = refl
-get_taken (r ∷ l) (suc count) (suc i) h = get_taken l count i (omega arith)
+taken_other : (rs : List Run) (i : ℕ) (r : Run) → i < length rs → r ≡ get_or rs i r → r.mtype ≢ conventional → entries_of (take (i + 1) rs) ≡ entries_of (take i rs)
+taken_other rs i r h at other = taken rs i r h at ∙ ap (λ ds. entries_of (take i rs) ++ ds) (no_entry r other) ∙ append-nil (entries_of (take i rs))
 
-pub taken_in : (l : List Run) (count i : ℕ) → i ≤ count → take i (take count l) ≡ take i l
-taken_in l count zero h = refl
-taken_in l zero (suc i) h = absurd (omega arith)
-taken_in [] (suc count) (suc i) h = refl
-taken_in (r ∷ l) (suc count) (suc i) h = ap (λ x. r ∷ x) (taken_in l count i (omega arith))
+-- there is a run at an index
+some_run : (rs : List Run) (i : ℕ) → i < length rs → (r : Run) × (slice_get rs i ≡ Some r)
+some_run [] i h = absurd (omega arith)
+some_run (r ∷ rs) zero h = (r, refl)
+some_run (r ∷ rs) (suc i) h = some_run rs i (omega arith)
+
+-- no run without a mark is an entry
+pub none_marked : (marks : ℕ) (rs : List Run) → MarksFree marks rs → (d i count : ℕ) → i + d ≡ count → count ≤ length rs → ((j : ℕ) → i ≤ j → j < count → bit_at marks j ≡ 0) → entries_of (take count rs) ≡ entries_of (take i rs)
+none_marked marks rs m zero i count e h none = let same : count ≡ i = omega (arith, e) in ap (λ k. entries_of (take k rs)) same
+none_marked marks rs m (suc d) i count e h none =
+    let k : i < length rs = omega (arith, e, h) in
+    let s = some_run rs i k in
+    none_marked marks rs m d (i + 1) count (omega (arith, e)) h (λ j low high. none j (omega (arith, low)) high)
+    ∙ taken_other rs i s.0 k (sym (get_or_from_slice_get rs i s.0 s.0 s.1)) (λ free. none_free marks rs i s.0 m s.1 free (none i (omega arith) (omega (arith, e))))
+
+-- the last run before an index whose mark is set, if it is free, and if it is not
+module _ (marks : ℕ) (rs : List Run) (m : MarksFree marks rs) (i count : ℕ) (r : Run) (h : i < count) (bound : count ≤ length rs) (at : r ≡ get_or rs i r) (none : (j : ℕ) → i < j → j < count → bit_at marks j ≡ 0) where
+  down_to : entries_of (take count rs) ≡ entries_of (take (i + 1) rs)
+  down_to = none_marked marks rs m (count - (i + 1)) (i + 1) count (omega (arith, h)) bound (λ j low high. none j (omega (arith, low)) high)
+
+  pub last_free : r.mtype ≡ conventional → entries_of (take count rs) ≡ entries_of (take i rs) ++ entry_of r ∷ []
+  last_free free = down_to ∙ taken_free rs i r (omega (arith, h, bound)) at free
+
+  pub last_other : r.mtype ≢ conventional → entries_of (take count rs) ≡ entries_of (take i rs)
+  last_other other = down_to ∙ taken_other rs i r (omega (arith, h, bound)) at other
 
 -- ---- the runs beside one of a leaf
 
@@ -55,9 +84,6 @@ below_inside ls j (suc i) h k some =
     let one : suc i - 1 ≡ i = omega arith in
     ap (slice_get (leaf_at ls j)) one ∙ sym (in_leaf ls j i h (omega arith)) ∙ sym (ap (run_before (runs_in ls)) e)
 
-pub some_below : (ls : List (List Run)) (j : ℕ) → AreLeaves ls → j ≢ 0 → j < length ls → 0 < length (leaf_at ls (j - 1))
-some_below ls j leaves some h = (is_leaf ls (j - 1) [] leaves (omega arith)).0
-
 pub below_leaf : (ls : List (List Run)) (j i : ℕ) → AreLeaves ls → j ≢ 0 → j < length ls → i ≡ 0 → slice_get (leaf_at ls (j - 1)) (length (leaf_at ls (j - 1)) - 1) ≡ run_before (runs_in ls) (offset ls j + i)
 below_leaf ls zero i leaves some h e = absurd (some refl)
 below_leaf ls (suc j) i leaves some h e =
@@ -67,9 +93,6 @@ below_leaf ls (suc j) i leaves some h e =
     let count = (is_leaf ls j [] leaves (omega arith)).0 in
     let at : offset ls (suc j) + i ≡ suc (offset ls j + (length l - 1)) = omega (arith, e, count, offset_next ls j (omega arith), ap (offset ls) more) in
     ap (λ k. slice_get (leaf_at ls k) (length (leaf_at ls k) - 1)) one ∙ sym (in_leaf ls j (length l - 1) (omega arith) (omega arith)) ∙ sym (ap (run_before (runs_in ls)) at)
-
-pub below_all : (ls : List (List Run)) (j i : ℕ) → j ≡ 0 → i ≡ 0 → None ≡ run_before (runs_in ls) (offset ls j + i)
-below_all ls j i e f = let none : offset ls j + i ≡ 0 = omega (arith, ap (offset ls) e, f) in sym (ap (run_before (runs_in ls)) none)
 
 pub above_inside : (ls : List (List Run)) (j i : ℕ) → j < length ls → i + 1 < length (leaf_at ls j) → slice_get (leaf_at ls j) (i + 1) ≡ slice_get (runs_in ls) (offset ls j + i + 1)
 above_inside ls j i h k = let e : offset ls j + i + 1 ≡ offset ls j + (i + 1) = omega arith in sym (ap (slice_get (runs_in ls)) e ∙ in_leaf ls j (i + 1) h k)
@@ -98,6 +121,37 @@ run_next rs g o e = e ∙ sym (get_dropped rs (g + 1) 0 (g + 1) (omega arith))
 pub run_here : (ls : List (List Run)) (j i : ℕ) (r : Run) → j < length ls → slice_get (leaf_at ls j) i ≡ Some r → slice_get (runs_in ls) (offset ls j + i) ≡ Some r
 run_here ls j i r h at = in_leaf ls j i h (slice_get_within (leaf_at ls j) i r at) ∙ at
 
+-- ---- what lies beside a run of a leaf
+
+module _ (ls : List (List Run)) (maximal : AreMaximalRuns (runs_in ls)) (proper : IsProperMemory (pages_of (runs_in ls))) (j i : ℕ) (r : Run) (h : j < length ls) (at : slice_get (leaf_at ls j) i ≡ Some r) where
+  abbrev rest : List Run
+  rest = drop (offset ls j + i + 1) (runs_in ls)
+
+  -- the place of the run
+  place : (o : Option Run) → o ≡ run_below ls j i → IsPlace (runs_in ls) (record { before = o; rest = r ∷ rest })
+  place o e = run_place (runs_in ls) (offset ls j + i) r o (run_here ls j i r h at) e
+
+  -- it ends by the end of all pages, and so does the run below it
+  pub run_ends : r.range.first + r.range.pages ≤ page_count
+  run_ends = next_ends page_count (runs_in ls) rest r (run_below ls j i) (proper_ends (runs_in ls) (maximal_are_runs (runs_in ls) maximal) proper) (place (run_below ls j i) refl)
+
+  pub below_ends : (q : Run) → Some q ≡ run_below ls j i → q.range.first + q.range.pages ≤ page_count
+  below_ends q e = passed_ends page_count (runs_in ls) (record { before = Some q; rest = r ∷ rest }) (proper_ends (runs_in ls) (maximal_are_runs (runs_in ls) maximal) proper) (place (Some q) e)
+
+  -- the block below it
+  pub block_below : (o : Option Run) (d : Option Descriptor) → o ≡ run_below ls j i → IsBelowRun o r d → IsBlockBelow (pages_of (runs_in ls)) r.range.first d
+  block_below o d e below = below (runs_in ls) rest maximal proper (place o e)
+
+  pub no_block_below : None ≡ run_below ls j i → IsBlockBelow (pages_of (runs_in ls)) r.range.first None
+  no_block_below e = below_is_none (runs_in ls) rest r maximal proper (place None e)
+
+  -- the block above it
+  pub block_above : (o : Option Run) (d : Option Descriptor) → o ≡ run_above ls j i → IsAboveRun r o d → IsBlockAt (pages_of (runs_in ls)) (r.range.first + r.range.pages) d
+  block_above o d e above = above (runs_in ls) rest (run_below ls j i) maximal proper (place (run_below ls j i) refl) (run_next (runs_in ls) (offset ls j + i) o e)
+
+  pub no_block_above : None ≡ run_above ls j i → IsBlockAt (pages_of (runs_in ls)) (r.range.first + r.range.pages) None
+  no_block_above e = above_is_none (runs_in ls) rest r (run_below ls j i) maximal proper (place (run_below ls j i) refl) (sym (run_next (runs_in ls) (offset ls j + i) None e))
+
 -- ---- passing leaves
 
 -- no entry is of use where too much is asked
@@ -112,117 +166,41 @@ too_much m w (e ∷ es) h = (inr (record { within = λ n. omega (arith, h, few e
     few : (d : Descriptor) → most_gain w.pages d.pages (is_of w.mtype (page_below m d.first)) (is_of w.mtype (page_at m (d.first + d.pages))) ≤ 3
     few d = gain_most w.pages d.pages (is_of w.mtype (page_below m d.first)) (is_of w.mtype (page_at m (d.first + d.pages))) (of_most w.mtype (page_below m d.first)) (of_most w.mtype (page_at m (d.first + d.pages)))
 
--- some entries are passed, all of no use, and those before a place are left
-pub record HasPassed (w : Wanted) (ls : List (List Run)) (all : List Descriptor) (leaf count : ℕ) : Type 0 where
+-- some entries are passed, all of no use, and those of the leaves before an index are left
+pub record HasPassed (w : Wanted) (ls : List (List Run)) (all : List Descriptor) (leaf : ℕ) : Type 0 where
   pub passed : List Descriptor
-  pub parts : all ≡ entries_of (runs_to ls leaf count) ++ passed
+  pub parts : all ≡ entries_of (runs_in (take leaf ls)) ++ passed
   pub no_use : AllByRecursion (IsOfNoUse (pages_of (runs_in ls)) w) passed
 
-pub none_passed : (w : Wanted) (ls : List (List Run)) (leaf count : ℕ) → HasPassed w ls (entries_of (runs_to ls leaf count)) leaf count
-none_passed w ls leaf count = record { passed = []; parts = sym (append-nil (entries_of (runs_to ls leaf count))); no_use = tt }
-
--- the runs of the first leaves, as those of the leaves before the last one and its runs
-whole_leaf : (ls : List (List Run)) (j : ℕ) → j < length ls → runs_to ls (j + 1) 0 ≡ runs_to ls j (length (leaf_at ls j))
-whole_leaf ls j h = append-nil (runs_in (take (j + 1) ls)) ∙ runs_next ls j h ∙ ap (λ rs. runs_in (take j ls) ++ rs) (sym (take_all (length (leaf_at ls j)) (leaf_at ls j) (omega arith)))
-
--- entries of no use in the middle join those that are passed
-joins_passed : (a b c d : List Descriptor) → (a ++ (b ++ c)) ++ d ≡ (a ++ b) ++ (c ++ d)
-joins_passed a b c d = ap (λ x. x ++ d) (sym (append_assoc a b c)) ∙ append_assoc (a ++ b) c d
+-- at first none is passed
+pub none_passed : (w : Wanted) (ls : List (List Run)) (leaf : ℕ) → HasPassed w ls (entries_of (runs_in (take leaf ls))) leaf
+none_passed w ls leaf = record { passed = []; parts = sym (append-nil (entries_of (runs_in (take leaf ls)))); no_use = tt }
 
 module _ (w : Wanted) (ls : List (List Run)) (all : List Descriptor) where
-  no_use : List Descriptor → Type 0
-  no_use ds = AllByRecursion (IsOfNoUse (pages_of (runs_in ls)) w) ds
+  -- the entries of the leaf before an index come right behind those of the leaves before it
+  pub leaf_opened : (j : ℕ) → j < length ls → (has : HasPassed w ls all (j + 1)) → all ≡ entries_of (runs_in (take j ls)) ++ (entries_of (leaf_at ls j) ++ has.passed)
+  leaf_opened j h has =
+      has.parts ∙ ap (λ rs. entries_of rs ++ has.passed) (runs_next ls j h) ∙ ap (λ ds. ds ++ has.passed) (entries-append (runs_in (take j ls)) (leaf_at ls j)) ∙ append_assoc (entries_of (runs_in (take j ls))) (entries_of (leaf_at ls j)) has.passed
 
-  -- the leaf before an index is looked at
-  pub leaf_opened : (j : ℕ) → j < length ls → HasPassed w ls all (j + 1) 0 → HasPassed w ls all j (length (leaf_at ls j))
-  leaf_opened j h has = record { passed = has.passed; parts = has.parts ∙ ap (λ rs. entries_of rs ++ has.passed) (whole_leaf ls j h); no_use = has.no_use }
+  -- a leaf of no use is passed
+  leaf_passed : (j : ℕ) → j < length ls → HasPassed w ls all (j + 1) → AllByRecursion (IsOfNoUse (pages_of (runs_in ls)) w) (entries_of (leaf_at ls j)) → HasPassed w ls all j
+  leaf_passed j h has none = record {
+    passed = entries_of (leaf_at ls j) ++ has.passed;
+    parts = leaf_opened j h has;
+    no_use = all_append (IsOfNoUse (pages_of (runs_in ls)) w) (entries_of (leaf_at ls j)) has.passed none has.no_use;
+  }
 
-  -- it is passed
-  leaf_passed : (j : ℕ) → j < length ls → HasPassed w ls all (j + 1) 0 → AllByRecursion (IsOfNoUse (pages_of (runs_in ls)) w) (entries_of (leaf_at ls j)) → HasPassed w ls all j 0
-  leaf_passed j h has none =
-      let a = entries_of (runs_in (take j ls)) in
-      let l = entries_of (leaf_at ls j) in
-      record {
-        passed = l ++ has.passed;
-        parts = has.parts ∙ ap (λ rs. entries_of rs ++ has.passed) (append-nil (runs_in (take (j + 1) ls)) ∙ runs_next ls j h) ∙ ap (λ ds. ds ++ has.passed) (entries-append (runs_in (take j ls)) (leaf_at ls j)) ∙ append_assoc a l has.passed
-            ∙ ap (λ rs. entries_of rs ++ (l ++ has.passed)) (sym (append-nil (runs_in (take j ls))));
-        no_use = all_append (IsOfNoUse (pages_of (runs_in ls)) w) l has.passed none has.no_use;
-      }
-
-  pub leaves_passed : (d j leaf : ℕ) → j + d ≡ leaf → leaf ≤ length ls → HasPassed w ls all leaf 0 → AreOfNoUse w ls j leaf → HasPassed w ls all j 0
-  leaves_passed zero j leaf e h has none = let same : leaf ≡ j = omega (arith, e) in subst (λ k. HasPassed w ls all k 0) same has
+  -- and so are some leaves of no use
+  pub leaves_passed : (d j leaf : ℕ) → j + d ≡ leaf → leaf ≤ length ls → HasPassed w ls all leaf → AreOfNoUse w ls j leaf → HasPassed w ls all j
+  leaves_passed zero j leaf e h has none = let same : leaf ≡ j = omega (arith, e) in subst (HasPassed w ls all) same has
   leaves_passed (suc d) j leaf e h has none =
       leaf_passed j (omega (arith, e, h)) (leaves_passed d (j + 1) leaf (omega (arith, e)) h has (λ k low high. none k (omega (arith, low)) high)) (none j (omega arith) (omega (arith, e)))
 
   -- all leaves are passed
-  pub all_passed : HasPassed w ls all 0 0 → AllByRecursion (IsOfNoUse (pages_of (runs_in ls)) w) all
+  pub all_passed : HasPassed w ls all 0 → AllByRecursion (IsOfNoUse (pages_of (runs_in ls)) w) all
   all_passed has = subst (AllByRecursion (IsOfNoUse (pages_of (runs_in ls)) w)) (sym has.parts) has.no_use
 
 module _ (w : Wanted) (ls : List (List Run)) (leaves : AreLeaves ls) (maximal : AreMaximalRuns (runs_in ls)) (proper : IsProperMemory (pages_of (runs_in ls))) where
-  -- the free runs of a leaf between two indices
-  runs_no_use : (j : ℕ) (goes_on : Bool) → BeginsFree goes_on (leaf_at ls (j + 1)) → (low high : ℕ) → AreRunsOfNoUse w goes_on (leaf_at ls j) low high → AllByRecursion (IsOfNoUse (pages_of (runs_in ls)) w) (entries_of (drop low (take high (leaf_at ls j))))
-  runs_no_use j goes_on begins low high none =
-      let l = leaf_at ls j in
-      all_entries (IsOfNoUse (pages_of (runs_in ls)) w) (drop low (take high l)) (λ k r at free.
-      let there : slice_get (take high l) (low + k) ≡ Some r = sym (get_dropped (take high l) low k (low + k) (omega arith)) ∙ at in
-      let bound = slice_get_within (take high l) (low + k) r there in
-      let before : low + k < high = omega (arith, bound, length-take high l) in
-      let here : slice_get l (low + k) ≡ Some r = sym (get_taken l high (low + k) before) ∙ there in
-      let h : j < length ls = elim (cases_lt j (length ls)) [
-        | inl i ↦ i
-        | inr i ↦ absurd (let gone = sym (ap (λ x. slice_get x (low + k)) (get_or_past ls j [] i)) ∙ here in cc)
-      ] in
-      run_no_use ls leaves maximal proper j h w goes_on begins (low + k) r here (none (low + k) r (omega arith) before here free))
-
-  -- runs of a leaf are passed
-  pub runs_passed : (all : List Descriptor) (leaf count i : ℕ) (goes_on : Bool) → HasPassed w ls all leaf count → BeginsFree goes_on (leaf_at ls (leaf + 1)) → i ≤ count → AreRunsOfNoUse w goes_on (leaf_at ls leaf) i count → HasPassed w ls all leaf i
-  runs_passed all leaf count i goes_on has begins low none =
-      let l = leaf_at ls leaf in
-      let front = runs_in (take leaf ls) in
-      let a = entries_of front in
-      let b = entries_of (take i l) in
-      let c = entries_of (drop i (take count l)) in
-      let cut : entries_of (take count l) ≡ b ++ c = ap entries_of (sym (take-append-drop i (take count l))) ∙ entries-append (take i (take count l)) (drop i (take count l)) ∙ ap (λ rs. entries_of rs ++ c) (taken_in l count i low) in
-      record {
-        passed = c ++ has.passed;
-        parts = has.parts ∙ ap (λ ds. ds ++ has.passed) (entries-append front (take count l) ∙ ap (λ ds. a ++ ds) cut) ∙ joins_passed a b c has.passed ∙ ap (λ ds. ds ++ (c ++ has.passed)) (sym (entries-append front (take i l)));
-        no_use = all_append (IsOfNoUse (pages_of (runs_in ls)) w) c has.passed (runs_no_use leaf goes_on begins i count none) has.no_use;
-      }
-
-  -- a free run is found behind those that are passed
-  pub found_in : (all : List Descriptor) (leaf i : ℕ) → HasPassed w ls all leaf (i + 1) → IsFreeRun (slice_get (leaf_at ls leaf) i)
-      → (at : IsFreeAt ls leaf i) × ((passed : List Descriptor) × (all ≡ entries_of (runs_to ls leaf i) ++ entry_of at.run ∷ passed) × AllByRecursion (IsOfNoUse (pages_of (runs_in ls)) w) passed)
-  found_in all leaf i has free =
-      let l = leaf_at ls leaf in
-      let front = runs_in (take leaf ls) in
-      let f = free_at (slice_get l i) free in
-      let r = f.0 in
-      let k = slice_get_within l i r f.1 in
-      let h : leaf < length ls = elim (cases_lt leaf (length ls)) [
-        | inl u ↦ u
-        | inr u ↦ absurd (let gone = sym (ap (λ x. slice_get x i) (get_or_past ls leaf [] u)) ∙ f.1 in cc)
-      ] in
-      let more : entries_of (take (i + 1) l) ≡ entries_of (take i l) ++ entry_of r ∷ [] = taken_free l i (i + 1) r refl k (sym (get_or_from_slice_get l i r r f.1)) f.2 in
-      let a = entries_of front in
-      let b = entries_of (take i l) in (
-        record { bound = h; run = r; at = f.1; free = f.2 },
-        (
-          has.passed,
-          has.parts ∙ ap (λ ds. ds ++ has.passed) (entries-append front (take (i + 1) l) ∙ ap (λ ds. a ++ ds) more) ∙ joins_passed a b (entry_of r ∷ []) has.passed ∙ ap (λ ds. ds ++ entry_of r ∷ has.passed) (sym (entries-append front (take i l))),
-          has.no_use,
-        ),
-      )
-    where
-      free_at : (o : Option Run) → IsFreeRun o → (r : Run) × (o ≡ Some r) × (r.mtype ≡ conventional)
-      free_at None e = absurd e
-      free_at (Some r) e = (r, refl, e)
-
-  -- all are of no use where the first run of all is
-  pub first_passed : (all : List Descriptor) → HasPassed w ls all 0 1 → IsFreeRun (slice_get (leaf_at ls 0) 0) → FirstGainsLittle w (leaf_at ls 0) → AllByRecursion (IsOfNoUse (pages_of (runs_in ls)) w) all
-  first_passed all has free little =
-      let found = found_in all 0 0 has free in
-      subst (AllByRecursion (IsOfNoUse (pages_of (runs_in ls)) w)) (sym found.1.1) (first_no_use ls maximal proper found.0.bound w found.0.run found.0.at little, found.1.2)
-
   -- a leaf of no use
   pub one_of_no_use : (j : ℕ) (goes_on : Bool) → j < length ls → BeginsFree goes_on (leaf_at ls (j + 1)) → IsLeafOfNoUse w goes_on (leaf_at ls j) → AllByRecursion (IsOfNoUse (pages_of (runs_in ls)) w) (entries_of (leaf_at ls j))
   one_of_no_use j goes_on h begins none = leaf_no_use ls leaves maximal proper j h w goes_on begins none

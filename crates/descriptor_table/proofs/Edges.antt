@@ -5,7 +5,7 @@ use Rattle.page_ranges.specs.declared.ranges.Owner.{Owner}
 use Rattle.page_ranges.specs.declared.ranges.PageRange.{PageRange}
 use Rattle.page_ranges.specs.declared.ranges.Run.{Run}
 use Rattle.page_ranges.specs.MemoryTypes.{attributes_as, page_count}
-use Rattle.page_ranges.specs.Memory.{Page, retyped}
+use Rattle.page_ranges.specs.Memory.{retyped}
 use Rattle.page_ranges.specs.Runs.{pages_of, is_same_owner, should_be_one_run, AreMaximalRuns}
 use Rattle.page_ranges.proofs.Retyped.{retyped-append}
 use Rattle.page_ranges.proofs.RunLists.{pages_of_run, part, cut_in_two, retyped_run, retyped-runs, retyped-run_below, retyped-run_above, retyped-run_inside}

@@ -49,7 +49,7 @@ mark_passed rs k marks q is other was i below free = elim (cases_eq i k) [
 -- ---- marks of runs of which some gave way to others
 
 -- a run among the first ones of a list
-get_taken : (xs : List Run) (n i : ℕ) → i < n → slice_get (take n xs) i ≡ slice_get xs i
+pub get_taken : (xs : List Run) (n i : ℕ) → i < n → slice_get (take n xs) i ≡ slice_get xs i
 get_taken xs zero i l = absurd (omega arith)
 get_taken [] (suc n) i l = refl
 get_taken (x ∷ xs) (suc n) zero l = refl

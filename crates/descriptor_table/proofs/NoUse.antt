@@ -16,7 +16,7 @@ use Rattle.page_ranges.proofs.MaximalRuns.{maximal_are_runs}
 use Rattle.page_ranges.proofs.RunLists.{IsProperRun, proper_runs}
 use Rattle.descriptor_table.specs.declared.wanted.Wanted.{Wanted}
 use Rattle.descriptor_table.specs.Leaves.{first_page, leaf_at, run_before, runs_in, AreLeaves}
-use Rattle.descriptor_table.specs.Summaries.{BeginsFree, FirstGainsLittle, GoesOnFree, IsFreeRun, IsLeafOfNoUse, RunGainsLittle, may_be}
+use Rattle.descriptor_table.specs.Summaries.{BeginsFree, GoesOnFree, IsFreeRun, IsLeafOfNoUse, RunGainsLittle, may_be}
 use Rattle.descriptor_table.specs.Tables.{entry_of, IsBlockBelow}
 use Rattle.descriptor_table.specs.Wanting.{IsOfNoUse, entries_of, is_of, most_gain}
 use Rattle.descriptor_table.proofs.FreeBounds.{goes_on_free, may_be_most}
@@ -109,11 +109,7 @@ module _ (rs : List Run) (maximal : AreMaximalRuns rs) (proper : IsProperMemory 
     | inr gap ↦ below_none m r.range.first t (may_be t (Some q)) (below_gap rs maximal proper i q r (slice_get_within rs (i + 1) r at) (read i q e) (read (i + 1) r at) r at gap)
   ]
 
-  -- no page lies below the first run
-  pub first_below : (r : Run) (t : ℕ) → slice_get rs 0 ≡ Some r → is_of t (page_below m r.range.first) ≤ 0
-  first_below r t at = below_none m r.range.first t 0 (below_first rs maximal proper 0 r refl at)
-
-  pub below_is : (g : ℕ) (r : Run) (t : ℕ) → slice_get rs g ≡ Some r → is_of t (page_below m r.range.first) ≤ may_be t (run_before rs g)
+  below_is : (g : ℕ) (r : Run) (t : ℕ) → slice_get rs g ≡ Some r → is_of t (page_below m r.range.first) ≤ may_be t (run_before rs g)
   below_is zero r t at = below_none m r.range.first t 1 (below_first rs maximal proper 0 r refl at)
   below_is (suc i) r t at =
       let k : i + 1 ≡ suc i = omega arith in
@@ -174,10 +170,23 @@ module _ (ls : List (List Run)) (leaves : AreLeaves ls) (maximal : AreMaximalRun
         subst IsFreeRun (slice_get_past rs (offset ls j + i + 1) (omega (arith, offset_next ls j h, last, ap (λ xs. length (runs_in xs)) all))) free
   ]
 
-  pub run_no_use : (w : Wanted) (goes_on : Bool) → BeginsFree goes_on (leaf_at ls (j + 1)) → (i : ℕ) (r : Run) → slice_get l i ≡ Some r → RunGainsLittle w (run_before l i) r (slice_get l (i + 1)) × (i + 1 ≡ length l → goes_on ≡ false) → IsOfNoUse (pages_of rs) w (entry_of r)
+  -- a run as one of all
+  all_run : (i : ℕ) (r : Run) → slice_get l i ≡ Some r → slice_get rs (offset ls j + i) ≡ Some r
+  all_run i r at = in_leaf ls j i h (slice_get_within l i r at) ∙ at
+
+  -- a free run that may go on where a run of the leaf ends
+  pub goes_on_in : (i : ℕ) (r : Run) → slice_get l i ≡ Some r → i + 1 < length l → IsConventional (page_at (pages_of rs) (r.range.first + r.range.pages)) → GoesOnFree r (slice_get l (i + 1))
+  goes_on_in i r at u c = subst (GoesOnFree r) (above_in i u) ((above_case rs maximal proper (offset ls j + i) r 0 (slice_get rs (offset ls j + i + 1)) (all_run i r at) refl).1 c)
+
+  -- none goes on where the last one ends, if the next leaf does not begin with a free run
+  pub ends_with_leaf : (i : ℕ) (r : Run) (goes_on : Bool) → slice_get l i ≡ Some r → BeginsFree goes_on (leaf_at ls (j + 1)) → i + 1 ≡ length l → goes_on ≡ false → ¬ IsConventional (page_at (pages_of rs) (r.range.first + r.range.pages))
+  ends_with_leaf i r goes_on at begins last off c =
+      next_leaf_free i goes_on begins last off (goes_on_free r _ ((above_case rs maximal proper (offset ls j + i) r 0 (slice_get rs (offset ls j + i + 1)) (all_run i r at) refl).1 c))
+
+  run_no_use : (w : Wanted) (goes_on : Bool) → BeginsFree goes_on (leaf_at ls (j + 1)) → (i : ℕ) (r : Run) → slice_get l i ≡ Some r → RunGainsLittle w (run_before l i) r (slice_get l (i + 1)) × (i + 1 ≡ length l → goes_on ≡ false) → IsOfNoUse (pages_of rs) w (entry_of r)
   run_no_use w goes_on begins i r at little =
       let k = slice_get_within l i r at in
-      let here : slice_get rs (offset ls j + i) ≡ Some r = in_leaf ls j i h k ∙ at in
+      let here = all_run i r at in
       let t = w.mtype in
       let above = above_case rs maximal proper (offset ls j + i) r t (slice_get rs (offset ls j + i + 1)) here refl in
       let low : is_of t (page_below (pages_of rs) r.range.first) ≤ may_be t (run_before l i) = omega (arith, below_is rs maximal proper (offset ls j + i) r t here, below_in i t k) in
@@ -185,8 +194,8 @@ module _ (ls : List (List Run)) (leaves : AreLeaves ls) (maximal : AreMaximalRun
       inr (record {
         within = λ n. omega (arith, little.0.within n, gain_grows w.pages r.range.pages _ _ _ _ low high);
         beyond = λ c. elim (cases_lt (i + 1) (length l)) [
-          | inl u ↦ little.0.beyond (subst (GoesOnFree r) (above_in i u) (above.1 c))
-          | inr u ↦ let last : i + 1 ≡ length l = omega (arith, k, u) in absurd (next_leaf_free i goes_on begins last (little.1 last) (goes_on_free r _ (above.1 c)))
+          | inl u ↦ little.0.beyond (goes_on_in i r at u c)
+          | inr u ↦ let last : i + 1 ≡ length l = omega (arith, k, u) in absurd (ends_with_leaf i r goes_on at begins last (little.1 last) c)
         ];
       })
 
@@ -195,28 +204,3 @@ module _ (ls : List (List Run)) (leaves : AreLeaves ls) (maximal : AreMaximalRun
     | inl limit ↦ inl (omega (arith, limit, get_all (λ s. first_page l ≤ s.range.first) l i r (begin_by_first l (leaf_runs ls j [] (maximal_are_runs rs maximal) h)) at))
     | inr f ↦ run_no_use w goes_on begins i r at (f i r (omega arith) (slice_get_within l i r at) at free)
   ])
-
--- ---- the first run of a table
-
-first_parts : (w : Wanted) (l : List Run) (r : Run) → slice_get l 0 ≡ Some r → FirstGainsLittle w l
-    → (s : Run) × (slice_get l 1 ≡ Some s) × (¬ GoesOnFree r (Some s)) × (w.pages ≤ r.range.pages → most_gain w.pages r.range.pages 0 (may_be w.mtype (Some s)) < w.gain)
-first_parts w [] r at little = absurd little
-first_parts w (x ∷ []) r at little = absurd little
-first_parts w (x ∷ s ∷ l) r at little =
-    let same : x ≡ r = cc in
-    (s, refl, subst (λ q. ¬ GoesOnFree q (Some s)) same little.0, subst (λ (q : Run). w.pages ≤ q.range.pages → most_gain w.pages q.range.pages 0 (may_be w.mtype (Some s)) < w.gain) same little.1)
-
-pub first_no_use : (ls : List (List Run)) → AreMaximalRuns (runs_in ls) → IsProperMemory (pages_of (runs_in ls)) → 0 < length ls → (w : Wanted) (r : Run) → slice_get (leaf_at ls 0) 0 ≡ Some r → FirstGainsLittle w (leaf_at ls 0) → IsOfNoUse (pages_of (runs_in ls)) w (entry_of r)
-first_no_use ls maximal proper h w r at little =
-    let rs = runs_in ls in
-    let l = leaf_at ls 0 in
-    let t = w.mtype in
-    let parts = first_parts w l r at little in
-    let s = parts.0 in
-    let here : slice_get rs 0 ≡ Some r = in_leaf ls 0 0 h (slice_get_within l 0 r at) ∙ at in
-    let next : slice_get rs (0 + 1) ≡ Some s = in_leaf ls 0 1 h (slice_get_within l 1 s parts.1) ∙ parts.1 in
-    let above = above_case rs maximal proper 0 r t (Some s) here next in
-    inr (record {
-      within = λ n. omega (arith, parts.3 n, gain_grows w.pages r.range.pages (is_of t (page_below (pages_of rs) r.range.first)) (is_of t (page_at (pages_of rs) (r.range.first + r.range.pages))) 0 (may_be t (Some s)) (first_below rs maximal proper r t here) above.0);
-      beyond = λ c. absurd (parts.2 (above.1 c));
-    })

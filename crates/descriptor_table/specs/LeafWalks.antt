@@ -1,5 +1,5 @@
 -- Walks along the runs of leaves, and the entries that they come to.
-use Rattle.std.specs.Prelude.{◌≡◌, ℕ, ◌+◌, ◌-◌, ◌<◌, ◌≤◌, ◌==◌, List, ◌∷◌, Option, filter, length, take, slice_get}
+use Rattle.std.specs.Prelude.{◌≡◌, ℕ, ◌+◌, ◌-◌, ◌<◌, ◌≤◌, ◌==◌, List, ◌∷◌, Option, Some, filter, length, take, slice_get}
 use Rattle.page_ranges.specs.declared.ranges.Descriptor.{Descriptor}
 use Rattle.page_ranges.specs.declared.ranges.Run.{Run}
 use Rattle.page_ranges.specs.MemoryTypes.{conventional, page_count}
@@ -9,6 +9,7 @@ use Rattle.page_ranges.specs.Cursors.{IsBlockAt}
 use Rattle.page_ranges.specs.Runs.{pages_of, AreMaximalRuns, AreRuns}
 use Rattle.descriptor_table.specs.declared.groups.Group.{Group}
 use Rattle.descriptor_table.specs.Leaves.{leaf_at, run_before, runs_in, runs_with_first, AreLeaves, IsPlace, RunPlace}
+use Rattle.descriptor_table.specs.LeafSummaries.{MarksFree}
 use Rattle.descriptor_table.specs.Summaries.{AreGroups}
 use Rattle.descriptor_table.specs.Tables.{EndBy, IsBlockBelow}
 
@@ -69,12 +70,21 @@ abbrev pub AreProperLeaves : List (List Run) → Type 0
 AreProperLeaves ls =
     AreLeaves ls × AreMaximalRuns (runs_in ls) × IsProperMemory (pages_of (runs_in ls))
 
--- Leaves whose runs are maximal and make a proper memory; an index of one of them or their number,
--- and a number of runs of that leaf; and the groups of the leaves.
-abbrev pub AreLeavesDownFrom : List (List Run) → List Group → ℕ → ℕ → Type 0
-AreLeavesDownFrom ls gs leaf count = AreLeaves ls × AreMaximalRuns (runs_in ls)
-    × IsProperMemory (pages_of (runs_in ls)) × (leaf ≤ length ls)
-    × (count ≤ length (leaf_at ls leaf)) × AreGroups ls gs
+-- leaves whose runs are maximal and make a proper memory, an index of one of them or their number,
+-- and the groups of the leaves
+abbrev pub AreLeavesDownFrom : List (List Run) → List Group → ℕ → Type 0
+AreLeavesDownFrom ls gs leaf = AreProperLeaves ls × (leaf ≤ length ls) × AreGroups ls gs
+
+-- the runs of the leaf at an index, with a bit for each free one, and a number of them
+abbrev pub AreRunsOfLeaf : List (List Run) → ℕ → List Run → ℕ → ℕ → Type 0
+AreRunsOfLeaf ls leaf rs marks count = AreProperLeaves ls × (leaf < length ls)
+    × (rs ≡ leaf_at ls leaf) × MarksFree marks rs × (count ≤ length rs)
+
+-- a free one of these runs and its index
+abbrev pub IsFreeRunOfLeaf : List (List Run) → ℕ → List Run → ℕ → ℕ → Run → Type 0
+IsFreeRunOfLeaf ls leaf rs marks index run = AreProperLeaves ls × (leaf < length ls)
+    × (rs ≡ leaf_at ls leaf) × MarksFree marks rs × (slice_get rs index ≡ Some run)
+    × (run.mtype ≡ conventional)
 
 -- ---- blocks beside a run
 

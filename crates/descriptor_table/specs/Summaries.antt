@@ -1,5 +1,5 @@
 -- What the free runs among some runs may be, in a few numbers.
-use Rattle.std.specs.Prelude.{◌≡◌, ℕ, ◌+◌, ◌*◌, ◌%◌, ◌⊎◌, ◌<◌, ◌≤◌, ◌^◌, Bool, true, false, ◌&&◌, ◌==◌, nat_le, max, List, ◌∷◌, length, Option, Some, None, if◌then◌else◌, slice_get, bit_or, [], map}
+use Rattle.std.specs.Prelude.{◌≡◌, ℕ, ◌+◌, ◌*◌, ◌%◌, ◌⊎◌, ◌<◌, ◌≤◌, ◌^◌, Bool, true, false, ◌&&◌, ◌==◌, nat_le, max, List, length, Option, Some, None, if◌then◌else◌, slice_get, bit_or, [], map}
 use Rattle.std.specs.Int.{bit_at}
 use Rattle.page_ranges.specs.declared.ranges.Run.{Run}
 use Rattle.page_ranges.specs.MemoryTypes.{conventional}
@@ -91,14 +91,6 @@ pub record RunGainsLittle (w : Wanted) (below : Option Run) (r : Run)
       → most_gain w.pages r.range.pages (may_be w.mtype below) (may_be w.mtype above) < w.gain
   pub beyond : GoesOnFree r above → 3 < w.gain
 
--- In the first run of a table, which no page lies below, no placement gains enough. The run above it
--- is in the same leaf.
-abbrev pub FirstGainsLittle : Wanted → List Run → Type 0
-FirstGainsLittle w (r ∷ s ∷ rs) = (¬ GoesOnFree r (Some s))
-    × (w.pages ≤ r.range.pages
-    → most_gain w.pages r.range.pages 0 (may_be w.mtype (Some s)) < w.gain)
-FirstGainsLittle w rs = ⊥
-
 -- No placement gains enough in the free runs of a leaf between two indices. A free run may go on in
 -- the leaf above where a mark is set.
 abbrev pub AreRunsOfNoUse : Wanted → Bool → List Run → ℕ → ℕ → Type 0
@@ -111,13 +103,6 @@ AreRunsOfNoUse w goes_on l low high =
 abbrev pub IsLeafOfNoUse : Wanted → Bool → List Run → Type 0
 IsLeafOfNoUse w goes_on l =
     (w.limit ≤ first_page l) ⊎ AreRunsOfNoUse w goes_on l 0 (length l)
-
--- The answer is the last free run of the first ones of a leaf, but for some of no use; or all are of
--- no use.
-abbrev pub IsLastOfUse : Wanted → Bool → List Run → ℕ → Option ℕ → Type 0
-IsLastOfUse w goes_on l count None = AreRunsOfNoUse w goes_on l 0 count
-IsLastOfUse w goes_on l count (Some i) =
-    (i < count) × IsFreeRun (slice_get l i) × AreRunsOfNoUse w goes_on l (i + 1) count
 
 -- ---- groups of leaves
 

@@ -1,16 +1,16 @@
 -- What a search for room looks for in the conventional entries of a memory map.
-use Rattle.std.specs.Prelude.{◌≡◌, ◌⊎◌, ℕ, ◌+◌, ◌<◌, ◌≤◌, ◌==◌, max, List, ◌∷◌, ◌++◌, filter, length, map, take, Option, Some, None, if◌then◌else◌, slice_get}
+use Rattle.std.specs.Prelude.{◌≡◌, ◌⊎◌, ℕ, ◌+◌, ◌<◌, ◌≤◌, ◌==◌, max, List, [], ◌∷◌, ◌++◌, filter, map, Option, Some, None, if◌then◌else◌}
 use Rattle.std.specs.List.{AllByRecursion}
 use Rattle.page_ranges.specs.declared.ranges.Descriptor.{Descriptor}
 use Rattle.page_ranges.specs.declared.ranges.Run.{Run}
 use Rattle.page_ranges.specs.MemoryTypes.{conventional}
 use Rattle.page_ranges.specs.Memory.{Page, page_at, page_below, IsConventional}
+use Rattle.page_ranges.specs.Cursors.{IsBlockAt}
 use Rattle.page_ranges.specs.Runs.{pages_of}
-use Rattle.descriptor_table.specs.declared.free_entries.FreeEntry.{FreeEntry}
 use Rattle.descriptor_table.specs.declared.wanted.Wanted.{Wanted}
-use Rattle.descriptor_table.specs.FreeLists.{FreeList, IsFreeEntry}
+use Rattle.descriptor_table.specs.FreeLists.{FreeList}
 use Rattle.descriptor_table.specs.Leaves.{leaf_at, runs_in}
-use Rattle.descriptor_table.specs.Tables.{entry_of}
+use Rattle.descriptor_table.specs.Tables.{entry_of, IsBlockBelow}
 
 -- 1 where a page is of a type
 abbrev pub is_of : ℕ → Option Page → ℕ
@@ -34,38 +34,49 @@ pub record GainsLittle (m : List Page) (w : Wanted) (e : Descriptor) : Type 0 wh
 abbrev pub IsOfNoUse : List Page → Wanted → Descriptor → Type 0
 IsOfNoUse m w e = (w.limit ≤ e.first) ⊎ GainsLittle m w e
 
--- The answer is the highest entry that is left, but for some of no use; or all that are left are of
--- no use.
-abbrev pub YieldsWanted : Wanted → FreeList → Option FreeEntry → FreeList → Type 0
-YieldsWanted w old None new = AllByRecursion (IsOfNoUse old.memory w) old.entries
-YieldsWanted w old (Some f) new =
-    IsFreeEntry old.memory f
-    × ((passed : List Descriptor) × (old.entries ≡ new.entries ++ f.entry ∷ passed)
+-- a memory, those conventional entries of its map that are in leaves still to come, and how many
+-- leaves these are
+pub record EntriesLeft : Type 0 where
+  pub memory : List Page
+  pub entries : List Descriptor
+  pub leaves : ℕ
+
+-- a memory, and a conventional entry of its map
+pub record EntryOfMap : Type 0 where
+  pub memory : List Page
+  pub entry : Descriptor
+
+-- a block that has the page just below an entry, or none where that page is absent
+abbrev pub IsBlockBefore : EntryOfMap → Option Descriptor → Type 0
+IsBlockBefore f o = IsBlockBelow f.memory f.entry.first o
+
+-- a block that has the page just behind an entry, or none where that page is absent
+abbrev pub IsBlockBehind : EntryOfMap → Option Descriptor → Type 0
+IsBlockBehind f o = IsBlockAt f.memory (f.entry.first + f.entry.pages) o
+
+-- the page just behind an entry is not conventional
+abbrev pub NoneFreeBehind : EntryOfMap → Type 0
+NoneFreeBehind f = ¬ IsConventional (page_at f.memory (f.entry.first + f.entry.pages))
+
+-- The answer is the entries of a leaf, which come right behind those that are left then, but for some
+-- of no use behind them; or all that are left are of no use.
+abbrev pub YieldsLeafEntries : Wanted → EntriesLeft → Option FreeList → EntriesLeft → Type 0
+YieldsLeafEntries w old None new = AllByRecursion (IsOfNoUse old.memory w) old.entries
+YieldsLeafEntries w old (Some l) new = (l.memory ≡ old.memory) × (new.leaves < old.leaves)
+    × ((passed : List Descriptor) × (old.entries ≡ new.entries ++ (l.entries ++ passed))
     × AllByRecursion (IsOfNoUse old.memory w) passed)
+
+-- the answer is the last entry that is left, and the others stay; or none is left
+abbrev pub YieldsLast : FreeList → Option EntryOfMap → FreeList → Type 0
+YieldsLast old None new = old.entries ≡ []
+YieldsLast old (Some f) new =
+    (f.memory ≡ old.memory) × (old.entries ≡ new.entries ++ f.entry ∷ [])
 
 -- ---- free runs in leaves
 
 -- the conventional entries that some runs are
 abbrev pub entries_of : List Run → List Descriptor
 entries_of rs = map entry_of (filter (λ r. r.mtype == conventional) rs)
-
--- the runs of the leaves before an index, and the first runs of the leaf there
-abbrev pub runs_to : List (List Run) → ℕ → ℕ → List Run
-runs_to ls leaf count = runs_in (take leaf ls) ++ take count (leaf_at ls leaf)
-
--- a conventional run is at an index of a leaf
-pub record IsFreeAt (ls : List (List Run)) (leaf index : ℕ) : Type 0 where
-  pub bound : leaf < length ls
-  pub run : Run
-  pub at : slice_get (leaf_at ls leaf) index ≡ Some run
-  pub free : run.mtype ≡ conventional
-
--- the conventional entry at an index of a leaf
-pub record IsFreeEntryAt (ls : List (List Run)) (leaf index : ℕ) (f : FreeEntry) : Type 0 where
-  pub run : Run
-  pub at : slice_get (leaf_at ls leaf) index ≡ Some run
-  pub entry : f.entry ≡ entry_of run
-  pub is : IsFreeEntry (pages_of (runs_in ls)) f
 
 -- no conventional run of the leaves between two indices is an entry of use
 abbrev pub AreOfNoUse : Wanted → List (List Run) → ℕ → ℕ → Type 0
@@ -77,14 +88,3 @@ AreOfNoUse w ls low high =
 abbrev pub YieldsLeaf : Wanted → List (List Run) → ℕ → Option ℕ → Type 0
 YieldsLeaf w ls high None = AreOfNoUse w ls 0 high
 YieldsLeaf w ls high (Some j) = (j < high) × AreOfNoUse w ls (j + 1) high
-
--- The answer is the highest conventional run before a place, but for some of no use; or all are of
--- no use.
-abbrev pub YieldsPlace : Wanted → List (List Run) → ℕ → ℕ → Option (ℕ × ℕ) → Type 0
-YieldsPlace w ls leaf count None =
-    AllByRecursion (IsOfNoUse (pages_of (runs_in ls)) w) (entries_of (runs_to ls leaf count))
-YieldsPlace w ls leaf count (Some (l, i)) =
-    (at : IsFreeAt ls l i)
-    × ((passed : List Descriptor)
-    × (entries_of (runs_to ls leaf count) ≡ entries_of (runs_to ls l i) ++ entry_of at.run ∷ passed)
-    × AllByRecursion (IsOfNoUse (pages_of (runs_in ls)) w) passed)

@@ -8,6 +8,7 @@ mod entries_down;
 mod entry_starts;
 mod free_entries;
 mod free_marks;
+mod free_runs;
 mod groups;
 mod leaf_searches;
 mod leaves;
@@ -25,8 +26,9 @@ mod wanted;
 
 pub use cursors::RunCursor;
 pub use entries::MapEntries;
-pub use entries_down::EntriesDown;
+pub use entries_down::{EntriesDown, LeafDown};
 pub use free_entries::{FreeEntries, FreeEntry};
+pub use free_runs::FreeRun;
 pub use leaves::Leaf;
 pub use table::RunTable;
 pub use wanted::Wanted;

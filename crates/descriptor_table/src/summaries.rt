@@ -1,13 +1,12 @@
 //! What the free runs among some runs may be, in a few numbers.
-ghost use Rattle.std.specs.Prelude.{◌≡◌, ◌↔◌, ℕ, ◌+◌, ◌%◌, ◌<◌, ◌≤◌, ◌^◌, length, true, false, Option, IsTrue, slice_get};
+ghost use Rattle.std.specs.Prelude.{◌≡◌, ◌↔◌, ℕ, ◌+◌, ◌%◌, ◌<◌, ◌≤◌, ◌^◌, length, false, IsTrue, slice_get};
 ghost use Rattle.std.specs.Option.{option_map};
 ghost use Rattle.page_ranges.specs.declared.ranges.Run.{Run};
 ghost use Rattle.page_ranges.specs.MemoryTypes.{conventional};
 ghost use Rattle.descriptor_table.specs.Leaves.{run_before};
-ghost use Rattle.descriptor_table.specs.LeafSummaries.{AllowsNear, MarksFree};
-ghost use Rattle.descriptor_table.specs.Summaries.{Allows, AllowsAll, AllowsBetween, AllowsRun, AreRunsOfNoUse, BeginsFree, EndsFree, FirstGainsLittle, GoesOnFree, IsFreeRun, IsLastOfUse, RunGainsLittle, bit_of, joined, may_be, may_hold, pair_of};
+ghost use Rattle.descriptor_table.specs.LeafSummaries.{AllowsNear};
+ghost use Rattle.descriptor_table.specs.Summaries.{Allows, AllowsAll, AllowsBetween, AllowsRun, BeginsFree, EndsFree, IsFreeRun, bit_of, joined, may_be, may_hold, pair_of};
 
-use crate::free_marks::last_mark;
 use crate::wanted::Wanted;
 use page_ranges::{MemoryType, Run};
 
@@ -75,17 +74,6 @@ fn pair_bits(pages: u64, run: Option<&Run>) -> u64
     }
 }
 
-/// 1 where a run is of a type, or is not known.
-#[inline(always)]
-fn may_be(mtype: MemoryType, run: Option<&Run>) -> u64
-    ensures { result ≡ may_be mtype (option_map (λ r. r.now) run.entry) }
-{
-    match run {
-        Some(run) => u64::from(run.mtype == mtype),
-        None => 1,
-    }
-}
-
 /// Whether a run is free.
 #[inline(always)]
 fn is_free(run: Option<&Run>) -> bool
@@ -93,20 +81,6 @@ fn is_free(run: Option<&Run>) -> bool
 {
     match run {
         Some(run) => run.mtype == MemoryType::conventional(),
-        None => false,
-    }
-}
-
-/// Whether a free run may go on in the one above: that is free and begins where it ends.
-#[inline(always)]
-fn goes_on_free(run: &Run, above: Option<&Run>) -> bool
-    ensures { result ≡ false → ¬ GoesOnFree run.now (option_map (λ r. r.now) above.entry) }
-{
-    match above {
-        Some(above) => {
-            above.mtype == MemoryType::conventional()
-                && run.range.first.wrapping_add(run.range.pages) == above.range.first
-        }
         None => false,
     }
 }
@@ -181,38 +155,6 @@ impl Summary {
         };
         wanted.gain <= most
     }
-}
-
-/// Whether a placement in a free run between two others may gain enough.
-#[inline(always)]
-fn may_gain(wanted: &Wanted, below: Option<&Run>, run: &Run, above: Option<&Run>) -> bool
-    ensures { result ≡ false → RunGainsLittle wanted.now (option_map (λ r. r.now) below.entry)
-        run.now (option_map (λ r. r.now) above.entry) }
-{
-    if goes_on_free(run, above) {
-        return true;
-    }
-    if run.range.pages < wanted.pages {
-        return false;
-    }
-    let low = may_be(wanted.mtype, below);
-    let high = may_be(wanted.mtype, above);
-    let most = if run.range.pages == wanted.pages {
-        1 + low + high
-    } else {
-        low.max(high)
-    };
-    wanted.gain <= most
-}
-
-/// Whether more than 1 is to be gained, which only a placement gains that fills the run, and the pages do not
-/// fill it. Where the run goes on in a free one above, a placement may go on there.
-#[inline(always)]
-fn is_not_filled(wanted: &Wanted, run: &Run, above: Option<&Run>) -> bool
-    ensures { result ≡ true → (below : Option Run)
-        → RunGainsLittle wanted.now below run.now (option_map (λ r. r.now) above.entry) }
-{
-    wanted.gain > 1 && run.range.pages != wanted.pages && !goes_on_free(run, above)
 }
 
 /// The run below the one at an index.
@@ -307,74 +249,4 @@ pub(crate) fn summary_changed(
         return (summary_of(runs), 0);
     }
     (joined_near(summary, runs, changed.0, changed.1), joins + 1)
-}
-
-/// Whether the run at an index of a leaf is free and may be of use. `goes_on` says whether a free run
-/// follows the leaf.
-#[inline(always)]
-fn is_of_use(runs: &[Run], index: usize, wanted: &Wanted, goes_on: bool) -> bool
-    requires { index < length runs.now }
-    ensures free { result ≡ true → IsFreeRun (slice_get runs.now index) }
-    ensures none { result ≡ false
-        → AreRunsOfNoUse wanted.now goes_on runs.now index (index + 1) }
-{
-    let run = &runs[index];
-    if run.mtype != MemoryType::conventional() {
-        return false;
-    }
-    if goes_on && index + 1 == runs.len() {
-        return true;
-    }
-    let above = run_above(runs, index);
-    if is_not_filled(wanted, run, above) {
-        return false;
-    }
-    may_gain(wanted, run_below(runs, index), run, above)
-}
-
-/// Whether the first run of a table is of no use. No run lies below it. What lies above it is in the leaf, else
-/// the answer is `false`.
-pub(crate) fn first_is_of_no_use(runs: &[Run], wanted: &Wanted) -> bool
-    requires { 0 < length runs.now }
-    ensures { result ≡ true → FirstGainsLittle wanted.now runs.now }
-{
-    let run = &runs[0];
-    let Some(above) = runs.get(1) else {
-        return false;
-    };
-    if goes_on_free(run, Some(above)) {
-        return false;
-    }
-    let high = may_be(wanted.mtype, Some(above));
-    let most = if run.range.pages == wanted.pages {
-        1 + high
-    } else {
-        high
-    };
-    run.range.pages < wanted.pages || most < wanted.gain
-}
-
-/// The last free run that may be of use among the first runs of a leaf, whose free runs are marked. `goes_on`
-/// says whether a free run follows the leaf.
-#[inline(always)]
-pub(crate) fn last_of_use(
-    runs: &[Run],
-    marks: u64,
-    count: usize,
-    wanted: &Wanted,
-    goes_on: bool,
-) -> Option<usize>
-    requires marks { MarksFree marks runs.now }
-    requires bound { count ≤ length runs.now }
-    requires few { count ≤ 32 }
-    ensures { IsLastOfUse wanted.now goes_on runs.now count result }
-{
-    let mut end = count;
-    while let Some(index) = last_mark(marks, end) {
-        if is_of_use(runs, index, wanted, goes_on) {
-            return Some(index);
-        }
-        end = index;
-    }
-    None
 }

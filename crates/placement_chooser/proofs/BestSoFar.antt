@@ -1,7 +1,6 @@
 -- The best start so far, as entries are taken from the highest down.
-use Rattle.std.proofs.Common.{◌≡◌, ◌⊎◌, ℕ, ◌+◌, ◌≤◌, eqb, List, [], ◌∷◌, ◌++◌, filter, length, Contains, Option, Some, None, true, inl, inr, refl, sym, ap, subst, ◌∙◌, append_assoc, append-nil, arith}
+use Rattle.std.proofs.Common.{◌≡◌, ◌≢◌, ◌⊎◌, ℕ, ◌+◌, ◌<◌, ◌≤◌, eqb, List, [], ◌∷◌, ◌++◌, filter, length, Contains, Option, Some, None, true, inl, inr, refl, sym, ap, subst, ◌∙◌, append_assoc, append-nil, arith}
 use Rattle.std.specs.List.{AllByRecursion}
-use Rattle.std.specs.Prelude.{IfSome}
 use Rattle.std.proofs.lemmas.Bool.{cases_Bool, eqb-true}
 use Rattle.page_ranges.specs.declared.ranges.Descriptor.{Descriptor}
 use Rattle.page_ranges.specs.MemoryTypes.{conventional}
@@ -18,9 +17,10 @@ use Rattle.placement_certificate.specs.Search.{better}
 use Rattle.placement_certificate.proofs.BestBounds.{conventional_kept}
 use Rattle.placement_certificate.proofs.Decided.{certificate_of, certificate_true, no_certificate}
 use Rattle.placement_certificate.proofs.OneCertificate.{same_best}
-use Rattle.placement_certificate.proofs.Places.{price_most, start_entry}
+use Rattle.placement_certificate.proofs.Places.{start_entry}
 use Rattle.placement_certificate.proofs.Tries.{better_cases}
-use Rattle.placement_chooser.specs.Starts.{IsCertifiedStart, IsGain}
+use Rattle.placement_chooser.specs.declared.offers.Offer.{Offer}
+use Rattle.placement_chooser.specs.Starts.{IsCertifiedStart, IsGain, IsOfferOf, IsWantedFor, OffersBest}
 use Rattle.placement_chooser.proofs.Gains.{costs_too_much}
 
 -- ---- lists of entries
@@ -53,6 +53,10 @@ in_order m proper = order_filtered (memory_map m) (map_blocks m proper.ascending
 all_before : (xs : List Descriptor) (e : Descriptor) (ys : List Descriptor) → AreInOrder (xs ++ e ∷ ys) → AllByRecursion (λ d. d.first + d.pages ≤ e.first) xs
 all_before [] e ys a = tt
 all_before (x ∷ xs) e ys a = (member_all (λ c. x.first + x.pages ≤ c.first) (xs ++ e ∷ ys) e a.0 (member_right xs (e ∷ ys) e (member_first e ys)), all_before xs e ys a.1)
+
+-- the last one of some lists
+pub last_left : (xs ys zs : List Descriptor) (e : Descriptor) → ys ≡ zs ++ e ∷ [] → xs ++ ys ≡ (xs ++ zs) ++ e ∷ []
+last_left xs ys zs e parts = ap (λ es. xs ++ es) parts ∙ sym (append_assoc xs zs (e ∷ []))
 
 -- ---- a start that the best so far is no worse than
 
@@ -116,17 +120,45 @@ pub record IsBestSoFar (m : List Page) (r : Request) (o : Option (ℕ × ℕ)) (
   pub tried : AreTried m r o done
   pub found : IsFoundStart m r o
   pub above : IsAbove o left
-  pub mtype : w.mtype ≡ r.mtype
-  pub pages : w.pages ≡ r.pages
-  pub limit : w.limit ≡ r.limit
+  pub wanted : IsWantedFor r w
+
+-- The same with an offer for the best start, and with what a placement must gain to be better.
+pub record IsBestOffer (m : List Page) (r : Request) (b : Offer) (w : Wanted) (left : List Descriptor) : Type 0 where
+  pub best : Option (ℕ × ℕ)
+  pub offered : IsOfferOf (length (memory_map m)) best b
+  pub gain : IsGain (length (memory_map m)) best w.gain
+  pub so_far : IsBestSoFar m r best w left
+
+-- ---- offers and prices
+
+-- the offer that saves more is the better one
+newer : (n : ℕ) (o l : Option (ℕ × ℕ)) (b c : Offer) → IsOfferOf n o b → IsOfferOf n l c → b.saving < c.saving → better o l ≡ l
+newer n o None b c p q more = absurd (omega (arith, q, more))
+newer n None (Some x) b c p q more = refl
+newer n (Some (k, t)) (Some (d, u)) b c p q more = elim (better_cases k t d u) [ inl new ↦ new.0 | inr old ↦ absurd (omega (arith, old.1, p.0, q.0, more)) ]
+
+-- where it saves no more, and lies in an entry below the best so far, that stays the best
+older : (m : List Page) (r : Request) (e : Descriptor) (n : ℕ) (o l : Option (ℕ × ℕ)) (b c : Offer) → IsOfferOf n o b → IsOfferOf n l c → IsTrueLeast m r e l → IsAbove o (e ∷ []) → c.saving ≤ b.saving → better o l ≡ o
+older m r e n None None b c p q least above less = refl
+older m r e n None (Some (d, u)) b c p q least above less = absurd (omega (arith, p, q, less))
+older m r e n (Some (k, t)) None b c p q least above less = refl
+older m r e n (Some (k, t)) (Some (d, u)) b c p q least above less = elim (better_cases k t d u) [
+  | inl new ↦ absurd (omega (arith, new.1, new.2 (omega (arith, new.1, p.0, q.0, less)), above.0, least.0.in_entry.high))
+  | inr old ↦ old.0
+]
+
+-- what a placement must gain to be better than an offer
+gain_of : (n : ℕ) (l : Option (ℕ × ℕ)) (c : Offer) (g : ℕ) → IsOfferOf n l c → g + 1 ≡ c.saving → IsGain n l g
+gain_of n None c g p e = absurd (omega (arith, p, e))
+gain_of n (Some (d, u)) c g p e = omega (arith, p.0, e)
 
 -- ---- entries of no use
 
 module _ (m : List Page) (r : Request) (proper : IsProperMemory m) (good : IsProperRequest r) where
-  no_use_start : (o : Option (ℕ × ℕ)) (w : Wanted) (e : Descriptor) (q : ℕ) → w.mtype ≡ r.mtype → w.pages ≡ r.pages → w.limit ≡ r.limit → IsGain (length (memory_map m)) o w.gain → IsAbove o (e ∷ []) → Contains (memory_map m) e → e.mtype ≡ conventional → IsOfNoUse m w e → IsIn e q → IsPermittedStart m r q → NotBeaten m r o q
-  no_use_start None w e q mtype pages limit gain above entry free no_use i h = let t = costs_too_much m r e q proper good entry free i h w mtype pages limit no_use in omega (arith, gain, t.0)
-  no_use_start (Some (c, t)) w e q mtype pages limit gain above entry free no_use i h =
-      let s = costs_too_much m r e q proper good entry free i h w mtype pages limit no_use in
+  no_use_start : (o : Option (ℕ × ℕ)) (w : Wanted) (e : Descriptor) (q : ℕ) → IsWantedFor r w → IsGain (length (memory_map m)) o w.gain → IsAbove o (e ∷ []) → Contains (memory_map m) e → e.mtype ≡ conventional → IsOfNoUse m w e → IsIn e q → IsPermittedStart m r q → NotBeaten m r o q
+  no_use_start None w e q is gain above entry free no_use i h = let t = costs_too_much m r e q proper good entry free i h w is.mtype is.pages is.limit no_use in omega (arith, gain, t.0)
+  no_use_start (Some (c, t)) w e q is gain above entry free no_use i h =
+      let s = costs_too_much m r e q proper good entry free i h w is.mtype is.pages is.limit no_use in
       (omega (arith, gain, s.1), λ f. omega (arith, above.0, i.high))
 
   above_one : (o : Option (ℕ × ℕ)) (es : List Descriptor) (e : Descriptor) → IsAbove o es → Contains es e → IsAbove o (e ∷ [])
@@ -154,29 +186,26 @@ module _ (m : List Page) (r : Request) (proper : IsProperMemory m) (good : IsPro
       eqb_is : (x : Descriptor) → eqb x.mtype conventional ≡ true → x.mtype ≡ conventional
       eqb_is x t = eqb-true x.mtype conventional t
 
-  pub none_done : (w : Wanted) (left : List Descriptor) → left ≡ conventional_entries m → w.mtype ≡ r.mtype → w.pages ≡ r.pages → w.limit ≡ r.limit → IsBestSoFar m r None w left
-  none_done w left all mtype pages limit = record { done = []; all = append-nil left ∙ all; tried = λ e c. absurd (member_none e c); found = tt; above = tt; mtype = mtype; pages = pages; limit = limit }
-
-  -- the price of the better of two starts, at most
-  price_found : (n : ℕ) (o : Option (ℕ × ℕ)) → n ≡ length (memory_map m) → IsFoundStart m r o → IfSome o (λ b. b.0 ≤ n + 2)
-  price_found n None e f = tt
-  price_found n (Some (c, t)) e f = omega (arith, e, price_most m r t proper good f.0, f.1)
-
-  pub found_most : (n : ℕ) (o l b : Option (ℕ × ℕ)) (e : Descriptor) → n ≡ length (memory_map m) → b ≡ better o l → IsFoundStart m r o → IsTrueLeast m r e l → IfSome b (λ x. x.0 ≤ n + 2)
-  found_most n o l b e count is found least = price_found n b count (subst (IsFoundStart m r) (sym is) (better_keeps (IsFoundStart m r) o l found (least_found m r e l least)))
+  pub none_done : (b : Offer) (w : Wanted) (left : List Descriptor) → left ≡ conventional_entries m → IsWantedFor r w → b.saving ≡ 0 → w.gain ≡ 0 → IsBestOffer m r b w left
+  none_done b w left all wanted none gain = record {
+    best = None;
+    offered = none;
+    gain = gain;
+    so_far = record { done = []; all = append-nil left ∙ all; tried = λ e c. absurd (member_none e c); found = tt; above = tt; wanted = wanted };
+  }
 
   module _ (o : Option (ℕ × ℕ)) (w : Wanted) (left : List Descriptor) (gain : IsGain (length (memory_map m)) o w.gain) (so_far : IsBestSoFar m r o w left) where
-    left_entry : (e : Descriptor) → Contains left e → Contains (memory_map m) e × (e.mtype ≡ conventional)
+    pub left_entry : (e : Descriptor) → Contains left e → Contains (memory_map m) e × (e.mtype ≡ conventional)
     left_entry e c = kept_entry (memory_map m) e (subst (λ es. Contains es e) so_far.all (member_left left so_far.done e c))
 
     passed_tried : (es : List Descriptor) → ((e : Descriptor) → Contains es e → Contains left e) → AllByRecursion (IsOfNoUse m w) es → AreTried m r o es
     passed_tried es within no_use e c q i h =
         let k = left_entry e (within e c) in
-        no_use_start o w e q so_far.mtype so_far.pages so_far.limit gain (above_one o left e so_far.above (within e c)) k.0 k.1 (member_all (IsOfNoUse m w) es e no_use c) i h
+        no_use_start o w e q so_far.wanted gain (above_one o left e so_far.above (within e c)) k.0 k.1 (member_all (IsOfNoUse m w) es e no_use c) i h
 
     -- one entry more, and those above it that are passed
-    pub one_more : (e : Descriptor) (passed new : List Descriptor) (l : Option (ℕ × ℕ)) (v : Wanted) → left ≡ new ++ e ∷ passed → AllByRecursion (IsOfNoUse m w) passed → IsTrueLeast m r e l → v.mtype ≡ w.mtype → v.pages ≡ w.pages → v.limit ≡ w.limit → IsBestSoFar m r (better o l) v new
-    one_more e passed new l v parts no_use least mtype pages limit =
+    pub one_more : (e : Descriptor) (passed new : List Descriptor) (l : Option (ℕ × ℕ)) (v : Wanted) → left ≡ new ++ e ∷ passed → AllByRecursion (IsOfNoUse m w) passed → IsTrueLeast m r e l → IsWantedFor r v → IsBestSoFar m r (better o l) v new
+    one_more e passed new l v parts no_use least wanted =
         let order = in_order m proper in
         let all : new ++ (e ∷ passed ++ so_far.done) ≡ conventional_entries m = sym (append_assoc new (e ∷ passed) so_far.done) ∙ ap (λ es. es ++ so_far.done) (sym parts) ∙ so_far.all in
         let below = all_before new e (passed ++ so_far.done) (subst AreInOrder (sym all) order) in
@@ -192,10 +221,22 @@ module _ (m : List Page) (r : Request) (proper : IsProperMemory m) (good : IsPro
           ];
           found = better_keeps (IsFoundStart m r) o l so_far.found (least_found m r e l least);
           above = better_keeps (λ x. IsAbove x new) o l (above_left o new (e ∷ passed) (subst (IsAbove o) parts so_far.above)) (least_above m r e l new least below);
-          mtype = mtype ∙ so_far.mtype;
-          pages = pages ∙ so_far.pages;
-          limit = limit ∙ so_far.limit;
+          wanted = wanted;
         }
+
+    -- entries of no use are passed
+    some_passed : (passed new : List Descriptor) → left ≡ new ++ passed → AllByRecursion (IsOfNoUse m w) passed → IsBestSoFar m r o w new
+    some_passed passed new parts no_use = record {
+      done = passed ++ so_far.done;
+      all = sym (append_assoc new passed so_far.done) ∙ ap (λ es. es ++ so_far.done) (sym parts) ∙ so_far.all;
+      tried = λ d c q i h. elim (member_parts passed so_far.done d c) [
+        | inl p ↦ passed_tried passed (λ x k. subst (λ es. Contains es x) (sym parts) (member_right new passed x k)) no_use d p q i h
+        | inr k ↦ so_far.tried d k q i h
+      ];
+      found = so_far.found;
+      above = above_left o new passed (subst (IsAbove o) parts so_far.above);
+      wanted = so_far.wanted;
+    }
 
     -- all that are left are of no use
     all_tried : AllByRecursion (IsOfNoUse m w) left → (q : ℕ) → IsPermittedStart m r q → NotBeaten m r o q
@@ -229,3 +270,57 @@ module _ (m : List Page) (r : Request) (proper : IsProperMemory m) (good : IsPro
 
   pub certified : (t : ℕ) → IsBestStart m r t → IsCertifiedStart m r t
   certified t best = with_certificate t (certificate_of m r) refl best
+
+  -- ---- offers
+
+  certified_offer : (b : Offer) (w : Wanted) (left : List Descriptor) (o : Option (ℕ × ℕ)) → IsOfferOf (length (memory_map m)) o b → IsGain (length (memory_map m)) o w.gain → IsBestSoFar m r o w left → AllByRecursion (IsOfNoUse m w) left → b.saving ≢ 0 → IsCertifiedStart m r b.start
+  certified_offer b w left None offered gain so_far no_use some = absurd (some offered)
+  certified_offer b w left (Some (c, t)) offered gain so_far no_use some = subst (IsCertifiedStart m r) (sym offered.2) (certified t (best_start_is (Some (c, t)) w left gain so_far c t refl no_use))
+
+  no_offer_start : (b : Offer) (w : Wanted) (left : List Descriptor) (o : Option (ℕ × ℕ)) → IsOfferOf (length (memory_map m)) o b → IsGain (length (memory_map m)) o w.gain → IsBestSoFar m r o w left → AllByRecursion (IsOfNoUse m w) left → b.saving ≡ 0 → (q : ℕ) → ¬ IsPermittedStart m r q
+  no_offer_start b w left None offered gain so_far no_use none = no_start None w left gain so_far refl no_use
+  no_offer_start b w left (Some (c, t)) offered gain so_far no_use none = absurd (omega (arith, offered.0, offered.1, none))
+
+  module _ (b : Offer) (w : Wanted) (left : List Descriptor) (is : IsBestOffer m r b w left) where
+    pub free_entry : (e : Descriptor) → Contains left e → Contains (memory_map m) e × (e.mtype ≡ conventional)
+    free_entry e c = left_entry is.best w left is.gain is.so_far e c
+
+    pub last_entry : (new : List Descriptor) (e : Descriptor) → left ≡ new ++ e ∷ [] → Contains (memory_map m) e × (e.mtype ≡ conventional)
+    last_entry new e parts = free_entry e (subst (λ es. Contains es e) (sym parts) (member_right new (e ∷ []) e (member_first e [])))
+
+    -- entries of no use are passed
+    pub passed_offer : (passed new : List Descriptor) → left ≡ new ++ passed → AllByRecursion (IsOfNoUse m w) passed → IsBestOffer m r b w new
+    passed_offer passed new parts no_use = record { best = is.best; offered = is.offered; gain = is.gain; so_far = some_passed is.best w left is.gain is.so_far passed new parts no_use }
+
+    -- the offer of one entry more saves more
+    pub better_offer : (e : Descriptor) (new : List Descriptor) (c : Offer) (v : Wanted) → left ≡ new ++ e ∷ [] → OffersBest m r w e c → b.saving < c.saving → IsWantedFor r v → v.gain + 1 ≡ c.saving → IsBestOffer m r c v new
+    better_offer e new c v parts offer more wanted gain = elim offer [
+      | inl l ↦ record {
+        best = l.0;
+        offered = l.2;
+        gain = gain_of (length (memory_map m)) l.0 c v.gain l.2 gain;
+        so_far = subst (λ o. IsBestSoFar m r o v new) (newer (length (memory_map m)) is.best l.0 b c is.offered l.2 more) (one_more is.best w left is.gain is.so_far e [] new l.0 v parts tt l.1 wanted);
+      }
+      | inr none ↦ absurd (omega (arith, none.0, more))
+    ]
+
+    -- or it does not
+    pub kept_offer : (e : Descriptor) (new : List Descriptor) (c : Offer) → left ≡ new ++ e ∷ [] → OffersBest m r w e c → c.saving ≤ b.saving → IsBestOffer m r b w new
+    kept_offer e new c parts offer less = elim offer [
+      | inl l ↦
+          let above = above_one is.best left e is.so_far.above (subst (λ es. Contains es e) (sym parts) (member_right new (e ∷ []) e (member_first e []))) in
+          record {
+            best = is.best;
+            offered = is.offered;
+            gain = is.gain;
+            so_far = subst (λ o. IsBestSoFar m r o w new) (older m r e (length (memory_map m)) is.best l.0 b c is.offered l.2 l.1 above less) (one_more is.best w left is.gain is.so_far e [] new l.0 w parts tt l.1 is.so_far.wanted);
+          }
+      | inr none ↦ passed_offer (e ∷ []) new parts (none.1, tt)
+    ]
+
+    -- all that are left are of no use
+    pub offer_is_best : AllByRecursion (IsOfNoUse m w) left → b.saving ≢ 0 → IsCertifiedStart m r b.start
+    offer_is_best no_use some = certified_offer b w left is.best is.offered is.gain is.so_far no_use some
+
+    pub no_offer : AllByRecursion (IsOfNoUse m w) left → b.saving ≡ 0 → (q : ℕ) → ¬ IsPermittedStart m r q
+    no_offer no_use none = no_offer_start b w left is.best is.offered is.gain is.so_far no_use none

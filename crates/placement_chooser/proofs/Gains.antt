@@ -4,7 +4,7 @@ use Rattle.std.proofs.lemmas.Bool.{cases_Bool, cases_lt, eq-eqb, ne_eqb}
 use Rattle.page_ranges.specs.declared.ranges.Descriptor.{Descriptor}
 use Rattle.page_ranges.specs.declared.ranges.Owner.TheVariants.{Pages}
 use Rattle.page_ranges.specs.MemoryTypes.{conventional, attributes_as}
-use Rattle.page_ranges.specs.Memory.{Page, page_at, page_below, IsProperMemory}
+use Rattle.page_ranges.specs.Memory.{Page, page_at, page_below, IsConventional, IsProperMemory}
 use Rattle.page_ranges.specs.MemoryMap.{memory_map, IsIn, IsMaximalBlock}
 use Rattle.page_ranges.proofs.Blocks.{entry_is_block}
 use Rattle.descriptor_table.specs.declared.wanted.Wanted.{Wanted}
@@ -37,6 +37,20 @@ gain_whole n p b a e = ap (λ c. cond c (1 + b + a) (max b a)) (eq-eqb n p e)
 
 gain_part : (n p b a : ℕ) → n ≢ p → most_gain n p b a ≡ max b a
 gain_part n p b a d = ap (λ c. cond c (1 + b + a) (max b a)) (ne_eqb n p d)
+
+-- ---- entries behind which no free page lies
+
+module _ (m : List Page) (w : Wanted) (e : Descriptor) (behind : ¬ IsConventional (page_at m (e.first + e.pages))) where
+  -- an entry that is too small is of no use
+  pub too_small : e.pages < w.pages → IsOfNoUse m w e
+  too_small less = inr (record { within = λ n. absurd (omega (arith, n, less)); beyond = λ c. absurd (behind c) })
+
+  -- nor is one that the pages do not fill, where more than 1 is to be gained
+  pub not_filled : w.pages ≢ e.pages → 1 < w.gain → IsOfNoUse m w e
+  not_filled other more =
+      let b = is_of w.mtype (page_below m e.first) in
+      let a = is_of w.mtype (page_at m (e.first + e.pages)) in
+      inr (record { within = λ n. omega (arith, gain_part w.pages e.pages b a other, of_most w.mtype (page_below m e.first), of_most w.mtype (page_at m (e.first + e.pages)), more); beyond = λ c. absurd (behind c) })
 
 module _ (m : List Page) (r : Request) (e : Descriptor) (q : ℕ) (proper : IsProperMemory m) (good : IsProperRequest r) (entry : Contains (memory_map m) e) (free : e.mtype ≡ conventional) (in_entry : IsIn e q) (permitted : IsPermittedStart m r q) where
   abbrev end : ℕ

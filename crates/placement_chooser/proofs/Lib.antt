@@ -1,3 +1,4 @@
 pub mod Entries
 pub mod Gains
 pub mod BestSoFar
+pub mod Alone

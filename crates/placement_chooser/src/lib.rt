@@ -2,6 +2,7 @@
 #![tactic(auto)]
 
 mod choosing;
+mod offers;
 mod starts;
 
 pub use choosing::choose;

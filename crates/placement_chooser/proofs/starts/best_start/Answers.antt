@@ -1,72 +1,101 @@
-use Rattle.std.proofs.Common.{◌+◌, sym, refl, subst, ◌∙◌, arith, rules}
+use Rattle.std.proofs.Common.{◌++◌, sym, refl, subst, ap, ◌∙◌, append_assoc, append-nil, arith}
+use Rattle.std.specs.Prelude.{Contains}
 use Rattle.std.specs.List.{AllByRecursion}
-use Rattle.page_ranges.specs.Memory.{page_at, page_below}
+use Rattle.page_ranges.specs.MemoryMap.{memory_map}
 use Rattle.descriptor_table.specs.Wanting.{IsOfNoUse}
-use Rattle.placement_certificate.specs.Search.{IsOnPage}
-use Rattle.placement_certificate.proofs.BlockStarts.{few_in_map, on_page}
-use Rattle.placement_chooser.specs.Starts.{IsGain}
-use Rattle.placement_chooser.proofs.BestSoFar.{best_start_is, certified, found_most, no_start, none_done, one_more}
-use Rattle.placement_chooser.proofs.Entries.{below_page}
+use Rattle.placement_chooser.specs.Starts.{OffersBest}
+use Rattle.placement_chooser.proofs.BestSoFar.{IsBestOffer, better_offer, kept_offer, last_entry, last_left, no_offer, none_done, offer_is_best, passed_offer}
 use Rattle.placement_chooser.proofs.starts.best_start.Goals as goal
 
-pub loop-free-init : goal.loop-free-init
-loop-free-init g c = record {
+pub loop-leaf-init : goal.loop-leaf-init
+loop-leaf-init g c = record {
   memory = c.entries_down-left.ensures.memory;
-  best = none_done c.args.table.now.pages c.args.request.now c.descriptors-count.ensures.proper c.requires _ c.entries_down-left.result.entries c.entries_down-left.ensures.entries refl refl refl;
-  gain = refl;
-  stays = search rules;
+  best = none_done c.args.table.now.pages c.args.request.now c.descriptors-entries.ensures.proper c.requires _ _ c.entries_down-left.result.entries c.entries_down-left.ensures.entries (record { mtype = refl; pages = refl; limit = refl }) refl refl;
+  stays = c.new-search.ensures ∙ c.cursor.ensures;
 }
 
-pub least_beside-least-requires-clause-below : goal.least_beside-least-requires-clause-below
-least_beside-least-requires-clause-below g c =
-    let free = c.in-Some.free in
-    subst (λ m. IsOnPage free.below (page_below m free.entry.first)) (c.loop-free.invariant.memory ∙ sym c.loop-free.invariant.stays) (below_page c.loop-free.left.memory free.entry.first free.below c.in-Some.ensures.next.0.below)
+pub loop-free-init : goal.loop-free-init
+loop-free-init g c =
+    let m = c.args.table.now.pages in
+    let leaf = c.in-Some.leaf in
+    let rest = c.next_leaf.new.self.entries in
+    let next = c.in-Some.ensures.next in
+    let passed = next.2.0 in
+    record {
+      memory = next.0 ∙ c.loop-leaf.invariant.memory;
+      best = passed_offer m c.args.request.now c.descriptors-entries.ensures.proper c.requires c.loop-leaf.best c.loop-leaf.wanted c.loop-leaf.left.entries c.loop-leaf.invariant.best passed (rest ++ leaf.entries) (next.2.1 ∙ sym (append_assoc rest leaf.entries passed)) (subst (λ n. AllByRecursion (IsOfNoUse n c.loop-leaf.wanted) passed) c.loop-leaf.invariant.memory next.2.2);
+      stays = c.loop-leaf.invariant.stays;
+    }
 
-pub least_beside-least-requires-clause-above : goal.least_beside-least-requires-clause-above
-least_beside-least-requires-clause-above g c =
-    let free = c.in-Some.free in
-    subst (λ m. IsOnPage free.above (page_at m (free.entry.first + free.entry.pages))) (c.loop-free.invariant.memory ∙ sym c.loop-free.invariant.stays) (on_page c.loop-free.left.memory (free.entry.first + free.entry.pages) free.above c.in-Some.ensures.next.0.above)
+pub loop-leaf-preserved : goal.loop-leaf-preserved
+loop-leaf-preserved g c =
+    let rest = c.next_leaf.new.self.entries in
+    let none = ap (λ es. rest ++ es) c.in_default-next_entry.ensures.next ∙ append-nil rest in
+    record {
+      memory = c.in-Some.ensures.stays ∙ c.loop-leaf.invariant.memory;
+      best = subst (IsBestOffer c.args.table.now.pages c.args.request.now c.loop-free.best c.loop-free.wanted) none c.loop-free.invariant.best;
+      stays = c.loop-free.invariant.stays;
+    }
 
-pub gain_to_beat-requires-clause-few : goal.gain_to_beat-requires-clause-few
-gain_to_beat-requires-clause-few g c = omega (arith, few_in_map c.args.table.now.pages c.descriptors-count.ensures.proper, c.descriptors-count.ensures.count)
+pub offer_in-offer-requires-clause-entry : goal.offer_in-offer-requires-clause-entry
+offer_in-offer-requires-clause-entry g c =
+    let e = c.in-Some-next_entry.free.entry in
+    let rest = c.next_leaf.new.self.entries in
+    let next = c.in-Some-next_entry.ensures.next in
+    let parts = last_left rest c.loop-free.leaf.entries c.next_entry.new.self.entries e next.1 in
+    subst (λ n. Contains (memory_map n) e) (sym (next.0 ∙ c.loop-free.invariant.memory)) (last_entry c.args.table.now.pages c.args.request.now c.descriptors-entries.ensures.proper c.requires c.loop-free.best c.loop-free.wanted (rest ++ c.loop-free.leaf.entries) c.loop-free.invariant.best (rest ++ c.next_entry.new.self.entries) e parts).0
 
-pub gain_to_beat-requires-clause-most : goal.gain_to_beat-requires-clause-most
-gain_to_beat-requires-clause-most g c =
+pub offer_in-offer-requires-clause-free : goal.offer_in-offer-requires-clause-free
+offer_in-offer-requires-clause-free g c =
+    let e = c.in-Some-next_entry.free.entry in
+    let rest = c.next_leaf.new.self.entries in
+    let parts = last_left rest c.loop-free.leaf.entries c.next_entry.new.self.entries e c.in-Some-next_entry.ensures.next.1 in
+    (last_entry c.args.table.now.pages c.args.request.now c.descriptors-entries.ensures.proper c.requires c.loop-free.best c.loop-free.wanted (rest ++ c.loop-free.leaf.entries) c.loop-free.invariant.best (rest ++ c.next_entry.new.self.entries) e parts).1
+
+pub loop-free-preserved-then-best-offer : goal.loop-free-preserved-then-best-offer
+loop-free-preserved-then-best-offer g c =
     let m = c.args.table.now.pages in
     let r = c.args.request.now in
-    let least = rw c.loop-free.invariant.stays at c.least_beside-least.ensures.least in
-    found_most m r c.descriptors-count.ensures.proper c.requires c.descriptors-count.result c.loop-free.best c.least_beside-least.result c.better_of-best.result c.in-Some.free.entry c.descriptors-count.ensures.count c.better_of-best.ensures c.loop-free.invariant.best.found least
+    let w = c.loop-free.wanted in
+    let e = c.in-Some-next_entry.free.entry in
+    let offer = c.offer_in-offer.result in
+    let rest = c.next_leaf.new.self.entries in
+    let left = c.next_entry.new.self.entries in
+    let next = c.in-Some-next_entry.ensures.next in
+    let memory = next.0 ∙ c.loop-free.invariant.memory in
+    let best = c.loop-free.invariant.best in
+    record {
+      memory = c.in-Some-next_entry.ensures.stays ∙ c.loop-free.invariant.memory;
+      best = better_offer m r c.descriptors-entries.ensures.proper c.requires c.loop-free.best w (rest ++ c.loop-free.leaf.entries) best e (rest ++ left) offer _ (last_left rest c.loop-free.leaf.entries left e next.1) (subst (λ n. OffersBest n r w e offer) memory c.offer_in-offer.ensures.offer) c.if-best-offer.true
+          (record { mtype = best.so_far.wanted.mtype; pages = best.so_far.wanted.pages; limit = best.so_far.wanted.limit }) (omega (arith, c.if-best-offer.true));
+      stays = c.offer_in-offer.ensures.stays ∙ c.loop-free.invariant.stays;
+    }
 
 pub loop-free-preserved : goal.loop-free-preserved
 loop-free-preserved g c =
     let m = c.args.table.now.pages in
     let r = c.args.request.now in
     let w = c.loop-free.wanted in
-    let next = c.in-Some.ensures.next.1 in
-    let no_use = subst (λ n. AllByRecursion (IsOfNoUse n w) next.0) c.loop-free.invariant.memory next.2 in
-    let least = rw c.loop-free.invariant.stays at c.least_beside-least.ensures.least in
+    let e = c.in-Some-next_entry.free.entry in
+    let offer = c.offer_in-offer.result in
+    let rest = c.next_leaf.new.self.entries in
+    let left = c.next_entry.new.self.entries in
+    let next = c.in-Some-next_entry.ensures.next in
+    let memory = next.0 ∙ c.loop-free.invariant.memory in
     record {
-      memory = c.in-Some.ensures.stays ∙ c.loop-free.invariant.memory;
-      best = rw c.better_of-best.ensures (one_more m r c.descriptors-count.ensures.proper c.requires c.loop-free.best w c.loop-free.left.entries c.loop-free.invariant.gain c.loop-free.invariant.best c.in-Some.free.entry next.0 c.next_wanted.new.self.entries c.least_beside-least.result _ next.1 no_use least refl refl refl);
-      gain = subst (λ n. IsGain n c.better_of-best.result c.gain_to_beat.result) c.descriptors-count.ensures.count c.gain_to_beat.ensures;
-      stays = c.least_beside-least.ensures.stays ∙ c.loop-free.invariant.stays;
+      memory = c.in-Some-next_entry.ensures.stays ∙ c.loop-free.invariant.memory;
+      best = kept_offer m r c.descriptors-entries.ensures.proper c.requires c.loop-free.best w (rest ++ c.loop-free.leaf.entries) c.loop-free.invariant.best e (rest ++ left) offer (last_left rest c.loop-free.leaf.entries left e next.1) (subst (λ n. OffersBest n r w e offer) memory c.offer_in-offer.ensures.offer) (omega (arith, c.if-best-offer.false));
+      stays = c.offer_in-offer.ensures.stays ∙ c.loop-free.invariant.stays;
     }
 
-pub returns-in-Some-best-clause-best : goal.returns-in-Some-best-clause-best
-returns-in-Some-best-clause-best g c =
-    let m = c.args.table.now.pages in
-    let r = c.args.request.now in
-    let proper = c.descriptors-count.ensures.proper in
-    let w = c.loop-free.wanted in
-    let no_use = subst (λ n. AllByRecursion (IsOfNoUse n w) c.loop-free.left.entries) c.loop-free.invariant.memory c.in_default.ensures.next in
-    let answer = c.in-Some-best.answer in
-    certified m r proper c.requires answer (best_start_is m r proper c.requires c.loop-free.best w c.loop-free.left.entries c.loop-free.invariant.gain c.loop-free.invariant.best c.in-Some-best.field-0-0 answer c.in-Some-best.is no_use)
+pub returns-clause-best : goal.returns-clause-best
+returns-clause-best g c =
+    let w = c.loop-leaf.wanted in
+    let no_use = subst (λ n. AllByRecursion (IsOfNoUse n w) c.loop-leaf.left.entries) c.loop-leaf.invariant.memory c.in_default.ensures.next in
+    offer_is_best c.args.table.now.pages c.args.request.now c.descriptors-entries.ensures.proper c.requires c.loop-leaf.best w c.loop-leaf.left.entries c.loop-leaf.invariant.best no_use (λ e. omega (arith, e, c.if-best-eq0.false))
 
-pub returns-in-None-clause-none : goal.returns-in-None-clause-none
-returns-in-None-clause-none g c =
-    let m = c.args.table.now.pages in
-    let r = c.args.request.now in
-    let proper = c.descriptors-count.ensures.proper in
-    let w = c.loop-free.wanted in
-    let no_use = subst (λ n. AllByRecursion (IsOfNoUse n w) c.loop-free.left.entries) c.loop-free.invariant.memory c.in_default.ensures.next in
-    λ _. no_start m r proper c.requires c.loop-free.best w c.loop-free.left.entries c.loop-free.invariant.gain c.loop-free.invariant.best c.in-None.is no_use
+pub returns-then-best-eq0-clause-none : goal.returns-then-best-eq0-clause-none
+returns-then-best-eq0-clause-none g c =
+    let w = c.loop-leaf.wanted in
+    let no_use = subst (λ n. AllByRecursion (IsOfNoUse n w) c.loop-leaf.left.entries) c.loop-leaf.invariant.memory c.in_default.ensures.next in
+    λ _. no_offer c.args.table.now.pages c.args.request.now c.descriptors-entries.ensures.proper c.requires c.loop-leaf.best w c.loop-leaf.left.entries c.loop-leaf.invariant.best no_use c.if-best-eq0.true

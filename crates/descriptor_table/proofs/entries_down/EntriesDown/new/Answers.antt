@@ -1,4 +1,4 @@
-use Rattle.std.proofs.Common.{length, take, ap, ◌∙◌, append-nil, arith}
+use Rattle.std.proofs.Common.{length, ap, ◌∙◌, arith}
 use Rattle.std.proofs.lemmas.List.{take_all}
 use Rattle.descriptor_table.specs.Leaves.{runs_in}
 use Rattle.descriptor_table.specs.Wanting.{entries_of}
@@ -8,4 +8,4 @@ use Rattle.descriptor_table.proofs.entries_down.EntriesDown.new.Goals as goal
 pub returns-clause-entries : goal.returns-clause-entries
 returns-clause-entries g c =
     let ls = c.args.leaves.now in
-    ap entries_of (append-nil (runs_in (take (length ls) ls)) ∙ ap runs_in (take_all (length ls) ls (omega arith))) ∙ entries_of_table (runs_in ls) c.requires.maximal c.requires.proper
+    ap (λ xs. entries_of (runs_in xs)) (take_all (length ls) ls (omega arith)) ∙ entries_of_table (runs_in ls) c.requires.maximal c.requires.proper

@@ -1,4 +1,0 @@
-use Rattle.descriptor_table.proofs.entries_down.runs_of.Goals as goal
-
-pub runs-requires : goal.runs-requires
-runs-requires g c = λ κs low. low
