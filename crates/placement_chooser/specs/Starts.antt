@@ -18,7 +18,7 @@ abbrev pub IsGain : ℕ → Option (ℕ × ℕ) → ℕ → Type 0
 IsGain entries None gain = gain ≡ 0
 IsGain entries (Some (price, start)) gain = gain + price ≡ entries + 2
 
--- a start with its price, in a map of a number of entries, as an offer; or there is none
+-- a start with its price, in a map of a number of entries, as an offer; or none
 abbrev pub IsOfferOf : ℕ → Option (ℕ × ℕ) → Offer → Type 0
 IsOfferOf entries None offer = offer.saving ≡ 0
 IsOfferOf entries (Some (price, start)) offer =

@@ -15,14 +15,15 @@ use page_ranges::{Descriptor, MemoryType, Run, is_specific_purpose};
 use placement_certificate::{EntrySearch, Request};
 use std::alloc::Allocator;
 
-/// A start, and how many entries fewer than three more the map has once pages are placed there.
+/// A start, and what a placement there saves: 1 where the map then has two entries more, which is the most, 2
+/// where it has one more, and so on.
 #[derive(Clone, Copy)]
 pub(crate) struct Offer {
     pub(crate) saving: u64,
     pub(crate) start: u64,
 }
 
-/// In place of an offer: no start is permitted, or none is better.
+/// No start is permitted, or none is better.
 pub(crate) const NO_OFFER: Offer = Offer {
     saving: 0,
     start: 0,
