@@ -176,6 +176,9 @@ pub(crate) fn renew_groups<A: Allocator + Copy>(
     ensures { AreGroups leaves.now groups.new.items }
 {
     if leaves.len() == count {
+        if groups.is_empty() {
+            return;
+        }
         let low = first_concerned(leaves, near.0);
         change_groups(leaves, groups, low, near.1);
         return;
