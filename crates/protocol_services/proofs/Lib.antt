@@ -16,3 +16,5 @@ pub mod Unopened
 pub mod Signals
 pub mod RemovedMany
 pub mod DriversNear
+pub mod Lives
+pub mod Decided

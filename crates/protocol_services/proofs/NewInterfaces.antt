@@ -1,14 +1,17 @@
 -- Interfaces that come one after the other on a handle that has none of their GUIDs.
-use Rattle.std.proofs.Common.{◌≡◌, ℕ, ◌==◌, false, List, [], ◌∷◌, ◌++◌, None, inl, inr, ◌∙◌}
+use Rattle.std.proofs.Common.{◌≡◌, ℕ, ◌==◌, Bool, true, false, List, [], ◌∷◌, ◌++◌, Option, Some, None, Err, inl, inr, refl, ◌∙◌}
 use Rattle.std.specs.List.{find, list_any, AllByRecursion}
 use Rattle.std.proofs.lemmas.Bool.{cases_Bool}
+use Rattle.page_ranges.specs.declared.statuses.Status.{Status}
+use Rattle.page_ranges.specs.declared.statuses.Status.TheVariants.{InvalidParameter}
 use Rattle.guid_handles.specs.declared.records.Interface.{Interface}
-use Rattle.guid_handles.specs.HandleTables.{same_guid, is_at}
-use Rattle.guid_handles.specs.HandleChanges.{has_guid_twice}
+use Rattle.guid_handles.specs.HandleTables.{HandleTable, same_guid, is_at}
+use Rattle.guid_handles.specs.HandleChanges.{Installs, has_guid_twice}
 use Rattle.guid_handles.specs.Indexes.{AreAbsent}
 use Rattle.guid_handles.proofs.GuidOrder.{and_false}
 use Rattle.guid_handles.proofs.SortedLists.{find_push_other}
 use Rattle.driver_connect.proofs.Opened.{none_any}
+use Rattle.protocol_services.specs.Installing.{or_out_of_memory, unless_path}
 
 -- the first of some pairs is not there, and once it is, none of the others is
 pub record IsNextAdded (n : ℕ) (p : List ℕ × ℕ) (ps : List (List ℕ × ℕ)) (i : Interface) (listed : List Interface) : Type 0 where
@@ -31,3 +34,15 @@ next_added n p ps value stamp listed a t = elim (cases_Bool (list_any (λ q. sam
     once = rw e at t;
   }
 ]
+
+-- an installation that is refused, or runs out of memory, leaves all handles
+pub not_installed : (t : HandleTable) (handle : ℕ) (pairs : List (List ℕ × ℕ)) (refusal : Option Status) (status : Status) → status ≡ or_out_of_memory refusal → Installs t handle pairs refusal (Err status) t
+not_installed t handle pairs None status e = (e, refl)
+not_installed t handle pairs (Some refusal) status e = (e, refl)
+
+-- where nothing refuses an installation, neither do the handles
+pub no_refusal : (has_path : Bool) (refusal : Option Status) → unless_path has_path refusal ≡ None → refusal ≡ None
+no_refusal false refusal h = h
+no_refusal true None h = refl
+no_refusal true (Some InvalidParameter) h = cc
+no_refusal true (Some status) h = cc

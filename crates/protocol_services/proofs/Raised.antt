@@ -1,5 +1,5 @@
 -- How far calls raise numbers, stamps and counts.
-use Rattle.std.proofs.Common.{◌≡◌, ℕ, ◌+◌, ◌≤◌, Bool, not, List, Result, Ok, Err, ap, subst, sym, arith}
+use Rattle.std.proofs.Common.{◌≡◌, ℕ, ◌+◌, ◌≤◌, Bool, not, List, Result, Ok, Err, OnOk, ap, subst, sym, arith}
 use Rattle.std.specs.List.{AllByRecursion}
 use Rattle.page_ranges.specs.declared.statuses.Status.{Status}
 use Rattle.page_ranges.specs.declared.statuses.Status.TheVariants.{InvalidParameter, NotFound, OutOfResources, DeviceError}
@@ -15,6 +15,11 @@ use Rattle.driver_connect.specs.Connecting.{Connects, first_progress, levels_bel
 use Rattle.driver_connect.proofs.Counts.{connect_counts}
 use Rattle.protocol_services.specs.Lists.{Lists, IsRaised}
 use Rattle.protocol_services.proofs.OpenCounts.{CountUpTo, one_higher}
+
+-- what holds holds of a success
+pub on_ok : {T E : Type 0} (result : Result T E) (P : Type 0) → P → OnOk result P
+on_ok (Ok value) P p = p
+on_ok (Err error) P p = tt
 
 -- where all stays, nothing is raised
 pub stays_raised : (l : Lists) → IsRaised l l

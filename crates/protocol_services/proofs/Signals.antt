@@ -1,10 +1,16 @@
 -- The events of pairs that are installed one after the other.
-use Rattle.std.proofs.Common.{◌≡◌, ℕ, ◌+◌, ◌<◌, List, [], ◌∷◌, ◌++◌, length, take, get_or, sym, ap, ap₂, ◌∙◌, append-nil}
+use Rattle.std.proofs.Common.{◌≡◌, ℕ, ◌+◌, ◌<◌, ◌≤◌, List, [], ◌∷◌, ◌++◌, length, take, get_or, sym, ap, ap₂, ◌∙◌, append-nil, arith}
 use Rattle.std.proofs.lemmas.Grind.{flat_map-append}
 use Rattle.std.proofs.lemmas.List.{take_more}
 use Rattle.protocol_notify.specs.Registrations.{events_for}
 use Rattle.protocol_notify.specs.declared.notify.Registration.{Registration}
 use Rattle.protocol_services.specs.Installing.{signaled}
+
+-- a single pair
+pub signaled_one : (rs : List Registration) (pairs : List (List ℕ × ℕ)) (p : List ℕ × ℕ) → 1 ≤ length pairs → length pairs < 2 → p ≡ get_or pairs 0 p → events_for rs p.0 ≡ signaled rs pairs
+signaled_one rs [] p least below is = absurd (omega arith)
+signaled_one rs (q ∷ []) p least below is = ap (λ (r : List ℕ × ℕ). events_for rs r.0) is ∙ sym (append-nil (events_for rs q.0))
+signaled_one rs (q ∷ r ∷ more) p least below is = absurd (omega arith)
 
 -- one pair more
 pub signaled_more : (rs : List Registration) (pairs : List (List ℕ × ℕ)) (k : ℕ) (p : List ℕ × ℕ) (done more : List ℕ) → k < length pairs → p ≡ get_or pairs k p

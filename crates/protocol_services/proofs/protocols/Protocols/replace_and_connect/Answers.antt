@@ -1,4 +1,6 @@
-use Rattle.std.proofs.Common.{◌∙◌}
+use Rattle.std.proofs.Common.{refl, ◌∙◌}
+use Rattle.std.proofs.lemmas.Result.{IfOk-from_err}
+use Rattle.guid_handles.proofs.SlidRows.{on_err}
 use Rattle.protocol_services.proofs.Freed.{opens_back}
 use Rattle.protocol_services.proofs.Raised.{stays_raised}
 use Rattle.protocol_services.proofs.protocols.Protocols.replace_and_connect.Goals as goal
@@ -13,3 +15,39 @@ returns-in-Err-clause-raised g c =
     let same = c.put_opens_back.ensures
     ∙ opens_back c.args.self.now c.free_and_connect.new.self c.in_ok-opens.opens c.in-Err.ensures.handles c.free_and_connect.ensures.registrations (rw (← c.self.view_is) c.in_ok-opens.ensures) in
     rw same (stays_raised c.args.self.now)
+
+pub returns-in_err-given-clause-ok : goal.returns-in_err-given-clause-ok
+returns-in_err-given-clause-ok g c = IfOk-from_err c.from_residual.result _ c.from_residual.ensures.0
+
+pub returns-in_err-given-clause-err : goal.returns-in_err-given-clause-err
+returns-in_err-given-clause-err g c = on_err c.from_residual.result _ refl
+
+pub returns-in_err-given-clause-raised : goal.returns-in_err-given-clause-raised
+returns-in_err-given-clause-raised g c = stays_raised c.args.self.now
+
+pub returns-in_err-opens-clause-ok : goal.returns-in_err-opens-clause-ok
+returns-in_err-opens-clause-ok g c = IfOk-from_err c.from_residual-in_err-opens.result _ c.from_residual-in_err-opens.ensures.0
+
+pub returns-in_err-opens-clause-err : goal.returns-in_err-opens-clause-err
+returns-in_err-opens-clause-err g c = on_err c.from_residual-in_err-opens.result _ refl
+
+pub returns-in_err-opens-clause-raised : goal.returns-in_err-opens-clause-raised
+returns-in_err-opens-clause-raised g c = stays_raised c.args.self.now
+
+pub free_and_connect-requires-clause-plan : goal.free_and_connect-requires-clause-plan
+free_and_connect-requires-clause-plan g c = c.requires.plan
+
+pub free_and_connect-requires-clause-there : goal.free_and_connect-requires-clause-there
+free_and_connect-requires-clause-there g c = c.requires.there
+
+pub free_and_connect-requires-clause-room : goal.free_and_connect-requires-clause-room
+free_and_connect-requires-clause-room g c = c.requires.room
+
+pub free_and_connect-requires-clause-given : goal.free_and_connect-requires-clause-given
+free_and_connect-requires-clause-given g c = rw (← c.self.view_is) c.in_ok-given.ensures.events
+
+pub returns-in-Ok-clause-ok : goal.returns-in-Ok-clause-ok
+returns-in-Ok-clause-ok g c = c.in-Ok.ensures.ok
+
+pub returns-in-Ok-clause-raised : goal.returns-in-Ok-clause-raised
+returns-in-Ok-clause-raised g c = c.in-Ok.ensures.raised
