@@ -20,6 +20,11 @@ pub vacant : (slots : List (Option OpenRecord)) (places : List ℕ) (i n : ℕ) 
     items_on (items_at slots (drop i places)) n guid ≡ items_on (items_at slots (drop (i + 1) places)) n guid
 vacant slots places i n guid l h = rw (add-one, drop-cons places i 0) (rw h refl)
 
+-- a list with an item in it is not empty
+pub not_empty : {X : Type 0} (xs : List X) (y : X) (ys : List X) → xs ++ y ∷ ys ≡ [] → ⊥
+not_empty [] y ys h = cc
+not_empty (x ∷ xs) y ys h = cc
+
 nothing_over : {X : Type 0} (xs : List X) → written_over xs [] ≡ []
 nothing_over [] = refl
 nothing_over (x ∷ xs) = refl
