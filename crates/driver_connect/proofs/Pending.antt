@@ -10,7 +10,7 @@ use Rattle.guid_handles.proofs.SortedLists.{filter_shorter, map_append}
 use Rattle.protocol_notify.specs.declared.notify.Registration.{Registration}
 use Rattle.driver_connect.specs.declared.connecting.Pending.{Pending}
 use Rattle.driver_connect.specs.Drivers.{Meaning}
-use Rattle.driver_connect.specs.Starting.{Progress, Site, site, starts_on}
+use Rattle.driver_connect.specs.Starting.{Progress, site, starts_on}
 use Rattle.driver_connect.specs.Connecting.{connected, each_connected, made_after}
 use Rattle.driver_connect.specs.Pending.{all_connected, first_last}
 use Rattle.driver_connect.specs.GoingOn.{HasMade}

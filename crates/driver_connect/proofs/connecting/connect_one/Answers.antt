@@ -1,4 +1,4 @@
-use Rattle.std.proofs.Common.{◌≡◌, ◌-◌, ◌≤◌, ◌∙◌, ap, map, arith}
+use Rattle.std.proofs.Common.{◌≡◌, ◌-◌, ◌≤◌, ◌∙◌, map, arith}
 use Rattle.std.specs.List.{AllByRecursion}
 use Rattle.driver_connect.specs.Beside.{reached}
 use Rattle.driver_connect.specs.Connecting.{made_after}
