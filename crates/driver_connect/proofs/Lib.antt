@@ -32,3 +32,4 @@ pub mod GoingOn
 pub mod Beside
 pub mod Restamped
 pub mod OnePair
+pub mod Lives

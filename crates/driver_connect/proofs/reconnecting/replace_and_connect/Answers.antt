@@ -15,3 +15,12 @@ returns-in-Ok-clause-ok g c =
     (with_value c.args.handle c.args.guid c.args.value (without_handles c.handles-leaving.result.now c.args.handles.now)) (with_value c.args.handle c.args.guid c.args.value (without_handles c.args.plan.now.handles c.args.handles.now))
     c.replace_beside.new.handles c.replace_beside.new.handles c.args.opens.now c.args.given.now c.in-Ok.events.items c.replace_beside.new.opens
     (ap (λ (ns : List ℕ). with_value c.args.handle c.args.guid c.args.value (without_handles ns c.args.handles.now)) c.handles-leaving.ensures) refl c.in-Ok.ensures.ok
+
+pub replace_over_copy-requires-clause-there : goal.replace_over_copy-requires-clause-there
+replace_over_copy-requires-clause-there g c = rw c.handles-leaving.ensures c.requires.there
+
+pub returns-then-has_driver_handle-clause-ok : goal.returns-then-has_driver_handle-clause-ok
+returns-then-has_driver_handle-clause-ok g c = rw c.handles-leaving.ensures at c.replace_over_copy.ensures.ok
+
+pub replace_beside-requires-clause-there : goal.replace_beside-requires-clause-there
+replace_beside-requires-clause-there g c = rw c.handles-leaving.ensures c.requires.there
