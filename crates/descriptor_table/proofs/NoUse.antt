@@ -60,15 +60,19 @@ like_is_of : (o : Option Page) (s : Run) (t : ℕ) → IsLike (entry_of s) o →
 like_is_of None s t l = absurd l
 like_is_of (Some x) s t l = let same : is_of t (Some x) ≡ may_be t (Some s) = ap (λ k. cond (eqb k t) 1 0) l.0 in omega (arith, same)
 
-like_free : (o : Option Page) (s : Run) → IsLike (entry_of s) o → IsConventional o → s.mtype ≡ conventional
+pub like_free : (o : Option Page) (s : Run) → IsLike (entry_of s) o → IsConventional o → s.mtype ≡ conventional
 like_free None s l c = absurd l
 like_free (Some x) s l c = sym l.0 ∙ c
+
+pub free_like : (o : Option Page) (s : Run) → IsLike (entry_of s) o → s.mtype ≡ conventional → IsConventional o
+free_like None s l f = absurd l
+free_like (Some x) s l f = l.0 ∙ f
 
 none_is_of : (o : Option Page) (t n : ℕ) → o ≡ None → is_of t o ≤ n
 none_is_of None t n e = omega arith
 none_is_of (Some x) t n e = absurd cc
 
-none_free : (o : Option Page) → o ≡ None → ¬ IsConventional o
+pub none_free : (o : Option Page) → o ≡ None → ¬ IsConventional o
 none_free None e c = c
 none_free (Some x) e c = absurd cc
 

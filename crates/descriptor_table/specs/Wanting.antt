@@ -54,9 +54,9 @@ IsBlockBefore f o = IsBlockBelow f.memory f.entry.first o
 abbrev pub IsBlockBehind : EntryOfMap → Option Descriptor → Type 0
 IsBlockBehind f o = IsBlockAt f.memory (f.entry.first + f.entry.pages) o
 
--- the page just behind an entry is not conventional
-abbrev pub NoneFreeBehind : EntryOfMap → Type 0
-NoneFreeBehind f = ¬ IsConventional (page_at f.memory (f.entry.first + f.entry.pages))
+-- the page just behind an entry is conventional
+abbrev pub IsFreeBehind : EntryOfMap → Type 0
+IsFreeBehind f = IsConventional (page_at f.memory (f.entry.first + f.entry.pages))
 
 -- The answer is the entries of a leaf, which come right behind those that are left then, but for some
 -- of no use behind them; or all that are left are of no use.

@@ -1,15 +1,14 @@
 //! A conventional entry of a memory map as the run that it is.
-ghost use Rattle.std.specs.Prelude.{◌≡◌, ◌+◌, ◌<◌, ◌≤◌, Some, false, length, slice_get};
+ghost use Rattle.std.specs.Prelude.{◌≡◌, ◌+◌, ◌<◌, ◌≤◌, ◌↔◌, Some, length, slice_get, IsTrue};
 ghost use Rattle.std.specs.Option.{option_map};
 ghost use Rattle.page_ranges.specs.MemoryTypes.{page_count};
 ghost use Rattle.descriptor_table.specs.Leaves.{leaf_at, AreLeaves};
 ghost use Rattle.descriptor_table.specs.LeafWalks.{IsAboveRun, IsBelowRun, run_above, run_below};
 ghost use Rattle.descriptor_table.specs.Tables.{entry_of};
-ghost use Rattle.descriptor_table.specs.Wanting.{IsBlockBefore, IsBlockBehind, NoneFreeBehind};
+ghost use Rattle.descriptor_table.specs.Wanting.{IsBlockBefore, IsBlockBehind, IsFreeBehind};
 
-use crate::groups::begins_free;
 use crate::leaves::Leaf;
-use page_ranges::Run;
+use page_ranges::{MemoryType, Run};
 use std::alloc::{Allocator, Global};
 use std::marker::Model;
 
@@ -131,19 +130,19 @@ impl<'a, A: Allocator + Copy> FreeRun<'a, A> {
         self.run
     }
 
-    /// Whether a free run may go on where it ends.
+    /// Whether a free run begins where it ends.
     #[inline(always)]
     pub fn goes_on(&self) -> bool
-        ensures { result ≡ false → NoneFreeBehind self.now }
+        ensures { IsTrue result ↔ IsFreeBehind self.now }
     {
         let next = self.index + 1;
-        if next == self.runs.len() {
-            return begins_free(self.leaves, self.leaf + 1);
-        }
-        if self.marks >> next & 1 == 0 {
+        if next < self.runs.len() && self.marks >> next & 1 == 0 {
             return false;
         }
-        self.run.range.first + self.run.range.pages == self.runs[next].range.first
+        match self.above() {
+            Some(above) => above.mtype == MemoryType::conventional(),
+            None => false,
+        }
     }
 
     /// The run that ends where it begins.

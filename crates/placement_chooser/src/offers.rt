@@ -5,7 +5,7 @@ ghost use Rattle.page_ranges.specs.MemoryTypes.{conventional, is_specific_purpos
 ghost use Rattle.page_ranges.specs.Memory.{IsProperMemory};
 ghost use Rattle.page_ranges.specs.MemoryMap.{memory_map};
 ghost use Rattle.descriptor_table.specs.Tables.{entry_of};
-ghost use Rattle.descriptor_table.specs.Wanting.{NoneFreeBehind};
+ghost use Rattle.descriptor_table.specs.Wanting.{IsFreeBehind};
 ghost use Rattle.placement_certificate.specs.Placement.{IsProperRequest};
 ghost use Rattle.placement_certificate.specs.Sides.{IsSavedAt};
 ghost use Rattle.placement_chooser.specs.Starts.{IsOfferIn, IsWantedFor, OffersBest};
@@ -102,7 +102,7 @@ fn offer_alone<B: Allocator + Copy>(request: &Request, free: &FreeRun<'_, B>) ->
     requires entry { Contains (memory_map free.now.memory) free.now.entry }
     requires free { free.now.entry.mtype ≡ conventional }
     requires ordinary { is_specific_purpose free.now.entry.attributes ≡ false }
-    requires behind { NoneFreeBehind free.now }
+    requires behind { ¬ IsFreeBehind free.now }
     requires room { request.now.pages ≤ free.now.entry.pages }
     ensures { IsOfferIn free.now.memory request.now free.now.entry result }
 {
