@@ -33,3 +33,4 @@ pub mod Grouped
 pub mod ChangedRuns
 pub mod RetypedRuns
 pub mod Edges
+pub mod Halves

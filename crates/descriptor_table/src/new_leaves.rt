@@ -5,7 +5,7 @@ ghost use Rattle.page_ranges.specs.declared.ranges.Owner.TheVariants.{Given};
 ghost use Rattle.page_ranges.specs.MemoryTypes.{conventional, page_count};
 ghost use Rattle.page_ranges.specs.Memory.{IsPresent, AllInRange};
 ghost use Rattle.page_ranges.specs.Runs.{pages_of, AreMaximalRuns, AreRuns};
-ghost use Rattle.descriptor_table.specs.Leaves.{entry_count, runs_in, AreLeaves, AreLeavesNear, BeginIn, IsLeaf, IsLeafTable};
+ghost use Rattle.descriptor_table.specs.Leaves.{entry_count, leaf_at, runs_in, AreLeaves, AreLeavesNear, BeginIn, IsLeaf, IsLeafTable};
 ghost use Rattle.descriptor_table.specs.LeafChanges.{Retypes, RetypesRuns, leaves_without, runs_with};
 ghost use Rattle.descriptor_table.specs.Reserves.{GrowsNear, LeavesHaveRoom, PutsBegun, PutsLeaves, leaf_count};
 ghost use Rattle.descriptor_table.specs.Summaries.{KeepsLeaves};
@@ -16,7 +16,7 @@ use crate::cuts::push_leaves;
 use crate::entry_starts::{count_begun, runs_before};
 use crate::leaves::{LEAF_SIZE, Leaf, first_share};
 use crate::replacing::insert_with_room;
-use crate::retyping::{Change, FEW_LEAVES, retype_in_place};
+use crate::retyping::{Change, FEW_LEAVES, new_joins, retype_in_place};
 use crate::spare_leaves::SpareLeaves;
 use crate::tallies::Tally;
 use page_ranges::{MemoryType, Owner, PageRange, Run};
@@ -138,7 +138,7 @@ fn insert_leaf<A: Allocator + Copy>(
     let begins = count_begun(runs_before(leaves.as_slice(), at), runs);
     let mut leaf = spare.take();
     let count = leaf.runs().len();
-    leaf.replace(0, count, runs, 0);
+    leaf.replace(0, count, runs, new_joins(leaves.len()));
     insert_with_room(leaves, at, leaf);
     begun.insert(at, begins as u8);
     sizes.insert(at, runs.len() as u8);
@@ -309,6 +309,118 @@ pub(crate) fn retype_anew<A: Allocator + Copy>(
     }
 }
 
+/// Puts the second half of a leaf's runs in a leaf of their own behind it. It takes no memory.
+fn split_leaf<A: Allocator + Copy>(
+    leaves: &mut Vec<Leaf<A>, A>,
+    begun: &mut Tally<A>,
+    sizes: &mut Tally<A>,
+    spare: &mut SpareLeaves<A>,
+    entries: usize,
+    index: usize,
+    buffer: &mut Vec<Run, A>,
+)
+    requires table { IsLeafTable leaves.old.items entries begun.old.items sizes.old.items }
+    requires index { index < length leaves.old.items }
+    requires several { 2 ≤ length (leaf_at leaves.old.items index) }
+    requires spare { 0 < spare.old.count }
+    requires buffer { length (runs_in leaves.old.items) ≤ vec_capacity buffer.old }
+    requires room { LeavesHaveRoom leaves.old spare.old begun.old sizes.old }
+    ensures table { IsLeafTable leaves.new.items entries begun.new.items sizes.new.items }
+    ensures runs { runs_in leaves.new.items ≡ runs_in leaves.old.items }
+    ensures kept { KeepsLeaves leaves.old.items leaves.new.items index (index + 1) }
+    ensures before { take index leaves.new.items ≡ take index leaves.old.items }
+    ensures behind { drop (index + 2) leaves.new.items ≡ drop (index + 1) leaves.old.items }
+    ensures len { length leaves.new.items ≡ length leaves.old.items + 1 }
+    ensures count { leaf_count leaves.new spare.new ≡ leaf_count leaves.old spare.old }
+    ensures room { LeavesHaveRoom leaves.new spare.new begun.new sizes.new }
+    ensures capacity { vec_capacity buffer.old ≤ vec_capacity buffer.new }
+{
+    let runs = leaves[index].runs();
+    let count = runs.len();
+    let half = count / 2;
+    buffer.clear();
+    let Ok(()) = buffer.extend_from_slice(&runs[half..]) else {
+        unreachable!();
+    };
+    let joins = new_joins(leaves.len());
+    leaves[index].replace(half, count, &[], joins);
+    sizes.set(index, half as u8);
+    insert_leaf(leaves, begun, sizes, spare, index + 1, buffer.as_slice());
+    begun.change(index, begun.number(index + 1), 0);
+}
+
+/// Of two leaves that have all runs near a range, the indices between which one of them has these alone, or both.
+fn halves_near<A: Allocator + Copy>(
+    leaves: &[Leaf<A>],
+    index: usize,
+    range: PageRange,
+) -> (usize, usize)
+    requires leaves { AreLeaves leaves.now }
+    requires runs { AreRuns (runs_in leaves.now) }
+    requires near { AreLeavesNear leaves.now range index (index + 2) }
+    requires within { range.first + range.pages ≤ page_count }
+    ensures near { AreLeavesNear leaves.now range result.0 result.1 }
+    ensures those { (index ≤ result.0) × (result.1 ≤ index + 2) }
+{
+    let edge = leaves[index + 1].first();
+    if edge < range.first {
+        return (index + 1, index + 2);
+    }
+    if range.first + range.pages < edge {
+        return (index, index + 1);
+    }
+    (index, index + 2)
+}
+
+/// Gives the pages of a range a type and an owner in the halves of the leaf that has all runs near it, each of which
+/// becomes a leaf. It takes no memory.
+#[inline(never)]
+fn retype_in_halves<A: Allocator + Copy>(
+    leaves: &mut Vec<Leaf<A>, A>,
+    begun: &mut Tally<A>,
+    sizes: &mut Tally<A>,
+    spare: &mut SpareLeaves<A>,
+    entries: usize,
+    index: usize,
+    range: PageRange,
+    mtype: MemoryType,
+    owner: Owner,
+    parts: &mut Vec<Run, A>,
+    buffer: &mut Vec<Run, A>,
+) -> Change
+    requires table { IsLeafTable leaves.old.items entries begun.old.items sizes.old.items }
+    requires near { AreLeavesNear leaves.old.items range index (index + 1) }
+    requires several { 2 ≤ length (leaf_at leaves.old.items index) }
+    requires some { 0 < range.pages }
+    requires present { AllInRange (pages_of (runs_in leaves.old.items)) range IsPresent }
+    requires owner { mtype ≡ conventional → owner ≡ Given }
+    requires spare { 0 < spare.old.count }
+    requires buffer { length (runs_in leaves.old.items) + 2 ≤ vec_capacity buffer.old }
+    requires fits { length (runs_in leaves.old.items) + 2 ≤ 32 * leaf_count leaves.old spare.old }
+    requires room { LeavesHaveRoom leaves.old spare.old begun.old sizes.old }
+    ensures table { IsLeafTable leaves.new.items result.entries begun.new.items sizes.new.items }
+    ensures pages { Retypes range mtype owner leaves.old.items leaves.new.items }
+    ensures kept { KeepsLeaves leaves.old.items leaves.new.items result.near.0 result.near.1 }
+    ensures count { leaf_count leaves.old spare.old ≤ leaf_count leaves.new spare.new + 1 }
+    ensures room { LeavesHaveRoom leaves.new spare.new begun.new sizes.new }
+    ensures capacity { vec_capacity buffer.old ≤ vec_capacity buffer.new }
+{
+    split_leaf(leaves, begun, sizes, spare, entries, index, buffer);
+    let near = halves_near(leaves.as_slice(), index, range);
+    let changed = retype_in_place(
+        leaves, begun, sizes, entries, near, range, mtype, owner, parts,
+    );
+    let mut change = match changed {
+        Some(change) => change,
+        None => retype_anew(
+            leaves, begun, sizes, spare, entries, near, range, mtype, owner, buffer,
+        ),
+    };
+    // Leaves behind those that changed are at other indices.
+    change.near = (index.min(change.near.0), leaves.len());
+    change
+}
+
 /// Puts all runs into an empty buffer, which has room for them.
 fn push_all<A: Allocator + Copy>(buffer: &mut Vec<Run, A>, leaves: &[Leaf<A>])
     requires empty { buffer.old.items ≡ [] }
@@ -408,6 +520,11 @@ pub(crate) fn retype_leaves<A: Allocator + Copy>(
     if spare.len() == 0 {
         // Without it all leaves are made anew, which takes longer.
         let _added = add_spare(leaves, begun, sizes, spare);
+    }
+    if may_lose && near.1 - near.0 == 1 && spare.len() > 0 && sizes.number(near.0) > 1 {
+        return retype_in_halves(
+            leaves, begun, sizes, spare, entries, near.0, range, mtype, owner, parts, buffer,
+        );
     }
     retype_anew(
         leaves, begun, sizes, spare, entries, near, range, mtype, owner, buffer,

@@ -70,6 +70,11 @@ fn most_joins(leaves: usize, mtype: MemoryType) -> u8 {
     if leaves <= 64 { 2 } else { 0 }
 }
 
+/// The same for a leaf that gets other runs than it had.
+pub(crate) fn new_joins(leaves: usize) -> u8 {
+    if leaves <= BARE_LEAVES { ALLOWS_ALL } else { 0 }
+}
+
 /// The indices between which runs share a page with a range or touch it.
 fn window_of(runs: &[Run], range: PageRange) -> (usize, usize)
     requires runs { AreRuns runs.now }
@@ -667,6 +672,7 @@ fn retype_in_pair<A: Allocator + Copy>(
         (AreSame leaves.old leaves.new begun.old begun.new sizes.old sizes.new) }
     ensures room { KeepsRoom leaves.old leaves.new begun.old begun.new sizes.old sizes.new }
     ensures lost { length leaves.old.items + near.0 ≤ length leaves.new.items + near.1 }
+    ensures lost_one { length leaves.old.items ≤ length leaves.new.items + 1 }
     ensures few { length leaves.new.items ≤ length leaves.old.items }
 {
     if near.1 - near.0 != 1 || leaves.len() <= FEW_LEAVES {
@@ -712,6 +718,8 @@ pub(crate) fn retype_in_place<A: Allocator + Copy>(
         (AreSame leaves.old leaves.new begun.old begun.new sizes.old sizes.new) }
     ensures room { KeepsRoom leaves.old leaves.new begun.old begun.new sizes.old sizes.new }
     ensures lost { length leaves.old.items + near.0 ≤ length leaves.new.items + near.1 }
+    ensures lost_of_two { near.1 ≤ near.0 + 2
+        → length leaves.old.items ≤ length leaves.new.items + 1 }
     ensures few { length leaves.new.items ≤ length leaves.old.items }
 {
     let changed = match near.1 - near.0 {
