@@ -117,6 +117,7 @@ fn insert_leaf<A: Allocator + Copy>(
     spare: &mut SpareLeaves<A>,
     at: usize,
     runs: &[Run],
+    joins: u8,
 )
     requires leaves { AreLeaves leaves.old.items }
     requires place { at ≤ length leaves.old.items }
@@ -138,7 +139,7 @@ fn insert_leaf<A: Allocator + Copy>(
     let begins = count_begun(runs_before(leaves.as_slice(), at), runs);
     let mut leaf = spare.take();
     let count = leaf.runs().len();
-    leaf.replace(0, count, runs, new_joins(leaves.len()));
+    leaf.replace(0, count, runs, joins);
     insert_with_room(leaves, at, leaf);
     begun.insert(at, begins as u8);
     sizes.insert(at, runs.len() as u8);
@@ -174,7 +175,7 @@ fn insert_leaves<A: Allocator + Copy>(
     let mut rest = runs;
     while !rest.is_empty() {
         let share = first_share(rest.len(), most);
-        insert_leaf(leaves, begun, sizes, spare, at, &rest[..share]);
+        insert_leaf(leaves, begun, sizes, spare, at, &rest[..share], 0);
         rest = &rest[share..];
         at += 1;
     }
@@ -345,7 +346,15 @@ fn split_leaf<A: Allocator + Copy>(
     let joins = new_joins(leaves.len());
     leaves[index].replace(half, count, &[], joins);
     sizes.set(index, half as u8);
-    insert_leaf(leaves, begun, sizes, spare, index + 1, buffer.as_slice());
+    insert_leaf(
+        leaves,
+        begun,
+        sizes,
+        spare,
+        index + 1,
+        buffer.as_slice(),
+        joins,
+    );
     begun.change(index, begun.number(index + 1), 0);
 }
 
