@@ -284,7 +284,11 @@ struct rafkudin_open {
  * - another granule;
  * - more than 64 drivers, or a count of a driver or a child above what its array holds. The drivers
  *   are looked at before any memory is asked for.
- * OUT_OF_RESOURCES: memory was refused. *core is set on SUCCESS alone. */
+ * OUT_OF_RESOURCES: memory was refused. *core is set on SUCCESS alone.
+ *
+ * The core takes memory for its first 64 placements of pages and for their frees: where the heap
+ * refuses all memory after that, these calls return SUCCESS nevertheless. A certificate takes
+ * memory besides. */
 RAFKUDIN_API rafkudin_uint64 RafkudinMake(const uint8_t *records, size_t size,
                                           size_t descriptor_size, rafkudin_uint64 granule,
                                           const struct rafkudin_driver *drivers,

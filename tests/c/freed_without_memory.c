@@ -3,7 +3,7 @@
  * an allocation between them is served or leaves all as it was. Of allocations that are freed in
  * parts, as many FreePages as there were AllocatePages return SUCCESS, whatever they free; a later
  * one may return OUT_OF_RESOURCES, leaves all as it was then, and returns SUCCESS once there is
- * memory. The heap is that of refusing_heap.h, instead of the library's. Each point that does not
+ * memory. A new core places pages 64 times, and frees them, without memory. The heap is that of refusing_heap.h, instead of the library's. Each point that does not
  * hold is printed on standard error, and then the status is 1. */
 #include "drawn_load.h"
 #include "draws.h"
@@ -186,6 +186,59 @@ static void try_by_hand(void)
     HOLDS(in_use == 0);
 }
 
+/* ---- The first placements ---- */
+
+#define PREPARED 64U
+
+/* A core takes memory for its first placements and their frees when it is made. */
+static void try_first_placements(uint64_t seed, uint64_t granule)
+{
+    struct rafkudin *core = core_of_load(granule, false);
+    uint64_t addresses[PREPARED], pages[PREPARED];
+
+    map_take(&first, core);
+    refuse(1, ULONG_MAX);
+    for (size_t at = 0; at < PREPARED; at++) {
+        pages[at] = 1 + draw_below(&seed, 40);
+        addresses[at] = 0;
+        HOLDS(RafkudinAllocatePages(core, RAFKUDIN_ANY_PAGES, 1 + (uint32_t)draw_below(&seed, 6),
+                                    pages[at], &addresses[at]) == RAFKUDIN_SUCCESS);
+    }
+    for (size_t left = PREPARED; left > 0; left--) {
+        size_t at = (size_t)draw_below(&seed, left);
+
+        HOLDS(RafkudinFreePages(core, addresses[at], pages[at]) == RAFKUDIN_SUCCESS);
+        addresses[at] = addresses[left - 1];
+        pages[at] = pages[left - 1];
+    }
+    refuse_none();
+    map_take(&after, core);
+    HOLDS(map_equals(&first, &after));
+    RafkudinFree(core);
+    HOLDS(in_use == 0);
+}
+
+/* A core for which there is no memory is not made, whichever allocation is the first that is refused. */
+static void try_making(void)
+{
+    unsigned long number = 0;
+    uint64_t status;
+
+    do {
+        struct rafkudin *core = NULL;
+
+        refuse(++number, ULONG_MAX);
+        status = RafkudinMake((const uint8_t *)load_machine, sizeof load_machine,
+                              sizeof load_machine[0], 1, NULL, 0, &core);
+        HOLDS(status == (was_refused ? RAFKUDIN_OUT_OF_RESOURCES : RAFKUDIN_SUCCESS));
+        HOLDS((core != NULL) == (status == RAFKUDIN_SUCCESS));
+        RafkudinFree(core);
+        HOLDS(in_use == 0);
+    } while (status != RAFKUDIN_SUCCESS && number < 1000);
+    HOLDS(number > 10);
+    refuse_none();
+}
+
 int main(void)
 {
     for (uint64_t seed = 1; seed <= 24; seed++)
@@ -194,5 +247,8 @@ int main(void)
     for (uint64_t seed = 1; seed <= 8; seed++)
         try_parts(seed, 1 + seed % 2);
     try_by_hand();
+    for (uint64_t seed = 1; seed <= 40; seed++)
+        try_first_placements(seed, seed % 2 == 0 ? 1 : 16);
+    try_making();
     return points_end("freed_without_memory");
 }

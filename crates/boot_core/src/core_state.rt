@@ -111,6 +111,14 @@ impl<D: Driver, A: Allocator + Copy> Core<D, A> {
         self.book.certify(certifies);
     }
 
+    /// Reserves memory for a number of placements of pages and for the frees of what they place: these succeed where
+    /// the host refuses all memory, but for that of certificates. On an `Err` none is reserved.
+    pub fn prepare(&mut self, placements: usize) -> Result<(), AllocError>
+        ensures { self.new ≡ self.old }
+    {
+        self.book.prepare(placements)
+    }
+
     /// Leaves a number of calls and no more. It is for tests alone, of what comes after the last call.
     pub fn leave_calls(&mut self, calls: u64)
         requires { calls ≤ self.old.state.calls_left }

@@ -14,6 +14,9 @@ use pool_services::PoolMemory;
 use raw_pool::{PageHeap, PageRun};
 use std::alloc::Global;
 
+/// How many placements of pages take no memory once a core is made.
+const PREPARED_PLACEMENTS: usize = 64;
+
 /// Makes a core of EFI_MEMORY_DESCRIPTORs, a granule of 1 or 16 pages and up to 64 drivers, and puts its
 /// pointer into the variable `core`, which a refusal leaves as it is.
 ///
@@ -131,10 +134,12 @@ fn made_over(
     pointer_to(alloc, core).ok_or(Status::OutOfResources.number())
 }
 
-/// The pointer to a core that is moved to the heap; none where memory runs out.
+/// The pointer to a core that is moved to the heap, with memory for its first placements; none where memory runs out.
 fn pointer_to(alloc: Global, core: EfiCore) -> Option<Place>
     ensures { IfSome result (λ place. MatchOption place.held ⊥ (λ handle. handle.core ≡ core)) }
 {
+    let mut core = core;
+    core.prepare(PREPARED_PLACEMENTS).ok()?;
     let core = Box::new(alloc, core).ok()?;
     let handle = Box::new(alloc, Rafkudin::new(Block::new(core))).ok()?;
     Some(Place::new(Block::new(handle)))

@@ -92,6 +92,14 @@ impl<A: Allocator + Copy> EfiCore<A> {
         self.certifies = certifies;
     }
 
+    /// Reserves memory for a number of placements of pages and for the frees of what they place. On an `Err` none is
+    /// reserved.
+    pub fn prepare(&mut self, placements: usize) -> Result<(), AllocError>
+        ensures { self.new ≡ self.old }
+    {
+        self.core.prepare(placements)
+    }
+
     /// Leaves nothing of the call before.
     pub(crate) fn forget(&mut self)
         ensures { self.new ≡ forgotten self.old }

@@ -14,7 +14,7 @@ use page_ranges::{
 };
 use placement_certificate::{Certificate, Request};
 use placement_chooser::{best_start, choose};
-use std::alloc::{Allocator, Global};
+use std::alloc::{AllocError, Allocator, Global};
 use std::marker::Model;
 
 /// AllocateAnyPages: the range may lie anywhere.
@@ -150,6 +150,15 @@ impl<A: Allocator + Copy> PageBook<A> {
         ensures { self.new ≡ certifying certifies self.old }
     {
         self.certifies = certifies;
+    }
+
+    /// Reserves memory for a number of placements and for the frees of what they place, besides what is reserved
+    /// already: these succeed where the host refuses all memory, but for that of certificates. On an `Err` none is
+    /// reserved.
+    pub fn prepare(&mut self, placements: usize) -> Result<(), AllocError>
+        ensures { self.new ≡ self.old }
+    {
+        self.table.reserve(placements.saturating_mul(2))
     }
 
     /// AllocatePages of the kind `kind`, for the type `mtype`, of a number of `pages`: anywhere (0), up to
