@@ -381,8 +381,9 @@ static struct text plainly_printed(const struct stretch *stretch, bool certifies
 }
 
 /* Which calls take memory: as the file says of the program, but for those that fill a buffer of the
- * caller's with the map or the pool's bytes; and those for which the map is kept. A call that is
- * refused for another cause may take some before. */
+ * caller's with the map or the pool's bytes, and for AllocatePages, for which a new core has memory;
+ * and those for which the map is kept. A call that is refused for another cause may take some
+ * before. */
 static void try_count(const struct row *row, const struct call *call, unsigned long count)
 {
     bool keeps_map = row->certifies && may_be_certified(call);
@@ -404,7 +405,8 @@ static void try_row(const struct stretch *stretch, const struct stretch *questio
     changes = call.verb == PAGES || call.verb == FREE_PAGES || call.verb == FREE_POOL ||
               (stretch->takes_memory && !only_asks(&call));
     row.plain = make_refused(stretch, questions, certifies, 0, 0);
-    row.may_be_out = (stretch->takes_memory && call.verb != MAP && call.verb != READ) ||
+    row.may_be_out = (stretch->takes_memory && call.verb != MAP && call.verb != READ &&
+                      call.verb != PAGES) ||
                      (certifies && row.plain.status == RAFKUDIN_SUCCESS && call.verb == PAGES &&
                       may_be_certified(&call));
     row.without = answers_without(stretch, questions, certifies);
