@@ -40,8 +40,8 @@ RAFKUDIN_API rafkudin_uint64 RafkudinMakeOverInRegion(
 RAFKUDIN_API rafkudin_uint64 RafkudinRoom(rafkudin_uint64 entries, rafkudin_uint64 handles,
                                           rafkudin_uint64 pool_pages);
 
-/* RafkudinMake in the `room` bytes of a region. After RafkudinFree, which has nothing to free, the
- * region is its caller's again.
+/* RafkudinMake in the `room` bytes of a region; the core takes memory for a placement with that
+ * placement. After RafkudinFree, which has nothing to free, the region is its caller's again.
  *
  * INVALID_PARAMETER: `region` is null; and as for RafkudinMake. OUT_OF_RESOURCES: the region is too
  * small. */
