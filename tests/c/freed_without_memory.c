@@ -3,8 +3,9 @@
  * an allocation between them is served or leaves all as it was. Of allocations that are freed in
  * parts, as many FreePages as there were AllocatePages return SUCCESS, whatever they free; a later
  * one may return OUT_OF_RESOURCES, leaves all as it was then, and returns SUCCESS once there is
- * memory. A new core places pages 64 times, and frees them, without memory. The heap is that of refusing_heap.h, instead of the library's. Each point that does not
- * hold is printed on standard error, and then the status is 1. */
+ * memory. A new core places pages 64 times, and frees them, without memory. The heap is that of
+ * refusing_heap.h, instead of the library's. Each point that does not hold is printed on standard
+ * error, and then the status is 1. */
 #include "drawn_load.h"
 #include "draws.h"
 #include "points.h"
@@ -218,7 +219,8 @@ static void try_first_placements(uint64_t seed, uint64_t granule)
     HOLDS(in_use == 0);
 }
 
-/* A core for which there is no memory is not made, whichever allocation is the first that is refused. */
+/* A core for which there is no memory is not made, whichever allocation is the first that is
+ * refused. */
 static void try_making(void)
 {
     unsigned long number = 0;
