@@ -20,7 +20,7 @@ use Rattle.page_ranges.proofs.WholeGranules.{for_granules, mod_one, rounded_one,
 use Rattle.placement_certificate.specs.declared.certificates.Request.{Request}
 use Rattle.placement_certificate.specs.Placement.{IsProperRequest, IsPermittedStart}
 use Rattle.page_services.specs.declared.page_book.Placed.{Placed}
-use Rattle.page_services.specs.PageRules.{Book, new_book, IsInGranule, HasWholeGranules, IsInGranules, range_from, IsAligned, changed_book, whole_pages, whole_request, if_counted, Choice, IsBestChoice, PlacesPages, any_pages, max_address, fixed_address, IsValidRequest, placement_request, IsFree, IsPlaced, AllocatesPages, IsValidRange, IsAllocated, granule_of, freed_book, freed_range, FreesPages, placed_book, pool_request, TakesForPool, given_back, GivesFromPool}
+use Rattle.page_services.specs.PageRules.{Book, new_book, IsInGranule, HasWholeGranules, IsInGranules, range_from, IsAligned, changed_book, whole_pages, whole_request, if_counted, Choice, IsBestChoice, FindsNoStart, RefusesPages, PlacesPages, any_pages, max_address, fixed_address, IsValidRequest, placement_request, IsFree, IsPlaced, AllocatesPages, IsValidRange, IsAllocated, granule_of, freed_book, freed_range, FreesPages, placed_book, pool_request, TakesForPool, given_back, GivesFromPool}
 use Rattle.page_services.proofs.Choices.{Permits}
 
 -- ---- pages of one granule
@@ -150,8 +150,8 @@ free_present (Some x) free = tt
 
 -- pages of a type and an owner are put in a free range that fills granules of the type
 -- what memory is reserved is no matter of granules
-pub reserved_granules : (b : Book) (frees ends held : ℕ) → IsInGranules b → IsInGranules (record b { frees = frees; ends = ends; held = held })
-reserved_granules b frees ends held is = record { granule = is.granule; whole = is.whole }
+pub reserved_granules : (b : Book) (frees ends prepared held : ℕ) → IsInGranules b → IsInGranules (record b { frees = frees; ends = ends; prepared = prepared; held = held })
+reserved_granules b frees ends prepared held is = record { granule = is.granule; whole = is.whole }
 
 pub taken_granules : (b : Book) (range : PageRange) (t : ℕ) (o : Owner) → range.first % granule_for t b.granule ≡ 0 → range.pages % granule_for t b.granule ≡ 0 → AllInRange b.memory range IsConventional → IsInGranules b → IsInGranules (changed_book range t o b)
 taken_granules b range t o start filled free is =
@@ -208,7 +208,7 @@ module _ {A : Type 0} (Chosen : Choice) (permits : Permits Chosen) where
   allocates_granules b new kind t pages memory (Ok placed) (valid, at, e) is =
       let (start, free) = was_free b (placement_request b.granule kind t pages memory) t pages memory placed (λ r. requested b.granule kind t pages memory r) at in
       let filled : whole_pages b.granule t pages % granule_for t b.granule ≡ 0 = rounded_fills pages (granule_for t b.granule) (granule_for_granule t b.granule is.granule) in
-      subst IsInGranules (sym e) (reserved_granules _ _ _ _ (taken_granules b (range_from placed.address (whole_pages b.granule t pages)) t Pages start filled free is))
+      subst IsInGranules (sym e) (reserved_granules _ _ _ _ _ (taken_granules b (range_from placed.address (whole_pages b.granule t pages)) t Pages start filled free is))
   allocates_granules b new kind t pages memory (Err status.InvalidParameter) h is = subst IsInGranules (sym h.1) is
   allocates_granules b new kind t pages memory (Err status.NotFound) h is = subst IsInGranules (sym h.3) is
   allocates_granules b new kind t pages memory (Err status.OutOfResources) h is = subst IsInGranules (sym h.2) is
@@ -219,8 +219,8 @@ module _ {A : Type 0} (Chosen : Choice) (permits : Permits Chosen) where
   pub places_granules : (b new : Book) (r : Request) (result : Result (Placed A) Status) → PlacesPages Chosen b r Pool result new → IsInGranules b → IsInGranules new
   places_granules b new r (Ok placed) ((start, chosen, at), e) is =
       let first : placed.address / page_size ≡ start = omega arith in
-      subst IsInGranules (sym e) (reserved_granules _ _ _ _ (subst (λ n. IsInGranules (changed_book (record { first = n; pages = r.pages }) r.mtype Pool b)) (sym first) (placed_granules b r start (permits b r start placed.certificate chosen) is)))
-  places_granules b new r (Err status.OutOfResources) e is = subst IsInGranules (sym e) is
+      subst IsInGranules (sym e) (reserved_granules _ _ _ _ _ (subst (λ n. IsInGranules (changed_book (record { first = n; pages = r.pages }) r.mtype Pool b)) (sym first) (placed_granules b r start (permits b r start placed.certificate chosen) is)))
+  places_granules b new r (Err status.OutOfResources) h is = subst IsInGranules (sym h.0) is
   places_granules b new r (Err other) h is = absurd h
 
   pub takes_granules : (b new : Book) (t pages : ℕ) (result : Result (Placed A) Status) → TakesForPool Chosen b t pages result new → IsInGranules b → IsInGranules new
@@ -240,7 +240,7 @@ returned range b owned is =
 pub given_back_granules : (range : PageRange) (b : Book) → AllInRange b.memory range (IsOwnedBy Pool) → IsInGranules b → IsInGranules (given_back range b)
 given_back_granules range b owned is = elim (cases_eq range.pages 0) [
   | inl none ↦ subst IsInGranules (sym (cond-true _ _ _ (eq-eqb range.pages 0 none))) is
-  | inr some ↦ subst IsInGranules (sym (cond-false _ _ _ (ne_eqb range.pages 0 some))) (reserved_granules _ _ _ _ (returned range b owned is))
+  | inr some ↦ subst IsInGranules (sym (cond-false _ _ _ (ne_eqb range.pages 0 some))) (reserved_granules _ _ _ _ _ (returned range b owned is))
 ]
 
 pub gives_granules : (b new : Book) (range : PageRange) (result : Result (Unit {0}) Status) → AllInRange b.memory range (IsOwnedBy Pool) → GivesFromPool b range result new → IsInGranules b → IsInGranules new
@@ -318,7 +318,7 @@ pub freed_granules : (b : Book) (address pages : ℕ) → IsInGranules b → IsI
 freed_granules b address pages is = record { granule = is.granule; whole = retyped_granules b.granule (freed_range b address pages) conventional Given b.memory (freed_closed b is address pages) (λ so. absurd (given_is_other so.0)) is.whole }
 
 pub frees_granules : (b new : Book) (address pages : ℕ) (result : Result (Unit {0}) Status) → FreesPages b address pages result new → IsInGranules b → IsInGranules new
-frees_granules b new address pages (Ok done) (valid, owned, e) is = subst IsInGranules (sym e) (reserved_granules _ _ _ _ (freed_granules b address pages is))
+frees_granules b new address pages (Ok done) (valid, owned, e) is = subst IsInGranules (sym e) (reserved_granules _ _ _ _ _ (freed_granules b address pages is))
 frees_granules b new address pages (Err status.InvalidParameter) h is = subst IsInGranules (sym h.1) is
 frees_granules b new address pages (Err status.NotFound) h is = subst IsInGranules (sym h.2) is
 frees_granules b new address pages (Err status.OutOfResources) h is = subst IsInGranules (sym h.2) is
@@ -507,8 +507,34 @@ module _ {A : Type 0} (b new : Book) (kind t pages memory : ℕ) (r : Request) (
       let (limit, whole) = requested b.granule kind t pages memory r asked in
       let at : IsPlaced IsBestChoice b (placement_request b.granule kind t pages memory) t pages memory placed = subst (λ o. IsPlaced IsBestChoice b o t pages memory placed) (sym asked) chosen in
       (valid, at, e ∙ ap (λ (q : Request). placed_book (range_from placed.address q.pages) q.mtype Pages b) whole)
-  allocates_placed (Err status.OutOfResources) e = (valid, λ k. absurd (other k), e)
+  allocates_placed (Err status.OutOfResources) (same, refuses) = (valid, λ k. absurd (other k), same, subst (RefusesPages b) (sym asked) refuses)
   allocates_placed (Err rest) h = absurd h
+
+-- ---- where no start is permitted
+
+-- no start is permitted for pages whose number is not counted
+pub uncounted_none : (b : Book) (r : Request) → r.limit ≤ page_count → if_counted r ≡ None → FindsNoStart b r
+uncounted_none b r fits e plain p permitted = let none : Some r ≡ None = sym (permitted_counted b.memory r p permitted fits) ∙ e in absurd cc
+
+refused_uncounted : (b : Book) (o : Option Request) → ¬ (o ≡ None) → ((r : Request) → o ≡ Some r → r.limit ≤ page_count) → option_and_then if_counted o ≡ None → RefusesPages b o
+refused_uncounted b None some fits e = absurd (some refl)
+refused_uncounted b (Some r) some fits e = λ prepared. uncounted_none b r (fits r refl) e
+
+one_asked : (b c : Bool) (x y : Request) → (b ≡ true) ⊎ (c ≡ true) → ¬ (cond b (Some x) (cond c (Some y) None) ≡ None)
+one_asked true c x y one e = cc
+one_asked false true x y one e = cc
+one_asked false false x y (inl one) e = absurd cc
+one_asked false false x y (inr one) e = absurd cc
+
+-- each kind that names no address leaves a request
+asked_some : (g kind t pages memory : ℕ) → kind ≤ fixed_address → ¬ (kind ≡ fixed_address) → ¬ (placement_request g kind t pages memory ≡ None)
+asked_some g kind t pages memory few other = one_asked (kind == any_pages) (kind == max_address) (whole_request g t pages page_count) (whole_request g t pages (pages_below memory)) (elim (cases_eq kind any_pages) [
+  | inl any ↦ inl (eq-eqb kind any_pages any)
+  | inr not_any ↦ inr (eq-eqb kind max_address (omega arith))
+])
+
+pub refused_pages : (b : Book) (kind t pages memory : ℕ) → memory < 2 ^ 64 → kind ≤ fixed_address → ¬ (kind ≡ fixed_address) → option_and_then if_counted (placement_request b.granule kind t pages memory) ≡ None → RefusesPages b (placement_request b.granule kind t pages memory)
+refused_pages b kind t pages memory small few other e = refused_uncounted b (placement_request b.granule kind t pages memory) (asked_some b.granule kind t pages memory few other) (λ r. placement_request_limit b.granule kind t pages memory r small) e
 
 -- ---- what FreePages answers
 

@@ -17,8 +17,9 @@ use Rattle.page_services.specs.declared.page_book.Placed.{Placed}
 
 -- the memory, the map key, which is 1 at first and one more after each call that changed the type
 -- of a page, the granule of the machine, whether certificates are returned, for how many calls of
--- FreePages and for how many ends of extents of the pool memory is reserved, and how many pages
--- AllocatePages placed that FreePages has not freed
+-- FreePages and for how many ends of extents of the pool memory is reserved, for how many placements
+-- and the frees of what they place it is reserved ahead, and how many pages AllocatePages placed
+-- that FreePages has not freed
 pub record Book : Type 0 where
   pub memory : List Page
   pub key : ℕ
@@ -26,17 +27,19 @@ pub record Book : Type 0 where
   pub certifies : Bool
   pub frees : ℕ
   pub ends : ℕ
+  pub prepared : ℕ
   pub held : ℕ
 
 -- the book of a table, with all else that it has
-abbrev pub book_of : Table → ℕ → ℕ → Bool → ℕ → ℕ → ℕ → Book
-book_of t key granule certifies frees ends held = record {
+abbrev pub book_of : Table → ℕ → ℕ → Bool → ℕ → ℕ → ℕ → ℕ → Book
+book_of t key granule certifies frees ends prepared held = record {
   memory = t.pages;
   key = key;
   granule = granule;
   certifies = certifies;
   frees = frees;
   ends = ends;
+  prepared = prepared;
   held = held;
 }
 
@@ -50,12 +53,18 @@ new_book granule m = record {
   certifies = true;
   frees = 0;
   ends = 0;
+  prepared = 0;
   held = 0;
 }
 
 -- the same book, where certificates are returned or not
 abbrev pub certifying : Bool → Book → Book
 certifying certifies b = record b { certifies = certifies }
+
+-- the book with memory reserved ahead for a number of placements more, and for the frees of what they
+-- place
+abbrev pub preparing : ℕ → Book → Book
+preparing placements b = record b { prepared = b.prepared + placements }
 
 -- the page was placed by AllocatePages with a type that fills granules
 abbrev pub IsInGranule : Option Page → Type 0
@@ -83,14 +92,17 @@ IsAligned address = address % page_size ≡ 0
 abbrev pub changed_book : PageRange → ℕ → Owner → Book → Book
 changed_book range t o b = record b { memory = retyped range t o b.memory; key = b.key + 1 }
 
--- the book after pages were placed in a range for an owner: memory is reserved to free them
+-- the book after pages were placed in a range for an owner: memory is reserved to free them, and that
+-- for one placement is taken where it is reserved ahead
 abbrev pub placed_book : PageRange → ℕ → Owner → Book → Book
 placed_book range t Given b = changed_book range t Given b
 placed_book range t Pages b = record (changed_book range t Pages b) {
   frees = b.frees + 1;
+  prepared = b.prepared - 1;
   held = min page_count (b.held + range.pages);
 }
-placed_book range t Pool b = record (changed_book range t Pool b) { ends = b.ends + 1 }
+placed_book range t Pool b =
+    record (changed_book range t Pool b) { ends = b.ends + 1; prepared = b.prepared - 1 }
 
 -- the book after FreePages freed a range: it takes memory that is reserved for one call, if there
 -- is, and it is reserved for no more calls than there are pages to free
@@ -117,14 +129,12 @@ whole_pages granule t pages = rounded pages (granule_for t granule)
 -- the request on a machine with a granule for a number of pages of a type, up to a limit: its pages
 -- fill granules of the type
 abbrev pub whole_request : ℕ → ℕ → ℕ → ℕ → Request
-whole_request granule t pages limit =
-    record {
-      mtype = t;
-      pages = whole_pages granule t pages;
-      limit = limit;
-      granule = granule_for t
-          granule;
-    }
+whole_request granule t pages limit = record {
+  mtype = t;
+  pages = whole_pages granule t pages;
+  limit = limit;
+  granule = granule_for t granule;
+}
 
 -- a request, if the number of its pages has at most 64 bits: no memory has more
 abbrev pub if_counted : Request → Option Request
@@ -161,15 +171,27 @@ pub record IsChosenOn {A : Type 0} (b : Book) (c : ChosenStart A) : Type 0 where
   pub granule : c.request.granule ≡ granule_for c.request.mtype b.granule
   pub best : IsBestChoice b c.request c.first c.certificate
 
+-- no start is permitted for a request, unless the book returns certificates, which take memory
+abbrev pub FindsNoStart : Book → Request → Type 0
+FindsNoStart b r = b.certifies ≡ false → (p : ℕ) → ¬ IsPermittedStart b.memory r p
+
+-- What is known where OUT_OF_RESOURCES is answered: with memory reserved ahead for a placement, no
+-- start is permitted for the request, unless a certificate takes memory. A call that names its
+-- address leaves no request, and none is refused so while memory is reserved ahead.
+abbrev pub RefusesPages : Book → Option Request → Type 0
+RefusesPages b (Some r) = 0 < b.prepared → FindsNoStart b r
+RefusesPages b None = b.prepared ≡ 0
+
 -- What is answered where pages of an owner are placed for a request, and the book after it: they
 -- begin at a start that was chosen, with the type of the request and the owner. OUT_OF_RESOURCES,
--- which leaves the book, means that memory ran out or that no start is permitted.
+-- which leaves the book, means that no start is permitted or that memory ran out, which it does only
+-- for a certificate or where none is reserved ahead.
 abbrev pub PlacesPages : {A : Type 0} → Choice → Book → Request → Owner → Result (Placed A) Status
     → Book → Type 0
 PlacesPages Chosen b r o (Ok placed) new =
     IsChosenPlace Chosen b r placed
     × (new ≡ placed_book (range_from placed.address r.pages) r.mtype o b)
-PlacesPages Chosen b r o (Err OutOfResources) new = new ≡ b
+PlacesPages Chosen b r o (Err OutOfResources) new = (new ≡ b) × RefusesPages b (Some r)
 PlacesPages Chosen b r o (Err status) new = ⊥
 
 -- ---- AllocatePages
@@ -213,8 +235,8 @@ IsPlaced Chosen b None t pages memory placed =
     IsFree b t pages memory × (placed.address ≡ memory) × (placed.certificate ≡ None)
 
 -- What AllocatePages answers, and the book after it. A refusal leaves the book. OUT_OF_RESOURCES
--- means that memory ran out, and for the kinds that name no address also that no start is
--- permitted.
+-- means that memory ran out, which it does only for a certificate or where none is reserved ahead;
+-- for the kinds that name no address it may mean that no start is permitted.
 abbrev pub AllocatesPages : {A : Type 0} → Choice → Book → ℕ → ℕ → ℕ → ℕ → Result (Placed A) Status
     → Book → Type 0
 AllocatesPages Chosen b kind t pages memory (Ok placed) new =
@@ -227,6 +249,7 @@ AllocatesPages Chosen b kind t pages memory (Err NotFound) new =
     IsValidRequest kind t pages × (kind ≡ fixed_address) × (¬ IsFree b t pages memory) × (new ≡ b)
 AllocatesPages Chosen b kind t pages memory (Err OutOfResources) new =
     IsValidRequest kind t pages × (kind ≡ fixed_address → IsFree b t pages memory) × (new ≡ b)
+    × RefusesPages b (placement_request b.granule kind t pages memory)
 AllocatesPages Chosen b kind t pages memory (Err status) new = ⊥
 
 -- ---- FreePages

@@ -1,11 +1,11 @@
 //! The book of a machine's pages.
-ghost use Rattle.std.specs.Prelude.{◌≡◌, ◌≢◌, false, ◌+◌, ◌-◌, ◌*◌, ◌<◌, ◌≤◌, ◌^◌, IfOk, IfSome, MatchResult, Err, option_and_then};
+ghost use Rattle.std.specs.Prelude.{◌≡◌, ◌≢◌, false, ◌+◌, ◌-◌, ◌*◌, ◌<◌, ◌≤◌, ◌^◌, IfOk, IfSome, MatchResult, OnErr, OnOk, Err, None, option_and_then};
 ghost use Rattle.page_ranges.specs.declared.ranges.Owner.TheVariants.{Given, Pool};
 ghost use Rattle.page_ranges.specs.MemoryTypes.{conventional, is_bad_type, page_count, page_size};
 ghost use Rattle.page_ranges.specs.Memory.{page_at, IsPresent, IsOwnedBy, AllInRange};
 ghost use Rattle.page_ranges.specs.Granules.{IsGranule, granule_for};
 ghost use Rattle.placement_certificate.specs.Placement.{IsProperRequest};
-ghost use Rattle.page_services.specs.PageRules.{AllocatesPages, IsBestChoice, PlacesPages, FreesPages, HasWholeGranules, IsChosenOn, IsInGranules, TakesForPool, GivesFromPool, RunsOut, certifying, changed_book, ended_book, fixed_address, freed_book, freed_range, granule_of, if_counted, new_book, placed_book, placement_request, pool_request, whole_pages, whole_request};
+ghost use Rattle.page_services.specs.PageRules.{AllocatesPages, IsBestChoice, PlacesPages, FreesPages, FindsNoStart, HasWholeGranules, IsChosenOn, IsInGranules, TakesForPool, GivesFromPool, RunsOut, certifying, changed_book, ended_book, fixed_address, freed_book, freed_range, granule_of, if_counted, new_book, placed_book, placement_request, pool_request, preparing, whole_pages, whole_request};
 
 use descriptor_table::RunTable;
 use page_ranges::{
@@ -107,21 +107,25 @@ pub struct PageBook<A: Allocator = Global> {
     // For how many calls of FreePages, and for how many ends of extents, the table has memory reserved.
     frees: usize,
     ends: usize,
+    // For how many placements and the frees of what they place it has memory reserved ahead.
+    prepared: usize,
     // How many pages AllocatePages placed that FreePages has not freed.
     held: u64,
 }
 
 impl<A: Allocator> Model for PageBook<A> {
-    ghost use Rattle.std.specs.Prelude.{◌+◌, ◌≤◌};
+    ghost use Rattle.std.specs.Prelude.{◌+◌, ◌*◌, ◌≤◌};
     ghost use Rattle.page_services.specs.PageRules.{Book, IsInGranules, book_of};
 
     ghost Value = { Book };
 
-    ghost view = { λ b. book_of b.table b.key b.granule b.certifies b.frees b.ends b.held };
+    ghost view = { λ b.
+        book_of b.table b.key b.granule b.certifies b.frees b.ends b.prepared b.held };
 
     ghost invariant = { λ b.
-        IsInGranules (book_of b.table b.key b.granule b.certifies b.frees b.ends b.held)
-        × (b.frees + b.ends ≤ b.table.reserved) };
+        IsInGranules
+        (book_of b.table b.key b.granule b.certifies b.frees b.ends b.prepared b.held)
+        × (b.frees + b.ends + 2 * b.prepared ≤ b.table.reserved) };
 }
 
 impl<A: Allocator + Copy> PageBook<A> {
@@ -140,6 +144,7 @@ impl<A: Allocator + Copy> PageBook<A> {
             certifies: true,
             frees: 0,
             ends: 0,
+            prepared: 0,
             held: 0,
         }
     }
@@ -156,9 +161,13 @@ impl<A: Allocator + Copy> PageBook<A> {
     /// already: these succeed where the host refuses all memory, but for that of certificates. On an `Err` none is
     /// reserved.
     pub fn prepare(&mut self, placements: usize) -> Result<(), AllocError>
-        ensures { self.new ≡ self.old }
+        ensures ok { OnOk result (self.new ≡ preparing placements self.old) }
+        ensures err { OnErr result (self.new ≡ self.old) }
     {
-        self.table.reserve(placements.saturating_mul(2))
+        self.table.reserve(placements.saturating_mul(2))?;
+        let _few = self.table.reserved();
+        self.prepared += placements;
+        Ok(())
     }
 
     /// AllocatePages of the kind `kind`, for the type `mtype`, of a number of `pages`: anywhere (0), up to
@@ -286,7 +295,8 @@ impl<A: Allocator + Copy> PageBook<A> {
         requires proper { IsProperRequest request }
         requires limit { request.limit ≤ page_count }
         requires granule { request.granule ≡ granule_for request.mtype self.now.granule }
-        ensures { IfSome result (λ c. (c.request ≡ request) × IsChosenOn self.now c) }
+        ensures best { IfSome result (λ c. (c.request ≡ request) × IsChosenOn self.now c) }
+        ensures none { result ≡ None → FindsNoStart self.now request }
     {
         if !self.certifies {
             let first = best_start(&self.table, &request)?;
@@ -386,8 +396,10 @@ impl<A: Allocator + Copy> PageBook<A> {
     pub fn choose_for_pool(&self, mtype: MemoryType, pages: u64) -> Option<ChosenStart<A>>
         requires good { is_bad_type mtype ≡ false }
         requires some { 0 < pages }
-        ensures { IfSome result (λ c. (c.request ≡ pool_request self.now.granule mtype pages)
+        ensures best { IfSome result (λ c. (c.request ≡ pool_request self.now.granule mtype pages)
             × IsChosenOn self.now c) }
+        ensures none { result ≡ None
+            → FindsNoStart self.now (pool_request self.now.granule mtype pages) }
     {
         match pool_request(self.granule, mtype, pages) {
             Some(request) => self.best_place(request),
@@ -432,15 +444,18 @@ impl<A: Allocator + Copy> PageBook<A> {
         requires whole { IsInGranules self.old
             → IsInGranules (changed_book range mtype owner self.old) }
         ensures { MatchResult result (λ _. self.new ≡ placed_book range mtype owner self.old)
-            (λ e. (e ≡ Status.OutOfResources) × (self.new ≡ self.old)) }
+            (λ e. RunsOut self.old.prepared self.old e self.new) }
     {
         let kept = self.table.reserved() - self.frees - self.ends;
-        let Ok(()) = self.table.reserve(2_usize.saturating_sub(kept)) else {
-            return Err(Status::OutOfResources);
-        };
+        if kept < 2 {
+            let Ok(()) = self.table.reserve(2 - kept) else {
+                return Err(Status::OutOfResources);
+            };
+        }
         let _few = self.table.reserved();
         self.table.change(range, mtype, owner);
         self.key += 1;
+        self.prepared = self.prepared.saturating_sub(1);
         if owner == Owner::Pool {
             self.ends += 1;
             return Ok(());

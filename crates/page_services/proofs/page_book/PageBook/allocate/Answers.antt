@@ -1,9 +1,9 @@
 -- Terms and searches, and no second tactic after them: a body that is wrong is then refused sooner.
-use Rattle.std.proofs.Common.{◌≡◌, false, Some, refl, sym, subst, ◌∙◌, arith}
+use Rattle.std.proofs.Common.{◌≡◌, false, None, Some, refl, sym, subst, ◌∙◌, arith}
 use Rattle.std.specs.Option.{option_and_then}
 use Rattle.page_ranges.specs.MemoryTypes.{is_bad_type}
-use Rattle.page_services.specs.PageRules.{Book, IsInGranules, IsBestChoice, AllocatesPages, if_counted, placement_request}
-use Rattle.page_services.proofs.Granules.{asked_request, asked_granule, named_type, placement_request_proper, placement_request_limit, allocates_placed}
+use Rattle.page_services.specs.PageRules.{Book, IsInGranules, IsBestChoice, AllocatesPages, RefusesPages, if_counted, placement_request}
+use Rattle.page_services.proofs.Granules.{asked_request, asked_granule, named_type, placement_request_proper, placement_request_limit, refused_pages, allocates_placed}
 use Rattle.page_services.proofs.page_book.PageBook.allocate.Goals as goal
 
 pub place_best-requires-clause-proper : goal.place_best-requires-clause-proper
@@ -35,5 +35,7 @@ returns-in-Some g c =
 
 pub returns-in-None : goal.returns-in-None
 returns-in-None g c =
+    let none = subst (λ (b : Book). option_and_then if_counted (placement_request b.granule c.args.kind c.in_ok-mtype.mtype c.args.pages c.args.memory) ≡ None) c.self.view_is (sym c.placement_request.ensures ∙ c.in-None.is) in
     let (good, same) = named_type c.args.mtype c.in_ok-mtype.mtype (sym c.in_ok-mtype.ensures) in
-    ((omega arith, good, omega arith), λ k. absurd (c.if-kind-eq-ALLOCATE_ADDRESS.false k), refl)
+    let refuses = refused_pages c.args.self.now c.args.kind c.in_ok-mtype.mtype c.args.pages c.args.memory c.ranges.memory.fits (omega arith) c.if-kind-eq-ALLOCATE_ADDRESS.false none in
+    ((omega arith, good, omega arith), λ k. absurd (c.if-kind-eq-ALLOCATE_ADDRESS.false k), refl, subst (λ t. RefusesPages c.args.self.now (placement_request c.args.self.now.granule c.args.kind t c.args.pages c.args.memory)) (sym same) refuses)
