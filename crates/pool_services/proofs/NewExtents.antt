@@ -21,7 +21,7 @@ use Rattle.pool_services.proofs.PoolPages.{are-more, owns-more}
 
 -- pages that the pool is refused leave the book
 pub refused : (A : Type 0) (b : Book) (t pages : ℕ) (status : Status) (new_b : Book) → TakesForPool {A = A} IsBestChoice b t pages (Err status) new_b → new_b ≡ b
-refused A b t pages OutOfResources new_b h = h
+refused A b t pages OutOfResources new_b h = h.0
 refused A b t pages status new_b h = absurd h
 
 -- pages that are placed for the request of the pool are taken for the pool

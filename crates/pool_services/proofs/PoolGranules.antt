@@ -19,7 +19,7 @@ put-granules : (Chosen : Choice) → Permits Chosen → (b new_b : Book) (es new
 put-granules Chosen permits b new_b es new t size answer (Some p) (d, c, g, n) is = subst IsInGranules (sym g) is
 put-granules Chosen permits b new_b es new t size answer None (start, c, d, g, n) is =
     let r = pool_request b.granule t (pages_for size) in
-    subst IsInGranules (sym g) (reserved_granules _ _ _ _ (placed_granules b r start (permits b r start answer.1 c) is))
+    subst IsInGranules (sym g) (reserved_granules _ _ _ _ _ (placed_granules b r start (permits b r start answer.1 c) is))
 
 pub allocated-granules : (Chosen : Choice) → Permits Chosen → (b : Book) (es : List Extent) (t size : ℕ) (result : Result Answer Status) (new_b : Book) (new : List Extent) →
     AllocatesPool Chosen b es t size result new_b new → IsInGranules b → IsInGranules new_b

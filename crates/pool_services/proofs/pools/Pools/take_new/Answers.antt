@@ -14,27 +14,27 @@ returns-in_default-place_for_pool-clause-allocates g c = (
   c.requires.good,
   (λ u. c.requires.none),
   refused g.row.A.Denot c.args.book.now c.args.mtype c.pages_for.result c.in_default-place_for_pool.field-0 c.place_for_pool.new.self
-      (takes g.row.A.Denot c.args.book.now c.place_for_pool.new.self c.in-Some.chosen.request c.args.mtype c.pages_for.result (Err c.in_default-place_for_pool.field-0) c.in-Some.ensures.0 c.in_default-place_for_pool.ensures.places),
+      (takes g.row.A.Denot c.args.book.now c.place_for_pool.new.self c.in-Some.chosen.request c.args.mtype c.pages_for.result (Err c.in_default-place_for_pool.field-0) c.in-Some.ensures.best.0 c.in_default-place_for_pool.ensures.places),
   moved c.reserve.new.self.items c.self.inside.extents.items c.args.self.now c.reserve.ensures.items c.self.view_is,
 )
 
 pub returns-in_default-place_for_pool-clause-owns : goal.returns-in_default-place_for_pool-clause-owns
 returns-in_default-place_for_pool-clause-owns g c =
     let b : c.place_for_pool.new.self ≡ c.args.book.now = refused g.row.A.Denot c.args.book.now c.args.mtype c.pages_for.result c.in_default-place_for_pool.field-0 c.place_for_pool.new.self
-    (takes g.row.A.Denot c.args.book.now c.place_for_pool.new.self c.in-Some.chosen.request c.args.mtype c.pages_for.result (Err c.in_default-place_for_pool.field-0) c.in-Some.ensures.0 c.in_default-place_for_pool.ensures.places) in
+    (takes g.row.A.Denot c.args.book.now c.place_for_pool.new.self c.in-Some.chosen.request c.args.mtype c.pages_for.result (Err c.in_default-place_for_pool.field-0) c.in-Some.ensures.best.0 c.in_default-place_for_pool.ensures.places) in
     let e : c.reserve.new.self.items ≡ c.args.self.now = moved c.reserve.new.self.items c.self.inside.extents.items c.args.self.now c.reserve.ensures.items c.self.view_is in
     subst (λ (x : Book). OwnsExtents x.memory c.reserve.new.self.items) (sym b) (subst (λ (es : List Extent). OwnsExtents c.args.book.now.memory es) (sym e) c.requires.owns)
 
 pub add-requires-clause-extent : goal.add-requires-clause-extent
 add-requires-clause-extent g c =
-    let w = takes g.row.A.Denot c.args.book.now c.place_for_pool.new.self c.in-Some.chosen.request c.args.mtype c.pages_for.result (Ok c.in-Ok-place_for_pool.placed) c.in-Some.ensures.0 c.in-Ok-place_for_pool.ensures.places in
+    let w = takes g.row.A.Denot c.args.book.now c.place_for_pool.new.self c.in-Some.chosen.request c.args.mtype c.pages_for.result (Ok c.in-Ok-place_for_pool.placed) c.in-Some.ensures.best.0 c.in-Ok-place_for_pool.ensures.places in
     let e = is-of-granule _ _ _ _ _ _ _ c.with_block-extent.ensures c.extent_pages-pages.ensures.pages c.granule.ensures.granule in
     let v = subst IsGranule c.granule.ensures.granule c.granule.ensures.valid in
     is-made c.args.book.now c.with_block-extent.result c.args.mtype c.args.size c.pages_for.result c.in-Ok-place_for_pool.placed v c.requires.size c.pages_for.ensures.pages w.0 e
 
 pub invariant_of-self-2 : goal.invariant_of-self-2
 invariant_of-self-2 g c =
-    let w = takes g.row.A.Denot c.args.book.now c.place_for_pool.new.self c.in-Some.chosen.request c.args.mtype c.pages_for.result (Ok c.in-Ok-place_for_pool.placed) c.in-Some.ensures.0 c.in-Ok-place_for_pool.ensures.places in
+    let w = takes g.row.A.Denot c.args.book.now c.place_for_pool.new.self c.in-Some.chosen.request c.args.mtype c.pages_for.result (Ok c.in-Ok-place_for_pool.placed) c.in-Some.ensures.best.0 c.in-Ok-place_for_pool.ensures.places in
     let e = is-of-granule _ _ _ _ _ _ _ c.with_block-extent.ensures c.extent_pages-pages.ensures.pages c.granule.ensures.granule in
     let v = subst IsGranule c.granule.ensures.granule c.granule.ensures.valid in (
       is-new-extents c.args.book.now c.args.self.now c.reserve.new.self.items c.add.new.extents.items c.with_block-extent.result c.args.mtype c.args.size c.pages_for.result c.in-Ok-place_for_pool.placed
@@ -45,7 +45,7 @@ invariant_of-self-2 g c =
 
 pub returns-clause-allocates : goal.returns-clause-allocates
 returns-clause-allocates g c =
-    let w = takes g.row.A.Denot c.args.book.now c.place_for_pool.new.self c.in-Some.chosen.request c.args.mtype c.pages_for.result (Ok c.in-Ok-place_for_pool.placed) c.in-Some.ensures.0 c.in-Ok-place_for_pool.ensures.places in
+    let w = takes g.row.A.Denot c.args.book.now c.place_for_pool.new.self c.in-Some.chosen.request c.args.mtype c.pages_for.result (Ok c.in-Ok-place_for_pool.placed) c.in-Some.ensures.best.0 c.in-Ok-place_for_pool.ensures.places in
     let e = is-of-granule _ _ _ _ _ _ _ c.with_block-extent.ensures c.extent_pages-pages.ensures.pages c.granule.ensures.granule in (
       c.requires.good,
       c.requires.size,
@@ -56,7 +56,7 @@ returns-clause-allocates g c =
 
 pub returns-clause-owns : goal.returns-clause-owns
 returns-clause-owns g c =
-    let w = takes g.row.A.Denot c.args.book.now c.place_for_pool.new.self c.in-Some.chosen.request c.args.mtype c.pages_for.result (Ok c.in-Ok-place_for_pool.placed) c.in-Some.ensures.0 c.in-Ok-place_for_pool.ensures.places in
+    let w = takes g.row.A.Denot c.args.book.now c.place_for_pool.new.self c.in-Some.chosen.request c.args.mtype c.pages_for.result (Ok c.in-Ok-place_for_pool.placed) c.in-Some.ensures.best.0 c.in-Ok-place_for_pool.ensures.places in
     let e = is-of-granule _ _ _ _ _ _ _ c.with_block-extent.ensures c.extent_pages-pages.ensures.pages c.granule.ensures.granule in
     let v = subst IsGranule c.granule.ensures.granule c.granule.ensures.valid in
     owns-new c.args.book.now c.place_for_pool.new.self c.args.self.now c.reserve.new.self.items c.add.new.extents.items c.with_block-extent.result c.args.mtype c.args.size c.pages_for.result c.in-Ok-place_for_pool.placed
@@ -66,12 +66,12 @@ returns-clause-owns g c =
 pub returns-in_default-place_for_pool-clause-reserved : goal.returns-in_default-place_for_pool-clause-reserved
 returns-in_default-place_for_pool-clause-reserved g c =
     let b : c.place_for_pool.new.self ≡ c.args.book.now = refused g.row.A.Denot c.args.book.now c.args.mtype c.pages_for.result c.in_default-place_for_pool.field-0 c.place_for_pool.new.self
-    (takes g.row.A.Denot c.args.book.now c.place_for_pool.new.self c.in-Some.chosen.request c.args.mtype c.pages_for.result (Err c.in_default-place_for_pool.field-0) c.in-Some.ensures.0 c.in_default-place_for_pool.ensures.places) in
+    (takes g.row.A.Denot c.args.book.now c.place_for_pool.new.self c.in-Some.chosen.request c.args.mtype c.pages_for.result (Err c.in_default-place_for_pool.field-0) c.in-Some.ensures.best.0 c.in_default-place_for_pool.ensures.places) in
     let e : c.reserve.new.self.items ≡ c.args.self.now = moved c.reserve.new.self.items c.self.inside.extents.items c.args.self.now c.reserve.ensures.items c.self.view_is in
     same-ends c.args.book.now c.place_for_pool.new.self c.args.self.now c.reserve.new.self.items c.requires.reserved b e
 
 pub returns-clause-reserved : goal.returns-clause-reserved
 returns-clause-reserved g c =
-    let w = takes g.row.A.Denot c.args.book.now c.place_for_pool.new.self c.in-Some.chosen.request c.args.mtype c.pages_for.result (Ok c.in-Ok-place_for_pool.placed) c.in-Some.ensures.0 c.in-Ok-place_for_pool.ensures.places in
+    let w = takes g.row.A.Denot c.args.book.now c.place_for_pool.new.self c.in-Some.chosen.request c.args.mtype c.pages_for.result (Ok c.in-Ok-place_for_pool.placed) c.in-Some.ensures.best.0 c.in-Ok-place_for_pool.ensures.places in
     more-ends c.args.book.now c.place_for_pool.new.self c.args.self.now c.reserve.new.self.items c.add.new.extents.items c.with_block-extent.result _ c.args.mtype c.requires.reserved w.1
     (moved c.reserve.new.self.items c.self.inside.extents.items c.args.self.now c.reserve.ensures.items c.self.view_is) c.add.ensures.extents
