@@ -76,8 +76,8 @@ abbrev pub Outcome : Type 0 → Book → Book → Type 0
 Outcome Fits old new = (new ≡ old) ⊎ IsChanged Fits old new
 
 -- so it is for however many changes it has memory reserved
-with_reserve : (Fits : Type 0) (old new : Book) (frees ends held : ℕ) → IsChanged Fits old new → IsChanged Fits old (record new { frees = frees; ends = ends; held = held })
-with_reserve Fits old new frees ends held is = record { up = is.up; proper = is.proper; differs = is.differs; typed = is.typed; fields = is.fields; grows = is.grows; certifies = is.certifies }
+with_reserve : (Fits : Type 0) (old new : Book) (frees ends prepared held : ℕ) → IsChanged Fits old new → IsChanged Fits old (record new { frees = frees; ends = ends; prepared = prepared; held = held })
+with_reserve Fits old new frees ends prepared held is = record { up = is.up; proper = is.proper; differs = is.differs; typed = is.typed; fields = is.fields; grows = is.grows; certifies = is.certifies }
 
 allocated : (b : Book) (range : PageRange) (t : ℕ) (o : Owner) → IsProperMemory b.memory → is_bad_type t ≡ false → 0 < range.pages → IsConventional (page_at b.memory range.first) → IsChanged (t < 2 ^ 32) b (changed_book range t o b)
 allocated b range t o proper good some free =
@@ -113,7 +113,7 @@ frees Fits b address pages (Ok done) new proper granules (valid, owned, e) =
     let names = freed_names b address pages granules in
     let some : 0 < range.pages = omega (arith, names.0, names.1, valid.1) in
     let all = freed_owned b address pages granules valid.1 owned in
-    subst (Outcome Fits b) (sym e) (inr (with_reserve Fits b _ _ _ _ (freed Fits b range Pages (λ e. absurd cc) proper some (all range.first (omega arith) (omega (arith, some))))))
+    subst (Outcome Fits b) (sym e) (inr (with_reserve Fits b _ _ _ _ _ (freed Fits b range Pages (λ e. absurd cc) proper some (all range.first (omega arith) (omega (arith, some))))))
 frees Fits b address pages (Err status.InvalidParameter) new proper granules h = inl h.1
 frees Fits b address pages (Err status.NotFound) new proper granules h = inl h.2
 frees Fits b address pages (Err status.OutOfResources) new proper granules h = inl h.2
@@ -124,7 +124,7 @@ given : (Fits : Type 0) (b : Book) (o : Option PageRange) → IsProperMemory b.m
 given Fits b None proper owned = inl refl
 given Fits b (Some range) proper owned =
     let (some, all) = owned range refl in
-    rw (ne_eqb range.pages 0 (λ e. omega (arith, some, e))) (inr (with_reserve Fits b _ _ _ _ (freed Fits b range Pool (λ e. absurd cc) proper some (all range.first (omega arith) (omega (arith, some))))))
+    rw (ne_eqb range.pages 0 (λ e. omega (arith, some, e))) (inr (with_reserve Fits b _ _ _ _ _ (freed Fits b range Pool (λ e. absurd cc) proper some (all range.first (omega arith) (omega (arith, some))))))
 
 pub frees_pool : (Fits : Type 0) (b : Book) (es : List Extent) (address : ℕ) (result : Result (Unit {0}) Status) (new_b : Book) (new : List Extent) → IsProperMemory b.memory → AreExtents es → OwnsExtents b.memory es → FreesPool b es address result new_b new → Outcome Fits b new_b
 frees_pool Fits b es address (Ok done) new_b new proper extents owns (p, at, e, rest) = subst (Outcome Fits b) (sym e) (given Fits b (ended p es) proper (λ range is. ended-owned b.memory es p range extents owns is))
@@ -200,7 +200,7 @@ module _ (S : Setting) (permits : Permits S.chosen) where
       let some : 0 < range.pages = whole_pages_some b.granule t pages granules.granule valid.2 in
       let request = proper_request b.granule kind t pages memory granules.granule valid.1 valid.2 in
       let free = first_is_free b (placement_request b.granule kind t pages memory) t pages memory placed some request at in
-      subst (Outcome (t < 2 ^ 32) b) (sym e) (inr (with_reserve (t < 2 ^ 32) b _ _ _ _ (allocated b range t Pages proper valid.1 some free)))
+      subst (Outcome (t < 2 ^ 32) b) (sym e) (inr (with_reserve (t < 2 ^ 32) b _ _ _ _ _ (allocated b range t Pages proper valid.1 some free)))
   allocates b kind t pages memory (Err status.InvalidParameter) new proper granules h = inl h.1
   allocates b kind t pages memory (Err status.NotFound) new proper granules h = inl h.3
   allocates b kind t pages memory (Err status.OutOfResources) new proper granules h = inl h.2
@@ -212,7 +212,7 @@ module _ (S : Setting) (permits : Permits S.chosen) where
       let request : Request = pool_request b.granule t (pages_for size) in
       let start_is = permits b request start answer.1 chosen in
       let some : 0 < request.pages = whole_pages_some b.granule t (pages_for size) granules.granule (omega arith) in
-      subst (Outcome (t < 2 ^ 32) b) (sym e) (inr (with_reserve (t < 2 ^ 32) b _ _ _ _ (allocated b (record { first = start; pages = extent_pages b.granule t size }) t Pool proper good some (start_is.conventional start (omega arith) (omega (arith, some))))))
+      subst (Outcome (t < 2 ^ 32) b) (sym e) (inr (with_reserve (t < 2 ^ 32) b _ _ _ _ _ (allocated b (record { first = start; pages = extent_pages b.granule t size }) t Pool proper good some (start_is.conventional start (omega arith) (omega (arith, some))))))
 
   pub allocates_pool : (b : Book) (es : List Extent) (t size : ℕ) (result : Result Answer Status) (new_b : Book) (new : List Extent) → IsProperMemory b.memory → IsInGranules b → AllocatesPool S.chosen b es t size result new_b new → Outcome (t < 2 ^ 32) b new_b
   allocates_pool b es t size (Ok answer) new_b new proper granules (good, few, at) = put b es t size (first_fit t size es) answer new_b new proper granules good at

@@ -3,7 +3,7 @@ use Rattle.std.proofs.Common.{◌≡◌, ℕ, ◌+◌, ◌≤◌, Bool, true, fa
 use Rattle.page_ranges.specs.declared.statuses.Status.{Status}
 use Rattle.page_ranges.specs.declared.statuses.Status.TheVariants as status
 use Rattle.page_services.specs.declared.page_book.Placed.{Placed}
-use Rattle.page_services.specs.PageRules.{Book, IsInGranules, AllocatesPages, FreesPages, certifying}
+use Rattle.page_services.specs.PageRules.{Book, IsInGranules, AllocatesPages, FreesPages, certifying, preparing}
 use Rattle.page_services.proofs.Choices.{Permits}
 use Rattle.page_services.proofs.Granules.{allocates_granules, frees_granules}
 use Rattle.pool_services.specs.Extents.{Extent, AreExtents}
@@ -149,6 +149,16 @@ module _ (S : Setting) (permits : Permits S.chosen) where
 -- whether certificates are returned or not
 pub certifying_sound : (certifies : Bool) (p : Parts) → AreSound p → AreSound (parts_of (certifying certifies p.book) p.pools p.lists)
 certifying_sound certifies p is = record {
+  proper = is.proper;
+  granules = record { granule = is.granules.granule; whole = is.granules.whole };
+  extents = is.extents;
+  owned = is.owned;
+  reserved = is.reserved;
+}
+
+-- with memory reserved ahead for placements
+pub preparing_sound : (placements : ℕ) (p : Parts) → AreSound p → AreSound (parts_of (preparing placements p.book) p.pools p.lists)
+preparing_sound placements p is = record {
   proper = is.proper;
   granules = record { granule = is.granules.granule; whole = is.granules.whole };
   extents = is.extents;

@@ -7,7 +7,7 @@ use Rattle.page_ranges.specs.Runs.{pages_of}
 use Rattle.boot_calls.specs.declared.calls.Call.{Call}
 use Rattle.boot_replies.specs.Certified.{map_before}
 use Rattle.boot_machines.specs.Machines.{MachineValue}
-use Rattle.page_services.specs.PageRules.{Book, IsInGranules, certifying, new_book}
+use Rattle.page_services.specs.PageRules.{Book, IsInGranules, certifying, new_book, preparing}
 use Rattle.pool_services.specs.Extents.{Extent, AreExtents}
 use Rattle.pool_services.specs.PoolRules.{HasReservedEnds, OwnsExtents}
 use Rattle.protocol_services.specs.Lists.{Lists, no_lists}
@@ -62,6 +62,19 @@ abbrev pub certifying_state : Bool → State → State
 certifying_state certifies s = record {
   parts = record {
     book = certifying certifies s.parts.book;
+    pools = s.parts.pools;
+    lists = s.parts.lists;
+  };
+  exited = s.exited;
+  calls_left = s.calls_left;
+}
+
+-- the same state, with memory reserved ahead for a number of placements more, and for the frees of
+-- what they place
+abbrev pub preparing_state : ℕ → State → State
+preparing_state placements s = record {
+  parts = record {
+    book = preparing placements s.parts.book;
     pools = s.parts.pools;
     lists = s.parts.lists;
   };

@@ -1,8 +1,8 @@
 //! The core: the state of the boot services.
-ghost use Rattle.std.specs.Prelude.{◌≡◌, ◌+◌, ◌<◌, ◌≤◌, ◌^◌, [], length, map, IfOk, OnErr, slice_get, if◌then◌else◌};
+ghost use Rattle.std.specs.Prelude.{◌≡◌, ◌+◌, ◌<◌, ◌≤◌, ◌^◌, [], length, map, IfOk, OnErr, OnOk, slice_get, if◌then◌else◌};
 ghost use Rattle.page_ranges.specs.Memory.{IsProperMemory};
 ghost use Rattle.page_ranges.specs.MemoryMap.{memory_map};
-ghost use Rattle.boot_core.specs.Machines.{certifying_state, first_state, leaving, most_calls, FollowsCalls, IsUnused};
+ghost use Rattle.boot_core.specs.Machines.{certifying_state, first_state, leaving, most_calls, preparing_state, FollowsCalls, IsUnused};
 ghost use Rattle.boot_core.specs.PathSteps.{LocateStep};
 ghost use Rattle.boot_core.specs.Steps.{IsCounted, MapStep, ReadStep, CoreStep, CallRun};
 
@@ -114,7 +114,13 @@ impl<D: Driver, A: Allocator + Copy> Core<D, A> {
     /// Reserves memory for a number of placements of pages and for the frees of what they place: these succeed where
     /// the host refuses all memory, but for that of certificates. On an `Err` none is reserved.
     pub fn prepare(&mut self, placements: usize) -> Result<(), AllocError>
-        ensures { self.new ≡ self.old }
+        ensures ok { OnOk result
+            (self.new
+            ≡ record {
+              state = preparing_state placements self.old.state;
+              drivers = self.old.drivers;
+            }) }
+        ensures err { OnErr result (self.new ≡ self.old) }
     {
         self.book.prepare(placements)
     }
