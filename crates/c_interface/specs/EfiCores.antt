@@ -9,7 +9,7 @@ use Rattle.certificate_blocks.specs.BlockText.{block_text}
 use Rattle.driver_connect.specs.Drivers.{Meaning, is_free}
 use Rattle.driver_connect.specs.declared.table.TableDriver.{TableDriver}
 use Rattle.boot_replies.specs.declared.replies.Reply.{Reply}
-use Rattle.boot_core.specs.Machines.{CoreValue, certifying_state}
+use Rattle.boot_core.specs.Machines.{CoreValue, certifying_state, preparing_state}
 use Rattle.c_interface.specs.declared.efi_core.LastBlock.{LastBlock}
 use Rattle.c_interface.specs.declared.efi_core.LastBlock.TheVariants as block
 use Rattle.c_interface.specs.Replies.{events_in}
@@ -28,6 +28,16 @@ abbrev pub certifying_core : {A : Type 0} → Bool → EfiCoreValue A → EfiCor
 certifying_core certifies c = record {
   core = record { state = certifying_state certifies c.core.state; drivers = c.core.drivers };
   certifies = certifies;
+  last = c.last;
+  block = c.block;
+}
+
+-- the same core, with memory reserved ahead for a number of placements more, and for the frees of
+-- what they place
+abbrev pub preparing_core : {A : Type 0} → ℕ → EfiCoreValue A → EfiCoreValue A
+preparing_core placements c = record {
+  core = record { state = preparing_state placements c.core.state; drivers = c.core.drivers };
+  certifies = c.certifies;
   last = c.last;
   block = c.block;
 }

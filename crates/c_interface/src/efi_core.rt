@@ -1,10 +1,10 @@
 //! A core that a caller in C has.
-ghost use Rattle.std.specs.Prelude.{◌≡◌, ◌<◌, false, length, None, Some, true, option_map};
+ghost use Rattle.std.specs.Prelude.{◌≡◌, ◌<◌, false, length, None, OnErr, OnOk, Some, true, option_map};
 ghost use Rattle.c_interface.specs.EfiCores.{KeepsBlock, with_last};
 ghost use Rattle.page_ranges.specs.Statuses.{status_number};
 ghost use Rattle.boot_replies.specs.Certified.{certified};
 ghost use Rattle.c_interface.specs.Buffers.{front_filled};
-ghost use Rattle.c_interface.specs.EfiCores.{certifying_core, forgotten, last_events};
+ghost use Rattle.c_interface.specs.EfiCores.{certifying_core, forgotten, last_events, preparing_core};
 ghost use Rattle.c_interface.specs.Paths.{with_reply};
 ghost use Rattle.c_interface.specs.Replies.{number_in, returned_or, status_in};
 ghost use Rattle.c_interface.specs.Served.{AnswersStatus, AnswersNumber, AnswersNumbers, ReturnsBlock};
@@ -95,7 +95,8 @@ impl<A: Allocator + Copy> EfiCore<A> {
     /// Reserves memory for a number of placements of pages and for the frees of what they place. On an `Err` none is
     /// reserved.
     pub fn prepare(&mut self, placements: usize) -> Result<(), AllocError>
-        ensures { self.new ≡ self.old }
+        ensures ok { OnOk result (self.new ≡ preparing_core placements self.old) }
+        ensures err { OnErr result (self.new ≡ self.old) }
     {
         self.core.prepare(placements)
     }
