@@ -1,16 +1,27 @@
 -- What is made of records and tables, as a variable of the caller's has it.
-use Rattle.std.specs.Prelude.{ℕ, List, Result, Ok, Err, MatchOption, MatchResult}
+use Rattle.std.specs.Prelude.{◌≡◌, ℕ, List, Result, Ok, Err, MatchOption, MatchResult}
 use Rattle.c_machines.specs.declared.drivers.DriverTable.{DriverTable}
+use Rattle.c_interface.specs.EfiCores.{EfiCoreValue, preparing_core}
 use Rattle.c_interface.specs.Making.{MakesCore}
 use Rattle.boot_services_c.specs.Cores.{CoreHeap}
 use Rattle.boot_services_c.specs.Places.{Held}
 use Rattle.boot_services_c.specs.declared.place.Place.{Place}
 
--- The core that is held is the one that the records and tables describe.
+-- for how many placements a core has memory reserved ahead once it is made
+abbrev pub prepared_placements : ℕ
+prepared_placements = 64
+
+-- The core is the one that the records and tables describe, with memory reserved ahead for that many
+-- placements.
+abbrev pub IsPreparedCore : ℕ → List ℕ → ℕ → List DriverTable → EfiCoreValue CoreHeap → Type 0
+IsPreparedCore size records granule tables core =
+    (made : EfiCoreValue CoreHeap) × MakesCore size records granule tables (Ok made)
+    × (core ≡ preparing_core prepared_placements made)
+
+-- The core that is held is the one that the records and tables describe, with memory reserved ahead.
 abbrev pub Holds : ℕ → List ℕ → ℕ → List DriverTable → Held → Type 0
 Holds size records granule tables held =
-    MatchOption held ⊥
-    (λ handle. MakesCore {A = CoreHeap} size records granule tables (Ok handle.core))
+    MatchOption held ⊥ (λ handle. IsPreparedCore size records granule tables handle.core)
 
 -- No core is made, with this status.
 abbrev pub Refuses : ℕ → List ℕ → ℕ → List DriverTable → ℕ → Type 0

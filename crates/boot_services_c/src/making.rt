@@ -1,7 +1,8 @@
 //! Making and freeing cores.
 ghost use Rattle.std.specs.Prelude.{◌≡◌, ◌<◌, IfSome, MatchOption};
 ghost use Rattle.std.specs.Borrow.{sem};
-ghost use Rattle.boot_services_c.specs.MadeCores.{Holds, MakesPlace, Refuses};
+ghost use Rattle.c_interface.specs.EfiCores.{preparing_core};
+ghost use Rattle.boot_services_c.specs.MadeCores.{Holds, MakesPlace, Refuses, prepared_placements};
 ghost use Rattle.boot_services_c.specs.Places.{freed_at};
 
 use crate::blocks::Block;
@@ -18,7 +19,8 @@ use std::alloc::Global;
 const PREPARED_PLACEMENTS: usize = 64;
 
 /// Makes a core of EFI_MEMORY_DESCRIPTORs, a granule of 1 or 16 pages and up to 64 drivers, and puts its
-/// pointer into the variable `core`, which a refusal leaves as it is.
+/// pointer into the variable `core`, which a refusal leaves as it is. The core has memory reserved ahead for 64
+/// placements of pages.
 ///
 /// INVALID_PARAMETER: the records describe no machine, or the tables describe no drivers. OUT_OF_RESOURCES: memory ran
 /// out.
@@ -136,7 +138,8 @@ fn made_over(
 
 /// The pointer to a core that is moved to the heap, with memory for its first placements; none where memory runs out.
 fn pointer_to(alloc: Global, core: EfiCore) -> Option<Place>
-    ensures { IfSome result (λ place. MatchOption place.held ⊥ (λ handle. handle.core ≡ core)) }
+    ensures { IfSome result (λ place. MatchOption place.held ⊥ (λ handle.
+        handle.core ≡ preparing_core prepared_placements core)) }
 {
     let mut core = core;
     core.prepare(PREPARED_PLACEMENTS).ok()?;
