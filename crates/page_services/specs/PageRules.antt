@@ -81,6 +81,11 @@ pub record IsInGranules (b : Book) : Type 0 where
   pub granule : IsGranule b.granule
   pub whole : HasWholeGranules b.granule b.memory
 
+-- Granules are whole, and memory is reserved for all changes that the book counts: a placement that is
+-- prepared takes one of its own and one for its free.
+abbrev pub IsKept : Book → ℕ → Type 0
+IsKept b reserved = IsInGranules b × (b.frees + b.ends + 2 * b.prepared ≤ reserved)
+
 -- a number of pages from the page of an address on
 abbrev pub range_from : ℕ → ℕ → PageRange
 range_from address pages = record { first = address / page_size; pages = pages }

@@ -114,18 +114,16 @@ pub struct PageBook<A: Allocator = Global> {
 }
 
 impl<A: Allocator> Model for PageBook<A> {
-    ghost use Rattle.std.specs.Prelude.{◌+◌, ◌*◌, ◌≤◌};
-    ghost use Rattle.page_services.specs.PageRules.{Book, IsInGranules, book_of};
+    ghost use Rattle.page_services.specs.PageRules.{Book, IsKept, book_of};
 
     ghost Value = { Book };
 
     ghost view = { λ b.
         book_of b.table b.key b.granule b.certifies b.frees b.ends b.prepared b.held };
 
-    ghost invariant = { λ b.
-        IsInGranules
+    ghost invariant = { λ b. IsKept
         (book_of b.table b.key b.granule b.certifies b.frees b.ends b.prepared b.held)
-        × (b.frees + b.ends + 2 * b.prepared ≤ b.table.reserved) };
+        b.table.reserved };
 }
 
 impl<A: Allocator + Copy> PageBook<A> {
