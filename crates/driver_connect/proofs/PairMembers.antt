@@ -3,7 +3,7 @@ use Rattle.std.proofs.Common.{◌≡◌, ℕ, ◌==◌, ◌||◌, Bool, true, fa
 use Rattle.std.specs.List.{list_any}
 use Rattle.std.proofs.lemmas.Bool.Decides.{eqb_tells}
 use Rattle.std.proofs.lemmas.Bool.{ne_eqb, eq-eqb}
-use Rattle.guid_handles.specs.Blocks.{Block, ChangesBlock, block_at, with_last}
+use Rattle.guid_handles.specs.Blocks.{Block, BlockGroup, ChangesBlock, block_at, with_last}
 use Rattle.open_agents.specs.declared.items.Manager.{Manager}
 use Rattle.driver_connect.specs.Stopping.{same_pair, has_pair}
 use Rattle.driver_connect.specs.PairSets.{AreMembers}
@@ -23,7 +23,7 @@ pub no_members : AreMembers [] []
 no_members p = refl
 
 -- a pair that is not there joins
-pub member_joins : (pairs : List Manager) (p : Manager) (old new : List Block) → AreMembers pairs old → ChangesBlock p.controller (with_last p.agent) old new → AreMembers (pairs ++ p ∷ []) new
+pub member_joins : (pairs : List Manager) (p : Manager) (old new : List BlockGroup) → AreMembers pairs old → ChangesBlock p.controller (with_last p.agent) old new → AreMembers (pairs ++ p ∷ []) new
 member_joins pairs p old new h c q =
     ap (λ (b : Block). list_any (λ x. x == q.agent) b.places) (c q.controller)
     ∙ elim (eqb_tells p.controller q.controller) [

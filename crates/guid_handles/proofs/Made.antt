@@ -8,7 +8,7 @@ use Rattle.guid_handles.specs.declared.records.LiveHandle.{LiveHandle}
 use Rattle.guid_handles.specs.Sorting.{Ascending}
 use Rattle.guid_handles.specs.HandleTables.{has_number}
 use Rattle.guid_handles.specs.Indexes.{FiledRow, Row, filed_number, filed_numbers, is_filed_at, is_row_of, lives, row_numbers, rows_in}
-use Rattle.guid_handles.specs.Blocks.{Block, block_at, with_last, without_place}
+use Rattle.guid_handles.specs.Blocks.{Block, BlockGroup, block_at, with_last, without_place}
 use Rattle.guid_handles.specs.MadeOn.{AreMadeOn, AreRowsNoted, ChangesMade, is_made_on, numbers_made_on}
 use Rattle.guid_handles.proofs.SortedLists.{filter_map_filter, map_append}
 use Rattle.guid_handles.proofs.Grouped.{is_same}
@@ -31,8 +31,8 @@ pushed (x ∷ xs) h c = elim (cases_Bool (is_made_on c x)) [
   | inr e ↦ rw e (pushed xs h c)
 ]
 
-made_push : (hs : List LiveHandle) (h : LiveHandle) (m : Option (ℕ × ℕ)) (old new : List Block) → h.maker ≡ m → AreMadeOn hs old → ChangesMade m (with_last h.number) old new → AreMadeOn (hs ++ h ∷ []) new
-made_push hs h None old new e a k c = ap (λ (bs : List Block). (block_at bs c).places) k ∙ a c ∙ append_none (numbers_made_on c hs) ∙ sym (pushed hs h c ∙ rw e refl)
+made_push : (hs : List LiveHandle) (h : LiveHandle) (m : Option (ℕ × ℕ)) (old new : List BlockGroup) → h.maker ≡ m → AreMadeOn hs old → ChangesMade m (with_last h.number) old new → AreMadeOn (hs ++ h ∷ []) new
+made_push hs h None old new e a k c = ap (λ (bs : List BlockGroup). (block_at bs c).places) k ∙ a c ∙ append_none (numbers_made_on c hs) ∙ sym (pushed hs h c ∙ rw e refl)
 made_push hs h (Some m) old new e a k c =
     ap (λ (b : Block). b.places) (k c)
     ∙ elim (cases_Bool (m.0 == c)) [
@@ -79,9 +79,9 @@ left_out n (x ∷ xs) h c a e = elim (cases_Bool (x.number == n)) [
       ]
 ]
 
-made_remove : (n : ℕ) (hs : List LiveHandle) (h : LiveHandle) (m : Option (ℕ × ℕ)) (old new : List Block) → h.maker ≡ m → Ascending (λ a b. a < b) (map (λ x. x.number) hs) → find (has_number n) hs ≡ Some h → AreMadeOn hs old
+made_remove : (n : ℕ) (hs : List LiveHandle) (h : LiveHandle) (m : Option (ℕ × ℕ)) (old new : List BlockGroup) → h.maker ≡ m → Ascending (λ a b. a < b) (map (λ x. x.number) hs) → find (has_number n) hs ≡ Some h → AreMadeOn hs old
     → ChangesMade m (without_place n) old new → AreMadeOn (filter (λ x. not (has_number n x)) hs) new
-made_remove n hs h None old new e s g a k c = ap (λ (bs : List Block). (block_at bs c).places) k ∙ a c ∙ sym (left_out n hs h c s g ∙ rw e refl)
+made_remove n hs h None old new e s g a k c = ap (λ (bs : List BlockGroup). (block_at bs c).places) k ∙ a c ∙ sym (left_out n hs h c s g ∙ rw e refl)
 made_remove n hs h (Some m) old new e s g a k c =
     ap (λ (b : Block). b.places) (k c)
     ∙ elim (cases_Bool (m.0 == c)) [
@@ -92,7 +92,7 @@ made_remove n hs h (Some m) old new e s g a k c =
 -- ---- rows
 
 -- the handles stay where the rows do
-pub noted_same : (fs gs : List FiledRow) (ns : List ℕ) (made : List Block) → AreRowsNoted fs ns made → lives (rows_in gs) ≡ lives (rows_in fs) → Ascending (λ a b. a < b) (filed_numbers gs) → AreRowsNoted gs ns made
+pub noted_same : (fs gs : List FiledRow) (ns : List ℕ) (made : List BlockGroup) → AreRowsNoted fs ns made → lives (rows_in gs) ≡ lives (rows_in fs) → Ascending (λ a b. a < b) (filed_numbers gs) → AreRowsNoted gs ns made
 noted_same fs gs ns made a s o = record {
   rows = record {
     filed = o;
@@ -102,13 +102,13 @@ noted_same fs gs ns made a s o = record {
   made = subst (λ (hs : List LiveHandle). AreMadeOn hs made) (sym s) a.made;
 }
 
-pub rows_set : (fs : List FiledRow) (ns : List ℕ) (made : List Block) (at : ℕ) (f new : FiledRow) → AreRowsNoted fs ns made → slice_get fs at ≡ Some f → new.row.live ≡ f.row.live → new.gone ≡ f.gone → AreRowsNoted (set fs at new) ns made
+pub rows_set : (fs : List FiledRow) (ns : List ℕ) (made : List BlockGroup) (at : ℕ) (f new : FiledRow) → AreRowsNoted fs ns made → slice_get fs at ≡ Some f → new.row.live ≡ f.row.live → new.gone ≡ f.gone → AreRowsNoted (set fs at new) ns made
 rows_set fs ns made at f new a e l g = record {
   rows = plain.rows_set fs ns at f new a.rows e l g;
   made = subst (λ (hs : List LiveHandle). AreMadeOn hs made) (sym (plain.rows_lives fs at f new e l g)) a.made;
 }
 
-pub rows_push : (fs gs : List FiledRow) (ns : List ℕ) (f : FiledRow) (old new : List Block) → AreRowsNoted fs ns old → rows_in gs ≡ rows_in fs → Ascending (λ a b. a < b) (filed_numbers gs) → f.gone ≡ false
+pub rows_push : (fs gs : List FiledRow) (ns : List ℕ) (f : FiledRow) (old new : List BlockGroup) → AreRowsNoted fs ns old → rows_in gs ≡ rows_in fs → Ascending (λ a b. a < b) (filed_numbers gs) → f.gone ≡ false
     → AllByRecursion (λ k. k < filed_number f) (filed_numbers gs) → AllByRecursion (λ k. k < filed_number f) (row_numbers (rows_in fs)) → ChangesMade f.row.live.maker (with_last (filed_number f)) old new
     → AreRowsNoted (gs ++ f ∷ []) (ns ++ filed_number f ∷ []) new
 rows_push fs gs ns f old new a same order g below live k =
@@ -119,7 +119,7 @@ rows_push fs gs ns f old new a same order g below live k =
     }
 
 -- a handle that is gone leaves the other rows
-pub rows_without : (n : ℕ) (fs hs : List FiledRow) (ns : List ℕ) (at : ℕ) (f new : FiledRow) (old blocks : List Block) → AreRowsNoted fs ns old → is_filed_at n fs at ≡ true → slice_get fs at ≡ Some f → new.row ≡ f.row → new.gone ≡ true
+pub rows_without : (n : ℕ) (fs hs : List FiledRow) (ns : List ℕ) (at : ℕ) (f new : FiledRow) (old blocks : List BlockGroup) → AreRowsNoted fs ns old → is_filed_at n fs at ≡ true → slice_get fs at ≡ Some f → new.row ≡ f.row → new.gone ≡ true
     → rows_in hs ≡ rows_in (set fs at new) → Ascending (λ a b. a < b) (filed_numbers hs) → ChangesMade f.row.live.maker (without_place (filed_number f)) old blocks
     → (rows_in hs ≡ filter (λ r. not (is_row_of n r)) (rows_in fs)) × AreRowsNoted hs (filter (λ m. not (m == n)) ns) blocks
 rows_without n fs hs ns at f new old blocks a h e s g same order k =

@@ -4,7 +4,7 @@ use Rattle.std.specs.List.{filter}
 use Rattle.guid_handles.specs.declared.records.LiveHandle.{LiveHandle}
 use Rattle.guid_handles.specs.HandleTables.{HandleTable}
 use Rattle.guid_handles.specs.Indexes.{AreRows, FiledRow, lives, rows_in}
-use Rattle.guid_handles.specs.Blocks.{Block, ChangesBlock, block_at}
+use Rattle.guid_handles.specs.Blocks.{Block, BlockGroup, ChangesBlock, block_at}
 
 abbrev pub is_of_controller : ℕ → Option (ℕ × ℕ) → Bool
 is_of_controller controller None = false
@@ -22,15 +22,16 @@ abbrev pub made_on : HandleTable → ℕ → List ℕ
 made_on t controller = numbers_made_on controller t.handles
 
 -- the block of each controller has the handles that drivers made on it
-abbrev pub AreMadeOn : List LiveHandle → List Block → Type 0
+abbrev pub AreMadeOn : List LiveHandle → List BlockGroup → Type 0
 AreMadeOn hs blocks = (c : ℕ) → (block_at blocks c).places ≡ numbers_made_on c hs
 
 -- the block of the controller of a maker changes, if there is a maker
-abbrev pub ChangesMade : Option (ℕ × ℕ) → (Block → Block) → List Block → List Block → Type 0
+abbrev pub ChangesMade : Option (ℕ × ℕ) → (Block → Block) → List BlockGroup → List BlockGroup
+    → Type 0
 ChangesMade None f old new = new ≡ old
 ChangesMade (Some m) f old new = ChangesBlock m.0 f old new
 
 -- rows, their numbers, and the handles that were made by the controllers of their makers
-pub record AreRowsNoted (fs : List FiledRow) (ns : List ℕ) (blocks : List Block) : Type 0 where
+pub record AreRowsNoted (fs : List FiledRow) (ns : List ℕ) (blocks : List BlockGroup) : Type 0 where
   pub rows : AreRows fs ns
   pub made : AreMadeOn (lives (rows_in fs)) blocks

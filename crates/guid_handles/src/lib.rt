@@ -1,6 +1,7 @@
 //! The handle table: handles, the protocol interfaces on them, and how they are found.
 #![tactic(auto)]
 
+mod block_group;
 mod blocks;
 mod groups;
 mod guid_group;
@@ -8,7 +9,6 @@ mod guids;
 mod handle_keys;
 mod handle_row;
 mod handles;
-mod place_block;
 mod places;
 mod records;
 mod room;

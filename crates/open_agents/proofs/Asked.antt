@@ -1,5 +1,5 @@
 -- What is asked of an interface's items is asked of those in the block of its handle alone.
-use Rattle.std.proofs.Common.{◌≡◌, ℕ, ◌==◌, ◌&&◌, ◌||◌, not, Bool, true, false, List, [], ◌∷◌, map, is_some, inl, inr, refl, sym, ap, ◌∙◌, ◌/◌, Option, Some, None}
+use Rattle.std.proofs.Common.{◌≡◌, ℕ, ◌==◌, ◌&&◌, ◌||◌, not, Bool, true, false, List, [], ◌∷◌, map, is_some, inl, inr, refl, sym, ap, ◌∙◌, Option, Some, None}
 use Rattle.std.specs.List.{filter, list_any, AllByRecursion}
 use Rattle.std.proofs.lemmas.Bool.{cases_Bool, eq-eqb}
 use Rattle.guid_handles.specs.HandleTables.{HandleTable, is_live, same_guid}
@@ -10,7 +10,7 @@ use Rattle.open_agents.specs.OpenItems.{is_for_driver, is_exclusive, is_open_on,
 use Rattle.open_agents.specs.declared.items.Decision.TheVariants.{Add}
 use Rattle.open_agents.specs.OpenRule.{add_or_stop, has_equal, has_of_agent, has_holder, has_exclusive, is_driver_item, driver_item, names_badly, needs_agent, open_rule}
 use Rattle.open_agents.proofs.Placed.{none_of_agent_0}
-use Rattle.open_agents.specs.Blocks.{block_size, is_near}
+use Rattle.open_agents.specs.Blocks.{is_near}
 use Rattle.open_agents.specs.Listed.{is_of_agent, items_of}
 
 pub first_part : (a b : Bool) → (a && b) ≡ true → a ≡ true
@@ -22,7 +22,7 @@ first_part a b h = elim (cases_Bool a) [
 open_near : (n : ℕ) (guid : List ℕ) (o : OpenRecord) → is_open_on n guid o ≡ true → is_near n o ≡ true
 open_near n guid o h =
     let e : o.handle ≡ n = is_same o.handle n (first_part (o.handle == n) (same_guid o.guid guid) h) in
-    rw (e, eq-eqb (n / block_size) (n / block_size) refl) refl
+    rw (e, eq-eqb n n refl) refl
 
 or_true : (a : Bool) → (a || true) ≡ true
 or_true true = refl
@@ -31,12 +31,12 @@ or_true false = refl
 pub controller_near : (n : ℕ) (o : OpenRecord) → (n == 0) ≡ false → (o.controller == n) ≡ true → is_near n o ≡ true
 controller_near n o z h =
     let e : o.controller ≡ n = is_same o.controller n h in
-    rw (e, z, eq-eqb (n / block_size) (n / block_size) refl) (or_true ((o.handle / block_size) == (n / block_size)))
+    rw (e, z, eq-eqb n n refl) (or_true (o.handle == n))
 
 pub handle_near : (n : ℕ) (o : OpenRecord) → (o.handle == n) ≡ true → is_near n o ≡ true
 handle_near n o h =
     let e : o.handle ≡ n = is_same o.handle n h in
-    rw (e, eq-eqb (n / block_size) (n / block_size) refl) refl
+    rw (e, eq-eqb n n refl) refl
 
 pub second_part : (a b : Bool) → (a && b) ≡ true → b ≡ true
 second_part true b h = h

@@ -1,6 +1,6 @@
 -- The items at their places, and what keeps the places in blocks in step with them.
 use Rattle.std.proofs.Math.ListN.{set}
-use Rattle.std.proofs.Common.{get_or, ◌≡◌, ℕ, zero, suc, ◌+◌, ◌<◌, ◌≤◌, ◌/◌, ◌==◌, ◌&&◌, ◌||◌, not, Bool, true, false, cond, List, [], ◌∷◌, ◌++◌, map, length, Option, Some, None, is_some, inl, inr, refl, sym, ap, ◌∙◌, arith, subst}
+use Rattle.std.proofs.Common.{get_or, ◌≡◌, ℕ, zero, suc, ◌+◌, ◌<◌, ◌≤◌, ◌==◌, ◌&&◌, ◌||◌, not, Bool, true, false, cond, List, [], ◌∷◌, ◌++◌, map, length, Option, Some, None, is_some, inl, inr, refl, sym, ap, ◌∙◌, arith, subst}
 use Rattle.std.specs.List.{filter, list_any, slice_get, AllByRecursion}
 use Rattle.std.proofs.lemmas.List.{append-nil}
 use Rattle.std.proofs.lemmas.Bool.{cases_Bool, eq-eqb, ne_eqb}
@@ -12,8 +12,9 @@ use Rattle.guid_handles.proofs.GuidOrder.{same_guid-true, and_false}
 use Rattle.guid_handles.proofs.Grouped.{is_same}
 use Rattle.open_agents.specs.declared.items.OpenRecord.{OpenRecord}
 use Rattle.open_agents.specs.OpenItems.{is_equal_item, counted, once_more}
-use Rattle.guid_handles.specs.Blocks.{Block, ChangesBlock, ChangesBlocks, IsFree, block_at, with_last, without_place}
-use Rattle.open_agents.specs.Blocks.{HoldsAt, IsOpenStore, agent_block, are_equal, block_of, block_size, second_block, is_in, is_near, item_at, item_at_place, items_at, items_in, passes, places_from}
+use Rattle.guid_handles.proofs.BlockLists.{with_last_out}
+use Rattle.guid_handles.specs.Blocks.{Block, BlockGroup, ChangesBlock, ChangesBlocks, IsFree, block_at, with_last, without_place}
+use Rattle.open_agents.specs.Blocks.{HoldsAt, IsOpenStore, agent_block, are_equal, block_of, second_block, is_near, item_at, item_at_place, items_at, items_in, passes, places_from}
 use Rattle.open_agents.specs.Listed.{is_of_agent, items_of}
 
 -- ---- items by places
@@ -31,11 +32,11 @@ placed_items q all (Some o ∷ ss) i h =
       | inr e ↦ rw e rest
     ]
 
-pub store_near : (slots : List (Option OpenRecord)) (blocks agents : List Block) → IsOpenStore slots blocks agents → (n : ℕ) → items_at slots (block_at blocks (n / block_size)).places ≡ filter (is_near n) (items_in slots)
+pub store_near : (slots : List (Option OpenRecord)) (blocks agents : List BlockGroup) → IsOpenStore slots blocks agents → (n : ℕ) → items_at slots (block_at blocks n).places ≡ filter (is_near n) (items_in slots)
 store_near slots blocks agents h n =
-    ap (λ b. items_at slots b.places) (h.in_step (n / block_size)) ∙ placed_items (is_near n) slots slots 0 (λ k. ap (item_at slots) (omega arith))
+    ap (λ b. items_at slots b.places) (h.in_step n) ∙ placed_items (is_near n) slots slots 0 (λ k. ap (item_at slots) (omega arith))
 
-pub store_of_agent : (slots : List (Option OpenRecord)) (blocks agents : List Block) → IsOpenStore slots blocks agents → (a : ℕ) → items_at slots (block_at agents a).places ≡ items_of (items_in slots) a
+pub store_of_agent : (slots : List (Option OpenRecord)) (blocks agents : List BlockGroup) → IsOpenStore slots blocks agents → (a : ℕ) → items_at slots (block_at agents a).places ≡ items_of (items_in slots) a
 store_of_agent slots blocks agents h a =
     ap (λ b. items_at slots b.places) (h.by_agent a) ∙ placed_items (is_of_agent a) slots slots 0 (λ k. ap (item_at slots) (omega arith))
 
@@ -182,22 +183,22 @@ places_other q (s ∷ ss) i (suc k) x e f = ap (λ r. cond (passes q s) (i ∷ r
 emptied : (q : OpenRecord → Bool) (slots : List (Option OpenRecord)) (k : ℕ) → filter (λ x. not (x == k)) (places_from 0 q slots) ≡ places_from 0 q (set slots k None)
 emptied q slots k = sym (places_vacated q slots 0 k ∙ ap (λ n. filter (λ x. not (x == n)) (places_from 0 q slots)) (omega arith))
 
-blocks_removed : (slots : List (Option OpenRecord)) (k : ℕ) (x : OpenRecord) (old new : List Block) → item_at slots k ≡ Some x → ((b : ℕ) → block_at old b ≡ block_of slots b)
-    → ChangesBlocks (x.handle / block_size) (second_block x) (without_place k) old new → (b : ℕ) → block_at new b ≡ block_of (set slots k None) b
-blocks_removed slots k x old new e h c b = elim (cases_Bool (is_in b x)) [
-  | inl t ↦ c b ∙ rw t (ap (without_place k) (h b) ∙ ap (λ r. record { number = b; places = r }) (emptied (is_in b) slots k))
-  | inr f ↦ c b ∙ rw f (h b ∙ ap (λ r. record { number = b; places = r }) (sym (places_other (is_in b) slots 0 k x e f)))
+blocks_removed : (slots : List (Option OpenRecord)) (k : ℕ) (x : OpenRecord) (old new : List BlockGroup) → item_at slots k ≡ Some x → ((b : ℕ) → block_at old b ≡ block_of slots b)
+    → ChangesBlocks x.handle (second_block x) (without_place k) old new → (b : ℕ) → block_at new b ≡ block_of (set slots k None) b
+blocks_removed slots k x old new e h c b = elim (cases_Bool (is_near b x)) [
+  | inl t ↦ c b ∙ rw t (ap (without_place k) (h b) ∙ ap (λ r. record { number = b; places = r }) (emptied (is_near b) slots k))
+  | inr f ↦ c b ∙ rw f (h b ∙ ap (λ r. record { number = b; places = r }) (sym (places_other (is_near b) slots 0 k x e f)))
 ]
 
-agents_removed : (slots : List (Option OpenRecord)) (k : ℕ) (x : OpenRecord) (old new : List Block) → item_at slots k ≡ Some x → ((a : ℕ) → block_at old a ≡ agent_block slots a)
+agents_removed : (slots : List (Option OpenRecord)) (k : ℕ) (x : OpenRecord) (old new : List BlockGroup) → item_at slots k ≡ Some x → ((a : ℕ) → block_at old a ≡ agent_block slots a)
     → ChangesBlock x.agent (without_place k) old new → (a : ℕ) → block_at new a ≡ agent_block (set slots k None) a
 agents_removed slots k x old new e h c a = elim (cases_Bool (is_of_agent a x)) [
   | inl t ↦ c a ∙ rw t (ap (without_place k) (h a) ∙ ap (λ r. record { number = a; places = r }) (emptied (is_of_agent a) slots k))
   | inr f ↦ c a ∙ rw f (h a ∙ ap (λ r. record { number = a; places = r }) (sym (places_other (is_of_agent a) slots 0 k x e f)))
 ]
 
-pub store_removed : (slots : List (Option OpenRecord)) (k : ℕ) (x : OpenRecord) (old new old_agents agents : List Block) → IsOpenStore slots old old_agents → item_at slots k ≡ Some x
-    → ChangesBlocks (x.handle / block_size) (second_block x) (without_place k) old new → ChangesBlock x.agent (without_place k) old_agents agents → IsOpenStore (set slots k None) new agents
+pub store_removed : (slots : List (Option OpenRecord)) (k : ℕ) (x : OpenRecord) (old new old_agents agents : List BlockGroup) → IsOpenStore slots old old_agents → item_at slots k ≡ Some x
+    → ChangesBlocks x.handle (second_block x) (without_place k) old new → ChangesBlock x.agent (without_place k) old_agents agents → IsOpenStore (set slots k None) new agents
 store_removed slots k x old new old_agents agents h e c d = record {
   in_step = blocks_removed slots k x old new e h.in_step c;
   by_agent = agents_removed slots k x old_agents agents e h.by_agent d;
@@ -215,12 +216,12 @@ from_ascends q (s ∷ ss) i =
     ]
 
 -- the places in a block ascend
-pub blocks_ascend : (slots : List (Option OpenRecord)) (blocks agents : List Block) → IsOpenStore slots blocks agents → (m : ℕ) → Ascending (λ x y. x < y) (block_at blocks m).places
-blocks_ascend slots blocks agents h m = rw (h.in_step m) (from_ascends (is_in m) slots 0)
+pub blocks_ascend : (slots : List (Option OpenRecord)) (blocks agents : List BlockGroup) → IsOpenStore slots blocks agents → (m : ℕ) → Ascending (λ x y. x < y) (block_at blocks m).places
+blocks_ascend slots blocks agents h m = subst (λ (b : Block). Ascending (λ x y. x < y) b.places) (sym (h.in_step m)) (from_ascends (is_near m) slots 0)
 
 -- the places in the block of an agent ascend
-pub agents_ascend : (slots : List (Option OpenRecord)) (blocks agents : List Block) → IsOpenStore slots blocks agents → (a : ℕ) → Ascending (λ x y. x < y) (block_at agents a).places
-agents_ascend slots blocks agents h a = rw (h.by_agent a) (from_ascends (is_of_agent a) slots 0)
+pub agents_ascend : (slots : List (Option OpenRecord)) (blocks agents : List BlockGroup) → IsOpenStore slots blocks agents → (a : ℕ) → Ascending (λ x y. x < y) (block_at agents a).places
+agents_ascend slots blocks agents h a = subst (λ (b : Block). Ascending (λ x y. x < y) b.places) (sym (h.by_agent a)) (from_ascends (is_of_agent a) slots 0)
 
 -- ---- an item comes
 
@@ -242,11 +243,11 @@ places_pushed q (s ∷ ss) i o =
 filled : (q : OpenRecord → Bool) (slots : List (Option OpenRecord)) (o : OpenRecord) → places_from 0 q (slots ++ Some o ∷ []) ≡ places_from 0 q slots ++ cond (q o) (length slots ∷ []) []
 filled q slots o = places_pushed q slots 0 o ∙ ap (λ n. places_from 0 q slots ++ cond (q o) (n ∷ []) []) (omega arith)
 
-blocks_pushed : (slots : List (Option OpenRecord)) (o : OpenRecord) (old new : List Block) → ((b : ℕ) → block_at old b ≡ block_of slots b)
-    → ChangesBlocks (o.handle / block_size) (second_block o) (with_last (length slots)) old new → (b : ℕ) → block_at new b ≡ block_of (slots ++ Some o ∷ []) b
-blocks_pushed slots o old new h c b = elim (cases_Bool (is_in b o)) [
-  | inl t ↦ c b ∙ rw t (rw (h b) (sym (rw (filled (is_in b) slots o, t) refl)))
-  | inr f ↦ c b ∙ rw f (h b ∙ sym (rw (filled (is_in b) slots o, f, append-nil) refl))
+blocks_pushed : (slots : List (Option OpenRecord)) (o : OpenRecord) (old new : List BlockGroup) → ((b : ℕ) → block_at old b ≡ block_of slots b)
+    → ChangesBlocks o.handle (second_block o) (with_last (length slots)) old new → (b : ℕ) → block_at new b ≡ block_of (slots ++ Some o ∷ []) b
+blocks_pushed slots o old new h c b = elim (cases_Bool (is_near b o)) [
+  | inl t ↦ c b ∙ rw t (ap (with_last (length slots)) (h b) ∙ sym (rw (filled (is_near b) slots o, t) refl))
+  | inr f ↦ c b ∙ rw f (h b ∙ sym (rw (filled (is_near b) slots o, f, append-nil) refl))
 ]
 
 none_any : {X : Type 0} (p : X → Bool) (xs : List X) → list_any p xs ≡ false → AllByRecursion (λ x. p x ≡ false) xs
@@ -256,15 +257,15 @@ none_any p (x ∷ xs) h = elim (cases_Bool (p x)) [
   | inr e ↦ (e, none_any p xs (rw e at h))
 ]
 
-agents_pushed : (slots : List (Option OpenRecord)) (o : OpenRecord) (old new : List Block) → ((a : ℕ) → block_at old a ≡ agent_block slots a)
+agents_pushed : (slots : List (Option OpenRecord)) (o : OpenRecord) (old new : List BlockGroup) → ((a : ℕ) → block_at old a ≡ agent_block slots a)
     → ChangesBlock o.agent (with_last (length slots)) old new → (a : ℕ) → block_at new a ≡ agent_block (slots ++ Some o ∷ []) a
 agents_pushed slots o old new h c a = elim (cases_Bool (is_of_agent a o)) [
-  | inl t ↦ c a ∙ rw t (rw (h a) (sym (rw (filled (is_of_agent a) slots o, t) refl)))
+  | inl t ↦ c a ∙ rw t (ap (with_last (length slots)) (h a) ∙ sym (rw (filled (is_of_agent a) slots o, t) refl))
   | inr f ↦ c a ∙ rw f (h a ∙ sym (rw (filled (is_of_agent a) slots o, f, append-nil) refl))
 ]
 
-pub store_pushed : (slots : List (Option OpenRecord)) (o : OpenRecord) (old new old_agents agents : List Block) → IsOpenStore slots old old_agents → list_any (are_equal o) (items_in slots) ≡ false → (o.agent == 0) ≡ false
-    → ChangesBlocks (o.handle / block_size) (second_block o) (with_last (length slots)) old new → ChangesBlock o.agent (with_last (length slots)) old_agents agents → IsOpenStore (slots ++ Some o ∷ []) new agents
+pub store_pushed : (slots : List (Option OpenRecord)) (o : OpenRecord) (old new old_agents agents : List BlockGroup) → IsOpenStore slots old old_agents → list_any (are_equal o) (items_in slots) ≡ false → (o.agent == 0) ≡ false
+    → ChangesBlocks o.handle (second_block o) (with_last (length slots)) old new → ChangesBlock o.agent (with_last (length slots)) old_agents agents → IsOpenStore (slots ++ Some o ∷ []) new agents
 store_pushed slots o old new old_agents agents h n a c d = record {
   in_step = blocks_pushed slots o old new h.in_step c;
   by_agent = agents_pushed slots o old_agents agents h.by_agent d;
@@ -272,21 +273,17 @@ store_pushed slots o old new old_agents agents h n a c d = record {
   agents = rw (items_pushed slots o) (all_push (λ p. (p.agent == 0) ≡ false) (items_in slots) o h.agents a);
 }
 
-with_last_out : (place : ℕ) (xs : List ℕ) → filter (λ x. not (x == place)) (xs ++ place ∷ []) ≡ filter (λ x. not (x == place)) xs
-with_last_out place [] = rw (eq-eqb place place refl) refl
-with_last_out place (x ∷ xs) = ap (λ r. cond (not (x == place)) (x ∷ r) r) (with_last_out place xs)
-
 -- a place that no block had is taken out of two blocks again
-pub both_back : (b d place : ℕ) (old mid new : List Block) → IsFree place old → ChangesBlocks b d (with_last place) old mid → ChangesBlocks b d (without_place place) mid new → (m : ℕ) → block_at new m ≡ block_at old m
+pub both_back : (b d place : ℕ) (old mid new : List BlockGroup) → IsFree place old → ChangesBlocks b d (with_last place) old mid → ChangesBlocks b d (without_place place) mid new → (m : ℕ) → block_at new m ≡ block_at old m
 both_back b d place old mid new free h k m = elim (cases_Bool ((b == m) || (d == m))) [
   | inl t ↦
       let last : block_at mid m ≡ with_last place (block_at old m) = h m ∙ rw t refl in
-      k m ∙ rw t (rw last (ap (λ r. record { number = (block_at old m).number; places = r }) (with_last_out place (block_at old m).places) ∙ free m))
+      k m ∙ rw t (ap (without_place place) last ∙ ap (λ r. record { number = m; places = r }) (with_last_out place (block_at old m).places) ∙ free m)
   | inr n ↦ k m ∙ rw n (h m ∙ rw n refl)
 ]
 
 -- where no block changed
-pub store_stays : (slots : List (Option OpenRecord)) (old new agents : List Block) → IsOpenStore slots old agents → ((m : ℕ) → block_at new m ≡ block_at old m) → IsOpenStore slots new agents
+pub store_stays : (slots : List (Option OpenRecord)) (old new agents : List BlockGroup) → IsOpenStore slots old agents → ((m : ℕ) → block_at new m ≡ block_at old m) → IsOpenStore slots new agents
 store_stays slots old new agents h s = record {
   in_step = λ b. s b ∙ h.in_step b;
   by_agent = h.by_agent;
@@ -299,9 +296,11 @@ set_end [] = refl
 set_end (s ∷ ss) = ap (λ r. s ∷ r) (set_end ss)
 
 -- the next place is in no block
-pub next_free : (slots : List (Option OpenRecord)) (blocks agents : List Block) → IsOpenStore slots blocks agents → IsFree (length slots) blocks
+pub next_free : (slots : List (Option OpenRecord)) (blocks agents : List BlockGroup) → IsOpenStore slots blocks agents → IsFree (length slots) blocks
 next_free slots blocks agents h m =
-    rw (h.in_step m) (ap (λ r. record { number = m; places = r }) (emptied (is_in m) slots (length slots) ∙ ap (places_from 0 (is_in m)) (set_end slots)))
+    ap (without_place (length slots)) (h.in_step m)
+    ∙ ap (λ r. record { number = m; places = r }) (emptied (is_near m) slots (length slots) ∙ ap (places_from 0 (is_near m)) (set_end slots))
+    ∙ sym (h.in_step m)
 
 -- ---- items that go over to fresh places
 
@@ -404,14 +403,14 @@ places_set q (None ∷ ss) i zero x y e s = absurd cc
 places_set q (Some o ∷ ss) i zero x y e s = let n : q y ≡ q o = s ∙ sym (ap q (same_Some o x e)) in ap (λ c. cond c (i ∷ places_from (i + 1) q ss) (places_from (i + 1) q ss)) n
 places_set q (z ∷ ss) i (suc k) x y e s = ap (λ r. cond (passes q z) (i ∷ r) r) (places_set q ss (i + 1) k x y e s)
 
-pub store_counted : (n : ℕ) (guid : List ℕ) (agent controller a : ℕ) (slots : List (Option OpenRecord)) (k : ℕ) (x : OpenRecord) (blocks agents : List Block) → IsOpenStore slots blocks agents → item_at slots k ≡ Some x
+pub store_counted : (n : ℕ) (guid : List ℕ) (agent controller a : ℕ) (slots : List (Option OpenRecord)) (k : ℕ) (x : OpenRecord) (blocks agents : List BlockGroup) → IsOpenStore slots blocks agents → item_at slots k ≡ Some x
     → is_equal_item n guid agent controller a x ≡ true → IsOpenStore (set slots k (Some (record x { count = once_more x.count }))) blocks agents
 store_counted n guid agent controller a slots k x blocks agents h e t =
     let q : OpenRecord → Bool = is_equal_item n guid agent controller a in
     let y : OpenRecord = record x { count = once_more x.count } in
     let one : map (counted q) (items_in slots) ≡ items_in (set slots k (Some y)) = one_counted n guid agent controller a slots k x h.distinct e t in
     record {
-      in_step = λ b. h.in_step b ∙ ap (λ r. record { number = b; places = r }) (sym (places_set (is_in b) slots 0 k x y e refl));
+      in_step = λ b. h.in_step b ∙ ap (λ r. record { number = b; places = r }) (sym (places_set (is_near b) slots 0 k x y e refl));
       by_agent = λ b. h.by_agent b ∙ ap (λ r. record { number = b; places = r }) (sym (places_set (is_of_agent b) slots 0 k x y e refl));
       distinct = subst (Ascending (λ o p. are_equal p o ≡ false)) one (ascending_map (λ o p. are_equal p o ≡ false) (λ o p. are_equal p o ≡ false) (counted q) (λ o p f. counted_equal q p o ∙ f) (items_in slots) h.distinct);
       agents = subst (AllByRecursion (λ o. (o.agent == 0) ≡ false)) one (all_mapped (λ o. (o.agent == 0) ≡ false) (λ o. (o.agent == 0) ≡ false) (counted q) (λ o f. ap (λ m. m == 0) (counted_agent q o) ∙ f) (items_in slots) h.agents);

@@ -1,9 +1,9 @@
 -- The open items at their places, and where those on each handle and of each controller are, in
--- blocks.
-use Rattle.std.specs.Prelude.{◌≡◌, ℕ, ◌+◌, ◌/◌, ◌==◌, ◌||◌, ◌&&◌, Bool, true, false, cond, List, [], ◌∷◌, Option, Some, None, slice_get, slice_index_or, IfSome, IfNone}
+-- a block of its number.
+use Rattle.std.specs.Prelude.{◌≡◌, ℕ, ◌+◌, ◌==◌, ◌||◌, ◌&&◌, Bool, true, false, cond, List, [], ◌∷◌, Option, Some, None, slice_get, slice_index_or, IfSome, IfNone}
 use Rattle.std.specs.List.{list_any, AllByRecursion}
 use Rattle.guid_handles.specs.Sorting.{Ascending}
-use Rattle.guid_handles.specs.Blocks.{Block, block_at}
+use Rattle.guid_handles.specs.Blocks.{Block, BlockGroup, block_at}
 use Rattle.guid_handles.specs.Places.{has_place}
 use Rattle.open_agents.specs.declared.items.OpenRecord.{OpenRecord}
 use Rattle.open_agents.specs.declared.near.Near.{Near}
@@ -80,27 +80,19 @@ places_from k p (s ∷ ss) =
 
 -- ---- blocks
 
--- how many handles share a block
-abbrev pub block_size : ℕ
-block_size = 4
-
--- the block of an item's controller, or of its handle where it has none
+-- the controller of an item, or its handle where it has none
 abbrev pub second_block : OpenRecord → ℕ
-second_block o = cond (o.controller == 0) (o.handle / block_size) (o.controller / block_size)
+second_block o = cond (o.controller == 0) o.handle o.controller
 
--- an item is in a block by its handle or by its controller
-abbrev pub is_in : ℕ → OpenRecord → Bool
-is_in b o = ((o.handle / block_size) == b) || (second_block o == b)
-
--- an item is in the block of a handle
+-- an item is on a handle, or that is its controller
 abbrev pub is_near : ℕ → OpenRecord → Bool
-is_near n o = is_in (n / block_size) o
+is_near n o = (o.handle == n) || (second_block o == n)
 
 -- ---- in step with the items
 
 -- the block of a number, of items at their places
 abbrev pub block_of : List (Option OpenRecord) → ℕ → Block
-block_of slots b = record { number = b; places = places_from 0 (is_in b) slots }
+block_of slots b = record { number = b; places = places_from 0 (is_near b) slots }
 
 -- the block of an agent, of its items at their places
 abbrev pub agent_block : List (Option OpenRecord) → ℕ → Block
@@ -113,7 +105,7 @@ are_equal o p = is_equal_item o.handle o.guid o.agent o.controller o.attributes 
 -- Items, no two of which are equal and each of which has an agent, at their places; these places in
 -- blocks, and by agents.
 pub record IsOpenStore (slots : List (Option OpenRecord))
-    (blocks agent_blocks : List Block) : Type 0 where
+    (blocks agent_blocks : List BlockGroup) : Type 0 where
   pub in_step : (b : ℕ) → block_at blocks b ≡ block_of slots b
   pub by_agent : (a : ℕ) → block_at agent_blocks a ≡ agent_block slots a
   pub distinct : Ascending (λ o p. are_equal p o ≡ false) (items_in slots)

@@ -1,11 +1,11 @@
 //! The open items at their places, and where those on each handle and of each controller are.
-ghost use Rattle.std.specs.Prelude.{◌≡◌, ◌-◌, ◌<◌, ◌≤◌, ◌/◌, ◌^◌, ◌==◌, ◌++◌, ◌∷◌, ℕ, [], None, true, false, drop, length, map, take, is_some, slice_get, slice_set, vec_len, vec_capacity, IfOk, OnOk, OnErr};
+ghost use Rattle.std.specs.Prelude.{◌≡◌, ◌-◌, ◌<◌, ◌≤◌, ◌^◌, ◌==◌, ◌++◌, ◌∷◌, ℕ, [], None, true, false, drop, length, map, take, is_some, slice_get, slice_set, vec_len, vec_capacity, IfOk, OnOk, OnErr};
 ghost use Rattle.std.specs.List.{filter, list_any, AllByRecursion};
 ghost use Rattle.guid_handles.specs.Blocks.{ChangesBlock, ChangesBlocks, IsFree, block_at, with_last};
 ghost use Rattle.open_agents.specs.OpenItems as spec;
 ghost use Rattle.open_agents.specs.OpenItems.{is_equal_item, with_count};
 ghost use Rattle.open_agents.specs.Blocks as other;
-ghost use Rattle.open_agents.specs.Blocks.{HoldsAt, are_equal, block_size, is_near, item_at as there, items_in, items_near, places_from};
+ghost use Rattle.open_agents.specs.Blocks.{HoldsAt, are_equal, is_near, item_at as there, items_in, items_near, places_from};
 ghost use Rattle.open_agents.specs.Listed.{is_of_agent, items_of};
 
 use crate::items::{OpenRecord, once_more};
@@ -15,16 +15,6 @@ use guid_handles::Blocks;
 use std::alloc::{AllocError, Allocator};
 use std::marker::Model;
 use uuid::Uuid;
-
-/// How many handles share a block.
-const BLOCK_SIZE: u64 = 4;
-
-/// The block of a handle.
-fn block_of(handle: u64) -> u64
-    ensures { result ≡ handle / block_size }
-{
-    handle / BLOCK_SIZE
-}
 
 /// The open items, each once. An item that is closed leaves its place empty.
 #[derive(Drop)]
@@ -96,7 +86,7 @@ impl<A: Allocator + Copy> ItemStore<A> {
     {
         Near {
             slots: self.slots.as_slice(),
-            places: self.blocks.places(block_of(handle)),
+            places: self.blocks.places(handle),
         }
     }
 
@@ -147,9 +137,9 @@ impl<A: Allocator + Copy> ItemStore<A> {
     {
         if let Some(item) = self.slots[place] {
             self.slots[place] = None;
-            let first = block_of(item.handle);
             let second = second_block(&item);
-            self.blocks.remove_ascending_from_both(first, second, place);
+            self.blocks
+                .remove_ascending_from_both(item.handle, second, place);
             self.agents.remove_ascending(item.agent, place);
         }
     }
@@ -239,14 +229,14 @@ impl<A: Allocator + Copy> ItemStore<A> {
     }
 }
 
-/// The block of an item's controller, or of its handle where it has none.
+/// The controller of an item, or its handle where it has none.
 fn second_block(item: &OpenRecord) -> u64
     ensures { result ≡ other.second_block item.now }
 {
     if item.controller == 0 {
-        block_of(item.handle)
+        item.handle
     } else {
-        block_of(item.controller)
+        item.controller
     }
 }
 
@@ -259,18 +249,17 @@ fn file_place<A: Allocator + Copy>(
     place: usize,
 ) -> Result<(), AllocError>
     requires { IsFree place blocks.old }
-    ensures blocks { OnOk result (ChangesBlocks (item.now.handle / block_size)
+    ensures blocks { OnOk result (ChangesBlocks item.now.handle
         (other.second_block item.now) (with_last place) blocks.old blocks.new) }
     ensures agents { OnOk result
         (ChangesBlock item.now.agent (with_last place) agents.old agents.new) }
     ensures err { OnErr result ((m : ℕ) → block_at blocks.new m ≡ block_at blocks.old m) }
     ensures no_agent { OnErr result (agents.new ≡ agents.old) }
 {
-    let first = block_of(item.handle);
     let second = second_block(item);
-    blocks.push_in_both(first, second, place)?;
+    blocks.push_in_both(item.handle, second, place)?;
     if let Err(fault) = agents.push(item.agent, place) {
-        blocks.remove_from_both(first, second, place);
+        blocks.remove_from_both(item.handle, second, place);
         return Err(fault);
     }
     Ok(())

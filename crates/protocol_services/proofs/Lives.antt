@@ -1,4 +1,4 @@
--- Lifetimes that calls ask for, of lists of places in blocks and of groups of handles.
+-- Lifetimes that calls ask for, of groups of blocks and of groups of handles.
 use Rattle.std.proofs.Common.{[], ◌++◌}
 use base.Fml.{Lft}
 use contract.BorrowLft.{◌⊑◌, ⊑_meet, ⊑_static}
@@ -6,22 +6,31 @@ use contract.BorrowLft.{◌⊑◌, ⊑_meet, ⊑_static}
 once : (κ lives : Lft) → κ ⊑ lives → κ ⊑ lives ++ []
 once κ lives low = ⊑_meet κ lives [] low (⊑_static κ)
 
--- a value with a list in it
-abbrev block : Lft → Lft
-block lives = (lives ++ []) ++ (((lives ++ []) ++ (lives ++ [])) ++ [])
+-- a row
+abbrev row : Lft → Lft
+row lives = (lives ++ []) ++ (((lives ++ []) ++ (lives ++ [])) ++ [])
 
-of_block : (κ lives : Lft) → κ ⊑ lives → κ ⊑ block lives
-of_block κ lives low =
+of_row : (κ lives : Lft) → κ ⊑ lives → κ ⊑ row lives
+of_row κ lives low =
     let one = once κ lives low in ⊑_meet κ (lives ++ []) (((lives ++ []) ++ (lives ++ [])) ++ []) one (once κ ((lives ++ []) ++ (lives ++ [])) (⊑_meet κ (lives ++ []) (lives ++ []) one one))
 
--- a list of such values
-pub of_blocks : (κ lives : Lft) → κ ⊑ lives → κ ⊑ (lives ++ []) ++ (block lives ++ [])
-of_blocks κ lives low = ⊑_meet κ (lives ++ []) (block lives ++ []) (once κ lives low) (once κ (block lives) (of_block κ lives low))
+-- a list of rows
+abbrev rows : Lft → Lft
+rows lives = (row lives ++ (lives ++ [])) ++ (lives ++ [])
 
--- a list of values with three of them
-pub of_groups : (κ lives : Lft) → κ ⊑ lives → κ ⊑ (lives ++ []) ++ (block lives ++ (block lives ++ (block lives ++ [])))
+of_rows : (κ lives : Lft) → κ ⊑ lives → κ ⊑ rows lives
+of_rows κ lives low =
+    let one = once κ lives low in
+    ⊑_meet κ (row lives ++ (lives ++ [])) (lives ++ []) (⊑_meet κ (row lives) (lives ++ []) (of_row κ lives low) one) one
+
+-- a group of blocks
+pub of_blocks : (κ lives : Lft) → κ ⊑ lives → κ ⊑ (lives ++ []) ++ (rows lives ++ [])
+of_blocks κ lives low = ⊑_meet κ (lives ++ []) (rows lives ++ []) (once κ lives low) (once κ (rows lives) (of_rows κ lives low))
+
+-- a group of handles, with three rows
+pub of_groups : (κ lives : Lft) → κ ⊑ lives → κ ⊑ (lives ++ []) ++ (row lives ++ (row lives ++ (row lives ++ [])))
 of_groups κ lives low =
-    let b = of_block κ lives low in
-    let last = once κ (block lives) b in
-    ⊑_meet κ (lives ++ []) (block lives ++ (block lives ++ (block lives ++ []))) (once κ lives low)
-    (⊑_meet κ (block lives) (block lives ++ (block lives ++ [])) b (⊑_meet κ (block lives) (block lives ++ []) b last))
+    let b = of_row κ lives low in
+    let last = once κ (row lives) b in
+    ⊑_meet κ (lives ++ []) (row lives ++ (row lives ++ (row lives ++ []))) (once κ lives low)
+    (⊑_meet κ (row lives) (row lives ++ (row lives ++ [])) b (⊑_meet κ (row lives) (row lives ++ []) b last))

@@ -1,5 +1,5 @@
 use Rattle.std.proofs.Common.{◌≡◌, take}
 use Rattle.guid_handles.proofs.blocks.Blocks.try_copy.Given as goal
 
-abbrev pub invariant-loop-block : goal.invariant-loop-block
-invariant-loop-block g l = l.blocks.items ≡ take l.block-index l.self
+abbrev pub invariant-loop-group : goal.invariant-loop-group
+invariant-loop-group g l = l.groups.items ≡ take l.group-index l.self

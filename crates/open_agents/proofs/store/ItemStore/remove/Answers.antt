@@ -11,5 +11,5 @@ remove_ascending-requires g c = agents_ascend _ _ _ c.self.invariant c.in-Some.i
 pub invariant_of-self : goal.invariant_of-self
 invariant_of-self g c =
     let read = there _ c.args.place _ (rw (← c.self.view_is) at c.requires) c.index.ensures in
-    store_removed _ c.args.place c.in-Some.item _ _ _ _ c.self.invariant (read ∙ c.in-Some.is) (rw (c.block_of-first.ensures, c.second_block-second.ensures) at c.remove_ascending_from_both.ensures)
+    store_removed _ c.args.place c.in-Some.item _ _ _ _ c.self.invariant (read ∙ c.in-Some.is) (rw c.second_block-second.ensures at c.remove_ascending_from_both.ensures)
     c.remove_ascending.ensures

@@ -1,0 +1,9 @@
+use Rattle.std.specs.List.{filter}
+use Rattle.std.proofs.Common.{◌==◌, not, refl}
+use Rattle.guid_handles.proofs.GroupRows.{row_changes}
+use Rattle.guid_handles.proofs.block_group.BlockGroup.remove.Goals as goal
+
+pub returns : goal.returns
+returns g c =
+    rw (← c.self.view_is)
+    (row_changes (λ r. r.items) c.self.inside.rows.items c.args.index _ _ _ c.drop_place.new.places (filter (λ x. not (x == c.args.place))) (rw c.self.invariant c.requires) c.index_mut.ensures.value c.drop_place.ensures refl refl refl)
