@@ -3,7 +3,6 @@ use Rattle.std.proofs.Common.{◌≡◌, ℕ, ◌+◌, ◌<◌, ◌≤◌, ◌^�
 use Rattle.std.specs.List.{AllByRecursion}
 use Rattle.open_agents.specs.declared.items.OpenRecord.{OpenRecord}
 use Rattle.protocol_services.specs.Lists.{Lists, IsRaised}
-use Rattle.page_services.specs.PageRules.{certifying, preparing}
 use Rattle.boot_machines.specs.Machines.{MachineValue}
 use Rattle.boot_core.specs.Machines.{Parts, CoreValue, FollowsCalls, IsUnused, all_calls, first_state}
 
@@ -35,20 +34,6 @@ follows_on old new n follows key raised =
 -- there is a key for a registration by a call that may still be made
 pub has_room_to_register : (p : Parts) (n : ℕ) → FollowsCalls p (n + 1) → length p.lists.registrations < 2 ^ 62
 has_room_to_register p n follows = omega (arith, follows.registrations)
-
--- whether certificates are returned or not
-pub certifying_follows : (certifies : Bool) (p : Parts) (n : ℕ) → FollowsCalls p n → FollowsCalls (record { book = certifying certifies p.book; pools = p.pools; lists = p.lists }) n
-certifying_follows certifies p n is = record {
-  key = is.key;
-  registrations = is.registrations;
-}
-
--- with memory reserved ahead for placements
-pub preparing_follows : (placements : ℕ) (p : Parts) (n : ℕ) → FollowsCalls p n → FollowsCalls (record { book = preparing placements p.book; pools = p.pools; lists = p.lists }) n
-preparing_follows placements p n is = record {
-  key = is.key;
-  registrations = is.registrations;
-}
 
 -- before any call
 pub first_follows : (machine : MachineValue) → FollowsCalls (first_state machine).parts all_calls

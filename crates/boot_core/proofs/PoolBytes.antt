@@ -22,14 +22,13 @@ use Rattle.boot_calls.specs.declared.calls.Call.TheVariants as call
 use Rattle.boot_replies.specs.declared.replies.PoolList.{PoolList}
 use Rattle.boot_replies.specs.declared.replies.Reply.{Reply}
 use Rattle.boot_replies.specs.declared.replies.Reply.TheVariants as reply
-use Rattle.boot_core.specs.Machines.{Parts, AreSound}
+use Rattle.boot_core.specs.Machines.{Parts, AreSound, parts_of}
 use Rattle.boot_core.specs.PoolCalls.{AnswersRead}
 use Rattle.boot_core.specs.PoolLists.{LocatesBuffer, ListsOpens, PutsItems}
 use Rattle.boot_replies.specs.Certified.{list_type}
 use Rattle.boot_core.specs.Steps.{best_starts, OnBookAndPools, OnPools, WhileOpen, Serves, Answers}
 use Rattle.boot_core.specs.Laws.{byte_after, bytes_left, gives_back, handles_of, laid_over, lays, left_by}
 use Rattle.boot_core.proofs.Quiet.{quiet}
-use Rattle.boot_core.proofs.Soundness.{parts_of}
 
 -- ---- the rules that change bytes
 

@@ -3,7 +3,7 @@ use Rattle.std.proofs.Common.{◌≡◌, ℕ, ◌+◌, ◌≤◌, Bool, true, fa
 use Rattle.page_ranges.specs.declared.statuses.Status.{Status}
 use Rattle.page_ranges.specs.declared.statuses.Status.TheVariants as status
 use Rattle.page_services.specs.declared.page_book.Placed.{Placed}
-use Rattle.page_services.specs.PageRules.{Book, IsInGranules, AllocatesPages, FreesPages, certifying, preparing}
+use Rattle.page_services.specs.PageRules.{Book, IsInGranules, AllocatesPages, FreesPages}
 use Rattle.page_services.proofs.Choices.{Permits}
 use Rattle.page_services.proofs.Granules.{allocates_granules, frees_granules}
 use Rattle.pool_services.specs.Extents.{Extent, AreExtents}
@@ -16,7 +16,7 @@ use Rattle.boot_calls.specs.declared.calls.Call.{Call}
 use Rattle.boot_calls.specs.declared.calls.Call.TheVariants as call
 use Rattle.boot_replies.specs.declared.replies.Reply.{Reply}
 use Rattle.boot_machines.specs.Machines.{IsMachine, MachineValue}
-use Rattle.boot_core.specs.Machines.{Parts, State, AreSound, first_state_with}
+use Rattle.boot_core.specs.Machines.{Parts, State, AreSound, first_state_with, parts_of}
 use Rattle.open_agents.specs.declared.items.OpenItem.{OpenItem}
 use Rattle.open_agents.specs.OpenItems.{items_on}
 use Rattle.protocol_services.specs.ListBytes.{handle_bytes, item_bytes}
@@ -27,9 +27,6 @@ use Rattle.boot_replies.specs.Certified.{list_type}
 use Rattle.boot_core.specs.Steps.{Setting, OnBook, OnBookAndPools, OnPools, Serves, Answers, CallRunBy}
 use Rattle.boot_core.proofs.Quiet.{IsQuiet, quiet}
 use Rattle.boot_core.proofs.Outcomes.{Outcome, allocates, fills_pool, frees, allocates_pool, frees_pool, key_at_most, stays_proper}
-
-abbrev pub parts_of : Book → List Extent → Lists → Parts
-parts_of b es l = record { book = b; pools = es; lists = l }
 
 -- no rule is about the lists of the protocol services
 pub any_lists : (b : Book) (es : List Extent) (l m : Lists) → AreSound (parts_of b es l) → AreSound (parts_of b es m)
@@ -145,26 +142,6 @@ module _ (S : Setting) (permits : Permits S.chosen) where
   run_sound old (c ∷ calls) (r ∷ replies) new sound (next, step, run) = run_sound next calls replies new (stays_sound old.exited old.parts c r next.parts sound step.answers) run
   run_sound old [] (r ∷ replies) new sound run = absurd run
   run_sound old (c ∷ calls) [] new sound run = absurd run
-
--- whether certificates are returned or not
-pub certifying_sound : (certifies : Bool) (p : Parts) → AreSound p → AreSound (parts_of (certifying certifies p.book) p.pools p.lists)
-certifying_sound certifies p is = record {
-  proper = is.proper;
-  granules = record { granule = is.granules.granule; whole = is.granules.whole };
-  extents = is.extents;
-  owned = is.owned;
-  reserved = is.reserved;
-}
-
--- with memory reserved ahead for placements
-pub preparing_sound : (placements : ℕ) (p : Parts) → AreSound p → AreSound (parts_of (preparing placements p.book) p.pools p.lists)
-preparing_sound placements p is = record {
-  proper = is.proper;
-  granules = record { granule = is.granules.granule; whole = is.granules.whole };
-  extents = is.extents;
-  owned = is.owned;
-  reserved = is.reserved;
-}
 
 -- a machine before any call
 pub first_sound : (certifies : Bool) (machine : MachineValue) → IsMachine machine → AreSound (first_state_with certifies machine).parts

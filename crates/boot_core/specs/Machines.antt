@@ -57,30 +57,22 @@ first_state machine = record {
   calls_left = all_calls;
 }
 
--- the same state, where certificates are returned or not
-abbrev pub certifying_state : Bool → State → State
-certifying_state certifies s = record {
-  parts = record {
-    book = certifying certifies s.parts.book;
-    pools = s.parts.pools;
-    lists = s.parts.lists;
-  };
+-- a state with another book
+abbrev pub with_book : Book → State → State
+with_book book s = record {
+  parts = parts_of book s.parts.pools s.parts.lists;
   exited = s.exited;
   calls_left = s.calls_left;
 }
 
+-- the same state, where certificates are returned or not
+abbrev pub certifying_state : Bool → State → State
+certifying_state certifies s = with_book (certifying certifies s.parts.book) s
+
 -- the same state, with memory reserved ahead for a number of placements more, and for the frees of
 -- what they place
 abbrev pub preparing_state : ℕ → State → State
-preparing_state placements s = record {
-  parts = record {
-    book = preparing placements s.parts.book;
-    pools = s.parts.pools;
-    lists = s.parts.lists;
-  };
-  exited = s.exited;
-  calls_left = s.calls_left;
-}
+preparing_state placements s = with_book (preparing placements s.parts.book) s
 
 -- the state of a machine before any call, where certificates are returned or not
 abbrev pub first_state_with : Bool → MachineValue → State

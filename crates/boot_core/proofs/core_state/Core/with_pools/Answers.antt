@@ -8,9 +8,9 @@ use Rattle.page_services.specs.PageRules.{Book, HasWholeGranules, new_book}
 use Rattle.pool_services.proofs.PoolGranules.{machine-granules}
 use Rattle.pool_services.specs.Extents.{Extent}
 use Rattle.boot_machines.specs.Machines.{IsMachine, MachineValue}
-use Rattle.boot_core.specs.Machines.{Parts, AreSound, FollowsCalls, all_calls, first_state}
+use Rattle.boot_core.specs.Machines.{Parts, AreSound, FollowsCalls, all_calls, first_state, parts_of}
 use Rattle.boot_core.proofs.Follows.{first_follows}
-use Rattle.boot_core.proofs.Soundness.{first_sound, parts_of}
+use Rattle.boot_core.proofs.Soundness.{first_sound}
 use Rattle.boot_core.proofs.core_state.Core.with_pools.Goals as goal
 
 pub invariant_of-result : goal.invariant_of-result
