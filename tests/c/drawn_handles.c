@@ -1,9 +1,9 @@
 /* Drawn calls of the services on handles, each compared with plain lists: its status, and all that
- * it returns. First on cores without drivers; then on full cores and on small ones, on which
- * drivers start, make children and stop. There all handles, interfaces and open items are compared
- * too, on the small ones after each stop that is refused. Of each service and status a least number
- * of calls is wanted, and of each reason for which a stop is refused. Each point that does not hold
- * is printed on standard error, and then the status is 1. */
+ * it returns. First on cores without drivers; then on one handle, with up to 20 open items; then on
+ * full cores and on small ones, on which drivers start, make children and stop. There all handles,
+ * interfaces and open items are compared too, on the small ones after each stop that is refused. Of
+ * each service and status a least number of calls is wanted, and of each reason for which a stop is
+ * refused. Each point that does not hold is printed on standard error, and then the status is 1. */
 #include "both_calls.h"
 #include "draws.h"
 #include "points.h"
@@ -298,6 +298,51 @@ static void draw_without_drivers(void)
     tallies_clear();
 }
 
+/* ---- Many items on one handle ---- */
+
+#define MOST_ITEMS 20U
+
+/* An item on the first handle, of one of the other handles as the agent and one as the controller. */
+static struct item draw_on_first(struct both *both)
+{
+    return (struct item){1,
+                         1,
+                         draw_below(&both->seed, MOST_ITEMS) + 2,
+                         draw_below(&both->seed, 3) + 1,
+                         RAFKUDIN_GET_PROTOCOL,
+                         1};
+}
+
+/* Opens and closes on one handle, in drawn order. Mostly opens until there are as many items as
+ * there may be, then mostly closes until there is none, and so on. After each call all items are
+ * compared. */
+static void draw_on_one(uint64_t seed)
+{
+    struct both both = {small_core(NULL, 0), lists_new(NULL, 0), seed};
+    const struct lists *lists = both.lists;
+    unsigned turns = 0;
+    bool grows = true;
+
+    for (uint64_t number = 0; number < MOST_ITEMS + 2; number++)
+        both_install(&both, 0, 0, (struct named){1, number});
+    while (turns < 8) {
+        bool opens = lists->item_count == 0 || one_of(&both.seed, 4) != grows;
+        struct item item = opens ? draw_on_first(&both)
+                                 : lists->items[draw_below(&both.seed, lists->item_count)];
+
+        if (opens)
+            both_open(&both, &item);
+        else
+            both_close(&both, &item);
+        both_compare(&both);
+        if (lists->item_count == (grows ? MOST_ITEMS : 0)) {
+            grows = !grows;
+            turns++;
+        }
+    }
+    both_free(&both);
+}
+
 /* ---- Cores with drivers ---- */
 
 /* The first one's child carries what the second opens, whose child carries what the third opens. */
@@ -573,6 +618,8 @@ static void draw_with_drivers(void)
 int main(void)
 {
     draw_without_drivers();
+    for (uint64_t seed = 0; seed < 10; seed++)
+        draw_on_one(seed);
     draw_with_drivers();
     return points_end("drawn_handles");
 }

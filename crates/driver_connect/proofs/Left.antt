@@ -4,21 +4,11 @@ use Rattle.std.specs.List.{filter, list_any}
 use Rattle.std.proofs.lemmas.Bool.{cases_Bool}
 use Rattle.std.proofs.lemmas.Bool.Decides.{eqb_tells}
 use Rattle.guid_handles.specs.HandleTables.{HandleTable, has_number, is_on}
+use Rattle.guid_handles.proofs.Filters.{filter_inside}
 use Rattle.open_agents.specs.declared.items.Manager.{Manager}
 use Rattle.open_agents.specs.declared.items.OpenRecord.{OpenRecord}
 use Rattle.open_agents.specs.OpenItems.{names, manager_of, without_items}
 use Rattle.driver_connect.specs.Stopping.{has_pair, is_one_of, names_any, without_handles, without_opens}
-
--- a filter keeps all that another looks for
-kept : {X : Type 0} (q p : X → Bool) → ((x : X) → q x ≡ true → p x ≡ true) → (xs : List X) → filter q (filter p xs) ≡ filter q xs
-kept q p h [] = refl
-kept q p h (x ∷ xs) = elim (cases_Bool (q x)) [
-  | inl e ↦ rw (h x e) (rw e (ap (λ r. x ∷ r) (kept q p h xs)))
-  | inr e ↦ elim (cases_Bool (p x)) [
-    | inl k ↦ rw k (rw e (kept q p h xs))
-    | inr k ↦ rw k (rw e (kept q p h xs))
-  ]
-]
 
 -- a filter takes out all that another looks for
 gone : {X : Type 0} (q p : X → Bool) → ((x : X) → q x ≡ true → p x ≡ false) → (xs : List X) → filter q (filter p xs) ≡ []
@@ -80,6 +70,6 @@ handles_gone ns pairs t opens n h = (
 pub others_stay : (ns : List ℕ) (t : HandleTable) (n : ℕ) → is_one_of ns n ≡ false
     → (filter (has_number n) (without_handles ns t).handles ≡ filter (has_number n) t.handles) × (filter (is_on n) (without_handles ns t).interfaces ≡ filter (is_on n) t.interfaces)
 others_stay ns t n h = (
-  kept (has_number n) (λ l. not (is_one_of ns l.number)) (λ l e. ap not (same_number ns l.number n false h e)) t.handles,
-  kept (is_on n) (λ i. not (is_one_of ns i.handle)) (λ i e. ap not (same_number ns i.handle n false h e)) t.interfaces,
+  filter_inside (λ l. not (is_one_of ns l.number)) (has_number n) (λ l e. ap not (same_number ns l.number n false h e)) t.handles,
+  filter_inside (λ i. not (is_one_of ns i.handle)) (is_on n) (λ i e. ap not (same_number ns i.handle n false h e)) t.interfaces,
 )

@@ -1,6 +1,6 @@
 -- Groups of blocks by number: which one is found, and what blocks have once one has changed.
 use Rattle.std.proofs.Math.ListN.{set}
-use Rattle.std.proofs.Common.{◌≡◌, ℕ, zero, suc, ◌<◌, ◌/◌, ◌%◌, ◌==◌, ◌++◌, not, nat_lt, Bool, true, false, cond, List, [], ◌∷◌, map, length, Some, None, is_some, inl, inr, refl, sym, ap, ◌∙◌, arith, subst, length-append, slice_index_or}
+use Rattle.std.proofs.Common.{◌≡◌, ℕ, zero, suc, ◌<◌, ◌/◌, ◌%◌, ◌==◌, ◌||◌, ◌++◌, not, nat_lt, Bool, true, false, cond, List, [], ◌∷◌, map, length, Some, None, is_some, inl, inr, refl, sym, ap, ◌∙◌, arith, subst, length-append, slice_index_or}
 use Rattle.std.specs.List.{filter, find, list_all, slice_get, insert, remove, AllByRecursion}
 use Rattle.std.proofs.lemmas.Bool.{and_parts, cases_Bool, eq-eqb, ne_eqb, ltb-true, lt-ltb}
 use Rattle.std.proofs.lemmas.Option.{same_Some}
@@ -82,14 +82,21 @@ pub with_last_out : (place : ℕ) (xs : List ℕ) → filter (λ x. not (x == pl
 with_last_out place [] = rw (eq-eqb place place refl) refl
 with_last_out place (x ∷ xs) = ap (λ r. cond (not (x == place)) (x ∷ r) r) (with_last_out place xs)
 
--- a place that no block had is taken out again
-pub put_back : (b place : ℕ) (old mid new : List BlockGroup) → IsFree place old → ChangesBlock b (with_last place) old mid → ChangesBlock b (without_place place) mid new → (m : ℕ) → block_at new m ≡ block_at old m
-put_back b place old mid new free h k m = elim (cases_Bool (b == m)) [
+-- a place that no block had is taken out again of those that it came into
+back_where : (into : ℕ → Bool) (place : ℕ) (old mid new : List BlockGroup) → IsFree place old → ((m : ℕ) → block_at mid m ≡ cond (into m) (with_last place (block_at old m)) (block_at old m))
+    → ((m : ℕ) → block_at new m ≡ cond (into m) (without_place place (block_at mid m)) (block_at mid m)) → (m : ℕ) → block_at new m ≡ block_at old m
+back_where into place old mid new free h k m = elim (cases_Bool (into m)) [
   | inl t ↦
       let there : block_at mid m ≡ with_last place (block_at old m) = h m ∙ rw t refl in
       k m ∙ rw t (ap (without_place place) there ∙ ap (λ r. record { number = m; places = r }) (with_last_out place (block_at old m).places) ∙ free m)
   | inr n ↦ k m ∙ rw n (h m ∙ rw n refl)
 ]
+
+pub put_back : (b place : ℕ) (old mid new : List BlockGroup) → IsFree place old → ChangesBlock b (with_last place) old mid → ChangesBlock b (without_place place) mid new → (m : ℕ) → block_at new m ≡ block_at old m
+put_back b place old mid new free h k = back_where (λ m. b == m) place old mid new free h k
+
+pub both_back : (b c place : ℕ) (old mid new : List BlockGroup) → IsFree place old → ChangesBlocks b c (with_last place) old mid → ChangesBlocks b c (without_place place) mid new → (m : ℕ) → block_at new m ≡ block_at old m
+both_back b c place old mid new free h k = back_where (λ m. (b == m) || (c == m)) place old mid new free h k
 
 -- ---- the places at an index of a group
 

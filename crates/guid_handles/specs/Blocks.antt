@@ -21,6 +21,7 @@ group_size = 16
 abbrev pub row_in : BlockGroup → ℕ → List ℕ
 row_in g i = slice_index_or g.rows i []
 
+-- the places at an index of a group, if there is one
 abbrev pub row_if : Option BlockGroup → ℕ → List ℕ
 row_if None i = []
 row_if (Some g) i = row_in g i

@@ -7,6 +7,7 @@ pub mod Slots
 pub mod Stores
 pub mod KeyRoom
 pub mod Blocks
+pub mod PlaceRows
 pub mod Places
 pub mod MadeOn
 pub mod TableSteps

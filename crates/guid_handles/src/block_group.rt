@@ -5,8 +5,7 @@ ghost use Rattle.guid_handles.specs.Sorting.{Ascending};
 ghost use Rattle.guid_handles.specs.Blocks as spec;
 ghost use Rattle.guid_handles.specs.Blocks.{ChangesRow, group_size, is_vacant, row_in};
 
-use crate::places::{drop_ascending, drop_place};
-use crate::sliding_row::SlidingRow;
+use crate::place_row::PlaceRow;
 use std::alloc::{AllocError, Allocator};
 use std::marker::Model;
 
@@ -17,17 +16,17 @@ pub(crate) const GROUP_SIZE: usize = 16;
 #[derive(Drop)]
 pub(crate) struct BlockGroup<A: Allocator> {
     number: u64,
-    rows: Vec<SlidingRow<usize, A>, A>,
+    rows: Vec<PlaceRow<A>, A>,
 }
 
 impl<A: Allocator> Model for BlockGroup<A> {
-    ghost use Rattle.std.specs.Prelude.{◌≡◌, length, map};
+    ghost use Rattle.std.specs.Prelude.{◌≡◌, length};
     ghost use Rattle.guid_handles.specs.Blocks as spec;
     ghost use Rattle.guid_handles.specs.Blocks.{group_size};
 
     ghost Value = { spec.BlockGroup };
 
-    ghost view = { λ g. record { number = g.number; rows = map (λ r. r.items) g.rows.items } };
+    ghost view = { λ g. record { number = g.number; rows = g.rows.items } };
 
     ghost invariant = { λ g. length g.rows.items ≡ group_size };
 }
@@ -41,7 +40,7 @@ impl<A: Allocator + Copy> BlockGroup<A> {
         let mut rows = Vec::new(alloc);
         rows.reserve(GROUP_SIZE)?;
         for _added in 0..GROUP_SIZE {
-            rows.push(SlidingRow::new(alloc))?;
+            rows.push(PlaceRow::new())?;
         }
         Ok(BlockGroup { number, rows })
     }
@@ -94,9 +93,8 @@ impl<A: Allocator + Copy> BlockGroup<A> {
         ensures ok { OnOk result (ChangesRow index (λ r. r ++ place ∷ []) self.old self.new) }
         ensures err { OnErr result (self.new ≡ self.old) }
     {
-        let row = &mut self.rows[index];
-        row.reserve()?;
-        row.push(place);
+        let alloc = *self.rows.allocator();
+        self.rows[index].push(alloc, place)?;
         Ok(())
     }
 
@@ -105,7 +103,7 @@ impl<A: Allocator + Copy> BlockGroup<A> {
         requires { index < group_size }
         ensures { ChangesRow index (filter (λ x. not (x == place))) self.old self.new }
     {
-        drop_place(&mut self.rows[index], place);
+        self.rows[index].remove(place);
     }
 
     /// Removes a place from the block at an index, whose places ascend.
@@ -114,6 +112,6 @@ impl<A: Allocator + Copy> BlockGroup<A> {
         requires order { Ascending (λ a b. a < b) (row_in self.old index) }
         ensures { ChangesRow index (filter (λ x. not (x == place))) self.old self.new }
     {
-        drop_ascending(&mut self.rows[index], place);
+        self.rows[index].remove_ascending(place);
     }
 }

@@ -117,7 +117,7 @@ impl<A: Allocator + Copy> Blocks<A> {
     pub fn try_copy(&self) -> Result<Blocks<A>, AllocError>
         ensures { IfOk result (λ copy. copy ≡ self.now) }
     {
-        let mut groups = Vec::new(*self.groups.allocator());
+        let mut groups = Vec::with_capacity(*self.groups.allocator(), self.groups.len())?;
         for group in self.groups.iter() {
             groups.push(group.try_copy()?)?;
         }

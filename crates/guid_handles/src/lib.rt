@@ -9,6 +9,7 @@ mod guids;
 mod handle_keys;
 mod handle_row;
 mod handles;
+mod place_row;
 mod places;
 mod records;
 mod room;

@@ -62,6 +62,23 @@ impl<T: Copy, A: Allocator> SlidingRow<T, A> {
         }
     }
 
+    /// Some values, in memory for `room` of them at least.
+    pub(crate) fn from_slice(
+        alloc: A,
+        values: &[T],
+        room: usize,
+    ) -> Result<SlidingRow<T, A>, AllocError>
+        ensures { IfOk result (λ row. row.items ≡ values.now) }
+    {
+        let mut own = Vec::new(alloc);
+        own.reserve_exact(room)?;
+        own.extend_from_slice(values)?;
+        Ok(SlidingRow {
+            values: own,
+            gone: 0,
+        })
+    }
+
     /// The same values, in memory of their own.
     pub(crate) fn try_copy(&self) -> Result<SlidingRow<T, A>, AllocError>
     where

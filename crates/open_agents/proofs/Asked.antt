@@ -4,6 +4,7 @@ use Rattle.std.specs.List.{filter, list_any, AllByRecursion}
 use Rattle.std.proofs.lemmas.Bool.{cases_Bool, eq-eqb}
 use Rattle.guid_handles.specs.HandleTables.{HandleTable, is_live, same_guid}
 use Rattle.guid_handles.proofs.SortedLists.{any_found, find_filter}
+use Rattle.guid_handles.proofs.Filters.{filter_inside}
 use Rattle.guid_handles.proofs.Grouped.{is_same}
 use Rattle.open_agents.specs.declared.items.OpenRecord.{OpenRecord}
 use Rattle.open_agents.specs.OpenItems.{is_for_driver, is_exclusive, is_open_on, is_of_pair, is_closed_by, item_of, items_on, manager_of, manages, managers_of, names}
@@ -73,19 +74,9 @@ none_of_agent agent opens left e = rw e (all_left agent opens)
       | inr f ↦ rw f (f, all_left a os)
     ]
 
-filter_narrow : {X : Type 0} (q p : X → Bool) → ((x : X) → q x ≡ true → p x ≡ true) → (xs : List X) → filter q (filter p xs) ≡ filter q xs
-filter_narrow q p h [] = refl
-filter_narrow q p h (x ∷ xs) = elim (cases_Bool (q x)) [
-  | inl e ↦ rw (h x e) (rw e (ap (λ r. x ∷ r) (filter_narrow q p h xs)))
-  | inr e ↦ elim (cases_Bool (p x)) [
-    | inl k ↦ rw k (rw e (filter_narrow q p h xs))
-    | inr k ↦ rw k (rw e (filter_narrow q p h xs))
-  ]
-]
-
 -- the items that make an agent manage a handle are near it
 pub managed_near : (opens : List OpenRecord) (n : ℕ) → (n == 0) ≡ false → managers_of (filter (is_near n) opens) n ≡ managers_of opens n
-managed_near opens n z = ap (map manager_of) (filter_narrow (manages n) (is_near n) (λ o h. controller_near n o z (second_part (is_for_driver o.attributes) (o.controller == n) h)) opens)
+managed_near opens n z = ap (map manager_of) (filter_inside (is_near n) (manages n) (λ o h. controller_near n o z (second_part (is_for_driver o.attributes) (o.controller == n) h)) opens)
 
 far_unnamed : (n : ℕ) (o : OpenRecord) → (n == 0) ≡ false → (o.agent == n) ≡ false → is_near n o ≡ false → names n o ≡ false
 far_unnamed n o z a f = elim (cases_Bool (o.handle == n)) [
@@ -111,7 +102,7 @@ naming_near n (o ∷ os) z a h = elim (cases_Bool (is_near n o)) [
 
 -- the items that name a handle, among them those of it as their agent
 pub agent_first : (n : ℕ) (opens : List OpenRecord) → filter (λ o. not (names n o)) (filter (λ o. not (is_of_agent n o)) opens) ≡ filter (λ o. not (names n o)) opens
-agent_first n opens = filter_narrow (λ o. not (names n o)) (λ o. not (is_of_agent n o)) (λ o h. ap not (unnamed n o h)) opens
+agent_first n opens = filter_inside (λ o. not (is_of_agent n o)) (λ o. not (names n o)) (λ o h. ap not (unnamed n o h)) opens
   where
     unnamed : (n : ℕ) (o : OpenRecord) → not (names n o) ≡ true → (o.agent == n) ≡ false
     unnamed n o h = elim (cases_Bool (o.agent == n)) [
@@ -155,7 +146,7 @@ rule_near t opens n guid agent controller a =
     rw (equal_near opens n guid agent controller a, of_agent_near opens n guid agent a, holder_near opens n guid, exclusive_near opens n guid, driver_near opens n guid) refl
 
 pub items_near : (opens : List OpenRecord) (n : ℕ) (guid : List ℕ) → items_on (filter (is_near n) opens) n guid ≡ items_on opens n guid
-items_near opens n guid = ap (map item_of) (filter_narrow (is_open_on n guid) (is_near n) (open_near n guid) opens)
+items_near opens n guid = ap (map item_of) (filter_inside (is_near n) (is_open_on n guid) (open_near n guid) opens)
 
 -- where no item passes a test, none is taken out by it
 pub none_dropped : (p : OpenRecord → Bool) (opens : List OpenRecord) → list_any p opens ≡ false → opens ≡ filter (λ o. not (p o)) opens

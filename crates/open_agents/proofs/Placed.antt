@@ -1,6 +1,6 @@
 -- The items at their places, and what keeps the places in blocks in step with them.
 use Rattle.std.proofs.Math.ListN.{set}
-use Rattle.std.proofs.Common.{get_or, ◌≡◌, ℕ, zero, suc, ◌+◌, ◌<◌, ◌≤◌, ◌==◌, ◌&&◌, ◌||◌, not, Bool, true, false, cond, List, [], ◌∷◌, ◌++◌, map, length, Option, Some, None, is_some, inl, inr, refl, sym, ap, ◌∙◌, arith, subst}
+use Rattle.std.proofs.Common.{get_or, ◌≡◌, ℕ, zero, suc, ◌+◌, ◌<◌, ◌≤◌, ◌==◌, ◌&&◌, not, Bool, true, false, cond, List, [], ◌∷◌, ◌++◌, map, length, Option, Some, None, is_some, inl, inr, refl, sym, ap, ◌∙◌, arith, subst}
 use Rattle.std.specs.List.{filter, list_any, slice_get, AllByRecursion}
 use Rattle.std.proofs.lemmas.List.{append-nil}
 use Rattle.std.proofs.lemmas.Bool.{cases_Bool, eq-eqb, ne_eqb}
@@ -12,7 +12,6 @@ use Rattle.guid_handles.proofs.GuidOrder.{same_guid-true, and_false}
 use Rattle.guid_handles.proofs.Grouped.{is_same}
 use Rattle.open_agents.specs.declared.items.OpenRecord.{OpenRecord}
 use Rattle.open_agents.specs.OpenItems.{is_equal_item, counted, once_more}
-use Rattle.guid_handles.proofs.BlockLists.{with_last_out}
 use Rattle.guid_handles.specs.Blocks.{Block, BlockGroup, ChangesBlock, ChangesBlocks, IsFree, block_at, with_last, without_place}
 use Rattle.open_agents.specs.Blocks.{HoldsAt, IsOpenStore, agent_block, are_equal, block_of, second_block, is_near, item_at, item_at_place, items_at, items_in, passes, places_from}
 use Rattle.open_agents.specs.Listed.{is_of_agent, items_of}
@@ -272,15 +271,6 @@ store_pushed slots o old new old_agents agents h n a c d = record {
   distinct = rw (items_pushed slots o) (ascending_push (λ p q. are_equal q p ≡ false) (items_in slots) o h.distinct (none_any (are_equal o) (items_in slots) n));
   agents = rw (items_pushed slots o) (all_push (λ p. (p.agent == 0) ≡ false) (items_in slots) o h.agents a);
 }
-
--- a place that no block had is taken out of two blocks again
-pub both_back : (b d place : ℕ) (old mid new : List BlockGroup) → IsFree place old → ChangesBlocks b d (with_last place) old mid → ChangesBlocks b d (without_place place) mid new → (m : ℕ) → block_at new m ≡ block_at old m
-both_back b d place old mid new free h k m = elim (cases_Bool ((b == m) || (d == m))) [
-  | inl t ↦
-      let last : block_at mid m ≡ with_last place (block_at old m) = h m ∙ rw t refl in
-      k m ∙ rw t (ap (without_place place) last ∙ ap (λ r. record { number = m; places = r }) (with_last_out place (block_at old m).places) ∙ free m)
-  | inr n ↦ k m ∙ rw n (h m ∙ rw n refl)
-]
 
 -- where no block changed
 pub store_stays : (slots : List (Option OpenRecord)) (old new agents : List BlockGroup) → IsOpenStore slots old agents → ((m : ℕ) → block_at new m ≡ block_at old m) → IsOpenStore slots new agents

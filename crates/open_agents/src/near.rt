@@ -4,7 +4,7 @@ ghost use Rattle.open_agents.specs.Blocks.{item_at, nth_near};
 
 use crate::items::OpenRecord;
 
-/// The items on the handles of a block, or of an agent: all items, and the places of those.
+/// The items near a handle, or those of an agent: all items, and the places of these.
 #[derive(Clone, Copy)]
 pub struct Near<'a> {
     pub slots: &'a [Option<OpenRecord>],

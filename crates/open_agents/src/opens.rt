@@ -78,8 +78,7 @@ impl<A: Allocator + Copy> Opens<A> {
         count_items(self.items.slots())
     }
 
-    /// The items in the block of a handle: those on it, and those of it as a controller, if it is not
-    /// 0, are among them.
+    /// The items near a handle: those on it and, if it is not 0, those whose controller it is.
     pub fn near(&self, handle: u64) -> Near<'_>
         ensures { items_near result ≡ filter (is_near handle) self.now }
     {

@@ -14,14 +14,25 @@ of_row : (κ lives : Lft) → κ ⊑ lives → κ ⊑ row lives
 of_row κ lives low =
     let one = once κ lives low in ⊑_meet κ (lives ++ []) (((lives ++ []) ++ (lives ++ [])) ++ []) one (once κ ((lives ++ []) ++ (lives ++ [])) (⊑_meet κ (lives ++ []) (lives ++ []) one one))
 
--- a list of rows
+-- a row of places, which lie in it or in a row of their own
+abbrev place_row : Lft → Lft
+place_row lives = (lives ++ []) ++ (((lives ++ []) ++ ((row lives ++ []) ++ [])) ++ [])
+
+of_place_row : (κ lives : Lft) → κ ⊑ lives → κ ⊑ place_row lives
+of_place_row κ lives low =
+    let one = once κ lives low in
+    let own = once κ (row lives ++ []) (once κ (row lives) (of_row κ lives low)) in
+    ⊑_meet κ (lives ++ []) (((lives ++ []) ++ ((row lives ++ []) ++ [])) ++ []) one
+    (once κ ((lives ++ []) ++ ((row lives ++ []) ++ [])) (⊑_meet κ (lives ++ []) ((row lives ++ []) ++ []) one own))
+
+-- a list of rows of places
 abbrev rows : Lft → Lft
-rows lives = (row lives ++ (lives ++ [])) ++ (lives ++ [])
+rows lives = (place_row lives ++ (lives ++ [])) ++ (lives ++ [])
 
 of_rows : (κ lives : Lft) → κ ⊑ lives → κ ⊑ rows lives
 of_rows κ lives low =
     let one = once κ lives low in
-    ⊑_meet κ (row lives ++ (lives ++ [])) (lives ++ []) (⊑_meet κ (row lives) (lives ++ []) (of_row κ lives low) one) one
+    ⊑_meet κ (place_row lives ++ (lives ++ [])) (lives ++ []) (⊑_meet κ (place_row lives) (lives ++ []) (of_place_row κ lives low) one) one
 
 -- a group of blocks
 pub of_blocks : (κ lives : Lft) → κ ⊑ lives → κ ⊑ (lives ++ []) ++ (rows lives ++ [])

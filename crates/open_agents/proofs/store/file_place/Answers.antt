@@ -1,4 +1,4 @@
-use Rattle.open_agents.proofs.Placed.{both_back}
+use Rattle.guid_handles.proofs.BlockLists.{both_back}
 use Rattle.open_agents.proofs.store.file_place.Goals as goal
 
 pub returns-in-Err-clause-err : goal.returns-in-Err-clause-err

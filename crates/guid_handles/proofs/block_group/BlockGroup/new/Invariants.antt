@@ -3,5 +3,4 @@ use Rattle.std.specs.List.{list_all}
 use Rattle.guid_handles.proofs.block_group.BlockGroup.new.Given as goal
 
 abbrev pub invariant-loop-added : goal.invariant-loop-added
-invariant-loop-added g l =
-    (length l.rows.items ≡ l._added) × (list_all (λ r. length r.items == 0) l.rows.items ≡ true)
+invariant-loop-added g l = (length l.rows.items ≡ l._added) × (list_all (λ r. length r == 0) l.rows.items ≡ true)

@@ -6,4 +6,4 @@ use Rattle.guid_handles.proofs.block_group.BlockGroup.remove.Goals as goal
 pub returns : goal.returns
 returns g c =
     rw (← c.self.view_is)
-    (row_changes (λ r. r.items) c.self.inside.rows.items c.args.index _ _ _ c.drop_place.new.places (filter (λ x. not (x == c.args.place))) (rw c.self.invariant c.requires) c.index_mut.ensures.value c.drop_place.ensures refl refl refl)
+    (row_changes c.self.inside.rows.items c.args.index _ _ _ c.remove.new.self (filter (λ x. not (x == c.args.place))) (rw c.self.invariant c.requires) c.index_mut.ensures.value c.remove.ensures refl refl refl)

@@ -6,4 +6,4 @@ use Rattle.guid_handles.proofs.block_group.BlockGroup.remove_ascending.Goals as 
 pub returns : goal.returns
 returns g c =
     rw (← c.self.view_is)
-    (row_changes (λ r. r.items) c.self.inside.rows.items c.args.index _ _ _ c.drop_ascending.new.places (filter (λ x. not (x == c.args.place))) (rw c.self.invariant c.requires.index) c.index_mut.ensures.value c.drop_ascending.ensures refl refl refl)
+    (row_changes c.self.inside.rows.items c.args.index _ _ _ c.remove_ascending.new.self (filter (λ x. not (x == c.args.place))) (rw c.self.invariant c.requires.index) c.index_mut.ensures.value c.remove_ascending.ensures refl refl refl)

@@ -1,5 +1,5 @@
-use Rattle.std.proofs.Common.{◌≡◌, map, take}
+use Rattle.std.proofs.Common.{◌≡◌, take}
 use Rattle.guid_handles.proofs.block_group.BlockGroup.try_copy.Given as goal
 
 abbrev pub invariant-loop-row : goal.invariant-loop-row
-invariant-loop-row g l = map (λ r. r.items) l.rows.items ≡ take l.row-index l.self.rows
+invariant-loop-row g l = l.rows.items ≡ take l.row-index l.self.rows
