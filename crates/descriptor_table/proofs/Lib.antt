@@ -15,6 +15,7 @@ pub mod LeafLists
 pub mod LeafSizes
 pub mod Places
 pub mod LeafSplices
+pub mod InLeaf
 pub mod NearLeaves
 pub mod TwoLeaves
 pub mod LeavesAcross
@@ -33,4 +34,5 @@ pub mod Grouped
 pub mod ChangedRuns
 pub mod RetypedRuns
 pub mod Edges
+pub mod WholeRuns
 pub mod Halves

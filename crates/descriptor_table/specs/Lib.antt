@@ -6,6 +6,7 @@ pub mod Tallies
 pub mod Wanting
 pub mod Summaries
 pub mod LeafChanges
+pub mod WholeRuns
 pub mod LeafWalks
 pub mod LeafSummaries
 pub mod Reserves

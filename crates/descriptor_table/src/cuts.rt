@@ -14,7 +14,8 @@ use page_ranges::{MemoryType, Owner, PageRange, Run};
 use std::alloc::{AllocError, Allocator};
 
 /// The second run begins where the first ends, and is like it in all else.
-fn should_be_one(run: &Run, next: &Run) -> bool
+#[inline(always)]
+pub(crate) fn should_be_one(run: &Run, next: &Run) -> bool
     requires { run.now.range.first + run.now.range.pages < 2 ^ 64 }
     ensures { result ≡ should_be_one_run run.now next.now }
 {

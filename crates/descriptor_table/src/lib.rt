@@ -23,6 +23,7 @@ mod table;
 mod tallies;
 mod walks;
 mod wanted;
+mod whole_runs;
 
 pub use cursors::RunCursor;
 pub use entries::MapEntries;

@@ -21,6 +21,7 @@ use crate::replacing::cut_out;
 use crate::searches::{count_beginning_by, count_beginning_by_from, count_ending_below};
 use crate::summaries::ALLOWS_ALL;
 use crate::tallies::Tally;
+use crate::whole_runs::whole_run;
 use page_ranges::{MemoryType, Owner, PageRange, Run};
 use std::alloc::{AllocError, Allocator};
 
@@ -269,6 +270,22 @@ fn retype_in_leaf<A: Allocator + Copy>(
         return Some(entries);
     }
     let old_entries = count_entries(gone);
+    if let Some(one) = whole_run(gone, range, mtype, owner) {
+        let joins = most_joins(leaves.len(), mtype);
+        let place = (window.0 + one.low, window.0 + one.high);
+        let counts = (old_entries, one.entries);
+        put_in_leaf(
+            leaves,
+            begun,
+            sizes,
+            index,
+            place,
+            &[one.run],
+            counts,
+            joins,
+        );
+        return Some(entries + one.entries - old_entries);
+    }
     parts.clear();
     let Ok(()) = push_retyped(parts, gone, range, mtype, owner) else {
         return None;

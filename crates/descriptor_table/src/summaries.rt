@@ -159,7 +159,7 @@ impl Summary {
 
 /// The run below the one at an index.
 #[inline(always)]
-fn run_below(runs: &[Run], index: usize) -> Option<&Run>
+pub(crate) fn run_below(runs: &[Run], index: usize) -> Option<&Run>
     requires { index < length runs.now }
     ensures { option_map (λ r. r.now) result ≡ run_before runs.now index }
 {
@@ -172,7 +172,7 @@ fn run_below(runs: &[Run], index: usize) -> Option<&Run>
 
 /// The run above it.
 #[inline(always)]
-fn run_above(runs: &[Run], index: usize) -> Option<&Run>
+pub(crate) fn run_above(runs: &[Run], index: usize) -> Option<&Run>
     requires { index < length runs.now }
     ensures { option_map (λ r. r.now) result ≡ slice_get runs.now (index + 1) }
 {
