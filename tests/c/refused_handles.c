@@ -239,7 +239,7 @@ static void refuse_installations(bool is_one_handle)
     RafkudinFree(core);
 }
 
-/* Opens of one interface, each by another agent. */
+/* Opens of five interfaces by each agent: with its fifth open item an agent takes memory of its own. */
 static void refuse_opens(void)
 {
     struct rafkudin *core = plain_core();
@@ -248,8 +248,10 @@ static void refuse_opens(void)
     for (unsigned round = 0; round < ROUNDS; round++)
         succeed(core, (struct call){INSTALL, 0, DRIVEN, 0, 0});
     for (uint64_t agent = 1; agent <= ROUNDS; agent++)
-        count += refusals_of(core, (struct call){OPEN, 1, DRIVEN, agent, RAFKUDIN_GET_PROTOCOL});
-    HOLDS(count >= 70);
+        for (uint64_t handle = 1; handle <= 5; handle++)
+            count += refusals_of(
+                core, (struct call){OPEN, handle, DRIVEN, agent, RAFKUDIN_GET_PROTOCOL});
+    HOLDS(count >= ROUNDS);
     RafkudinFree(core);
 }
 
