@@ -238,7 +238,7 @@ static const struct measured all[] = {
     {"RafkudinOpenProtocol", open, 5000},
     {"RafkudinOpenProtocolInformation", information, 10000},
     {"RafkudinLocateHandleBuffer", locate, 10000},
-    {"RafkudinDisconnectController", disconnect, 5100},
+    {"RafkudinDisconnectController", disconnect, 5000},
     {"RafkudinUninstallProtocolInterface", uninstall, 5000},
     {"RafkudinUninstallMultipleProtocolInterfaces", uninstall_many, 7000},
     {"RafkudinTraceLine", trace_line, 5000},

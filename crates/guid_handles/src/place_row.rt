@@ -126,7 +126,10 @@ impl<A: Allocator + Copy> PlaceRow<A> {
     {
         match &mut self.kept {
             Kept::Few(few) => {
-                few.remove(at);
+                // `ArrayVec::remove` takes 4 KB of the stack.
+                let count = few.len();
+                few.as_mut_slice().copy_within(at + 1..count, at);
+                few.truncate(count - 1);
             }
             Kept::Many(many) => many.remove(at),
         }
