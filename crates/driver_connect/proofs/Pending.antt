@@ -1,12 +1,14 @@
 -- Handles that are still to be connected, one more or one less.
-use Rattle.std.proofs.Common.{◌≡◌, ℕ, ◌+◌, ◌-◌, ◌<◌, ◌≤◌, nat_lt, Bool, List, [], ◌∷◌, ◌++◌, map, length, refl, sym, ap, ◌∙◌, append_assoc, arith}
+use Rattle.std.proofs.Common.{◌≡◌, ℕ, ◌+◌, ◌-◌, ◌<◌, ◌≤◌, nat_lt, Bool, true, false, not, List, [], ◌∷◌, ◌++◌, map, length, drop, take, refl, sym, ap, ◌∙◌, append_assoc, arith}
 use Rattle.std.specs.List.{filter}
-use Rattle.std.proofs.lemmas.List.{length-append, length-map}
+use Rattle.std.proofs.lemmas.List.{length-append, length-drop, length-map, take_all}
 use Rattle.guid_handles.specs.declared.records.LiveHandle.{LiveHandle}
 use Rattle.guid_handles.specs.HandleTables.{HandleTable, numbers}
 use Rattle.guid_handles.specs.HandleChanges.{IsHandleTable}
 use Rattle.guid_handles.proofs.Filters.{filter_append}
-use Rattle.guid_handles.proofs.SortedLists.{filter_shorter, map_append}
+use Rattle.guid_handles.specs.Sorting.{Ascending, place}
+use Rattle.guid_handles.proofs.FiledTurns.{late}
+use Rattle.guid_handles.proofs.SortedLists.{Falls, all_map, all_of, behind_place, filter_same, filter_shorter, map_append}
 use Rattle.protocol_notify.specs.declared.notify.Registration.{Registration}
 use Rattle.driver_connect.specs.declared.connecting.Pending.{Pending}
 use Rattle.driver_connect.specs.Drivers.{Meaning}
@@ -64,6 +66,23 @@ pub one_and_made : (ds : List Meaning) (rs : List Registration) (xs : List Pendi
 one_and_made ds rs xs x named p q last made ys l a b m e =
     ap (λ zs. all_connected ds rs zs q) e ∙ those_connected ds rs xs (x.levels - 1) made q
     ∙ ap (all_connected ds rs xs) (levels_joined x.levels (site ds rs x.handle) named p q (each_connected (x.levels - 1) ds rs made q) last made l a b m refl)
+
+-- once a number is above the last one those behind it are
+pub numbers_fall : (last : ℕ) (ns : List ℕ) → Ascending (λ a b. a < b) ns → Falls (λ n. not (nat_lt last n)) ns
+numbers_fall last [] a = tt
+numbers_fall last (n ∷ ns) a = (λ h. all_map (λ m. n < m) (λ m. not (nat_lt last m) ≡ false) (λ m l. late last n m l h) ns a.0, numbers_fall last ns a.1)
+
+-- the handles made are those behind the ones up to the last number
+pub made_behind : (last : ℕ) (t : HandleTable) (ns : List ℕ) (at : ℕ) → IsHandleTable t → ns ≡ numbers t → at ≡ place (λ n. not (nat_lt last n)) ns → take (length ns - at) (drop at ns) ≡ made_after last t
+made_behind last t ns at h e k =
+    take_all (length ns - at) (drop at ns) (omega (arith, length-drop at ns))
+    ∙ rw (k, e)
+    (behind_place (λ n. not (nat_lt last n)) (numbers t) (numbers_fall last (numbers t) h.ascending)
+    ∙ filter_same (λ n. not (not (nat_lt last n))) (λ n. nat_lt last n) (numbers t) (all_of (λ n. not (not (nat_lt last n)) ≡ nat_lt last n) (λ n. twice (nat_lt last n)) (numbers t)))
+  where
+    twice : (b : Bool) → not (not b) ≡ b
+    twice true = refl
+    twice false = refl
 
 -- no more handles are noted than were made
 pub few_made : (t u : HandleTable) → IsHandleTable t → HasMade t u → length (made_after t.last_number u) + length t.handles ≤ length u.handles

@@ -1,11 +1,12 @@
 //! Connecting a handle, and the handles that are made.
-ghost use Rattle.std.specs.Prelude.{◌≡◌, ◌+◌, ◌<◌, ◌≤◌, ◌^◌, ◌++◌, true, false, [], length, map, IfOk, OnOk, OnErr};
+ghost use Rattle.std.specs.Prelude.{◌≡◌, ◌+◌, ◌<◌, ◌≤◌, ◌^◌, ◌++◌, true, false, not, nat_lt, [], length, map, IfOk, OnOk, OnErr};
 ghost use Rattle.driver_connect.specs.Connecting as spec;
 ghost use Rattle.driver_connect.specs.Connecting.{ConnectsBy};
 ghost use Rattle.driver_connect.specs.Beside.{MayLeave, reached};
 ghost use Rattle.driver_connect.specs.BesideSteps.{ConnectsBeside, ConnectsTo};
 ghost use Rattle.driver_connect.specs.Pending.{ConnectsOne, GrowsWith, first_last};
 ghost use Rattle.guid_handles.specs.HandleChanges.{max_handles};
+ghost use Rattle.guid_handles.specs.Sorting.{Ascending, place};
 ghost use Rattle.driver_connect.specs.GoingOn.{GoesOn};
 ghost use Rattle.driver_connect.specs.Room.{HasRoom, Grows};
 ghost use Rattle.driver_connect.specs.Starting.{site_of, starts_on, is_any_carried_out as any};
@@ -25,6 +26,19 @@ pub const MAX_NAMED: usize = 16;
 /// How many levels of handles are connected below the one that is named.
 const LEVELS_BELOW: u8 = 7;
 
+/// How many of some ascending numbers are not above one.
+fn count_up_to(numbers: &[u64], last: u64) -> usize
+    requires { Ascending (λ a b. a < b) numbers.now }
+    ensures place { result ≡ place (λ n. not (nat_lt last n)) numbers.now }
+    ensures bound { result ≤ length numbers.now }
+{
+    numbers.partition_point(
+        |n: &u64| -> bool
+            ensures { result ≡ not (nat_lt last n.now) }
+        { *n <= last },
+    )
+}
+
 /// The handles that were made after a number was given, ascending.
 fn made_after<A: Allocator + Copy>(
     alloc: A,
@@ -33,14 +47,8 @@ fn made_after<A: Allocator + Copy>(
 ) -> Result<Vec<u64, A>, AllocError>
     ensures { IfOk result (λ v. v.items ≡ spec.made_after last handles.now) }
 {
-    let mut made = Vec::new(alloc);
     let numbers = handles.all();
-    for n in numbers {
-        if *n > last {
-            made.push(*n)?;
-        }
-    }
-    Ok(made)
+    Vec::from_slice(alloc, &numbers[count_up_to(numbers, last)..])
 }
 
 /// A handle that is still to be connected, and how many levels of handles below it.

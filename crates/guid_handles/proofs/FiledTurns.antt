@@ -1,11 +1,11 @@
 -- Turns, some of interfaces that are gone: which is found, and which are left once one comes, goes or moves.
 use Rattle.std.proofs.Math.ListN.{set}
-use Rattle.std.proofs.Common.{◌≡◌, ℕ, zero, suc, ◌-◌, ◌<◌, ◌≤◌, ◌==◌, nat_lt, not, Bool, true, false, List, [], ◌∷◌, ◌++◌, length, take, drop, Option, Some, None, is_some, inl, inr, refl, sym, ap, ◌∙◌, arith, subst}
+use Rattle.std.proofs.Common.{◌≡◌, ℕ, zero, suc, ◌-◌, ◌<◌, ◌≤◌, ◌==◌, nat_lt, not, Bool, true, false, List, [], ◌∷◌, ◌++◌, length, take, drop, get_or, Option, Some, None, is_some, inl, inr, refl, sym, ap, ◌∙◌, arith, subst}
 use Rattle.std.specs.List.{filter, find, list_any, slice_get, insert, AllByRecursion}
 use Rattle.std.specs.Option.{option_map}
-use Rattle.std.proofs.lemmas.Bool.{cases_Bool, eq-eqb, ne_eqb, lt-ltb, ltb-true, ltb-false}
+use Rattle.std.proofs.lemmas.Bool.{cases_Bool, eq-eqb, ne_eqb, le-ltb, lt-ltb, ltb-true, ltb-false}
 use Rattle.std.proofs.lemmas.List.{length-drop, take_all}
-use Rattle.std.proofs.lemmas.Option.{same_Some}
+use Rattle.std.proofs.lemmas.Option.{same_Some, slice_get-get_or}
 use Rattle.guid_handles.specs.declared.records.FiledTurn.{FiledTurn}
 use Rattle.guid_handles.specs.declared.records.Turn.{Turn}
 use Rattle.guid_handles.specs.Sorting.{Ascending, place, kept_if}
@@ -63,7 +63,8 @@ none_are_left none first fs e s =
 
 -- ---- the first one above a mark
 
-late : (mark m n : ℕ) → m < n → not (nat_lt mark m) ≡ false → not (nat_lt mark n) ≡ false
+-- once a number is above a mark those behind it are
+pub late : (mark m n : ℕ) → m < n → not (nat_lt mark m) ≡ false → not (nat_lt mark n) ≡ false
 late mark m n l h = elim (cases_Bool (nat_lt mark m)) [
   | inl t ↦ let k : nat_lt mark n ≡ true = lt-ltb mark n (omega (arith, l, ltb-true mark m t)) in rw k refl
   | inr f ↦ let w : true ≡ false = rw f at h in cc
@@ -299,6 +300,14 @@ none_lower m stamp fs a e = all_left (λ n. nat_lt n stamp ≡ false) fs (all_ma
       | inr f ↦ f
     ]
 
+-- a turn comes to the front of those that have no lower stamps
+front : (n stamp : ℕ) (ts : List Turn) → AllByRecursion (λ t. nat_lt t.stamp stamp ≡ false) ts → (record { stamp = stamp; handle = n }) ∷ ts ≡ turn_in n stamp ts
+front n stamp ts b = let e : place (λ t. nat_lt t.stamp stamp) ts ≡ 0 = place_none (λ t. nat_lt t.stamp stamp) ts b in rw e (first ts)
+  where
+    first : (ts : List Turn) → (record { stamp = stamp; handle = n }) ∷ ts ≡ insert ts 0 (record { stamp = stamp; handle = n })
+    first [] = refl
+    first (t ∷ ts) = refl
+
 -- a turn takes its place among all, and so among those that are left
 pub turn_inserted : (n stamp : ℕ) (fs : List FiledTurn) → AreFiledInTurn fs → turns_left (insert fs (place (λ f. nat_lt (filed_stamp f) stamp) fs) (filed_turn n stamp)) ≡ turn_in n stamp (turns_left fs)
 turn_inserted n stamp [] a = refl
@@ -310,14 +319,43 @@ turn_inserted n stamp (x ∷ xs) a = elim (cases_Bool (nat_lt (filed_stamp x) st
   | inr e ↦
       let rest = none_lower (filed_stamp x) stamp xs a.0 e in
       rw e (elim (cases_Bool x.gone) [
-        | inl w ↦ rw w (at_front (turns_left xs) rest)
-        | inr w ↦ rw w (at_front (x.turn ∷ turns_left xs) (e, rest))
+        | inl w ↦ rw w (front n stamp (turns_left xs) rest)
+        | inr w ↦ rw w (front n stamp (x.turn ∷ turns_left xs) (e, rest))
       ])
 ]
-  where
-    front : (ts : List Turn) → (record { stamp = stamp; handle = n }) ∷ ts ≡ insert ts 0 (record { stamp = stamp; handle = n })
-    front [] = refl
-    front (t ∷ ts) = refl
 
-    at_front : (ts : List Turn) → AllByRecursion (λ t. nat_lt t.stamp stamp ≡ false) ts → (record { stamp = stamp; handle = n }) ∷ ts ≡ turn_in n stamp ts
-    at_front ts b = let e : place (λ t. nat_lt t.stamp stamp) ts ≡ 0 = place_none (λ t. nat_lt t.stamp stamp) ts b in rw e (front ts)
+-- ---- one comes in place of another of the same stamp
+
+handed : (n stamp : ℕ) (fs : List FiledTurn) (at : ℕ) (f : FiledTurn) → AreFiledInTurn fs → slice_get fs at ≡ Some f → IsLeft stamp f
+    → turns_left (set fs at (filed_turn n stamp)) ≡ turn_in n stamp (without_turn stamp (turns_left fs))
+handed n stamp [] zero f a e i = absurd cc
+handed n stamp [] (suc at) f a e i = absurd cc
+handed n stamp (x ∷ xs) zero f a e i =
+    let own : filed_stamp x ≡ stamp = ap filed_stamp (same_Some x f e) ∙ i.own in
+    let stays : x.gone ≡ false = ap (λ (y : FiledTurn). y.gone) (same_Some x f e) ∙ i.stays in
+    let same : (filed_stamp x == stamp) ≡ true = eq-eqb (filed_stamp x) stamp own in
+    let rest : without_turn stamp (turns_left xs) ≡ turns_left xs = filter_whole (λ t. t.stamp == stamp) (turns_left xs) (others_above (filed_stamp x) stamp xs a.0 (omega (arith, own))) in
+    let higher : nat_lt (filed_stamp x) stamp ≡ false = le-ltb (filed_stamp x) stamp (omega (arith, own)) in
+    rw stays (rw same (rw rest (front n stamp (turns_left xs) (none_lower (filed_stamp x) stamp xs a.0 higher))))
+handed n stamp (x ∷ xs) (suc at) f a e i =
+    let lower : filed_stamp x < stamp = omega (arith, stamp_of (λ k. filed_stamp x < k) xs at f a.0 e, i.own) in
+    let other : (filed_stamp x == stamp) ≡ false = ne_eqb (filed_stamp x) stamp (λ w. omega (arith, lower, w)) in
+    elim (cases_Bool x.gone) [
+      | inl w ↦ rw w (handed n stamp xs at f a.1 e i)
+      | inr w ↦ rw w (rw other (rw (lt-ltb (filed_stamp x) stamp lower) (ap (λ r. x.turn ∷ r) (handed n stamp xs at f a.1 e i))))
+    ]
+
+-- what is true once a turn is another handle's
+pub record IsHandedOn (n stamp : ℕ) (fs gs : List FiledTurn) : Type 0 where
+  pub filed : AreFiledInTurn gs
+  pub left : turns_left gs ≡ turn_in n stamp (without_turn stamp (turns_left fs))
+
+pub handed_on : (n stamp : ℕ) (fs : List FiledTurn) (at : ℕ) → AreFiledInTurn fs → is_left_at stamp fs at ≡ true → IsHandedOn n stamp fs (set fs at (filed_turn n stamp))
+handed_on n stamp fs at a h =
+    let f : FiledTurn = get_or fs at (filed_turn n stamp) in
+    let e : slice_get fs at ≡ Some f = slice_get-get_or fs at (filed_turn n stamp) (left_there stamp fs at h) in
+    let i = left_is stamp fs at f h e in
+    record {
+      filed = subst (Ascending (λ a b. a < b)) (sym (set_same filed_stamp fs at f (filed_turn n stamp) e (sym i.own))) a;
+      left = handed n stamp fs at f a e i;
+    }

@@ -409,6 +409,14 @@ pub filter_whole : {X : Type 0} (p : X → Bool) (xs : List X) → AllByRecursio
 filter_whole p [] h = refl
 filter_whole p (x ∷ xs) h = rw h.0 (ap (λ r. x ∷ r) (filter_whole p xs h.1))
 
+-- what is behind the place where a test stops passing does not pass it
+pub behind_place : {X : Type 0} (p : X → Bool) (xs : List X) → Falls p xs → drop (place p xs) xs ≡ filter (λ x. not (p x)) xs
+behind_place p [] f = refl
+behind_place p (x ∷ xs) f = elim (cases_Bool (p x)) [
+  | inl t ↦ rw t (behind_place p xs f.1)
+  | inr e ↦ rw e (ap (λ r. x ∷ r) (sym (filter_whole p xs (f.0 e))))
+]
+
 pub filter_at : {X : Type 0} (number : X → ℕ) (n : ℕ) (xs : List X) → Ascending (λ a b. a < b) (map number xs) → is_some (kept_if (λ x. number x == n) (slice_get xs (place (λ x. nat_lt (number x) n) xs))) ≡ true
     → filter (λ x. not (number x == n)) xs ≡ remove xs (place (λ x. nat_lt (number x) n) xs)
 filter_at number n [] a h = cc

@@ -139,6 +139,18 @@ fn mark_gone<A: Allocator>(turns: &mut Vec<FiledTurn, A>, at: usize, stamp: u64)
     turns[at] = FiledTurn { turn, gone: true };
 }
 
+/// Gives the turn at a place, whose stamp it keeps, to a handle.
+fn hand_on<A: Allocator>(turns: &mut Vec<FiledTurn, A>, at: usize, handle: u64, stamp: u64)
+    requires filed { AreFiledInTurn turns.old.items }
+    requires there { is_left_at stamp turns.old.items at ≡ true }
+    ensures filed { AreFiledInTurn turns.new.items }
+    ensures left { turns_left turns.new.items
+        ≡ moved_turn handle stamp stamp (turns_left turns.old.items) }
+{
+    let turn = Turn { stamp, handle };
+    turns[at] = FiledTurn { turn, gone: false };
+}
+
 /// Gives up the turns of interfaces that are gone.
 fn drop_gone<A: Allocator>(turns: &mut Vec<FiledTurn, A>)
     ensures items { turns.new.items ≡ filter (λ f. not f.gone) turns.old.items }
@@ -289,6 +301,10 @@ impl<A: Allocator + Copy> Turns<A> {
     {
         let at = count_lower(self.turns.as_slice(), own);
         if is_turn_at(self.turns.as_slice(), at, own) {
+            if stamp == own {
+                hand_on(&mut self.turns, at, handle, stamp);
+                return;
+            }
             mark_gone(&mut self.turns, at, own);
             clear_for(&mut self.turns, stamp, most_turns(left));
             let turn = Turn { stamp, handle };

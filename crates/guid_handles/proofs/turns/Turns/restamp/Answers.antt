@@ -3,13 +3,13 @@ use Rattle.guid_handles.specs.TurnSteps.{turn_in}
 use Rattle.guid_handles.proofs.FiledTurns.{filed_insert, turn_inserted, turn_missed}
 use Rattle.guid_handles.proofs.turns.Turns.restamp.Goals as goal
 
-pub invariant_of-self : goal.invariant_of-self
-invariant_of-self g c =
+pub invariant_of-self-then-is_turn_at : goal.invariant_of-self-then-is_turn_at
+invariant_of-self-then-is_turn_at g c =
     rw (c.insert_with_room.ensures, rw c.as_slice-then-is_turn_at.ensures.value at c.count_lower-place.ensures.place)
     (filed_insert c.args.handle c.args.stamp _ c.clear_for.ensures.filed c.clear_for.ensures.free)
 
-pub returns-then-is_turn_at : goal.returns-then-is_turn_at
-returns-then-is_turn_at g c =
+pub returns-else-stamp-own : goal.returns-else-stamp-own
+returns-else-stamp-own g c =
     rw (← c.self.view_is, c.insert_with_room.ensures, rw c.as_slice-then-is_turn_at.ensures.value at c.count_lower-place.ensures.place)
     (turn_inserted c.args.handle c.args.stamp _ c.clear_for.ensures.filed ∙ ap (turn_in c.args.handle c.args.stamp) (c.clear_for.ensures.left ∙ c.mark_gone.ensures.left))
 
