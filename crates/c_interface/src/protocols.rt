@@ -50,13 +50,14 @@ impl<A: Allocator + Copy> EfiCore<A> {
     ) -> u64
         ensures { Reinstalls self.old handle guid.now old_value new_value result self.new }
     {
-        let guid = guid.uuid();
-        self.answer(&Call::ReinstallProtocolInterface {
-            handle,
-            guid,
-            old_value,
-            new_value,
-        })
+        self.forget();
+        if self.core.calls_left() == 0 {
+            return ABORTED;
+        }
+        let reply = self
+            .core
+            .reinstall(handle, guid.uuid(), old_value, new_value);
+        self.return_status(reply)
     }
 
     /// RegisterProtocolNotify. The variable `key` receives the registration's key.
@@ -173,7 +174,12 @@ impl<A: Allocator + Copy> EfiCore<A> {
     pub fn disconnect_controller(&mut self, handle: u64, driver: u64) -> u64
         ensures { Disconnects self.old handle driver result self.new }
     {
-        self.answer(&Call::DisconnectController { handle, driver })
+        self.forget();
+        if self.core.calls_left() == 0 {
+            return ABORTED;
+        }
+        let reply = self.core.disconnect_controller(handle, driver);
+        self.return_status(reply)
     }
 
     /// LocateDevicePath. The variable `path` has the path's address in the pool, and receives the address behind the
