@@ -3,9 +3,8 @@ use Rattle.std.proofs.Common.{◌≡◌, ℕ, zero, suc, ◌+◌, ◌-◌, ◌<�
 use Rattle.std.specs.List.{AllByRecursion}
 use Rattle.std.proofs.lemmas.Bool.{cases_eq, cases_lt}
 use Rattle.std.proofs.lemmas.List.{take-append-drop, length-take-le, length-append, length-replicate, drop_more, append-nil, take_all, drop_all}
-use Rattle.raw_pool.specs.Bytes.{put}
+use Rattle.raw_pool.specs.Bytes.{extended, put}
 use Rattle.raw_pool.specs.FreeList.{marked}
-use Rattle.raw_pool.specs.Searches.{grown}
 
 pub marked-append : (k : ℕ) (xs ys : List ℕ) → marked k (xs ++ ys) ≡ marked k xs ++ marked (k + length xs) ys
 marked-append k [] ys = ap (λ (j : ℕ). marked j ys) (omega arith)
@@ -75,21 +74,13 @@ all-low low high (x ∷ xs) h a = (omega (arith, a.0), all-low low high xs h a.1
 
 -- ---- a mark is set
 
-pub grown-is : (marks : List ℕ) (at : ℕ) → grown marks at ≡ marks ++ replicate (at - length marks) 0
-unfolding put
-grown-is marks at =
-    let zeros : List ℕ = replicate (at - length marks) 0 in
-    ap (λ (xs : List ℕ). xs ++ zeros ++ drop (length marks + length zeros) marks) (take_all (length marks) marks (omega arith))
-    ∙ ap (λ (xs : List ℕ). marks ++ zeros ++ xs) (drop_all (length marks + length zeros) marks (omega arith))
-    ∙ append-nil (marks ++ zeros)
-
-pub grown-marked : (marks : List ℕ) (at : ℕ) → marked 0 (grown marks at) ≡ marked 0 marks
-grown-marked marks at =
-    ap (marked 0) (grown-is marks at) ∙ marked-append 0 marks (replicate (at - length marks) 0)
+pub extended-marked : (marks : List ℕ) (at : ℕ) → marked 0 (extended marks at) ≡ marked 0 marks
+extended-marked marks at =
+    marked-append 0 marks (replicate (at - length marks) 0)
     ∙ ap (λ (cs : List ℕ). marked 0 marks ++ cs) (marked-zeros (0 + length marks) (at - length marks)) ∙ append-nil (marked 0 marks)
 
-pub grown-length : (marks : List ℕ) (at : ℕ) → at ≤ length (grown marks at)
-grown-length marks at = rw (grown-is marks at) (omega (arith, length-append marks (replicate (at - length marks) 0), length-replicate {A = ℕ} (at - length marks) 0))
+pub extended-length : (marks : List ℕ) (at : ℕ) → at ≤ length (extended marks at)
+extended-length marks at = omega (arith, length-append marks (replicate (at - length marks) 0), length-replicate {A = ℕ} (at - length marks) 0)
 
 -- the marks around one that is written
 pub marked-put : (marks : List ℕ) (at m : ℕ) → at ≤ length marks → marked 0 (put marks at (m ∷ [])) ≡ marked 0 (take at marks) ++ marked at (m ∷ drop (at + 1) marks)
@@ -125,13 +116,13 @@ around marks ls rs at h e low high =
           (s.0, s.1 ∙ ap (marked (at + 1)) (sym (drop_all (at + 1) marks (omega arith))))
     ]
 
-pub mark_set : (marks ls rs : List ℕ) (at : ℕ) → marked 0 marks ≡ ls ++ rs → AllByRecursion (λ c. c < at) ls → AllByRecursion (λ c. at + 1 ≤ c) rs → marked 0 (put (grown marks at) at (1 ∷ [])) ≡ ls ++ at ∷ rs
+pub mark_set : (marks ls rs : List ℕ) (at : ℕ) → marked 0 marks ≡ ls ++ rs → AllByRecursion (λ c. c < at) ls → AllByRecursion (λ c. at + 1 ≤ c) rs → marked 0 (put (extended marks at) at (1 ∷ [])) ≡ ls ++ at ∷ rs
 mark_set marks ls rs at e low high =
-    let n : at ≤ length (grown marks at) = grown-length marks at in
-    let s = around (grown marks at) ls rs at n (grown-marked marks at ∙ e) low high in
-    marked-put (grown marks at) at 1 n
-    ∙ ap (λ (cs : List ℕ). marked 0 (take at (grown marks at)) ++ cs) (marked-one at 1 (drop (at + 1) (grown marks at)) (λ z. cc))
-    ∙ ap (λ (cs : List ℕ). cs ++ at ∷ marked (at + 1) (drop (at + 1) (grown marks at))) (sym s.0)
+    let n : at ≤ length (extended marks at) = extended-length marks at in
+    let s = around (extended marks at) ls rs at n (extended-marked marks at ∙ e) low high in
+    marked-put (extended marks at) at 1 n
+    ∙ ap (λ (cs : List ℕ). marked 0 (take at (extended marks at)) ++ cs) (marked-one at 1 (drop (at + 1) (extended marks at)) (λ z. cc))
+    ∙ ap (λ (cs : List ℕ). cs ++ at ∷ marked (at + 1) (drop (at + 1) (extended marks at))) (sym s.0)
     ∙ ap (λ (cs : List ℕ). ls ++ at ∷ cs) (sym s.1)
 
 -- ---- a mark is taken away

@@ -3,7 +3,7 @@ use Rattle.std.proofs.Common.{inl, inr, ◌≡◌, ℕ, suc, ◌+◌, ◌-◌, �
 use Rattle.byteorder.specs.Endian.{little_bytes, little_number}
 use Rattle.byteorder.specs.Numbers.{little_number-reads_back}
 use Rattle.std.proofs.lemmas.Bool.{cases_lt}
-use Rattle.std.proofs.lemmas.List.{take-append-drop, set_split, take_all, drop_all, append-nil, length-append, length-take-le, length-drop, length-replicate, drop-drop, take_at, drop-append-le, take-append-le, drop-take, take-take, drop-replicate, take-replicate}
+use Rattle.std.proofs.lemmas.List.{take-append-drop, set_split, take_all, drop_all, append-nil, length-append, length-take-le, length-drop, length-replicate, drop-drop, take_at, drop-append-le, take-append-le, drop-take, take-take, drop-replicate, take-replicate, replicate-append-replicate}
 use Rattle.std.proofs.Math.Seq.{drop-append-add, take-append-add}
 use Rattle.raw_pool.specs.Bytes.{extended, part, put, word}
 
@@ -130,18 +130,44 @@ put-more bytes new more at next h e =
 
 -- ---- bytes written over those that are set, and behind them
 
--- a row of bytes in the middle of which others were written through a slice
+-- a row in the middle of which others are written, as many as were there
+pub mid-put : (at k : ℕ) (all new : List ℕ) → k ≡ length new → take at all ++ (new ++ drop k (drop at all)) ≡ put all at new
+mid-put at k all new q =
+    let back : List ℕ = drop k (drop at all) in
+    let end : at + k ≡ at + length new = omega (arith, q) in
+    sym (append_assoc (take at all) new back)
+    ∙ ap (λ (xs : List ℕ). take at all ++ new ++ xs) (drop-drop k at all ∙ ap (λ (n : ℕ). drop n all) end)
+    ∙ sym (put-is all at new)
+
+-- the same of a row behind a pointer, through a slice
 pub lent-put : (len at k : ℕ) (all rest new : List ℕ) → len ≡ length all → at + length new ≤ length all → k ≡ length new →
     take len (take at all ++ (new ++ drop k (drop at all)) ++ drop (length (take at all ++ (new ++ drop k (drop at all)))) rest) ≡ put all at new
 lent-put len at k all rest new e h q =
     let back : List ℕ = drop k (drop at all) in
     let mid : List ℕ = take at all ++ (new ++ back) in
     let long : length mid ≡ len = omega (arith, length-append (take at all) (new ++ back), length-append new back, length-take-le at all, length-drop at all, length-drop k (drop at all), e, q) in
-    let end : at + k ≡ at + length new = omega (arith, q) in
-    take_at mid (drop (length mid) rest) len long
-    ∙ sym (append_assoc (take at all) new back)
-    ∙ ap (λ (xs : List ℕ). take at all ++ new ++ xs) (drop-drop k at all ∙ ap (λ (n : ℕ). drop n all) end)
-    ∙ sym (put-is all at new)
+    take_at mid (drop (length mid) rest) len long ∙ mid-put at k all new q
+
+-- ---- a row that is set to 0 from its front on
+
+-- some more zeros behind those at the front
+pub zeros-more : (bytes : List ℕ) (n m : ℕ) → n ≤ length bytes → put (put bytes 0 (replicate n 0)) n (replicate m 0) ≡ put bytes 0 (replicate (n + m) 0)
+zeros-more bytes n m h =
+    put-more bytes (replicate n 0) (replicate m 0) 0 n (omega arith) (omega (arith, length-replicate {A = ℕ} n 0))
+    ∙ ap (put bytes 0) (replicate-append-replicate n m 0)
+
+-- as many zeros as there are bytes
+pub zeros-all : (bytes : List ℕ) (n : ℕ) → n ≡ length bytes → put bytes 0 (replicate n 0) ≡ replicate n 0
+zeros-all bytes n e =
+    let zeros : List ℕ = replicate n 0 in
+    put-is bytes 0 zeros
+    ∙ ap (λ (xs : List ℕ). xs ++ zeros ++ drop (0 + length zeros) bytes) (none bytes)
+    ∙ ap (λ (xs : List ℕ). zeros ++ xs) (drop_all (0 + length zeros) bytes (omega (arith, length-replicate {A = ℕ} n 0, e)))
+    ∙ append-nil zeros
+  where
+    none : (xs : List ℕ) → take 0 xs ≡ []
+    none [] = refl
+    none (x ∷ xs) = refl
 
 pub length-extended : (bytes : List ℕ) (end : ℕ) → length (extended bytes end) ≡ length bytes + (end - length bytes)
 length-extended bytes end = length-append bytes (replicate (end - length bytes) 0) ∙ ap (λ (n : ℕ). length bytes + n) (length-replicate {A = ℕ} (end - length bytes) 0)
@@ -161,6 +187,26 @@ put-extended bytes new at end h e =
     ∙ ap (λ (xs : List ℕ). take at bytes ++ new ++ xs) back
     ∙ sym (put-is bytes at new)
 
+-- the byte at an index, where those up to it are set to 0 first
+pub put-far : (bytes : List ℕ) (at byte : ℕ) → put (extended bytes (at + 1)) at (byte ∷ []) ≡ put (extended bytes at) at (byte ∷ [])
+put-far bytes at byte = elim (cases_lt at (length bytes)) [
+  | inl l ↦ ap (λ (k : ℕ). put (bytes ++ replicate k 0) at (byte ∷ [])) (let e : at + 1 - length bytes ≡ at - length bytes = omega (arith, l) in e)
+  | inr g ↦
+      let front : List ℕ = extended bytes at in
+      let n : length front ≡ at = length-extended bytes at ∙ omega (arith, g) in
+      let one : extended bytes (at + 1) ≡ extended front (at + 1) =
+      ap (λ (xs : List ℕ). bytes ++ xs) (ap (λ (k : ℕ). replicate k 0) (let e : at + 1 - length bytes ≡ (at - length bytes) + (at + 1 - length front) = omega (arith, n) in e) ∙ sym (replicate-append-replicate (at - length bytes) (at + 1 - length front) 0))
+      ∙ sym (append_assoc bytes (replicate (at - length bytes) 0) (replicate (at + 1 - length front) 0)) in
+      ap (λ (xs : List ℕ). put xs at (byte ∷ [])) one ∙ put-extended front (byte ∷ []) at (at + 1) (omega (arith, n)) (omega arith)
+]
+
+-- two numbers, where the bytes are set to 0 first
+pub words-extended : (bytes one two : List ℕ) (at next end : ℕ) → at ≤ length bytes → next ≡ at + length one → end ≡ next + length two → put (put (extended bytes end) at one) next two ≡ put (put bytes at one) next two
+words-extended bytes one two at next end h e f =
+    put-more (extended bytes end) one two at next (omega (arith, length-extended bytes end, h)) (sym e)
+    ∙ put-extended bytes (one ++ two) at end h (omega (arith, length-append one two, e, f))
+    ∙ sym (put-more bytes one two at next h (sym e))
+
 pub put-behind : (bytes over behind : List ℕ) (at : ℕ) → length bytes ≤ at + length over → put bytes at over ++ behind ≡ put bytes at (over ++ behind)
 put-behind bytes over behind at h =
     let none : drop (at + length over) bytes ≡ [] = drop_all (at + length over) bytes h in
@@ -170,6 +216,24 @@ put-behind bytes over behind at h =
     ∙ sym (append-nil (take at bytes ++ (over ++ behind)))
     ∙ ap (λ (xs : List ℕ). take at bytes ++ (over ++ behind) ++ xs) (sym none-too)
     ∙ sym (put-is bytes at (over ++ behind))
+
+-- two numbers behind bytes that are set to 0, where some of these were not set
+pub words-behind : (bytes one two : List ℕ) (at count over more next end : ℕ) → at ≤ length bytes → at + over ≡ length bytes → over ≤ count → over + more ≡ count + 16 → length one ≡ 8 → length two ≡ 8 → next ≡ at + count → end ≡ next + 8
+    → put (put (put bytes at (replicate over 0) ++ replicate more 0) next one) end two ≡ put (put (put bytes at (replicate count 0)) next one) end two
+words-behind bytes one two at count over more next end h e le m l1 l2 n f =
+    let zeros : List ℕ = put bytes at (replicate count 0) in
+    let front : List ℕ = put bytes at (replicate over 0) in
+    let long : length zeros ≡ next = length-put bytes (replicate count 0) at h ∙ omega (arith, length-replicate {A = ℕ} count 0, e, le, n) in
+    let all : front ++ replicate more 0 ≡ extended zeros (next + 16) =
+    ap (λ (k : ℕ). front ++ replicate k 0) (let q : more ≡ (count - over) + 16 = omega (arith, m, le) in q)
+    ∙ ap (λ (xs : List ℕ). front ++ xs) (sym (replicate-append-replicate (count - over) 16 0))
+    ∙ sym (append_assoc front (replicate (count - over) 0) (replicate 16 0))
+    ∙ ap (λ (xs : List ℕ). xs ++ replicate 16 0)
+    (put-behind bytes (replicate over 0) (replicate (count - over) 0) at (omega (arith, e, length-replicate {A = ℕ} over 0))
+    ∙ ap (put bytes at) (replicate-append-replicate over (count - over) 0 ∙ ap (λ (k : ℕ). replicate k 0) (let q : over + (count - over) ≡ count = omega (arith, le) in q)))
+    ∙ ap (λ (k : ℕ). zeros ++ replicate k 0) (let q : 16 ≡ next + 16 - length zeros = omega (arith, long) in q) in
+    ap (λ (xs : List ℕ). put (put xs next one) end two) all
+    ∙ words-extended zeros one two next end (next + 16) (omega (arith, long)) (omega (arith, l1, f)) (omega (arith, l2, f))
 
 -- a write into the middle one of three lists
 pub put-deep : (front mid rest new : List ℕ) (off at : ℕ) → length front ≡ off → at + length new ≤ length mid → put (front ++ (mid ++ rest)) (off + at) new ≡ front ++ (put mid at new ++ rest)

@@ -4,10 +4,10 @@ use Rattle.std.specs.List.{AllByRecursion}
 use Rattle.std.proofs.lemmas.Bool.{cases_lt, cases_eq}
 use Rattle.std.proofs.lemmas.List.{map-append}
 use Rattle.byteorder.specs.Endian.{little_bytes}
-use Rattle.raw_pool.specs.Bytes.{Bytes, part, put, word}
+use Rattle.raw_pool.specs.Bytes.{Bytes, extended, part, put, word}
 use Rattle.raw_pool.specs.Blocks.{Block, cells_for, lowest_fit, new_block, taken, with_block}
 use Rattle.raw_pool.specs.FreeList.{FreeRun, IsRun, AreApart, AreLinked, IsLaidOut, block_in, cells_in, blocks_in, gap, gaps, behind, free_runs, link, marked}
-use Rattle.raw_pool.specs.Searches.{grown, IsCut, IsStore, Scan, pool_of, runs_of}
+use Rattle.raw_pool.specs.Searches.{IsCut, IsStore, Scan, pool_of, runs_of}
 use Rattle.raw_pool.proofs.Puts.{put_before, put_behind, length-put, word-same, word-put}
 use Rattle.raw_pool.proofs.Runs.{AreRising, AreSame, RisesInTwo, rising-split, rising-le, rising-lower, LiesBetween, lies_between, AreClear, clear-run, gap-some, gap-none, gaps-same, behind-same, free_runs-append, free_runs-first, beyond, beyond-same, next_start, same-left, same-right, apart-same, apart-right, apart-join, apart-raise, all-starts-low, all-starts-high}
 use Rattle.raw_pool.proofs.Links.{Here, here, relinked, linked-kept, link-run, link-head}
@@ -155,7 +155,7 @@ pub record TakenAt (old new marks marks' : List ℕ) (cells head' at size : ℕ)
 
 pub taken_at : (bytes marks : Bytes) (new : List ℕ) (cells head' head last at size need rest : ℕ) → IsStore bytes marks cells head → (c : Scan (λ (r : FreeRun). r.cells < need) bytes.set cells head (runs_of bytes marks cells) last at) → at < cells →
     need ≡ cells_for size → need ≤ word bytes.set (32 * at) → Written bytes.set new cells head' head (marked 0 marks.set) last at size need rest →
-    TakenAt bytes.set new marks.set (put (grown marks.set at) at (1 ∷ [])) cells head' at size
+    TakenAt bytes.set new marks.set (put (extended marks.set at) at (1 ∷ [])) cells head' at size
 taken_at bytes marks new cells head' head last at size need rest s c l n f w =
     let old : List ℕ = bytes.set in
     let k : ℕ = word old (32 * at) in
@@ -177,7 +177,7 @@ taken_at bytes marks new cells head' head last at size need rest s c l n f w =
     let whole : AreApart new cells 0 (ls ++ at ∷ rs) = apart-join new cells 0 ls rs (at ∷ rs) a' (omega arith, omega (arith, w.set), tail) in
     let low : AllByRecursion (λ x. x < at) ls = all-starts-low old cells 0 at ls rs a (omega arith) in
     let high : AllByRecursion (λ x. at + 1 ≤ x) rs = all-starts-high old cells (behind old 0 ls) (at + 1) rs (apart-right old cells 0 ls rs a) (omega arith) in
-    let m : marked 0 (put (grown marks.set at) at (1 ∷ [])) ≡ ls ++ at ∷ rs = mark_set marks.set ls rs at e low high in
+    let m : marked 0 (put (extended marks.set at) at (1 ∷ [])) ≡ ls ++ at ∷ rs = mark_set marks.set ls rs at e low high in
     let runs : free_runs new cells 0 (ls ++ at ∷ rs) ≡ c.before ++ (gap (at + need) (at + k) ++ q.rest) =
     free_runs-append new cells 0 ls (at ∷ rs)
     ∙ ap (λ (j : ℕ). gaps new 0 ls ++ free_runs new cells j (at ∷ rs)) b'
@@ -212,7 +212,7 @@ taken_at bytes marks new cells head' head last at size need rest s c l n f w =
 pub placed : (bytes marks two three four marks' : Bytes) (cells head cells2 head2 head3 last at size need rest : ℕ) → IsStore bytes marks cells head → Scan (λ (r : FreeRun). r.cells < need) bytes.set cells head (runs_of bytes marks cells) last at → at < cells →
     need ≡ cells_for size → need ≤ word bytes.set (32 * at) → size < 2 ^ 64 → rest < 2 ^ 64 → IsCut bytes.set two.set cells head at need rest → two.room ≡ bytes.room → cells2 ≡ cells → head2 ≡ head →
     three ≡ record { set = cond (last == cells2) two.set (put two.set (32 * last + 8) (little_bytes 8 rest)); room = two.room } → head3 ≡ cond (last == cells2) rest head2 →
-    four ≡ record { set = put three.set (32 * at) (little_bytes 8 size); room = three.room } → marks' ≡ record { set = put (grown marks.set at) at (1 ∷ []); room = marks.room } →
+    four ≡ record { set = put three.set (32 * at) (little_bytes 8 size); room = three.room } → marks' ≡ record { set = put (extended marks.set at) at (1 ∷ []); room = marks.room } →
     (pool_of four marks' cells ≡ taken (pool_of bytes marks cells) size (Some at)) × IsStore four marks' cells head3
 placed bytes marks two three four marks' cells head cells2 head2 head3 last at size need rest s c l n f small next cut r e2 h2 e3 h3 e4 em =
     let q : Fit bytes.set cells head (marked 0 marks.set) last at c.before c.after = fit (λ (r : FreeRun). r.cells < need) bytes marks cells head last at s c l in
@@ -221,7 +221,7 @@ placed bytes marks two three four marks' cells head cells2 head2 head3 last at s
     written bytes.set two.set cells head (marked 0 marks.set) last at size need rest (last_within bytes.set cells (marked 0 marks.set) last c.before p)
     (λ h. lower bytes.set cells (marked 0 marks.set) last at q.rising.middle cells c.before p q.rising.left (omega (arith, q.rising.right.0, q.first)) h) q.clear n f small next cut in
     let new : List ℕ = put (cond (last == cells) two.set (put two.set (32 * last + 8) (little_bytes 8 rest))) (32 * at) (little_bytes 8 size) in
-    let t : TakenAt bytes.set new marks.set (put (grown marks.set at) at (1 ∷ [])) cells (cond (last == cells) rest head) at size = taken_at bytes marks new cells (cond (last == cells) rest head) head last at size need rest s c l n f w in
+    let t : TakenAt bytes.set new marks.set (put (extended marks.set at) at (1 ∷ [])) cells (cond (last == cells) rest head) at size = taken_at bytes marks new cells (cond (last == cells) rest head) head last at size need rest s c l n f w in
     let g3 : three ≡ record { set = cond (last == cells) two.set (put two.set (32 * last + 8) (little_bytes 8 rest)); room = two.room } =
     e3 ∙ ap (λ (k : ℕ). record { set = cond (last == k) two.set (put two.set (32 * last + 8) (little_bytes 8 rest)); room = two.room }) e2 in
     let g4 : four ≡ record { set = new; room = two.room } = e4 ∙ ap (λ (b : Bytes). record { set = put b.set (32 * at) (little_bytes 8 size); room = b.room }) g3 in

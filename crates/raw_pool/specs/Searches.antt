@@ -2,7 +2,7 @@
 use Rattle.std.specs.Prelude.{None, ◌≡◌, ◌≤◌, ◌<◌, ℕ, ◌+◌, ◌-◌, ◌*◌, ◌^◌, ◌⊎◌, ◌==◌, cond, replicate, List, [], ◌∷◌, ◌++◌, length}
 use Rattle.std.specs.List.{AllByRecursion}
 use Rattle.byteorder.specs.Endian.{little_bytes}
-use Rattle.raw_pool.specs.Bytes.{Bytes, part, put, word}
+use Rattle.raw_pool.specs.Bytes.{Bytes, part, put, put_words, word}
 use Rattle.raw_pool.specs.Blocks.{Pool}
 use Rattle.raw_pool.specs.FreeList.{FreeRun, IsRun, AreLinked, IsLaidOut, link, free_runs, marked, blocks_in}
 
@@ -54,11 +54,7 @@ with_link bytes cells run to =
 -- the bytes once the header of a free run is written: its cells, and which run is behind it
 abbrev pub with_run : List ℕ → ℕ → ℕ → ℕ → List ℕ
 with_run bytes run cells next =
-    put (put bytes (32 * run) (little_bytes 8 cells)) (32 * run + 8) (little_bytes 8 next)
-
--- the marks, enough of them that the one of a cell can be written
-abbrev pub grown : List ℕ → ℕ → List ℕ
-grown marks at = put marks (length marks) (replicate (at - length marks) 0)
+    put_words bytes (32 * run) cells next
 
 -- the pool that a store represents
 abbrev pub pool_of : Bytes → Bytes → ℕ → Pool

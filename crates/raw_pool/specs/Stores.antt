@@ -1,10 +1,10 @@
 -- What a store represents: a region, how many cells it has, and the head of its list of free runs.
 use Rattle.std.specs.Prelude.{◌≡◌, ◌≢◌, ◌≤◌, ◌<◌, ℕ, ◌+◌, ◌-◌, ◌*◌, ◌==◌, cond, List, [], ◌∷◌, length, slice_index, Option, MatchOption}
 use Rattle.std.specs.List.{AllByRecursion}
-use Rattle.raw_pool.specs.Bytes.{Bytes, put, word}
+use Rattle.raw_pool.specs.Bytes.{Bytes, extended, put, word}
 use Rattle.raw_pool.specs.Blocks.{Block, Pool, longest_run}
 use Rattle.raw_pool.specs.FreeList.{FreeRun, block_in, blocks_in, link}
-use Rattle.raw_pool.specs.Searches.{IsRegion, IsStore, Scan, grown, pool_of, runs_of, with_link, with_run}
+use Rattle.raw_pool.specs.Searches.{IsRegion, IsStore, Scan, pool_of, runs_of, with_link, with_run}
 use Rattle.raw_pool.specs.declared.store.Store.{Store}
 
 -- the store is laid out
@@ -83,7 +83,10 @@ bytes_with_run s run cells next =
 -- the marks once a cell is marked as the first of a block
 abbrev pub marks_with : {A : Type 0} → Store A → ℕ → Bytes
 marks_with s cell =
-    record { set = put (grown s.region.marks.set cell) cell (1 ∷ []); room = s.region.marks.room }
+    record {
+      set = put (extended s.region.marks.set cell) cell (1 ∷ []);
+      room = s.region.marks.room;
+    }
 
 -- only bytes and the head change
 abbrev pub ChangesLinks : {A : Type 0} → Store A → Store A → Type 0

@@ -2,7 +2,7 @@
 ghost use Rattle.std.specs.Prelude.{◌≡◌, ◌≤◌, ◌<◌, ◌+◌, ◌*◌, ◌^◌, [], ◌∷◌, length, replicate, IfOk, None, Some};
 ghost use Rattle.byteorder.specs.Endian.{little_bytes};
 ghost use Rattle.raw_pool.specs.Answers.{IsUnset};
-ghost use Rattle.raw_pool.specs.Bytes.{with_put, word};
+ghost use Rattle.raw_pool.specs.Bytes.{with_extended, with_put, with_words, word};
 
 use crate::pages::PoolMemory;
 use crate::raw_bytes::{Lease, RawBytes};
@@ -131,6 +131,18 @@ impl<A: Allocator> Region<A> {
         self.bytes.clear(at, count);
     }
 
+    /// Sets the given number of bytes from an index on to 0, and writes two numbers behind them.
+    pub(crate) fn clear_and_write(&mut self, at: usize, count: usize, first: u64, second: u64)
+        requires { (at ≤ length self.old.bytes.set) × (at + count + 16 ≤ self.old.bytes.room) }
+        ensures bytes { self.new.bytes
+            ≡ with_words (with_put self.old.bytes at (replicate count 0))
+            (at + count) first second }
+        ensures marks { self.new.marks ≡ self.old.marks }
+        ensures lies { self.new.lies ≡ self.old.lies }
+    {
+        self.bytes.clear_and_write(at, count, first, second);
+    }
+
     /// The number in the 8 bytes from an index on.
     pub(crate) fn word(&self, at: usize) -> u64
         requires { at + 8 ≤ length self.now.bytes.set }
@@ -149,14 +161,14 @@ impl<A: Allocator> Region<A> {
         self.bytes.overwrite_word(at, number);
     }
 
-    /// Writes a number into the 8 bytes from an index on.
-    pub(crate) fn write_word(&mut self, at: usize, number: u64)
-        requires { (at ≤ length self.old.bytes.set) × (at + 8 ≤ self.old.bytes.room) }
-        ensures bytes { self.new.bytes ≡ with_put self.old.bytes at (little_bytes 8 number) }
+    /// Writes two numbers into the 16 bytes from an index on.
+    pub(crate) fn write_words(&mut self, at: usize, first: u64, second: u64)
+        requires { (at ≤ length self.old.bytes.set) × (at + 16 ≤ self.old.bytes.room) }
+        ensures bytes { self.new.bytes ≡ with_words self.old.bytes at first second }
         ensures marks { self.new.marks ≡ self.old.marks }
         ensures lies { self.new.lies ≡ self.old.lies }
     {
-        self.bytes.write_word(at, number);
+        self.bytes.write_words(at, first, second);
     }
 
     /// The marks that are set.
@@ -164,24 +176,6 @@ impl<A: Allocator> Region<A> {
         ensures { result.now ≡ self.now.marks.set }
     {
         self.marks.bytes()
-    }
-
-    /// How many marks are set.
-    pub(crate) fn marks_len(&self) -> usize
-        ensures len { result ≡ length self.now.marks.set }
-        ensures within { result ≤ self.now.marks.room }
-    {
-        self.marks.len()
-    }
-
-    /// Sets the given number of marks from a cell's on to 0.
-    pub(crate) fn clear_marks(&mut self, cell: usize, count: usize)
-        requires { (cell ≤ length self.old.marks.set) × (cell + count ≤ self.old.marks.room) }
-        ensures marks { self.new.marks ≡ with_put self.old.marks cell (replicate count 0) }
-        ensures bytes { self.new.bytes ≡ self.old.bytes }
-        ensures lies { self.new.lies ≡ self.old.lies }
-    {
-        self.marks.clear(cell, count);
     }
 
     /// Sets the mark of a cell, which is set.
@@ -194,10 +188,11 @@ impl<A: Allocator> Region<A> {
         self.marks.overwrite(cell, mark);
     }
 
-    /// Sets the mark of a cell, which may be the first that is not set yet.
+    /// Sets the mark of a cell, and those before it that are not set yet to 0.
     pub(crate) fn put_mark(&mut self, cell: usize, mark: u8)
-        requires { (cell ≤ length self.old.marks.set) × (cell < self.old.marks.room) }
-        ensures marks { self.new.marks ≡ with_put self.old.marks cell (mark ∷ []) }
+        requires { cell < self.old.marks.room }
+        ensures marks { self.new.marks
+            ≡ with_put (with_extended self.old.marks cell) cell (mark ∷ []) }
         ensures bytes { self.new.bytes ≡ self.old.bytes }
         ensures lies { self.new.lies ≡ self.old.lies }
     {

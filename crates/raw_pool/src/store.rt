@@ -93,8 +93,8 @@ impl<A: Allocator + Copy> Store<A> {
         ensures others { ChangesBytes self.old self.new }
         ensures lies { self.new.region.lies ≡ self.old.region.lies }
     {
-        self.region.write_word(CELL_SIZE * run, cells as u64);
-        self.region.write_word(CELL_SIZE * run + 8, next as u64);
+        self.region
+            .write_words(CELL_SIZE * run, cells as u64, next as u64);
     }
 
     /// Writes the header of a free run over bytes that are set.
@@ -170,11 +170,13 @@ impl<A: Allocator + Copy> Store<A> {
     {
         let free = self.run_cells(at);
         let next = self.link(at);
-        self.region.clear(CELL_SIZE * at, CELL_SIZE * need);
+        let (start, count) = (CELL_SIZE * at, CELL_SIZE * need);
         if need < free {
-            self.set_run(at + need, free - need, next);
+            self.region
+                .clear_and_write(start, count, (free - need) as u64, next as u64);
             at + need
         } else {
+            self.region.clear(start, count);
             next
         }
     }
@@ -186,8 +188,6 @@ impl<A: Allocator + Copy> Store<A> {
         ensures others { ChangesMarks self.old self.new }
         ensures lies { self.new.region.lies ≡ self.old.region.lies }
     {
-        let set = self.region.marks_len();
-        self.region.clear_marks(set, cell.saturating_sub(set));
         self.region.put_mark(cell, 1);
     }
 

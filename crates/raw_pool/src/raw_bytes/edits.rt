@@ -1,7 +1,7 @@
 //! Bytes of a row are read and written by their indexes.
-ghost use Rattle.std.specs.Prelude.{◌≡◌, ◌≤◌, ◌<◌, ◌+◌, [], ◌∷◌, length, replicate};
+ghost use Rattle.std.specs.Prelude.{◌≡◌, ◌≤◌, ◌<◌, ◌+◌, ◌-◌, [], ◌∷◌, length, replicate};
 ghost use Rattle.byteorder.specs.Endian.{little_bytes};
-ghost use Rattle.raw_pool.specs.Bytes.{extended, put, word};
+ghost use Rattle.raw_pool.specs.Bytes.{extended, put, put_words, word};
 
 use super::RawBytes;
 use byteorder::{ByteOrder, LittleEndian};
@@ -16,6 +16,33 @@ fn set_word(bytes: &mut [u8], number: u64)
         unreachable!();
     };
     *word = number.to_le_bytes();
+}
+
+/// How many bytes are set to 0 at a time.
+const CLEARED: usize = 32;
+
+/// Writes an array over as many bytes.
+#[inline(always)]
+fn set_array(bytes: &mut [u8], array: &[u8; CLEARED])
+    requires { length bytes.old ≡ 32 }
+    ensures { bytes.new ≡ array.now }
+{
+    let Some(place) = bytes.as_mut_array::<CLEARED>() else {
+        unreachable!();
+    };
+    *place = *array;
+}
+
+/// Sets bytes to 0. They are copied, which is two moves of 16 bytes where a fill makes four of eight.
+fn set_zeros(bytes: &mut [u8])
+    ensures { bytes.new ≡ replicate (length bytes.old) 0 }
+{
+    let count = bytes.len() / CLEARED;
+    for k in 0..count {
+        let at = CLEARED * k;
+        set_array(&mut bytes[at..at + CLEARED], &[0; CLEARED]);
+    }
+    bytes[CLEARED * count..].fill(0);
 }
 
 impl RawBytes {
@@ -57,10 +84,10 @@ impl RawBytes {
         self.bytes_mut()[at] = byte;
     }
 
-    /// Sets the byte at an index, which may be the first that is not set yet.
+    /// Sets the byte at an index, and those before it that are not set yet to 0.
     pub(crate) fn put(&mut self, at: usize, byte: u8)
-        requires { (at ≤ length self.old.set) × (at < self.old.room) }
-        ensures set { self.new.set ≡ put self.old.set at (byte ∷ []) }
+        requires { at < self.old.room }
+        ensures set { self.new.set ≡ put (extended self.old.set at) at (byte ∷ []) }
         ensures place { (self.new.room ≡ self.old.room) × (self.new.ptr ≡ self.old.ptr) }
     {
         self.extend_to(at + 1);
@@ -73,7 +100,24 @@ impl RawBytes {
         ensures set { self.new.set ≡ put self.old.set at (replicate count 0) }
         ensures place { (self.new.room ≡ self.old.room) × (self.new.ptr ≡ self.old.ptr) }
     {
-        self.bytes_mut()[at..at + count].fill(0);
+        set_zeros(&mut self.bytes_mut()[at..at + count]);
+    }
+
+    /// Sets the bytes that are set from an index on to 0. Mostly these are two numbers, the header of a free run
+    /// behind which nothing is set yet.
+    fn clear_rest(&mut self, at: usize)
+        requires { at ≤ length self.old.set }
+        ensures set { self.new.set
+            ≡ put self.old.set at (replicate (length self.old.set - at) 0) }
+        ensures place { (self.new.room ≡ self.old.room) × (self.new.ptr ≡ self.old.ptr) }
+    {
+        let count = self.len() - at;
+        if count == 16 {
+            self.overwrite_word(at, 0);
+            self.overwrite_word(at + 8, 0);
+        } else {
+            self.overwrite_zeros(at, count);
+        }
     }
 
     /// Sets the given number of bytes from an index on to 0.
@@ -86,7 +130,7 @@ impl RawBytes {
         if count <= over {
             self.overwrite_zeros(at, count);
         } else {
-            self.overwrite_zeros(at, over);
+            self.clear_rest(at);
             self.extend(count - over);
         }
     }
@@ -108,13 +152,33 @@ impl RawBytes {
         set_word(&mut self.bytes_mut()[at..at + 8], number);
     }
 
-    /// Writes a number into the 8 bytes from an index on.
-    pub(crate) fn write_word(&mut self, at: usize, number: u64)
-        requires { (at ≤ length self.old.set) × (at + 8 ≤ self.old.room) }
-        ensures set { self.new.set ≡ put self.old.set at (little_bytes 8 number) }
+    /// Writes two numbers into the 16 bytes from an index on.
+    pub(crate) fn write_words(&mut self, at: usize, first: u64, second: u64)
+        requires { (at ≤ length self.old.set) × (at + 16 ≤ self.old.room) }
+        ensures set { self.new.set ≡ put_words self.old.set at first second }
         ensures place { (self.new.room ≡ self.old.room) × (self.new.ptr ≡ self.old.ptr) }
     {
-        self.extend_to(at + 8);
-        self.overwrite_word(at, number);
+        self.extend_to(at + 16);
+        self.overwrite_word(at, first);
+        self.overwrite_word(at + 8, second);
+    }
+
+    /// Sets the given number of bytes from an index on to 0, and writes two numbers behind them.
+    pub(crate) fn clear_and_write(&mut self, at: usize, count: usize, first: u64, second: u64)
+        requires { (at ≤ length self.old.set) × (at + count + 16 ≤ self.old.room) }
+        ensures set { self.new.set
+            ≡ put_words (put self.old.set at (replicate count 0)) (at + count) first second }
+        ensures place { (self.new.room ≡ self.old.room) × (self.new.ptr ≡ self.old.ptr) }
+    {
+        let over = self.len() - at;
+        if count <= over {
+            self.overwrite_zeros(at, count);
+            self.write_words(at + count, first, second);
+            return;
+        }
+        self.clear_rest(at);
+        self.extend(count + 16 - over);
+        self.overwrite_word(at + count, first);
+        self.overwrite_word(at + count + 8, second);
     }
 }

@@ -1,4 +1,4 @@
-use Rattle.std.proofs.Common.{◌≡◌, ◌+◌, ◌-◌, ◌∷◌, [], ℕ, List, length, set, length-set, drop, sym, ap, ◌∙◌, arith}
+use Rattle.std.proofs.Common.{◌≡◌, ℕ, List, length, set, length-set, drop, sym, ◌∙◌}
 use Rattle.std.proofs.lemmas.List.{take_at}
 use Rattle.raw_pool.proofs.Puts.{put-over}
 use Rattle.raw_pool.proofs.raw_bytes.RawBytes.overwrite.Goals as goal

@@ -1,6 +1,6 @@
-use Rattle.std.proofs.Common.{◌≡◌, ◌+◌, ◌∷◌, [], ℕ, List, length, ap, ◌∙◌, arith}
+use Rattle.std.proofs.Common.{◌+◌, ◌∷◌, [], ℕ, List, ap, ◌∙◌, arith}
 use Rattle.raw_pool.specs.Bytes.{put}
-use Rattle.raw_pool.proofs.Puts.{length-extended, put-extended}
+use Rattle.raw_pool.proofs.Puts.{length-extended, put-far}
 use Rattle.raw_pool.proofs.raw_bytes.RawBytes.put.Goals as goal
 
 pub overwrite-requires : goal.overwrite-requires
@@ -8,7 +8,5 @@ overwrite-requires c = rw c.extend_to.ensures.set (omega (arith, length-extended
 
 pub returns-clause-set : goal.returns-clause-set
 returns-clause-set c =
-    let old : List ℕ = c.args.self.now.set in
-    let end : ℕ = c.args.at + 1 in
     c.overwrite.ensures.set
-    ∙ ap (λ (xs : List ℕ). put xs c.args.at (c.args.byte ∷ [])) c.extend_to.ensures.set ∙ put-extended old (c.args.byte ∷ []) c.args.at end c.requires.0 (let e : end ≡ c.args.at + 1 = omega arith in e)
+    ∙ ap (λ (xs : List ℕ). put xs c.args.at (c.args.byte ∷ [])) c.extend_to.ensures.set ∙ put-far c.args.self.now.set c.args.at c.args.byte

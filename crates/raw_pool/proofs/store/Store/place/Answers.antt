@@ -1,8 +1,8 @@
 use Rattle.std.proofs.Common.{◌≡◌, ◌≤◌, ◌<◌, ◌+◌, ◌*◌, ◌==◌, ◌∷◌, [], cond, ℕ, List, Some, length, sym, ap, ◌∙◌, subst, arith}
 use Rattle.byteorder.specs.Endian.{little_bytes}
-use Rattle.raw_pool.specs.Bytes.{Bytes, put}
+use Rattle.raw_pool.specs.Bytes.{Bytes, extended, put}
 use Rattle.raw_pool.specs.Blocks.{taken}
-use Rattle.raw_pool.specs.Searches.{IsStore, grown, pool_of}
+use Rattle.raw_pool.specs.Searches.{IsStore, pool_of}
 use Rattle.raw_pool.proofs.Takes.{placed, lead_within, lead_set, run_set, run_within, header_set}
 use Rattle.raw_pool.proofs.store.Store.place.Given.{Over}
 use Rattle.raw_pool.proofs.store.Store.place.Goals as goal
@@ -46,7 +46,7 @@ is_done g c =
     c.cut-rest.new.self.cells c.cut-rest.new.self.head c.mark.new.self.head c.args.last c.args.at c.args.size c.args.need c.cut-rest.result c.requires.store c.requires.scan c.requires.within c.requires.need c.requires.fits
     (omega arith) (omega arith) c.cut-rest.ensures.cut c.cut-rest.ensures.others.0 c.cut-rest.ensures.others.3 c.cut-rest.ensures.others.1 c.set_link.ensures.bytes
     (c.mark.ensures.others.1 ∙ c.set_link.ensures.head) (c.mark.ensures.others.0 ∙ c.overwrite_word.ensures.bytes)
-    (c.mark.ensures.marks ∙ ap (λ (m : Bytes). record { set = put (grown m.set c.args.at) c.args.at (1 ∷ []); room = m.room }) (c.overwrite_word.ensures.marks ∙ c.set_link.ensures.others.0 ∙ c.cut-rest.ensures.others.2))
+    (c.mark.ensures.marks ∙ ap (λ (m : Bytes). record { set = put (extended m.set c.args.at) c.args.at (1 ∷ []); room = m.room }) (c.overwrite_word.ensures.marks ∙ c.set_link.ensures.others.0 ∙ c.cut-rest.ensures.others.2))
 
 cells_stay : (g : Over) (c : goal.After-mark g) → c.mark.new.self.cells ≡ c.args.self.now.cells
 cells_stay g c = c.mark.ensures.others.2 ∙ c.set_link.ensures.others.1 ∙ c.cut-rest.ensures.others.3
