@@ -1,7 +1,7 @@
 -- The runs near a range, in one leaf: what others may come in their place.
-use Rattle.std.proofs.Common.{◌≡◌, ℕ, ◌+◌, ◌-◌, ◌<◌, ◌≤◌, List, [], ◌++◌, length, take, drop, sym, ap, ap₂, subst, ◌∙◌, append_assoc, arith}
+use Rattle.std.proofs.Common.{◌≡◌, ℕ, ◌+◌, ◌-◌, ◌<◌, ◌≤◌, ◌^◌, List, [], ◌++◌, length, slice_index_or, take, drop, sym, ap, ap₂, subst, ◌∙◌, append_assoc, arith}
 use Rattle.std.proofs.Math.Seq.{take-add}
-use Rattle.std.proofs.lemmas.List.{drop-drop, drop-append-le, length-drop, length-take-le, take-append-drop, take-take}
+use Rattle.std.proofs.lemmas.List.{drop-drop, drop-append-le, get_or_default, length-drop, length-take-le, take-append-drop, take-take}
 use Rattle.std.specs.List.{splice}
 use Rattle.page_ranges.specs.declared.ranges.Owner.{Owner}
 use Rattle.page_ranges.specs.declared.ranges.Owner.TheVariants.{Given}
@@ -11,12 +11,15 @@ use Rattle.page_ranges.specs.MemoryTypes.{conventional, page_count}
 use Rattle.page_ranges.specs.Memory.{AllInRange, IsPresent, retyped}
 use Rattle.page_ranges.specs.Runs.{pages_of, AreRuns, AreMaximalRuns}
 use Rattle.page_ranges.proofs.MaximalRuns.{maximal_are_runs}
-use Rattle.descriptor_table.specs.Leaves.{entry_count, leaf_at, runs_in, AreLeavesNear}
-use Rattle.descriptor_table.specs.LeafChanges.{GrowsIn, RetypesRuns, runs_with_in}
+use Rattle.descriptor_table.specs.declared.cut_runs.Place.{Place}
+use Rattle.descriptor_table.specs.CutRuns.{PutsParts, with_parts}
+use Rattle.descriptor_table.specs.Leaves.{entry_count, leaf_at, runs_in, AreLeavesNear, GrowsBy}
+use Rattle.descriptor_table.specs.LeafChanges.{GrowsIn, IsEdgeOf, MovesEdge, RetypesRuns, leaf_edge, runs_with_in, with_edge}
 use Rattle.descriptor_table.specs.Tables.{EndBy, IsTable, IsWindow}
+use Rattle.descriptor_table.proofs.Edges.{two_there}
 use Rattle.descriptor_table.proofs.LeafSplices.{some_leaves, one_leaf, all_before, all_behind, cut_in_leaves, put_regroup, put_is, put_grows}
 use Rattle.descriptor_table.proofs.Splices.{AreCut, new_pages, new_count, new_table, new_runs, new_ends, window_grows, old_runs, old_maximal, old_ends, parts_ends}
-use Rattle.descriptor_table.proofs.TableFacts.{few_entries}
+use Rattle.descriptor_table.proofs.TableFacts.{few_entries, table_runs, table_ends}
 
 module _ (ls : List (List Run)) (n : ℕ) (range : PageRange) (t : ℕ) (o : Owner) (table : IsTable (runs_in ls) n) (index : ℕ) (near : AreLeavesNear ls range index (index + 1)) (low high : ℕ) (w : IsWindow (leaf_at ls index) range low high) where
   same : leaf_at ls index ≡ runs_in (some_leaves ls index (index + 1))
@@ -97,3 +100,89 @@ inner_splice xs parts low high a b h k l m =
     ap₂ (λ front rest. front ++ (parts ++ rest)) (take-add low a xs) (sym (drop-drop b low xs))
     ∙ append_assoc (take low xs) (take a ys) (parts ++ drop b ys)
     ∙ ap (λ zs. take low xs ++ zs) (sym (inner ys parts (high - low) a b l m (omega (arith, length-drop low xs))) ∙ ap (λ zs. splice (take (high - low) ys) a b parts ++ zs) back)
+
+-- ---- the runs near a range as they were read, and what comes in their place
+
+-- what is known of the runs near a range
+pub record AreNear (rs : List Run) : Type 0 where
+  pub maximal : AreMaximalRuns rs
+  pub runs : AreRuns rs
+  pub ends : EndBy page_count rs
+
+-- What holds where a leaf has other runs, by which a range gets a type and an owner: its entries in the map are some less and some more.
+pub record ComeInLeaf (ls : List (List Run)) (n : ℕ) (range : PageRange) (t : ℕ) (o : Owner) (index : ℕ) (leaf : List Run) (less more : ℕ) : Type 0 where
+  pub few : more < 2 ^ 63
+  pub fits : n + more < 2 ^ 64
+  pub count : less ≤ n + more
+  pub grows : GrowsBy (runs_in (take (index + 1) ls)) (runs_in (take index ls) ++ leaf) (runs_in (drop (index + 1) ls)) less more
+  pub runs : AreRuns (runs_in (take index ls) ++ (leaf ++ runs_in (drop (index + 1) ls)))
+  pub ends : EndBy page_count (runs_in (take index ls) ++ (leaf ++ runs_in (drop (index + 1) ls)))
+  pub table : (new : List (List Run)) → runs_in new ≡ runs_in (take index ls) ++ (leaf ++ runs_in (drop (index + 1) ls)) → (k : ℕ) → k + less ≡ n + more → IsTable (runs_in new) k
+  pub pages : (new : List (List Run)) → runs_in new ≡ runs_in (take index ls) ++ (leaf ++ runs_in (drop (index + 1) ls)) → pages_of (runs_in new) ≡ retyped range t o (pages_of (runs_in ls))
+
+-- What holds where a run of a leaf and the next one meet at another page.
+pub record EdgeInLeaf (ls : List (List Run)) (n : ℕ) (range : PageRange) (t : ℕ) (o : Owner) (index low edge : ℕ) : Type 0 where
+  pub bound : low + 2 ≤ length (leaf_at ls index)
+  pub edge_there : IsEdgeOf edge (take 2 (drop low (leaf_at ls index)))
+  pub come : ComeInLeaf ls n range t o index (splice (leaf_at ls index) low (low + 2) (leaf_edge ls index low edge)) 0 0
+
+module _ (ls : List (List Run)) (n : ℕ) (range : PageRange) (t : ℕ) (o : Owner) (table : IsTable (runs_in ls) n) (index : ℕ) (near : AreLeavesNear ls range index (index + 1)) (some : 0 < range.pages) (present : AllInRange (pages_of (runs_in ls)) range IsPresent) (own : t ≡ conventional → o ≡ Given) (low high : ℕ) where
+  come : (w : IsWindow (leaf_at ls index) range low high) (parts : List Run) → AreMaximalRuns parts → RetypesRuns range t o (take (high - low) (drop low (leaf_at ls index))) parts
+      → (less more : ℕ) → less + entry_count parts ≡ entry_count (take (high - low) (drop low (leaf_at ls index))) + more → more ≤ entry_count parts
+      → ComeInLeaf ls n range t o index (splice (leaf_at ls index) low high parts) less more
+  come w parts order pages less more e few =
+      let all = few_entries (runs_in ls) (table_runs (runs_in ls) n table) (table_ends (runs_in ls) n table) in
+      let most = few_parts ls n range t o table index near low high w some present own parts order pages in
+      let count = come_count ls n range t o table index near low high w some present own parts order pages in
+      record {
+        few = omega (arith, few, most);
+        fits = omega (arith, table.entries, few, all, most);
+        count = omega (arith, e, count);
+        grows = come_grows ls n range t o table index near low high w some present own parts order pages less more e;
+        runs = come_runs ls n range t o table index near low high w some present own parts order pages;
+        ends = come_ends ls n range t o table index near low high w some present own parts order pages;
+        table = λ new put k h. come_table ls n range t o table index near low high w some present own parts order pages new put k (omega (arith, e, h, count));
+        pages = λ new put. come_pages ls n range t o table index near low high w some present own parts order pages new put;
+      }
+
+  parts_come : (w : IsWindow (leaf_at ls index) range low high) (parts : List Run) (place : Place) (less : ℕ)
+      → PutsParts range t o (take (high - low) (drop low (leaf_at ls index))) parts place → less ≡ entry_count (take (high - low) (drop low (leaf_at ls index)))
+      → ComeInLeaf ls n range t o index (splice (leaf_at ls index) (low + place.low) (low + place.high) parts) less place.entries
+  parts_come w parts place less puts count =
+      let here = inner_splice (leaf_at ls index) parts low high place.low place.high w.order w.bound puts.order (omega (arith, puts.bound, gone_length ls n range t o table index near low high w)) in
+      subst (λ leaf. ComeInLeaf ls n range t o index leaf less place.entries) (sym here)
+      (come w (with_parts place parts (gone ls n range t o table index near low high w)) puts.maximal puts.pages less place.entries (omega (arith, puts.entries, count)) (omega (arith, puts.entries)))
+
+  edge_comes : (w : IsWindow (leaf_at ls index) range low high) (edge : ℕ) → MovesEdge range t o (take (high - low) (drop low (leaf_at ls index))) edge → EdgeInLeaf ls n range t o index low edge
+  edge_comes w edge moved =
+      let two : high ≡ low + 2 = omega (arith, w.order, gone_length ls n range t o table index near low high w, two_there edge (gone ls n range t o table index near low high w) moved.between) in
+      let some_two : high - low ≡ 2 = omega arith in
+      let all = come w (with_edge edge (gone ls n range t o table index near low high w)) moved.order moved.pages 0 0 (omega (arith, moved.entries)) (omega arith) in
+      record {
+        bound = omega (arith, two, w.bound);
+        edge_there = subst (λ k. IsEdgeOf edge (take k (drop low (leaf_at ls index)))) some_two moved.between;
+        come = subst (λ h. ComeInLeaf ls n range t o index (splice (leaf_at ls index) low h (leaf_edge ls index low edge)) 0 0) two
+            (subst (λ k. ComeInLeaf ls n range t o index (splice (leaf_at ls index) low high (with_edge edge (take k (drop low (leaf_at ls index))))) 0 0) some_two all);
+      }
+
+  -- the same by the runs as they were read
+  module _ (rs d : List Run) (read : rs ≡ slice_index_or ls index d) (w : IsWindow rs range low high) where
+    abbrev window : List Run
+    window = take (high - low) (drop low rs)
+
+    is : rs ≡ leaf_at ls index
+    is = read ∙ get_or_default ls index d [] (omega (arith, near.bound))
+
+    pub are_near : AreNear window
+    are_near = rw is (record {
+      maximal = gone_maximal ls n range t o table index near low high (rw is at w);
+      runs = gone_runs ls n range t o table index near low high (rw is at w);
+      ends = gone_ends ls n range t o table index near low high (rw is at w);
+    })
+
+    pub parts_in_leaf : (parts : List Run) (place : Place) (less : ℕ) → PutsParts range t o window parts place → less ≡ entry_count window
+        → ComeInLeaf ls n range t o index (splice (leaf_at ls index) (low + place.low) (low + place.high) parts) less place.entries
+    parts_in_leaf parts place less puts count = parts_come (rw is at w) parts place less (rw is at puts) (rw is at count)
+
+    pub edge_in_leaf : (edge : ℕ) → MovesEdge range t o window edge → EdgeInLeaf ls n range t o index low edge
+    edge_in_leaf edge moved = edge_comes (rw is at w) edge (rw is at moved)

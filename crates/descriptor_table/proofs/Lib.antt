@@ -35,4 +35,5 @@ pub mod ChangedRuns
 pub mod RetypedRuns
 pub mod Edges
 pub mod WholeRuns
+pub mod FewRuns
 pub mod Halves

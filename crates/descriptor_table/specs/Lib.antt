@@ -7,6 +7,7 @@ pub mod Wanting
 pub mod Summaries
 pub mod LeafChanges
 pub mod WholeRuns
+pub mod CutRuns
 pub mod LeafWalks
 pub mod LeafSummaries
 pub mod Reserves

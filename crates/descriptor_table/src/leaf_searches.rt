@@ -1,5 +1,5 @@
 //! Finding a leaf by a page or by an index.
-ghost use Rattle.std.specs.Prelude.{◌≡◌, ◌↔◌, ◌+◌, ◌<◌, ◌≤◌, length, map, nat_lt, nat_le, IsTrue, slice_get};
+ghost use Rattle.std.specs.Prelude.{◌≡◌, ◌↔◌, ◌+◌, ◌<◌, ◌≤◌, length, map, nat_lt, nat_le, Contains, IfSome, IsTrue, slice_get};
 ghost use Rattle.std.specs.List.{AllWithin};
 ghost use Rattle.std.specs.Option.{option_map};
 ghost use Rattle.page_ranges.specs.MemoryTypes.{page_count};
@@ -10,13 +10,59 @@ ghost use Rattle.descriptor_table.specs.PageTests.{Passes};
 ghost use Rattle.descriptor_table.specs.Tables.{EndBy, IsHolder, ShowsPage};
 
 use crate::leaves::Leaf;
-use crate::searches::{PageTest, run_holding};
+use crate::searches::{PageTest, count_beginning_by, run_holding};
 use crate::tallies::Tally;
 use page_ranges::{PageRange, Run};
 use std::alloc::Allocator;
 
-/// How many leaves begin below a page; they come first.
-pub(crate) fn count_leaves_below<A: Allocator + Copy>(leaves: &[Leaf<A>], page: u64) -> usize
+/// How many leaves begin below a page, where the leaf at an index has the runs there.
+#[inline(always)]
+fn likely_count<A: Allocator + Copy>(leaves: &[Leaf<A>], page: u64, likely: usize) -> Option<usize>
+    requires leaves { AreLeaves leaves.now }
+    requires runs { AreRuns (runs_in leaves.now) }
+    ensures bound { IfSome result (λ count. count ≤ length leaves.now) }
+    ensures below { IfSome result
+        (λ count. AllWithin (λ l. first_page l < page) leaves.now 0 count) }
+    ensures above { IfSome result
+        (λ count. AllWithin (λ l. page ≤ first_page l) leaves.now count (length leaves.now)) }
+{
+    if likely >= leaves.len() {
+        return None;
+    }
+    if page <= leaves[likely].first() {
+        return None;
+    }
+    let next = likely + 1;
+    if next == leaves.len() {
+        return Some(next);
+    }
+    if page <= leaves[next].first() {
+        return Some(next);
+    }
+    None
+}
+
+/// How many leaves begin below a page; they come first. The leaf that has the runs there is likely at an
+/// index.
+pub(crate) fn count_leaves_below<A: Allocator + Copy>(
+    leaves: &[Leaf<A>],
+    page: u64,
+    likely: usize,
+) -> usize
+    requires leaves { AreLeaves leaves.now }
+    requires runs { AreRuns (runs_in leaves.now) }
+    ensures bound { result ≤ length leaves.now }
+    ensures below { AllWithin (λ l. first_page l < page) leaves.now 0 result }
+    ensures above { AllWithin (λ l. page ≤ first_page l) leaves.now result (length leaves.now) }
+{
+    match likely_count(leaves, page, likely) {
+        Some(count) => count,
+        None => halved_count(leaves, page),
+    }
+}
+
+/// How many leaves begin below a page, found by halving; they come first.
+fn halved_count<A: Allocator + Copy>(leaves: &[Leaf<A>], page: u64) -> usize
     requires leaves { AreLeaves leaves.now }
     requires runs { AreRuns (runs_in leaves.now) }
     ensures bound { result ≤ length leaves.now }
@@ -58,6 +104,61 @@ pub(crate) fn run_in_leaves<A: Allocator + Copy>(leaves: &[Leaf<A>], page: u64) 
         return None;
     }
     run_holding(leaves[count - 1].runs(), page)
+}
+
+/// Where the run that holds a page is, if one does: the index of its leaf, and its own among the leaf's runs.
+pub(crate) fn place_of<A: Allocator + Copy>(leaves: &[Leaf<A>], page: u64) -> (usize, usize)
+    requires leaves { AreLeaves leaves.now }
+    requires runs { AreRuns (runs_in leaves.now) }
+{
+    let count = count_leaves_by(leaves, page);
+    if count == 0 {
+        return (0, 0);
+    }
+    let index = count_beginning_by(leaves[count - 1].runs(), page);
+    (count - 1, index.saturating_sub(1))
+}
+
+/// The run at a place.
+#[inline(always)]
+fn run_at_place<A: Allocator + Copy>(leaves: &[Leaf<A>], place: (usize, usize)) -> Option<&Run>
+    ensures { IfSome result (λ r. Contains (runs_in leaves.now) r.now) }
+{
+    if place.0 >= leaves.len() {
+        return None;
+    }
+    let runs = leaves[place.0].runs();
+    if place.1 < runs.len() {
+        Some(&runs[place.1])
+    } else {
+        None
+    }
+}
+
+/// Whether the run at a place holds all pages of a range, and passes a test.
+pub(crate) fn holds_all<A: Allocator + Copy>(
+    leaves: &[Leaf<A>],
+    place: (usize, usize),
+    range: PageRange,
+    test: PageTest,
+) -> bool
+    requires { AreRuns (runs_in leaves.now) }
+    ensures { IsTrue result → AllInRange (pages_of (runs_in leaves.now)) range (Passes test) }
+{
+    let Some(run) = run_at_place(leaves, place) else {
+        return false;
+    };
+    if range.first < run.range.first {
+        return false;
+    }
+    let before = range.first - run.range.first;
+    if run.range.pages <= before {
+        return false;
+    }
+    if run.range.pages - before < range.pages {
+        return false;
+    }
+    test.passes(run)
 }
 
 /// Whether each page of a range is present and passes a test.

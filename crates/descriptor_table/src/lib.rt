@@ -2,6 +2,7 @@
 #![tactic(auto)]
 
 mod cursors;
+mod cut_runs;
 mod cuts;
 mod entries;
 mod entries_down;

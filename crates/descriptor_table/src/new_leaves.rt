@@ -417,7 +417,7 @@ fn retype_in_halves<A: Allocator + Copy>(
     split_leaf(leaves, begun, sizes, spare, entries, index, buffer);
     let near = halves_near(leaves.as_slice(), index, range);
     let changed = retype_in_place(
-        leaves, begun, sizes, entries, near, range, mtype, owner, parts,
+        leaves, begun, sizes, entries, near, range, mtype, owner, parts, LEAF_SIZE,
     );
     let mut change = match changed {
         Some(change) => change,
@@ -486,7 +486,8 @@ pub(crate) fn lay_in_order<A: Allocator + Copy>(
 }
 
 /// Gives the pages of a range a type and an owner in the leaves that have the runs near it, or anew where these
-/// have no room, or where none of them may go. It takes no memory that it could not do without.
+/// have no room, or where none of them may go. It takes no memory that it could not do without. The run that
+/// holds the range's first page is likely at an index of its leaf.
 #[inline(always)]
 pub(crate) fn retype_leaves<A: Allocator + Copy>(
     leaves: &mut Vec<Leaf<A>, A>,
@@ -501,6 +502,7 @@ pub(crate) fn retype_leaves<A: Allocator + Copy>(
     parts: &mut Vec<Run, A>,
     buffer: &mut Vec<Run, A>,
     may_lose: bool,
+    likely: usize,
 ) -> Change
     requires table { IsLeafTable leaves.old.items entries begun.old.items sizes.old.items }
     requires near { AreLeavesNear leaves.old.items range near.0 near.1 }
@@ -520,7 +522,7 @@ pub(crate) fn retype_leaves<A: Allocator + Copy>(
 {
     if may_lose {
         let changed = retype_in_place(
-            leaves, begun, sizes, entries, near, range, mtype, owner, parts,
+            leaves, begun, sizes, entries, near, range, mtype, owner, parts, likely,
         );
         if let Some(change) = changed {
             return change;

@@ -12,7 +12,8 @@ ghost use Rattle.descriptor_table.specs.Tables.{EndBy, IsWindow};
 ghost use Rattle.descriptor_table.specs.Tallies.{total};
 
 use crate::cursors::count_leaves_by_from;
-use crate::cuts::{moved_edge, push_behind, push_retyped};
+use crate::cut_runs::push_changed;
+use crate::cuts::{moved_edge, push_behind};
 use crate::entries::count_entries;
 use crate::entry_starts::{count_begun, runs_before};
 use crate::leaf_searches::count_leaves_below;
@@ -21,7 +22,6 @@ use crate::replacing::cut_out;
 use crate::searches::{count_beginning_by, count_beginning_by_from, count_ending_below};
 use crate::summaries::ALLOWS_ALL;
 use crate::tallies::Tally;
-use crate::whole_runs::whole_run;
 use page_ranges::{MemoryType, Owner, PageRange, Run};
 use std::alloc::{AllocError, Allocator};
 
@@ -76,13 +76,14 @@ pub(crate) fn new_joins(leaves: usize) -> u8 {
     if leaves <= BARE_LEAVES { ALLOWS_ALL } else { 0 }
 }
 
-/// The indices between which runs share a page with a range or touch it.
-fn window_of(runs: &[Run], range: PageRange) -> (usize, usize)
+/// The indices between which runs share a page with a range or touch it. The run that holds its first page
+/// is likely at an index.
+fn window_of(runs: &[Run], range: PageRange, likely: usize) -> (usize, usize)
     requires runs { AreRuns runs.now }
     requires within { range.first + range.pages ≤ page_count }
     ensures { IsWindow runs.now range result.0 result.1 }
 {
-    let low = count_ending_below(runs, range.first);
+    let low = count_ending_below(runs, range.first, likely);
     let high = count_beginning_by_from(runs, range.first + range.pages, low);
     (low, high)
 }
@@ -126,11 +127,13 @@ fn fits_in_neighbours<A: Allocator + Copy>(
     sizes.number(index - 1) + sizes.number(index) + sizes.number(index + 1) <= SPREAD_SIZE
 }
 
-/// The indices between which leaves have all runs that share a page with a range or touch it.
+/// The indices between which leaves have all runs that share a page with a range or touch it. The leaf that
+/// has its first page is likely at an index.
 pub(crate) fn leaves_near<A: Allocator + Copy>(
     leaves: &[Leaf<A>],
     sizes: &Tally<A>,
     range: PageRange,
+    likely: usize,
 ) -> (usize, usize)
     requires leaves { AreLeaves leaves.now }
     requires sizes { sizes.now.items ≡ map length leaves.now }
@@ -141,7 +144,7 @@ pub(crate) fn leaves_near<A: Allocator + Copy>(
     if leaves.len() == 1 {
         return (0, 1);
     }
-    let low = count_leaves_below(leaves, range.first).saturating_sub(1);
+    let low = count_leaves_below(leaves, range.first, likely).saturating_sub(1);
     let high = count_leaves_by_from(leaves, range.first + range.pages, low);
     if high - low != 1 {
         return (low, high);
@@ -233,7 +236,8 @@ fn move_edge_in_leaf<A: Allocator + Copy>(
 
 /// Gives the pages of a range a type and an owner within the leaf that has all runs near it, and
 /// returns how many entries the map then has; `None`, and nothing changes, where the leaf has no room
-/// for the runs that come. It takes no memory; what `parts` held is lost.
+/// for the runs that come. It takes no memory; what `parts` held is lost. The run that holds the range's first
+/// page is likely at an index of the leaf.
 fn retype_in_leaf<A: Allocator + Copy>(
     leaves: &mut Vec<Leaf<A>, A>,
     begun: &mut Tally<A>,
@@ -244,6 +248,7 @@ fn retype_in_leaf<A: Allocator + Copy>(
     mtype: MemoryType,
     owner: Owner,
     parts: &mut Vec<Run, A>,
+    likely: usize,
 ) -> Option<usize>
     requires table { IsLeafTable leaves.old.items entries begun.old.items sizes.old.items }
     requires near { AreLeavesNear leaves.old.items range index (index + 1) }
@@ -261,8 +266,7 @@ fn retype_in_leaf<A: Allocator + Copy>(
     ensures len { length leaves.new.items ≡ length leaves.old.items }
 {
     let runs = leaves[index].runs();
-    let window = window_of(runs, range);
-    let room = LEAF_SIZE + (window.1 - window.0) - runs.len();
+    let window = window_of(runs, range, likely);
     let gone = &runs[window.0..window.1];
     if let Some(edge) = moved_edge(gone, range, mtype, owner) {
         let joins = most_joins(leaves.len(), mtype);
@@ -270,42 +274,22 @@ fn retype_in_leaf<A: Allocator + Copy>(
         return Some(entries);
     }
     let old_entries = count_entries(gone);
-    if let Some(one) = whole_run(gone, range, mtype, owner) {
-        let joins = most_joins(leaves.len(), mtype);
-        let place = (window.0 + one.low, window.0 + one.high);
-        let counts = (old_entries, one.entries);
-        put_in_leaf(
-            leaves,
-            begun,
-            sizes,
-            index,
-            place,
-            &[one.run],
-            counts,
-            joins,
-        );
-        return Some(entries + one.entries - old_entries);
-    }
-    parts.clear();
-    let Ok(()) = push_retyped(parts, gone, range, mtype, owner) else {
-        return None;
-    };
-    if parts.is_empty() || parts.len() > room {
+    let place = push_changed(parts, gone, range, mtype, owner)?;
+    if runs.len() + parts.len() > LEAF_SIZE + (place.high - place.low) {
         return None;
     }
-    let new_entries = count_entries(parts.as_slice());
     let joins = most_joins(leaves.len(), mtype);
     put_in_leaf(
         leaves,
         begun,
         sizes,
         index,
-        window,
+        (window.0 + place.low, window.0 + place.high),
         parts.as_slice(),
-        (old_entries, new_entries),
+        (old_entries, place.entries),
         joins,
     );
-    Some(entries + new_entries - old_entries)
+    Some(entries + place.entries - old_entries)
 }
 
 /// How many of some parts come into the first of two leaves with a number of runs before them and one
@@ -644,7 +628,7 @@ fn retype_across<A: Allocator + Copy>(
     ensures lost { length leaves.old.items + ends.0 ≤ length leaves.new.items + ends.1 }
     ensures few { length leaves.new.items ≤ length leaves.old.items }
 {
-    let low = count_ending_below(leaves[ends.0].runs(), range.first);
+    let low = count_ending_below(leaves[ends.0].runs(), range.first, LEAF_SIZE);
     let high = count_beginning_by(leaves[ends.1].runs(), range.first + range.pages);
     let window = (low, high);
     parts.clear();
@@ -709,7 +693,7 @@ fn retype_in_pair<A: Allocator + Copy>(
 /// Gives the pages of a range a type and an owner in the leaves that have the runs near it, or in one of
 /// them and a neighbour; `None`, and nothing changes, where these have no room for the runs that come. It
 /// takes no memory for up to `MAX_PARTS` of these. `parts` is room for them, an array that is not made anew
-/// for each change.
+/// for each change. The run that holds the range's first page is likely at an index of its leaf.
 pub(crate) fn retype_in_place<A: Allocator + Copy>(
     leaves: &mut Vec<Leaf<A>, A>,
     begun: &mut Tally<A>,
@@ -720,6 +704,7 @@ pub(crate) fn retype_in_place<A: Allocator + Copy>(
     mtype: MemoryType,
     owner: Owner,
     parts: &mut Vec<Run, A>,
+    likely: usize,
 ) -> Option<Change>
     requires table { IsLeafTable leaves.old.items entries begun.old.items sizes.old.items }
     requires near { AreLeavesNear leaves.old.items range near.0 near.1 }
@@ -742,7 +727,7 @@ pub(crate) fn retype_in_place<A: Allocator + Copy>(
     let changed = match near.1 - near.0 {
         0 => None,
         1 => retype_in_leaf(
-            leaves, begun, sizes, entries, near.0, range, mtype, owner, parts,
+            leaves, begun, sizes, entries, near.0, range, mtype, owner, parts, likely,
         ),
         _ => {
             let ends = (near.0, near.1 - 1);

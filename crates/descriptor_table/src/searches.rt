@@ -1,5 +1,5 @@
 //! Finding a place among sorted runs.
-ghost use Rattle.std.specs.Prelude.{◌≡◌, ◌↔◌, ℕ, ◌+◌, ◌<◌, ◌≤◌, length, nat_lt, nat_le, IsTrue, Some};
+ghost use Rattle.std.specs.Prelude.{◌≡◌, ◌↔◌, ℕ, ◌+◌, ◌<◌, ◌≤◌, length, nat_lt, nat_le, IsTrue, IfSome, Some};
 ghost use Rattle.std.specs.List.{AllWithin};
 ghost use Rattle.std.specs.Option.{option_map};
 ghost use Rattle.page_ranges.specs.Runs.{page_in, AreRuns};
@@ -10,14 +10,14 @@ ghost use Rattle.descriptor_table.specs.Tables.{IsHolder, ShowsPage};
 use page_ranges::{MemoryType, Owner, Run};
 
 /// How many runs end below a page; they come first. Of the runs that begin below it only the last may
-/// end at it or above it.
-pub(crate) fn count_ending_below(runs: &[Run], page: u64) -> usize
+/// end at it or above it. The run that holds the page is likely at an index.
+pub(crate) fn count_ending_below(runs: &[Run], page: u64, likely: usize) -> usize
     requires { AreRuns runs.now }
     ensures bound { result ≤ length runs.now }
     ensures below { AllWithin (λ r. r.range.first + r.range.pages < page) runs.now 0 result }
     ensures above { AllWithin (EndsFrom page) runs.now result (length runs.now) }
 {
-    let count = count_beginning_below(runs, page);
+    let count = count_beginning_below(runs, page, likely);
     if count == 0 {
         return 0;
     }
@@ -29,8 +29,31 @@ pub(crate) fn count_ending_below(runs: &[Run], page: u64) -> usize
     }
 }
 
-/// How many runs begin below a page; they come first.
-fn count_beginning_below(runs: &[Run], page: u64) -> usize
+/// How many runs begin below a page, where the run at an index holds it.
+#[inline(always)]
+fn likely_count(runs: &[Run], page: u64, likely: usize) -> Option<usize>
+    requires { AreRuns runs.now }
+    ensures bound { IfSome result (λ count. count ≤ length runs.now) }
+    ensures below { IfSome result
+        (λ count. AllWithin (λ r. r.range.first < page) runs.now 0 count) }
+    ensures above { IfSome result
+        (λ count. AllWithin (λ r. page ≤ r.range.first) runs.now count (length runs.now)) }
+{
+    if likely >= runs.len() {
+        return None;
+    }
+    let run = &runs[likely];
+    if page == run.range.first {
+        return Some(likely);
+    }
+    if run.range.first < page && page - run.range.first <= run.range.pages {
+        return Some(likely + 1);
+    }
+    None
+}
+
+/// How many runs begin below a page, found by halving; they come first.
+fn halved_count(runs: &[Run], page: u64) -> usize
     requires { AreRuns runs.now }
     ensures bound { result ≤ length runs.now }
     ensures below { AllWithin (λ r. r.range.first < page) runs.now 0 result }
@@ -41,6 +64,20 @@ fn count_beginning_below(runs: &[Run], page: u64) -> usize
             ensures { result ≡ nat_lt run.now.range.first page }
         { run.range.first < page },
     )
+}
+
+/// How many runs begin below a page; they come first. The run that holds it is likely at an index.
+#[inline(always)]
+fn count_beginning_below(runs: &[Run], page: u64, likely: usize) -> usize
+    requires { AreRuns runs.now }
+    ensures bound { result ≤ length runs.now }
+    ensures below { AllWithin (λ r. r.range.first < page) runs.now 0 result }
+    ensures above { AllWithin (λ r. page ≤ r.range.first) runs.now result (length runs.now) }
+{
+    match likely_count(runs, page, likely) {
+        Some(count) => count,
+        None => halved_count(runs, page),
+    }
 }
 
 /// How many runs begin at a page or below it; they come first.

@@ -17,7 +17,7 @@ use crate::entries_down::EntriesDown;
 use crate::entry_starts::begun_in;
 use crate::free_entries::FreeEntries;
 use crate::groups::{Group, make_groups, renew_groups};
-use crate::leaf_searches::{all_in_range, run_at_index, run_in_leaves};
+use crate::leaf_searches::{all_in_range, holds_all, place_of, run_at_index, run_in_leaves};
 use crate::leaves::{LEAF_SIZE, Leaf, leaves_of, sizes_of};
 use crate::new_leaves::{add_spare, lay_in_order, retype_leaves};
 use crate::retyping::{FEW_LEAVES, MAX_PARTS, leaves_near};
@@ -63,6 +63,8 @@ pub struct RunTable<A: Allocator = Global> {
     reserved: usize,
     // How many changes left more leaves or fewer since the leaves were laid in order.
     moved: usize,
+    // Where a range began that was asked for last: the index of a leaf, and that of a run in it.
+    likely: (usize, usize),
 }
 
 impl<A: Allocator> Model for RunTable<A> {
@@ -109,6 +111,7 @@ impl<A: Allocator + Copy> RunTable<A> {
             buffer: joined,
             reserved: 0,
             moved: 0,
+            likely: (0, 0),
         })
     }
 
@@ -157,7 +160,7 @@ impl<A: Allocator + Copy> RunTable<A> {
             return;
         }
         let count = self.leaves.len();
-        let near = leaves_near(self.leaves.as_slice(), &self.sizes, range);
+        let near = leaves_near(self.leaves.as_slice(), &self.sizes, range, self.likely.0);
         let all = count + self.spare.len();
         let lost = near.1 - near.0;
         let runs = self.sizes.sum() + 2 * self.reserved;
@@ -174,6 +177,7 @@ impl<A: Allocator + Copy> RunTable<A> {
             &mut self.parts,
             &mut self.buffer,
             lost <= all && runs <= LEAF_SIZE * (all - lost),
+            self.likely.1,
         );
         self.entries = change.entries;
         self.reserved -= 1;
@@ -301,6 +305,16 @@ impl<A: Allocator + Copy> RunTable<A> {
         ensures { IsTrue result ↔ AllInRange self.now.pages range (IsOwnedBy owner) }
     {
         all_in_range(self.leaves.as_slice(), range, PageTest::OwnedBy(owner))
+    }
+
+    /// The same. Where the range begins is kept, so that a change of it does not look for that again.
+    pub fn find_owned(&mut self, range: PageRange, owner: Owner) -> bool
+        ensures owned { IsTrue result ↔ AllInRange self.old.pages range (IsOwnedBy owner) }
+        ensures table { self.new ≡ self.old }
+    {
+        self.likely = place_of(self.leaves.as_slice(), range.first);
+        let test = PageTest::OwnedBy(owner);
+        holds_all(self.leaves.as_slice(), self.likely, range, test) || self.all_owned(range, owner)
     }
 
     /// How many entries the memory map has.

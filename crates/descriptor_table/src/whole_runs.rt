@@ -24,7 +24,7 @@ pub(crate) struct OneRun {
 
 /// How many runs below a run are one with it, 1 or 0, and the first page of them all.
 #[inline(always)]
-fn joined_below(below: Option<&Run>, run: &Run) -> (usize, u64)
+pub(crate) fn joined_below(below: Option<&Run>, run: &Run) -> (usize, u64)
     requires { IfSome below (λ r. r.now.range.first + r.now.range.pages < 2 ^ 64) }
     ensures { result ≡ spec.joined_below (option_map (λ r. r.now) below.entry) run.now }
 {
@@ -36,7 +36,7 @@ fn joined_below(below: Option<&Run>, run: &Run) -> (usize, u64)
 
 /// How many runs above a run are one with it, 1 or 0, and the page behind them all.
 #[inline(always)]
-fn joined_above(run: &Run, above: Option<&Run>) -> (usize, u64)
+pub(crate) fn joined_above(run: &Run, above: Option<&Run>) -> (usize, u64)
     requires own { run.now.range.first + run.now.range.pages < 2 ^ 64 }
     requires next { IfSome above (λ r. r.now.range.first + r.now.range.pages < 2 ^ 64) }
     ensures { result ≡ spec.joined_above run.now (option_map (λ r. r.now) above.entry) }
@@ -49,7 +49,7 @@ fn joined_above(run: &Run, above: Option<&Run>) -> (usize, u64)
 
 /// 1 if a run begins an entry of the map behind the run below, if there is one.
 #[inline(always)]
-fn parted_below(below: Option<&Run>, run: &Run) -> usize
+pub(crate) fn parted_below(below: Option<&Run>, run: &Run) -> usize
     requires { IfSome below (λ r. r.now.range.first + r.now.range.pages < 2 ^ 64) }
     ensures value { result ≡ spec.parted_below (option_map (λ r. r.now) below.entry) run.now }
     ensures bound { result ≤ 1 }
@@ -62,7 +62,7 @@ fn parted_below(below: Option<&Run>, run: &Run) -> usize
 
 /// 1 if the run above begins an entry of the map behind a run, if there is one.
 #[inline(always)]
-fn parted_above(run: &Run, above: Option<&Run>) -> usize
+pub(crate) fn parted_above(run: &Run, above: Option<&Run>) -> usize
     requires { run.now.range.first + run.now.range.pages < 2 ^ 64 }
     ensures value { result ≡ spec.parted_above run.now (option_map (λ r. r.now) above.entry) }
     ensures bound { result ≤ 1 }

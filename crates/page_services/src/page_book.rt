@@ -1,6 +1,6 @@
 //! The book of a machine's pages.
-ghost use Rattle.std.specs.Prelude.{◌≡◌, ◌≢◌, false, ◌+◌, ◌-◌, ◌*◌, ◌<◌, ◌≤◌, ◌^◌, IfOk, IfSome, MatchResult, OnErr, OnOk, Err, None, option_and_then};
-ghost use Rattle.page_ranges.specs.declared.ranges.Owner.TheVariants.{Given, Pool};
+ghost use Rattle.std.specs.Prelude.{◌≡◌, ◌≢◌, false, ◌+◌, ◌-◌, ◌*◌, ◌<◌, ◌≤◌, ◌^◌, IfOk, IfSome, IsTrue, ◌↔◌, MatchResult, OnErr, OnOk, Err, None, option_and_then};
+ghost use Rattle.page_ranges.specs.declared.ranges.Owner.TheVariants.{Given, Pages, Pool};
 ghost use Rattle.page_ranges.specs.MemoryTypes.{conventional, is_bad_type, page_count, page_size};
 ghost use Rattle.page_ranges.specs.Memory.{page_at, IsPresent, IsOwnedBy, AllInRange};
 ghost use Rattle.page_ranges.specs.Granules.{IsGranule, granule_for};
@@ -333,11 +333,21 @@ impl<A: Allocator + Copy> PageBook<A> {
         if memory % PAGE_SIZE != 0 || pages == 0 || pages > PAGE_COUNT - range.first {
             return Err(Status::InvalidParameter);
         }
-        if !self.table.all_owned(range, Owner::Pages) {
+        if !self.are_allocated(range) {
             return Err(Status::NotFound);
         }
         let freed = self.freed_range(range);
         self.free_in(freed)
+    }
+
+    // Whether AllocatePages placed all pages of a range. Where it begins is kept for a change of it.
+    fn are_allocated(&mut self, range: PageRange) -> bool
+        ensures allocated { IsTrue result
+            ↔ AllInRange self.old.memory range (IsOwnedBy Pages) }
+        ensures whole { IsInGranules self.old }
+        ensures book { self.new ≡ self.old }
+    {
+        self.table.find_owned(range, Owner::Pages)
     }
 
     // The range with the rest of the granules that its ends lie in.
