@@ -113,10 +113,33 @@ fn drawn_range(draw: u64) -> PageRange {
     }
 }
 
-// Changes a drawn range of the table and of the list, if all its pages are present.
+// Whether AllocatePages placed all pages of a range.
+fn are_placed(list: &[Run], range: PageRange) -> bool {
+    for page in range.first..range.first.saturating_add(range.pages) {
+        match list.get(page as usize) {
+            Some(run) if run.owner == Owner::Pages => {}
+            _ => return false,
+        }
+    }
+    true
+}
+
+// Asserts that the table finds whether AllocatePages placed a range. It then keeps where the range begins.
+fn assert_found(rt: &impl Abort, table: &mut RunTable, pages: &Pages, range: PageRange) {
+    let wanted = are_placed(pages.list.as_slice(), range);
+    assert!(rt; table.find_owned(range, Owner::Pages) == wanted);
+}
+
+// Changes a drawn range of the table and of the list, if all its pages are present. The table has most often
+// been asked for the range, or for another one, since the last change.
 fn change_drawn(rt: &impl Abort, table: &mut RunTable, pages: &mut Pages, draw: u64) {
     let range = drawn_range(draw);
     let (number, owner) = drawn_kind(draw >> 50);
+    match draw >> 16 & 3 {
+        0 => {}
+        1 => assert_found(rt, table, pages, drawn_range(draw.rotate_left(23))),
+        _ => assert_found(rt, table, pages, range),
+    }
     if are_present(table, range) {
         table
             .retype(range, MemoryType::new(number), owner)
