@@ -117,13 +117,21 @@ impl RawBytes {
     }
 }
 
+/// How many bytes are set to 0 at a time.
+const PART: usize = 32;
+
 /// Sets the given number of bytes at a pointer to 0.
 unsafe fn zero(start: *mut u8, count: usize)
     requires few { count < 2 ^ 63 }
     requires* memory { sem 𝓛 (room_for (byte_row count) start) }
     ensures* { sem 𝓛 (lies_at (Array u8 count) full_share start (replicate count 0)) }
 {
+    let zeros = &[0; PART];
     let mut i = 0;
+    while i + PART <= count {
+        unsafe { (start.add(i) as *mut [u8; PART]).write(*zeros) };
+        i += PART;
+    }
     while i < count {
         unsafe { start.add(i).write(0) };
         i += 1;
