@@ -1,10 +1,10 @@
 -- What the calls do to one extent of the pool.
-use Rattle.std.proofs.Common.{◌≡◌, ℕ, zero, suc, ◌+◌, ◌-◌, ◌<◌, ◌≤◌, ◌==◌, nat_le, slice_index_or, Result, Ok, Err, eq-eqb, ne_eqb, add-one, Bool, true, false, is_some, inl, inr, List, [], ◌∷◌, ◌++◌, length, take, drop, set, Option, Some, None, refl, sym, ap, ◌∙◌, arith, subst}
+use Rattle.std.proofs.Common.{◌≡◌, ℕ, zero, suc, ◌+◌, ◌<◌, ◌≤◌, ◌==◌, nat_le, slice_index_or, Result, Ok, Err, eq-eqb, ne_eqb, add-one, Bool, true, false, is_some, inl, inr, List, [], ◌∷◌, ◌++◌, length, take, drop, set, Option, Some, None, refl, sym, ap, ◌∙◌, arith, subst}
 use Rattle.std.specs.List.{AllByRecursion, insert}
 use Rattle.std.specs.Bool.{IsTrue}
 use Rattle.page_ranges.specs.declared.ranges.PageRange.{PageRange}
 use Rattle.page_ranges.specs.declared.statuses.Status.{Status}
-use Rattle.page_services.specs.PageRules.{Book, changed_book, ended_book, given_back}
+use Rattle.page_services.specs.PageRules.{Book, ended_book, given_back}
 use Rattle.pool_services.specs.PoolRules.{FreesPool, IsInBlock, OwnsExtents, extent_type, given_if, pool_type}
 use Rattle.page_ranges.specs.Memory.{Page, page_at, retyped, AllInRange, IsOwnedBy}
 use Rattle.page_ranges.specs.MemoryTypes.{conventional}

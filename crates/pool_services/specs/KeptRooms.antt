@@ -47,6 +47,10 @@ abbrev pub IsRegionFor : ℕ → ℕ → Pool → Type 0
 IsRegionFor first pages p =
     (p ≡ record { cells = cells_in pages; blocks = []; lies = p.lies }) × LiesAt first p.lies
 
+-- a region of one page without blocks that lies at no page of the machine
+abbrev pub IsSpareRegion : Pool → Type 0
+IsSpareRegion p = p ≡ record { cells = cells_in 1; blocks = []; lies = None }
+
 -- the extent with a new block of a size at a cell
 abbrev pub with_block_at : ℕ → ℕ → Extent → Extent
 with_block_at cell size e = with_blocks (with_block (new_block cell size) e.blocks) e

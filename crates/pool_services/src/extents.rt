@@ -158,6 +158,20 @@ impl<A: Allocator + Copy> PoolExtent<A> {
         }
     }
 
+    /// The memory of the extent, where the block at a cell is given back.
+    pub(crate) fn into_region(self, cell: usize) -> RawPool<A>
+        ensures { result.blocks ≡ without_block cell self.blocks }
+    {
+        let PoolExtent {
+            range: _,
+            mtype: _,
+            mut region,
+            live: _,
+        } = self;
+        region.give(cell);
+        region
+    }
+
     /// The address of the block at a cell.
     pub(crate) fn address_of(&self, cell: usize) -> u64
         requires extent { IsExtent self.now }

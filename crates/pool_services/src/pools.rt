@@ -4,7 +4,6 @@ ghost use Rattle.std.specs.List.{find};
 ghost use Rattle.page_ranges.specs.MemoryTypes.{is_bad_type};
 ghost use Rattle.page_services.specs.PageRules.{IsBestChoice, if_counted};
 ghost use Rattle.pool_services.specs.Extents.{first_fit, max_size, tail_at};
-ghost use Rattle.pool_services.specs.KeptRooms.{IsRegionFor};
 ghost use Rattle.pool_services.specs.Listed.{blocks_of, is_from};
 ghost use Rattle.pool_services.specs.PoolRules.{AllocatesPool, FillsPool, FreesPool, HasReservedEnds, OwnsExtents, ReadsPool, WritesPool, extent_request};
 ghost use Rattle.pool_services.specs.Searches.{IsEnded, IsFound, IsGivable, IsGivenIn, IsHolder, IsTakenIn, IsTakenLive, IsWrittenIn};
@@ -13,10 +12,11 @@ use crate::extents::{HEADER_SIZE, PoolExtent, cells_for, extent_pages, pages_for
 use crate::listed::PoolBlock;
 use crate::rooms::Rooms;
 use crate::searches::{add, count_up_to, holder};
+use crate::spare::SpareRegion;
 use page_ranges::{MemoryType, PAGE_SIZE, Status, type_for_alloc};
 use page_services::{PageBook, pool_request};
 use placement_certificate::{Certificate, Request};
-use raw_pool::{PoolMemory, RawPool};
+use raw_pool::PoolMemory;
 use std::alloc::{Allocator, Global};
 use std::marker::Model;
 
@@ -47,6 +47,8 @@ pub struct Pools<A: Allocator = Global> {
     rooms: Rooms<A>,
     // Where the blocks' bytes lie at their addresses.
     memory: Option<PoolMemory>,
+    // The memory of an extent that ended.
+    spare: SpareRegion<A>,
 }
 
 impl<A: Allocator> Model for Pools<A> {
@@ -71,6 +73,7 @@ impl<A: Allocator + Copy> Pools<A> {
             extents: Vec::new(alloc),
             rooms: Rooms::new(alloc),
             memory: None,
+            spare: SpareRegion::none(),
         }
     }
 
@@ -84,6 +87,7 @@ impl<A: Allocator + Copy> Pools<A> {
             extents: Vec::new(alloc),
             rooms: Rooms::new(alloc),
             memory: Some(memory),
+            spare: SpareRegion::none(),
         }
     }
 
@@ -169,17 +173,6 @@ impl<A: Allocator + Copy> Pools<A> {
         Some(address)
     }
 
-    // A region for a new extent that begins at a page.
-    fn region(&self, first: u64, pages: usize) -> Option<RawPool<A>>
-        requires { (1 ≤ pages) × (pages ≤ 2 ^ 21) }
-        ensures { IfSome result (λ r. IsRegionFor first pages r) }
-    {
-        match self.memory {
-            Some(memory) => RawPool::over(self.alloc, memory, first, pages).ok(),
-            None => RawPool::new(self.alloc, pages).ok(),
-        }
-    }
-
     // Takes a block in a new extent. All memory is taken before the pages.
     fn take_new(
         &mut self,
@@ -202,7 +195,8 @@ impl<A: Allocator + Copy> Pools<A> {
         let Some(chosen) = book.choose_for_pool(mtype, pages_for(size) as u64) else {
             return Err(Status::OutOfResources);
         };
-        let Some(region) = self.region(chosen.first, pages) else {
+        let (memory, page) = (self.memory, chosen.first);
+        let Some(region) = self.spare.region(self.alloc, memory, page, pages) else {
             return Err(Status::OutOfResources);
         };
         let Ok(()) = self.extents.reserve(1) else {
@@ -232,8 +226,8 @@ impl<A: Allocator + Copy> Pools<A> {
         self.rooms.set(at, extent.room());
     }
 
-    // Ends an extent: its pages are given back.
-    fn end(&mut self, book: &mut PageBook<A>, at: usize) -> Result<(), Status>
+    // Ends an extent, whose one block begins at a cell: its pages are given back.
+    fn end(&mut self, book: &mut PageBook<A>, at: usize, cell: usize) -> Result<(), Status>
         requires key { book.old.key < 2 ^ 62 }
         requires owns { OwnsExtents book.old.memory self.old }
         requires reserved { HasReservedEnds book.old self.old }
@@ -243,8 +237,9 @@ impl<A: Allocator + Copy> Pools<A> {
         ensures reserved { HasReservedEnds book.new self.new }
     {
         book.give_from_pool(self.extents[at].range())?;
-        self.extents.remove(at);
+        let extent = self.extents.remove(at);
         self.rooms.remove(at);
+        self.spare.keep(extent.into_region(cell));
         Ok(())
     }
 
@@ -265,7 +260,7 @@ impl<A: Allocator + Copy> Pools<A> {
             return Err(Status::InvalidParameter);
         };
         if self.extents[at].has_one_block() {
-            return self.end(book, at);
+            return self.end(book, at, cell);
         }
         self.give_in(at, cell);
         Ok(())

@@ -123,6 +123,20 @@ impl<A: Allocator + Copy> RawPool<A> {
         self.store.write(cell, at, bytes)
     }
 
+    /// How many cells there are, of blocks and free ones.
+    pub fn cells(&self) -> usize
+        ensures { result ≡ self.now.cells }
+    {
+        self.store.cells
+    }
+
+    /// The first of the machine's pages that the cells are, where they are pages of a machine.
+    pub fn page(&self) -> Option<u64>
+        ensures { result ≡ self.now.lies }
+    {
+        self.store.region.page()
+    }
+
     /// Whether there is no block.
     pub fn is_empty(&self) -> bool
         ensures { IsTrue result ↔ (self.now.blocks ≡ []) }

@@ -95,6 +95,16 @@ impl<A: Allocator> Region<A> {
         })
     }
 
+    /// The first of the machine's pages that the bytes are, where they are pages of a machine.
+    pub(crate) fn page(&self) -> Option<u64>
+        ensures { result ≡ self.now.lies }
+    {
+        match &self.given {
+            Some(given) => Some(given.page),
+            None => None,
+        }
+    }
+
     /// The bytes that are set.
     pub(crate) fn bytes(&self) -> &[u8]
         ensures { result.now ≡ self.now.bytes.set }

@@ -15,8 +15,8 @@ give_from_pool-requires-clause-owned g c =
 
 pub invariant_of-self : goal.invariant_of-self
 invariant_of-self g c = (
-  are-gone-at c.self.inside.extents.items c.args.at c.remove.new.self.items c.self.invariant.0 c.remove.ensures.by_index.2,
-  rooms-gone c.self.inside.rooms.rooms.items c.remove-2.new.self.rooms.items c.self.inside.extents.items c.remove.new.self.items c.args.at c.self.invariant.1 c.remove-2.ensures c.remove.ensures.by_index.2,
+  are-gone-at c.self.inside.extents.items c.args.at c.remove-extent.new.self.items c.self.invariant.0 c.remove-extent.ensures.by_index.2,
+  rooms-gone c.self.inside.rooms.rooms.items c.remove.new.self.rooms.items c.self.inside.extents.items c.remove-extent.new.self.items c.args.at c.self.invariant.1 c.remove.ensures c.remove-extent.ensures.by_index.2,
 )
 
 pub returns-clause-ended : goal.returns-clause-ended
@@ -25,15 +25,15 @@ returns-clause-ended g c =
       c.index.result.now,
       (rw (← c.self.view_is) at c.requires.index, c.index.ensures),
       c.in_ok-give_from_pool.ensures ∙ ap (λ (r : PageRange). given_back r c.args.book.now) (same-range c.range.result c.index.result.now c.range.ensures.first c.range.ensures.pages),
-      c.remove.ensures.by_index.2,
+      c.remove-extent.ensures.by_index.2,
     )
 
 pub returns-clause-owns : goal.returns-clause-owns
 returns-clause-owns g c =
-    gone-owns c.args.book.now c.give_from_pool.new.self c.self.inside.extents.items c.args.at c.index.result.now c.remove.new.self.items c.self.invariant.0 (subst (λ (es : List Extent). OwnsExtents c.args.book.now.memory es) (sym c.self.view_is) c.requires.owns)
+    gone-owns c.args.book.now c.give_from_pool.new.self c.self.inside.extents.items c.args.at c.index.result.now c.remove-extent.new.self.items c.self.invariant.0 (subst (λ (es : List Extent). OwnsExtents c.args.book.now.memory es) (sym c.self.view_is) c.requires.owns)
     (rw (← c.self.view_is) at c.requires.index, c.index.ensures)
     (c.in_ok-give_from_pool.ensures ∙ ap (λ (r : PageRange). given_back r c.args.book.now) (same-range c.range.result c.index.result.now c.range.ensures.first c.range.ensures.pages))
-    c.remove.ensures.by_index.2
+    c.remove-extent.ensures.by_index.2
 
 pub returns-in_err-give_from_pool-clause-ended : goal.returns-in_err-give_from_pool-clause-ended
 returns-in_err-give_from_pool-clause-ended g c =
@@ -41,5 +41,5 @@ returns-in_err-give_from_pool-clause-ended g c =
 
 pub returns-clause-reserved : goal.returns-clause-reserved
 returns-clause-reserved g c =
-    gone-ends c.args.book.now c.give_from_pool.new.self c.self.inside.extents.items c.args.at c.range.result c.remove.new.self.items (rw (← c.self.view_is) at c.requires.index)
-    (rw (← c.self.view_is) at c.requires.reserved) c.in_ok-give_from_pool.ensures c.remove.ensures.by_index.2
+    gone-ends c.args.book.now c.give_from_pool.new.self c.self.inside.extents.items c.args.at c.range.result c.remove-extent.new.self.items (rw (← c.self.view_is) at c.requires.index)
+    (rw (← c.self.view_is) at c.requires.reserved) c.in_ok-give_from_pool.ensures c.remove-extent.ensures.by_index.2
