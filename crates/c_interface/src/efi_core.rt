@@ -109,6 +109,17 @@ impl<A: Allocator + Copy> EfiCore<A> {
         self.block = LastBlock::Nothing;
     }
 
+    /// Leaves nothing of the call before, and returns whether a further one may be made.
+    #[inline(always)]
+    pub(crate) fn begin(&mut self) -> bool
+        ensures core { self.new ≡ forgotten self.old }
+        ensures left { result ≡ true → 0 < self.old.core.state.calls_left }
+        ensures spent { result ≡ false → self.old.core.state.calls_left ≡ 0 }
+    {
+        self.forget();
+        self.core.calls_left() > 0
+    }
+
     // Keeps what is left of a call.
     fn keep(&mut self, reply: Reply<A>, block: LastBlock<A>)
         ensures { self.new ≡ with_last self.old reply block }
@@ -178,8 +189,7 @@ impl<A: Allocator + Copy> EfiCore<A> {
     pub(crate) fn answer(&mut self, call: &Call<A>) -> u64
         ensures { AnswersStatus self.old call.now result self.new }
     {
-        self.forget();
-        if self.core.calls_left() == 0 {
+        if !self.begin() {
             return ABORTED;
         }
         if self.certifies {

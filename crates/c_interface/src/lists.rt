@@ -85,8 +85,7 @@ impl<A: Allocator + Copy> EfiCore<A> {
             (call.InstallMultipleProtocolInterfaces handle.old pairs.now) handle.old result
             handle.new self.new }
     {
-        self.forget();
-        if self.core.calls_left() == 0 {
+        if !self.begin() {
             return ABORTED;
         }
         let reply = self.core.install_multiple(*handle, pairs);
@@ -97,8 +96,7 @@ impl<A: Allocator + Copy> EfiCore<A> {
     pub fn connect_controller(&mut self, handle: u64, drivers: &[u64], recursive: bool) -> u64
         ensures { Connects self.old handle drivers.now recursive result self.new }
     {
-        self.forget();
-        if self.core.calls_left() == 0 {
+        if !self.begin() {
             return ABORTED;
         }
         let reply = self.core.connect_controller(handle, drivers, recursive);

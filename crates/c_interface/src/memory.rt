@@ -25,8 +25,7 @@ impl<A: Allocator + Copy> EfiCore<A> {
             };
             return self.answer_number(&call, memory);
         }
-        self.forget();
-        if self.core.calls_left() == 0 {
+        if !self.begin() {
             return ABORTED;
         }
         let reply = self.core.allocate_pages(kind, mtype, pages, *memory);
@@ -37,8 +36,7 @@ impl<A: Allocator + Copy> EfiCore<A> {
     pub fn free_pages(&mut self, memory: u64, pages: u64) -> u64
         ensures { AnswersStatus self.old (call.FreePages memory pages) result self.new }
     {
-        self.forget();
-        if self.core.calls_left() == 0 {
+        if !self.begin() {
             return ABORTED;
         }
         let reply = self.core.free_pages(memory, pages);
@@ -58,8 +56,7 @@ impl<A: Allocator + Copy> EfiCore<A> {
         ensures { Maps self.old map.old (size.old, key.old, stride.old, version.old) result map.new
             (size.new, key.new, stride.new, version.new) self.new }
     {
-        self.forget();
-        if self.core.calls_left() == 0 {
+        if !self.begin() {
             return ABORTED;
         }
         let returned = self.core.get_memory_map(map);
@@ -84,8 +81,7 @@ impl<A: Allocator + Copy> EfiCore<A> {
     pub fn pool_read(&mut self, address: u64, buffer: &mut [u8]) -> u64
         ensures { AnswersRead self.old address buffer.old result buffer.new self.new }
     {
-        self.forget();
-        if self.core.calls_left() == 0 {
+        if !self.begin() {
             return ABORTED;
         }
         self.core.pool_read(address, buffer).number()
@@ -95,8 +91,7 @@ impl<A: Allocator + Copy> EfiCore<A> {
     pub fn pool_write(&mut self, address: u64, bytes: &[u8]) -> u64
         ensures { AnswersStatus self.old (call.PoolWrite address bytes.now) result self.new }
     {
-        self.forget();
-        if self.core.calls_left() == 0 {
+        if !self.begin() {
             return ABORTED;
         }
         let reply = self.core.pool_write(address, bytes);
@@ -110,8 +105,7 @@ impl<A: Allocator + Copy> EfiCore<A> {
         if self.certifies {
             return self.answer_number(&Call::AllocatePool { mtype, size }, buffer);
         }
-        self.forget();
-        if self.core.calls_left() == 0 {
+        if !self.begin() {
             return ABORTED;
         }
         let reply = self.core.allocate_pool(mtype, size);
@@ -122,8 +116,7 @@ impl<A: Allocator + Copy> EfiCore<A> {
     pub fn free_pool(&mut self, address: u64) -> u64
         ensures { AnswersStatus self.old (call.FreePool address) result self.new }
     {
-        self.forget();
-        if self.core.calls_left() == 0 {
+        if !self.begin() {
             return ABORTED;
         }
         let reply = self.core.free_pool(address);

@@ -32,8 +32,7 @@ impl<A: Allocator + Copy> EfiCore<A> {
         ensures { AnswersPath self.old (guid_in guid.now) path.now (device.old, matched.old) result
             (device.new, matched.new) self.new }
     {
-        self.forget();
-        if self.core.calls_left() == 0 {
+        if !self.begin() {
             return ABORTED;
         }
         match self.core.locate_path(guid.uuid(), path) {

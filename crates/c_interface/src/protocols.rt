@@ -18,8 +18,7 @@ impl<A: Allocator + Copy> EfiCore<A> {
     ) -> u64
         ensures { Installs self.old handle.old guid.now kind value result handle.new self.new }
     {
-        self.forget();
-        if self.core.calls_left() == 0 {
+        if !self.begin() {
             return ABORTED;
         }
         let reply = self
@@ -32,8 +31,7 @@ impl<A: Allocator + Copy> EfiCore<A> {
     pub fn uninstall_protocol_interface(&mut self, handle: u64, guid: &Guid, value: u64) -> u64
         ensures { Uninstalls self.old handle guid.now value result self.new }
     {
-        self.forget();
-        if self.core.calls_left() == 0 {
+        if !self.begin() {
             return ABORTED;
         }
         let reply = self.core.uninstall(handle, guid.uuid(), value);
@@ -50,8 +48,7 @@ impl<A: Allocator + Copy> EfiCore<A> {
     ) -> u64
         ensures { Reinstalls self.old handle guid.now old_value new_value result self.new }
     {
-        self.forget();
-        if self.core.calls_left() == 0 {
+        if !self.begin() {
             return ABORTED;
         }
         let reply = self
@@ -93,8 +90,7 @@ impl<A: Allocator + Copy> EfiCore<A> {
     pub fn locate_protocol(&mut self, guid: &Guid, key: u64, value: &mut u64) -> u64
         ensures { LocatesProtocol self.old guid.now key value.old result value.new self.new }
     {
-        self.forget();
-        if self.core.calls_left() == 0 {
+        if !self.begin() {
             return ABORTED;
         }
         let reply = self.core.locate_protocol(guid.uuid(), key);
@@ -114,8 +110,7 @@ impl<A: Allocator + Copy> EfiCore<A> {
         ensures { Opens self.old handle guid.now agent controller attributes value.old result
             value.new self.new }
     {
-        self.forget();
-        if self.core.calls_left() == 0 {
+        if !self.begin() {
             return ABORTED;
         }
         let reply = self
@@ -128,8 +123,7 @@ impl<A: Allocator + Copy> EfiCore<A> {
     pub fn close_protocol(&mut self, handle: u64, guid: &Guid, agent: u64, controller: u64) -> u64
         ensures { Closes self.old handle guid.now agent controller result self.new }
     {
-        self.forget();
-        if self.core.calls_left() == 0 {
+        if !self.begin() {
             return ABORTED;
         }
         let reply = self
@@ -162,8 +156,7 @@ impl<A: Allocator + Copy> EfiCore<A> {
     pub fn handle_protocol(&mut self, handle: u64, guid: &Guid, value: &mut u64) -> u64
         ensures { HandlesProtocol self.old handle guid.now value.old result value.new self.new }
     {
-        self.forget();
-        if self.core.calls_left() == 0 {
+        if !self.begin() {
             return ABORTED;
         }
         let reply = self.core.handle_protocol(handle, guid.uuid());
@@ -174,8 +167,7 @@ impl<A: Allocator + Copy> EfiCore<A> {
     pub fn disconnect_controller(&mut self, handle: u64, driver: u64) -> u64
         ensures { Disconnects self.old handle driver result self.new }
     {
-        self.forget();
-        if self.core.calls_left() == 0 {
+        if !self.begin() {
             return ABORTED;
         }
         let reply = self.core.disconnect_controller(handle, driver);

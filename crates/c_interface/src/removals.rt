@@ -21,8 +21,7 @@ impl<A: Allocator + Copy> EfiCore<A> {
     fn uninstall_pairs(&mut self, handle: u64, pairs: &[(Uuid, u64)]) -> u64
         ensures { AnswersUninstalls self.old handle pairs.now result self.new }
     {
-        self.forget();
-        if self.core.calls_left() == 0 {
+        if !self.begin() {
             return ABORTED;
         }
         match self.core.uninstall_multiple(handle, pairs) {

@@ -8,11 +8,11 @@ use Rattle.c_interface.proofs.Blocks.{no_block, forgotten_answers}
 use Rattle.c_interface.proofs.efi_core.EfiCore.answer.Goals as goal
 
 pub returns-then-self : goal.returns-then-self
-returns-then-self g c = forgotten_answers _ _ c.args.call.now _ (subst (λ (m : EfiCoreValue g.row.A.Denot). AnswersStatus m c.args.call.now c.answer_with_block.result c.answer_with_block.new.self) c.forget.ensures c.answer_with_block.ensures)
+returns-then-self g c = forgotten_answers _ _ c.args.call.now _ (subst (λ (m : EfiCoreValue g.row.A.Denot). AnswersStatus m c.args.call.now c.answer_with_block.result c.answer_with_block.new.self) c.begin.ensures.core c.answer_with_block.ensures)
 
 pub returns : goal.returns
 returns g c =
-    let same = c.self.view_is ∙ c.forget.ensures in
+    let same = c.self.view_is ∙ c.begin.ensures.core in
     let core = ap (λ (x : EfiCoreValue g.row.A.Denot). x.core) same in
     let certifies = ap (λ (x : EfiCoreValue g.row.A.Denot). x.certifies) same in
     let book = c.self.inside.core.state.parts.book in

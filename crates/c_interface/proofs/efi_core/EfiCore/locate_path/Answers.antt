@@ -11,7 +11,7 @@ pub returns : goal.returns
 returns g c =
     let before : ℕ × ℕ = (c.args.device.now, c.args.matched.now) in
     let path = c.args.path.now in
-    let begun = c.self.view_is ∙ c.forget.ensures in
+    let begun = c.self.view_is ∙ c.begin.ensures.core in
     elim c.match-locate_path.branch [
       | in-Ok w ↦ located_here c.args.self.now _ _ c.uuid.result (guid_in c.args.guid.now) path c.locate_path.result before _ _ begun c.uuid.ensures c.locate_path.ensures.step c.locate_path.ensures.drivers refl refl refl
           (w.result-is ∙ w.number.ensures ∙ ap (λ found. status_number (returned_status found)) (sym w.in-Ok.is))

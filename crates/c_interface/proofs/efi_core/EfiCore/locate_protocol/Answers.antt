@@ -7,7 +7,7 @@ use Rattle.c_interface.proofs.efi_core.EfiCore.locate_protocol.Goals as goal
 
 pub returns : goal.returns
 returns g c =
-    let core = ap (λ (x : EfiCoreValue g.row.A.Denot). x.core) (c.self.view_is ∙ c.forget.ensures) in
+    let core = ap (λ (x : EfiCoreValue g.row.A.Denot). x.core) (c.self.view_is ∙ c.begin.ensures.core) in
     let step : Step (meanings c.args.self.now) c.args.self.now.core.state (call.LocateProtocol c.uuid.result c.args.key) c.locate_protocol-reply.result c.return_number.new.self.core.state =
     rw (c.return_number.ensures.core, sym core) c.locate_protocol-reply.ensures.step in
     let served : Serves c.args.self.now (call.LocateProtocol c.uuid.result c.args.key) c.locate_protocol-reply.result c.return_number.new.self =

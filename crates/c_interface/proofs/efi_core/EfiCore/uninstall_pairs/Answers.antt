@@ -4,5 +4,5 @@ use Rattle.c_interface.proofs.efi_core.EfiCore.uninstall_pairs.Goals as goal
 
 pub returns : goal.returns
 returns g c =
-    let core = ap (λ (x : EfiCoreValue g.row.A.Denot). x.core) (c.self.view_is ∙ c.forget.ensures) in
+    let core = ap (λ (x : EfiCoreValue g.row.A.Denot). x.core) (c.self.view_is ∙ c.begin.ensures.core) in
     inl (c.uninstall_multiple.result, rw (sym core) c.uninstall_multiple.ensures.step, search rules, search rules)
