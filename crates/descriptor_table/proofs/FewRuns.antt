@@ -14,7 +14,7 @@ use Rattle.page_ranges.proofs.MaximalRuns.{maximal_are_runs}
 use Rattle.page_ranges.proofs.Rows.{all-row, row-all}
 use Rattle.page_ranges.proofs.RunLists.{pages_of_run, part, retyped_run, retyped-cut_at, retyped-runs, retyped-run_below, retyped-all_above, begin_lower}
 use Rattle.page_ranges.proofs.RunMaps.{length_of_last, length_of_runs}
-use Rattle.descriptor_table.specs.declared.cut_runs.Place.{Place}
+use Rattle.descriptor_table.specs.declared.cut_runs.Replacement.{Replacement}
 use Rattle.descriptor_table.specs.declared.whole_runs.OneRun.{OneRun}
 use Rattle.descriptor_table.specs.CutRuns.{IsApart, PutsParts, at_index, part_of}
 use Rattle.descriptor_table.specs.Leaves.{entry_count, run_before}
@@ -32,11 +32,11 @@ apart_below p c e = elim (cases_Bool (should_be_one_run p c)) [ inl t ↦ absurd
 apart_above : (c q : Run) → (joined_above c (Some q)).0 ≡ 0 → should_be_one_run c q ≡ false
 apart_above c q e = elim (cases_Bool (should_be_one_run c q)) [ inl t ↦ absurd (omega (arith, rw t at e)) | inr f ↦ f ]
 
--- a single run
-abbrev pub place_of : OneRun → Place
-place_of one = record { low = one.low; high = one.high; entries = one.entries }
+-- a single run comes
+abbrev pub replacement_of : OneRun → Replacement
+replacement_of one = record { low = one.low; high = one.high; entries = one.entries }
 
-pub one_part : (range : PageRange) (t : ℕ) (o : Owner) (rs : List Run) (one : OneRun) → PutsOne range t o rs one → PutsParts range t o rs (one.run ∷ []) (place_of one)
+pub one_part : (range : PageRange) (t : ℕ) (o : Owner) (rs : List Run) (one : OneRun) → PutsOne range t o rs one → PutsParts range t o rs (one.run ∷ []) (replacement_of one)
 one_part range t o rs one puts = record {
   order = omega (arith, puts.order);
   bound = puts.bound;
@@ -172,8 +172,8 @@ puts_middle range t o (x ∷ []) (suc at) r n e h b some l m below above a apart
 puts_middle range t o (x ∷ y ∷ rs) at r n e h b some l m below above a apart = absurd (omega arith)
 
 -- what holds of an answer, where there is one
-pub if_put : {range : PageRange} {t : ℕ} {o : Owner} {rs parts : List Run} {place : Place} (new : List Run) (result : Option Place) → OnSome result (new ≡ parts) → IfSome result (λ found. found ≡ place)
-    → PutsParts range t o rs parts place → IfSome result (PutsParts range t o rs new)
+pub if_put : {range : PageRange} {t : ℕ} {o : Owner} {rs parts : List Run} {replacement : Replacement} (new : List Run) (result : Option Replacement) → OnSome result (new ≡ parts) → IfSome result (λ found. found ≡ replacement)
+    → PutsParts range t o rs parts replacement → IfSome result (PutsParts range t o rs new)
 if_put new None a b puts = tt
 if_put new (Some found) a b puts = rw (a, b) puts
 

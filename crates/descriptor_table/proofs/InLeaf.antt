@@ -11,7 +11,7 @@ use Rattle.page_ranges.specs.MemoryTypes.{conventional, page_count}
 use Rattle.page_ranges.specs.Memory.{AllInRange, IsPresent, retyped}
 use Rattle.page_ranges.specs.Runs.{pages_of, AreRuns, AreMaximalRuns}
 use Rattle.page_ranges.proofs.MaximalRuns.{maximal_are_runs}
-use Rattle.descriptor_table.specs.declared.cut_runs.Place.{Place}
+use Rattle.descriptor_table.specs.declared.cut_runs.Replacement.{Replacement}
 use Rattle.descriptor_table.specs.CutRuns.{PutsParts, with_parts}
 use Rattle.descriptor_table.specs.Leaves.{entry_count, leaf_at, runs_in, AreLeavesNear, GrowsBy}
 use Rattle.descriptor_table.specs.LeafChanges.{GrowsIn, IsEdgeOf, MovesEdge, RetypesRuns, leaf_edge, runs_with_in, with_edge}
@@ -145,13 +145,13 @@ module _ (ls : List (List Run)) (n : ℕ) (range : PageRange) (t : ℕ) (o : Own
         pages = λ new put. come_pages ls n range t o table index near low high w some present own parts order pages new put;
       }
 
-  parts_come : (w : IsWindow (leaf_at ls index) range low high) (parts : List Run) (place : Place) (less : ℕ)
-      → PutsParts range t o (take (high - low) (drop low (leaf_at ls index))) parts place → less ≡ entry_count (take (high - low) (drop low (leaf_at ls index)))
-      → ComeInLeaf ls n range t o index (splice (leaf_at ls index) (low + place.low) (low + place.high) parts) less place.entries
-  parts_come w parts place less puts count =
-      let here = inner_splice (leaf_at ls index) parts low high place.low place.high w.order w.bound puts.order (omega (arith, puts.bound, gone_length ls n range t o table index near low high w)) in
-      subst (λ leaf. ComeInLeaf ls n range t o index leaf less place.entries) (sym here)
-      (come w (with_parts place parts (gone ls n range t o table index near low high w)) puts.maximal puts.pages less place.entries (omega (arith, puts.entries, count)) (omega (arith, puts.entries)))
+  parts_come : (w : IsWindow (leaf_at ls index) range low high) (parts : List Run) (replacement : Replacement) (less : ℕ)
+      → PutsParts range t o (take (high - low) (drop low (leaf_at ls index))) parts replacement → less ≡ entry_count (take (high - low) (drop low (leaf_at ls index)))
+      → ComeInLeaf ls n range t o index (splice (leaf_at ls index) (low + replacement.low) (low + replacement.high) parts) less replacement.entries
+  parts_come w parts replacement less puts count =
+      let here = inner_splice (leaf_at ls index) parts low high replacement.low replacement.high w.order w.bound puts.order (omega (arith, puts.bound, gone_length ls n range t o table index near low high w)) in
+      subst (λ leaf. ComeInLeaf ls n range t o index leaf less replacement.entries) (sym here)
+      (come w (with_parts replacement parts (gone ls n range t o table index near low high w)) puts.maximal puts.pages less replacement.entries (omega (arith, puts.entries, count)) (omega (arith, puts.entries)))
 
   edge_comes : (w : IsWindow (leaf_at ls index) range low high) (edge : ℕ) → MovesEdge range t o (take (high - low) (drop low (leaf_at ls index))) edge → EdgeInLeaf ls n range t o index low edge
   edge_comes w edge moved =
@@ -180,9 +180,9 @@ module _ (ls : List (List Run)) (n : ℕ) (range : PageRange) (t : ℕ) (o : Own
       ends = gone_ends ls n range t o table index near low high (rw is at w);
     })
 
-    pub parts_in_leaf : (parts : List Run) (place : Place) (less : ℕ) → PutsParts range t o window parts place → less ≡ entry_count window
-        → ComeInLeaf ls n range t o index (splice (leaf_at ls index) (low + place.low) (low + place.high) parts) less place.entries
-    parts_in_leaf parts place less puts count = parts_come (rw is at w) parts place less (rw is at puts) (rw is at count)
+    pub parts_in_leaf : (parts : List Run) (replacement : Replacement) (less : ℕ) → PutsParts range t o window parts replacement → less ≡ entry_count window
+        → ComeInLeaf ls n range t o index (splice (leaf_at ls index) (low + replacement.low) (low + replacement.high) parts) less replacement.entries
+    parts_in_leaf parts replacement less puts count = parts_come (rw is at w) parts replacement less (rw is at puts) (rw is at count)
 
     pub edge_in_leaf : (edge : ℕ) → MovesEdge range t o window edge → EdgeInLeaf ls n range t o index low edge
     edge_in_leaf edge moved = edge_comes (rw is at w) edge (rw is at moved)

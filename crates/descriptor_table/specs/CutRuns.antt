@@ -5,7 +5,7 @@ use Rattle.page_ranges.specs.declared.ranges.Owner.{Owner}
 use Rattle.page_ranges.specs.declared.ranges.PageRange.{PageRange}
 use Rattle.page_ranges.specs.declared.ranges.Run.{Run}
 use Rattle.page_ranges.specs.Runs.{AreMaximalRuns}
-use Rattle.descriptor_table.specs.declared.cut_runs.Place.{Place}
+use Rattle.descriptor_table.specs.declared.cut_runs.Replacement.{Replacement}
 use Rattle.descriptor_table.specs.Leaves.{entry_count}
 use Rattle.descriptor_table.specs.LeafChanges.{RetypesRuns}
 use Rattle.descriptor_table.specs.WholeRuns.{joined_below, joined_above, parted_below, parted_above}
@@ -20,21 +20,21 @@ pub record IsApart (below : Option Run) (r : Run) (above : Option Run) (count : 
   pub higher : (joined_above r above).0 ≡ 0
   pub entries : count ≡ 1 + parted_below below r + parted_above r above
 
--- the place of the run at an index, where the map then has a number of entries
-abbrev pub at_index : ℕ → ℕ → Place
+-- the run at an index gives way, and the map then has a number of entries
+abbrev pub at_index : ℕ → ℕ → Replacement
 at_index at count = record { low = at; high = at + 1; entries = count }
 
 -- parts in the place of some runs
-abbrev pub with_parts : Place → List Run → List Run → List Run
-with_parts place parts rs = splice rs place.low place.high parts
+abbrev pub with_parts : Replacement → List Run → List Run → List Run
+with_parts r parts rs = splice rs r.low r.high parts
 
 -- The pages of a range get a type and an owner where parts come in the place of some runs. The map
 -- has a number of entries then.
 pub record PutsParts (range : PageRange) (mtype : ℕ) (owner : Owner) (rs parts : List Run)
-    (place : Place) : Type 0 where
-  pub order : place.low ≤ place.high
-  pub bound : place.high ≤ length rs
+    (r : Replacement) : Type 0 where
+  pub order : r.low ≤ r.high
+  pub bound : r.high ≤ length rs
   pub some : 0 < length parts
-  pub pages : RetypesRuns range mtype owner rs (with_parts place parts rs)
-  pub maximal : AreMaximalRuns (with_parts place parts rs)
-  pub entries : place.entries ≡ entry_count (with_parts place parts rs)
+  pub pages : RetypesRuns range mtype owner rs (with_parts r parts rs)
+  pub maximal : AreMaximalRuns (with_parts r parts rs)
+  pub entries : r.entries ≡ entry_count (with_parts r parts rs)

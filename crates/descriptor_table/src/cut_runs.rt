@@ -15,7 +15,7 @@ use std::alloc::Allocator;
 
 /// The indices between which runs give way to others, and how many entries the map of all runs then has.
 #[derive(Clone, Copy)]
-pub(crate) struct Place {
+pub(crate) struct Replacement {
     pub(crate) low: usize,
     pub(crate) high: usize,
     pub(crate) entries: usize,
@@ -31,7 +31,7 @@ pub(crate) fn push_changed<A: Allocator>(
     range: PageRange,
     mtype: MemoryType,
     owner: Owner,
-) -> Option<Place>
+) -> Option<Replacement>
     requires order { AreMaximalRuns runs.now }
     requires ends { EndBy page_count runs.now }
     requires some { 0 < range.pages }
@@ -43,14 +43,14 @@ pub(crate) fn push_changed<A: Allocator>(
         let Ok(()) = parts.push(one.run) else {
             return None;
         };
-        return Some(Place {
+        return Some(Replacement {
             low: one.low,
             high: one.high,
             entries: one.entries,
         });
     }
-    if let Some(place) = push_cut_run(parts, runs, range, mtype, owner) {
-        return Some(place);
+    if let Some(replacement) = push_cut_run(parts, runs, range, mtype, owner) {
+        return Some(replacement);
     }
     push_all(parts, runs, range, mtype, owner)
 }
@@ -105,11 +105,11 @@ fn push_two<A: Allocator>(
     second: Run,
     at: usize,
     entries: usize,
-) -> Option<Place>
+) -> Option<Replacement>
     requires empty { parts.old.items ≡ [] }
     requires few { at ≤ 1 }
     ensures parts { OnSome result (parts.new.items ≡ first ∷ second ∷ []) }
-    ensures place { IfSome result (λ place. place ≡ at_index at entries) }
+    ensures replacement { IfSome result (λ found. found ≡ at_index at entries) }
 {
     let Ok(()) = parts.push(first) else {
         return None;
@@ -117,7 +117,7 @@ fn push_two<A: Allocator>(
     let Ok(()) = parts.push(second) else {
         return None;
     };
-    Some(Place {
+    Some(Replacement {
         low: at,
         high: at + 1,
         entries,
@@ -133,17 +133,17 @@ fn push_three<A: Allocator>(
     third: Run,
     at: usize,
     entries: usize,
-) -> Option<Place>
+) -> Option<Replacement>
     requires empty { parts.old.items ≡ [] }
     requires few { at ≤ 1 }
     ensures parts { OnSome result (parts.new.items ≡ first ∷ second ∷ third ∷ []) }
-    ensures place { IfSome result (λ place. place ≡ at_index at entries) }
+    ensures replacement { IfSome result (λ found. found ≡ at_index at entries) }
 {
-    let place = push_two(parts, first, second, at, entries)?;
+    let replacement = push_two(parts, first, second, at, entries)?;
     let Ok(()) = parts.push(third) else {
         return None;
     };
-    Some(place)
+    Some(replacement)
 }
 
 /// Puts into an empty list the parts of a run in which a range lies, once the pages of the range have a type
@@ -157,7 +157,7 @@ fn push_cut_run<A: Allocator>(
     range: PageRange,
     mtype: MemoryType,
     owner: Owner,
-) -> Option<Place>
+) -> Option<Replacement>
     requires empty { parts.old.items ≡ [] }
     requires order { AreMaximalRuns runs.now }
     requires ends { EndBy page_count runs.now }
@@ -213,7 +213,7 @@ fn push_all<A: Allocator>(
     range: PageRange,
     mtype: MemoryType,
     owner: Owner,
-) -> Option<Place>
+) -> Option<Replacement>
     requires order { AreMaximalRuns runs.now }
     requires ends { EndBy page_count runs.now }
     requires within { range.first + range.pages ≤ page_count }
@@ -226,7 +226,7 @@ fn push_all<A: Allocator>(
     if parts.is_empty() {
         return None;
     }
-    Some(Place {
+    Some(Replacement {
         low: 0,
         high: runs.len(),
         entries: count_entries(parts.as_slice()),

@@ -274,8 +274,8 @@ fn retype_in_leaf<A: Allocator + Copy>(
         return Some(entries);
     }
     let old_entries = count_entries(gone);
-    let place = push_changed(parts, gone, range, mtype, owner)?;
-    if runs.len() + parts.len() > LEAF_SIZE + (place.high - place.low) {
+    let replacement = push_changed(parts, gone, range, mtype, owner)?;
+    if runs.len() + parts.len() > LEAF_SIZE + (replacement.high - replacement.low) {
         return None;
     }
     let joins = most_joins(leaves.len(), mtype);
@@ -284,12 +284,12 @@ fn retype_in_leaf<A: Allocator + Copy>(
         begun,
         sizes,
         index,
-        (window.0 + place.low, window.0 + place.high),
+        (window.0 + replacement.low, window.0 + replacement.high),
         parts.as_slice(),
-        (old_entries, place.entries),
+        (old_entries, replacement.entries),
         joins,
     );
-    Some(entries + place.entries - old_entries)
+    Some(entries + replacement.entries - old_entries)
 }
 
 /// How many of some parts come into the first of two leaves with a number of runs before them and one

@@ -89,40 +89,40 @@ push_changed-requires-clause-ends g c =
 
 pub put_in_leaf-requires-clause-few : goal.put_in_leaf-requires-clause-few
 put_in_leaf-requires-clause-few g c =
-    let come = parts_in_leaf c.args.leaves.now.items c.args.entries c.args.range c.args.mtype c.args.owner c.requires.table.table c.args.index c.requires.near c.requires.some c.requires.present c.requires.owner c.window_of-window.result.0 c.window_of-window.result.1 c.runs-runs.result.now c.index.result.now (c.runs-runs.ensures ∙ c.index.ensures) c.window_of-window.ensures c.push_changed.new.parts.items c.in_ok-place.place c.count_entries-old_entries.result c.in_ok-place.ensures c.count_entries-old_entries.ensures.count in
+    let come = parts_in_leaf c.args.leaves.now.items c.args.entries c.args.range c.args.mtype c.args.owner c.requires.table.table c.args.index c.requires.near c.requires.some c.requires.present c.requires.owner c.window_of-window.result.0 c.window_of-window.result.1 c.runs-runs.result.now c.index.result.now (c.runs-runs.ensures ∙ c.index.ensures) c.window_of-window.ensures c.push_changed.new.parts.items c.in_ok-replacement.replacement c.count_entries-old_entries.result c.in_ok-replacement.ensures c.count_entries-old_entries.ensures.count in
     come.few
 
 pub put_in_leaf-requires-clause-grows : goal.put_in_leaf-requires-clause-grows
 put_in_leaf-requires-clause-grows g c =
-    let come = parts_in_leaf c.args.leaves.now.items c.args.entries c.args.range c.args.mtype c.args.owner c.requires.table.table c.args.index c.requires.near c.requires.some c.requires.present c.requires.owner c.window_of-window.result.0 c.window_of-window.result.1 c.runs-runs.result.now c.index.result.now (c.runs-runs.ensures ∙ c.index.ensures) c.window_of-window.ensures c.push_changed.new.parts.items c.in_ok-place.place c.count_entries-old_entries.result c.in_ok-place.ensures c.count_entries-old_entries.ensures.count in
+    let come = parts_in_leaf c.args.leaves.now.items c.args.entries c.args.range c.args.mtype c.args.owner c.requires.table.table c.args.index c.requires.near c.requires.some c.requires.present c.requires.owner c.window_of-window.result.0 c.window_of-window.result.1 c.runs-runs.result.now c.index.result.now (c.runs-runs.ensures ∙ c.index.ensures) c.window_of-window.ensures c.push_changed.new.parts.items c.in_ok-replacement.replacement c.count_entries-old_entries.result c.in_ok-replacement.ensures c.count_entries-old_entries.ensures.count in
     rw c.as_slice.ensures.value come.grows
 
 pub put_in_leaf-requires-clause-order : goal.put_in_leaf-requires-clause-order
 put_in_leaf-requires-clause-order g c =
-    let come = parts_in_leaf c.args.leaves.now.items c.args.entries c.args.range c.args.mtype c.args.owner c.requires.table.table c.args.index c.requires.near c.requires.some c.requires.present c.requires.owner c.window_of-window.result.0 c.window_of-window.result.1 c.runs-runs.result.now c.index.result.now (c.runs-runs.ensures ∙ c.index.ensures) c.window_of-window.ensures c.push_changed.new.parts.items c.in_ok-place.place c.count_entries-old_entries.result c.in_ok-place.ensures c.count_entries-old_entries.ensures.count in
+    let come = parts_in_leaf c.args.leaves.now.items c.args.entries c.args.range c.args.mtype c.args.owner c.requires.table.table c.args.index c.requires.near c.requires.some c.requires.present c.requires.owner c.window_of-window.result.0 c.window_of-window.result.1 c.runs-runs.result.now c.index.result.now (c.runs-runs.ensures ∙ c.index.ensures) c.window_of-window.ensures c.push_changed.new.parts.items c.in_ok-replacement.replacement c.count_entries-old_entries.result c.in_ok-replacement.ensures c.count_entries-old_entries.ensures.count in
     rw c.as_slice.ensures.value come.runs
 
 pub put_in_leaf-requires-clause-ends : goal.put_in_leaf-requires-clause-ends
 put_in_leaf-requires-clause-ends g c =
-    let come = parts_in_leaf c.args.leaves.now.items c.args.entries c.args.range c.args.mtype c.args.owner c.requires.table.table c.args.index c.requires.near c.requires.some c.requires.present c.requires.owner c.window_of-window.result.0 c.window_of-window.result.1 c.runs-runs.result.now c.index.result.now (c.runs-runs.ensures ∙ c.index.ensures) c.window_of-window.ensures c.push_changed.new.parts.items c.in_ok-place.place c.count_entries-old_entries.result c.in_ok-place.ensures c.count_entries-old_entries.ensures.count in
+    let come = parts_in_leaf c.args.leaves.now.items c.args.entries c.args.range c.args.mtype c.args.owner c.requires.table.table c.args.index c.requires.near c.requires.some c.requires.present c.requires.owner c.window_of-window.result.0 c.window_of-window.result.1 c.runs-runs.result.now c.index.result.now (c.runs-runs.ensures ∙ c.index.ensures) c.window_of-window.ensures c.push_changed.new.parts.items c.in_ok-replacement.replacement c.count_entries-old_entries.result c.in_ok-replacement.ensures c.count_entries-old_entries.ensures.count in
     rw c.as_slice.ensures.value come.ends
 
 pub overflow_sub-result : goal.overflow_sub-result
 overflow_sub-result g c =
-    let come = parts_in_leaf c.args.leaves.now.items c.args.entries c.args.range c.args.mtype c.args.owner c.requires.table.table c.args.index c.requires.near c.requires.some c.requires.present c.requires.owner c.window_of-window.result.0 c.window_of-window.result.1 c.runs-runs.result.now c.index.result.now (c.runs-runs.ensures ∙ c.index.ensures) c.window_of-window.ensures c.push_changed.new.parts.items c.in_ok-place.place c.count_entries-old_entries.result c.in_ok-place.ensures c.count_entries-old_entries.ensures.count in
+    let come = parts_in_leaf c.args.leaves.now.items c.args.entries c.args.range c.args.mtype c.args.owner c.requires.table.table c.args.index c.requires.near c.requires.some c.requires.present c.requires.owner c.window_of-window.result.0 c.window_of-window.result.1 c.runs-runs.result.now c.index.result.now (c.runs-runs.ensures ∙ c.index.ensures) c.window_of-window.ensures c.push_changed.new.parts.items c.in_ok-replacement.replacement c.count_entries-old_entries.result c.in_ok-replacement.ensures c.count_entries-old_entries.ensures.count in
     come.count
 
 pub overflow_add-result : goal.overflow_add-result
 overflow_add-result g c =
-    let come = parts_in_leaf c.args.leaves.now.items c.args.entries c.args.range c.args.mtype c.args.owner c.requires.table.table c.args.index c.requires.near c.requires.some c.requires.present c.requires.owner c.window_of-window.result.0 c.window_of-window.result.1 c.runs-runs.result.now c.index.result.now (c.runs-runs.ensures ∙ c.index.ensures) c.window_of-window.ensures c.push_changed.new.parts.items c.in_ok-place.place c.count_entries-old_entries.result c.in_ok-place.ensures c.count_entries-old_entries.ensures.count in
+    let come = parts_in_leaf c.args.leaves.now.items c.args.entries c.args.range c.args.mtype c.args.owner c.requires.table.table c.args.index c.requires.near c.requires.some c.requires.present c.requires.owner c.window_of-window.result.0 c.window_of-window.result.1 c.runs-runs.result.now c.index.result.now (c.runs-runs.ensures ∙ c.index.ensures) c.window_of-window.ensures c.push_changed.new.parts.items c.in_ok-replacement.replacement c.count_entries-old_entries.result c.in_ok-replacement.ensures c.count_entries-old_entries.ensures.count in
     omega (arith, come.fits)
 
 pub returns-clause-table : goal.returns-clause-table
 returns-clause-table g c =
-    let come = parts_in_leaf c.args.leaves.now.items c.args.entries c.args.range c.args.mtype c.args.owner c.requires.table.table c.args.index c.requires.near c.requires.some c.requires.present c.requires.owner c.window_of-window.result.0 c.window_of-window.result.1 c.runs-runs.result.now c.index.result.now (c.runs-runs.ensures ∙ c.index.ensures) c.window_of-window.ensures c.push_changed.new.parts.items c.in_ok-place.place c.count_entries-old_entries.result c.in_ok-place.ensures c.count_entries-old_entries.ensures.count in
+    let come = parts_in_leaf c.args.leaves.now.items c.args.entries c.args.range c.args.mtype c.args.owner c.requires.table.table c.args.index c.requires.near c.requires.some c.requires.present c.requires.owner c.window_of-window.result.0 c.window_of-window.result.1 c.runs-runs.result.now c.index.result.now (c.runs-runs.ensures ∙ c.index.ensures) c.window_of-window.ensures c.push_changed.new.parts.items c.in_ok-replacement.replacement c.count_entries-old_entries.result c.in_ok-replacement.ensures c.count_entries-old_entries.ensures.count in
     let put = rw c.as_slice.ensures.value at c.put_in_leaf.ensures.runs in
     record {
-      table = come.table c.put_in_leaf.new.leaves.items put (c.args.entries + c.in_ok-place.place.entries - c.count_entries-old_entries.result) (omega (arith, come.count));
+      table = come.table c.put_in_leaf.new.leaves.items put (c.args.entries + c.in_ok-replacement.replacement.entries - c.count_entries-old_entries.result) (omega (arith, come.count));
       leaves = c.put_in_leaf.ensures.leaves;
       begun = c.put_in_leaf.ensures.begun;
       sizes = c.put_in_leaf.ensures.sizes;
@@ -130,6 +130,6 @@ returns-clause-table g c =
 
 pub returns-clause-pages : goal.returns-clause-pages
 returns-clause-pages g c =
-    let come = parts_in_leaf c.args.leaves.now.items c.args.entries c.args.range c.args.mtype c.args.owner c.requires.table.table c.args.index c.requires.near c.requires.some c.requires.present c.requires.owner c.window_of-window.result.0 c.window_of-window.result.1 c.runs-runs.result.now c.index.result.now (c.runs-runs.ensures ∙ c.index.ensures) c.window_of-window.ensures c.push_changed.new.parts.items c.in_ok-place.place c.count_entries-old_entries.result c.in_ok-place.ensures c.count_entries-old_entries.ensures.count in
+    let come = parts_in_leaf c.args.leaves.now.items c.args.entries c.args.range c.args.mtype c.args.owner c.requires.table.table c.args.index c.requires.near c.requires.some c.requires.present c.requires.owner c.window_of-window.result.0 c.window_of-window.result.1 c.runs-runs.result.now c.index.result.now (c.runs-runs.ensures ∙ c.index.ensures) c.window_of-window.ensures c.push_changed.new.parts.items c.in_ok-replacement.replacement c.count_entries-old_entries.result c.in_ok-replacement.ensures c.count_entries-old_entries.ensures.count in
     let put = rw c.as_slice.ensures.value at c.put_in_leaf.ensures.runs in
     come.pages c.put_in_leaf.new.leaves.items put
