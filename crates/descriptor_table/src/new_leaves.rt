@@ -417,7 +417,7 @@ fn retype_in_halves<A: Allocator + Copy>(
     split_leaf(leaves, begun, sizes, spare, entries, index, buffer);
     let near = halves_near(leaves.as_slice(), index, range);
     let changed = retype_in_place(
-        leaves, begun, sizes, entries, near, range, mtype, owner, parts, LEAF_SIZE,
+        leaves, begun, sizes, entries, near, range, mtype, owner, parts, None,
     );
     let mut change = match changed {
         Some(change) => change,
@@ -522,7 +522,16 @@ pub(crate) fn retype_leaves<A: Allocator + Copy>(
 {
     if may_lose {
         let changed = retype_in_place(
-            leaves, begun, sizes, entries, near, range, mtype, owner, parts, likely,
+            leaves,
+            begun,
+            sizes,
+            entries,
+            near,
+            range,
+            mtype,
+            owner,
+            parts,
+            Some(likely),
         );
         if let Some(change) = changed {
             return change;

@@ -77,8 +77,8 @@ pub(crate) fn new_joins(leaves: usize) -> u8 {
 }
 
 /// The indices between which runs share a page with a range or touch it. The run that holds its first page
-/// is likely at an index.
-fn window_of(runs: &[Run], range: PageRange, likely: usize) -> (usize, usize)
+/// is likely at an index, if one is given.
+fn window_of(runs: &[Run], range: PageRange, likely: Option<usize>) -> (usize, usize)
     requires runs { AreRuns runs.now }
     requires within { range.first + range.pages ≤ page_count }
     ensures { IsWindow runs.now range result.0 result.1 }
@@ -237,7 +237,7 @@ fn move_edge_in_leaf<A: Allocator + Copy>(
 /// Gives the pages of a range a type and an owner within the leaf that has all runs near it, and
 /// returns how many entries the map then has; `None`, and nothing changes, where the leaf has no room
 /// for the runs that come. It takes no memory; what `parts` held is lost. The run that holds the range's first
-/// page is likely at an index of the leaf.
+/// page is likely at an index of the leaf, if one is given.
 fn retype_in_leaf<A: Allocator + Copy>(
     leaves: &mut Vec<Leaf<A>, A>,
     begun: &mut Tally<A>,
@@ -248,7 +248,7 @@ fn retype_in_leaf<A: Allocator + Copy>(
     mtype: MemoryType,
     owner: Owner,
     parts: &mut Vec<Run, A>,
-    likely: usize,
+    likely: Option<usize>,
 ) -> Option<usize>
     requires table { IsLeafTable leaves.old.items entries begun.old.items sizes.old.items }
     requires near { AreLeavesNear leaves.old.items range index (index + 1) }
@@ -628,7 +628,7 @@ fn retype_across<A: Allocator + Copy>(
     ensures lost { length leaves.old.items + ends.0 ≤ length leaves.new.items + ends.1 }
     ensures few { length leaves.new.items ≤ length leaves.old.items }
 {
-    let low = count_ending_below(leaves[ends.0].runs(), range.first, LEAF_SIZE);
+    let low = count_ending_below(leaves[ends.0].runs(), range.first, None);
     let high = count_beginning_by(leaves[ends.1].runs(), range.first + range.pages);
     let window = (low, high);
     parts.clear();
@@ -693,7 +693,8 @@ fn retype_in_pair<A: Allocator + Copy>(
 /// Gives the pages of a range a type and an owner in the leaves that have the runs near it, or in one of
 /// them and a neighbour; `None`, and nothing changes, where these have no room for the runs that come. It
 /// takes no memory for up to `MAX_PARTS` of these. `parts` is room for them, an array that is not made anew
-/// for each change. The run that holds the range's first page is likely at an index of its leaf.
+/// for each change. The run that holds the range's first page is likely at an index of its leaf, if one is
+/// given.
 pub(crate) fn retype_in_place<A: Allocator + Copy>(
     leaves: &mut Vec<Leaf<A>, A>,
     begun: &mut Tally<A>,
@@ -704,7 +705,7 @@ pub(crate) fn retype_in_place<A: Allocator + Copy>(
     mtype: MemoryType,
     owner: Owner,
     parts: &mut Vec<Run, A>,
-    likely: usize,
+    likely: Option<usize>,
 ) -> Option<Change>
     requires table { IsLeafTable leaves.old.items entries begun.old.items sizes.old.items }
     requires near { AreLeavesNear leaves.old.items range near.0 near.1 }

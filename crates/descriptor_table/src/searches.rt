@@ -10,8 +10,8 @@ ghost use Rattle.descriptor_table.specs.Tables.{IsHolder, ShowsPage};
 use page_ranges::{MemoryType, Owner, Run};
 
 /// How many runs end below a page; they come first. Of the runs that begin below it only the last may
-/// end at it or above it. The run that holds the page is likely at an index.
-pub(crate) fn count_ending_below(runs: &[Run], page: u64, likely: usize) -> usize
+/// end at it or above it. The run that holds the page is likely at an index, if one is given.
+pub(crate) fn count_ending_below(runs: &[Run], page: u64, likely: Option<usize>) -> usize
     requires { AreRuns runs.now }
     ensures bound { result ≤ length runs.now }
     ensures below { AllWithin (λ r. r.range.first + r.range.pages < page) runs.now 0 result }
@@ -66,18 +66,21 @@ fn halved_count(runs: &[Run], page: u64) -> usize
     )
 }
 
-/// How many runs begin below a page; they come first. The run that holds it is likely at an index.
+/// How many runs begin below a page; they come first. The run that holds it is likely at an index, if one
+/// is given.
 #[inline(always)]
-fn count_beginning_below(runs: &[Run], page: u64, likely: usize) -> usize
+fn count_beginning_below(runs: &[Run], page: u64, likely: Option<usize>) -> usize
     requires { AreRuns runs.now }
     ensures bound { result ≤ length runs.now }
     ensures below { AllWithin (λ r. r.range.first < page) runs.now 0 result }
     ensures above { AllWithin (λ r. page ≤ r.range.first) runs.now result (length runs.now) }
 {
-    match likely_count(runs, page, likely) {
-        Some(count) => count,
-        None => halved_count(runs, page),
+    if let Some(index) = likely
+        && let Some(count) = likely_count(runs, page, index)
+    {
+        return count;
     }
+    halved_count(runs, page)
 }
 
 /// How many runs begin at a page or below it; they come first.
