@@ -17,7 +17,11 @@ use std::alloc::Allocator;
 
 /// How many leaves begin below a page, where the leaf at an index has the runs there.
 #[inline(always)]
-fn likely_count<A: Allocator + Copy>(leaves: &[Leaf<A>], page: u64, likely: usize) -> Option<usize>
+fn likely_leaf_count<A: Allocator + Copy>(
+    leaves: &[Leaf<A>],
+    page: u64,
+    likely: usize,
+) -> Option<usize>
     requires leaves { AreLeaves leaves.now }
     requires runs { AreRuns (runs_in leaves.now) }
     ensures bound { IfSome result (λ count. count ≤ length leaves.now) }
@@ -55,14 +59,14 @@ pub(crate) fn count_leaves_below<A: Allocator + Copy>(
     ensures below { AllWithin (λ l. first_page l < page) leaves.now 0 result }
     ensures above { AllWithin (λ l. page ≤ first_page l) leaves.now result (length leaves.now) }
 {
-    match likely_count(leaves, page, likely) {
+    match likely_leaf_count(leaves, page, likely) {
         Some(count) => count,
-        None => halved_count(leaves, page),
+        None => halved_leaf_count(leaves, page),
     }
 }
 
 /// How many leaves begin below a page, found by halving; they come first.
-fn halved_count<A: Allocator + Copy>(leaves: &[Leaf<A>], page: u64) -> usize
+fn halved_leaf_count<A: Allocator + Copy>(leaves: &[Leaf<A>], page: u64) -> usize
     requires leaves { AreLeaves leaves.now }
     requires runs { AreRuns (runs_in leaves.now) }
     ensures bound { result ≤ length leaves.now }

@@ -31,7 +31,7 @@ pub(crate) fn count_ending_below(runs: &[Run], page: u64, likely: Option<usize>)
 
 /// How many runs begin below a page, where the run at an index holds it.
 #[inline(always)]
-fn likely_count(runs: &[Run], page: u64, likely: usize) -> Option<usize>
+fn likely_run_count(runs: &[Run], page: u64, likely: usize) -> Option<usize>
     requires { AreRuns runs.now }
     ensures bound { IfSome result (λ count. count ≤ length runs.now) }
     ensures below { IfSome result
@@ -53,7 +53,7 @@ fn likely_count(runs: &[Run], page: u64, likely: usize) -> Option<usize>
 }
 
 /// How many runs begin below a page, found by halving; they come first.
-fn halved_count(runs: &[Run], page: u64) -> usize
+fn halved_run_count(runs: &[Run], page: u64) -> usize
     requires { AreRuns runs.now }
     ensures bound { result ≤ length runs.now }
     ensures below { AllWithin (λ r. r.range.first < page) runs.now 0 result }
@@ -76,11 +76,11 @@ fn count_beginning_below(runs: &[Run], page: u64, likely: Option<usize>) -> usiz
     ensures above { AllWithin (λ r. page ≤ r.range.first) runs.now result (length runs.now) }
 {
     if let Some(index) = likely
-        && let Some(count) = likely_count(runs, page, index)
+        && let Some(count) = likely_run_count(runs, page, index)
     {
         return count;
     }
-    halved_count(runs, page)
+    halved_run_count(runs, page)
 }
 
 /// How many runs begin at a page or below it; they come first.

@@ -2,7 +2,7 @@ use Rattle.std.proofs.Common.{◌+◌, ap, arith}
 use Rattle.std.proofs.lemmas.List.{get_or_default}
 use Rattle.page_ranges.proofs.RunLists.{ends_before, some_pages_at}
 use Rattle.descriptor_table.proofs.Order.{firsts_rise}
-use Rattle.descriptor_table.proofs.searches.likely_count.Goals as goal
+use Rattle.descriptor_table.proofs.searches.likely_run_count.Goals as goal
 
 -- the runs before one that begins at the page end there, or below
 pub returns-then-page-run-clause-below : goal.returns-then-page-run-clause-below

@@ -1,7 +1,7 @@
 use Rattle.std.proofs.Common.{rules, ltb, ltb-true, ltb-false}
 use Rattle.std.proofs.lemmas.List.Sorted.{IsPartitionPoint-from_clause, IsPartitionedBy-ltb}
 use Rattle.descriptor_table.proofs.Order.{firsts_rise}
-use Rattle.descriptor_table.proofs.searches.halved_count.Goals as goal
+use Rattle.descriptor_table.proofs.searches.halved_run_count.Goals as goal
 
 pub returns-clause-below : goal.returns-clause-below
 returns-clause-below c =

@@ -2,7 +2,7 @@ use Rattle.std.proofs.Common.{◌+◌, ap, arith}
 use Rattle.std.proofs.lemmas.List.{get_or_default}
 use Rattle.descriptor_table.specs.Leaves.{first_page}
 use Rattle.descriptor_table.proofs.LeafLists.{leaf_firsts_rise}
-use Rattle.descriptor_table.proofs.leaf_searches.likely_count.Goals as goal
+use Rattle.descriptor_table.proofs.leaf_searches.likely_leaf_count.Goals as goal
 
 pub returns-then-next-leaves-clause-below : goal.returns-then-next-leaves-clause-below
 returns-then-next-leaves-clause-below g c =

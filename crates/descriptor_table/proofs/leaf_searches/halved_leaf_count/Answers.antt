@@ -2,7 +2,7 @@ use Rattle.std.proofs.Common.{rules, ltb, ltb-true, ltb-false}
 use Rattle.std.proofs.lemmas.List.Sorted.{IsPartitionPoint-from_clause, IsPartitionedBy-ltb}
 use Rattle.descriptor_table.specs.Leaves.{first_page}
 use Rattle.descriptor_table.proofs.LeafLists.{leaf_firsts_rise}
-use Rattle.descriptor_table.proofs.leaf_searches.halved_count.Goals as goal
+use Rattle.descriptor_table.proofs.leaf_searches.halved_leaf_count.Goals as goal
 
 pub returns-clause-below : goal.returns-clause-below
 returns-clause-below g c =
