@@ -2,11 +2,13 @@
 use Rattle.std.specs.Prelude.{◌≡◌, ℕ, ◌+◌, ◌-◌, ◌<◌, ◌≤◌, List, [], ◌∷◌, ◌++◌, length, map, set, take, drop}
 use Rattle.std.specs.List.{AllByRecursion, splice}
 use Rattle.page_ranges.specs.declared.ranges.Owner.{Owner}
+use Rattle.page_ranges.specs.declared.ranges.Owner.TheVariants.{Given}
 use Rattle.page_ranges.specs.declared.ranges.PageRange.{PageRange}
 use Rattle.page_ranges.specs.declared.ranges.Run.{Run}
-use Rattle.page_ranges.specs.Memory.{retyped, row}
-use Rattle.page_ranges.specs.MemoryTypes.{page_count}
+use Rattle.page_ranges.specs.Memory.{AllInRange, IsPresent, retyped, row}
+use Rattle.page_ranges.specs.MemoryTypes.{conventional, page_count}
 use Rattle.page_ranges.specs.Runs.{page_in, pages_of, AreMaximalRuns}
+use Rattle.descriptor_table.specs.declared.retyping.Retyping.{Retyping}
 use Rattle.descriptor_table.specs.Leaves.{leaf_at, runs_in, entry_count, BeginIn, GrowsBy}
 use Rattle.descriptor_table.specs.Tables.{EndBy}
 
@@ -168,6 +170,13 @@ abbrev pub EndsWith : List Run → List Run → List Run → Type 0
 EndsWith runs old new = (end : ℕ) → EndBy end runs → EndBy end old → EndBy end new
 
 -- the same of the runs of leaves
-abbrev pub Retypes : PageRange → ℕ → Owner → List (List Run) → List (List Run) → Type 0
-Retypes range mtype owner old new =
-    pages_of (runs_in new) ≡ retyped range mtype owner (pages_of (runs_in old))
+abbrev pub Retypes : Retyping → List (List Run) → List (List Run) → Type 0
+Retypes r old new =
+    pages_of (runs_in new) ≡ retyped r.range r.mtype r.owner (pages_of (runs_in old))
+
+-- A range has pages, and leaves have runs with all of them. Pages that become conventional are given
+-- to no one.
+pub record IsProperRetyping (r : Retyping) (ls : List (List Run)) : Type 0 where
+  pub some : 0 < r.range.pages
+  pub present : AllInRange (pages_of (runs_in ls)) r.range IsPresent
+  pub owner : r.mtype ≡ conventional → r.owner ≡ Given

@@ -1,12 +1,10 @@
 //! Leaves that are made anew, of those that there are and of leaves for later.
 ghost use Rattle.std.specs.Prelude.{◌≡◌, ℕ, ◌+◌, ◌-◌, ◌*◌, ◌<◌, ◌≤◌, ◌^◌, ◌++◌, [], length, map, take, drop, vec_capacity, OnOk, if◌then◌else◌};
 ghost use Rattle.std.specs.List.{insert};
-ghost use Rattle.page_ranges.specs.declared.ranges.Owner.TheVariants.{Given};
-ghost use Rattle.page_ranges.specs.MemoryTypes.{conventional, page_count};
-ghost use Rattle.page_ranges.specs.Memory.{IsPresent, AllInRange};
-ghost use Rattle.page_ranges.specs.Runs.{pages_of, AreMaximalRuns, AreRuns};
+ghost use Rattle.page_ranges.specs.MemoryTypes.{page_count};
+ghost use Rattle.page_ranges.specs.Runs.{AreMaximalRuns, AreRuns};
 ghost use Rattle.descriptor_table.specs.Leaves.{entry_count, leaf_at, runs_in, AreLeaves, AreLeavesNear, BeginIn, IsLeaf, IsLeafTable};
-ghost use Rattle.descriptor_table.specs.LeafChanges.{Retypes, RetypesRuns, leaves_without, runs_with};
+ghost use Rattle.descriptor_table.specs.LeafChanges.{IsProperRetyping, Retypes, RetypesRuns, leaves_without, runs_with};
 ghost use Rattle.descriptor_table.specs.Reserves.{GrowsNear, LeavesHaveRoom, PutsBegun, PutsLeaves, leaf_count};
 ghost use Rattle.descriptor_table.specs.Summaries.{KeepsLeaves};
 ghost use Rattle.descriptor_table.specs.Tables.{EndBy};
@@ -16,7 +14,7 @@ use crate::cuts::push_leaves;
 use crate::entry_starts::{count_begun, runs_before};
 use crate::leaves::{LEAF_SIZE, Leaf, first_share};
 use crate::replacing::insert_with_room;
-use crate::retyping::{Change, FEW_LEAVES, new_joins, retype_in_place};
+use crate::retyping::{Change, FEW_LEAVES, Retyping, new_joins, retype_in_place};
 use crate::spare_leaves::SpareLeaves;
 use crate::tallies::Tally;
 use page_ranges::{MemoryType, Owner, PageRange, Run};
@@ -266,21 +264,17 @@ pub(crate) fn retype_anew<A: Allocator + Copy>(
     spare: &mut SpareLeaves<A>,
     entries: usize,
     near: (usize, usize),
-    range: PageRange,
-    mtype: MemoryType,
-    owner: Owner,
+    retyping: &Retyping,
     buffer: &mut Vec<Run, A>,
 ) -> Change
     requires table { IsLeafTable leaves.old.items entries begun.old.items sizes.old.items }
-    requires near { AreLeavesNear leaves.old.items range near.0 near.1 }
-    requires some { 0 < range.pages }
-    requires present { AllInRange (pages_of (runs_in leaves.old.items)) range IsPresent }
-    requires owner { mtype ≡ conventional → owner ≡ Given }
+    requires near { AreLeavesNear leaves.old.items retyping.now.range near.0 near.1 }
+    requires retyping { IsProperRetyping retyping.now leaves.old.items }
     requires buffer { length (runs_in leaves.old.items) + 2 ≤ vec_capacity buffer.old }
     requires fits { length (runs_in leaves.old.items) + 2 ≤ 32 * leaf_count leaves.old spare.old }
     requires room { LeavesHaveRoom leaves.old spare.old begun.old sizes.old }
     ensures table { IsLeafTable leaves.new.items result.entries begun.new.items sizes.new.items }
-    ensures pages { Retypes range mtype owner leaves.old.items leaves.new.items }
+    ensures pages { Retypes retyping.now leaves.old.items leaves.new.items }
     ensures kept { KeepsLeaves leaves.old.items leaves.new.items result.near.0 result.near.1 }
     ensures count { leaf_count leaves.new spare.new ≡ leaf_count leaves.old spare.old }
     ensures room { LeavesHaveRoom leaves.new spare.new begun.new sizes.new }
@@ -291,9 +285,9 @@ pub(crate) fn retype_anew<A: Allocator + Copy>(
         leaves.as_slice(),
         spare.len(),
         near,
-        range,
-        mtype,
-        owner,
+        retyping.range,
+        retyping.mtype,
+        retyping.owner,
     );
     put_leaves(
         leaves,
@@ -391,39 +385,31 @@ fn retype_in_halves<A: Allocator + Copy>(
     spare: &mut SpareLeaves<A>,
     entries: usize,
     index: usize,
-    range: PageRange,
-    mtype: MemoryType,
-    owner: Owner,
+    retyping: &Retyping,
     parts: &mut Vec<Run, A>,
     buffer: &mut Vec<Run, A>,
 ) -> Change
     requires table { IsLeafTable leaves.old.items entries begun.old.items sizes.old.items }
-    requires near { AreLeavesNear leaves.old.items range index (index + 1) }
+    requires near { AreLeavesNear leaves.old.items retyping.now.range index (index + 1) }
     requires several { 2 ≤ length (leaf_at leaves.old.items index) }
-    requires some { 0 < range.pages }
-    requires present { AllInRange (pages_of (runs_in leaves.old.items)) range IsPresent }
-    requires owner { mtype ≡ conventional → owner ≡ Given }
+    requires retyping { IsProperRetyping retyping.now leaves.old.items }
     requires spare { 0 < spare.old.count }
     requires buffer { length (runs_in leaves.old.items) + 2 ≤ vec_capacity buffer.old }
     requires fits { length (runs_in leaves.old.items) + 2 ≤ 32 * leaf_count leaves.old spare.old }
     requires room { LeavesHaveRoom leaves.old spare.old begun.old sizes.old }
     ensures table { IsLeafTable leaves.new.items result.entries begun.new.items sizes.new.items }
-    ensures pages { Retypes range mtype owner leaves.old.items leaves.new.items }
+    ensures pages { Retypes retyping.now leaves.old.items leaves.new.items }
     ensures kept { KeepsLeaves leaves.old.items leaves.new.items result.near.0 result.near.1 }
     ensures count { leaf_count leaves.old spare.old ≤ leaf_count leaves.new spare.new + 1 }
     ensures room { LeavesHaveRoom leaves.new spare.new begun.new sizes.new }
     ensures capacity { vec_capacity buffer.old ≤ vec_capacity buffer.new }
 {
     split_leaf(leaves, begun, sizes, spare, entries, index, buffer);
-    let near = halves_near(leaves.as_slice(), index, range);
-    let changed = retype_in_place(
-        leaves, begun, sizes, entries, near, range, mtype, owner, parts, None,
-    );
+    let near = halves_near(leaves.as_slice(), index, retyping.range);
+    let changed = retype_in_place(leaves, begun, sizes, entries, near, retyping, parts, None);
     let mut change = match changed {
         Some(change) => change,
-        None => retype_anew(
-            leaves, begun, sizes, spare, entries, near, range, mtype, owner, buffer,
-        ),
+        None => retype_anew(leaves, begun, sizes, spare, entries, near, retyping, buffer),
     };
     // Leaves behind those that changed are at other indices.
     change.near = (index.min(change.near.0), leaves.len());
@@ -496,24 +482,20 @@ pub(crate) fn retype_leaves<A: Allocator + Copy>(
     spare: &mut SpareLeaves<A>,
     entries: usize,
     near: (usize, usize),
-    range: PageRange,
-    mtype: MemoryType,
-    owner: Owner,
+    retyping: &Retyping,
     parts: &mut Vec<Run, A>,
     buffer: &mut Vec<Run, A>,
     may_lose: bool,
     likely: usize,
 ) -> Change
     requires table { IsLeafTable leaves.old.items entries begun.old.items sizes.old.items }
-    requires near { AreLeavesNear leaves.old.items range near.0 near.1 }
-    requires some { 0 < range.pages }
-    requires present { AllInRange (pages_of (runs_in leaves.old.items)) range IsPresent }
-    requires owner { mtype ≡ conventional → owner ≡ Given }
+    requires near { AreLeavesNear leaves.old.items retyping.now.range near.0 near.1 }
+    requires retyping { IsProperRetyping retyping.now leaves.old.items }
     requires buffer { length (runs_in leaves.old.items) + 2 ≤ vec_capacity buffer.old }
     requires fits { length (runs_in leaves.old.items) + 2 ≤ 32 * leaf_count leaves.old spare.old }
     requires room { LeavesHaveRoom leaves.old spare.old begun.old sizes.old }
     ensures table { IsLeafTable leaves.new.items result.entries begun.new.items sizes.new.items }
-    ensures pages { Retypes range mtype owner leaves.old.items leaves.new.items }
+    ensures pages { Retypes retyping.now leaves.old.items leaves.new.items }
     ensures kept { KeepsLeaves leaves.old.items leaves.new.items result.near.0 result.near.1 }
     ensures count { leaf_count leaves.old spare.old ≤ leaf_count leaves.new spare.new
         + (if may_lose then near.1 - near.0 else 0) }
@@ -527,9 +509,7 @@ pub(crate) fn retype_leaves<A: Allocator + Copy>(
             sizes,
             entries,
             near,
-            range,
-            mtype,
-            owner,
+            retyping,
             parts,
             Some(likely),
         );
@@ -543,10 +523,8 @@ pub(crate) fn retype_leaves<A: Allocator + Copy>(
     }
     if may_lose && near.1 - near.0 == 1 && spare.len() > 0 && sizes.number(near.0) > 1 {
         return retype_in_halves(
-            leaves, begun, sizes, spare, entries, near.0, range, mtype, owner, parts, buffer,
+            leaves, begun, sizes, spare, entries, near.0, retyping, parts, buffer,
         );
     }
-    retype_anew(
-        leaves, begun, sizes, spare, entries, near, range, mtype, owner, buffer,
-    )
+    retype_anew(leaves, begun, sizes, spare, entries, near, retyping, buffer)
 }

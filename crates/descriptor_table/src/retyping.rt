@@ -1,11 +1,9 @@
 //! A range of a table that gets a type and an owner.
 ghost use Rattle.std.specs.Prelude.{◌≡◌, ℕ, ◌+◌, ◌-◌, ◌<◌, ◌≤◌, ◌^◌, ◌++◌, ◌∷◌, [], length, map, set, take, drop, false, vec_capacity, IsTrue, OnOk, IfSome, OnSome, IfNone};
-ghost use Rattle.page_ranges.specs.declared.ranges.Owner.TheVariants.{Given};
-ghost use Rattle.page_ranges.specs.MemoryTypes.{conventional, page_count};
-ghost use Rattle.page_ranges.specs.Memory.{IsPresent, AllInRange, retyped};
-ghost use Rattle.page_ranges.specs.Runs.{pages_of, AreMaximalRuns, AreRuns};
+ghost use Rattle.page_ranges.specs.MemoryTypes.{page_count};
+ghost use Rattle.page_ranges.specs.Runs.{AreMaximalRuns, AreRuns};
 ghost use Rattle.descriptor_table.specs.Leaves.{leaf_at, runs_in, IsLeaf, AreLeaves, AreLeavesNear, BeginIn, GrowsBy, IsLeafTable};
-ghost use Rattle.descriptor_table.specs.LeafChanges.{AreOtherSizes, BeginInOthers, BeginInRest, GrowsAcross, GrowsIn, GrowsSome, IsEdgeOf, Retypes, RetypesRuns, count_across, leaf_edge, leaves_without, put_first, runs_between, runs_with_in, with_across, with_first, with_two};
+ghost use Rattle.descriptor_table.specs.LeafChanges.{AreOtherSizes, BeginInOthers, BeginInRest, GrowsAcross, GrowsIn, GrowsSome, IsEdgeOf, IsProperRetyping, Retypes, RetypesRuns, count_across, leaf_edge, leaves_without, put_first, runs_between, runs_with_in, with_across, with_first, with_two};
 ghost use Rattle.descriptor_table.specs.Reserves.{AreSame, KeepsRoom};
 ghost use Rattle.descriptor_table.specs.Summaries.{KeepsLeaves};
 ghost use Rattle.descriptor_table.specs.Tables.{EndBy, IsWindow};
@@ -44,6 +42,14 @@ const BARE_LEAVES: usize = 6;
 /// A table with this many leaves, or fewer, shares no runs: full leaves take longer to change, and few
 /// leaves are soon passed.
 pub(crate) const FEW_LEAVES: usize = 64;
+
+/// A range whose pages get a type and an owner.
+#[derive(Clone, Copy)]
+pub(crate) struct Retyping {
+    pub(crate) range: PageRange,
+    pub(crate) mtype: MemoryType,
+    pub(crate) owner: Owner,
+}
 
 /// What a change of leaves comes to: how many entries the map then has, and between which indices are the
 /// leaves that changed.
@@ -244,20 +250,16 @@ fn retype_in_leaf<A: Allocator + Copy>(
     sizes: &mut Tally<A>,
     entries: usize,
     index: usize,
-    range: PageRange,
-    mtype: MemoryType,
-    owner: Owner,
+    retyping: &Retyping,
     parts: &mut Vec<Run, A>,
     likely: Option<usize>,
 ) -> Option<usize>
     requires table { IsLeafTable leaves.old.items entries begun.old.items sizes.old.items }
-    requires near { AreLeavesNear leaves.old.items range index (index + 1) }
-    requires some { 0 < range.pages }
-    requires present { AllInRange (pages_of (runs_in leaves.old.items)) range IsPresent }
-    requires owner { mtype ≡ conventional → owner ≡ Given }
+    requires near { AreLeavesNear leaves.old.items retyping.now.range index (index + 1) }
+    requires retyping { IsProperRetyping retyping.now leaves.old.items }
     ensures table { IfSome result
         (λ n. IsLeafTable leaves.new.items n begun.new.items sizes.new.items) }
-    ensures pages { OnSome result (Retypes range mtype owner leaves.old.items leaves.new.items) }
+    ensures pages { OnSome result (Retypes retyping.now leaves.old.items leaves.new.items) }
     ensures kept { OnSome result
         (KeepsLeaves leaves.old.items leaves.new.items index (index + 1)) }
     ensures none { IfNone result
@@ -265,6 +267,11 @@ fn retype_in_leaf<A: Allocator + Copy>(
     ensures room { KeepsRoom leaves.old leaves.new begun.old begun.new sizes.old sizes.new }
     ensures len { length leaves.new.items ≡ length leaves.old.items }
 {
+    let Retyping {
+        range,
+        mtype,
+        owner,
+    } = *retyping;
     let runs = leaves[index].runs();
     let window = window_of(runs, range, likely);
     let gone = &runs[window.0..window.1];
@@ -606,20 +613,16 @@ fn retype_across<A: Allocator + Copy>(
     sizes: &mut Tally<A>,
     entries: usize,
     ends: (usize, usize),
-    range: PageRange,
-    mtype: MemoryType,
-    owner: Owner,
+    retyping: &Retyping,
     parts: &mut Vec<Run, A>,
 ) -> Option<usize>
     requires table { IsLeafTable leaves.old.items entries begun.old.items sizes.old.items }
-    requires near { AreLeavesNear leaves.old.items range ends.0 (ends.1 + 1) }
+    requires near { AreLeavesNear leaves.old.items retyping.now.range ends.0 (ends.1 + 1) }
     requires several { ends.0 < ends.1 }
-    requires some { 0 < range.pages }
-    requires present { AllInRange (pages_of (runs_in leaves.old.items)) range IsPresent }
-    requires owner { mtype ≡ conventional → owner ≡ Given }
+    requires retyping { IsProperRetyping retyping.now leaves.old.items }
     ensures table { IfSome result
         (λ n. IsLeafTable leaves.new.items n begun.new.items sizes.new.items) }
-    ensures pages { OnSome result (Retypes range mtype owner leaves.old.items leaves.new.items) }
+    ensures pages { OnSome result (Retypes retyping.now leaves.old.items leaves.new.items) }
     ensures kept { OnSome result
         (KeepsLeaves leaves.old.items leaves.new.items ends.0 (ends.1 + 1)) }
     ensures none { IfNone result
@@ -628,6 +631,11 @@ fn retype_across<A: Allocator + Copy>(
     ensures lost { length leaves.old.items + ends.0 ≤ length leaves.new.items + ends.1 }
     ensures few { length leaves.new.items ≤ length leaves.old.items }
 {
+    let Retyping {
+        range,
+        mtype,
+        owner,
+    } = *retyping;
     let low = count_ending_below(leaves[ends.0].runs(), range.first, None);
     let high = count_beginning_by(leaves[ends.1].runs(), range.first + range.pages);
     let window = (low, high);
@@ -654,19 +662,15 @@ fn retype_in_pair<A: Allocator + Copy>(
     sizes: &mut Tally<A>,
     entries: usize,
     near: (usize, usize),
-    range: PageRange,
-    mtype: MemoryType,
-    owner: Owner,
+    retyping: &Retyping,
     parts: &mut Vec<Run, A>,
 ) -> Option<Change>
     requires table { IsLeafTable leaves.old.items entries begun.old.items sizes.old.items }
-    requires near { AreLeavesNear leaves.old.items range near.0 near.1 }
-    requires some { 0 < range.pages }
-    requires present { AllInRange (pages_of (runs_in leaves.old.items)) range IsPresent }
-    requires owner { mtype ≡ conventional → owner ≡ Given }
+    requires near { AreLeavesNear leaves.old.items retyping.now.range near.0 near.1 }
+    requires retyping { IsProperRetyping retyping.now leaves.old.items }
     ensures table { IfSome result
         (λ it. IsLeafTable leaves.new.items it.entries begun.new.items sizes.new.items) }
-    ensures pages { OnSome result (Retypes range mtype owner leaves.old.items leaves.new.items) }
+    ensures pages { OnSome result (Retypes retyping.now leaves.old.items leaves.new.items) }
     ensures kept { IfSome result
         (λ it. KeepsLeaves leaves.old.items leaves.new.items it.near.0 it.near.1) }
     ensures none { IfNone result
@@ -679,11 +683,15 @@ fn retype_in_pair<A: Allocator + Copy>(
     if near.1 - near.0 != 1 || leaves.len() <= FEW_LEAVES {
         return None;
     }
-    let first = first_of_pair(leaves.as_slice(), sizes, range, near.0, SHARED_SIZE)?;
-    let ends = (first, first + 1);
-    let entries = retype_across(
-        leaves, begun, sizes, entries, ends, range, mtype, owner, parts,
+    let first = first_of_pair(
+        leaves.as_slice(),
+        sizes,
+        retyping.range,
+        near.0,
+        SHARED_SIZE,
     )?;
+    let ends = (first, first + 1);
+    let entries = retype_across(leaves, begun, sizes, entries, ends, retyping, parts)?;
     Some(Change {
         entries,
         near: (first, first + 2),
@@ -701,20 +709,16 @@ pub(crate) fn retype_in_place<A: Allocator + Copy>(
     sizes: &mut Tally<A>,
     entries: usize,
     near: (usize, usize),
-    range: PageRange,
-    mtype: MemoryType,
-    owner: Owner,
+    retyping: &Retyping,
     parts: &mut Vec<Run, A>,
     likely: Option<usize>,
 ) -> Option<Change>
     requires table { IsLeafTable leaves.old.items entries begun.old.items sizes.old.items }
-    requires near { AreLeavesNear leaves.old.items range near.0 near.1 }
-    requires some { 0 < range.pages }
-    requires present { AllInRange (pages_of (runs_in leaves.old.items)) range IsPresent }
-    requires owner { mtype ≡ conventional → owner ≡ Given }
+    requires near { AreLeavesNear leaves.old.items retyping.now.range near.0 near.1 }
+    requires retyping { IsProperRetyping retyping.now leaves.old.items }
     ensures table { IfSome result
         (λ it. IsLeafTable leaves.new.items it.entries begun.new.items sizes.new.items) }
-    ensures pages { OnSome result (Retypes range mtype owner leaves.old.items leaves.new.items) }
+    ensures pages { OnSome result (Retypes retyping.now leaves.old.items leaves.new.items) }
     ensures kept { IfSome result
         (λ it. KeepsLeaves leaves.old.items leaves.new.items it.near.0 it.near.1) }
     ensures none { IfNone result
@@ -728,19 +732,15 @@ pub(crate) fn retype_in_place<A: Allocator + Copy>(
     let changed = match near.1 - near.0 {
         0 => None,
         1 => retype_in_leaf(
-            leaves, begun, sizes, entries, near.0, range, mtype, owner, parts, likely,
+            leaves, begun, sizes, entries, near.0, retyping, parts, likely,
         ),
         _ => {
             let ends = (near.0, near.1 - 1);
-            retype_across(
-                leaves, begun, sizes, entries, ends, range, mtype, owner, parts,
-            )
+            retype_across(leaves, begun, sizes, entries, ends, retyping, parts)
         }
     };
     if let Some(entries) = changed {
         return Some(Change { entries, near });
     }
-    retype_in_pair(
-        leaves, begun, sizes, entries, near, range, mtype, owner, parts,
-    )
+    retype_in_pair(leaves, begun, sizes, entries, near, retyping, parts)
 }

@@ -20,7 +20,7 @@ use crate::groups::{Group, make_groups, renew_groups};
 use crate::leaf_searches::{all_in_range, holds_all, place_of, run_at_index, run_in_leaves};
 use crate::leaves::{LEAF_SIZE, Leaf, leaves_of, sizes_of};
 use crate::new_leaves::{add_spare, lay_in_order, retype_leaves};
-use crate::retyping::{FEW_LEAVES, MAX_PARTS, leaves_near};
+use crate::retyping::{FEW_LEAVES, MAX_PARTS, Retyping, leaves_near};
 use crate::searches::PageTest;
 use crate::spare_leaves::SpareLeaves;
 use crate::tallies::Tally;
@@ -171,9 +171,11 @@ impl<A: Allocator + Copy> RunTable<A> {
             &mut self.spare,
             self.entries,
             near,
-            range,
-            mtype,
-            owner,
+            &Retyping {
+                range,
+                mtype,
+                owner,
+            },
             &mut self.parts,
             &mut self.buffer,
             lost <= all && runs <= LEAF_SIZE * (all - lost),

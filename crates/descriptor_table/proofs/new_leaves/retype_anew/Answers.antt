@@ -18,7 +18,7 @@ fill_buffer-near-requires-clause-ends g c =
 
 pub fill_buffer-near-requires-clause-within : goal.fill_buffer-near-requires-clause-within
 fill_buffer-near-requires-clause-within g c =
-    present_within _ c.args.range c.requires.table.table.proper c.requires.some c.requires.present
+    present_within _ c.args.retyping.now.range c.requires.table.table.proper c.requires.retyping.some c.requires.retyping.present
 
 pub put_leaves-requires-clause-old : goal.put_leaves-requires-clause-old
 put_leaves-requires-clause-old g c =
@@ -27,40 +27,40 @@ put_leaves-requires-clause-old g c =
 pub put_leaves-requires-clause-grows : goal.put_leaves-requires-clause-grows
 put_leaves-requires-clause-grows g c =
     let ls = c.args.leaves.now.items in
-    let range = c.args.range in
+    let range = c.args.retyping.now.range in
     let from = c.fill_buffer-near.result.0 in
     let to = c.fill_buffer-near.result.1 in
     let near = rw c.as_slice.ensures.value at c.fill_buffer-near.ensures.near in
     let pages = rw c.as_slice.ensures.value at c.fill_buffer-near.ensures.pages in
     let parts = c.fill_buffer-near.new.buffer.items in
-    rw c.as_slice-2.ensures.value (put_grows ls range from to near c.args.entries c.args.mtype c.args.owner c.requires.table.table c.requires.some c.requires.present parts c.fill_buffer-near.ensures.order pages)
+    rw c.as_slice-2.ensures.value (put_grows ls range from to near c.args.entries c.args.retyping.now.mtype c.args.retyping.now.owner c.requires.table.table c.requires.retyping.some c.requires.retyping.present parts c.fill_buffer-near.ensures.order pages)
 
 pub put_leaves-requires-clause-new : goal.put_leaves-requires-clause-new
 put_leaves-requires-clause-new g c =
     let ls = c.args.leaves.now.items in
-    let range = c.args.range in
+    let range = c.args.retyping.now.range in
     let from = c.fill_buffer-near.result.0 in
     let to = c.fill_buffer-near.result.1 in
     let near = rw c.as_slice.ensures.value at c.fill_buffer-near.ensures.near in
     let pages = rw c.as_slice.ensures.value at c.fill_buffer-near.ensures.pages in
     let parts = c.fill_buffer-near.new.buffer.items in
-    rw c.as_slice-2.ensures.value (put_runs ls range from to near c.args.entries c.args.mtype c.args.owner c.requires.table.table c.requires.some c.requires.present parts c.fill_buffer-near.ensures.order pages)
+    rw c.as_slice-2.ensures.value (put_runs ls range from to near c.args.entries c.args.retyping.now.mtype c.args.retyping.now.owner c.requires.table.table c.requires.retyping.some c.requires.retyping.present parts c.fill_buffer-near.ensures.order pages)
 
 pub put_leaves-requires-clause-ends : goal.put_leaves-requires-clause-ends
 put_leaves-requires-clause-ends g c =
     let ls = c.args.leaves.now.items in
-    let range = c.args.range in
+    let range = c.args.retyping.now.range in
     let from = c.fill_buffer-near.result.0 in
     let to = c.fill_buffer-near.result.1 in
     let near = rw c.as_slice.ensures.value at c.fill_buffer-near.ensures.near in
     let pages = rw c.as_slice.ensures.value at c.fill_buffer-near.ensures.pages in
     let parts = c.fill_buffer-near.new.buffer.items in
-    rw c.as_slice-2.ensures.value (put_ends ls range from to near c.args.entries c.args.mtype c.args.owner c.requires.table.table c.requires.some c.requires.present parts c.fill_buffer-near.ensures.order pages c.requires.owner)
+    rw c.as_slice-2.ensures.value (put_ends ls range from to near c.args.entries c.args.retyping.now.mtype c.args.retyping.now.owner c.requires.table.table c.requires.retyping.some c.requires.retyping.present parts c.fill_buffer-near.ensures.order pages c.requires.retyping.owner)
 
 pub returns-clause-table : goal.returns-clause-table
 returns-clause-table g c =
     let ls = c.args.leaves.now.items in
-    let range = c.args.range in
+    let range = c.args.retyping.now.range in
     let from = c.fill_buffer-near.result.0 in
     let to = c.fill_buffer-near.result.1 in
     let near = rw c.as_slice.ensures.value at c.fill_buffer-near.ensures.near in
@@ -69,7 +69,7 @@ returns-clause-table g c =
     let new = rw c.as_slice-2.ensures.value at c.put_leaves.ensures.runs in
     let all = begin_all [] c.put_leaves.new.leaves.items c.put_leaves.new.begun.items c.put_leaves.ensures.begun in
     record {
-      table = rw new (put_table ls range from to near c.args.entries c.args.mtype c.args.owner c.requires.table.table c.requires.some c.requires.present parts c.fill_buffer-near.ensures.order pages c.requires.owner c.sum.result (omega (arith, c.sum.ensures, all, ap entry_count new)));
+      table = rw new (put_table ls range from to near c.args.entries c.args.retyping.now.mtype c.args.retyping.now.owner c.requires.table.table c.requires.retyping.some c.requires.retyping.present parts c.fill_buffer-near.ensures.order pages c.requires.retyping.owner c.sum.result (omega (arith, c.sum.ensures, all, ap entry_count new)));
       leaves = c.put_leaves.ensures.leaves;
       begun = c.put_leaves.ensures.begun;
       sizes = c.put_leaves.ensures.sizes;
@@ -78,14 +78,14 @@ returns-clause-table g c =
 pub returns-clause-pages : goal.returns-clause-pages
 returns-clause-pages g c =
     let ls = c.args.leaves.now.items in
-    let range = c.args.range in
+    let range = c.args.retyping.now.range in
     let from = c.fill_buffer-near.result.0 in
     let to = c.fill_buffer-near.result.1 in
     let near = rw c.as_slice.ensures.value at c.fill_buffer-near.ensures.near in
     let pages = rw c.as_slice.ensures.value at c.fill_buffer-near.ensures.pages in
     let parts = c.fill_buffer-near.new.buffer.items in
     let new = rw c.as_slice-2.ensures.value at c.put_leaves.ensures.runs in
-    rw new (put_pages ls range from to near c.args.entries c.args.mtype c.args.owner c.requires.table.table c.requires.some c.requires.present parts c.fill_buffer-near.ensures.order pages)
+    rw new (put_pages ls range from to near c.args.entries c.args.retyping.now.mtype c.args.retyping.now.owner c.requires.table.table c.requires.retyping.some c.requires.retyping.present parts c.fill_buffer-near.ensures.order pages)
 
 pub as_slice-requires-2 : goal.as_slice-requires-2
 as_slice-requires-2 g c = λ κs low. (⊑_static κs.1.0, low)

@@ -14,11 +14,11 @@ halves_near-near-requires-clause-runs g c =
 
 pub halves_near-near-requires-clause-near : goal.halves_near-near-requires-clause-near
 halves_near-near-requires-clause-near g c =
-    rw c.as_slice.ensures.value (halves_have c.args.leaves.now.items c.split_leaf.new.leaves.items c.args.range c.args.index c.requires.near c.split_leaf.ensures.before c.split_leaf.ensures.behind c.split_leaf.ensures.len)
+    rw c.as_slice.ensures.value (halves_have c.args.leaves.now.items c.split_leaf.new.leaves.items c.args.retyping.now.range c.args.index c.requires.near c.split_leaf.ensures.before c.split_leaf.ensures.behind c.split_leaf.ensures.len)
 
 pub halves_near-near-requires-clause-within : goal.halves_near-near-requires-clause-within
 halves_near-near-requires-clause-within g c =
-    present_within _ c.args.range c.requires.table.table.proper c.requires.some c.requires.present
+    present_within _ c.args.retyping.now.range c.requires.table.table.proper c.requires.retyping.some c.requires.retyping.present
 
 pub returns-clause-table : goal.returns-clause-table
 returns-clause-table g c = elim c.match-changed.branch [
@@ -92,23 +92,18 @@ retype_in_place-changed-requires-clause-table g c = c.split_leaf.ensures.table
 pub retype_in_place-changed-requires-clause-near : goal.retype_in_place-changed-requires-clause-near
 retype_in_place-changed-requires-clause-near g c = rw c.as_slice.ensures.value at c.halves_near-near.ensures.near
 
-pub retype_in_place-changed-requires-clause-some : goal.retype_in_place-changed-requires-clause-some
-retype_in_place-changed-requires-clause-some g c = c.requires.some
-
-pub retype_in_place-changed-requires-clause-present : goal.retype_in_place-changed-requires-clause-present
-retype_in_place-changed-requires-clause-present g c = rw c.split_leaf.ensures.runs c.requires.present
-
-pub retype_in_place-changed-requires-clause-owner : goal.retype_in_place-changed-requires-clause-owner
-retype_in_place-changed-requires-clause-owner g c = c.requires.owner
-
-pub retype_anew-change-requires-clause-some : goal.retype_anew-change-requires-clause-some
-retype_anew-change-requires-clause-some g c = c.requires.some
-
-pub retype_anew-change-requires-clause-owner : goal.retype_anew-change-requires-clause-owner
-retype_anew-change-requires-clause-owner g c = c.requires.owner
-
 pub returns-clause-capacity : goal.returns-clause-capacity
 returns-clause-capacity g c = elim c.match-changed.branch [
   | in-Some w ↦ rw w.buffer-is (omega (arith, c.split_leaf.ensures.capacity))
   | in-None w ↦ rw w.buffer-is (omega (arith, c.split_leaf.ensures.capacity, w.retype_anew-change.ensures.capacity))
 ]
+
+pub retype_in_place-changed-requires-clause-retyping : goal.retype_in_place-changed-requires-clause-retyping
+retype_in_place-changed-requires-clause-retyping g c =
+    let asked = c.requires.retyping in
+    record { some = asked.some; present = rw c.split_leaf.ensures.runs asked.present; owner = asked.owner }
+
+pub retype_anew-change-requires-clause-retyping : goal.retype_anew-change-requires-clause-retyping
+retype_anew-change-requires-clause-retyping g c =
+    let asked = c.requires.retyping in
+    record { some = asked.some; present = rw (c.in-None.ensures.none.0, c.split_leaf.ensures.runs) asked.present; owner = asked.owner }

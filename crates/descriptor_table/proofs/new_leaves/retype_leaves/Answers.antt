@@ -10,14 +10,5 @@ returns-clause-capacity g c = omega arith
 pub returns-in-Some-clause-capacity : goal.returns-in-Some-clause-capacity
 returns-in-Some-clause-capacity g c = omega arith
 
-pub retype_anew-requires-clause-some : goal.retype_anew-requires-clause-some
-retype_anew-requires-clause-some g c = omega arith
-
-pub retype_in_place-changed-requires-clause-some : goal.retype_in_place-changed-requires-clause-some
-retype_in_place-changed-requires-clause-some g c = omega arith
-
-pub retype_in_halves-requires-clause-some : goal.retype_in_halves-requires-clause-some
-retype_in_halves-requires-clause-some g c = omega arith
-
 pub retype_in_halves-requires-clause-spare : goal.retype_in_halves-requires-clause-spare
 retype_in_halves-requires-clause-spare g c = omega arith

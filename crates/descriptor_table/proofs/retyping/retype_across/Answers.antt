@@ -29,19 +29,19 @@ count_beginning_by-high-requires g c =
 
 pub overflow_add-range : goal.overflow_add-range
 overflow_add-range g c =
-    omega (arith, present_within _ c.args.range c.requires.table.table.proper c.requires.some c.requires.present)
+    omega (arith, present_within _ c.args.retyping.now.range c.requires.table.table.proper c.requires.retyping.some c.requires.retyping.present)
 
 pub push_across-requires-clause-within : goal.push_across-requires-clause-within
 push_across-requires-clause-within g c =
-    present_within _ c.args.range c.requires.table.table.proper c.requires.some c.requires.present
+    present_within _ c.args.retyping.now.range c.requires.table.table.proper c.requires.retyping.some c.requires.retyping.present
 
 pub push_across-requires-clause-low : goal.push_across-requires-clause-low
 push_across-requires-clause-low g c =
     let ls = c.args.leaves.now.items in
     let n = c.args.entries in
-    let range = c.args.range in
-    let t = c.args.mtype in
-    let o = c.args.owner in
+    let range = c.args.retyping.now.range in
+    let t = c.args.retyping.now.mtype in
+    let o = c.args.retyping.now.owner in
     let table = c.requires.table.table in
     let near = c.requires.near in
     let i = c.args.ends.0 in
@@ -58,9 +58,9 @@ pub push_across-requires-clause-high : goal.push_across-requires-clause-high
 push_across-requires-clause-high g c =
     let ls = c.args.leaves.now.items in
     let n = c.args.entries in
-    let range = c.args.range in
-    let t = c.args.mtype in
-    let o = c.args.owner in
+    let range = c.args.retyping.now.range in
+    let t = c.args.retyping.now.mtype in
+    let o = c.args.retyping.now.owner in
     let table = c.requires.table.table in
     let near = c.requires.near in
     let i = c.args.ends.0 in
@@ -77,9 +77,9 @@ pub push_across-requires-clause-runs : goal.push_across-requires-clause-runs
 push_across-requires-clause-runs g c =
     let ls = c.args.leaves.now.items in
     let n = c.args.entries in
-    let range = c.args.range in
-    let t = c.args.mtype in
-    let o = c.args.owner in
+    let range = c.args.retyping.now.range in
+    let t = c.args.retyping.now.mtype in
+    let o = c.args.retyping.now.owner in
     let table = c.requires.table.table in
     let near = c.requires.near in
     let i = c.args.ends.0 in
@@ -102,9 +102,9 @@ pub push_across-requires-clause-ends : goal.push_across-requires-clause-ends
 push_across-requires-clause-ends g c =
     let ls = c.args.leaves.now.items in
     let n = c.args.entries in
-    let range = c.args.range in
-    let t = c.args.mtype in
-    let o = c.args.owner in
+    let range = c.args.retyping.now.range in
+    let t = c.args.retyping.now.mtype in
+    let o = c.args.retyping.now.owner in
     let table = c.requires.table.table in
     let near = c.requires.near in
     let i = c.args.ends.0 in
@@ -131,9 +131,9 @@ pub put_between-requires-clause-low : goal.put_between-requires-clause-low
 put_between-requires-clause-low g c =
     let ls = c.args.leaves.now.items in
     let n = c.args.entries in
-    let range = c.args.range in
-    let t = c.args.mtype in
-    let o = c.args.owner in
+    let range = c.args.retyping.now.range in
+    let t = c.args.retyping.now.mtype in
+    let o = c.args.retyping.now.owner in
     let table = c.requires.table.table in
     let near = c.requires.near in
     let i = c.args.ends.0 in
@@ -150,9 +150,9 @@ pub put_between-requires-clause-high : goal.put_between-requires-clause-high
 put_between-requires-clause-high g c =
     let ls = c.args.leaves.now.items in
     let n = c.args.entries in
-    let range = c.args.range in
-    let t = c.args.mtype in
-    let o = c.args.owner in
+    let range = c.args.retyping.now.range in
+    let t = c.args.retyping.now.mtype in
+    let o = c.args.retyping.now.owner in
     let table = c.requires.table.table in
     let near = c.requires.near in
     let i = c.args.ends.0 in
@@ -169,9 +169,9 @@ pub put_between-requires-clause-grows : goal.put_between-requires-clause-grows
 put_between-requires-clause-grows g c =
     let ls = c.args.leaves.now.items in
     let n = c.args.entries in
-    let range = c.args.range in
-    let t = c.args.mtype in
-    let o = c.args.owner in
+    let range = c.args.retyping.now.range in
+    let t = c.args.retyping.now.mtype in
+    let o = c.args.retyping.now.owner in
     let table = c.requires.table.table in
     let near = c.requires.near in
     let i = c.args.ends.0 in
@@ -191,15 +191,15 @@ put_between-requires-clause-grows g c =
     let parts = c.push_across.new.parts.items in
     let order = c.in-Ok.ensures.order in
     let pages = rw c.as_slice-all.ensures.value at c.in-Ok.ensures.pages in
-    across_grows ls i k low high h b parts (entry_count old) (entry_count parts) (window_grows (runs_in ls) n range t o table before old behind cut c.requires.some c.requires.present parts order pages)
+    across_grows ls i k low high h b parts (entry_count old) (entry_count parts) (window_grows (runs_in ls) n range t o table before old behind cut c.requires.retyping.some c.requires.retyping.present parts order pages)
 
 pub put_between-requires-clause-new : goal.put_between-requires-clause-new
 put_between-requires-clause-new g c =
     let ls = c.args.leaves.now.items in
     let n = c.args.entries in
-    let range = c.args.range in
-    let t = c.args.mtype in
-    let o = c.args.owner in
+    let range = c.args.retyping.now.range in
+    let t = c.args.retyping.now.mtype in
+    let o = c.args.retyping.now.owner in
     let table = c.requires.table.table in
     let near = c.requires.near in
     let i = c.args.ends.0 in
@@ -219,15 +219,15 @@ put_between-requires-clause-new g c =
     let parts = c.push_across.new.parts.items in
     let order = c.in-Ok.ensures.order in
     let pages = rw c.as_slice-all.ensures.value at c.in-Ok.ensures.pages in
-    subst AreRuns (sym (across_is ls i k low high h b parts)) (new_runs (runs_in ls) n range t o table before old behind cut c.requires.some c.requires.present parts order pages)
+    subst AreRuns (sym (across_is ls i k low high h b parts)) (new_runs (runs_in ls) n range t o table before old behind cut c.requires.retyping.some c.requires.retyping.present parts order pages)
 
 pub put_between-requires-clause-ends : goal.put_between-requires-clause-ends
 put_between-requires-clause-ends g c =
     let ls = c.args.leaves.now.items in
     let n = c.args.entries in
-    let range = c.args.range in
-    let t = c.args.mtype in
-    let o = c.args.owner in
+    let range = c.args.retyping.now.range in
+    let t = c.args.retyping.now.mtype in
+    let o = c.args.retyping.now.owner in
     let table = c.requires.table.table in
     let near = c.requires.near in
     let i = c.args.ends.0 in
@@ -247,15 +247,15 @@ put_between-requires-clause-ends g c =
     let parts = c.push_across.new.parts.items in
     let order = c.in-Ok.ensures.order in
     let pages = rw c.as_slice-all.ensures.value at c.in-Ok.ensures.pages in
-    subst (EndBy page_count) (sym (across_is ls i k low high h b parts)) (new_ends (runs_in ls) n range t o table before old behind cut c.requires.some c.requires.present parts order pages c.requires.owner)
+    subst (EndBy page_count) (sym (across_is ls i k low high h b parts)) (new_ends (runs_in ls) n range t o table before old behind cut c.requires.retyping.some c.requires.retyping.present parts order pages c.requires.retyping.owner)
 
 pub returns-clause-table : goal.returns-clause-table
 returns-clause-table g c =
     let ls = c.args.leaves.now.items in
     let n = c.args.entries in
-    let range = c.args.range in
-    let t = c.args.mtype in
-    let o = c.args.owner in
+    let range = c.args.retyping.now.range in
+    let t = c.args.retyping.now.mtype in
+    let o = c.args.retyping.now.owner in
     let table = c.requires.table.table in
     let near = c.requires.near in
     let i = c.args.ends.0 in
@@ -277,10 +277,10 @@ returns-clause-table g c =
     let pages = rw c.as_slice-all.ensures.value at c.in-Ok.ensures.pages in
     let new = c.put_between.ensures.runs c.if-not-put_between.false ∙ across_is ls i k low high h b parts in
     let begun = c.put_between.ensures.begun c.if-not-put_between.false in
-    let count = new_count (runs_in ls) n range t o table before old behind cut c.requires.some c.requires.present parts order pages in
+    let count = new_count (runs_in ls) n range t o table before old behind cut c.requires.retyping.some c.requires.retyping.present parts order pages in
     let all = begin_all [] c.put_between.new.leaves.items c.put_between.new.begun.items begun in
     record {
-      table = subst (λ rs. IsTable rs c.sum.result) (sym new) (new_table (runs_in ls) n range t o table before old behind cut c.requires.some c.requires.present parts order pages c.requires.owner c.sum.result (omega (arith, c.sum.ensures, all, ap entry_count new, count)));
+      table = subst (λ rs. IsTable rs c.sum.result) (sym new) (new_table (runs_in ls) n range t o table before old behind cut c.requires.retyping.some c.requires.retyping.present parts order pages c.requires.retyping.owner c.sum.result (omega (arith, c.sum.ensures, all, ap entry_count new, count)));
       leaves = c.put_between.ensures.leaves c.if-not-put_between.false;
       begun = begun;
       sizes = c.put_between.ensures.sizes c.if-not-put_between.false;
@@ -290,9 +290,9 @@ pub returns-clause-pages : goal.returns-clause-pages
 returns-clause-pages g c =
     let ls = c.args.leaves.now.items in
     let n = c.args.entries in
-    let range = c.args.range in
-    let t = c.args.mtype in
-    let o = c.args.owner in
+    let range = c.args.retyping.now.range in
+    let t = c.args.retyping.now.mtype in
+    let o = c.args.retyping.now.owner in
     let table = c.requires.table.table in
     let near = c.requires.near in
     let i = c.args.ends.0 in
@@ -313,7 +313,7 @@ returns-clause-pages g c =
     let order = c.in-Ok.ensures.order in
     let pages = rw c.as_slice-all.ensures.value at c.in-Ok.ensures.pages in
     let new = c.put_between.ensures.runs c.if-not-put_between.false ∙ across_is ls i k low high h b parts in
-    rw new (new_pages (runs_in ls) n range t o table before old behind cut c.requires.some c.requires.present parts order pages)
+    rw new (new_pages (runs_in ls) n range t o table before old behind cut c.requires.retyping.some c.requires.retyping.present parts order pages)
 
 pub clear-requires : goal.clear-requires
 clear-requires g c = λ κs low. (⊑_static κs.1.0, low)

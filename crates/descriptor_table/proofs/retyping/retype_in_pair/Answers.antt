@@ -11,7 +11,7 @@ returns-then-near-ne1-clause-none g c = (refl, refl, refl)
 pub first_of_pair-requires-clause-near : goal.first_of_pair-requires-clause-near
 first_of_pair-requires-clause-near g c =
     let e : c.args.near.1 ≡ c.args.near.0 + 1 = omega arith in
-    rw c.as_slice.ensures.value (subst (AreLeavesNear c.args.leaves.now.items c.args.range c.args.near.0) e c.requires.near)
+    rw c.as_slice.ensures.value (subst (AreLeavesNear c.args.leaves.now.items c.args.retyping.now.range c.args.near.0) e c.requires.near)
 
 pub first_of_pair-requires-clause-sizes : goal.first_of_pair-requires-clause-sizes
 first_of_pair-requires-clause-sizes g c = rw c.as_slice.ensures.value c.requires.table.sizes
@@ -20,7 +20,7 @@ pub retype_across-requires-clause-near : goal.retype_across-requires-clause-near
 retype_across-requires-clause-near g c =
     let first = c.in_ok-first.first in
     let e : first + 2 ≡ first + 1 + 1 = omega arith in
-    subst (AreLeavesNear c.args.leaves.now.items c.args.range first) e (rw c.as_slice.ensures.value at c.in_ok-first.ensures)
+    subst (AreLeavesNear c.args.leaves.now.items c.args.retyping.now.range first) e (rw c.as_slice.ensures.value at c.in_ok-first.ensures)
 
 pub returns-clause-table : goal.returns-clause-table
 returns-clause-table g c = c.in_ok-entries.ensures.table
@@ -75,9 +75,6 @@ returns-then-near-ne1-clause-lost g c = omega arith
 
 pub retype_across-requires-clause-several : goal.retype_across-requires-clause-several
 retype_across-requires-clause-several g c = omega arith
-
-pub retype_across-requires-clause-some : goal.retype_across-requires-clause-some
-retype_across-requires-clause-some g c = omega arith
 
 pub overflow_add-ends : goal.overflow_add-ends
 overflow_add-ends g c = omega (arith, c.in_ok-first.ensures.bound, ap length c.as_slice.ensures.value)

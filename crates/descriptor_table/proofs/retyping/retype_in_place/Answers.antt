@@ -9,12 +9,3 @@ overflow_sub-near g c = omega arith
 
 pub retype_across-changed-requires-clause-several : goal.retype_across-changed-requires-clause-several
 retype_across-changed-requires-clause-several g c = omega arith
-
-pub retype_across-changed-requires-clause-some : goal.retype_across-changed-requires-clause-some
-retype_across-changed-requires-clause-some g c = omega arith
-
-pub retype_in_leaf-changed-requires-clause-some : goal.retype_in_leaf-changed-requires-clause-some
-retype_in_leaf-changed-requires-clause-some g c = omega arith
-
-pub retype_in_pair-requires-clause-some : goal.retype_in_pair-requires-clause-some
-retype_in_pair-requires-clause-some g c = omega arith

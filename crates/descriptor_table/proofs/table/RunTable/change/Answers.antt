@@ -40,8 +40,9 @@ retype_leaves-change-requires-clause-table g c =
     let is = c.self.invariant.0 in
     record { table = is.table; leaves = is.leaves; begun = is.begun; sizes = is.sizes }
 
-pub retype_leaves-change-requires-clause-present : goal.retype_leaves-change-requires-clause-present
-retype_leaves-change-requires-clause-present g c = rw (ap (λ t. t.pages) c.self.view_is) c.requires.present
+pub retype_leaves-change-requires-clause-retyping : goal.retype_leaves-change-requires-clause-retyping
+retype_leaves-change-requires-clause-retyping g c =
+    record { some = omega arith; present = rw (ap (λ t. t.pages) c.self.view_is) c.requires.present; owner = c.requires.owner }
 
 pub renew_groups-requires-clause-as_many : goal.renew_groups-requires-clause-as_many
 renew_groups-requires-clause-as_many g c = λ same.
