@@ -3,7 +3,9 @@
  * an allocation between them is served or leaves all as it was. Of allocations that are freed in
  * parts, as many FreePages as there were AllocatePages return SUCCESS, whatever they free; a later
  * one may return OUT_OF_RESOURCES, leaves all as it was then, and returns SUCCESS once there is
- * memory. A new core places pages 64 times, and frees them, without memory. The heap is that of
+ * memory. A new core places pages 64 times, and frees them, without memory. A block of a page or
+ * less that is taken and freed in turn takes no memory after the first time, and its bytes are 0
+ * each time. The heap is that of
  * refusing_heap.h, instead of the library's. Each point that does not hold is printed on standard
  * error, and then the status is 1. */
 #include "drawn_load.h"
@@ -13,6 +15,7 @@
 
 #include <limits.h>
 #include <stdlib.h>
+#include <string.h>
 
 static struct map first, before, after;
 
@@ -219,6 +222,37 @@ static void try_first_placements(uint64_t seed, uint64_t granule)
     HOLDS(in_use == 0);
 }
 
+/* ---- A block by turns ---- */
+
+#define LARGEST_IN_A_PAGE 4088U
+
+/* Each time the block has an extent of its own, of another type, which lies where the last one lay
+ * in the library's memory. */
+static void try_turns(uint64_t seed)
+{
+    static uint8_t bytes[LARGEST_IN_A_PAGE];
+    struct rafkudin *core = core_of_load(1, false);
+
+    for (int turn = 0; turn < 200; turn++) {
+        uint64_t address = 0;
+        size_t size = 1 + (size_t)draw_below(&seed, LARGEST_IN_A_PAGE), set = 0;
+
+        HOLDS(RafkudinAllocatePool(core, 1 + (uint32_t)draw_below(&seed, 6), size, &address) ==
+              RAFKUDIN_SUCCESS);
+        HOLDS(RafkudinPoolRead(core, address, bytes, size) == RAFKUDIN_SUCCESS);
+        for (size_t at = 0; at < size; at++)
+            set += bytes[at] != 0;
+        HOLDS(set == 0);
+        memset(bytes, 0xa5, size);
+        HOLDS(RafkudinPoolWrite(core, address, bytes, size) == RAFKUDIN_SUCCESS);
+        HOLDS(RafkudinFreePool(core, address) == RAFKUDIN_SUCCESS);
+        refuse(1, ULONG_MAX);
+    }
+    refuse_none();
+    RafkudinFree(core);
+    HOLDS(in_use == 0);
+}
+
 /* A core for which there is no memory is not made, whichever allocation is the first that is
  * refused. */
 static void try_making(void)
@@ -251,6 +285,8 @@ int main(void)
     try_by_hand();
     for (uint64_t seed = 1; seed <= 40; seed++)
         try_first_placements(seed, seed % 2 == 0 ? 1 : 16);
+    for (uint64_t seed = 1; seed <= 8; seed++)
+        try_turns(seed);
     try_making();
     return points_end("freed_without_memory");
 }
