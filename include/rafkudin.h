@@ -73,7 +73,7 @@
  * docs/C.md says what these must do, how to link, and how a firmware builds the library. On x86-64
  * it runs on every processor and may be interrupted anywhere, as it uses no byte below the stack
  * pointer. ReinstallProtocolInterface and ConnectController take up to 8 KB of stack, services that
- * change pages 10 KB, RafkudinFree 12 KB, RafkudinMake 20 KB, RafkudinPlace 26 KB; docs/C.md says
+ * change pages 10 KB, RafkudinFree 12.1 KB, RafkudinMake 20 KB, RafkudinPlace 26 KB; docs/C.md says
  * what others take. */
 #ifndef RAFKUDIN_H
 #define RAFKUDIN_H
