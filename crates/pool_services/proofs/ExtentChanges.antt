@@ -13,7 +13,8 @@ use Rattle.pool_services.proofs.PoolPages.{owned-extent, owns-less, replaced-typ
 use Rattle.std.proofs.lemmas.Bool.{and_parts, eqb-true, cases_eq}
 use Rattle.raw_pool.specs.Blocks.{Block, block_at, cells_for, longest_run, lowest_fit, new_block, with_block, without_block}
 use Rattle.pool_services.specs.Extents.{Extent, Place, AreExtents, IsExtent, address_of, at_cell, begins_at, cell_of, cells_in, ended, fit_in, left_of, range_if_ended, range_of, tail_at, tail_in, with_blocks, with_extent, written_in}
-use Rattle.pool_services.specs.Searches.{HasRoom, place, HoldsAddress, IsAt, IsEnded, IsFirstWithRoom, IsFound, IsGivable, IsGivenIn, IsHolder, IsWrittenIn, written_if, IsTakenIn, IsTakenLive, has_run}
+use Rattle.pool_services.specs.Regions.{with_block_at}
+use Rattle.pool_services.specs.Searches.{HasRoom, place, HoldsAddress, IsAt, IsEnded, IsFirstWithRoom, IsFound, IsGivable, IsGivenIn, IsHolder, IsWrittenIn, written_if, IsTakenAt, IsTakenLive, has_run}
 use Rattle.pool_services.proofs.CellBlocks.{are-with, are-without, are-written, count-with, count-without, count-written-in, fits}
 use Rattle.pool_services.proofs.ExtentLists.{all-at, are-set, fit-here, fit-none, are-gone, gone-is, insert-is, is-extent, place-here, set-is, set-same, tail-here, written-is}
 
@@ -58,7 +59,7 @@ is-written e address bytes v r = record {
 
 -- ---- a block is taken in an extent
 
-pub taken-none : (es : List Extent) (i size : ℕ) (x y : Extent) → IsAt es i x → y ≡ x → None ≡ lowest_fit (cells_in x.pages) (cells_for size) 0 x.blocks → IsTakenIn i size es None (set es i y)
+pub taken-none : (es : List Extent) (i size : ℕ) (x y : Extent) → IsAt es i x → y ≡ x → None ≡ lowest_fit (cells_in x.pages) (cells_for size) 0 x.blocks → IsTakenAt i size es None (set es i y)
 taken-none es i size x y h e n = (
   ap (λ (z : Extent). set es i z) e ∙ set-same es i x h,
   λ z u. ap (λ (w : Extent). fit_in size w) (same-at es i z x u h) ∙ ap (λ (o : Option ℕ). at_cell x.first o) (sym n),
@@ -67,16 +68,8 @@ taken-none es i size x y h e n = (
 pub are-kept : (es : List Extent) (i : ℕ) (x y : Extent) → AreExtents es → IsAt es i x → y ≡ x → AreExtents (set es i y)
 are-kept es i x y a h e = subst AreExtents (sym (ap (λ (z : Extent). set es i z) e ∙ set-same es i x h)) a
 
-pub taken-some : (es : List Extent) (i size c : ℕ) (x y : Extent) → AreExtents es → IsAt es i x → y ≡ with_blocks (with_block (new_block c size) x.blocks) x → Some c ≡ lowest_fit (cells_in x.pages) (cells_for size) 0 x.blocks →
-    IsTakenIn i size es (Some (address_of y.first c)) (set es i y)
-taken-some es i size c x y a h e n = (
-  x,
-  record { first = x.first; cell = c },
-  h,
-  ap (λ (o : Option ℕ). at_cell x.first o) (sym n),
-  ap (λ (z : Extent). address_of z.first c) e,
-  ap (λ (z : Extent). set es i z) e ∙ set-is (λ (z : Extent). with_blocks (with_block (new_block c size) z.blocks) z ∷ []) (with_blocks (with_block (new_block c size) x.blocks) x) es i x a h refl,
-)
+pub taken-some : (es : List Extent) (i size c : ℕ) (x y : Extent) → IsAt es i x → y ≡ with_block_at c size x → Some c ≡ lowest_fit (cells_in x.pages) (cells_for size) 0 x.blocks → IsTakenAt i size es (Some (address_of y.first c)) (set es i y)
+taken-some es i size c x y h e n = (x, c, h, n, ap (λ (z : Extent). address_of z.first c) e, ap (λ (z : Extent). set es i z) e)
 
 pub are-taken : (es : List Extent) (i size c : ℕ) (x y : Extent) → AreExtents es → IsAt es i x → y ≡ with_blocks (with_block (new_block c size) x.blocks) x → Some c ≡ lowest_fit (cells_in x.pages) (cells_for size) 0 x.blocks → AreExtents (set es i y)
 are-taken es i size c x y a h e n =
@@ -94,12 +87,17 @@ never : (first : ℕ) (o : Option ℕ) → is_some o ≡ true → at_cell first 
 never first None s n = absurd cc
 never first (Some c) s n = absurd cc
 
-pub live-taken : (t size i : ℕ) (es : List Extent) (result : Option ℕ) (new : List Extent) → AreExtents es → IsFirstWithRoom t (cells_for size) es (Some i) → IsTakenIn i size es result new → IsTakenLive t size es result new
+pub live-taken : (t size i : ℕ) (es : List Extent) (result : Option ℕ) (new : List Extent) → AreExtents es → IsFirstWithRoom t (cells_for size) es (Some i) → IsTakenAt i size es result new → IsTakenLive t size es result new
 live-taken t size i es None new a (e, h, r, b) k =
     absurd (never e.first (lowest_fit (cells_in e.pages) (cells_for size) 0 e.blocks) (room-of t size e (is-extent es i e a h) r) (k.1 e h))
-live-taken t size i es (Some address) new a (e, h, r, b) (x, p, u, f, d, n) =
+live-taken t size i es (Some address) new a (e, h, r, b) (x, c, u, f, d, n) =
     let m : x.mtype ≡ t = ap (λ (z : Extent). z.mtype) (same-at es i x e u h) ∙ eqb-true e.mtype t (and_parts (e.mtype == t) (nat_le (cells_for size) (longest_run (cells_in e.pages) 0 e.blocks)) r).0 in
-    (p, fit-here t size es i x p a u m f b, d, n)
+    let p : Place = record { first = x.first; cell = c } in (
+      p,
+      fit-here t size es i x p a u m (ap (λ (o : Option ℕ). at_cell x.first o) (sym f)) b,
+      d,
+      n ∙ set-is (λ (z : Extent). with_blocks (with_block (new_block c size) z.blocks) z ∷ []) (with_block_at c size x) es i x a u refl,
+    )
 
 -- ---- the extent that holds an address
 

@@ -12,3 +12,5 @@ pub mod KeptEnds
 pub mod FilledBlocks
 pub mod PoolGranules
 pub mod ListedBlocks
+pub mod GroupLists
+pub mod GroupChanges

@@ -168,7 +168,7 @@ next_none cells cell bs h n = rw (first_none cells 0 cell bs h n) refl
 pub found_by_cell : (address cell : ℕ) (e : Extent) → ((k : ℕ) → nat_le cell k ≡ nat_le address (address_of e.first k)) → find (is_from address) (map (listed e) e.blocks) ≡ option_map (listed e) (find (begins_from cell) e.blocks)
 found_by_cell address cell e h = find_map (is_from address) (listed e) e.blocks ∙ ap (λ o. option_map (listed e) o) (find_same (λ b. is_from address (listed e b)) (begins_from cell) (λ b. sym (h b.first)) e.blocks)
 
-low_none : (cells from address : ℕ) (e : Extent) (bs : List Block) → AreBlocks cells from bs → 4096 * e.first + 32 * cells ≤ address → find (is_from address) (map (listed e) bs) ≡ None
+pub low_none : (cells from address : ℕ) (e : Extent) (bs : List Block) → AreBlocks cells from bs → 4096 * e.first + 32 * cells ≤ address → find (is_from address) (map (listed e) bs) ≡ None
 low_none cells from address e [] h l = refl
 low_none cells from address e (b ∷ bs) h l =
     rw (lt-leb address (address_of e.first b.first) (omega (arith, ends-after cells (end_of b) bs h.2))) (low_none cells (end_of b) address e bs h.2 l)

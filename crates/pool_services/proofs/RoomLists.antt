@@ -2,7 +2,7 @@
 use Rattle.std.proofs.Common.{◌≡◌, ℕ, zero, suc, ◌+◌, ◌-◌, ◌≤◌, add-one, max, Bool, true, false, cond, List, [], ◌∷◌, ◌++◌, length, map, take, drop, set, Option, Some, None, refl, sym, ap, ◌∙◌, arith, subst, nat_le}
 use Rattle.std.specs.List.{AllByRecursion, insert}
 use Rattle.std.specs.List.Sorted.{IsPartitionedBy}
-use Rattle.std.proofs.lemmas.List.{length-map, map-set}
+use Rattle.std.proofs.lemmas.List.{drop-map, length-map, map-set, take-map}
 use Rattle.raw_pool.specs.Bytes.{put}
 use Rattle.raw_pool.specs.Blocks.{Block, cells_for, end_of, longest_run}
 use Rattle.pool_services.specs.declared.rooms.Room.{Room}
@@ -65,20 +65,20 @@ rooms-within rs es n e l = omega (arith, l, ap (λ (zs : List Room). length zs) 
 
 -- ---- the first that serves
 
-none-returned : (t cells : ℕ) (es : List Extent) (n : ℕ) → NoneServes t cells (map room_of es) 0 n → AllByRecursion (λ (e : Extent). has_run t cells e ≡ false) (take n es)
+none-returned : (t cells : ℕ) (es : List Extent) (n : ℕ) → NoneServes t cells (map room_of es) n → AllByRecursion (λ (e : Extent). has_run t cells e ≡ false) (take n es)
 none-returned t cells [] zero h = tt
 none-returned t cells [] (suc n) h = tt
 none-returned t cells (e ∷ es) zero h = tt
 none-returned t cells (e ∷ es) (suc n) h = (
-  h 0 (room_of e) (omega arith) (omega arith) (omega arith, refl),
-  none-returned t cells es n (λ k q l u r. h (suc k) q (omega arith) (omega (arith, u)) (omega (arith, r.0), r.1)),
+  h 0 (room_of e) (omega arith) (omega arith, refl),
+  none-returned t cells es n (λ k q u r. h (suc k) q (omega (arith, u)) (omega (arith, r.0), r.1)),
 )
 
-all-returned : (t cells : ℕ) (es : List Extent) → NoneServes t cells (map room_of es) 0 (length (map room_of es)) → AllByRecursion (λ (e : Extent). has_run t cells e ≡ false) es
+all-returned : (t cells : ℕ) (es : List Extent) → NoneServes t cells (map room_of es) (length (map room_of es)) → AllByRecursion (λ (e : Extent). has_run t cells e ≡ false) es
 all-returned t cells [] h = tt
 all-returned t cells (e ∷ es) h = (
-  h 0 (room_of e) (omega arith) (omega arith) (omega arith, refl),
-  all-returned t cells es (λ k q l u r. h (suc k) q (omega arith) (omega (arith, u)) (omega (arith, r.0), r.1)),
+  h 0 (room_of e) (omega arith) (omega arith, refl),
+  all-returned t cells es (λ k q u r. h (suc k) q (omega (arith, u)) (omega (arith, r.0), r.1)),
 )
 
 extent-at : (es : List Extent) (i : ℕ) (r : Room) → IsRoomAt (map room_of es) i r → (e : Extent) × IsAt es i e × (room_of e ≡ r)
@@ -86,21 +86,15 @@ extent-at [] i r h = absurd (omega (arith, h.0))
 extent-at (e ∷ es) zero r h = (e, (omega arith, refl), sym h.1)
 extent-at (e ∷ es) (suc i) r h = let (x, a, q) = extent-at es i r (omega (arith, h.0), h.1) in (x, (omega (arith, a.0), a.1), q)
 
-returned : (t cells : ℕ) (es : List Extent) (o : Option ℕ) → IsFirstServing t cells (map room_of es) 0 (length (map room_of es)) o → IsFirstWithRoom t cells es o
+returned : (t cells : ℕ) (es : List Extent) (o : Option ℕ) → IsFirstServing t cells (map room_of es) o → IsFirstWithRoom t cells es o
 returned t cells es None h = all-returned t cells es h
 returned t cells es (Some i) (r, a, s, n) =
     let (e, x, q) = extent-at es i r a in
     (e, x, ap (λ (z : Room). serves t cells z) q ∙ s, none-returned t cells es i n)
 
-pub first-returned : (t size cells : ℕ) (o : Option ℕ) (rs : List Room) (es : List Extent) → rs ≡ map room_of es → cells ≡ cells_for size → IsFirstServing t cells rs 0 (length rs) o → IsFirstWithRoom t (cells_for size) es o
+pub first-returned : (t size cells : ℕ) (o : Option ℕ) (rs : List Room) (es : List Extent) → rs ≡ map room_of es → cells ≡ cells_for size → IsFirstServing t cells rs o → IsFirstWithRoom t (cells_for size) es o
 first-returned t size cells o rs es e c h =
-    returned t (cells_for size) es o (subst (λ (zs : List Room). IsFirstServing t (cells_for size) zs 0 (length zs) o) e (subst (λ (k : ℕ). IsFirstServing t k rs 0 (length rs) o) c h))
-
-pub first-none : (t size cells : ℕ) (rs : List Room) (es : List Extent) → rs ≡ map room_of es → cells ≡ cells_for size → IsFirstServing t cells rs 0 (length rs) None → IsFirstWithRoom t (cells_for size) es None
-first-none t size cells rs es e c h = first-returned t size cells None rs es e c h
-
-pub first-some : (t size cells i : ℕ) (rs : List Room) (es : List Extent) → rs ≡ map room_of es → cells ≡ cells_for size → IsFirstServing t cells rs 0 (length rs) (Some i) → IsFirstWithRoom t (cells_for size) es (Some i)
-first-some t size cells i rs es e c h = first-returned t size cells (Some i) rs es e c h
+    returned t (cells_for size) es o (subst (λ (zs : List Room). IsFirstServing t (cells_for size) zs o) e (subst (λ (k : ℕ). IsFirstServing t k rs o) c h))
 
 -- ---- one changes, comes or goes
 
@@ -136,3 +130,9 @@ inserted (x ∷ xs) (suc i) e = ap (λ (rs : List Room). room_of x ∷ rs) (inse
 pub rooms-inserted : (rs new : List Room) (es more : List Extent) (i : ℕ) (e : Extent) (r : Room) → rs ≡ map room_of es → r ≡ room_of e → new ≡ insert rs i r → more ≡ insert es i e → new ≡ map room_of more
 rooms-inserted rs new es more i e r q s n m =
     n ∙ ap (λ (z : Room). insert rs i z) s ∙ ap (λ (zs : List Room). insert zs i (room_of e)) q ∙ inserted es i e ∙ ap (λ (ys : List Extent). map room_of ys) (sym m)
+
+pub rooms-front : (rs new : List Room) (es left : List Extent) (i : ℕ) → rs ≡ map room_of es → new ≡ take i rs → left ≡ take i es → new ≡ map room_of left
+rooms-front rs new es left i e n l = n ∙ ap (take i) e ∙ take-map room_of i es ∙ ap (map room_of) (sym l)
+
+pub rooms-rest : (rs new : List Room) (es left : List Extent) (i : ℕ) → rs ≡ map room_of es → new ≡ drop i rs → left ≡ drop i es → new ≡ map room_of left
+rooms-rest rs new es left i e n l = n ∙ ap (drop i) e ∙ drop-map room_of i es ∙ ap (map room_of) (sym l)

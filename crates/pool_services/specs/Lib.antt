@@ -4,4 +4,6 @@ pub mod Rooms
 pub mod PoolRules
 pub mod Laws
 pub mod Searches
-pub mod KeptRooms
+pub mod Regions
+pub mod Groups
+pub mod Spots

@@ -1,6 +1,6 @@
--- What is kept of the extents beside them, so that room, or the extent of an address, is found
--- soon.
-use Rattle.std.specs.Prelude.{◌≡◌, ℕ, ◌+◌, ◌-◌, ◌*◌, ◌/◌, ◌%◌, ◌≤◌, ◌<◌, ◌==◌, ◌&&◌, nat_le, slice_index, slice_index_or, Bool, true, false, List, length, Option, Some, None}
+-- What is kept of the extents of a group beside them, so that room, or the extent of an address, is
+-- found soon.
+use Rattle.std.specs.Prelude.{◌≡◌, ℕ, ◌+◌, ◌%◌, ◌≤◌, ◌<◌, ◌==◌, ◌&&◌, nat_le, slice_index, slice_index_or, Bool, true, false, List, ◌++◌, drop, length, take, Option, Some, None}
 use Rattle.raw_pool.specs.Blocks.{longest_run}
 use Rattle.pool_services.specs.declared.rooms.Room.{Room}
 use Rattle.pool_services.specs.Extents.{Extent, cells_in}
@@ -19,55 +19,39 @@ serves t cells r = (r.mtype == t) && nat_le cells r.longest
 abbrev pub IsRoomAt : List Room → ℕ → Room → Type 0
 IsRoomAt rs i r = (i < length rs) × (r ≡ slice_index_or rs i r)
 
--- how many rooms in a row share bounds
-abbrev pub stretch : ℕ
-stretch = 128
-
 -- the class of a type, of 16
 abbrev pub class_of : ℕ → ℕ
 class_of t = t % 16
 
--- the place of the bound of a class of types in the stretch that has an index
-abbrev pub slot : ℕ → ℕ → ℕ
-slot i class = 16 * (i / stretch) + class
-
--- the bound of a room is not too low
-abbrev pub IsBounded : List ℕ → ℕ → Room → Type 0
-IsBounded bounds i r = r.longest ≤ slice_index bounds (slot i (class_of r.mtype))
-
--- no room has more cells than the bound of its class in its stretch
+-- no room has more cells than the bound of its class
 abbrev pub AreBounded : List Room → List ℕ → Type 0
-AreBounded rs bounds = (i : ℕ) (r : Room) → IsRoomAt rs i r → IsBounded bounds i r
+AreBounded rs bounds =
+    (i : ℕ) (r : Room) → IsRoomAt rs i r → r.longest ≤ slice_index bounds (class_of r.mtype)
 
--- The same of all rooms but those at an index and by stretches behind it.
-abbrev pub AreBoundedBut : ℕ → List Room → List ℕ → Type 0
-AreBoundedBut from rs bounds =
-    (i : ℕ) (r : Room) → IsRoomAt rs i r → (from ≤ i → i % stretch ≡ from % stretch → ⊥)
-    → IsBounded bounds i r
+-- no room of a class has more cells than a number
+abbrev pub BoundsClass : List Room → ℕ → ℕ → Type 0
+BoundsClass rs class most =
+    (i : ℕ) (r : Room) → IsRoomAt rs i r → class_of r.mtype ≡ class → r.longest ≤ most
 
 -- no bound is lower than it was
 abbrev pub KeepsBounds : List ℕ → List ℕ → Type 0
 KeepsBounds old new = (k : ℕ) → slice_index old k ≤ slice_index new k
 
--- there are bounds for a number of rooms
-abbrev pub Covers : ℕ → ℕ → Type 0
-Covers bounds rooms = 16 * ((rooms + (stretch - 1)) / stretch) ≤ bounds
+-- the bound of a room's class is not too low for it, and no bound is lower than it was
+abbrev pub IsRaised : Room → List ℕ → List ℕ → Type 0
+IsRaised r old new = KeepsBounds old new × (r.longest ≤ slice_index new (class_of r.mtype))
 
--- none of the rooms from one index up to another serves
-abbrev pub NoneServes : ℕ → ℕ → List Room → ℕ → ℕ → Type 0
-NoneServes t cells rs start end =
-    (k : ℕ) (q : Room) → start ≤ k → k < end → IsRoomAt rs k q → serves t cells q ≡ false
+-- none of the rooms below an index serves
+abbrev pub NoneServes : ℕ → ℕ → List Room → ℕ → Type 0
+NoneServes t cells rs end =
+    (k : ℕ) (q : Room) → k < end → IsRoomAt rs k q → serves t cells q ≡ false
 
--- the first that serves of the rooms from one index up to another
-abbrev pub IsFirstServing : ℕ → ℕ → List Room → ℕ → ℕ → Option ℕ → Type 0
-IsFirstServing t cells rs start end None = NoneServes t cells rs start end
-IsFirstServing t cells rs start end (Some i) =
-    (r : Room) × IsRoomAt rs i r × (serves t cells r ≡ true) × NoneServes t cells rs start i
+-- the first room that serves
+abbrev pub IsFirstServing : ℕ → ℕ → List Room → Option ℕ → Type 0
+IsFirstServing t cells rs None = NoneServes t cells rs (length rs)
+IsFirstServing t cells rs (Some i) =
+    (r : Room) × IsRoomAt rs i r × (serves t cells r ≡ true) × NoneServes t cells rs i
 
--- the bound of the room at an index is not too low, and no bound is lower than it was
-abbrev pub IsRaised : List Room → ℕ → List ℕ → List ℕ → Type 0
-IsRaised rs at old new = KeepsBounds old new × ((r : Room) → IsRoomAt rs at r → IsBounded new at r)
-
--- there is memory for one room more, and there are bounds for it
-abbrev pub HasPlace : ℕ → ℕ → ℕ → Type 0
-HasPlace len capacity bounds = (len < capacity) × Covers bounds (len + 1)
+-- the rooms without the one at an index
+abbrev pub without_room : ℕ → List Room → List Room
+without_room at rs = take at rs ++ drop (at + 1) rs

@@ -1,12 +1,13 @@
 -- What is found in an extent and among extents.
-use Rattle.std.specs.Prelude.{◌≡◌, ℕ, suc, ◌+◌, ◌==◌, ◌&&◌, take, ◌<◌, ◌≤◌, nat_le, slice_index_or, Bool, true, false, cond, is_some, List, [], ◌∷◌, length, drop, map, Option, Some, None, Result, Ok, Err, ◌≢◌, ◌++◌}
+use Rattle.std.specs.Prelude.{◌≡◌, ℕ, suc, ◌+◌, ◌==◌, ◌&&◌, take, ◌<◌, ◌≤◌, nat_le, slice_index_or, Bool, true, false, cond, is_some, List, [], ◌∷◌, length, drop, map, set, Option, Some, None, Result, Ok, Err, ◌≢◌, ◌++◌, IsTrue, ◌↔◌}
 use Rattle.std.specs.List.{AllByRecursion}
-use Rattle.raw_pool.specs.Blocks.{Block, block_at, longest_run}
+use Rattle.raw_pool.specs.Blocks.{Block, block_at, cells_for, longest_run, lowest_fit, without_block}
 use Rattle.page_ranges.specs.declared.statuses.Status.{Status}
 use Rattle.page_services.specs.PageRules.{Book, given_back}
 use Rattle.pool_services.specs.declared.rooms.Room.{Room}
 use Rattle.pool_services.specs.PoolRules.{IsInBlock, extent_type}
 use Rattle.pool_services.specs.Extents.{place_of, written, AreExtents, Extent, Place, ended, range_of, without, address_of, cells_in, first_fit, fit_in, with_new_block, tail_in, with_blocks, written_in}
+use Rattle.pool_services.specs.Regions.{with_block_at}
 use Rattle.pool_services.specs.Rooms.{room_of}
 
 -- an address lies between the lowest that a block of the extent can have and the end of the last
@@ -88,11 +89,12 @@ IsFirstWithRoom t cells es (Some i) =
 
 -- a block was taken in the extent at an index, if it has room: its address, and the extents after
 -- it
-abbrev pub IsTakenIn : ℕ → ℕ → List Extent → Option ℕ → List Extent → Type 0
-IsTakenIn i size es None new = (new ≡ es) × ((e : Extent) → IsAt es i e → fit_in size e ≡ None)
-IsTakenIn i size es (Some address) new =
-    (e : Extent) × (p : Place) × IsAt es i e × (fit_in size e ≡ Some p)
-    × (address ≡ address_of p.first p.cell) × (new ≡ with_new_block p size es)
+abbrev pub IsTakenAt : ℕ → ℕ → List Extent → Option ℕ → List Extent → Type 0
+IsTakenAt i size es None new = (new ≡ es) × ((e : Extent) → IsAt es i e → fit_in size e ≡ None)
+IsTakenAt i size es (Some address) new =
+    (e : Extent) × (cell : ℕ) × IsAt es i e
+    × (Some cell ≡ lowest_fit (cells_in e.pages) (cells_for size) 0 e.blocks)
+    × (address ≡ address_of e.first cell) × (new ≡ set es i (with_block_at cell size e))
 
 -- a block was taken in a live extent, if one of its type has room: its address, and the extents
 -- after it
@@ -114,6 +116,11 @@ IsGivenIn i cell es new =
     × (ended (record { first = e.first; cell = cell }) es ≡ None)
     × ((k : ℕ) → extent_type k new ≡ extent_type k es)
 
+-- the extents once the block at a cell of one of them was given back
+abbrev pub IsGivenAt : ℕ → ℕ → List Extent → List Extent → Type 0
+IsGivenAt i cell es new =
+    (e : Extent) × IsAt es i e × (new ≡ set es i (with_blocks (without_block cell e.blocks) e))
+
 -- an extent ended, which no lack of memory prevents
 abbrev pub IsEnded : ℕ → Book → List Extent → Result (Unit {0}) Status → Book → List Extent → Type 0
 IsEnded i b es (Ok done) new_b new =
@@ -133,3 +140,10 @@ abbrev pub IsWrittenIn : ℕ → List ℕ → List Extent → Bool → List Exte
 IsWrittenIn address bytes es true new =
     IsInBlock address (length bytes) es × (new ≡ written address bytes es)
 IsWrittenIn address bytes es false new = (¬ IsInBlock address (length bytes) es) × (new ≡ es)
+
+-- bytes were written in the extent at an index, if they lie in one of its blocks
+abbrev pub IsWrittenAt : ℕ → ℕ → List ℕ → List Extent → Bool → List Extent → Type 0
+IsWrittenAt i address bytes es done new =
+    (e : Extent) × IsAt es i e
+    × (IsTrue done ↔ HasRoom (length bytes) (tail_in e.first address e.blocks))
+    × (new ≡ set es i (written_if done address bytes e))

@@ -4,7 +4,7 @@ ghost use Rattle.std.specs.List.{find};
 ghost use Rattle.page_ranges.specs.Granules.{IsGranule};
 ghost use Rattle.raw_pool.specs.Blocks.{block_at, cells_for, lowest_fit, new_block, with_block, without_block};
 ghost use Rattle.pool_services.specs.Extents.{IsExtent, address_of, cell_of, cells_in, extent_pages, extent_with_block, max_size, pages_for, tail_in, with_blocks};
-ghost use Rattle.pool_services.specs.KeptRooms.{IsRegionFor, with_block_at};
+ghost use Rattle.pool_services.specs.Regions.{IsRegionFor, with_block_at};
 ghost use Rattle.pool_services.specs.Listed.{begins_from, is_from, listed};
 ghost use Rattle.pool_services.specs.Rooms.{room_of};
 ghost use Rattle.pool_services.specs.Searches.{HasRoom, HoldsAddress, IsLastUpTo, IsLocated, written_if};
@@ -66,7 +66,7 @@ pub(crate) struct PoolExtent<A: Allocator> {
 
 impl<A: Allocator> Model for PoolExtent<A> {
     ghost use Rattle.pool_services.specs.Extents.{Extent};
-    ghost use Rattle.pool_services.specs.KeptRooms.{IsCountedRegion};
+    ghost use Rattle.pool_services.specs.Regions.{IsCountedRegion};
 
     ghost Value = { Extent };
 

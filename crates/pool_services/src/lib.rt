@@ -1,6 +1,8 @@
 //! The pool: AllocatePool, FreePool, and the bytes of pool blocks, on the pages of a book.
 #![tactic(auto)]
 
+mod extent_group;
+mod extent_groups;
 mod extents;
 mod laws;
 mod listed;

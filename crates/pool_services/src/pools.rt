@@ -6,12 +6,10 @@ ghost use Rattle.page_services.specs.PageRules.{IsBestChoice, if_counted};
 ghost use Rattle.pool_services.specs.Extents.{first_fit, max_size, tail_at};
 ghost use Rattle.pool_services.specs.Listed.{blocks_of, is_from};
 ghost use Rattle.pool_services.specs.PoolRules.{AllocatesPool, FillsPool, FreesPool, HasReservedEnds, OwnsExtents, ReadsPool, WritesPool, extent_request};
-ghost use Rattle.pool_services.specs.Searches.{IsEnded, IsFound, IsGivable, IsGivenIn, IsHolder, IsTakenIn, IsTakenLive, IsWrittenIn};
 
-use crate::extents::{HEADER_SIZE, PoolExtent, cells_for, extent_pages, pages_for};
+use crate::extent_groups::ExtentGroups;
+use crate::extents::{HEADER_SIZE, PoolExtent, extent_pages, pages_for};
 use crate::listed::PoolBlock;
-use crate::rooms::Rooms;
-use crate::searches::{add, count_up_to, holder};
 use crate::spare::SpareRegion;
 use page_ranges::{MemoryType, PAGE_SIZE, Status, type_for_alloc};
 use page_services::{PageBook, pool_request};
@@ -42,9 +40,7 @@ pub fn extent_request(granule: u64, mtype: MemoryType, size: u64) -> Option<Requ
 #[derive(Drop)]
 pub struct Pools<A: Allocator = Global> {
     alloc: A,
-    extents: Vec<PoolExtent<A>, A>,
-    // What a search asks of each extent.
-    rooms: Rooms<A>,
+    extents: ExtentGroups<A>,
     // Where the blocks' bytes lie at their addresses.
     memory: Option<PoolMemory>,
     // The memory of an extent that ended.
@@ -54,13 +50,11 @@ pub struct Pools<A: Allocator = Global> {
 impl<A: Allocator> Model for Pools<A> {
     ghost use Rattle.std.specs.Prelude.{List};
     ghost use Rattle.pool_services.specs.Extents.{Extent};
-    ghost use Rattle.pool_services.specs.KeptRooms.{AreExtentsWithRooms};
+    ghost use Rattle.pool_services.specs.Spots.{extents_of};
 
     ghost Value = { List Extent };
 
-    ghost view = { λ p. p.extents.items };
-
-    ghost invariant = { λ p. AreExtentsWithRooms p.extents.items p.rooms.rooms.items };
+    ghost view = { λ p. extents_of p.extents };
 }
 
 impl<A: Allocator + Copy> Pools<A> {
@@ -70,8 +64,7 @@ impl<A: Allocator + Copy> Pools<A> {
     {
         Pools {
             alloc,
-            extents: Vec::new(alloc),
-            rooms: Rooms::new(alloc),
+            extents: ExtentGroups::new(alloc),
             memory: None,
             spare: SpareRegion::none(),
         }
@@ -84,8 +77,7 @@ impl<A: Allocator + Copy> Pools<A> {
     {
         Pools {
             alloc,
-            extents: Vec::new(alloc),
-            rooms: Rooms::new(alloc),
+            extents: ExtentGroups::new(alloc),
             memory: Some(memory),
             spare: SpareRegion::none(),
         }
@@ -117,7 +109,7 @@ impl<A: Allocator + Copy> Pools<A> {
             return Err(Status::OutOfResources);
         }
         let size = size as usize;
-        match self.take_live(mtype, size) {
+        match self.extents.take(mtype, size) {
             Some(address) => Ok((address, None)),
             None => self.take_new(book, mtype, size),
         }
@@ -141,36 +133,13 @@ impl<A: Allocator + Copy> Pools<A> {
         ensures owns { OwnsExtents book.new.memory self.new }
         ensures reserved { HasReservedEnds book.new self.new }
     {
-        // That the extents are apart is known where a field is named.
-        let _ = &self.extents;
+        self.extents.apart_law();
         let answer = self.allocate(book, mtype, bytes.len() as u64)?;
-        let _ = &self.extents;
+        self.extents.apart_law();
         let Ok(()) = self.write(answer.0, bytes) else {
             unreachable!();
         };
         Ok(answer)
-    }
-
-    // Takes a block in the first extent of its type that has room, and answers its address.
-    fn take_live(&mut self, mtype: MemoryType, size: usize) -> Option<u64>
-        requires { size ≤ max_size }
-        ensures { IsTakenLive mtype size self.old result self.new }
-    {
-        let at = self.rooms.first(mtype, cells_for(size))?;
-        self.take_in(at, size)
-    }
-
-    // Takes a block in an extent.
-    fn take_in(&mut self, at: usize, size: usize) -> Option<u64>
-        requires size { size ≤ max_size }
-        requires index { at < length self.old }
-        ensures { IsTakenIn at size self.old result self.new }
-    {
-        let extent = &mut self.extents[at];
-        let cell = extent.take(size)?;
-        let address = extent.address_of(cell);
-        self.rooms.set(at, extent.room());
-        Some(address)
     }
 
     // Takes a block in a new extent. All memory is taken before the pages.
@@ -199,10 +168,7 @@ impl<A: Allocator + Copy> Pools<A> {
         let Some(region) = self.spare.region(self.alloc, memory, page, pages) else {
             return Err(Status::OutOfResources);
         };
-        let Ok(()) = self.extents.reserve(1) else {
-            return Err(Status::OutOfResources);
-        };
-        let Ok(()) = self.rooms.reserve_one() else {
+        let Ok(group) = self.extents.reserve(self.alloc, page) else {
             return Err(Status::OutOfResources);
         };
         // That the book's memory is proper is known of its table's length.
@@ -212,35 +178,8 @@ impl<A: Allocator + Copy> Pools<A> {
         };
         let first = placed.address / PAGE_SIZE;
         let extent = PoolExtent::with_block(first, mtype, region, pages as u64, size);
-        add(&mut self.extents, &mut self.rooms, extent);
+        self.extents.add(group, extent);
         Ok((placed.address + HEADER_SIZE, placed.certificate))
-    }
-
-    // Gives the block at a cell of an extent back, which is not the only one there.
-    fn give_in(&mut self, at: usize, cell: usize)
-        requires { IsGivable at cell self.old }
-        ensures { IsGivenIn at cell self.old self.new }
-    {
-        let extent = &mut self.extents[at];
-        extent.give(cell);
-        self.rooms.set(at, extent.room());
-    }
-
-    // Ends an extent, whose one block begins at a cell: its pages are given back.
-    fn end(&mut self, book: &mut PageBook<A>, at: usize, cell: usize) -> Result<(), Status>
-        requires key { book.old.key < 2 ^ 62 }
-        requires owns { OwnsExtents book.old.memory self.old }
-        requires reserved { HasReservedEnds book.old self.old }
-        requires index { at < length self.old }
-        ensures ended { IsEnded at book.old self.old result book.new self.new }
-        ensures owns { OwnsExtents book.new.memory self.new }
-        ensures reserved { HasReservedEnds book.new self.new }
-    {
-        book.give_from_pool(self.extents[at].range())?;
-        let extent = self.extents.remove(at);
-        self.rooms.remove(at);
-        self.spare.keep(extent.into_region(cell));
-        Ok(())
     }
 
     /// FreePool: gives the block at an address back. An extent that has no other block ends, and its
@@ -256,23 +195,18 @@ impl<A: Allocator + Copy> Pools<A> {
         ensures owns { OwnsExtents book.new.memory self.new }
         ensures reserved { HasReservedEnds book.new self.new }
     {
-        let Some((at, cell)) = self.find(address) else {
+        let Some((spot, cell)) = self.extents.find(address) else {
             return Err(Status::InvalidParameter);
         };
-        if self.extents[at].has_one_block() {
-            return self.end(book, at, cell);
+        let extent = self.extents.extent(spot);
+        if !extent.has_one_block() {
+            self.extents.give(spot, cell);
+            return Ok(());
         }
-        self.give_in(at, cell);
+        book.give_from_pool(extent.range())?;
+        let extent = self.extents.remove(spot);
+        self.spare.keep(extent.into_region(cell));
         Ok(())
-    }
-
-    // The block that has an address: the index of its extent, and its cell.
-    fn find(&self, address: u64) -> Option<(usize, usize)>
-        ensures { IsFound address self.now result }
-    {
-        let at = holder(self.extents.as_slice(), &self.rooms, address)?;
-        let cell = self.extents[at].cell_of(address)?;
-        Some((at, cell))
     }
 
     /// Reads the bytes from an address on into a buffer, all of which one block must have.
@@ -296,23 +230,11 @@ impl<A: Allocator + Copy> Pools<A> {
     pub fn write(&mut self, address: u64, bytes: &[u8]) -> Result<(), Status>
         ensures { WritesPool self.old address bytes.now result self.new }
     {
-        let Some(at) = holder(self.extents.as_slice(), &self.rooms, address) else {
-            return Err(Status::InvalidParameter);
-        };
-        if self.write_in(at, address, bytes) {
+        if self.extents.write(address, bytes) {
             Ok(())
         } else {
             Err(Status::InvalidParameter)
         }
-    }
-
-    // Writes bytes in the extent that holds their address. False, with nothing changed, if they do not
-    // lie in one block.
-    fn write_in(&mut self, at: usize, address: u64, bytes: &[u8]) -> bool
-        requires { IsHolder self.old address (Some at) }
-        ensures { IsWrittenIn address bytes.now self.old result self.new }
-    {
-        self.extents[at].write(address, bytes)
     }
 
     /// The bytes from an address on to the end of the block that it belongs to. An address belongs to a
@@ -321,22 +243,13 @@ impl<A: Allocator + Copy> Pools<A> {
         ensures bytes { option_map (λ s. s.now) result ≡ tail_at address self.now }
         ensures within { IfSome result (λ s. address + length s.now ≤ 2 ^ 64) }
     {
-        let at = holder(self.extents.as_slice(), &self.rooms, address)?;
-        self.extents[at].tail(address)
+        self.extents.tail(address)
     }
 
     /// The live block with the lowest address at or above one.
     pub fn block_from(&self, address: u64) -> Option<PoolBlock>
         ensures { result ≡ find (is_from address) (blocks_of self.now) }
     {
-        let count = count_up_to(self.rooms.rooms.as_slice(), address / PAGE_SIZE);
-        // Each extent has a block, so these are two at most.
-        for at in count.saturating_sub(1)..self.extents.len() {
-            let block = self.extents[at].block_from(address);
-            if block.is_some() {
-                return block;
-            }
-        }
-        None
+        self.extents.block_from(address)
     }
 }

@@ -1,6 +1,6 @@
 //! The memory of an extent that ended, kept for the next one.
 ghost use Rattle.std.specs.Prelude.{◌≡◌, ◌≤◌, ◌^◌, IfSome};
-ghost use Rattle.pool_services.specs.KeptRooms.{IsRegionFor, IsSpareRegion};
+ghost use Rattle.pool_services.specs.Regions.{IsRegionFor, IsSpareRegion};
 
 use raw_pool::{PAGE_CELLS, PoolMemory, RawPool};
 use std::alloc::Allocator;
@@ -15,7 +15,7 @@ pub(crate) struct SpareRegion<A: Allocator> {
 
 impl<A: Allocator> Model for SpareRegion<A> {
     ghost use Rattle.std.specs.Prelude.{IfSome};
-    ghost use Rattle.pool_services.specs.KeptRooms.{IsSpareRegion};
+    ghost use Rattle.pool_services.specs.Regions.{IsSpareRegion};
 
     ghost Value = { Unit {0} };
 

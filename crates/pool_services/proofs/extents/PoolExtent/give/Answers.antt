@@ -1,6 +1,6 @@
 use Rattle.std.proofs.Common.{sym, subst, ap, ◌∙◌, arith}
 use Rattle.raw_pool.specs.Blocks.{Pool}
-use Rattle.pool_services.specs.KeptRooms.{LiesAt}
+use Rattle.pool_services.specs.Regions.{LiesAt}
 use Rattle.pool_services.proofs.CellBlocks.{count-without}
 use Rattle.pool_services.proofs.extents.PoolExtent.give.Goals as goal
 

@@ -1,6 +1,6 @@
 use Rattle.std.proofs.Common.{ap, ◌∙◌, arith, subst, sym}
 use Rattle.raw_pool.specs.Blocks.{Pool, new_block}
-use Rattle.pool_services.specs.KeptRooms.{LiesAt}
+use Rattle.pool_services.specs.Regions.{LiesAt}
 use Rattle.pool_services.proofs.CellBlocks.{count-within, count-with}
 use Rattle.pool_services.proofs.extents.PoolExtent.take.Goals as goal
 

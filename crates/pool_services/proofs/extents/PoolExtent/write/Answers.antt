@@ -1,5 +1,5 @@
 use Rattle.std.proofs.Common.{ℕ, Option, length, subst, sym, ◌∙◌}
-use Rattle.pool_services.specs.KeptRooms.{LiesAt}
+use Rattle.pool_services.specs.Regions.{LiesAt}
 use Rattle.pool_services.proofs.CellBlocks.{written-kept, written-lies, room-returned, extent-written}
 use Rattle.pool_services.proofs.extents.PoolExtent.write.Goals as goal
 

@@ -1,9 +1,17 @@
+use Rattle.std.proofs.Common.{List, Some, subst}
+use Rattle.pool_services.specs.Extents.{Extent}
+use Rattle.pool_services.specs.Searches.{IsTakenLive}
+use Rattle.pool_services.specs.Spots.{extents_of}
 use Rattle.pool_services.proofs.ExtentChanges.{owns-new-block}
 use Rattle.pool_services.proofs.KeptEnds.{taken-ends}
 use Rattle.pool_services.proofs.pools.Pools.allocate.Goals as goal
 
 pub returns-in-Some-clause-owns : goal.returns-in-Some-clause-owns
-returns-in-Some-clause-owns g c = owns-new-block c.args.book.now.memory _ _ _ c.args.self.now c.take_live.new.self c.requires.owns (c.in-Some.ensures)
+returns-in-Some-clause-owns g c =
+    owns-new-block c.args.book.now.memory c.in_ok-mtype.mtype c.args.size c.in-Some.address c.args.self.now (extents_of c.take.new.self) c.requires.owns
+    (subst (λ (es : List Extent). IsTakenLive c.in_ok-mtype.mtype c.args.size es (Some c.in-Some.address) (extents_of c.take.new.self)) c.self.view_is c.in-Some.ensures)
 
 pub returns-in-Some-clause-reserved : goal.returns-in-Some-clause-reserved
-returns-in-Some-clause-reserved g c = taken-ends c.args.book.now _ _ _ c.args.self.now c.take_live.new.self c.requires.reserved (c.in-Some.ensures)
+returns-in-Some-clause-reserved g c =
+    taken-ends c.args.book.now c.in_ok-mtype.mtype c.args.size c.in-Some.address c.args.self.now (extents_of c.take.new.self) c.requires.reserved
+    (subst (λ (es : List Extent). IsTakenLive c.in_ok-mtype.mtype c.args.size es (Some c.in-Some.address) (extents_of c.take.new.self)) c.self.view_is c.in-Some.ensures)

@@ -8,16 +8,16 @@ use Rattle.pool_services.proofs.pools.Pools.allocate_filled.Goals as goal
 
 pub unreachable-requires : goal.unreachable-requires
 unreachable-requires g c =
-    let old : AreExtents c.args.self.now = subst AreExtents c.self.view_is c.self.invariant.0 in
-    let placed : AreExtents c.allocate.new.self = subst AreExtents c.self-2.view_is c.self-2.invariant.0 in
+    let old : AreExtents c.args.self.now = subst AreExtents c.self.view_is c.apart_law.ensures in
+    let placed : AreExtents c.allocate.new.self = subst AreExtents c.self-2.view_is c.apart_law-2.ensures in
     not-refused IsBestChoice c.args.book.now c.allocate.new.book c.args.self.now c.allocate.new.self c.args.mtype _ c.in_ok-answer.answer _ c.in_default.field-0 c.write.new.self old placed c.in_ok-answer.ensures.allocates c.in_default.ensures (omega arith)
 
 pub returns-clause-owns : goal.returns-clause-owns
 returns-clause-owns g c =
-    let placed : AreExtents c.allocate.new.self = subst AreExtents c.self-2.view_is c.self-2.invariant.0 in
+    let placed : AreExtents c.allocate.new.self = subst AreExtents c.self-2.view_is c.apart_law-2.ensures in
     (written-keeps c.allocate.new.book.memory c.allocate.new.self c.in_ok-answer.answer.0 _ c.write.result c.write.new.self placed c.in_ok-answer.ensures.owns c.write.ensures).1
 
 pub returns-clause-reserved : goal.returns-clause-reserved
 returns-clause-reserved g c =
-    let placed : AreExtents c.allocate.new.self = subst AreExtents c.self-2.view_is c.self-2.invariant.0 in
+    let placed : AreExtents c.allocate.new.self = subst AreExtents c.self-2.view_is c.apart_law-2.ensures in
     written-ends c.allocate.new.book c.allocate.new.self c.in_ok-answer.answer.0 _ c.write.result c.write.new.self placed c.in_ok-answer.ensures.reserved c.write.ensures

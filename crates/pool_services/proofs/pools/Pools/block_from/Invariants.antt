@@ -1,7 +1,0 @@
-use Rattle.std.proofs.Common.{◌≡◌, drop}
-use Rattle.std.specs.List.{find}
-use Rattle.pool_services.specs.Listed.{blocks_of, is_from}
-use Rattle.pool_services.proofs.pools.Pools.block_from.Given as goal
-
-abbrev pub invariant-loop-at : goal.invariant-loop-at
-invariant-loop-at g l = find (is_from l.address) (blocks_of l.self) ≡ find (is_from l.address) (blocks_of (drop l.at l.self))
