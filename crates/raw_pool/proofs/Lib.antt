@@ -18,3 +18,4 @@ mod PageContents
 mod PageRuns
 mod PageUnits
 mod PageRows
+mod Zeros

@@ -5,10 +5,11 @@ use Rattle.std.proofs.lemmas.List.{map-append, length-take-le}
 use Rattle.std.proofs.lemmas.Bool.{cases_eq, cases_lt}
 use Rattle.raw_pool.specs.Bytes.{Bytes, word}
 use Rattle.raw_pool.specs.Blocks.{Block, cells_for, end_of, longest_run, new_block, with_block, with_bytes, without_block}
-use Rattle.raw_pool.specs.FreeList.{FreeRun, AreApart, block_in, blocks_in, cells_in, gaps, behind, marked}
+use Rattle.raw_pool.specs.FreeList.{FreeRun, AreApart, block_in, blocks_in, cells_in, gaps, behind, link, marked}
 use Rattle.raw_pool.specs.Searches.{IsStore, Scan, runs_of}
 use Rattle.raw_pool.proofs.Runs.{apart-right, all-starts-low, all-starts-high, beyond, free_runs-first, next_start}
 use Rattle.raw_pool.proofs.Listed.{first-in, with-between, without-between}
+use Rattle.raw_pool.proofs.Links.{no_runs}
 use Rattle.raw_pool.proofs.Marks.{all-low, marked-high, marked_cell}
 use Rattle.raw_pool.proofs.Regions.{longest-most, most, most-gap}
 use Rattle.raw_pool.proofs.Takes.{Fit, fit}
@@ -38,11 +39,11 @@ longest-with bytes cells ls rs b =
     longest-behind bytes cells 0 ls (b ∷ map (block_in bytes) rs)
     ∙ ap (λ (k : ℕ). max (most (gaps bytes 0 ls)) (max (b.first - behind bytes 0 ls) k)) (longest-first bytes cells (end_of b) rs)
 
--- a block off the front of a run that is not the longest
-pub longest_taken : (bytes marks : Bytes) (cells head last at size need : ℕ) → IsStore bytes marks cells head → Scan (λ (r : FreeRun). r.cells < need) bytes.set cells head (runs_of bytes marks cells) last at → at < cells →
-    need ≡ cells_for size → need ≤ word bytes.set (32 * at) → word bytes.set (32 * at) < longest_run cells 0 (blocks_in bytes.set marks.set) →
-    longest_run cells 0 (with_block (new_block at size) (blocks_in bytes.set marks.set)) ≡ longest_run cells 0 (blocks_in bytes.set marks.set)
-longest_taken bytes marks cells head last at size need s c l n f less =
+-- the longest run once a block is off the front of a run, and before: the runs on both sides stay
+off_front : (bytes marks : Bytes) (cells head last at size need : ℕ) (s : IsStore bytes marks cells head) (c : Scan (λ (r : FreeRun). r.cells < need) bytes.set cells head (runs_of bytes marks cells) last at) (l : at < cells) → need ≡ cells_for size →
+    (longest_run cells 0 (with_block (new_block at size) (blocks_in bytes.set marks.set)) ≡ max (most c.before) (max (word bytes.set (32 * at) - need) (most (fit (λ (r : FreeRun). r.cells < need) bytes marks cells head last at s c l).rest)))
+    × (longest_run cells 0 (blocks_in bytes.set marks.set) ≡ max (most c.before) (max (word bytes.set (32 * at)) (most (fit (λ (r : FreeRun). r.cells < need) bytes marks cells head last at s c l).rest)))
+off_front bytes marks cells head last at size need s c l n =
     let old : List ℕ = bytes.set in
     let q : Fit old cells head (marked 0 marks.set) last at c.before c.after = fit (λ (r : FreeRun). r.cells < need) bytes marks cells head last at s c l in
     let ls : List ℕ = q.between.left in
@@ -52,13 +53,39 @@ longest_taken bytes marks cells head last at size need s c l n f less =
     let end : next_start cells rs ≡ at + word old (32 * at) = sym q.between.end ∙ omega (arith, q.first, q.cells_is) in
     let a : AreApart old cells 0 (ls ++ rs) = subst (AreApart old cells 0) e s.laid.apart in
     let low : AllByRecursion (λ x. x < at) ls = all-starts-low old cells 0 at ls rs a (omega arith) in
-    let high : AllByRecursion (λ x. at + 1 ≤ x) rs = all-starts-high old cells (behind old 0 ls) (at + 1) rs (apart-right old cells 0 ls rs a) (omega arith) in
+    let some : 0 < q.run.cells = q.between.some in
+    let high : AllByRecursion (λ x. at + 1 ≤ x) rs = all-starts-high old cells (behind old 0 ls) (at + 1) rs (apart-right old cells 0 ls rs a) (omega (arith, end, some, q.cells_is)) in
     let w : longest_run cells 0 (with_block (new_block at size) (blocks_in old marks.set)) ≡ longest_run cells 0 (map (block_in old) ls ++ new_block at size ∷ map (block_in old) rs) =
     ap (λ (xs : List ℕ). longest_run cells 0 (with_block (new_block at size) (map (block_in old) xs))) e
     ∙ ap (longest_run cells 0) (with-between old (new_block at size) ls rs low (all-low at (at + 1) rs (omega arith) high)) in
     let o = ap (λ (xs : List ℕ). longest_run cells 0 (map (block_in old) xs)) e ∙ longest-without old cells ls rs in
     let t = longest-with old cells ls rs (new_block at size) in
-    omega (arith, w, o, t, b, end, less)
+    let before = ap most q.between.before_is in
+    let after = ap most q.between.after_is in
+    (omega (arith, w, t, b, end, before, after), omega (arith, o, b, end, before, after))
+
+-- a block off the front of a run that is not the longest
+pub longest_taken : (bytes marks : Bytes) (cells head last at size need : ℕ) → IsStore bytes marks cells head → Scan (λ (r : FreeRun). r.cells < need) bytes.set cells head (runs_of bytes marks cells) last at → at < cells →
+    need ≡ cells_for size → word bytes.set (32 * at) < longest_run cells 0 (blocks_in bytes.set marks.set) →
+    longest_run cells 0 (with_block (new_block at size) (blocks_in bytes.set marks.set)) ≡ longest_run cells 0 (blocks_in bytes.set marks.set)
+longest_taken bytes marks cells head last at size need s c l n less =
+    let p = off_front bytes marks cells head last at size need s c l n in
+    omega (arith, p.0, p.1, less)
+
+most-below : (need : ℕ) (rs : List FreeRun) → 0 < need → AllByRecursion (λ (r : FreeRun). r.cells < need) rs → most rs < need
+most-below need [] n a = n
+most-below need (r ∷ rs) n a = omega (arith, a.0, most-below need rs n a.1)
+
+-- a block off the front of the last run, of which as many cells are left: those before it are shorter
+pub longest_last : (bytes marks : Bytes) (cells head last at size need : ℕ) → IsStore bytes marks cells head → Scan (λ (r : FreeRun). r.cells < need) bytes.set cells head (runs_of bytes marks cells) last at → at < cells →
+    need ≡ cells_for size → cells ≤ link bytes.set cells head at → 2 * need ≤ word bytes.set (32 * at) →
+    longest_run cells 0 (with_block (new_block at size) (blocks_in bytes.set marks.set)) ≡ word bytes.set (32 * at) - need
+longest_last bytes marks cells head last at size need s c l n none half =
+    let q : Fit bytes.set cells head (marked 0 marks.set) last at c.before c.after = fit (λ (r : FreeRun). r.cells < need) bytes marks cells head last at s c l in
+    let p = off_front bytes marks cells head last at size need s c l n in
+    let low : most c.before < need = most-below need c.before (omega arith) c.passed in
+    let e : most q.rest ≡ 0 = ap most (no_runs bytes.set cells head (q.run.first + q.run.cells) (link bytes.set cells head at) q.rest none q.rising.right.2 q.linked) in
+    omega (arith, p.0, low, e)
 
 -- where the run that a block joins begins
 joined : (bytes marks : List ℕ) (cells head cell last end after count : ℕ) (before : List FreeRun) → Freeing bytes marks cells head cell last end after before →

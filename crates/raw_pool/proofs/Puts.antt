@@ -172,6 +172,9 @@ zeros-all bytes n e =
 pub length-extended : (bytes : List ℕ) (end : ℕ) → length (extended bytes end) ≡ length bytes + (end - length bytes)
 length-extended bytes end = length-append bytes (replicate (end - length bytes) 0) ∙ ap (λ (n : ℕ). length bytes + n) (length-replicate {A = ℕ} (end - length bytes) 0)
 
+pub extended-none : (bytes : List ℕ) (end : ℕ) → end ≤ length bytes → extended bytes end ≡ bytes
+extended-none bytes end h = ap (λ (k : ℕ). bytes ++ replicate k 0) (let none : end - length bytes ≡ 0 = omega arith in none) ∙ append-nil bytes
+
 -- bytes that are set to 0 first and written over then
 pub put-extended : (bytes new : List ℕ) (at end : ℕ) → at ≤ length bytes → end ≡ at + length new → put (extended bytes end) at new ≡ put bytes at new
 put-extended bytes new at end h e =
@@ -186,19 +189,6 @@ put-extended bytes new at end h e =
     ∙ ap (λ (xs : List ℕ). xs ++ new ++ drop (at + length new) (bytes ++ zeros)) (take-append-le at bytes zeros h)
     ∙ ap (λ (xs : List ℕ). take at bytes ++ new ++ xs) back
     ∙ sym (put-is bytes at new)
-
--- the byte at an index, where those up to it are set to 0 first
-pub put-far : (bytes : List ℕ) (at byte : ℕ) → put (extended bytes (at + 1)) at (byte ∷ []) ≡ put (extended bytes at) at (byte ∷ [])
-put-far bytes at byte = elim (cases_lt at (length bytes)) [
-  | inl l ↦ ap (λ (k : ℕ). put (bytes ++ replicate k 0) at (byte ∷ [])) (let e : at + 1 - length bytes ≡ at - length bytes = omega (arith, l) in e)
-  | inr g ↦
-      let front : List ℕ = extended bytes at in
-      let n : length front ≡ at = length-extended bytes at ∙ omega (arith, g) in
-      let one : extended bytes (at + 1) ≡ extended front (at + 1) =
-      ap (λ (xs : List ℕ). bytes ++ xs) (ap (λ (k : ℕ). replicate k 0) (let e : at + 1 - length bytes ≡ (at - length bytes) + (at + 1 - length front) = omega (arith, n) in e) ∙ sym (replicate-append-replicate (at - length bytes) (at + 1 - length front) 0))
-      ∙ sym (append_assoc bytes (replicate (at - length bytes) 0) (replicate (at + 1 - length front) 0)) in
-      ap (λ (xs : List ℕ). put xs at (byte ∷ [])) one ∙ put-extended front (byte ∷ []) at (at + 1) (omega (arith, n)) (omega arith)
-]
 
 -- two numbers, where the bytes are set to 0 first
 pub words-extended : (bytes one two : List ℕ) (at next end : ℕ) → at ≤ length bytes → next ≡ at + length one → end ≡ next + length two → put (put (extended bytes end) at one) next two ≡ put (put bytes at one) next two
@@ -217,23 +207,37 @@ put-behind bytes over behind at h =
     ∙ ap (λ (xs : List ℕ). take at bytes ++ (over ++ behind) ++ xs) (sym none-too)
     ∙ sym (put-is bytes at (over ++ behind))
 
--- two numbers behind bytes that are set to 0, where some of these were not set
-pub words-behind : (bytes one two : List ℕ) (at count over more next end : ℕ) → at ≤ length bytes → at + over ≡ length bytes → over ≤ count → over + more ≡ count + 16 → length one ≡ 8 → length two ≡ 8 → next ≡ at + count → end ≡ next + 8
+-- bytes that are written over as many at the same place
+put-again : (bytes old new : List ℕ) (at : ℕ) → at ≤ length bytes → length old ≡ length new → put (put bytes at old) at new ≡ put bytes at new
+put-again bytes old new at h e =
+    let rest : List ℕ = drop (at + length old) bytes in
+    let front : take at (put bytes at old) ≡ take at bytes =
+    ap (take at) (put-is bytes at old ∙ append_assoc (take at bytes) old rest) ∙ take_at (take at bytes) (old ++ rest) at (length-take-le at bytes h) in
+    let back : drop (at + length new) (put bytes at old) ≡ drop (at + length new) bytes =
+    drop-put bytes old at (length new) h ∙ ap (λ (k : ℕ). drop k (old ++ rest)) (sym e) ∙ drop_at old rest ∙ ap (λ (k : ℕ). drop (at + k) bytes) e in
+    put-is (put bytes at old) at new
+    ∙ ap (λ (xs : List ℕ). xs ++ new ++ drop (at + length new) (put bytes at old)) front
+    ∙ ap (λ (xs : List ℕ). take at bytes ++ new ++ xs) back
+    ∙ sym (put-is bytes at new)
+  where
+    drop_at : (xs ys : List ℕ) → drop (length xs) (xs ++ ys) ≡ ys
+    drop_at [] ys = refl
+    drop_at (x ∷ xs) ys = drop_at xs ys
+
+-- two numbers behind bytes that are set to 0, where not all of these were set
+pub words-behind : (bytes one two : List ℕ) (at count over more next end : ℕ) → at ≤ length bytes → at + over ≡ length bytes → over + more ≡ count + 16 → length one ≡ 8 → length two ≡ 8 → next ≡ at + count → end ≡ next + 8
     → put (put (put bytes at (replicate over 0) ++ replicate more 0) next one) end two ≡ put (put (put bytes at (replicate count 0)) next one) end two
-words-behind bytes one two at count over more next end h e le m l1 l2 n f =
+words-behind bytes one two at count over more next end h e m l1 l2 n f =
     let zeros : List ℕ = put bytes at (replicate count 0) in
-    let front : List ℕ = put bytes at (replicate over 0) in
-    let long : length zeros ≡ next = length-put bytes (replicate count 0) at h ∙ omega (arith, length-replicate {A = ℕ} count 0, e, le, n) in
-    let all : front ++ replicate more 0 ≡ extended zeros (next + 16) =
-    ap (λ (k : ℕ). front ++ replicate k 0) (let q : more ≡ (count - over) + 16 = omega (arith, m, le) in q)
-    ∙ ap (λ (xs : List ℕ). front ++ xs) (sym (replicate-append-replicate (count - over) 16 0))
-    ∙ sym (append_assoc front (replicate (count - over) 0) (replicate 16 0))
-    ∙ ap (λ (xs : List ℕ). xs ++ replicate 16 0)
-    (put-behind bytes (replicate over 0) (replicate (count - over) 0) at (omega (arith, e, length-replicate {A = ℕ} over 0))
-    ∙ ap (put bytes at) (replicate-append-replicate over (count - over) 0 ∙ ap (λ (k : ℕ). replicate k 0) (let q : over + (count - over) ≡ count = omega (arith, le) in q)))
-    ∙ ap (λ (k : ℕ). zeros ++ replicate k 0) (let q : 16 ≡ next + 16 - length zeros = omega (arith, long) in q) in
+    let long : next ≤ length zeros = omega (arith, length-put bytes (replicate count 0) at h, length-replicate {A = ℕ} count 0, n) in
+    let all : put bytes at (replicate over 0) ++ replicate more 0 ≡ put zeros next (replicate 16 0) =
+    put-behind bytes (replicate over 0) (replicate more 0) at (omega (arith, e, length-replicate {A = ℕ} over 0))
+    ∙ ap (put bytes at) (replicate-append-replicate over more 0 ∙ ap (λ (k : ℕ). replicate k 0) m ∙ sym (replicate-append-replicate count 16 0))
+    ∙ sym (put-more bytes (replicate count 0) (replicate 16 0) at next h (omega (arith, n, length-replicate {A = ℕ} count 0))) in
     ap (λ (xs : List ℕ). put (put xs next one) end two) all
-    ∙ words-extended zeros one two next end (next + 16) (omega (arith, long)) (omega (arith, l1, f)) (omega (arith, l2, f))
+    ∙ put-more (put zeros next (replicate 16 0)) one two next end (omega (arith, long, length-put zeros (replicate 16 0) next long)) (omega (arith, l1, f))
+    ∙ put-again zeros (replicate 16 0) (one ++ two) next long (omega (arith, length-append one two, l1, l2))
+    ∙ sym (put-more zeros one two next end long (omega (arith, l1, f)))
 
 -- a write into the middle one of three lists
 pub put-deep : (front mid rest new : List ℕ) (off at : ℕ) → length front ≡ off → at + length new ≤ length mid → put (front ++ (mid ++ rest)) (off + at) new ≡ front ++ (put mid at new ++ rest)

@@ -1,6 +1,6 @@
 //! Rows of bytes behind raw pointers, each of which has a front that is set. The two rows of a
 //! block are taken and freed together. No other file names a pointer.
-ghost use Rattle.std.specs.Prelude.{◌≡◌, ◌≤◌, ◌<◌, ◌+◌, ◌^◌, ℕ, List, [], ◌++◌, length, replicate, IfOk};
+ghost use Rattle.std.specs.Prelude.{◌≡◌, ◌≤◌, ◌<◌, ◌+◌, ◌^◌, ℕ, List, [], ◌∷◌, ◌++◌, length, replicate, IfOk};
 ghost use Rattle.std.specs.Borrow.{full_share, sem, u8};
 ghost use denote.Array.{Array};
 ghost use denote.RawPtr.{Ptr, lies_at, room_for};
@@ -11,6 +11,8 @@ use std::marker::{Model, PhantomData};
 use std::slice;
 
 mod edits;
+
+pub(crate) use edits::word_in;
 
 /// Bytes in a row, of which the first `len` are set. The others are never read.
 pub struct RawBytes {
@@ -105,8 +107,33 @@ impl RawBytes {
         unsafe { slice::from_raw_parts_mut(self.ptr, self.len) }
     }
 
-    /// Sets the given number of further bytes to 0.
+    /// Sets the given number of further bytes to 0. Most blocks are small, so mostly these are those of one cell.
     pub(crate) fn extend(&mut self, count: usize)
+        requires { length self.old.set + count ≤ self.old.room }
+        ensures set { self.new.set ≡ self.old.set ++ replicate count 0 }
+        ensures place { (self.new.room ≡ self.old.room) × (self.new.ptr ≡ self.old.ptr) }
+    {
+        if count == PART {
+            self.extend_part();
+        } else {
+            self.extend_by(count);
+        }
+    }
+
+    /// The same for as many bytes as are set to 0 at a time.
+    fn extend_part(&mut self)
+        requires { length self.old.set + 32 ≤ self.old.room }
+        ensures set { self.new.set ≡ self.old.set ++ replicate 32 0 }
+        ensures place { (self.new.room ≡ self.old.room) × (self.new.ptr ≡ self.old.ptr) }
+    {
+        let zeros = &[0; PART];
+        let len = self.len;
+        unsafe { (self.ptr.add(len) as *mut [u8; PART]).write(*zeros) };
+        self.len = len + PART;
+    }
+
+    /// The same for any number.
+    fn extend_by(&mut self, count: usize)
         requires { length self.old.set + count ≤ self.old.room }
         ensures set { self.new.set ≡ self.old.set ++ replicate count 0 }
         ensures place { (self.new.room ≡ self.old.room) × (self.new.ptr ≡ self.old.ptr) }
@@ -114,6 +141,17 @@ impl RawBytes {
         let len = self.len;
         unsafe { zero(self.ptr.add(len), count) };
         self.len = len + count;
+    }
+
+    /// Sets the byte behind those that are set.
+    pub(crate) fn push(&mut self, byte: u8)
+        requires { length self.old.set < self.old.room }
+        ensures set { self.new.set ≡ self.old.set ++ byte ∷ [] }
+        ensures place { (self.new.room ≡ self.old.room) × (self.new.ptr ≡ self.old.ptr) }
+    {
+        let len = self.len;
+        unsafe { self.ptr.add(len).write(byte) };
+        self.len = len + 1;
     }
 }
 

@@ -10,6 +10,7 @@ ghost use Rattle.raw_pool.specs.FreeList.{link};
 ghost use Rattle.raw_pool.specs.Searches.{IsCut};
 ghost use Rattle.raw_pool.specs.Stores.{AddsRun, ChangesBytes, ChangesLinks, ChangesMarks, ChangesSet, EndsWithRun, HasPassed, IsFit, IsLaidStore, IsMarked, IsRunBefore, IsRunIn, IsWholeStore, JoinsRun, KnowsLongest, block_by_header, blocks_of, bytes_with_link, bytes_with_run, marks_with, pool_in};
 
+use crate::raw_bytes::word_in;
 use crate::region::Region;
 use std::alloc::{Allocator, Global};
 
@@ -55,7 +56,18 @@ impl<A: Allocator + Copy> Store<A> {
         requires set { 32 * run + 16 ≤ length self.now.region.bytes.set }
         ensures { result ≡ link self.now.region.bytes.set self.now.cells self.now.head run }
     {
-        self.region.word(CELL_SIZE * run + 8) as usize
+        self.link_in(self.region.bytes(), run)
+    }
+
+    /// The same for a walk, which lends the bytes once.
+    #[inline(always)]
+    fn link_in(&self, bytes: &[u8], run: usize) -> usize
+        requires few { (self.now.cells ≤ 2 ^ 28) × (run < self.now.cells) }
+        requires set { 32 * run + 16 ≤ length self.now.region.bytes.set }
+        requires bytes { bytes.now ≡ self.now.region.bytes.set }
+        ensures { result ≡ link self.now.region.bytes.set self.now.cells self.now.head run }
+    {
+        word_in(bytes, CELL_SIZE * run + 8) as usize
     }
 
     /// How many cells a free run has.
@@ -64,7 +76,18 @@ impl<A: Allocator + Copy> Store<A> {
         requires set { 32 * run + 16 ≤ length self.now.region.bytes.set }
         ensures { result ≡ word self.now.region.bytes.set (32 * run) }
     {
-        self.region.word(CELL_SIZE * run) as usize
+        self.run_cells_in(self.region.bytes(), run)
+    }
+
+    /// The same for a walk.
+    #[inline(always)]
+    fn run_cells_in(&self, bytes: &[u8], run: usize) -> usize
+        requires few { (self.now.cells ≤ 2 ^ 28) × (run < self.now.cells) }
+        requires set { 32 * run + 16 ≤ length self.now.region.bytes.set }
+        requires bytes { bytes.now ≡ self.now.region.bytes.set }
+        ensures { result ≡ word self.now.region.bytes.set (32 * run) }
+    {
+        word_in(bytes, CELL_SIZE * run) as usize
     }
 
     /// Sets which run is behind a free run, or behind the list's head.
@@ -114,14 +137,15 @@ impl<A: Allocator + Copy> Store<A> {
         requires { IsLaidStore self.now }
         ensures { IsFit self.now need result }
     {
+        let bytes = self.region.bytes();
         let mut last = self.cells;
         let mut next = self.head;
         while next < self.cells {
-            if self.run_cells(next) >= need {
+            if self.run_cells_in(bytes, next) >= need {
                 return Some((last, next));
             }
             last = next;
-            next = self.link(next);
+            next = self.link_in(bytes, next);
         }
         None
     }
@@ -132,11 +156,12 @@ impl<A: Allocator + Copy> Store<A> {
         requires within { cell < self.now.cells }
         ensures { HasPassed (λ r. r.first < cell) self.now result.0 result.1 × (cell ≤ result.1) }
     {
+        let bytes = self.region.bytes();
         let mut last = self.cells;
         let mut next = self.head;
         while next < cell {
             last = next;
-            next = self.link(next);
+            next = self.link_in(bytes, next);
         }
         (last, next)
     }
@@ -146,13 +171,31 @@ impl<A: Allocator + Copy> Store<A> {
         requires { IsLaidStore self.now }
         ensures { result ≡ longest_run self.now.cells 0 (blocks_of self.now) }
     {
+        let bytes = self.region.bytes();
         let mut longest = 0;
         let mut next = self.head;
         while next < self.cells {
-            longest = larger(longest, self.run_cells(next));
-            next = self.link(next);
+            longest = larger(longest, self.run_cells_in(bytes, next));
+            next = self.link_in(bytes, next);
         }
         longest
+    }
+
+    /// How many cells the longest free run has once a block of `need` cells is off the front of a run of `run` cells,
+    /// and `next` is behind it. Runs before it are shorter than the block, so the rest is the longest where it is the
+    /// last run and no shorter than the block.
+    fn longest_left(&self, need: usize, run: usize, next: usize) -> usize
+        requires store { IsLaidStore self.now }
+        requires few { need < 2 ^ 60 }
+        requires last { self.now.cells ≤ next → 2 * need ≤ run
+            → longest_run self.now.cells 0 (blocks_of self.now) ≡ run - need }
+        ensures { result ≡ longest_run self.now.cells 0 (blocks_of self.now) }
+    {
+        if next >= self.cells && run >= 2 * need {
+            run - need
+        } else {
+            self.find_longest()
+        }
     }
 
     /// Takes the given number of cells off the front of a free run and sets their bytes to 0. The answer is what
@@ -226,10 +269,11 @@ impl<A: Allocator + Copy> Store<A> {
         let need = cells_of(size);
         let (last, at) = self.find_fit(need)?;
         let run = self.run_cells(at);
+        let next = self.link(at);
         self.place(last, at, size, need);
         // Another run that is longer stays the longest.
         if run >= self.longest {
-            self.longest = self.find_longest();
+            self.longest = self.longest_left(need, run, next);
         }
         Some(at)
     }

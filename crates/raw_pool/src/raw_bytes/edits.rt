@@ -6,6 +6,15 @@ ghost use Rattle.raw_pool.specs.Bytes.{extended, put, put_words, word};
 use super::RawBytes;
 use byteorder::{ByteOrder, LittleEndian};
 
+/// The number in the 8 bytes from an index on.
+#[inline(always)]
+pub(crate) fn word_in(bytes: &[u8], at: usize) -> u64
+    requires { at + 8 ≤ length bytes.now }
+    ensures { result ≡ word bytes.now at }
+{
+    LittleEndian::read_u64(&bytes[at..at + 8])
+}
+
 /// Writes a number over 8 bytes. Into an array it goes without a look at whether its source overlaps it.
 #[inline(always)]
 fn set_word(bytes: &mut [u8], number: u64)
@@ -33,8 +42,19 @@ fn set_array(bytes: &mut [u8], array: &[u8; CLEARED])
     *place = *array;
 }
 
-/// Sets bytes to 0. They are copied, which is two moves of 16 bytes where a fill makes four of eight.
+/// Sets bytes to 0. Most blocks are small, so mostly these are the bytes of one cell.
 fn set_zeros(bytes: &mut [u8])
+    ensures { bytes.new ≡ replicate (length bytes.old) 0 }
+{
+    if bytes.len() == CLEARED {
+        set_array(bytes, &[0; CLEARED]);
+    } else {
+        set_parts(bytes);
+    }
+}
+
+/// The same, one part after the other. They are copied, which is two moves of 16 bytes where a fill makes four of eight.
+fn set_parts(bytes: &mut [u8])
     ensures { bytes.new ≡ replicate (length bytes.old) 0 }
 {
     let count = bytes.len() / CLEARED;
@@ -90,8 +110,13 @@ impl RawBytes {
         ensures set { self.new.set ≡ put (extended self.old.set at) at (byte ∷ []) }
         ensures place { (self.new.room ≡ self.old.room) × (self.new.ptr ≡ self.old.ptr) }
     {
-        self.extend_to(at + 1);
-        self.overwrite(at, byte);
+        let len = self.len();
+        if at < len {
+            self.overwrite(at, byte);
+        } else {
+            self.extend_to(at);
+            self.push(byte);
+        }
     }
 
     /// Sets the given number of bytes that are set to 0.
@@ -105,6 +130,7 @@ impl RawBytes {
 
     /// Sets the bytes that are set from an index on to 0. Mostly these are two numbers, the header of a free run
     /// behind which nothing is set yet.
+    #[inline(always)]
     fn clear_rest(&mut self, at: usize)
         requires { at ≤ length self.old.set }
         ensures set { self.new.set
@@ -140,7 +166,7 @@ impl RawBytes {
         requires { at + 8 ≤ length self.now.set }
         ensures { result ≡ word self.now.set at }
     {
-        LittleEndian::read_u64(&self.bytes()[at..at + 8])
+        word_in(self.bytes(), at)
     }
 
     /// Writes a number into the 8 bytes from an index on, which are set.
@@ -152,6 +178,17 @@ impl RawBytes {
         set_word(&mut self.bytes_mut()[at..at + 8], number);
     }
 
+    /// Writes two numbers into the 16 bytes from an index on, which are set.
+    #[inline(always)]
+    fn overwrite_words(&mut self, at: usize, first: u64, second: u64)
+        requires { at + 16 ≤ length self.old.set }
+        ensures set { self.new.set ≡ put_words self.old.set at first second }
+        ensures place { (self.new.room ≡ self.old.room) × (self.new.ptr ≡ self.old.ptr) }
+    {
+        self.overwrite_word(at, first);
+        self.overwrite_word(at + 8, second);
+    }
+
     /// Writes two numbers into the 16 bytes from an index on.
     pub(crate) fn write_words(&mut self, at: usize, first: u64, second: u64)
         requires { (at ≤ length self.old.set) × (at + 16 ≤ self.old.room) }
@@ -159,8 +196,7 @@ impl RawBytes {
         ensures place { (self.new.room ≡ self.old.room) × (self.new.ptr ≡ self.old.ptr) }
     {
         self.extend_to(at + 16);
-        self.overwrite_word(at, first);
-        self.overwrite_word(at + 8, second);
+        self.overwrite_words(at, first, second);
     }
 
     /// Sets the given number of bytes from an index on to 0, and writes two numbers behind them.
@@ -171,14 +207,13 @@ impl RawBytes {
         ensures place { (self.new.room ≡ self.old.room) × (self.new.ptr ≡ self.old.ptr) }
     {
         let over = self.len() - at;
-        if count <= over {
+        if count + 16 <= over {
             self.overwrite_zeros(at, count);
-            self.write_words(at + count, first, second);
+            self.overwrite_words(at + count, first, second);
             return;
         }
         self.clear_rest(at);
         self.extend(count + 16 - over);
-        self.overwrite_word(at + count, first);
-        self.overwrite_word(at + count + 8, second);
+        self.overwrite_words(at + count, first, second);
     }
 }

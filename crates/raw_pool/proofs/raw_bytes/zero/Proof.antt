@@ -1,16 +1,16 @@
--- `zero` goes along memory that is not set and sets an array of bytes after the other, and then one byte after the other. Assumes `Logic`.
+-- `zero` goes along memory of which no byte is set: it writes an array of 32 bytes at a time, then single bytes. Assumes `Logic`.
 use mathlib.Core.Path.{◌≡◌, refl}
 use mathlib.Core.List.{List, [], ◌∷◌, ◌++◌}
 use mathlib.Core.WellFounded.InvImage
-use Prim.Native.Nat.{ℕ, suc, ◌+◌, ◌-◌, ◌≤◌, ◌<◌, ◌^◌}
+use Prim.Native.Nat.{ℕ, ◌+◌, ◌-◌, ◌≤◌, ◌<◌, ◌^◌}
 use native.Mathlib.Omega.{arith}
 use seplogic.Ra.Ura.{Ura}
-use lib.Dec.{T, lit<, ltb→lt, nltb→le, leb→le}
+use lib.Dec.{lit<, ltb→lt, nltb→le, leb→le}
 use lib.ListN.{length, replicate, length-replicate}
 use lib.WfN.{lt-wf_rel}
 use base.Fraction.{full_share}
 use mir.Syntax.{Body, w8, w64, ty_int}
-use mir.Val.{Val, WT, has_ty, vunit, vint, vptr}
+use mir.Val.{Val, vunit, vint, vptr}
 use base.Logic.{SProp, ent, sep, id⊢}
 use base.Fml.{Share, fat, froom, fsep, feq}
 use contract.Monad.{fact}
@@ -20,24 +20,23 @@ use types.Logic.{Logic, sem}
 use types.Kit.{Item, Sq, any_q, runs, ‵, raw, ◌⊛◌, prop, at_ret, ◌$◌, ◌∵◌, !, qed, by, move, drop, use0, use1, use2, join, split, rewrite, regoal, fsplit, fjoin, feq_i, suffices, group, done}
 use types.Run.{stop, load, look, statics, lit, bin, unit_lit, of_opd, init, assigns_last, first, blocks, skips, jumps, branches, exec, returns, enter, loops, again, Below}
 use types.ByLocal.{alloc_all, pass_all, free_all, look_at, get, through, sets, sets_last, lands_as, env, holding, forget_but}
-use borrow.Table.OneValue.{part_in}
-use denote.Array.{Array, Array-Lawful, Array-repeat, array_val}
+use denote.Array.{Array}
 use denote.Builtin.{u8, usize}
 use denote.Exit.{yes}
-use denote.Laws.{Is, shows}
 use denote.Memory.{part_at}
-use denote.Plain.{uint_vals, uint_Tells, uint_in, uint_copy, uint_Lawful, uint_Makes}
+use denote.Plain.{uint_vals, uint_Tells, uint_in}
 use denote.RawPtr.{Ptr, RawPtr, block_ptr, ptr_val, room_for, in_a_block, rawptr_vals, rawptr_Tells}
 use denote.RawPtr.Bytes.{bytes, bytes_apart, bytes_glue, bytes_whole}
-use denote.RawPtr.Room.{past_bytes, room_cut}
 use denote.Signature.{plain}
-use denote.Steps.{facts, heard, nothing, owned}
+use denote.Steps.{heard, nothing}
 use denote.Triple.Entry.{on_entry}
 use denote.Triple.Walked.{Stays, stay_dropped, walk_of, ends_at, Goes-dropped}
 use Rattle.std.proofs.raw_atomic.Walks.{proved}
 use Rattle.core.proofs.alloc.Shapes.{after, head}
 use Rattle.std.proofs.lemmas.List.{replicate-append-replicate}
 use Rattle.raw_pool.specs.Ownership.{byte_row}
+use Rattle.raw_pool.proofs.PageRows.{behind_bytes, behind_byte}
+use Rattle.raw_pool.proofs.Zeros.{Typed, zeros, zeros_in, zeros_typed}
 use Rattle.raw_pool.specs.contracts.raw_bytes.zero as f
 use Rattle.raw_pool.proofs.raw_bytes.zero.Statement.{statement}
 use Rattle.raw_pool.proofs.raw_bytes.zero.Code as code
@@ -52,31 +51,8 @@ part_turn = head (head (head (after 2 (code.function).body)))
 abbrev byte_turn : Body
 byte_turn = head (head (head (after 3 (code.function).body)))
 
--- the array that is copied
-abbrev zeros : Val
-zeros = array_val (replicate 32 (vint w8 0))
-
-abbrev Typed : Type 0
-Typed = T (has_ty (byte_row 32) zeros) × WT zeros
-
 module _ {M : Type 1} {𝓤 : Ura M} (𝓛 : Logic 𝓤) where
   open 𝓛 use {H}
-
-  -- memory for some bytes, and for those behind them
-  part_of_room : (b o i k n : ℕ) → i + k ≤ n → ent 𝓤 (H.room (byte_row (n - i)) b (o + i)) (sep 𝓤 (H.room (byte_row k) b (i + o)) (H.room (byte_row (n - (i + k))) b (o + (i + k))))
-  part_of_room b o i k n h =
-      let more : n - i ≡ k + (n - (i + k)) = omega arith in let here : o + i ≡ i + o = omega arith in let next : o + i + k ≡ o + (i + k) = omega arith in
-      qed 𝓛 (‵ (froom (byte_row (n - i)) b (o + i)) ∷ []) ∵ rewrite ! 0 (λ (j : ℕ). ‵ (froom (byte_row j) b (o + i))) more refl $
-      use1 𝓛 (‵ (froom (byte_row k) b (o + i)) ⊛ ‵ (froom (byte_row (n - (i + k))) b _)) (room_cut 𝓛 (ty_int w8) k (n - (i + k)) b (o + i)) $ split ! $
-      rewrite ! 0 (λ (j : ℕ). ‵ (froom (byte_row k) b j)) here refl $ rewrite ! 1 (λ (j : ℕ). ‵ (froom (byte_row (n - (i + k))) b j)) (past_bytes k (o + i)) refl $
-      rewrite ! 1 (λ (j : ℕ). ‵ (froom (byte_row (n - (i + k))) b j)) next refl $ done !
-
-  spare : (b o i n : ℕ) → i < n → ent 𝓤 (H.room (byte_row (n - i)) b (o + i)) (sep 𝓤 (H.room (ty_int w8) b (i + o)) (H.room (byte_row (n - (i + 1))) b (o + (i + 1))))
-  spare b o i n h =
-      let more : n - i ≡ suc (n - (i + 1)) = omega arith in let here : o + i ≡ i + o = omega arith in let next : o + i + 1 ≡ o + (i + 1) = omega arith in
-      qed 𝓛 (‵ (froom (byte_row (n - i)) b (o + i)) ∷ []) ∵ rewrite ! 0 (λ (k : ℕ). ‵ (froom (byte_row k) b (o + i))) more refl $
-      use1 𝓛 (‵ (froom (ty_int w8) b (o + i)) ⊛ ‵ (froom (byte_row (n - (i + 1))) b (o + i + 1))) (𝓛.laws.room_uncons (ty_int w8) (n - (i + 1)) b (o + i)) $ split ! $
-      rewrite ! 0 (λ (k : ℕ). ‵ (froom (ty_int w8) b k)) here refl $ rewrite ! 1 (λ (k : ℕ). ‵ (froom (byte_row (n - (i + 1))) b k)) next refl $ done !
 
   -- zeros behind zeros
   joined : (b o i k : ℕ) → ent 𝓤 (sep 𝓤 (sem 𝓛 (bytes full_share (replicate i 0) b o)) (sem 𝓛 (bytes full_share (replicate k 0) b (i + o)))) (sem 𝓛 (bytes full_share (replicate (i + k) 0) b o))
@@ -96,9 +72,7 @@ module _ {M : Type 1} {𝓤 : Ura M} (𝓛 : Logic 𝓤) where
   part_more : (b o i : ℕ) → ent 𝓤 (sep 𝓤 (sem 𝓛 (bytes full_share (replicate i 0) b o)) (H.at full_share (byte_row 32) b (i + o) zeros)) (sem 𝓛 (bytes full_share (replicate (i + 32) 0) b o))
   part_more b o i =
       qed 𝓛 (‵ (bytes full_share (replicate i 0) b o) ∷ ‵ (fat full_share (byte_row 32) b (i + o) zeros) ∷ []) ∵
-      owned ! u8 (Is u8) (uint_Makes 𝓛 w8) 0 (vint w8 0 ∷ []) (refl, lit< tt) $
-      use1 𝓛 (‵ ((Array u8 32).own_val (replicate 32 0) (zeros ∷ []))) (Array-repeat 𝓛 u8 (uint_copy 𝓛 w8) 32 0 (vint w8 0)) $ move ! (2 ∷ 0 ∷ []) $
-      use2 𝓛 (‵ (part_at (Array u8 32) full_share (replicate 32 0) b (i + o))) (part_in 𝓛 (Array u8 32) refl full_share (replicate 32 0) b (i + o) zeros) $
+      move ! (1 ∷ []) $ use1 𝓛 (‵ (part_at (Array u8 32) full_share (replicate 32 0) b (i + o))) (zeros_in 𝓛 b (i + o)) $
       use1 𝓛 (‵ (fsep (feq ℕ (length (replicate {A = ℕ} 32 0)) 32) (bytes full_share (replicate 32 0) b (i + o)))) (bytes_apart 𝓛 full_share 32 (replicate 32 0) b (i + o)) $
       fsplit ! $ drop ! $ move ! (1 ∷ 0 ∷ []) $ by ! (joined b o i 32)
 
@@ -128,7 +102,7 @@ module _ {M : Type 1} {𝓤 : Ura M} (𝓛 : Logic 𝓤) where
         (λ less. let h : i < n = ltb→lt i n less in let more : i + 1 < 2 ^ 64 = omega arith in
         skips ! $ exec ! 𝓣.C 𝓣.Λ En (after 2 byte_turn) (any_q (Turned 4 t)) $ first ! $ blocks ! $
         sets ! (bin ! (get ! refl) (get ! refl) tt) refl (tt, tt) $
-        move ! (1 ∷ []) $ use1 𝓛 (‵ (froom (ty_int w8) b (i + o)) ⊛ ‵ (froom (byte_row (n - (i + 1))) b (o + (i + 1)))) (spare b o i n h) $ split ! $
+        move ! (1 ∷ []) $ use1 𝓛 (‵ (froom (ty_int w8) b (i + o)) ⊛ ‵ (froom (byte_row (n - (i + 1))) b (o + (i + 1)))) (behind_byte 𝓛 b o i n h) $ split ! $
         assigns_last ! (of_opd ! (lit ! tt)) (through ! refl (stop !)) (init ! 0 refl (tt, record { fits = lit< tt })) $
         exec ! 𝓣.C 𝓣.Λ En (after 3 byte_turn) (any_q (Turned 4 t)) $ sets_last ! (bin ! (get ! refl) (lit ! tt) (record { fits = more })) refl (tt, record { fits = more }) $
         move ! (2 ∷ 0 ∷ []) $ use2 𝓛 (‵ (bytes full_share (replicate (i + 1) 0) b o)) (one_more b o i) $
@@ -147,7 +121,7 @@ module _ {M : Type 1} {𝓤 : Ura M} (𝓛 : Logic 𝓤) where
         skips ! $ exec ! 𝓣.C 𝓣.Λ En (after 3 part_turn) (any_q (Turned 3 t)) $ first ! $ blocks ! $
         sets ! (bin ! (get ! refl) (get ! refl) tt) refl (tt, tt) $ sets ! (of_opd ! (get ! refl)) refl (tt, tt) $
         sets ! (of_opd ! (load ! (through ! refl (stop !)) (look ! 2 refl))) refl typed $
-        move ! (1 ∷ []) $ use1 𝓛 (‵ (froom (byte_row 32) b (i + o)) ⊛ ‵ (froom (byte_row (n - (i + 32))) b (o + (i + 32)))) (part_of_room b o i 32 n within) $ split ! $
+        move ! (1 ∷ []) $ use1 𝓛 (‵ (froom (byte_row 32) b (i + o)) ⊛ ‵ (froom (byte_row (n - (i + 32))) b (o + (i + 32)))) (behind_bytes 𝓛 b o i 32 n within) $ split ! $
         assigns_last ! (of_opd ! (get ! refl)) (through ! refl (stop !)) (init ! 0 refl typed) $
         exec ! 𝓣.C 𝓣.Λ En (after 4 part_turn) (any_q (Turned 3 t)) $ sets_last ! (bin ! (get ! refl) (lit ! tt) (record { fits = more })) refl (tt, record { fits = more }) $
         move ! (2 ∷ 0 ∷ []) $ use2 𝓛 (‵ (bytes full_share (replicate (i + 32) 0) b o)) (part_more b o i) $
@@ -176,10 +150,7 @@ zero_spec 𝓤 𝓛 𝓜 𝓡 wired =
     let start : o ≡ o + 0 = omega arith in let all : n ≡ n - 0 = omega arith in
     rewrite ! 0 (λ (k : ℕ). ‵ (froom (byte_row k) b o)) all refl $ rewrite ! 0 (λ (k : ℕ). ‵ (froom (byte_row (n - 0)) b k)) start refl $
     use0 𝓛 (‵ (bytes full_share (replicate 0 0) b o)) (id⊢ 𝓤 _) $
-    owned ! u8 (Is u8) (uint_Makes 𝓛 w8) 0 (vint w8 0 ∷ []) (refl, lit< tt) $
-    use1 𝓛 (‵ ((Array u8 32).own_val (replicate 32 0) (zeros ∷ []))) (Array-repeat 𝓛 u8 (uint_copy 𝓛 w8) 32 0 (vint w8 0)) $
-    facts ! (Array u8 32) (Is (Array u8 32)) (shows 𝓛 (Array u8 32)) (replicate 32 0) (zeros ∷ []) (λ is.
-    let typed : Typed = ((Array-Lawful 𝓛 u8 (uint_Lawful 𝓛 w8) 32).typed (replicate 32 0) (zeros ∷ []) is).0 in
+    zeros_typed ! (λ typed.
     enter ! _ _ _ _ _ $ alloc_all ! (λ l. pass_all ! refl ((tt, tt), ((tt, record { fits = are.1.0.1 }), tt)) $
     statics ! (λ z. typed) (λ z lent. lands_as ! refl refl (tt, tt) $ move ! (1 ∷ 2 ∷ 0 ∷ []) $
     sets ! (of_opd ! (lit ! tt)) refl (tt, record { fits = lit< tt }) $ forget_but ! (En 𝓛 𝓣 b o n few typed z lent Post exits l) (1 ∷ 2 ∷ 3 ∷ 4 ∷ []) refl $

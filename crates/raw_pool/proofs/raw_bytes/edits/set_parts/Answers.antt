@@ -2,7 +2,7 @@ use Rattle.std.proofs.Common.{◌≡◌, ◌+◌, ◌-◌, ◌*◌, ◌/◌, ◌
 use Rattle.std.proofs.lemmas.List.{length-replicate, length-take-le, length-drop}
 use Rattle.raw_pool.specs.Bytes.{put}
 use Rattle.raw_pool.proofs.Puts.{length-put, mid-put, put-nothing, zeros-all, zeros-more}
-use Rattle.raw_pool.proofs.raw_bytes.edits.set_zeros.Goals as goal
+use Rattle.raw_pool.proofs.raw_bytes.edits.set_parts.Goals as goal
 
 pub loop-k-init : goal.loop-k-init
 loop-k-init c = sym (put-nothing c.args.bytes.now 0 (omega arith))

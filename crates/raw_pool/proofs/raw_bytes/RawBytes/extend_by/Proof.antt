@@ -1,20 +1,18 @@
--- `extend` takes memory from behind the bytes that are set, has `zero` set it, and puts it to them. Assumes `Logic`.
-use mathlib.Core.Path.{◌≡◌, refl, sym, ap, subst, ◌∙◌}
+-- `extend_by` takes memory from behind the bytes that are set, has `zero` set it, and puts it to them. Assumes `Logic`.
+use mathlib.Core.Path.{◌≡◌, refl, sym, ap, subst}
 use Prim.Native.Nat.{ℕ, ◌+◌, ◌-◌, ◌≤◌, ◌<◌, ◌^◌}
 use native.Mathlib.Omega.{arith}
 use mathlib.Core.List.{List, [], ◌∷◌, ◌++◌}
 use lib.ListN.{length, replicate, length-replicate, length-append}
-use seplogic.Ra.Ura.{Ura}
 use base.Fraction.{full_share}
-use mir.Syntax.{named, w8, w64, ty_int, ty_unit}
+use mir.Syntax.{named, w64, ty_unit}
 use lib.Dec.{T}
 use mir.Val.{Val, vunit, vint, vptr, has_ty, WT}
-use base.Logic.{ent, sep, emp, id⊢}
-use base.Fml.{ftrue, fsep, feq, froom, flft}
+use base.Logic.{emp, id⊢}
+use base.Fml.{ftrue, froom, flft}
 use contract.Monad.{fact, fact_i}
 use contract.Running.{tables}
-use types.Logic.{Logic, sem}
-use types.Kit.{at_ret, ‵, raw, ◌⊛◌, some, later, ◌$◌, ◌∵◌, !, qed, move, keep, drop, use0, use1, use2, split, join, pick, rewrite, fsplit, fsplit3, fjoin, fjoin3, feq_i, feq_l, flt_i, suffices, await, done}
+use types.Kit.{at_ret, ‵, raw, ◌⊛◌, some, later, ◌$◌, ◌∵◌, !, qed, move, keep, drop, use0, use1, use2, split, join, pick, fsplit, fsplit3, fjoin, fjoin3, feq_i, feq_l, flt_i, suffices, await, done}
 use types.Part.{whole, sub, look_in, store_in}
 use types.Run.{stop, fld, load, unit_lit, bin, no_more, and_then, of_opd, assigns, first, blocks, exec, returns, enter}
 use types.ByLocal.{alloc_all, pass_all, free_all, look_at, get, through, sets, lands_last, env}
@@ -25,8 +23,6 @@ use denote.Memory.{part_at}
 use denote.Plain.{uint_vals, uint_Tells}
 use denote.RattleType.{owns}
 use denote.RawPtr.{Ptr, block_ptr, rawptr_vals}
-use denote.RawPtr.Bytes.{bytes, bytes_apart, bytes_glue, bytes_whole}
-use denote.RawPtr.Room.{past, past_bytes, room_cut}
 use denote.Ref.{mut_vals, mut_Tells}
 use denote.Signature.{plain, types_at}
 use denote.Steps.{heard, nothing, only}
@@ -41,40 +37,19 @@ use Rattle.core.proofs.mem.Facts.{says_two}
 use Rattle.raw_pool.specs.Ownership.{byte_row}
 use Rattle.raw_pool.specs.declared.raw_bytes.RawBytes.{RawBytes}
 use Rattle.raw_pool.specs.contracts.raw_bytes.RawBytes.{the_row}
-use Rattle.raw_pool.specs.contracts.raw_bytes.RawBytes.extend as f
+use Rattle.raw_pool.specs.contracts.raw_bytes.RawBytes.extend_by as f
 use Rattle.raw_pool.proofs.RawSteps.{row_opens, row_closes}
-use Rattle.raw_pool.proofs.raw_bytes.RawBytes.extend.Statement.{statement}
-use Rattle.raw_pool.proofs.raw_bytes.RawBytes.extend.Code as code
+use Rattle.raw_pool.proofs.PageRows.{behind_bytes, bytes_joined}
+use Rattle.raw_pool.proofs.raw_bytes.RawBytes.extend_by.Statement.{statement}
+use Rattle.raw_pool.proofs.raw_bytes.RawBytes.extend_by.Code as code
 use Rattle.raw_pool.specs.contracts.raw_bytes.zero as z
 use Rattle.raw_pool.proofs.raw_bytes.zero.Met.{met}
 
 abbrev stayed : Stays f.ended.signature.params f.ended.kept
 stayed = (stay_ref (0 ∷ []) tt (plain (λ _. the_row)), (stay_dropped (plain (λ _. usize)) yes, tt))
 
-module _ {M : Type 1} {𝓤 : Ura M} (𝓛 : Logic 𝓤) (b o n k room : ℕ) where
-  open 𝓛 use {H}
-
-  -- room for k bytes is taken from behind n bytes
-  cut : n + k ≤ room → ent 𝓤 (H.room (byte_row (room - n)) b (o + n)) (sep 𝓤 (H.room (byte_row k) b (n + o)) (H.room (byte_row (room - (n + k))) b (o + (n + k))))
-  cut fits =
-      let all : room - n ≡ k + (room - (n + k)) = omega arith in let here : o + n ≡ n + o = omega arith in
-      let next : past (ty_int w8) k (o + n) ≡ o + (n + k) = past_bytes k (o + n) ∙ (let e : o + n + k ≡ o + (n + k) = omega arith in e) in
-      qed 𝓛 (‵ (froom (byte_row (room - n)) b (o + n)) ∷ []) ∵ rewrite ! 0 (λ (j : ℕ). ‵ (froom (byte_row j) b (o + n))) all refl $
-      use1 𝓛 (‵ (froom (byte_row k) b (o + n)) ⊛ ‵ (froom (byte_row (room - (n + k))) b (past (ty_int w8) k (o + n)))) (room_cut 𝓛 (ty_int w8) k (room - (n + k)) b (o + n)) $ split ! $
-      rewrite ! 0 (λ (j : ℕ). ‵ (froom (byte_row k) b j)) here refl $ rewrite ! 1 (λ (j : ℕ). ‵ (froom (byte_row (room - (n + k))) b j)) next refl $ done !
-
-  -- k bytes come behind n bytes
-  glued : (xs ys : List ℕ) → ent 𝓤 (sep 𝓤 (sem 𝓛 (part_at (Array u8 n) full_share xs b o)) (sem 𝓛 (part_at (Array u8 k) full_share ys b (n + o)))) (sem 𝓛 (part_at (Array u8 (n + k)) full_share (xs ++ ys) b o))
-  glued xs ys =
-      qed 𝓛 (‵ (part_at (Array u8 n) full_share xs b o) ∷ ‵ (part_at (Array u8 k) full_share ys b (n + o)) ∷ []) ∵
-      use1 𝓛 (‵ (fsep (feq ℕ (length xs) n) (bytes full_share xs b o))) (bytes_apart 𝓛 full_share n xs b o) $ fsplit ! $ feq_l ! (λ l. move ! (1 ∷ []) $
-      use1 𝓛 (‵ (fsep (feq ℕ (length ys) k) (bytes full_share ys b (n + o)))) (bytes_apart 𝓛 full_share k ys b (n + o)) $ fsplit ! $ feq_l ! (λ m.
-      let here : n + o ≡ o + length xs = omega arith in let both = length-append xs ys in let long : length (xs ++ ys) ≡ n + k = omega arith in
-      rewrite ! 0 (λ (j : ℕ). ‵ (bytes full_share ys b j)) here refl $ move ! (1 ∷ 0 ∷ []) $ use2 𝓛 (‵ (bytes full_share (xs ++ ys) b o)) (bytes_glue 𝓛 full_share xs ys b o) $
-      feq_i ! ℕ (length (xs ++ ys)) (n + k) long $ fjoin ! $ use1 𝓛 (‵ (part_at (Array u8 (n + k)) full_share (xs ++ ys) b o)) (bytes_whole 𝓛 full_share (n + k) (xs ++ ys) b o) $ done !))
-
-pub extend_spec : {M : Type 1} → statement M
-extend_spec 𝓤 𝓛 𝓜 𝓡 wired =
+pub extend_by_spec : {M : Type 1} → statement M
+extend_by_spec 𝓤 𝓛 𝓜 𝓡 wired =
     let c = f.clauses 𝓛 𝓜.mem 𝓡.returns in let W = walk_of 𝓛 f.ended stayed c in let 𝓣 = tables 𝓤 𝓛.H 𝓜 𝓡 𝓡.env in
     proved 𝓛 f.ended stayed c 𝓜 𝓡 (Goes-ref 𝓛 1 0 tt (plain (λ _. the_row)), (Goes-dropped 𝓛 1 (plain (λ _. usize)) yes (λ κs x w. refl), tt))
     f.Key.name code.function (code.unfolded 𝓤 𝓛.H 𝓜 𝓡 wired)
@@ -94,7 +69,7 @@ extend_spec 𝓤 𝓛 𝓜 𝓡 wired =
     sets ! (of_opd ! (load ! (through ! refl (fld ! refl (stop !))) (look_in ! 1 (sub ! 1 refl (whole !))))) refl (tt, record { fits = low }) $
     first ! $ blocks ! $ sets ! (of_opd ! (load ! (through ! refl (fld ! refl (stop !))) (look_in ! 1 (sub ! 0 refl (whole !))))) refl (tt, tt) $
     sets ! (bin ! (get ! refl) (get ! refl) tt) refl (tt, tt) $
-    fsplit ! $ move ! (1 ∷ []) $ use1 𝓛 (‵ (froom (byte_row k) b (n + o)) ⊛ ‵ (froom (byte_row (d.room - (n + k))) b (o + (n + k)))) (cut 𝓛 b o n k d.room fits) $ split ! $
+    fsplit ! $ move ! (1 ∷ []) $ use1 𝓛 (‵ (froom (byte_row k) b (n + o)) ⊛ ‵ (froom (byte_row (d.room - (n + k))) b (o + (n + k)))) (behind_bytes 𝓛 b o n k d.room fits) $ split ! $
     let G = triple_of 𝓛 z.signature (z.spec 𝓛 𝓜.mem 𝓡.returns) in
     let args : Ptr × (ℕ × Unit {0}) = (block_ptr b (n + o), (k, tt)) in
     let w : G.Ghost = ((tt, tt, tt, args, (rawptr_vals (block_ptr b (n + o)), (uint_vals w64 k, tt))), tt) in
@@ -106,7 +81,7 @@ extend_spec 𝓤 𝓛 𝓜 𝓡 wired =
     await ! tt $ pick ! (λ r. split ! $ split ! $ drop ! $ feq_l ! (λ is_unit. pick ! (λ ws. split ! $ drop ! $ lands_last ! refl (subst (λ (u : Val). T (has_ty ty_unit u) × WT u) (sym (ap only is_unit)) (tt, tt)) $
     exec ! 𝓣.C 𝓣.Λ En (after 2 (code.function).body) (at_ret En (W.post y)) $
     -- [the zeros; the memory behind them; the bytes before them; the two words; ..]
-    move ! (2 ∷ 0 ∷ []) $ use2 𝓛 (‵ (part_at (Array u8 (n + k)) full_share new.set b o)) (glued 𝓛 b o n k d.room d.set zeros) $ fjoin ! $
+    move ! (2 ∷ 0 ∷ []) $ use2 𝓛 (‵ (part_at (Array u8 (n + k)) full_share new.set b o)) (bytes_joined 𝓛 b o n k d.set zeros) $ fjoin ! $
     sets ! (bin ! (get ! refl) (get ! refl) (record { fits = sum })) refl (tt, record { fits = sum }) $
     assigns ! (of_opd ! (get ! refl)) (through ! refl (fld ! refl (stop !))) (store_in ! 1 (sub ! 1 refl (whole !)) (tt, record { fits = sum })) $
     sets ! (of_opd ! (unit_lit !)) refl (tt, tt) $ row_closes ! tt new b o rb ro at sum $
