@@ -89,6 +89,28 @@ made_remove n hs h (Some m) old new e s g a k c =
       | inr f ↦ rw f (a c ∙ sym (left_out n hs h c s g ∙ rw e (rw f refl)))
     ]
 
+-- ---- the handles by a controller ascend
+
+above_made : (n c : ℕ) (hs : List LiveHandle) → AllByRecursion (λ m. n < m) (map (λ h. h.number) hs) → AllByRecursion (λ m. n < m) (numbers_made_on c hs)
+above_made n c [] a = tt
+above_made n c (x ∷ xs) a = elim (cases_Bool (is_made_on c x)) [
+  | inl e ↦ rw e (a.0, above_made n c xs a.1)
+  | inr e ↦ rw e (above_made n c xs a.1)
+]
+
+made_ascend : (c : ℕ) (hs : List LiveHandle) → Ascending (λ a b. a < b) (map (λ h. h.number) hs) → Ascending (λ a b. a < b) (numbers_made_on c hs)
+made_ascend c [] a = tt
+made_ascend c (x ∷ xs) a = elim (cases_Bool (is_made_on c x)) [
+  | inl e ↦ rw e (above_made x.number c xs a.0, made_ascend c xs a.1)
+  | inr e ↦ rw e (made_ascend c xs a.1)
+]
+
+lives_ascend : (fs : List FiledRow) (ns : List ℕ) (blocks : List BlockGroup) → AreRowsNoted fs ns blocks → Ascending (λ a b. a < b) (map (λ h. h.number) (lives (rows_in fs)))
+lives_ascend fs ns blocks a = subst (Ascending (λ x y. x < y)) (a.rows.numbers ∙ sym (live_numbers (rows_in fs))) a.rows.ascending
+
+pub blocks_ascend : (fs : List FiledRow) (ns : List ℕ) (blocks : List BlockGroup) → AreRowsNoted fs ns blocks → (c : ℕ) → Ascending (λ a b. a < b) (block_at blocks c).places
+blocks_ascend fs ns blocks a c = subst (Ascending (λ x y. x < y)) (sym (a.made c)) (made_ascend c (lives (rows_in fs)) (lives_ascend fs ns blocks a))
+
 -- ---- rows
 
 -- the handles stay where the rows do
@@ -124,7 +146,6 @@ pub rows_without : (n : ℕ) (fs hs : List FiledRow) (ns : List ℕ) (at : ℕ) 
     → (rows_in hs ≡ filter (λ r. not (is_row_of n r)) (rows_in fs)) × AreRowsNoted hs (filter (λ m. not (m == n)) ns) blocks
 rows_without n fs hs ns at f new old blocks a h e s g same order k =
     let left = plain.rows_without n fs (set fs at new) hs ns at f new a.rows h e s g refl same order in
-    let ascending : Ascending (λ x y. x < y) (map (λ y. y.number) (lives (rows_in fs))) = subst (Ascending (λ x y. x < y)) (a.rows.numbers ∙ sym (live_numbers (rows_in fs))) a.rows.ascending in
     let number : filed_number f ≡ n = (plain.filed_is n fs at f h e).number in
     let change : ChangesMade f.row.live.maker (without_place n) old blocks = subst (λ (i : ℕ). ChangesMade f.row.live.maker (without_place i) old blocks) number k in
     let lives_left : lives (rows_in hs) ≡ filter (λ x. not (has_number n x)) (lives (rows_in fs)) = ap lives left.0 ∙ filter_map_filter (λ (r : Row). r.live) (λ x. not (has_number n x)) (rows_in fs) in (
@@ -132,6 +153,6 @@ rows_without n fs hs ns at f new old blocks a h e s g same order k =
       record {
         rows = left.1;
         made = subst (λ (xs : List LiveHandle). AreMadeOn xs blocks) (sym lives_left)
-            (made_remove n (lives (rows_in fs)) f.row.live f.row.live.maker old blocks refl ascending (sym (plain.live_filed n fs at f a.rows.filed h e)) a.made change);
+            (made_remove n (lives (rows_in fs)) f.row.live f.row.live.maker old blocks refl (lives_ascend fs ns old a) (sym (plain.live_filed n fs at f a.rows.filed h e)) a.made change);
       },
     )

@@ -178,6 +178,14 @@ impl<A: Allocator + Copy> Groups<A> {
         drop_bare(&mut self.groups);
     }
 
+    /// Makes room for half as many groups again, so that all are gone over only once in as many new
+    /// ones. Where memory is refused, the room stays as it is.
+    fn add_room(&mut self)
+        ensures { self.new ≡ self.old }
+    {
+        let _added = self.groups.reserve(self.groups.len() / 2);
+    }
+
     /// Makes a group of a GUID that has none, with one holder, once bare groups are given up. On an `Err`
     /// the keys and the turns are as they were.
     fn make(&mut self, guid: Uuid, handle: u64, key: usize, stamp: u64) -> Result<usize, AllocError>
@@ -190,6 +198,7 @@ impl<A: Allocator + Copy> Groups<A> {
         self.tidy();
         let at = count_before(self.groups.as_slice(), guid);
         let place = self.make_at(at, guid, handle, key, stamp)?;
+        self.add_room();
         Ok(place)
     }
 

@@ -1,10 +1,10 @@
 //! The live handles.
-ghost use Rattle.std.specs.Prelude.{◌≡◌, ◌<◌, ◌≤◌, ◌==◌, ◌++◌, [], ◌∷◌, not, length, nat_lt, true, false, is_some, None, slice_get, IfOk, OnOk, OnErr, IfSome, IfNone};
+ghost use Rattle.std.specs.Prelude.{◌≡◌, ◌<◌, ◌≤◌, ◌==◌, ◌++◌, ℕ, [], ◌∷◌, not, length, nat_lt, true, false, is_some, None, slice_get, IfOk, OnOk, OnErr, IfSome, IfNone};
 ghost use Rattle.std.specs.List.{find, filter, AllByRecursion};
 ghost use Rattle.guid_handles.specs.HandleTables.{has_number};
 ghost use Rattle.guid_handles.specs.Sorting.{Ascending, place};
 ghost use Rattle.guid_handles.specs.Indexes.{lives, row_numbers, keys_on, is_row_of, filed_number, filed_numbers, is_filed_at, rows_in, ChangesKeys};
-ghost use Rattle.guid_handles.specs.Blocks.{with_last, without_place};
+ghost use Rattle.guid_handles.specs.Blocks.{block_at, with_last, without_place};
 ghost use Rattle.guid_handles.specs.MadeOn.{ChangesMade, numbers_made_on};
 
 use crate::blocks::Blocks;
@@ -177,12 +177,13 @@ fn note_made<A: Allocator + Copy>(made: &mut Blocks<A>, live: LiveHandle) -> Res
     }
 }
 
-/// Removes a handle from those by the controllers of their makers.
+/// Removes a handle from those by the controllers of their makers, which ascend in each block.
 fn forget_made<A: Allocator + Copy>(made: &mut Blocks<A>, live: LiveHandle)
+    requires { (c : ℕ) → Ascending (λ a b. a < b) (block_at made.old c).places }
     ensures { ChangesMade live.maker (without_place live.number) made.old made.new }
 {
     if let Some((controller, _)) = live.maker {
-        made.remove(controller, live.number as usize);
+        made.remove_ascending(controller, live.number as usize);
     }
 }
 

@@ -17,10 +17,10 @@ pub make_at-requires-clause-bound : goal.make_at-requires-clause-bound
 make_at-requires-clause-bound g c = rw (← c.self.view_is) (rw c.as_slice.ensures.value at c.count_before-at.ensures.bound)
 
 pub returns-clause-ok : goal.returns-clause-ok
-returns-clause-ok g c = sets_after c.args.guid c.args.handle (Some c.args.key) _ _ _ c.tidy.ensures.keys c.in_ok-place.ensures.ok
+returns-clause-ok g c = rw c.add_room.ensures (sets_after c.args.guid c.args.handle (Some c.args.key) _ _ _ c.tidy.ensures.keys c.in_ok-place.ensures.ok)
 
 pub returns-clause-turns : goal.returns-clause-turns
-returns-clause-turns g c = turns_after c.args.guid (with_turn c.args.handle c.args.stamp) _ _ _ c.tidy.ensures.turns c.in_ok-place.ensures.turns
+returns-clause-turns g c = rw c.add_room.ensures (turns_after c.args.guid (with_turn c.args.handle c.args.stamp) _ _ _ c.tidy.ensures.turns c.in_ok-place.ensures.turns)
 
 pub returns-in_err-place-clause-keys_stay : goal.returns-in_err-place-clause-keys_stay
 returns-in_err-place-clause-keys_stay g c = on_err c.from_residual.result _ (rw c.in_err-place.ensures.err c.tidy.ensures.keys)
